@@ -1,0 +1,5 @@
+pub mod Eight
+pub mod Nested
+pub mod Powers
+pub mod Same
+pub mod Written

@@ -1,0 +1,3 @@
+pub mod Fpages
+pub mod Pages
+pub mod Rights

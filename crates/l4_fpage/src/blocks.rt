@@ -1,0 +1,80 @@
+ghost use Rattle.std.specs.Prelude.{◌≡◌, ℕ, ◌+◌, ◌%◌, ◌^◌, ◌<◌, ◌≤◌, ◌↔◌, ◌⊎◌, IsTrue, IsSome, IfSome, MatchOption};
+ghost use Rattle.l4_fpage.specs.Pages.{IsBlock, InBlock};
+
+/// The binary logarithm of the bytes of a page: 4,096 bytes (this profile's own).
+pub const PAGE_LOG: u8 = 12;
+
+/// The binary logarithm of the pages of a space: 2^20 pages, numbered from 0.
+pub const SPACE_LOG: u8 = 20;
+
+/// A block of pages: 2^log of them, `log` from 0 to 20, the first page a multiple of 2^log, all of
+/// them below 2^20 (this profile's own).
+#[derive(Clone, Copy, PartialEq, Eq, Debug)]
+pub struct Block {
+    pub first: u32,
+    pub log: u8,
+    pub ghost block: { IsBlock first log },
+}
+
+impl Block {
+    /// The block of 2^log pages from the page `first` on; `None` where `log` is above 20, `first`
+    /// is no multiple of 2^log, or a page of it is not below 2^20.
+    pub fn new(first: u32, log: u8) -> Option<Block>
+        ensures valid { IsSome result ↔ IsBlock first log }
+        ensures first { IfSome result (λ b. b.first ≡ first) }
+        ensures log { IfSome result (λ b. b.log ≡ log) }
+    {
+        if log <= SPACE_LOG {
+            let size = 1u32 << log;
+            if first % size == 0 && first < 1 << SPACE_LOG {
+                return Some(Block { first, log });
+            }
+        }
+        None
+    }
+
+    /// Whether the block holds this page.
+    pub fn contains(&self, page: u32) -> bool
+        ensures { IsTrue result ↔ InBlock self.now.first self.now.log page }
+    {
+        page >= self.first && page - self.first < 1 << self.log
+    }
+
+    /// The pages that both blocks hold. Two blocks are nested or disjoint: these are the pages of
+    /// one of the two, or none.
+    pub fn intersection(self, other: Block) -> Option<Block>
+        ensures nested { IfSome result (λ b. (b ≡ self) ⊎ (b ≡ other)) }
+        ensures both { IfSome result (λ b. (page : ℕ) → InBlock b.first b.log page ↔ (InBlock self.first self.log page × InBlock other.first other.log page)) }
+        ensures disjoint { IsSome result ⊎ ((page : ℕ) → InBlock self.first self.log page → ¬ InBlock other.first other.log page) }
+    {
+        if self.log > other.log {
+            return if self.contains(other.first) {
+                Some(other)
+            } else {
+                None
+            };
+        }
+        if other.contains(self.first) {
+            return Some(self);
+        }
+        None
+    }
+
+    /// The smallest block that holds both pages.
+    pub fn join(a: u32, b: u32) -> Block
+        requires a { a < 2 ^ 20 }
+        requires b { b < 2 ^ 20 }
+        ensures holds_a { InBlock result.first result.log a }
+        ensures holds_b { InBlock result.first result.log b }
+        ensures smallest { (first log : ℕ) → IsBlock first log → InBlock first log a → InBlock first log b → result.log ≤ log }
+    {
+        let mut log = 0u8;
+        while log < SPACE_LOG && a >> log != b >> log {
+            log += 1;
+        }
+        Block {
+            first: a >> log << log,
+            log,
+        }
+    }
+}

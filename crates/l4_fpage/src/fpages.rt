@@ -1,0 +1,125 @@
+ghost use Rattle.std.specs.Prelude.{◌≡◌, ℕ, ◌+◌, ◌-◌, ◌*◌, ◌/◌, ◌%◌, ◌^◌, ◌<◌, ◌≤◌, ◌↔◌, IsTrue, IsSome, IfSome, MatchOption, IfOk, IsErr};
+ghost use Rattle.l4_fpage.specs.Pages.{InBlock};
+
+use crate::{Block, PAGE_LOG, Rights, SPACE_LOG};
+
+/// The word is no fpage: its size field is 1 with a base that is not 0, 2 to 9, or 33 to 63.
+#[derive(Clone, Copy, PartialEq, Eq, Debug)]
+pub struct BadFpage;
+
+/// 2^log bytes at `base`, with rights: `log` is 10 to 31, and `base`, in bytes, a multiple of
+/// 2^log (L4 X.2 manual, Fpages).
+#[derive(Clone, Copy, PartialEq, Eq, Debug)]
+pub struct Extent {
+    pub base: u32,
+    pub log: u8,
+    pub rights: Rights,
+    pub ghost large: { 10 ≤ log },
+    pub ghost small: { log ≤ 31 },
+    pub ghost aligned: { base % 2 ^ log ≡ 0 },
+}
+
+/// A flexpage: no bytes, all bytes of the space, or 2^log bytes (L4 X.2 manual, Fpages).
+#[derive(Clone, Copy, PartialEq, Eq, Debug)]
+pub enum Fpage {
+    Nil,
+    Complete(Rights),
+    Sized(Extent),
+}
+
+impl Fpage {
+    ghost use Rattle.l4_fpage.specs.Fpages.{bytes_of, rights_of, HasPage, HoldsPage, ReadsAs, IsMalformed, fpage_word};
+
+    /// The fpage of a block's pages: the complete one for the block of the whole space.
+    pub fn of_block(block: Block, rights: Rights) -> Fpage
+        ensures bytes { bytes_of result ≡ Some (record { base = block.first * 4096; log = block.log + 12 }) }
+        ensures rights { rights_of result ≡ rights }
+    {
+        if block.log == SPACE_LOG {
+            return Fpage::Complete(rights);
+        }
+        Fpage::Sized(Extent {
+            base: block.first << PAGE_LOG,
+            log: block.log + PAGE_LOG,
+            rights,
+        })
+    }
+
+    /// The fpage that a word names (L4 X.2 manual, Fpages). A base that is no multiple of the size
+    /// is rounded down, bit 3 means nothing, a size field of 0 is nil with any base, and one of 32
+    /// complete with any base (this profile's own). `BadFpage` comes for any other size field below
+    /// 10 or above 32, but for 1 with base 0, which is complete.
+    pub fn read(word: u32) -> Result<Fpage, BadFpage>
+        ensures ok { IfOk result (ReadsAs word) }
+        ensures err { IsErr result ↔ IsMalformed word }
+        ensures only { (fpage : Fpage) → ReadsAs word fpage → result ≡ Ok fpage }
+    {
+        let log = (word >> 4 & 0x3f) as u8;
+        let base = word >> 10 << 10;
+        let rights = Rights::of_bits((word & 7) as u8);
+        match log {
+            0 => Ok(Fpage::Nil),
+            1 if base == 0 => Ok(Fpage::Complete(rights)),
+            10..=31 => Ok(Fpage::Sized(Extent {
+                base: base >> log << log,
+                log,
+                rights,
+            })),
+            32 => Ok(Fpage::Complete(rights)),
+            _ => Err(BadFpage),
+        }
+    }
+
+    /// The word of the fpage, which is read as this fpage and no other. The complete fpage is
+    /// written with a size field of 1, and bit 3 is zero.
+    pub fn word(&self) -> u32
+        ensures value { result ≡ fpage_word self.now }
+        ensures reads { ReadsAs result self.now }
+        ensures well_formed { ¬ IsMalformed result }
+        ensures only { (other : Fpage) → ReadsAs result other → other ≡ self.now }
+    {
+        match self {
+            Fpage::Nil => 0,
+            Fpage::Complete(rights) => 16 + u32::from(rights.bits()),
+            Fpage::Sized(extent) => extent.base
+                + u32::from(extent.log) * 16
+                + u32::from(extent.rights.bits()),
+        }
+    }
+
+    /// The rights that the fpage names, none for the nil fpage.
+    pub fn rights(&self) -> Rights
+        ensures { result ≡ rights_of self.now }
+    {
+        match self {
+            Fpage::Nil => Rights::of_bits(0),
+            Fpage::Complete(rights) => *rights,
+            Fpage::Sized(extent) => extent.rights,
+        }
+    }
+
+    /// The block of the pages all of whose bytes the fpage names; `None` where it names no whole
+    /// page: for the nil fpage and for one of 1 or 2 KiB.
+    pub fn pages(&self) -> Option<Block>
+        ensures none { IsSome result ↔ MatchOption (bytes_of self.now) ⊥ (λ b. 12 ≤ b.log) }
+        ensures exact { IfSome result (λ block. MatchOption (bytes_of self.now) ⊥ (λ b. (block.first ≡ b.base / 4096) × (block.log ≡ b.log - 12))) }
+        ensures pages { (page : ℕ) → MatchOption result ⊥ (λ block. InBlock block.first block.log page) ↔ HoldsPage self.now page }
+    {
+        match self {
+            Fpage::Nil => None,
+            Fpage::Complete(_) => Some(Block {
+                first: 0,
+                log: SPACE_LOG,
+            }),
+            Fpage::Sized(extent) => {
+                if extent.log < PAGE_LOG {
+                    return None;
+                }
+                Some(Block {
+                    first: extent.base >> PAGE_LOG,
+                    log: extent.log - PAGE_LOG,
+                })
+            }
+        }
+    }
+}

@@ -1,0 +1,5 @@
+pub mod Landing
+pub mod Pigeons
+pub mod Reading
+pub mod Rivals
+pub mod Written

@@ -1,0 +1,5 @@
+pub mod Messages
+pub mod Moves
+pub mod Regions
+pub mod Tags
+pub mod Words

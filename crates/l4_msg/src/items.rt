@@ -1,0 +1,113 @@
+ghost use Rattle.std.specs.Prelude.{◌≡◌, ℕ, ◌+◌, ◌*◌, ◌/◌, ◌%◌, ◌^◌, ◌<◌, ◌≤◌, ◌↔◌, IsTrue, if◌then◌else◌, IfOk, IfErr};
+
+use l4_fpage::{Block, Fpage};
+
+/// What a message hands over: the pages of an fpage, shared (map) or given away (grant), with the
+/// send base that says where they land in a larger receive window (L4 X.2 manual, IPC: map item,
+/// grant item). The send base is in bytes.
+#[derive(Clone, Copy, PartialEq, Eq, Debug)]
+pub enum Item {
+    Map { base: u32, fpage: Fpage },
+    Grant { base: u32, fpage: Fpage },
+}
+
+/// Why two words are no item.
+#[derive(Clone, Copy, PartialEq, Eq, Debug)]
+pub enum ItemFault {
+    /// A string or CtrlXfer item, which this profile leaves out.
+    Unsupported,
+    /// A kind that names no item, or a map or grant item whose second word is no fpage.
+    Bad,
+}
+
+impl Default for Item {
+    fn default() -> Item {
+        Item::Map {
+            base: 0,
+            fpage: Fpage::Nil,
+        }
+    }
+}
+
+impl Item {
+    ghost use Rattle.l4_msg.specs.Moves.{base_of, fpage_of, is_grant};
+    ghost use Rattle.l4_msg.specs.Words.{ItemReads, ItemFails, item_words};
+    ghost use Rattle.l4_msg.specs.declared.items.Item.{Item as AnItem};
+    ghost use Rattle.l4_msg.specs.declared.items.ItemFault.{ItemFault as AnItemFault};
+
+    /// The send base, in bytes.
+    pub fn base(&self) -> u32
+        ensures { result ≡ base_of self.now }
+    {
+        match self {
+            Item::Map { base, .. } => *base,
+            Item::Grant { base, .. } => *base,
+        }
+    }
+
+    /// The send fpage, with the rights that the item names.
+    pub fn fpage(&self) -> Fpage
+        ensures { result ≡ fpage_of self.now }
+    {
+        match self {
+            Item::Map { fpage, .. } => *fpage,
+            Item::Grant { fpage, .. } => *fpage,
+        }
+    }
+
+    /// Whether the item gives its pages away.
+    pub fn is_grant(&self) -> bool
+        ensures { result ≡ is_grant self.now }
+    {
+        match self {
+            Item::Map { .. } => false,
+            Item::Grant { .. } => true,
+        }
+    }
+
+    /// The item of two words. In the first, bits 9 to 4 and the lowest bit, which says whether
+    /// another item follows, mean nothing (this profile's own). `Unsupported` comes for the kinds
+    /// of strings and of CtrlXfer, and `Bad` for the kind 7 and for a second word that is no fpage.
+    pub fn read(first: u32, second: u32) -> Result<Item, ItemFault>
+        ensures ok { IfOk result (ItemReads first second) }
+        ensures err { IfErr result (ItemFails first second) }
+        ensures only { (item : AnItem) → ItemReads first second item → result ≡ Ok item }
+        ensures refused { (fault : AnItemFault) → ItemFails first second fault → result ≡ Err fault }
+    {
+        let base = first >> 10 << 10;
+        match first >> 1 & 7 {
+            4 => match Fpage::read(second) {
+                Ok(fpage) => Ok(Item::Map { base, fpage }),
+                Err(_) => Err(ItemFault::Bad),
+            },
+            5 => match Fpage::read(second) {
+                Ok(fpage) => Ok(Item::Grant { base, fpage }),
+                Err(_) => Err(ItemFault::Bad),
+            },
+            7 => Err(ItemFault::Bad),
+            _ => Err(ItemFault::Unsupported),
+        }
+    }
+
+    /// The two words of the item; `more`, its lowest bit, says that another item follows. The send
+    /// base is a multiple of 1,024 bytes.
+    pub fn words(&self, more: bool) -> (u32, u32)
+        requires { base_of self.now % 1024 ≡ 0 }
+        ensures value { result ≡ item_words self.now more }
+        ensures reads { ItemReads result.0 result.1 self.now }
+    {
+        let kind = match self {
+            Item::Map { .. } => 8,
+            Item::Grant { .. } => 10,
+        };
+        (self.base() + kind + u32::from(more), self.fpage().word())
+    }
+}
+
+/// The pages of one block go to those of another block of the same size, in order.
+#[derive(Clone, Copy, PartialEq, Eq, Debug)]
+pub struct Move {
+    pub source: Block,
+    pub target: Block,
+    pub ghost same_size: { source.log ≡ target.log },
+}

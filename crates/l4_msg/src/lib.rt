@@ -1,0 +1,22 @@
+//! The words of messages: tags, map and grant items, receive windows, and the pages that an item
+//! moves (L4 X.2 manual, IPC: message registers, tags, typed items, acceptor).
+#![tactic(auto)]
+
+mod acceptors;
+mod items;
+mod messages;
+mod moves;
+mod regions;
+mod tags;
+mod words;
+
+pub use acceptors::Acceptor;
+pub use items::{Item, ItemFault, Move};
+pub use messages::{MAX_UNTYPED, MAX_WORDS, Message, MsgFault};
+pub use moves::item_moves;
+pub use regions::Region;
+pub use tags::Tag;
+pub use words::MAX_ITEMS;
+
+#[cfg(test)]
+mod tests;

@@ -1,0 +1,45 @@
+ghost use Rattle.std.specs.Prelude.{◌≡◌, ℕ, ◌+◌, ◌*◌, ◌%◌, ◌<◌, ◌≤◌, length, IfOk, IfErr};
+ghost use Rattle.std.specs.List.{All};
+ghost use Rattle.l4_msg.specs.Words.{ItemsRead, FirstFails, items_words};
+ghost use Rattle.l4_msg.specs.Moves.{base_of};
+
+use crate::items::{Item, ItemFault};
+use arrayvec::ArrayVec;
+
+/// The items of a message, at most: two words each, in the registers after the tag.
+pub const MAX_ITEMS: usize = 31;
+
+/// The words of those items.
+pub const MAX_TYPED: usize = 2 * MAX_ITEMS;
+
+/// The items of these words, or the first that fails, by its place from 0.
+pub fn read_items(words: &[u32]) -> Result<ArrayVec<Item, MAX_ITEMS>, (u32, ItemFault)>
+    requires even { length words.now % 2 ≡ 0 }
+    requires few { length words.now ≤ 62 }
+    ensures ok { IfOk result (λ items. ItemsRead words.now items.items) }
+    ensures err { IfErr result (λ e. FirstFails words.now e.0 e.1) }
+{
+    let mut items = ArrayVec::new();
+    for i in 0..words.len() / 2 {
+        match Item::read(words[2 * i], words[2 * i + 1]) {
+            Ok(item) => items.push(item),
+            Err(fault) => return Err((i as u32, fault)),
+        }
+    }
+    Ok(items)
+}
+
+/// The words of some items.
+pub fn write_items(items: &[Item]) -> ArrayVec<u32, MAX_TYPED>
+    requires few { length items.now ≤ 31 }
+    requires whole { All (λ item. base_of item % 1024 ≡ 0) items.now }
+    ensures value { result.items ≡ items_words items.now }
+{
+    let mut words = ArrayVec::new();
+    for i in 0..items.len() {
+        let (first, second) = items[i].words(i + 1 < items.len());
+        words.push(first);
+        words.push(second);
+    }
+    words
+}
