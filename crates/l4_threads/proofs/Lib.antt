@@ -1,0 +1,9 @@
+pub mod QueuePairs
+pub mod TableLemmas
+pub mod QueueLemmas
+pub mod ViewLemmas
+pub mod EnabledLemmas
+pub mod BootLemmas
+pub mod ControlLemmas
+pub mod StepLemmas
+pub mod DeleteLemmas

@@ -1,0 +1,257 @@
+-- The queue of senders as a list: who stands in it, and who before whom.
+use Rattle.std.proofs.Common.{◌≡◌, ◌≢◌, ℕ, suc, ◌<◌, ◌≤◌, length, ◌==◌, Bool, true, false, cond, not, ◌||◌, ◌&&◌, List, [], ◌∷◌, ◌++◌, filter, Option, Some, None, refl, sym, ap, ◌∙◌, subst, arith, inl, inr, ◌⊎◌, eq-eqb}
+use Rattle.std.specs.List.{find}
+use Rattle.std.proofs.lemmas.Bool.{false≢true}
+use Rattle.l4_threads.specs.Entries.{is_in, IsOnce, precedes}
+use Rattle.l4_threads.proofs.TableLemmas.{same_or, differ, same_of}
+
+pub and_true : (a b : Bool) → (a && b) ≡ true → (a ≡ true) × (b ≡ true)
+and_true true b h = (refl, h)
+and_true false b h = absurd (false≢true h)
+
+pub or_true : (a b : Bool) → (a || b) ≡ true → (a ≡ true) ⊎ (b ≡ true)
+or_true true b h = inl refl
+or_true false b h = inr h
+
+pub or_left : (a b : Bool) → a ≡ true → (a || b) ≡ true
+or_left a b h = ap (λ x. x || b) h
+
+pub or_right : (a b : Bool) → b ≡ true → (a || b) ≡ true
+or_right true b h = refl
+or_right false b h = h
+
+pub both_true : (a b : Bool) → a ≡ true → b ≡ true → (a && b) ≡ true
+both_true a b h k = ap (λ x. x && b) h ∙ k
+
+-- WHO STANDS IN IT
+
+pub is_in_head : (x : ℕ) (xs : List ℕ) → is_in (x ∷ xs) x ≡ true
+is_in_head x xs = or_left _ _ (eq-eqb x x refl)
+
+pub is_in-push : (xs : List ℕ) (n q : ℕ) → is_in (xs ++ n ∷ []) q ≡ (is_in xs q || (q == n))
+is_in-push [] n q = or_false (q == n) where
+  or_false : (b : Bool) → (b || false) ≡ b
+  or_false true = refl
+  or_false false = refl
+is_in-push (x ∷ xs) n q = ap (λ b. (q == x) || b) (is_in-push xs n q) ∙ regroup (q == x) (is_in xs q) (q == n) where
+  regroup : (a b c : Bool) → (a || (b || c)) ≡ ((a || b) || c)
+  regroup true b c = refl
+  regroup false b c = refl
+
+-- the queue without the one number
+abbrev pub left_by : ℕ → List ℕ → List ℕ
+left_by n xs = filter (λ m. not (m == n)) xs
+
+turn : (a b : ℕ) → (a == b) ≡ (b == a)
+turn a b = elim (same_or a b) [ inl is ↦ eq-eqb a b is ∙ sym (eq-eqb b a (sym is)) | inr ne ↦ differ a b ne ∙ sym (differ b a (λ is. ne (sym is))) ]
+
+pub is_in-left_by : (n : ℕ) (xs : List ℕ) (q : ℕ) → is_in (left_by n xs) q ≡ (is_in xs q && not (q == n))
+is_in-left_by n [] q = refl
+is_in-left_by n (x ∷ xs) q =
+    elim (same_or q x) [
+      | inl is ↦
+          subst (λ (x : ℕ). is_in (cond (not (x == n)) (x ∷ left_by n xs) (left_by n xs)) q ≡ (((q == x) || is_in xs q) && not (q == n))) is
+          (elim (q == n) as (λ b. is_in (left_by n xs) q ≡ (is_in xs q && not b) → is_in (cond (not b) (q ∷ left_by n xs) (left_by n xs)) q ≡ (((q == q) || is_in xs q) && not b)) [
+            | true ↦ λ h. h ∙ and_false (is_in xs q) ∙ sym (and_false ((q == q) || is_in xs q))
+            | false ↦ λ h. is_in_head q (left_by n xs) ∙ sym (ap (λ b. b && true) (is_in_head q xs))
+          ] (is_in-left_by n xs q))
+      | inr ne ↦
+          elim (not (x == n)) as (λ b. is_in (cond b (x ∷ left_by n xs) (left_by n xs)) q ≡ is_in (left_by n xs) q) [
+            | true ↦ ap (λ b. b || is_in (left_by n xs) q) (differ q x ne)
+            | false ↦ refl
+          ]
+          ∙ is_in-left_by n xs q
+          ∙ ap (λ b. (b || is_in xs q) && not (q == n)) (sym (differ q x ne))
+    ] where
+      and_false : (b : Bool) → (b && false) ≡ false
+      and_false true = refl
+      and_false false = refl
+
+pub once-push : (xs : List ℕ) (n : ℕ) → IsOnce xs → is_in xs n ≡ false → IsOnce (xs ++ n ∷ [])
+once-push [] n once out = (refl, tt)
+once-push (x ∷ xs) n once out =
+    elim (same_or n x) [
+      | inl is ↦ absurd (false≢true (sym out ∙ or_left _ _ (eq-eqb n x is)))
+      | inr ne ↦ (
+        is_in-push xs n x ∙ ap (λ b. b || (x == n)) once.0 ∙ differ x n (λ is. ne (sym is)),
+        once-push xs n once.1 (sym (ap (λ b. b || is_in xs n) (differ n x ne)) ∙ out),
+      )
+    ]
+
+pub once-left_by : (n : ℕ) (xs : List ℕ) → IsOnce xs → IsOnce (left_by n xs)
+once-left_by n [] once = tt
+once-left_by n (x ∷ xs) once =
+    elim (not (x == n)) as (λ b. IsOnce (cond b (x ∷ left_by n xs) (left_by n xs))) [
+      | true ↦ (is_in-left_by n xs x ∙ ap (λ b. b && not (x == n)) once.0, once-left_by n xs once.1)
+      | false ↦ once-left_by n xs once.1
+    ]
+
+length-left_by : (n : ℕ) (xs : List ℕ) → length (left_by n xs) ≤ length xs
+length-left_by n [] = omega arith
+length-left_by n (x ∷ xs) =
+    let rest = length-left_by n xs in
+    elim (not (x == n)) as (λ b. length (cond b (x ∷ left_by n xs) (left_by n xs)) ≤ suc (length xs)) [ true ↦ omega arith | false ↦ omega arith ]
+
+shorter-left_by : (n : ℕ) (xs : List ℕ) → is_in xs n ≡ true → length (left_by n xs) < length xs
+shorter-left_by n [] h = absurd (false≢true h)
+shorter-left_by n (x ∷ xs) h =
+    elim (same_or x n) [
+      | inl is ↦
+          let rest = length-left_by n xs in
+          subst (λ b. length (cond (not b) (x ∷ left_by n xs) (left_by n xs)) < suc (length xs)) (sym (eq-eqb x n is)) (omega arith)
+      | inr ne ↦
+          let rest = shorter-left_by n xs (sym (ap (λ b. b || is_in xs n) (differ n x (λ is. ne (sym is)))) ∙ h) in
+          subst (λ b. length (cond (not b) (x ∷ left_by n xs) (left_by n xs)) < suc (length xs)) (sym (differ x n ne)) (omega arith)
+    ]
+
+-- a list in which nothing stands twice is no longer than one that has all of it
+pub once_fits : (xs ys : List ℕ) → IsOnce xs → ((m : ℕ) → is_in xs m ≡ true → is_in ys m ≡ true) → length xs ≤ length ys
+once_fits [] ys once each = omega arith
+once_fits (x ∷ xs) ys once each =
+    let less = shorter-left_by x ys (each x (is_in_head x xs)) in
+    let rest = once_fits xs (left_by x ys) once.1 (λ m h.
+    is_in-left_by x ys m
+    ∙ both_true _ _ (each m (or_right (m == x) _ h))
+    (ap not (differ m x (λ is. false≢true (sym once.0 ∙ ap (is_in xs) (sym is) ∙ h))))) in
+    omega arith
+
+-- WHO BEFORE WHOM
+
+pub precedes_in : (xs : List ℕ) (a b : ℕ) → precedes xs a b ≡ true → (is_in xs a ≡ true) × (is_in xs b ≡ true)
+precedes_in [] a b h = absurd (false≢true h)
+precedes_in (x ∷ xs) a b h =
+    elim (or_true ((a == x) && is_in xs b) (precedes xs a b) h) [
+      | inl both ↦ let p = and_true (a == x) (is_in xs b) both in (or_left _ _ p.0, or_right (b == x) _ p.1)
+      | inr rest ↦ let p = precedes_in xs a b rest in (or_right (a == x) _ p.0, or_right (b == x) _ p.1)
+    ]
+
+-- the head stands behind nobody
+pub none_before_head : (x : ℕ) (xs : List ℕ) → IsOnce (x ∷ xs) → (a : ℕ) → precedes (x ∷ xs) a x ≡ true → ⊥
+none_before_head x xs once a h =
+    elim (or_true ((a == x) && is_in xs x) (precedes xs a x) h) [
+      | inl both ↦ false≢true (sym once.0 ∙ (and_true (a == x) (is_in xs x) both).1)
+      | inr rest ↦ false≢true (sym once.0 ∙ (precedes_in xs a x rest).1)
+    ]
+
+pub precedes_irreflexive : (xs : List ℕ) → IsOnce xs → (a : ℕ) → precedes xs a a ≡ true → ⊥
+precedes_irreflexive [] once a h = false≢true h
+precedes_irreflexive (x ∷ xs) once a h =
+    elim (or_true ((a == x) && is_in xs a) (precedes xs a a) h) [
+      | inl both ↦
+          let p = and_true (a == x) (is_in xs a) both in
+          false≢true (sym once.0 ∙ ap (is_in xs) (sym (same_of a x p.0)) ∙ p.1)
+      | inr rest ↦ precedes_irreflexive xs once.1 a rest
+    ]
+
+pub precedes_transitive : (xs : List ℕ) → IsOnce xs → (a b c : ℕ) → precedes xs a b ≡ true → precedes xs b c ≡ true → precedes xs a c ≡ true
+precedes_transitive [] once a b c h k = h
+precedes_transitive (x ∷ xs) once a b c h k =
+    elim (or_true ((b == x) && is_in xs c) (precedes xs b c) k) [
+      | inl second ↦
+          let p = and_true (b == x) (is_in xs c) second in
+          absurd (none_before_head x xs once a (subst (λ (y : ℕ). precedes (x ∷ xs) a y ≡ true) (same_of b x p.0) h))
+      | inr second ↦
+          elim (or_true ((a == x) && is_in xs b) (precedes xs a b) h) [
+            | inl first ↦ or_left _ _ (both_true (a == x) (is_in xs c) (and_true (a == x) (is_in xs b) first).0 (precedes_in xs b c second).1)
+            | inr first ↦ or_right ((a == x) && is_in xs c) _ (precedes_transitive xs once.1 a b c first second)
+          ]
+    ]
+
+pub precedes_total : (xs : List ℕ) (a b : ℕ) → is_in xs a ≡ true → is_in xs b ≡ true → a ≢ b → (precedes xs a b ≡ true) ⊎ (precedes xs b a ≡ true)
+precedes_total [] a b h k ne = absurd (false≢true h)
+precedes_total (x ∷ xs) a b h k ne =
+    elim (or_true (a == x) (is_in xs a) h) [
+      | inl first ↦
+          elim (or_true (b == x) (is_in xs b) k) [
+            | inl second ↦ absurd (ne (same_of a x first ∙ sym (same_of b x second)))
+            | inr second ↦ inl (or_left _ _ (both_true (a == x) (is_in xs b) first second))
+          ]
+      | inr first ↦
+          elim (or_true (b == x) (is_in xs b) k) [
+            | inl second ↦ inr (or_left _ _ (both_true (b == x) (is_in xs a) second first))
+            | inr second ↦
+                elim (precedes_total xs a b first second ne) [
+                  | inl r ↦ inl (or_right ((a == x) && is_in xs b) _ r)
+                  | inr r ↦ inr (or_right ((b == x) && is_in xs a) _ r)
+                ]
+          ]
+    ]
+
+pub precedes-left_by : (n : ℕ) (xs : List ℕ) (a b : ℕ) → precedes (left_by n xs) a b ≡ (precedes xs a b && (not (a == n) && not (b == n)))
+precedes-left_by n [] a b = refl
+precedes-left_by n (x ∷ xs) a b =
+    elim (same_or x n) [
+      | inl is ↦
+          ap (λ t. precedes (cond (not t) (x ∷ left_by n xs) (left_by n xs)) a b) (eq-eqb x n is)
+          ∙ precedes-left_by n xs a b
+          ∙ gone (a == n) (is_in xs b) (precedes xs a b) (not (b == n))
+          ∙ ap (λ y. (((a == y) && is_in xs b) || precedes xs a b) && (not (a == n) && not (b == n))) (sym is)
+      | inr ne ↦
+          ap (λ t. precedes (cond (not t) (x ∷ left_by n xs) (left_by n xs)) a b) (differ x n ne)
+          ∙ (λ i. ((a == x) && is_in-left_by n xs b i) || precedes-left_by n xs a b i)
+          ∙ elim (same_or a x) [
+            | inl is ↦
+                let out : (a == n) ≡ false = ap (λ y. y == n) is ∙ differ x n ne in
+                ap (λ t. ((a == x) && (is_in xs b && not (b == n))) || (precedes xs a b && (not t && not (b == n)))) out
+                ∙ kept (a == x) (is_in xs b) (precedes xs a b) (not (b == n))
+                ∙ ap (λ t. (((a == x) && is_in xs b) || precedes xs a b) && (not t && not (b == n))) (sym out)
+            | inr other ↦
+                ap (λ t. (t && (is_in xs b && not (b == n))) || (precedes xs a b && (not (a == n) && not (b == n)))) (differ a x other)
+                ∙ ap (λ t. ((t && is_in xs b) || precedes xs a b) && (not (a == n) && not (b == n))) (sym (differ a x other))
+          ]
+    ] where
+      gone : (t i p o : Bool) → (p && (not t && o)) ≡ (((t && i) || p) && (not t && o))
+      gone true i true o = and_none true i o where
+        and_none : (p i o : Bool) → (p && false) ≡ ((i || p) && false)
+        and_none true true o = refl
+        and_none true false o = refl
+        and_none false true o = refl
+        and_none false false o = refl
+      gone true true false o = refl
+      gone true false false o = refl
+      gone false i p o = refl
+
+      kept : (t i p o : Bool) → ((t && (i && o)) || (p && (true && o))) ≡ (((t && i) || p) && (true && o))
+      kept true true true true = refl
+      kept true true true false = refl
+      kept true true false true = refl
+      kept true true false false = refl
+      kept true false p o = refl
+      kept false i p o = refl
+
+-- WHO IS FIRST
+
+-- the first that passes a test stands in the queue and passes it
+pub first_passes : (p : ℕ → Bool) (xs : List ℕ) (s : ℕ) → find p xs ≡ Some s → (is_in xs s ≡ true) × (p s ≡ true)
+first_passes p [] s h = absurd (let k : ◌≡◌ {A = Option ℕ} None (Some s) = h in cc)
+first_passes p (x ∷ xs) s h =
+    elim (p x) as (λ b. p x ≡ b → cond b (Some x) (find p xs) ≡ Some s → (is_in (x ∷ xs) s ≡ true) × (p s ≡ true)) [
+      | true ↦ λ t is. let v : x ≡ s = cc in (or_left _ _ (eq-eqb s x (sym v)), sym (ap p v) ∙ t)
+      | false ↦ λ _ is. let r = first_passes p xs s is in (or_right (s == x) _ r.0, r.1)
+    ] refl h
+
+-- and none that passes it stands before
+pub first_is_first : (p : ℕ → Bool) (xs : List ℕ) → IsOnce xs → (s : ℕ) → find p xs ≡ Some s → (other : ℕ) → p other ≡ true → precedes xs other s ≡ true → ⊥
+first_is_first p [] once s h other passes before = false≢true before
+first_is_first p (x ∷ xs) once s h other passes before =
+    elim (p x) as (λ b. p x ≡ b → cond b (Some x) (find p xs) ≡ Some s → ⊥) [
+      | true ↦ λ _ is. let v : x ≡ s = cc in none_before_head x xs once other (subst (λ (y : ℕ). precedes (x ∷ xs) other y ≡ true) (sym v) before)
+      | false ↦ λ t is.
+          elim (or_true ((other == x) && is_in xs s) (precedes xs other s) before) [
+            | inl both ↦ false≢true (sym t ∙ ap p (sym (same_of other x (and_true (other == x) (is_in xs s) both).0)) ∙ passes)
+            | inr rest ↦ first_is_first p xs once.1 s is other passes rest
+          ]
+    ] refl h
+
+-- where none is found, none in the queue passes
+pub none_passes : (p : ℕ → Bool) (xs : List ℕ) → find p xs ≡ None → (s : ℕ) → is_in xs s ≡ true → p s ≡ true → ⊥
+none_passes p [] h s there passes = false≢true there
+none_passes p (x ∷ xs) h s there passes =
+    elim (p x) as (λ b. p x ≡ b → cond b (Some x) (find p xs) ≡ None → ⊥) [
+      | true ↦ λ _ is. let k : ◌≡◌ {A = Option ℕ} (Some x) None = is in cc
+      | false ↦ λ t is.
+          elim (or_true (s == x) (is_in xs s) there) [
+            | inl here ↦ false≢true (sym t ∙ ap p (sym (same_of s x here)) ∙ passes)
+            | inr rest ↦ none_passes p xs is s rest passes
+          ]
+    ] refl h

@@ -1,0 +1,26 @@
+use Rattle.std.proofs.Common.{◌≡◌, ℕ, Some, refl, sym, ap, ◌∙◌, subst, length}
+use Rattle.std.proofs.lemmas.Option.{slice_get_read}
+use Rattle.std.proofs.lemmas.Bool.{false≢true}
+use Rattle.l4_threads.specs.Entries.{Entries}
+use Rattle.l4_threads.specs.Queue.{threads_of}
+use Rattle.l4_threads.proofs.EnabledLemmas.{LeastSoFar, least_skips, least_takes, least_of_all}
+use Rattle.l4_threads.proofs.table.Threads.next_expiry.Goals as goal
+use Rattle.l4_threads.proofs.table.Threads.next_expiry.Goals.{then-can_expire, else-can_expire}
+
+pub loop-entry-preserved : goal.loop-entry-preserved
+loop-entry-preserved c =
+    let es = c.as_slice-entry-items.result.now in
+    let there = slice_get_read es (length es) c.loop-entry.entry-index c.entry-item.result refl c.loop-entry-test.true c.entry-item.is in
+    elim c.if-can_expire.branch [
+      | then-can_expire w ↦
+          subst (LeastSoFar c.args.self.now es _) (sym (w.least-is ∙ ap (λ (n : ℕ). Some n) w.lesser.ensures))
+          (least_takes c.args.self.now es c.loop-entry.entry-index c.entry-item.result there (c.can_expire.ensures.0 w.if-can_expire.true) c.loop-entry.least c.loop-entry.invariant)
+      | else-can_expire w ↦
+          subst (LeastSoFar c.args.self.now es _) (sym w.least-is)
+          (least_skips c.args.self.now es c.loop-entry.entry-index c.entry-item.result there (λ can. false≢true (sym w.if-can_expire.false ∙ c.can_expire.ensures.1 can)) c.loop-entry.least c.loop-entry.invariant)
+    ]
+
+pub returns : goal.returns
+returns c =
+    let is = subst (λ (es : Entries). threads_of es c.self.inside.queue.items c.self.inside.next_space ≡ c.args.self.now) (sym c.as_slice-entry-items.ensures.value) c.self.view_is in
+    least_of_all c.as_slice-entry-items.result.now c.self.inside.queue.items c.self.inside.next_space c.args.self.now is c.loop-entry.entry-index c.loop-entry-test.false c.loop-entry.least c.loop-entry.invariant

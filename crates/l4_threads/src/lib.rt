@@ -1,0 +1,274 @@
+//! Threads, their states and the queue of senders.
+#![tactic(auto)]
+
+mod entries;
+mod table;
+
+use arrayvec::ArrayVec;
+use l4_fpage::Fpage;
+use l4_msg::Item;
+pub use table::Threads;
+
+/// A thread's global id, one word: the thread number in bits 31..14, the version below (L4 X.2 manual, ThreadId).
+#[derive(Clone, Copy, Debug, PartialEq, Eq)]
+pub struct ThreadId(pub u32);
+
+/// What an Ipc call replies.
+#[derive(Drop)]
+pub struct IpcReply {
+    /// The message tag: the sender's, or 0x8000 where the call failed.
+    pub tag: u32,
+    /// The ErrorCode of a call that failed, else 0.
+    pub error: u32,
+    /// Who sent the message, or nilthread.
+    pub from: ThreadId,
+    /// The words of the message after its tag.
+    pub words: ArrayVec<u32, 64>,
+}
+
+/// How a call ended.
+#[derive(Drop)]
+pub enum Reply {
+    /// An Ipc call, with or without an error.
+    Ipc(IpcReply),
+    /// A fault at a page that is there with the rights that the access needs.
+    Hit,
+    /// A fault that the pager answered.
+    Answered,
+    /// A fault whose message failed with this ErrorCode.
+    FaultFailed(u32),
+    Unmapped,
+    Controlled,
+    /// The call of a thread that was deleted as it waited.
+    Gone,
+}
+
+/// Whose messages a receive phase takes.
+#[derive(Clone, Copy, Debug, PartialEq, Eq)]
+pub enum Source {
+    Anyone,
+    /// The thread of this number alone.
+    Thread(u32),
+}
+
+/// A receive phase that has begun.
+#[derive(Clone, Copy, Debug, PartialEq, Eq)]
+pub struct Receiving {
+    pub from: Source,
+    /// The receive window.
+    pub window: Fpage,
+    /// The timeout is zero; else it is never.
+    pub expires: bool,
+    /// The phase is part of a page fault.
+    pub fault: bool,
+}
+
+/// A receive phase that is still to begin. Its partner is looked up when it begins.
+#[derive(Clone, Copy, Debug, PartialEq, Eq)]
+pub struct Later {
+    pub from: ThreadId,
+    /// The receive window.
+    pub window: Fpage,
+    /// The timeout is zero; else it is never.
+    pub expires: bool,
+}
+
+/// A send phase that has begun.
+#[derive(Drop)]
+pub struct Sending {
+    /// The message registers from the tag on, as they were given.
+    pub words: ArrayVec<u32, 64>,
+    /// The items that the words hold.
+    pub items: ArrayVec<Item, 31>,
+    /// The partner's number.
+    pub to: u32,
+    /// The timeout is zero; else it is never.
+    pub expires: bool,
+    /// What to receive afterwards.
+    pub then: Option<Later>,
+    /// The phase is part of a page fault.
+    pub fault: bool,
+}
+
+/// What a thread is doing.
+#[derive(Drop)]
+pub enum State {
+    /// It waits for nobody, and has the reply of its last ended call, if a call has ended.
+    Running(Option<Reply>),
+    Sending(Sending),
+    Receiving(Receiving),
+}
+
+/// A thread.
+#[derive(Drop)]
+pub struct Thread {
+    pub id: ThreadId,
+    pub space: u64,
+    pub pager: ThreadId,
+    pub state: State,
+}
+
+/// Why a thread is not created, changed or deleted.
+#[derive(Clone, Copy, Debug, PartialEq, Eq)]
+pub enum ThreadFault {
+    /// H1: the caller is not in the root space.
+    NoPrivilege,
+    /// H2: no thread can have the id.
+    BadId,
+    /// H3: the thread number exists.
+    Taken,
+    /// H4: an id names no thread.
+    Unknown,
+    /// H5: 64 threads exist, or the space numbers are used up.
+    Full,
+    /// H6: sigma0, root and the caller itself are never deleted.
+    Kept,
+}
+
+/// What the deletion of a thread did.
+#[derive(Drop)]
+pub struct Deleted {
+    /// The number of the thread that is gone.
+    pub number: u32,
+    /// The numbers of the threads whose calls ended with it, rising: those that waited for it, and the thread
+    /// itself where it was waiting.
+    pub ended: ArrayVec<u32, 64>,
+    /// The thread's space, where it was the last thread there.
+    pub space: Option<u64>,
+}
+
+impl Default for Thread {
+    ghost use Rattle.std.specs.Prelude.{◌≡◌};
+    ghost use Rattle.l4_threads.specs.Threads.{no_thread};
+
+    ghost is_default = { λ thread. thread ≡ no_thread };
+
+    fn default() -> Thread {
+        Thread {
+            id: ThreadId(0),
+            space: 0,
+            pager: ThreadId(0),
+            state: State::Running(None),
+        }
+    }
+}
+
+impl ThreadId {
+    ghost use Rattle.std.specs.Prelude.{◌≡◌, ◌<◌, ◌^◌};
+    ghost use Rattle.l4_threads.specs.Threads.{nilthread, anythread, number_of};
+    ghost use Rattle.l4_threads.specs.Control.{is_bad_id};
+
+    /// The thread number, below 2^18.
+    pub fn number(self) -> u32
+        ensures value { result ≡ number_of self }
+        ensures small { result < 2 ^ 18 }
+    {
+        self.0 >> 14
+    }
+
+    /// The id that names no thread.
+    pub fn nil() -> ThreadId
+        ensures { result ≡ nilthread }
+    {
+        ThreadId(0)
+    }
+
+    /// The id that stands for any thread.
+    pub fn any() -> ThreadId
+        ensures { result ≡ anythread }
+    {
+        ThreadId(0xffff_ffff)
+    }
+
+    /// Whether no thread can have the id: nilthread, anythread, number 0, or a version whose lower six bits are 0.
+    pub fn is_bad(self) -> bool
+        ensures { result ≡ is_bad_id self }
+    {
+        self.0 == 0 || (self.0 == 0xffff_ffff || (self.number() == 0 || self.0 % 64 == 0))
+    }
+}
+
+impl Source {
+    ghost use Rattle.std.specs.Prelude.{◌≡◌};
+    ghost use Rattle.l4_threads.specs.Enabled.{takes_from};
+
+    /// Whether messages of this thread are taken.
+    pub fn takes(self, sender: u32) -> bool
+        ensures { result ≡ takes_from self sender }
+    {
+        match self {
+            Source::Anyone => true,
+            Source::Thread(number) => number == sender,
+        }
+    }
+}
+
+impl State {
+    ghost use Rattle.std.specs.Prelude.{◌≡◌};
+    ghost use Rattle.std.specs.Prelude.{MatchOption, Some, None};
+    ghost use Rattle.l4_threads.specs.Threads.{is_running, is_sending};
+    ghost use Rattle.l4_threads.specs.Control.{frees, freed_reply};
+
+    /// Whether the thread waits for nobody.
+    pub fn is_running(&self) -> bool
+        ensures { result ≡ is_running self.now }
+    {
+        matches!(self, State::Running(_))
+    }
+
+    /// Whether the thread waits for its message to be taken.
+    pub fn is_sending(&self) -> bool
+        ensures { result ≡ is_sending self.now }
+    {
+        matches!(self, State::Sending(_))
+    }
+
+    /// Whether the state ends with the thread of this number: it sends to it, or receives from it by name.
+    fn is_freed_by(&self, number: u32) -> bool
+        ensures { result ≡ frees number self.now }
+    {
+        match self {
+            State::Running(_) => false,
+            State::Sending(sending) => sending.to == number,
+            State::Receiving(receiving) => match receiving.from {
+                Source::Anyone => false,
+                Source::Thread(from) => from == number,
+            },
+        }
+    }
+
+    /// What the call replies whose partner is gone.
+    fn reply_without_partner(&self) -> Reply
+        ensures { result ≡ freed_reply self.now }
+    {
+        match self {
+            State::Running(_) => Reply::Gone,
+            State::Sending(sending) => Reply::failed(sending.fault, 4),
+            State::Receiving(receiving) => Reply::failed(receiving.fault, 5),
+        }
+    }
+}
+
+impl Reply {
+    ghost use Rattle.std.specs.Prelude.{◌≡◌};
+    ghost use Rattle.l4_threads.specs.Threads.{failed};
+
+    /// What a call that failed with this ErrorCode replies.
+    pub fn failed(fault: bool, code: u32) -> Reply
+        ensures { result ≡ failed fault code }
+    {
+        if fault {
+            Reply::FaultFailed(code)
+        } else {
+            Reply::Ipc(IpcReply {
+                tag: 0x8000,
+                error: code,
+                from: ThreadId(0),
+                words: ArrayVec::new(),
+            })
+        }
+    }
+}
+
+#[cfg(test)]
+mod tests;

@@ -1,0 +1,437 @@
+//! The table of threads, and the queue of senders.
+ghost use Rattle.std.specs.Prelude.{◌≡◌, ◌↔◌, ◌++◌, ◌∷◌, [], ℕ, IsTrue, IsSome, IfOk, OnErr, MatchOption, MatchResult, Some, None, Ok, Err, filter, not, ◌==◌};
+ghost use Rattle.std.specs.Option.{option_copied};
+ghost use Rattle.std.specs.FinSet as set;
+ghost use Rattle.std.specs.List.Sorted.{IsStrictlyIncreasing};
+
+use crate::entries::{
+    ended_by, free_all, is_inhabited, keep_senders, leave, lesser, position, put_pager, put_state,
+    remove_thread,
+};
+use crate::{Deleted, Receiving, Reply, Sending, State, Thread, ThreadFault, ThreadId};
+use arrayvec::ArrayVec;
+use std::marker::Model;
+
+/// The number of the root space.
+const ROOT_SPACE: u64 = 1;
+
+/// The greatest number of a space.
+const LAST_SPACE: u64 = u64::MAX - 1;
+
+/// At most 64 threads, and the queue of those that are sending.
+#[derive(Drop)]
+pub struct Threads {
+    threads: ArrayVec<(u32, Thread), 64>,
+    queue: ArrayVec<u32, 64>,
+    next_space: u64,
+}
+
+impl Model for Threads {
+    ghost use Rattle.std.specs.Coded.{coded_ℕ};
+    ghost use Rattle.l4_threads.specs.contracts.Thread as thread;
+    ghost use Rattle.l4_threads.specs.Threads.{Threads as Seen, threads_code};
+
+    ghost Value = { Seen };
+
+    ghost coded = { threads_code thread.the_row.coded };
+
+    ghost use Rattle.l4_threads.specs.Queue.{seen, IsKept};
+
+    ghost view = { seen };
+
+    ghost invariant = { IsKept };
+}
+
+impl Threads {
+    ghost use Rattle.l4_threads.specs.Threads.{thread_at, state_of, space_of, pager_of, named, number_of, runs, sends, may_receive, with_state, start_send, start_receive, end_call, first_threads, IsConsistent, Before};
+    ghost use Rattle.l4_threads.specs.Enabled.{offers_to, taker, Offers, IsFirstSender, IsNextTransfer, CanExpire, IsNextExpiry};
+    ghost use Rattle.l4_threads.specs.Control.{is_privileged, space_for, is_full, create_test, CanCreate, created, set_pager_test, with_pager, delete_test, Deletes, ends_at, IsEndedList, HasEnded, TellsEnd};
+    ghost use Rattle.l4_threads.specs.Entries.{pairs_of, IsOnce, is_in};
+
+    /// The threads of the start: thread 1, sigma0, in space 0 and without a pager, and thread 2, root, in space 1
+    /// with pager sigma0. Both run, and the next new space is 2.
+    pub fn boot() -> Threads
+        ensures { result ≡ first_threads }
+    {
+        let mut threads = ArrayVec::new();
+        threads.push((
+            1,
+            Thread {
+                id: ThreadId(0x4001),
+                space: 0,
+                pager: ThreadId(0),
+                state: State::Running(None),
+            },
+        ));
+        threads.push((
+            2,
+            Thread {
+                id: ThreadId(0x8001),
+                space: ROOT_SPACE,
+                pager: ThreadId(0x4001),
+                state: State::Running(None),
+            },
+        ));
+        Threads {
+            threads,
+            queue: ArrayVec::new(),
+            next_space: 2,
+        }
+    }
+
+    /// The thread of this number.
+    pub fn thread(&self, number: u32) -> Option<&Thread>
+        ensures { option_copied result ≡ thread_at self.now number }
+    {
+        let entries = self.threads.as_slice();
+        let at = position(entries, number)?;
+        Some(&entries[at].1)
+    }
+
+    /// What the thread of this number does.
+    pub fn state(&self, number: u32) -> Option<&State>
+        ensures { option_copied result ≡ state_of self.now number }
+    {
+        let thread = self.thread(number)?;
+        Some(&thread.state)
+    }
+
+    /// The space of the thread of this number.
+    pub fn space_of(&self, number: u32) -> Option<u64>
+        ensures { result ≡ space_of self.now number }
+    {
+        let thread = self.thread(number)?;
+        Some(thread.space)
+    }
+
+    /// The pager of the thread of this number.
+    pub fn pager_of(&self, number: u32) -> Option<ThreadId>
+        ensures { result ≡ pager_of self.now number }
+    {
+        let thread = self.thread(number)?;
+        Some(thread.pager)
+    }
+
+    /// The number of the thread that has this very id.
+    pub fn named(&self, id: ThreadId) -> Option<u32>
+        ensures { result ≡ named self.now id }
+    {
+        let number = id.number();
+        let thread = self.thread(number)?;
+        if thread.id.0 == id.0 {
+            Some(number)
+        } else {
+            None
+        }
+    }
+
+    /// Whether the thread sends to the other, which receives from it.
+    fn offers(&self, sender: u32, receiver: u32) -> bool
+        ensures { result ≡ offers_to (state_of self.now sender) (state_of self.now receiver) sender receiver }
+    {
+        let Some(State::Sending(sending)) = self.state(sender) else {
+            return false;
+        };
+        let Some(State::Receiving(receiving)) = self.state(receiver) else {
+            return false;
+        };
+        sending.to == receiver && receiving.from.takes(sender)
+    }
+
+    /// The number of the first thread in the queue whose message the receiver would take.
+    pub fn first_sender(&self, receiver: u32) -> Option<u32>
+        ensures { MatchOption result ((s : ℕ) → ¬ (Offers self.now s receiver)) (IsFirstSender self.now receiver) }
+    {
+        for sender in self.queue.as_slice() {
+            if self.offers(*sender, receiver) {
+                return Some(*sender);
+            }
+        }
+        None
+    }
+
+    /// Whether the transfer from the sender to the receiver is enabled.
+    pub fn can_transfer(&self, sender: u32, receiver: u32) -> bool
+        ensures { IsTrue result ↔ IsFirstSender self.now receiver sender }
+    {
+        self.law_consistent();
+        self.first_sender(receiver) == Some(sender)
+    }
+
+    /// The number of the thread that the sender sends to, where that one takes its message.
+    fn taker(&self, sender: u32) -> Option<u32>
+        ensures { result ≡ taker self.now sender }
+    {
+        let Some(State::Sending(sending)) = self.state(sender) else {
+            return None;
+        };
+        let receiver = sending.to;
+        if self.offers(sender, receiver) {
+            Some(receiver)
+        } else {
+            None
+        }
+    }
+
+    /// The enabled transfer whose sender stands first in the queue: the sender's number and the receiver's.
+    pub fn next_transfer(&self) -> Option<(u32, u32)>
+        ensures { MatchOption result ((s r : ℕ) → ¬ (IsFirstSender self.now r s)) (IsNextTransfer self.now) }
+    {
+        for sender in self.queue.as_slice() {
+            if let Some(receiver) = self.taker(*sender) {
+                return Some((*sender, receiver));
+            }
+        }
+        None
+    }
+
+    /// Whether the thread waits with a timeout of zero and takes part in no enabled transfer.
+    pub fn can_expire(&self, number: u32) -> bool
+        ensures { IsTrue result ↔ CanExpire self.now number }
+    {
+        match self.state(number) {
+            Some(State::Sending(sending)) => {
+                let to = sending.to;
+                sending.expires && !self.can_transfer(number, to)
+            }
+            Some(State::Receiving(receiving)) => receiving.expires
+                && self.first_sender(number).is_none(),
+            _ => false,
+        }
+    }
+
+    /// The least number of a thread that can expire.
+    pub fn next_expiry(&self) -> Option<u32>
+        ensures { MatchOption result ((n : ℕ) → ¬ (CanExpire self.now n)) (IsNextExpiry self.now) }
+    {
+        let mut least = None;
+        for entry in self.threads.as_slice() {
+            if self.can_expire(entry.0) {
+                least = Some(lesser(least, entry.0));
+            }
+        }
+        least
+    }
+
+    /// The senders' numbers, in the order in which their sends began.
+    pub fn queue(&self) -> &[u32]
+        ensures pairs { self.now.before ≡ set.from_list (pairs_of result.now) }
+        ensures senders { (n : ℕ) → is_in result.now n ≡ sends self.now n }
+        ensures once { IsOnce result.now }
+    {
+        self.queue.as_slice()
+    }
+
+    /// What holds of the threads at all times. It does nothing.
+    pub fn law_consistent(&self)
+        ensures { IsConsistent self.now }
+    {
+        let _ = &self.threads;
+    }
+
+    /// A running thread starts to send: it goes to the end of the queue.
+    pub fn start_send(&mut self, number: u32, sending: Sending)
+        requires { IsTrue (runs self.old number) }
+        ensures { self.new ≡ start_send self.old number sending }
+    {
+        put_state(&mut self.threads, number, State::Sending(sending));
+        self.queue.push(number);
+    }
+
+    /// A running or sending thread starts to receive. It is in the queue no longer.
+    pub fn start_receive(&mut self, number: u32, receiving: Receiving)
+        requires { IsTrue (may_receive self.old number) }
+        ensures { self.new ≡ start_receive self.old number receiving }
+    {
+        leave(&mut self.queue, number);
+        put_state(&mut self.threads, number, State::Receiving(receiving));
+    }
+
+    /// The call of a thread ends with this reply, whatever the thread does. It is in the queue no longer.
+    pub fn end_call(&mut self, number: u32, reply: Reply)
+        requires { IsSome (state_of self.old number) }
+        ensures { self.new ≡ end_call self.old number reply }
+    {
+        leave(&mut self.queue, number);
+        put_state(&mut self.threads, number, State::Running(Some(reply)));
+    }
+
+    /// Whether the caller is in the root space.
+    fn is_privileged(&self, caller: u32) -> bool
+        ensures { result ≡ is_privileged self.now caller }
+    {
+        match self.space_of(caller) {
+            Some(space) => space == ROOT_SPACE,
+            None => false,
+        }
+    }
+
+    /// The space of a new thread, if `space` names one or asks for a new one.
+    fn space_for(&self, id: ThreadId, space: ThreadId) -> Option<u64>
+        ensures { result ≡ space_for self.now id space }
+    {
+        if space.0 == id.0 {
+            Some(self.next_space)
+        } else {
+            let number = self.named(space)?;
+            self.space_of(number)
+        }
+    }
+
+    /// Whether no thread can be created, or none in a new space where that is asked.
+    fn is_full(&self, new_space: bool) -> bool
+        ensures { result ≡ is_full self.now new_space }
+    {
+        self.threads.is_full() || (new_space && self.next_space > LAST_SPACE)
+    }
+
+    /// The space that `create` would use: that of the thread that `space` names, or a new one where `space` is
+    /// `id` itself (L4 X.2 manual, ThreadControl). Nothing changes.
+    ///
+    /// The first of these refusals that applies: `NoPrivilege` (the caller is not in the root space), `BadId`
+    /// (no thread can have the id), `Taken` (its number exists), `Unknown` (`space` is another id and names no
+    /// thread), `Full` (64 threads exist, or a new space is asked and the numbers are used up).
+    pub fn test_create(
+        &self,
+        caller: u32,
+        id: ThreadId,
+        space: ThreadId,
+    ) -> Result<u64, ThreadFault>
+        ensures value { result ≡ create_test self.now caller id space }
+        ensures ready { IfOk result (CanCreate self.now id) }
+    {
+        self.law_consistent();
+        if !self.is_privileged(caller) {
+            return Err(ThreadFault::NoPrivilege);
+        }
+        if id.is_bad() {
+            return Err(ThreadFault::BadId);
+        }
+        if self.thread(id.number()).is_some() {
+            return Err(ThreadFault::Taken);
+        }
+        let Some(own) = self.space_for(id, space) else {
+            return Err(ThreadFault::Unknown);
+        };
+        if self.is_full(space.0 == id.0) {
+            return Err(ThreadFault::Full);
+        }
+        Ok(own)
+    }
+
+    /// A new thread, which runs at once. Where its space is the next new one, that number is used.
+    pub fn create(&mut self, id: ThreadId, space: u64, pager: ThreadId)
+        requires { CanCreate self.old id space }
+        ensures { self.new ≡ created self.old id space pager }
+    {
+        self.threads.push((
+            id.number(),
+            Thread {
+                id,
+                space,
+                pager,
+                state: State::Running(None),
+            },
+        ));
+        if space == self.next_space {
+            self.next_space += 1;
+        }
+    }
+
+    /// Gives the thread that `id` names another pager (L4 X.2 manual, ThreadControl), and answers its number.
+    ///
+    /// The first of these refusals that applies, which change nothing: `NoPrivilege` (the caller is not in the
+    /// root space), `Unknown` (`id` names no thread).
+    pub fn set_pager(
+        &mut self,
+        caller: u32,
+        id: ThreadId,
+        pager: ThreadId,
+    ) -> Result<u32, ThreadFault>
+        ensures test { result ≡ set_pager_test self.old caller id }
+        ensures ok { IfOk result (λ n. self.new ≡ with_pager self.old n pager) }
+        ensures err { OnErr result (self.new ≡ self.old) }
+    {
+        if !self.is_privileged(caller) {
+            return Err(ThreadFault::NoPrivilege);
+        }
+        let Some(number) = self.named(id) else {
+            return Err(ThreadFault::Unknown);
+        };
+        put_pager(&mut self.threads, number, pager);
+        Ok(number)
+    }
+
+    /// The number of the thread that a deletion would take, or its refusal.
+    fn test_delete(&self, caller: u32, id: ThreadId) -> Result<u32, ThreadFault>
+        ensures { result ≡ delete_test self.now caller id }
+    {
+        if !self.is_privileged(caller) {
+            return Err(ThreadFault::NoPrivilege);
+        }
+        let Some(number) = self.named(id) else {
+            return Err(ThreadFault::Unknown);
+        };
+        if number == 1 || (number == 2 || number == caller) {
+            return Err(ThreadFault::Kept);
+        }
+        Ok(number)
+    }
+
+    /// The numbers of the threads whose calls end with this one, rising.
+    fn ended_with(&self, number: u32) -> ArrayVec<u32, 64>
+        ensures rising { IsStrictlyIncreasing result.items }
+        ensures each { (n : ℕ) → is_in result.items n ≡ ends_at self.now number n }
+    {
+        ended_by(self.threads.as_slice(), number)
+    }
+
+    /// Takes the thread out, and ends each wait for it.
+    fn take_away(&mut self, number: u32)
+        ensures { Deletes number self.old self.new }
+    {
+        free_all(self.threads.as_mut_slice(), number);
+        remove_thread(&mut self.threads, number);
+        keep_senders(&mut self.queue, self.threads.as_slice());
+    }
+
+    /// The space, where no thread is in it.
+    fn without_thread(&self, space: u64) -> Option<u64>
+        ensures { MatchOption result ((n : ℕ) × (space_of self.now n ≡ Some space)) (λ s. (s ≡ space) × HasEnded self.now space) }
+    {
+        if is_inhabited(self.threads.as_slice(), space) {
+            None
+        } else {
+            Some(space)
+        }
+    }
+
+    /// Deletes the thread that `id` names (L4 X.2 manual, ThreadControl). Each other thread that sends to it fails
+    /// with ErrorCode 4, and each that receives from it by name with 5.
+    ///
+    /// The first of these refusals that applies, which change nothing: `NoPrivilege` (the caller is not in the
+    /// root space), `Unknown` (`id` names no thread), `Kept` (it is sigma0, root or the caller).
+    pub fn delete(&mut self, caller: u32, id: ThreadId) -> Result<Deleted, ThreadFault>
+        ensures test { MatchResult result (λ d. delete_test self.old caller id ≡ Ok d.number) (λ e. delete_test self.old caller id ≡ Err e) }
+        ensures ok { IfOk result (λ d. Deletes d.number self.old self.new) }
+        ensures ended { IfOk result (λ d. IsEndedList self.old self.new d.number d.ended.items) }
+        ensures space { IfOk result (λ d. TellsEnd self.old self.new d.number d.space) }
+        ensures err { OnErr result (self.new ≡ self.old) }
+    {
+        let number = match self.test_delete(caller, id) {
+            Ok(number) => number,
+            Err(fault) => return Err(fault),
+        };
+        let Some(space) = self.space_of(number) else {
+            return Err(ThreadFault::Unknown);
+        };
+        let ended = self.ended_with(number);
+        self.take_away(number);
+        let space = self.without_thread(space);
+        Ok(Deleted {
+            number,
+            ended,
+            space,
+        })
+    }
+}
