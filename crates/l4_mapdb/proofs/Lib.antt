@@ -1,0 +1,20 @@
+pub mod Places
+pub mod Unique
+pub mod EntriesLemmas
+pub mod Outline
+pub mod Filtered
+pub mod Revoking
+pub mod ForestKept
+pub mod Adding
+pub mod Mapped
+pub mod ForestMoved
+pub mod UsedMoves
+pub mod Own
+pub mod ForestEnds
+pub mod Beginning
+pub mod Putting
+pub mod Nearest
+pub mod Delivering
+pub mod Flat
+mod Rows
+pub mod Along

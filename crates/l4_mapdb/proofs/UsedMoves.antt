@@ -1,0 +1,79 @@
+-- What is known of the used moves of a message, and that its delivery leaves a forest.
+use Rattle.std.proofs.Common.{◌≡◌, ℕ, ◌+◌, ◌≤◌, ◌^◌, Bool, true, false, ◌&&◌, List, Some, IsTrue, refl, sym, ap, ◌∙◌, subst, slice_get, arith}
+use Rattle.std.specs.FinSet as set
+use Rattle.l4_fpage.specs.Rights.{RightsSet, Read, Write, Execute, common, Within}
+use Rattle.l4_msg.specs.declared.items.Move.{Move}
+use Rattle.l4_mapdb.specs.declared.Place.{Place}
+use Rattle.l4_mapdb.specs.declared.ItemMove.{ItemMove}
+use Rattle.l4_mapdb.specs.Mappings.{Mappings, shown, IsForest}
+use Rattle.l4_mapdb.specs.Transfer.{PageMove, IsUsed, IsEntangled, Delivers}
+use Rattle.l4_mapdb.proofs.ForestMoved.{KnownMoves, transfers_keep}
+
+first_true : (a b : Bool) → IsTrue (a && b) → IsTrue a
+first_true true b h = refl
+first_true false b h = h
+
+common_within : (a b : RightsSet) → Within (common a b) a
+common_within a b Read h = first_true a.r b.r h
+common_within a b Write h = first_true a.w b.w h
+common_within a b Execute h = first_true a.x b.x h
+
+-- the last page of a move's target is a page
+fits : (move : Move) → move.target.first + 2 ^ move.source.log ≤ 2 ^ 20
+fits move = rw move.same_size move.target.block.inside
+
+module _ (old : Mappings) (sender receiver : ℕ) (items : List ItemMove)
+    (there : IsTrue (set.contains old.spaces receiver)) where
+  abbrev Used : PageMove → Type 0
+  Used = IsUsed old sender receiver items
+
+  one_item : (u v : PageMove) (a : Used u) (b : Used v) → u.item ≡ v.item → a.by ≡ b.by
+  one_item u v a b e =
+      let both : Some a.by ≡ Some b.by = sym a.item ∙ ap (slice_get items) e ∙ b.item in
+      cc
+
+  one_move : (u v : PageMove) → Used u → Used v → u.item ≡ v.item → u.source ≡ v.source → u.target ≡ v.target → u ≡ v
+  one_move u v a b item source target =
+      let by : a.by ≡ b.by = one_item u v a b item in
+      let shows_both : Some u.shows ≡ Some v.shows = sym a.present ∙ ap (shown old) source ∙ b.present in
+      let shows : u.shows ≡ v.shows = cc in
+      let grant : u.grant ≡ v.grant = a.grant ∙ ap (λ (x : ItemMove). x.grant) by ∙ sym b.grant in
+      let rights : u.rights ≡ v.rights = a.rights ∙ (λ i. common (shows i).rights (by i).rights) ∙ sym b.rights in
+      λ i. record { item = item i; source = source i; target = target i; grant = grant i; shows = shows i; rights = rights i }
+
+  pub known_moves : KnownMoves Used old
+  known_moves = record {
+    shows = λ u a. a.present;
+    within = λ u a. subst (λ (r : RightsSet). Within r u.shows.rights) (sym a.rights) (common_within u.shows.rights a.by.rights);
+    some_right = λ u a. a.some_right;
+    in_space = λ u a. subst (λ (n : ℕ). IsTrue (set.contains old.spaces n)) (sym a.to_space) there;
+    page_fits = λ u a. let f = fits a.by.mv in let p = a.pages.within in let q = a.pages.target_is in omega arith;
+    same_source = λ u v a b item source.
+        let by = one_item u v a b item in
+        let first : a.by.mv.source.first ≡ b.by.mv.source.first = ap (λ (x : ItemMove). x.mv.source.first) by in
+        let to : a.by.mv.target.first ≡ b.by.mv.target.first = ap (λ (x : ItemMove). x.mv.target.first) by in
+        let p : u.source.page ≡ a.by.mv.source.first + a.pages.index = a.pages.source_is in
+        let q : v.source.page ≡ b.by.mv.source.first + b.pages.index = b.pages.source_is in
+        let r : u.target.page ≡ a.by.mv.target.first + a.pages.index = a.pages.target_is in
+        let s : v.target.page ≡ b.by.mv.target.first + b.pages.index = b.pages.target_is in
+        let same : u.source.page ≡ v.source.page = ap (λ (x : Place). x.page) source in
+        let page : u.target.page ≡ v.target.page = omega arith in
+        let space : u.target.space ≡ v.target.space = a.to_space ∙ sym b.to_space in
+        one_move u v a b item source (λ i. record { space = space i; page = page i });
+    same_target = λ u v a b item target.
+        let by = one_item u v a b item in
+        let first : a.by.mv.source.first ≡ b.by.mv.source.first = ap (λ (x : ItemMove). x.mv.source.first) by in
+        let to : a.by.mv.target.first ≡ b.by.mv.target.first = ap (λ (x : ItemMove). x.mv.target.first) by in
+        let p : u.source.page ≡ a.by.mv.source.first + a.pages.index = a.pages.source_is in
+        let q : v.source.page ≡ b.by.mv.source.first + b.pages.index = b.pages.source_is in
+        let r : u.target.page ≡ a.by.mv.target.first + a.pages.index = a.pages.target_is in
+        let s : v.target.page ≡ b.by.mv.target.first + b.pages.index = b.pages.target_is in
+        let same : u.target.page ≡ v.target.page = ap (λ (x : Place). x.page) target in
+        let page : u.source.page ≡ v.source.page = omega arith in
+        let space : u.source.space ≡ v.source.space = a.from_space ∙ sym b.from_space in
+        one_move u v a b item (λ i. record { space = space i; page = page i }) target;
+  }
+
+  -- a message that is not entangled leaves a forest
+  pub delivers_keep : (new : Mappings) → IsForest old → ¬ (IsEntangled Used old) → Delivers sender receiver items old new → IsForest new
+  delivers_keep new forest free t = transfers_keep Used old new known_moves forest free t

@@ -1,0 +1,39 @@
+-- Rights that places lose, and places that go with their last right or with their space.
+use Rattle.std.specs.Prelude.{◌≡◌, ℕ, ◌↔◌, Bool, Some, IsTrue, ◌⊎◌}
+use Rattle.std.specs.FinSet as set
+use Rattle.l4_fpage.specs.Rights.{RightsSet, Right, has, no_rights}
+use Rattle.l4_mapdb.specs.declared.Place.{Place}
+use Rattle.l4_mapdb.specs.declared.Mapping.{Mapping}
+use Rattle.l4_mapdb.specs.Mappings.{Mappings, shown, Descends, IsOrDescends}
+
+-- what is left of a mapping once the place has lost these rights: the same frame and parent, and
+-- the rights that it hasn't lost, of which there is one
+pub record IsLeft (Lost : Right → Type 0) (old new : Mapping) : Type 0 where
+  pub frame : new.frame ≡ old.frame
+  pub parent : new.parent ≡ old.parent
+  pub rights : (right : Right) → IsTrue (has new.rights right) ↔ (IsTrue (has old.rights right) × ¬ (Lost right))
+  pub some_right : ¬ (new.rights ≡ no_rights)
+
+-- each place loses these rights and no others, and goes where none is left
+pub record LosesRights (Lost : Place → Right → Type 0) (old new : Mappings) : Type 0 where
+  pub spaces : new.spaces ≡ old.spaces
+  pub places : (place : Place) (m : Mapping) →
+      (shown new place ≡ Some m) ↔ ((before : Mapping) × (shown old place ≡ Some before) × IsLeft (Lost place) before m)
+
+-- the rights go from all that descends from the place, and from the place too where that is asked
+abbrev pub RevokedAt : Mappings → Place → RightsSet → Bool → Place → Right → Type 0
+RevokedAt old from rights with_self place right =
+    IsTrue (has rights right) × ((IsTrue with_self × (place ≡ from)) ⊎ Descends old place from)
+
+abbrev pub Revokes : Place → RightsSet → Bool → Mappings → Mappings → Type 0
+Revokes from rights with_self old new = LosesRights (RevokedAt old from rights with_self) old new
+
+-- the place is one of the space's or descends from one
+abbrev pub GoesWithSpace : Mappings → ℕ → Place → Type 0
+GoesWithSpace old space place = (own : Place) × (own.space ≡ space) × IsOrDescends old place own
+
+-- the space ends: its places go with all their descendants, and all else stays
+pub record EndsSpace (space : ℕ) (old new : Mappings) : Type 0 where
+  pub spaces : new.spaces ≡ set.remove old.spaces space
+  pub places : (place : Place) (m : Mapping) →
+      (shown new place ≡ Some m) ↔ ((shown old place ≡ Some m) × ¬ (GoesWithSpace old space place))

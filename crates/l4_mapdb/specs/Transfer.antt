@@ -1,0 +1,156 @@
+-- What a message's items do to the mappings (L4 X.2 manual, IPC: map and grant items; which messages are entangled, that a target is
+-- replaced with all its descendants, and the cut of a grant are this profile's own). The used moves and what goes are read from the
+-- mappings before the step, and nothing depends on the order of the items or of the pages.
+use Rattle.std.specs.Prelude.{◌≡◌, ◌≢◌, ℕ, ◌↔◌, Bool, List, Option, Some, None, IsTrue, ◌⊎◌, slice_get}
+use Rattle.l4_fpage.specs.Rights.{RightsSet, Right, has, no_rights, common}
+use Rattle.l4_msg.specs.Moves.{MovePairs}
+use Rattle.l4_mapdb.specs.declared.Place.{Place}
+use Rattle.l4_mapdb.specs.declared.Mapping.{Mapping}
+use Rattle.l4_mapdb.specs.declared.ItemMove.{ItemMove}
+use Rattle.l4_mapdb.specs.Mappings.{Mappings, shown, IsPresent, Descends, IsOrDescends}
+use Rattle.l4_mapdb.specs.Losing.{LosesRights}
+
+-- one page's move by one item, with what its source shows and the rights that page and item have in common
+pub record PageMove : Type 0 where
+  pub item : ℕ
+  pub source : Place
+  pub target : Place
+  pub grant : Bool
+  pub shows : Mapping
+  pub rights : RightsSet
+
+-- the move is used: an item names it, and its source is present and shares a right with the item
+pub record IsUsed (old : Mappings) (from to : ℕ) (items : List ItemMove) (move : PageMove) : Type 0 where
+  pub by : ItemMove
+  pub item : slice_get items move.item ≡ Some by
+  pub from_space : move.source.space ≡ from
+  pub to_space : move.target.space ≡ to
+  pub pages : MovePairs (Some by.mv) move.source.page move.target.page
+  pub grant : move.grant ≡ by.grant
+  pub present : shown old move.source ≡ Some move.shows
+  pub rights : move.rights ≡ common move.shows.rights by.rights
+  pub some_right : move.rights ≢ no_rights
+
+module _ (Used : PageMove → Type 0) where
+  -- a used move of a grant item takes the place away
+  pub record IsGranted (place : Place) : Type 0 where
+    pub move : PageMove
+    pub used : Used move
+    pub grant : IsTrue move.grant
+    pub source : move.source ≡ place
+
+  -- two used moves have the same target. They are of two items, since an item fills no target twice
+  pub record SharesTarget : Type 0 where
+    pub one : PageMove
+    pub other : PageMove
+    pub one_used : Used one
+    pub other_used : Used other
+    pub differ : one.item ≢ other.item
+    pub target : one.target ≡ other.target
+
+  -- the source of a used move of a grant item is the source of another used move
+  pub record GrantsTwice : Type 0 where
+    pub one : PageMove
+    pub other : PageMove
+    pub one_used : Used one
+    pub other_used : Used other
+    pub differ : one.item ≢ other.item
+    pub grant : IsTrue one.grant
+    pub source : one.source ≡ other.source
+
+  -- a present target of a used move is the source of a used move, or an ancestor of one
+  pub record ReplacesSource (old : Mappings) : Type 0 where
+    pub one : PageMove
+    pub other : PageMove
+    pub one_used : Used one
+    pub other_used : Used other
+    pub present : IsPresent old one.target
+    pub above : IsOrDescends old other.source one.target
+
+  abbrev pub IsEntangled : Mappings → Type 0
+  IsEntangled old = SharesTarget ⊎ (GrantsTwice ⊎ ReplacesSource old)
+
+  -- the place is a present used target or descends from one
+  pub record IsGone (old : Mappings) (place : Place) : Type 0 where
+    pub move : PageMove
+    pub used : Used move
+    pub present : IsPresent old move.target
+    pub below : IsOrDescends old place move.target
+
+  -- where what stood at a place stands afterwards: a granted place is renamed, any other stays
+  abbrev pub StandsAt : Place → Place → Type 0
+  StandsAt place later =
+      ((move : PageMove) × Used move × IsTrue move.grant × (move.source ≡ place) × (move.target ≡ later))
+      ⊎ (¬ (IsGranted place) × (place ≡ later))
+
+  -- the parent afterwards
+  abbrev pub ParentLater : Option Place → Option Place → Type 0
+  ParentLater None later = later ≡ None
+  ParentLater (Some parent) later = (place : Place) × StandsAt parent place × (later ≡ Some place)
+
+  -- the place is the target of a used move of a map item
+  pub record IsMapped (place : Place) (m : Mapping) : Type 0 where
+    pub move : PageMove
+    pub used : Used move
+    pub map : ¬ (IsTrue move.grant)
+    pub target : move.target ≡ place
+    pub frame : m.frame ≡ move.shows.frame
+    pub rights : m.rights ≡ move.rights
+    pub parent : m.parent ≡ Some move.source
+
+  -- the place is the target of a used move of a grant item
+  pub record IsHandedOver (place : Place) (m : Mapping) : Type 0 where
+    pub move : PageMove
+    pub used : Used move
+    pub grant : IsTrue move.grant
+    pub target : move.target ≡ place
+    pub frame : m.frame ≡ move.shows.frame
+    pub rights : m.rights ≡ move.rights
+    pub parent : ParentLater move.shows.parent m.parent
+
+  -- the place was there, and is neither gone nor granted away
+  pub record Stays (old : Mappings) (place : Place) (m : Mapping) : Type 0 where
+    pub before : Mapping
+    pub at : shown old place ≡ Some before
+    pub not_gone : ¬ (IsGone old place)
+    pub not_granted : ¬ (IsGranted place)
+    pub frame : m.frame ≡ before.frame
+    pub rights : m.rights ≡ before.rights
+    pub parent : ParentLater before.parent m.parent
+
+  abbrev pub Becomes : Mappings → Place → Mapping → Type 0
+  Becomes old place m = IsMapped place m ⊎ (IsHandedOver place m ⊎ Stays old place m)
+
+  -- the places before the cuts: they show just what the used moves and the places that stay give them
+  pub record Moved (old new : Mappings) : Type 0 where
+    pub spaces : new.spaces ≡ old.spaces
+    pub places : (place : Place) (m : Mapping) → (shown new place ≡ Some m) ↔ Becomes old place m
+
+  -- what a granted place's descendants lose: the rights that the source had and the target has not
+  pub record IsCut (middle : Mappings) (place : Place) (right : Right) : Type 0 where
+    pub move : PageMove
+    pub used : Used move
+    pub grant : IsTrue move.grant
+    pub had : IsTrue (has move.shows.rights right)
+    pub lacks : ¬ (IsTrue (has move.rights right))
+    pub below : Descends middle place move.target
+
+  -- the effect of the used moves: the places move, and then the granted places' descendants are cut
+  pub record Transfers (old new : Mappings) : Type 0 where
+    pub middle : Mappings
+    pub moved : Moved old middle
+    pub cut : LosesRights (IsCut middle) middle new
+
+-- a used move has a target that is not present
+pub record NeedsPlace (Used : PageMove → Type 0) (old : Mappings) : Type 0 where
+  pub move : PageMove
+  pub used : Used move
+  pub absent : ¬ (IsPresent old move.target)
+
+-- the targets of all used moves are present
+abbrev pub TargetsPresent : (PageMove → Type 0) → Mappings → Type 0
+TargetsPresent Used old = (move : PageMove) → Used move → IsPresent old move.target
+
+-- the effect of a message that is not entangled
+abbrev pub Delivers : ℕ → ℕ → List ItemMove → Mappings → Mappings → Type 0
+Delivers from to items old new = Transfers (IsUsed old from to items) old new

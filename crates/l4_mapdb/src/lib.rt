@@ -1,0 +1,182 @@
+//! The mapping database: which page of which space shows which frame, with which rights, and from
+//! which page it was mapped (L4 X.2 manual, IPC: map and grant items).
+#![tactic(auto)]
+
+ghost use Rattle.std.specs.Prelude.{◌≡◌, ◌≢◌, ◌≤◌, ◌∷◌, [], IsTrue, IsOk, OnOk, OnErr, IfOk, MatchOption, Some, codes};
+ghost use Rattle.std.specs.FinSet as set;
+
+mod lists;
+#[cfg(test)]
+mod tests;
+
+use l4_fpage::Rights;
+use l4_msg::Move;
+use std::alloc::{AllocError, AllocFailed, Global};
+use std::fmt;
+use std::marker::Model;
+
+/// A page of a space.
+#[derive(Clone, Copy, Debug, PartialEq, Eq)]
+pub struct Place {
+    /// The number of the space.
+    pub space: u64,
+    /// The page, below 2^20.
+    pub page: u32,
+}
+
+/// What a place shows.
+#[derive(Clone, Copy, Debug, PartialEq, Eq)]
+pub struct Mapping {
+    /// The number of the frame.
+    pub frame: u32,
+    /// What the space may do with the page.
+    pub rights: Rights,
+    /// The place that this one was mapped from.
+    pub parent: Option<Place>,
+}
+
+/// What one item of a message moves.
+#[derive(Clone, Copy, Debug, PartialEq, Eq)]
+pub struct ItemMove {
+    /// The pages of the sender, and those of the receiver.
+    pub mv: Move,
+    /// The rights that the item names.
+    pub rights: Rights,
+    /// Whether the item grants its pages rather than maps them.
+    pub grant: bool,
+}
+
+/// There was no memory for what was asked, and nothing was changed.
+#[derive(Clone, Copy, Debug, PartialEq, Eq)]
+pub struct NoMemory;
+
+impl fmt::Display for NoMemory {
+    ghost output = { λ _. Some (codes "no memory") };
+
+    fn fmt<W: fmt::Write>(&self, f: &mut fmt::Formatter<W>) -> fmt::Result {
+        write!(f, "no memory")
+    }
+}
+
+impl std::error::Error for NoMemory {}
+
+impl From<AllocError> for NoMemory {
+    fn from(_e: AllocError) -> NoMemory {
+        NoMemory
+    }
+}
+
+impl<T: Drop> From<AllocFailed<T>> for NoMemory {
+    fn from(_e: AllocFailed<T>) -> NoMemory {
+        NoMemory
+    }
+}
+
+/// Why a message was not delivered. Nothing was changed.
+#[derive(Clone, Copy, Debug, PartialEq, Eq)]
+pub enum Cause {
+    /// The used moves contradict each other: two have the same target, or a granted page is moved twice, or a page that is replaced
+    /// is moved too or is an ancestor of one that is.
+    Entangled,
+    /// There was no memory for a place that was not present.
+    NoMemory,
+}
+
+/// The mappings of all spaces, and the spaces that there are.
+#[derive(Drop)]
+pub struct Forest {
+    places: Vec<(Place, Mapping)>,
+    spaces: Vec<u64>,
+}
+
+impl Model for Forest {
+    ghost use Rattle.l4_mapdb.specs.Mappings.{Mappings, mappings_code};
+
+    ghost Value = { Mappings };
+
+    ghost coded = { mappings_code };
+
+    ghost use Rattle.l4_mapdb.specs.Forest.{seen, IsKept};
+
+    ghost view = { seen };
+
+    ghost invariant = { IsKept };
+}
+
+impl Forest {
+    ghost use Rattle.l4_mapdb.specs.Mappings.{Mappings, shown, IsForest};
+    ghost use Rattle.l4_mapdb.specs.Boot.{IsFirst};
+    ghost use Rattle.l4_mapdb.specs.Places.{NonePresentFrom, IsNextPresent};
+    ghost use Rattle.l4_mapdb.specs.Transfer.{IsUsed, NeedsPlace, TargetsPresent, Delivers};
+    ghost use Rattle.l4_mapdb.specs.Flat.{IsFlatBetween};
+
+    /// The mappings at the start: space 0 shows each frame below `frames` at the page of its number
+    /// with all rights, and there is no other space. `frames` is from 1 to 4,096.
+    pub fn new(alloc: Global, frames: u32) -> Result<Forest, NoMemory>
+        requires some { 1 ≤ frames }
+        requires fit { frames ≤ 4096 }
+        ensures { IfOk result (IsFirst frames) }
+    {
+        let places = lists::own_places(alloc, frames)?;
+        let mut spaces = Vec::new(alloc);
+        spaces.push(0)?;
+        Ok(Forest { places, spaces })
+    }
+
+    /// Begins an empty space. Nothing changes if it is there.
+    pub fn new_space(&mut self, space: u64) -> Result<(), NoMemory>
+        ensures ok { OnOk result (self.new ≡ record self.old { spaces = set.insert self.old.spaces space }) }
+        ensures err { OnErr result (self.new ≡ self.old) }
+        ensures succeeds { IsTrue (set.contains self.old.spaces space) → IsOk result }
+    {
+        if !self.spaces.contains(&space) {
+            self.spaces.push(space)?;
+        }
+        Ok(())
+    }
+
+    /// What the page of the space shows, None if it is not present.
+    pub fn at(&self, space: u64, page: u32) -> Option<Mapping>
+        ensures shown { result ≡ shown self.now (record { space = space; page = page }) }
+        ensures forest { IsForest self.now }
+    {
+        lists::mapping_in(&self.places, Place { space, page })
+    }
+
+    /// What holds of the mappings at all times: they are trees, one for each frame that is shown. It does nothing.
+    pub fn law_forest(&self)
+        ensures { IsForest self.now }
+    {
+        let _ = &self.places;
+    }
+
+    /// The least present page of the space that is not below `page`, None where there is none.
+    pub fn next_present(&self, space: u64, page: u32) -> Option<u32>
+        ensures { MatchOption result (NonePresentFrom self.now space page) (IsNextPresent self.now space page) }
+    {
+        lists::next_page(&self.places, space, page)
+    }
+
+    /// Delivers one map item from the one space to the other: the pages of its source that are
+    /// present and share a right with it are mapped to the pages of its target, in place of what
+    /// those showed. The spaces are two that are there, and nothing was mapped from the second.
+    ///
+    /// NoMemory can come only where a page that is not present has to be mapped, and changes
+    /// nothing.
+    pub fn map_item(&mut self, from: u64, to: u64, item: &ItemMove) -> Result<(), NoMemory>
+        requires map { ¬ (IsTrue item.now.grant) }
+        requires flat { IsFlatBetween from to self.old }
+
+        ensures ok { OnOk result (Delivers from to (item.now ∷ []) self.old self.new) }
+        ensures err { OnErr result (self.new ≡ self.old) }
+
+        // Only a used target that is not present needs memory.
+        ensures no_memory { OnErr result (NeedsPlace (IsUsed self.old from to (item.now ∷ [])) self.old) }
+        ensures succeeds { TargetsPresent (IsUsed self.old from to (item.now ∷ [])) self.old → IsOk result }
+    {
+        let absent = lists::absent_targets(&self.places, from, to, item);
+        self.places.reserve(absent)?;
+        lists::deliver(&mut self.places, from, to, item);
+        Ok(())
+    }
+}

@@ -1,0 +1,162 @@
+//! The list of present places with what they show, in which each place stands once.
+
+ghost use Rattle.std.specs.Prelude.{◌≡◌, ◌≢◌, ◌+◌, ◌<◌, ◌≤◌, ◌⊎◌, ◌&&◌, length, IsTrue, IsOk, IfOk, MatchOption, Some, None, slice_get, min, vec_len, vec_capacity, count_by, is_some, not};
+ghost use Rattle.std.specs.FinMap.{find};
+ghost use Rattle.std.specs.Option.{option_map_or};
+ghost use Rattle.l4_mapdb.specs.Mappings.{place_cmp};
+ghost use Rattle.l4_mapdb.specs.Entries.{StandOnce, StandsAtIndex, Puts, ShowsMoved, IsNextIn, NoneIn, child_of, adds_place, own_entries};
+
+use crate::{ItemMove, Mapping, Place};
+use l4_fpage::Rights;
+use std::alloc::{AllocError, Global};
+
+/// Sigma0's place for each frame.
+pub(crate) fn own_places(alloc: Global, frames: u32) -> Result<Vec<(Place, Mapping)>, AllocError>
+    ensures { IfOk result (λ v. v.items ≡ own_entries frames) }
+{
+    let mut places = Vec::new(alloc);
+    for frame in 0..frames {
+        let place = Place {
+            space: 0,
+            page: frame,
+        };
+        let mapping = Mapping {
+            frame,
+            rights: Rights::all(),
+            parent: None,
+        };
+        places.push((place, mapping))?;
+    }
+    Ok(places)
+}
+
+/// What the place shows, if it stands in the list.
+pub(crate) fn mapping_in(places: &[(Place, Mapping)], place: Place) -> Option<Mapping>
+    ensures { result ≡ find place_cmp place places.now }
+{
+    for (p, m) in places {
+        if *p == place {
+            return Some(*m);
+        }
+    }
+    None
+}
+
+/// Where the place stands in the list.
+fn index_in(places: &[(Place, Mapping)], place: Place) -> Option<usize>
+    ensures { MatchOption result (find place_cmp place places.now ≡ None) (StandsAtIndex place places.now) }
+{
+    for i in 0..places.len() {
+        if places[i].0 == place {
+            return Some(i);
+        }
+    }
+    None
+}
+
+/// The least page of the space in the list that is not below `page`.
+pub(crate) fn next_page(places: &[(Place, Mapping)], space: u64, page: u32) -> Option<u32>
+    ensures { MatchOption result (NoneIn places.now space page) (IsNextIn places.now space page) }
+{
+    let mut next = None;
+    for (place, _) in places {
+        next = nearer(next, space, page, *place);
+    }
+    next
+}
+
+/// The lesser of the pages, if the place is one of the space that is not below `page`.
+fn nearer(next: Option<u32>, space: u64, page: u32, place: Place) -> Option<u32>
+    ensures counts { place.space ≡ space → page ≤ place.page → result ≡ Some (option_map_or (λ n. min n place.page) next place.page) }
+    ensures left_out { (place.space ≡ space → page ≤ place.page → ⊥) → result ≡ next }
+{
+    if place.space != space || place.page < page {
+        return next;
+    }
+    Some(next.map_or(place.page, |n| n.min(place.page)))
+}
+
+/// The entry that a map item makes of this one in the space `to`, None if it does not move this one.
+fn child(from: u64, to: u64, item: &ItemMove, entry: &(Place, Mapping)) -> Option<(Place, Mapping)>
+    ensures { result ≡ child_of from to item.now entry.now }
+{
+    let (place, mapping) = *entry;
+    let rights = mapping.rights.intersection(item.rights);
+    if place.space != from || !item.mv.source.contains(place.page) || rights.is_empty() {
+        return None;
+    }
+    let target = Place {
+        space: to,
+        page: place.page - item.mv.source.first + item.mv.target.first,
+    };
+    let mapped = Mapping {
+        frame: mapping.frame,
+        rights,
+        parent: Some(place),
+    };
+    Some((target, mapped))
+}
+
+/// Whether a map item moves the entry to a place that is not in the list.
+fn is_absent(
+    places: &[(Place, Mapping)],
+    from: u64,
+    to: u64,
+    item: &ItemMove,
+    entry: &(Place, Mapping),
+) -> bool
+    ensures { result ≡ adds_place places.now from to item.now entry.now }
+{
+    match child(from, to, item, entry) {
+        None => false,
+        Some((place, _)) => mapping_in(places, place).is_none(),
+    }
+}
+
+/// How many entries a map item moves to places that are not in the list.
+pub(crate) fn absent_targets(
+    places: &[(Place, Mapping)],
+    from: u64,
+    to: u64,
+    item: &ItemMove,
+) -> usize
+    ensures { result ≡ count_by (adds_place places.now from to item.now) places.now }
+{
+    places
+        .iter()
+        .filter(|entry| is_absent(places, from, to, item, entry))
+        .count()
+}
+
+/// Lets the place show the mapping. A place that is not in the list needs room for one more.
+fn put(places: &mut Vec<(Place, Mapping)>, place: Place, mapping: Mapping)
+    requires once { StandOnce places.old.items }
+    requires room { find place_cmp place places.old.items ≡ None → vec_len places.old < vec_capacity places.old }
+    ensures puts { Puts place mapping places.old.items places.new.items }
+    ensures capacity { vec_capacity places.old ≤ vec_capacity places.new }
+    ensures longer { vec_len places.new ≤ vec_len places.old + 1 }
+    ensures same_len { find place_cmp place places.old.items ≢ None → vec_len places.new ≡ vec_len places.old }
+{
+    match index_in(places, place) {
+        Some(i) => places[i] = (place, mapping),
+        None => {
+            let _ = places.push((place, mapping));
+        }
+    }
+}
+
+/// Maps all that a map item moves. There is room for the places that are not in the list.
+pub(crate) fn deliver(places: &mut Vec<(Place, Mapping)>, from: u64, to: u64, item: &ItemMove)
+    requires apart { from ≢ to }
+    requires once { StandOnce places.old.items }
+    requires room { vec_len places.old + count_by (adds_place places.old.items from to item.now) places.old.items ≤ vec_capacity places.old }
+    ensures once { StandOnce places.new.items }
+    ensures shows { ShowsMoved from to item.now places.old.items (vec_len places.old) places.new.items }
+{
+    for i in 0..places.len() {
+        let entry = places[i];
+        if let Some((place, mapping)) = child(from, to, item, &entry) {
+            put(places, place, mapping);
+        }
+    }
+}

@@ -1,0 +1,47 @@
+use crate::{Forest, ItemMove, Mapping, Place};
+use l4_fpage::{Block, Rights};
+use l4_msg::Move;
+use std::test::Fail;
+
+#[test]
+fn starts_with_frames(rt: HostRuntime) -> Result<(), Fail> {
+    let forest = Forest::new(rt.alloc(), 256)?;
+    let shown = Mapping {
+        frame: 255,
+        rights: Rights::all(),
+        parent: None,
+    };
+    assert_eq!(rt; forest.at(0, 255), Some(shown));
+    assert_eq!(rt; forest.at(0, 256), None);
+    assert_eq!(rt; forest.next_present(0, 16), Some(16));
+    assert_eq!(rt; forest.next_present(0, 256), None);
+    assert_eq!(rt; forest.next_present(2, 0), None);
+    Ok(())
+}
+
+#[test]
+fn maps_two_pages(rt: HostRuntime) -> Result<(), Fail> {
+    let mut forest = Forest::new(rt.alloc(), 256)?;
+    forest.new_space(2)?;
+    let item = ItemMove {
+        mv: Move {
+            source: Block { first: 254, log: 1 },
+            target: Block { first: 6, log: 1 },
+        },
+        rights: Rights::of_bits(5),
+        grant: false,
+    };
+    forest.map_item(0, 2, &item)?;
+    let shown = Mapping {
+        frame: 255,
+        rights: Rights::of_bits(5),
+        parent: Some(Place {
+            space: 0,
+            page: 255,
+        }),
+    };
+    assert_eq!(rt; forest.at(2, 7), Some(shown));
+    assert_eq!(rt; forest.next_present(2, 0), Some(6));
+    assert_eq!(rt; forest.next_present(2, 8), None);
+    Ok(())
+}
