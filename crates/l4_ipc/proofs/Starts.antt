@@ -1,0 +1,102 @@
+-- Starts, as the machine says them.
+use Rattle.std.proofs.Common.{◌≡◌, ◌≢◌, ℕ, ◌==◌, ◌&&◌, ◌||◌, Bool, true, false, if◌then◌else◌, not, Option, Some, None, List, [], ◌∷◌, Result, Ok, Err, MatchOption, IsTrue, IsSome, refl, sym, ap, ◌∙◌, subst, inl, inr, ◌⊎◌}
+use Rattle.std.specs.Option.{option_map_or, option_map}
+use Rattle.std.proofs.lemmas.Bool.{false≢true}
+use Rattle.std.specs.FinMap as fin
+use Rattle.l4_fpage.specs.declared.fpages.Fpage.{Fpage}
+use Rattle.l4_mapdb.specs.Mappings.{Mappings}
+use Rattle.l4_threads.specs.declared.Later.{Later}
+use Rattle.l4_threads.specs.declared.Receiving.{Receiving}
+use Rattle.l4_threads.specs.declared.Reply.{Reply}
+use Rattle.l4_threads.specs.declared.Sending.{Sending}
+use Rattle.l4_threads.specs.declared.State.TheVariants.{Running, Sending as IsSender, Receiving as IsReceiver}
+use Rattle.l4_threads.specs.declared.State.{State}
+use Rattle.l4_threads.specs.declared.Thread.{Thread}
+use Rattle.l4_threads.specs.declared.ThreadId.{ThreadId}
+use Rattle.l4_threads.specs.Threads.{Threads, thread_at, state_of, runs, is_running, is_receiving, may_receive, named, number_of, failed, out_of_queue, end_call}
+use Rattle.l4_threads.specs.Control.{created}
+use Rattle.l4_threads.specs.Enabled.{CanExpire}
+use Rattle.l4_ipc.specs.declared.calls.Call.{Call}
+use Rattle.l4_ipc.specs.declared.calls.Call.TheVariants.{Ipc}
+use Rattle.l4_ipc.specs.declared.calls.IpcCall.{IpcCall}
+use Rattle.l4_threads.specs.declared.Source.TheVariants.{Anyone, Thread as One}
+use Rattle.l4_ipc.specs.declared.next.Next.{Next}
+use Rattle.l4_ipc.specs.declared.next.Next.TheVariants.{Ends, Receives}
+use Rattle.l4_ipc.specs.declared.sent.Sent.{Sent}
+use Rattle.l4_ipc.specs.declared.steps.Answer.{Answer}
+use Rattle.l4_ipc.specs.declared.steps.Outcome.TheVariants.{Started, Expired}
+use Rattle.l4_ipc.specs.declared.steps.Refused.{Refused}
+use Rattle.l4_ipc.specs.declared.steps.Refused.TheVariants.{UnknownThread}
+use Rattle.l4_ipc.specs.declared.steps.Step.TheVariants.{Start, Expire}
+use Rattle.l4_ipc.specs.Machine.{Machine, machine}
+use Rattle.l4_ipc.specs.Start.{IsAccepted, CallRefuses, RefusesIn, StartRefuses, ipc_next, going_on, receiving, enters, ended_by, CanEnter}
+use Rattle.l4_ipc.specs.Stages.{puts_off_ipc, StepsYet}
+use Rattle.l4_ipc.specs.Steps.{expiry, Meets, sender_next}
+use Rattle.l4_ipc.proofs.Threads.{running_thread, put_there, has_state, state_other}
+
+-- the Start of a running thread is refused where its call is
+pub refuses : (m : Machine) (n : ℕ) (call : Call) (e : Refused) → IsTrue (runs m.threads n) → CallRefuses m n call e → StartRefuses m n call e
+refuses m n call e h r =
+    let there = running_thread m.threads n h in
+    subst (λ (o : Option Thread). MatchOption (option_map (λ (x : Thread). x.state) o) (e ≡ UnknownThread) (λ state. RefusesIn (is_running state) m n call e)) (sym there.1.0)
+    (subst (λ (b : Bool). RefusesIn b m n call e) (sym there.1.1) r)
+
+-- a running thread's Ipc that is not put off starts
+pub started : (t new : Threads) (s : Mappings) (n : ℕ) (call : IpcCall) (sent : Sent) (window : Fpage) (next : Next) (answer : Answer)
+    → IsTrue (runs t n) → IsAccepted call sent window → puts_off_ipc n call sent.items.items ≡ false
+    → ((other : Sent) (w : Fpage) → IsAccepted call other w → sent.items.items ≡ other.items.items)
+    → next ≡ ipc_next t n call sent window → answer.outcome ≡ Started → answer.ended.items ≡ ended_by n next → new ≡ enters t n next
+    → StepsYet (machine t s) (Start n (Ipc call)) (Ok answer) (machine new s)
+started t new s n call sent window next answer h accepted plain only is outcome ended after =
+    let there = running_thread t n h in
+    inr (
+      λ y. false≢true (sym plain ∙ ap (puts_off_ipc n call) (only y.1.0 y.1.1 y.1.2) ∙ y.1.3),
+      (there.0, there.1.0, there.1.1, outcome, (sent, window, accepted, ended ∙ ap (ended_by n) is, ap (λ (v : Threads). machine v s) (after ∙ ap (enters t n) is))),
+    )
+
+-- a wait with a timeout of zero that takes part in no enabled transfer ends
+pub expired : (t new : Threads) (s : Mappings) (n : ℕ) (state : State) (reply : Reply) (answer : Answer)
+    → CanExpire t n → Some state ≡ state_of t n → reply ≡ expiry state → answer.outcome ≡ Expired → answer.ended.items ≡ n ∷ [] → new ≡ end_call t n reply
+    → StepsYet (machine t s) (Expire n) (Ok answer) (machine new s)
+expired t new s n state reply answer able at is outcome ended after =
+    let both : Some state ≡ Some able.state = at ∙ able.at in
+    let same : state ≡ able.state = cc in
+    inr (λ y. y, (able, outcome, ended, ap (λ (v : Threads). machine v s) (after ∙ ap (end_call t n) (is ∙ ap expiry same))))
+
+-- a thread that was there is there once another was created
+pub still_there : (t new : Threads) (id : ThreadId) (space : ℕ) (pager : ThreadId) (n : ℕ) → IsTrue (runs t n) → new ≡ created t id space pager → IsSome (state_of new n)
+still_there t new id space pager n h is =
+    let there = running_thread t n h in
+    let some : thread_at t n ≢ None = λ none. (let k : ◌≡◌ {A = Option Thread} (Some there.0) None = sym there.1.0 ∙ none in cc) in
+    has_state new n (λ none. put_there t (number_of id) _ n some (sym (ap (λ (v : Threads). thread_at v n) is) ∙ none))
+
+-- a thread that is there and doesn't receive can go on after it has sent
+pub can_go_on : (t threads : Threads) (n : ℕ) (later : Option Later) (fault : Bool) → IsSome (state_of t n) → IsTrue (may_receive t n) → CanEnter t n (going_on threads later fault)
+can_go_on t threads n None fault there may = there
+can_go_on t threads n (Some later) fault there may =
+    elim (later.«from».0 == 0xffff_ffff) as (λ b. CanEnter t n (if b then Receives (record { «from» = Anyone; window = later.window; expires = later.expires; fault = fault }) else
+    option_map_or (λ k. Receives (record { «from» = One k; window = later.window; expires = later.expires; fault = fault })) (named threads later.«from») (Ends (failed fault 5)))) [
+      | true ↦ may
+      | false ↦ elim (named threads later.«from») as (λ o. CanEnter t n (option_map_or (λ k. Receives (record { «from» = One k; window = later.window; expires = later.expires; fault = fault })) o (Ends (failed fault 5)))) [
+        | None ↦ there
+        | Some k ↦ may
+      ]
+    ]
+
+-- the sender of a transfer can do what comes next once the receiver's call has ended
+pub can_enter_after : (t after : Threads) (sender receiver : ℕ) («from» to : Thread) (sends : Sending) (takes : Receiving) → Meets t sender receiver «from» to sends takes
+    → (done : Bool) (reply : Reply) (next : Next) → after ≡ end_call t receiver reply → next ≡ sender_next done t sends → CanEnter after sender next
+can_enter_after t after sender receiver «from» to sends takes meets done reply next ended is =
+    let other : sender ≢ receiver = λ same.
+    let both : ◌≡◌ {A = Option Thread} (Some «from») (Some to) = sym meets.from_at ∙ ap (thread_at t) same ∙ meets.to_at in
+    let threads : «from» ≡ to = cc in
+    let k : IsSender sends ≡ IsReceiver takes = sym meets.from_state ∙ ap (λ (x : Thread). x.state) threads ∙ meets.to_state in
+    cc in
+    let at : thread_at after sender ≡ Some «from» =
+    ap (λ (v : Threads). thread_at v sender) ended ∙ state_other (out_of_queue t receiver) receiver (Running (Some reply)) sender other ∙ meets.from_at in
+    let state : state_of after sender ≡ Some (IsSender sends) = ap (option_map (λ (x : Thread). x.state)) at ∙ ap Some meets.from_state in
+    subst (CanEnter after sender) (sym is) (enters_next done
+    (subst (λ (o : Option State). IsSome o) (sym state) refl) (subst (λ (o : Option State). IsTrue (option_map_or (λ x. not (is_receiving x)) o false)) (sym state) refl)) where
+      enters_next : (done : Bool) → IsSome (state_of after sender) → IsTrue (may_receive after sender) → CanEnter after sender (sender_next done t sends)
+      enters_next true there may = can_go_on after t sender sends.«then» sends.fault there may
+      enters_next false there may = there

@@ -1,0 +1,29 @@
+-- The kernel as one value, and what it is at the start.
+use Rattle.std.specs.Prelude.{◌≡◌, ℕ, refl}
+use Rattle.std.specs.FinSet as set
+use Rattle.std.specs.Coded.{Coded, code_by, coded×}
+use Rattle.l4_mapdb.specs.Mappings.{Mappings, mappings_code}
+use Rattle.l4_mapdb.specs.Boot.{IsFirst}
+use Rattle.l4_threads.specs.declared.Thread.{Thread}
+use Rattle.l4_threads.specs.Threads.{Threads, first_threads, threads_code}
+
+-- who there is and what each does, and what each space shows
+pub record Machine : Type 0 where
+  pub threads : Threads
+  pub mappings : Mappings
+
+-- the machine of these two parts
+abbrev pub machine : Threads → Mappings → Machine
+machine t s = record { threads = t; mappings = s }
+
+-- the kernel as it boots (this profile's own): sigma0 and root run, space 0 shows each frame at the page of its number, and space 1 shows none
+pub record IsBoot (frames : ℕ) (m : Machine) : Type 0 where
+  pub threads : m.threads ≡ first_threads
+  pub first : Mappings
+  pub first_is : IsFirst frames first
+  pub mappings : m.mappings ≡ record first { spaces = set.insert first.spaces 1 }
+
+-- a machine is stored as its two parts
+abbrev pub machine_code : Coded Thread → Coded Machine
+machine_code thread =
+    code_by (Threads × Mappings) (coded× (threads_code thread) mappings_code) (λ m. (m.threads, m.mappings)) (λ p. record { threads = p.0; mappings = p.1 }) (λ _. refl)

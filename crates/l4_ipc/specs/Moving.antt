@@ -1,0 +1,43 @@
+-- What the items of a message do to the mappings when it is delivered. (L4 X.2 manual: map and grant items; that a message which
+-- contradicts itself moves nothing is this profile's own.)
+use Rattle.std.specs.Prelude.{◌≡◌, ◌≢◌, ℕ, Bool, true, false, List, [], Some, slice_get}
+use Rattle.l4_fpage.specs.Rights.{common, no_rights}
+use Rattle.l4_fpage.specs.Fpages.{rights_of}
+use Rattle.l4_fpage.specs.declared.fpages.Fpage.{Fpage}
+use Rattle.l4_fpage.specs.declared.fpages.Fpage.TheVariants.{Nil}
+use Rattle.l4_msg.specs.Moves.{ItemMoves, fpage_of, is_grant}
+use Rattle.l4_msg.specs.declared.items.Item.{Item}
+use Rattle.l4_mapdb.specs.Mappings.{Mappings, shown}
+use Rattle.l4_mapdb.specs.Transfer.{PageMove, IsEntangled, NeedsPlace, Transfers}
+use Rattle.l4_ipc.specs.declared.steps.Outcome.{Outcome}
+use Rattle.l4_ipc.specs.declared.steps.Outcome.TheVariants.{Started, Done, NoWindow, Entangled, NoMemory, Expired}
+
+-- The move is used: the item of its number moves its source to its target in the window, the source is present, and the rights
+-- that it has in common with the item are not none. All is read from the mappings before the step.
+pub record IsUsedBy (old : Mappings) («from» to : ℕ) (items : List Item) (window : Fpage) (move : PageMove) : Type 0 where
+  pub by : Item
+  pub item : slice_get items move.item ≡ Some by
+  pub from_space : move.source.space ≡ «from»
+  pub to_space : move.target.space ≡ to
+  pub pages : ItemMoves by window move.source.page move.target.page
+  pub grant : move.grant ≡ is_grant by
+  pub present : shown old move.source ≡ Some move.shows
+  pub rights : move.rights ≡ common move.shows.rights (rights_of (fpage_of by))
+  pub some_right : move.rights ≢ no_rights
+
+module _ (old : Mappings) («from» to : ℕ) (items : List Item) (window : Fpage) where
+  abbrev pub Used : PageMove → Type 0
+  Used = IsUsedBy old «from» to items window
+
+  -- the message has items and the receiver's window is nil
+  abbrev pub LacksWindow : Type 0
+  LacksWindow = (items ≢ []) × (window ≡ Nil)
+
+  -- the mappings after a transfer of this outcome: no page moves but by a delivery
+  abbrev pub Moves : Outcome → Mappings → Type 0
+  Moves NoWindow new = LacksWindow × (new ≡ old)
+  Moves Entangled new = ¬ LacksWindow × IsEntangled Used old × (new ≡ old)
+  Moves NoMemory new = ¬ LacksWindow × ¬ (IsEntangled Used old) × NeedsPlace Used old × (new ≡ old)
+  Moves Done new = ¬ LacksWindow × ¬ (IsEntangled Used old) × Transfers Used old new
+  Moves Started new = ⊥
+  Moves Expired new = ⊥

@@ -1,0 +1,183 @@
+-- How a call starts: each refusal in its order, and what the caller does next.
+-- (L4 X.2 manual: Ipc, Unmap, ThreadControl and the page fault protocol; the timeouts, the fault label and the ErrorCodes are this profile's own.)
+use Rattle.std.specs.Prelude.{◌≡◌, ℕ, ◌+◌, ◌*◌, ◌/◌, ◌%◌, ◌^◌, ◌==◌, ◌&&◌, ◌||◌, not, ◌⊎◌, Bool, true, false, if◌then◌else◌, List, [], ◌∷◌, take, Option, Some, None, option_and_then, MatchOption, IsSome, IsTrue, Result, Ok, Err}
+use Rattle.std.specs.Option.{option_map_or}
+use Rattle.l4_fpage.specs.Rights.{RightsSet, is_none, without, all_rights}
+use Rattle.l4_fpage.specs.declared.fpages.Fpage.{Fpage}
+use Rattle.l4_fpage.specs.declared.fpages.Fpage.TheVariants.{Nil, Complete}
+use Rattle.l4_msg.specs.Tags.{untyped_of, typed_of}
+use Rattle.l4_msg.specs.Words.{WindowReads, IsBadWindow}
+use Rattle.l4_msg.specs.Messages.{MessageReads, MessageFails, tag_of}
+use Rattle.l4_msg.specs.declared.items.Item.{Item}
+use Rattle.l4_msg.specs.declared.messages.Message.{Message}
+use Rattle.l4_msg.specs.declared.messages.MsgFault.{MsgFault}
+use Rattle.l4_msg.specs.declared.messages.MsgFault.TheVariants.{BadWindow}
+use Rattle.l4_mapdb.specs.Mappings.{Mappings, rights_at}
+use Rattle.l4_unmap.specs.declared.UnmapFault.{UnmapFault}
+use Rattle.l4_unmap.specs.Unmap.{UnmapFails}
+use Rattle.l4_threads.specs.declared.ThreadId.{ThreadId}
+use Rattle.l4_threads.specs.declared.ThreadFault.{ThreadFault}
+use Rattle.l4_threads.specs.declared.Source.TheVariants.{Anyone, Thread as One}
+use Rattle.l4_threads.specs.declared.Later.{Later}
+use Rattle.l4_threads.specs.declared.Reply.{Reply}
+use Rattle.l4_threads.specs.declared.Reply.TheVariants.{Ipc as IpcReply, Hit}
+use Rattle.l4_threads.specs.Threads.{Threads, state_of, runs, may_receive, named, nilthread, is_running, failed, start_send, start_receive, end_call}
+use Rattle.l4_threads.specs.Control.{create_test, set_pager_test, delete_test}
+use Rattle.l4_ipc.specs.declared.calls.Call.{Call}
+use Rattle.l4_ipc.specs.declared.calls.Call.TheVariants.{Ipc, Fault, Unmap, Control as Controls}
+use Rattle.l4_ipc.specs.declared.calls.IpcCall.{IpcCall}
+use Rattle.l4_ipc.specs.declared.calls.FaultCall.{FaultCall}
+use Rattle.l4_ipc.specs.declared.calls.Control.TheVariants.{Create, SetPager, Delete}
+use Rattle.l4_ipc.specs.declared.steps.Lower.{Lower as LowerRefusal}
+use Rattle.l4_ipc.specs.declared.steps.Lower.TheVariants.{Message as LowerMessage, Unmap as LowerUnmap, Thread as LowerThread, NoMemory as LowerNoMemory}
+use Rattle.l4_ipc.specs.declared.steps.Refused.{Refused}
+use Rattle.l4_ipc.specs.declared.steps.Refused.TheVariants.{NotEnabled, UnknownThread, Busy, BadTimeout, Lower, BadFrames, NotYet}
+use Rattle.l4_ipc.specs.declared.next.Next.{Next}
+use Rattle.l4_ipc.specs.declared.next.Next.TheVariants.{Ends, Sends, Receives}
+use Rattle.l4_ipc.specs.declared.sent.Sent.{Sent}
+use Rattle.l4_ipc.specs.Machine.{Machine}
+
+-- WHAT THE PHASES OF AN IPC BRING
+
+abbrev pub has_send : IpcCall → Bool
+has_send call = not (call.to.0 == 0)
+
+abbrev pub has_receive : IpcCall → Bool
+has_receive call = not (call.«from».0 == 0)
+
+abbrev pub send_timeout : IpcCall → ℕ
+send_timeout call = call.timeouts / 2 ^ 16
+
+abbrev pub receive_timeout : IpcCall → ℕ
+receive_timeout call = call.timeouts % 2 ^ 16
+
+-- a timeout is never, or zero
+abbrev pub is_timeout : ℕ → Bool
+is_timeout timeout = (timeout == 0) || (timeout == 0x400)
+
+-- the timeout of a phase that the call has is neither
+abbrev pub has_bad_timeout : IpcCall → Bool
+has_bad_timeout call = (has_send call && not (is_timeout (send_timeout call))) || (has_receive call && not (is_timeout (receive_timeout call)))
+
+-- the registers of a message: the tag, and as many more as the tag counts
+abbrev pub counted_words : List ℕ → List ℕ
+counted_words words = take (1 + untyped_of (tag_of words) + typed_of (tag_of words)) words
+
+-- the registers as a message; without a send phase they are not read
+abbrev pub IsSent : Bool → List ℕ → Sent → Type 0
+IsSent true words sent = (message : Message) × MessageReads words message × (sent.words.items ≡ counted_words words) × (sent.items ≡ message.items)
+IsSent false words sent = (sent.words.items ≡ []) × (sent.items.items ≡ [])
+
+-- the receive window; without a receive phase it is nil
+abbrev pub IsWindow : Bool → ℕ → Fpage → Type 0
+IsWindow true acceptor window = WindowReads acceptor window
+IsWindow false acceptor window = window ≡ Nil
+
+-- nothing in the words of the call is refused, and this is what its phases bring
+pub record IsAccepted (call : IpcCall) (sent : Sent) (window : Fpage) : Type 0 where
+  pub timeouts : has_bad_timeout call ≡ false
+  pub sends : IsSent (has_send call) call.words.items sent
+  pub receives : IsWindow (has_receive call) call.acceptor window
+
+-- REFUSALS
+
+-- the message is refused, or it is not and the window is malformed
+abbrev pub PhaseFails : IpcCall → MsgFault → Type 0
+PhaseFails call fault =
+    ((has_send call ≡ true) × MessageFails call.words.items fault)
+    ⊎ ((sent : Sent) × IsSent (has_send call) call.words.items sent × (has_receive call ≡ true) × IsBadWindow call.acceptor × (fault ≡ BadWindow))
+
+-- the first refusal of an Ipc: a timeout, then the message, then the window, each for a phase that exists
+abbrev pub IpcRefuses : IpcCall → Refused → Type 0
+IpcRefuses call e =
+    ((has_bad_timeout call ≡ true) × (e ≡ BadTimeout))
+    ⊎ ((has_bad_timeout call ≡ false) × ((fault : MsgFault) × PhaseFails call fault × (e ≡ Lower (LowerMessage fault))))
+
+-- the refusal of a call of this running thread, without regard to memory
+abbrev pub CallRefuses : Machine → ℕ → Call → Refused → Type 0
+CallRefuses m n (Ipc call) e = IpcRefuses call e
+CallRefuses m n (Fault call) e = ⊥
+CallRefuses m n (Unmap call) e = (fault : UnmapFault) × UnmapFails call.control call.words.items fault × (e ≡ Lower (LowerUnmap fault))
+CallRefuses m n (Controls (Create c)) e = (fault : ThreadFault) × (create_test m.threads n c.id c.space ≡ Err fault) × (e ≡ Lower (LowerThread fault))
+CallRefuses m n (Controls (SetPager c)) e = (fault : ThreadFault) × (set_pager_test m.threads n c.id ≡ Err fault) × (e ≡ Lower (LowerThread fault))
+CallRefuses m n (Controls (Delete id)) e = (fault : ThreadFault) × (delete_test m.threads n id ≡ Err fault) × (e ≡ Lower (LowerThread fault))
+
+-- a thread that isn't running is busy
+abbrev pub RefusesIn : Bool → Machine → ℕ → Call → Refused → Type 0
+RefusesIn true m n call e = CallRefuses m n call e
+RefusesIn false m n call e = e ≡ Busy
+
+-- the first refusal of a Start that applies, without regard to memory
+abbrev pub StartRefuses : Machine → ℕ → Call → Refused → Type 0
+StartRefuses m n call e = MatchOption (state_of m.threads n) (e ≡ UnknownThread) (λ state. RefusesIn (is_running state) m n call e)
+
+-- WHAT THE CALLER DOES NEXT
+
+-- the reply of an Ipc that moves nothing and names nobody
+abbrev pub plain_reply : Reply
+plain_reply = IpcReply (record { tag = 0; error = 0; «from» = nilthread; words = record { items = [] } })
+
+-- the receive phase begins: it takes messages of anybody, or of a thread that is there
+abbrev pub receiving : Threads → Later → Bool → Next
+receiving t later fault =
+    if later.«from».0 == 0xffff_ffff then Receives (record { «from» = Anyone; window = later.window; expires = later.expires; fault = fault }) else
+    option_map_or (λ n. Receives (record { «from» = One n; window = later.window; expires = later.expires; fault = fault })) (named t later.«from») (Ends (failed fault 5))
+
+-- the receive phase of a call
+abbrev pub later_of : IpcCall → Fpage → Option Later
+later_of call window = if has_receive call then Some (record { «from» = call.«from»; window = window; expires = receive_timeout call == 0x400 }) else None
+
+-- what is left of a call once it has sent: its receive phase, or nothing
+abbrev pub going_on : Threads → Option Later → Bool → Next
+going_on t None fault = Ends plain_reply
+going_on t (Some later) fault = receiving t later fault
+
+-- the partner of a send phase: a thread other than the caller; anythread names nobody
+abbrev pub partner : Threads → ℕ → ThreadId → Option ℕ
+partner t caller id = if id.0 == 0xffff_ffff then None else option_and_then (λ n. if n == caller then None else Some n) (named t id)
+
+-- an Ipc starts: it sends to its partner, if it is there, and without a send phase it receives
+abbrev pub ipc_next : Threads → ℕ → IpcCall → Sent → Fpage → Next
+ipc_next t n call sent window =
+    if has_send call then
+    option_map_or (λ to. Sends (record { words = sent.words; items = sent.items; to = to; expires = send_timeout call == 0x400; «then» = later_of call window; fault = false }))
+    (partner t n call.to) (Ends (failed false 4))
+    else going_on t (later_of call window) false
+
+-- the space shows the page, with all rights of the access
+abbrev pub has_page : Mappings → ℕ → FaultCall → Bool
+has_page s space call = holds (rights_at s (record { space = space; page = call.address / 2 ^ 12 })) where
+  holds : RightsSet → Bool
+  holds rights = is_none (without call.access rights) && not (is_none rights)
+
+abbrev bit : Bool → ℕ → ℕ
+bit b value = if b then value else 0
+
+-- the fault message: label -2 in twelve bits and the access, then the address and the instruction pointer
+abbrev pub fault_words : FaultCall → List ℕ
+fault_words call = (0xffe0_0002 + bit call.access.r 0x4_0000 + bit call.access.w 0x2_0000 + bit call.access.x 0x1_0000) ∷ call.address ∷ call.ip ∷ []
+
+-- a fault starts: it is a hit, or it is sent to the pager, from which it then receives
+abbrev pub fault_next : Threads → Mappings → ℕ → ℕ → ThreadId → FaultCall → Next
+fault_next t s n space pager call =
+    if has_page s space call then Ends Hit else
+    option_map_or (λ to. Sends (record { words = record { items = fault_words call }; items = record { items = [] }; to = to; expires = false; «then» = Some (record { «from» = pager; window = Complete all_rights; expires = false }); fault = true }))
+    (partner t n pager) (Ends (failed true 4))
+
+-- the thread does this next
+abbrev pub enters : Threads → ℕ → Next → Threads
+enters t n (Ends reply) = end_call t n reply
+enters t n (Sends s) = start_send t n s
+enters t n (Receives r) = start_receive t n r
+
+-- the thread can do this next: it is there; to send it runs, and to receive it doesn't receive yet
+abbrev pub CanEnter : Threads → ℕ → Next → Type 0
+CanEnter t n (Ends reply) = IsSome (state_of t n)
+CanEnter t n (Sends s) = IsTrue (runs t n)
+CanEnter t n (Receives r) = IsTrue (may_receive t n)
+
+-- the list of the thread if its call ends with this
+abbrev pub ended_by : ℕ → Next → List ℕ
+ended_by n (Ends reply) = n ∷ []
+ended_by n (Sends s) = []
+ended_by n (Receives r) = []

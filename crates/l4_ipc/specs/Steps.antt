@@ -1,0 +1,192 @@
+-- The machine's steps. From one state a step may give an answer, or a refusal, and go on to another state.
+-- (L4 X.2 manual: IPC, ThreadControl, Unmap; the step as one atomic event is this profile's own.)
+use Rattle.std.specs.Prelude.{◌≡◌, ◌≢◌, ℕ, ◌≤◌, ◌⊎◌, Bool, true, false, if◌then◌else◌, List, [], ◌∷◌, ◌++◌, drop, slice_index, ◌↔◌, Contains, IsTrue, Some, Result, Ok, Err}
+use Rattle.std.specs.Option.{option_map}
+use Rattle.std.specs.List.Sorted.{IsStrictlyIncreasing}
+use Rattle.std.specs.FinSet as set
+use Rattle.l4_fpage.specs.declared.fpages.Fpage.{Fpage}
+use Rattle.l4_mapdb.specs.Mappings.{Mappings}
+use Rattle.l4_mapdb.specs.Losing.{EndsSpace}
+use Rattle.l4_unmap.specs.Unmap.{UnmapReads, with_own, Unmaps}
+use Rattle.l4_threads.specs.declared.Receiving.{Receiving}
+use Rattle.l4_threads.specs.declared.Sending.{Sending}
+use Rattle.l4_threads.specs.declared.Reply.{Reply}
+use Rattle.l4_threads.specs.declared.Reply.TheVariants.{Ipc as IpcReply, Answered, Unmapped, Controlled}
+use Rattle.l4_threads.specs.declared.State.{State}
+use Rattle.l4_threads.specs.declared.State.TheVariants.{Running, Sending as IsSender, Receiving as IsReceiver}
+use Rattle.l4_threads.specs.declared.Thread.{Thread}
+use Rattle.l4_threads.specs.Threads.{Threads, thread_at, state_of, space_of, runs, is_running, failed, end_call}
+use Rattle.l4_threads.specs.Control.{create_test, created, asks_new, set_pager_test, with_pager, delete_test, Deletes}
+use Rattle.l4_threads.specs.Enabled.{IsFirstSender, CanExpire, IsNextTransfer, IsNextExpiry}
+use Rattle.l4_ipc.specs.declared.calls.Call.{Call}
+use Rattle.l4_ipc.specs.declared.calls.Call.TheVariants.{Ipc, Fault, Unmap, Control as Controls}
+use Rattle.l4_ipc.specs.declared.calls.Control.TheVariants.{Create, SetPager, Delete}
+use Rattle.l4_ipc.specs.declared.steps.Step.{Step}
+use Rattle.l4_ipc.specs.declared.steps.Step.TheVariants.{Start, Transfer, Expire}
+use Rattle.l4_ipc.specs.declared.steps.Outcome.{Outcome}
+use Rattle.l4_ipc.specs.declared.steps.Outcome.TheVariants.{Started, Done, NoWindow, Entangled, NoMemory, Expired}
+use Rattle.l4_ipc.specs.declared.steps.Answer.{Answer}
+use Rattle.l4_ipc.specs.declared.steps.Lower.TheVariants.{NoMemory as LowerNoMemory}
+use Rattle.l4_ipc.specs.declared.steps.Refused.{Refused}
+use Rattle.l4_ipc.specs.declared.steps.Refused.TheVariants.{NotEnabled, Lower}
+use Rattle.l4_ipc.specs.declared.sent.Sent.{Sent}
+use Rattle.l4_ipc.specs.declared.next.Next.{Next}
+use Rattle.l4_ipc.specs.declared.next.Next.TheVariants.{Ends}
+use Rattle.l4_ipc.specs.Machine.{Machine}
+use Rattle.l4_ipc.specs.Start.{IsAccepted, StartRefuses, ipc_next, fault_next, enters, ended_by, going_on}
+use Rattle.l4_ipc.specs.Moving.{Moves}
+
+-- START
+
+-- the thread waits
+abbrev pub Waits : Machine → ℕ → Type 0
+Waits m n = option_map is_running (state_of m.threads n) ≡ Some false
+
+-- the other thread's call ended as this one was deleted: it waited for that one, or is that one
+abbrev pub IsEndedBy : Machine → Machine → ℕ → ℕ → Type 0
+IsEndedBy old new victim n =
+    ((n ≡ victim) × Waits old n) ⊎ ((n ≢ victim) × Waits old n × (option_map is_running (state_of new.threads n) ≡ Some true))
+
+-- the ended calls of a Delete: the caller, then the others by rising number
+pub record IsDeleteList (caller victim : ℕ) (old new : Machine) (ended : List ℕ) : Type 0 where
+  pub others : List ℕ
+  pub list : ended ≡ caller ∷ others
+  pub rising : IsStrictlyIncreasing others
+  pub each : (n : ℕ) → Contains others n ↔ IsEndedBy old new victim n
+
+-- the space has no thread left
+abbrev pub HasEnded : Threads → ℕ → Type 0
+HasEnded t space = (n : ℕ) → space_of t n ≢ Some space
+
+-- the thread is deleted, and its space ends with its last thread
+pub record DeletesThread (caller victim space : ℕ) (old new : Machine) : Type 0 where
+  pub left : Threads
+  pub deleted : Deletes victim old.threads left
+  pub threads : new.threads ≡ end_call left caller Controlled
+  pub mappings :
+      (HasEnded left space × EndsSpace space old.mappings new.mappings)
+      ⊎ (¬ (HasEnded left space) × (new.mappings ≡ old.mappings))
+
+-- with a new space there is one more space, which shows nothing
+abbrev pub with_space : Mappings → Bool → ℕ → Mappings
+with_space s true space = record s { spaces = set.insert s.spaces space }
+with_space s false space = s
+
+-- the effect of a call that is not refused, and the calls that end in it
+abbrev pub Starts : Machine → ℕ → Thread → Call → List ℕ → Machine → Type 0
+Starts old n caller (Ipc call) ended new =
+    (sent : Sent) × (window : Fpage) × IsAccepted call sent window
+    × (ended ≡ ended_by n (ipc_next old.threads n call sent window))
+    × (new ≡ record old { threads = enters old.threads n (ipc_next old.threads n call sent window) })
+Starts old n caller (Fault call) ended new =
+    (ended ≡ ended_by n (fault_next old.threads old.mappings n caller.space caller.pager call))
+    × (new ≡ record old { threads = enters old.threads n (fault_next old.threads old.mappings n caller.space caller.pager call) })
+Starts old n caller (Unmap call) ended new =
+    (fpages : List Fpage) × UnmapReads call.control call.words.items fpages
+    × (ended ≡ n ∷ []) × (new.threads ≡ end_call old.threads n Unmapped)
+    × Unmaps caller.space (with_own call.control) fpages old.mappings new.mappings
+Starts old n caller (Controls (Create c)) ended new =
+    (space : ℕ) × (create_test old.threads n c.id c.space ≡ Ok space) × (ended ≡ n ∷ [])
+    × (new ≡ record { threads = end_call (created old.threads c.id space c.pager) n Controlled; mappings = with_space old.mappings (asks_new c.id c.space) space })
+Starts old n caller (Controls (SetPager c)) ended new =
+    (other : ℕ) × (set_pager_test old.threads n c.id ≡ Ok other) × (ended ≡ n ∷ [])
+    × (new ≡ record old { threads = end_call (with_pager old.threads other c.pager) n Controlled })
+Starts old n caller (Controls (Delete id)) ended new =
+    (victim : ℕ) × (thread : Thread) × (delete_test old.threads n id ≡ Ok victim) × (thread_at old.threads victim ≡ Some thread)
+    × IsDeleteList n victim old new ended × DeletesThread n victim thread.space old new
+
+-- memory is wanted by a Create of a new space alone, which no refusal stops
+abbrev pub LacksMemory : Machine → ℕ → Call → Type 0
+LacksMemory m n (Ipc call) = ⊥
+LacksMemory m n (Fault call) = ⊥
+LacksMemory m n (Unmap call) = ⊥
+LacksMemory m n (Controls (Create c)) =
+    IsTrue (runs m.threads n) × ((space : ℕ) × (create_test m.threads n c.id c.space ≡ Ok space)) × IsTrue (asks_new c.id c.space)
+LacksMemory m n (Controls (SetPager c)) = ⊥
+LacksMemory m n (Controls (Delete id)) = ⊥
+
+-- TRANSFER
+
+-- A transfer that is enabled: the sender sends to the receiver, which accepts it, and no other such sender stands before it.
+-- These are the two threads, and what each does.
+pub record Meets (t : Threads) (sender receiver : ℕ) («from» to : Thread) (sends : Sending) (takes : Receiving) : Type 0 where
+  pub from_at : thread_at t sender ≡ Some «from»
+  pub to_at : thread_at t receiver ≡ Some to
+  pub from_state : «from».state ≡ IsSender sends
+  pub to_state : to.state ≡ IsReceiver takes
+  pub enabled : IsFirstSender t receiver sender
+
+-- what the receiver's call replies: the sender's tag, words and id; an answered fault discards them
+abbrev pub received : Thread → Sending → Receiving → Reply
+received «from» sends takes =
+    if takes.fault then Answered else
+    IpcReply (record { tag = slice_index sends.words.items 0; error = 0; «from» = «from».id; words = record { items = drop 1 sends.words.items } })
+
+abbrev pub is_done : Outcome → Bool
+is_done Started = false
+is_done Done = true
+is_done NoWindow = false
+is_done Entangled = false
+is_done NoMemory = false
+is_done Expired = false
+
+-- what the receiver's call replies: the message where it was delivered, else ErrorCode 9
+abbrev pub receiver_reply : Bool → Thread → Sending → Receiving → Reply
+receiver_reply true «from» sends takes = received «from» sends takes
+receiver_reply false «from» sends takes = failed takes.fault 9
+
+-- what the sender does next: it goes on to its receive phase where the message was delivered, else its call ends with ErrorCode 8
+abbrev pub sender_next : Bool → Threads → Sending → Next
+sender_next true t sends = going_on t sends.«then» sends.fault
+sender_next false t sends = Ends (failed sends.fault 8)
+
+-- the threads after a transfer: the receiver's call has ended, and the sender does what comes next
+abbrev pub after_transfer : Bool → Threads → ℕ → ℕ → Thread → Sending → Receiving → Threads
+after_transfer done t sender receiver «from» sends takes =
+    enters (end_call t receiver (receiver_reply done «from» sends takes)) sender (sender_next done t sends)
+
+-- the sender, where its call ended, and then the receiver
+abbrev pub ended_in_transfer : Bool → Threads → ℕ → ℕ → Sending → List ℕ
+ended_in_transfer done t sender receiver sends = ended_by sender (sender_next done t sends) ++ receiver ∷ []
+
+-- EXPIRE
+
+-- what a call that expires replies: ErrorCode 2 as it sends, 3 as it receives (L4 X.2 manual, IPC: timeouts; the numbers are this profile's own)
+abbrev pub expiry : State → Reply
+expiry (Running reply) = failed false 0
+expiry (IsSender s) = failed s.fault 2
+expiry (IsReceiver r) = failed r.fault 3
+
+-- THE STEP
+
+-- From old, the step may give this answer or refusal and lead to new. A refused step changes nothing.
+abbrev pub Steps : Machine → Step → Result Answer Refused → Machine → Type 0
+Steps old (Start n call) (Ok answer) new =
+    (caller : Thread) × (thread_at old.threads n ≡ Some caller) × IsTrue (is_running caller.state)
+    × (answer.outcome ≡ Started) × Starts old n caller call answer.ended.items new
+Steps old (Start n call) (Err e) new =
+    (StartRefuses old n call e ⊎ (LacksMemory old n call × (e ≡ Lower LowerNoMemory))) × (new ≡ old)
+Steps old (Transfer sender receiver) (Ok answer) new =
+    («from» : Thread) × (to : Thread) × (sends : Sending) × (takes : Receiving) × Meets old.threads sender receiver «from» to sends takes
+    × Moves old.mappings «from».space to.space sends.items.items takes.window answer.outcome new.mappings
+    × (answer.ended.items ≡ ended_in_transfer (is_done answer.outcome) old.threads sender receiver sends)
+    × (new.threads ≡ after_transfer (is_done answer.outcome) old.threads sender receiver «from» sends takes)
+Steps old (Transfer sender receiver) (Err e) new = ¬ (IsFirstSender old.threads receiver sender) × (e ≡ NotEnabled) × (new ≡ old)
+Steps old (Expire n) (Ok answer) new =
+    (able : CanExpire old.threads n)
+    × (answer.outcome ≡ Expired) × (answer.ended.items ≡ n ∷ []) × (new ≡ record old { threads = end_call old.threads n (expiry able.state) })
+Steps old (Expire n) (Err e) new = ¬ (CanExpire old.threads n) × (e ≡ NotEnabled) × (new ≡ old)
+
+-- WHICH STEP COMES NEXT
+
+-- the step that `enabled` names: the enabled transfer whose sender stands first in the queue, and where there
+-- is none the enabled expiry of the least number
+abbrev pub IsNext : Machine → Step → Type 0
+IsNext m (Start n call) = ⊥
+IsNext m (Transfer sender receiver) = IsNextTransfer m.threads (sender, receiver)
+IsNext m (Expire n) = ((s r : ℕ) → ¬ (IsFirstSender m.threads r s)) × IsNextExpiry m.threads n
+
+-- no transfer and no expiry is enabled
+pub record IsIdle (m : Machine) : Type 0 where
+  pub no_transfer : (s r : ℕ) → ¬ (IsFirstSender m.threads r s)
+  pub no_expiry : (n : ℕ) → ¬ (CanExpire m.threads n)

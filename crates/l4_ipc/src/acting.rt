@@ -1,0 +1,175 @@
+//! The steps on the kernel's parts.
+ghost use Rattle.std.specs.Prelude.{◌≡◌, ◌∷◌, [], ℕ, IsTrue, IfOk};
+ghost use Rattle.l4_mapdb.specs.Mappings.{Mappings};
+ghost use Rattle.l4_threads.specs.Threads.{runs};
+ghost use Rattle.l4_ipc.specs.Machine.{machine};
+ghost use Rattle.l4_ipc.specs.Stages.{StepsYet};
+ghost use Rattle.l4_ipc.specs.Staged.{IsStaged};
+ghost use Rattle.l4_ipc.specs.Bringing.{BringsMessage};
+ghost use Rattle.l4_ipc.specs.Steps.{expiry};
+ghost use Rattle.l4_ipc.specs.declared.steps.Step.TheVariants.{Start, Transfer as Transfers, Expire as Expires};
+ghost use Rattle.l4_ipc.specs.declared.calls.Call.TheVariants.{Ipc, Control as Controls};
+ghost use Rattle.l4_ipc.specs.declared.calls.Control.TheVariants.{Create as Creates};
+
+use crate::calls::{Call, Control, Create, IpcCall};
+use crate::delivering::{deliver, is_done, meet, receiver_reply, sender_next};
+use crate::starting::{enter, failed, ipc_next, puts_off_ipc};
+use crate::steps::{Answer, Lower, Outcome, Refused};
+use arrayvec::ArrayVec;
+use l4_mapdb::Forest;
+use l4_threads::{Reply, State, Threads};
+
+/// A list of one thread.
+fn only(number: u32) -> ArrayVec<u32, 64>
+    ensures { result.items ≡ number ∷ [] }
+{
+    let mut list = ArrayVec::new();
+    list.push(number);
+    list
+}
+
+/// Starts an Ipc of a running thread.
+fn start_ipc(threads: &mut Threads, number: u32, call: &IpcCall) -> Result<Answer, Refused>
+    requires { IsTrue (runs threads.old number) }
+    ensures { (s : Mappings) → StepsYet (machine threads.old s) (Start number (Ipc call.now)) result (machine threads.new s) }
+{
+    let (sent, window) = match call.read() {
+        Ok(read) => read,
+        Err(refused) => return Err(refused),
+    };
+    if puts_off_ipc(number, call, sent.items.as_slice()) {
+        return Err(Refused::NotYet);
+    }
+    let next = ipc_next(threads, number, call, sent, window);
+    let ended = enter(threads, number, next);
+    Ok(Answer {
+        outcome: Outcome::Started,
+        ended,
+    })
+}
+
+/// Creates a thread for a running thread.
+fn create(
+    threads: &mut Threads,
+    forest: &mut Forest,
+    number: u32,
+    call: &Create,
+) -> Result<Answer, Refused>
+    requires { IsTrue (runs threads.old number) }
+    ensures { StepsYet (machine threads.old forest.old) (Start number (Controls (Creates call.now))) result (machine threads.new forest.new) }
+{
+    let space = match threads.test_create(number, call.id, call.space) {
+        Ok(space) => space,
+        Err(fault) => return Err(Refused::Lower(Lower::Thread(fault))),
+    };
+    if call.space.0 != call.id.0 {
+        return Err(Refused::NotYet);
+    }
+    if forest.new_space(space).is_err() {
+        return Err(Refused::Lower(Lower::NoMemory));
+    }
+    threads.create(call.id, space, call.pager);
+    threads.end_call(number, Reply::Controlled);
+    Ok(Answer {
+        outcome: Outcome::Started,
+        ended: only(number),
+    })
+}
+
+/// Starts a control of threads by a running thread.
+fn start_control(
+    threads: &mut Threads,
+    forest: &mut Forest,
+    number: u32,
+    control: &Control,
+) -> Result<Answer, Refused>
+    requires { IsTrue (runs threads.old number) }
+    ensures { StepsYet (machine threads.old forest.old) (Start number (Controls control.now)) result (machine threads.new forest.new) }
+{
+    match control {
+        Control::Create(call) => create(threads, forest, number, call),
+        _ => Err(Refused::NotYet),
+    }
+}
+
+/// Starts a call.
+pub fn start(
+    threads: &mut Threads,
+    forest: &mut Forest,
+    number: u32,
+    call: &Call,
+) -> Result<Answer, Refused>
+    ensures { StepsYet (machine threads.old forest.old) (Start number call.now) result (machine threads.new forest.new) }
+{
+    match threads.state(number) {
+        None => return Err(Refused::UnknownThread),
+        Some(State::Running(_)) => {}
+        Some(_) => return Err(Refused::Busy),
+    }
+    match call {
+        Call::Ipc(call) => start_ipc(threads, number, call),
+        Call::Control(control) => start_control(threads, forest, number, control),
+        _ => Err(Refused::NotYet),
+    }
+}
+
+/// Does a transfer.
+pub fn transfer(
+    threads: &mut Threads,
+    forest: &mut Forest,
+    sender: u32,
+    receiver: u32,
+) -> Result<Answer, Refused>
+    requires { IsStaged (machine threads.old forest.old) }
+    ensures steps { StepsYet (machine threads.old forest.old) (Transfers sender receiver) result (machine threads.new forest.new) }
+    ensures brings { IfOk result (λ answer. answer.outcome ≡ Outcome.Done → BringsMessage (machine threads.old forest.old) sender receiver (machine threads.new forest.new)) }
+{
+    forest.law_forest();
+    let Some(meeting) = meet(threads, sender, receiver) else {
+        return Err(Refused::NotEnabled);
+    };
+    let items = meeting.sends.items.as_slice();
+    let outcome = deliver(
+        forest,
+        meeting.from.space,
+        meeting.to.space,
+        items,
+        &meeting.takes.window,
+    );
+    let done = is_done(outcome);
+    let reply = receiver_reply(done, meeting.from, meeting.sends, meeting.takes);
+    let next = sender_next(done, threads, meeting.sends);
+    threads.end_call(receiver, reply);
+    let mut ended = enter(threads, sender, next);
+    ended.push(receiver);
+    Ok(Answer { outcome, ended })
+}
+
+/// What a call that expires replies.
+fn expiry(state: &State) -> Reply
+    ensures { result ≡ expiry state.now }
+{
+    match state {
+        State::Running(_) => failed(false, 0),
+        State::Sending(sending) => failed(sending.fault, 2),
+        State::Receiving(receiving) => failed(receiving.fault, 3),
+    }
+}
+
+/// Ends a wait with a timeout of zero.
+pub fn expire(threads: &mut Threads, number: u32) -> Result<Answer, Refused>
+    ensures { (s : Mappings) → StepsYet (machine threads.old s) (Expires number) result (machine threads.new s) }
+{
+    if !threads.can_expire(number) {
+        return Err(Refused::NotEnabled);
+    }
+    let Some(state) = threads.state(number) else {
+        return Err(Refused::NotEnabled);
+    };
+    let reply = expiry(state);
+    threads.end_call(number, reply);
+    Ok(Answer {
+        outcome: Outcome::Expired,
+        ended: only(number),
+    })
+}

@@ -1,0 +1,159 @@
+//! The kernel.
+ghost use Rattle.std.specs.Prelude.{◌≡◌, ◌<◌, ◌≤◌, ◌⊎◌, ℕ, IsTrue, IfOk, OnErr, MatchOption, MatchResult};
+ghost use Rattle.std.specs.Option.{option_copied};
+ghost use Rattle.l4_mapdb.specs.declared.Place.{Place};
+
+use crate::acting::{expire, start, transfer};
+use crate::steps::{Answer, Lower, Refused, Step};
+use l4_mapdb::{Forest, Mapping, NoMemory};
+use l4_threads::{Reply, State, Threads};
+use std::alloc::Global;
+use std::marker::Model;
+
+/// The greatest number of frames.
+const MAX_FRAMES: u32 = 4096;
+
+/// The space of root.
+const ROOT_SPACE: u64 = 1;
+
+/// The kernel: its threads and the mappings of their spaces.
+#[derive(Drop)]
+pub struct Kernel {
+    threads: Threads,
+    forest: Forest,
+    alloc: Global,
+}
+
+impl Model for Kernel {
+    ghost use Rattle.l4_threads.specs.contracts.Thread as thread;
+    ghost use Rattle.l4_ipc.specs.Machine.{Machine, machine_code};
+
+    ghost Value = { Machine };
+
+    ghost coded = { machine_code thread.the_row.coded };
+
+    ghost use Rattle.l4_ipc.specs.Kept.{seen, IsKept};
+
+    ghost view = { seen };
+
+    ghost invariant = { IsKept };
+}
+
+impl Kernel {
+    ghost use Rattle.l4_threads.specs.Threads.{space_of};
+    ghost use Rattle.l4_mapdb.specs.Mappings.{shown};
+    ghost use Rattle.l4_mapdb.specs.Places.{NonePresentFrom, IsNextPresent};
+    ghost use Rattle.l4_ipc.specs.Machine.{IsBoot};
+    ghost use Rattle.l4_ipc.specs.Stages.{StepsYet};
+    ghost use Rattle.l4_ipc.specs.Steps.{IsNext, IsIdle};
+    ghost use Rattle.l4_ipc.specs.Runs.{Run, Brings};
+    ghost use Rattle.l4_ipc.specs.Reading.{reply_of};
+    ghost use Rattle.l4_ipc.specs.declared.steps.Refused.TheVariants.{BadFrames, Lower as IsLower};
+    ghost use Rattle.l4_ipc.specs.declared.steps.Lower.TheVariants.{NoMemory as WantOfMemory};
+
+    /// The kernel as it boots: sigma0 is thread 1 in space 0, which shows each frame below `frames` at the page of its number with
+    /// all rights, and root is thread 2 in space 1, which shows none. There are 1 to 4,096 frames.
+    ///
+    /// `BadFrames` (K6) comes for any other number, and then `Lower(NoMemory)` where a growth was refused.
+    pub fn boot(alloc: Global, frames: u32) -> Result<Kernel, Refused>
+        ensures { MatchResult result
+            (λ m. (1 ≤ frames) × (frames ≤ 4096) × IsBoot frames m)
+            (λ e. (((frames ≡ 0) ⊎ (4096 < frames)) × (e ≡ BadFrames)) ⊎ ((1 ≤ frames) × (frames ≤ 4096) × (e ≡ IsLower WantOfMemory))) }
+    {
+        if frames == 0 || frames > MAX_FRAMES {
+            return Err(Refused::BadFrames);
+        }
+        let Ok(mut forest) = Forest::new(alloc, frames) else {
+            return Err(Refused::Lower(Lower::NoMemory));
+        };
+        match forest.new_space(ROOT_SPACE) {
+            Ok(()) => Ok(Kernel {
+                threads: Threads::boot(),
+                forest,
+                alloc,
+            }),
+            Err(_) => Err(Refused::Lower(Lower::NoMemory)),
+        }
+    }
+
+    /// Does one step, and says what it did and whose calls ended in it, or why it is refused. A refused step changes nothing.
+    ///
+    /// The refusals of a Start, in this order: `UnknownThread` (K2), `Busy` (K3), `BadTimeout` (K4), and then `Lower` (K5) with the
+    /// first refusal of the message, of the window or of a Create; `NotYet` (K7) where the call is one that isn't carried out yet (of
+    /// a Fault, an Unmap, a SetPager and a Delete right after K3); and last `Lower(NoMemory)` of a Create in a new space. A Transfer or an Expire that is not enabled is `NotEnabled` (K1).
+    pub fn step(&mut self, step: &Step) -> Result<Answer, Refused>
+        // The step is one of the machine's, or is refused because it is put off.
+        ensures steps { StepsYet self.old step.now result self.new }
+
+        // A delivered message maps the sender's pages, and changes no other page.
+        ensures brings { Brings self.old step.now result self.new }
+    {
+        match step {
+            Step::Start(number, call) => start(&mut self.threads, &mut self.forest, *number, call),
+            Step::Transfer(sender, receiver) => transfer(
+                &mut self.threads,
+                &mut self.forest,
+                *sender,
+                *receiver,
+            ),
+            Step::Expire(number) => expire(&mut self.threads, *number),
+        }
+    }
+
+    /// Does some steps one after another, and gives their answers and refusals in order. Room for all of them is made first; where that
+    /// is refused, nothing is done.
+    pub fn run(&mut self, steps: &[Step]) -> Result<Vec<Result<Answer, Refused>>, NoMemory>
+        ensures ok { IfOk result (λ answers. Run self.old steps.now answers.items self.new) }
+        ensures err { OnErr result (self.new ≡ self.old) }
+    {
+        let mut answers = Vec::with_capacity(self.alloc, steps.len())?;
+        for step in steps {
+            let answer = self.step(step);
+            let _ = answers.push(answer);
+        }
+        Ok(answers)
+    }
+
+    /// The step that comes next where no call is started: the enabled Transfer whose sender stands first in the queue, and where there
+    /// is none the enabled Expire of the least number. None where no Transfer and no Expire is enabled.
+    pub fn enabled(&self) -> Option<Step>
+        ensures { MatchOption result (IsIdle self.now) (IsNext self.now) }
+    {
+        if let Some((sender, receiver)) = self.threads.next_transfer() {
+            return Some(Step::Transfer(sender, receiver));
+        }
+        let number = self.threads.next_expiry()?;
+        Some(Step::Expire(number))
+    }
+
+    /// The reply of the last ended call of a thread that runs.
+    pub fn reply(&self, number: u32) -> Option<&Reply>
+        ensures { option_copied result ≡ reply_of self.now.threads number }
+    {
+        match self.threads.state(number)? {
+            State::Running(Some(reply)) => Some(reply),
+            _ => None,
+        }
+    }
+
+    /// The space of a thread.
+    pub fn space_of(&self, number: u32) -> Option<u64>
+        ensures { result ≡ space_of self.now.threads number }
+    {
+        self.threads.space_of(number)
+    }
+
+    /// What a page of a space shows; None where it is not present.
+    pub fn mapping(&self, space: u64, page: u32) -> Option<Mapping>
+        ensures { result ≡ shown self.now.mappings (record { space = space; page = page }) }
+    {
+        self.forest.at(space, page)
+    }
+
+    /// The least present page of a space that is not below `page`.
+    pub fn next_page(&self, space: u64, page: u32) -> Option<u32>
+        ensures { MatchOption result (NonePresentFrom self.now.mappings space page) (IsNextPresent self.now.mappings space page) }
+    {
+        self.forest.next_present(space, page)
+    }
+}

@@ -1,0 +1,42 @@
+-- What an Unmap reads and what it takes away. (L4 X.2 manual, Unmap; that no status bits are given back is this profile's own.)
+use Rattle.std.specs.Prelude.{◌≡◌, ℕ, ◌+◌, ◌/◌, ◌%◌, ◌^◌, ◌<◌, ◌≤◌, ◌==◌, ◌⊎◌, Bool, List, length, slice_index, Contains, IsTrue}
+use Rattle.std.specs.List.{HoldsAt}
+use Rattle.l4_fpage.specs.Rights.{Right, has}
+use Rattle.l4_fpage.specs.Fpages.{rights_of, HoldsPage, ReadsAs, IsMalformed}
+use Rattle.l4_fpage.specs.declared.fpages.Fpage.{Fpage}
+use Rattle.l4_mapdb.specs.declared.Place.{Place}
+use Rattle.l4_mapdb.specs.Mappings.{Mappings, Descends}
+use Rattle.l4_mapdb.specs.Losing.{LosesRights}
+use Rattle.l4_unmap.specs.declared.UnmapFault.{UnmapFault}
+use Rattle.l4_unmap.specs.declared.UnmapFault.TheVariants.{BadFpage, TooFew}
+
+-- how many registers hold fpages: one more than bits 5 to 0 of the control word
+abbrev pub fpage_count : ℕ → ℕ
+fpage_count control = control % 2 ^ 6 + 1
+
+-- bit f, bit 6: the caller's own places are meant too
+abbrev pub with_own : ℕ → Bool
+with_own control = control / 2 ^ 6 % 2 == 1
+
+-- the fpages of the registers from MR0 on, as many as the control word counts
+pub record UnmapReads (control : ℕ) (words : List ℕ) (fpages : List Fpage) : Type 0 where
+  pub there : fpage_count control ≤ length words
+  pub count : length fpages ≡ fpage_count control
+  pub each : (k : ℕ) → k < length fpages → HoldsAt (ReadsAs (slice_index words k)) fpages k
+
+-- why the registers are refused: there are too few, or the register i is the first that holds no fpage
+abbrev pub UnmapFails : ℕ → List ℕ → UnmapFault → Type 0
+UnmapFails control words TooFew = length words < fpage_count control
+UnmapFails control words (BadFpage i) =
+    (fpage_count control ≤ length words) × (i < fpage_count control) × IsMalformed (slice_index words i) × ((k : ℕ) → k < i → ¬ (IsMalformed (slice_index words k)))
+
+-- an fpage names the right, and a page of the caller from which the place descends, or with f the place itself
+abbrev pub LosesTo : Mappings → ℕ → Bool → List Fpage → Place → Right → Type 0
+LosesTo old caller own fpages place right =
+    (fpage : Fpage) × Contains fpages fpage × IsTrue (has (rights_of fpage) right)
+    × ((page : ℕ) × HoldsPage fpage page
+    × ((IsTrue own × (place ≡ record { space = caller; page = page })) ⊎ Descends old place (record { space = caller; page = page })))
+
+-- the effect of an Unmap of these fpages by a thread of the caller's space; all is read before anything is changed
+abbrev pub Unmaps : ℕ → Bool → List Fpage → Mappings → Mappings → Type 0
+Unmaps caller own fpages old new = LosesRights (LosesTo old caller own fpages) old new
