@@ -1,0 +1,149 @@
+-- What holds of a plan that has reached a page.
+use Rattle.std.proofs.Common.{◌≡◌, ℕ, ◌+◌, ◌-◌, ◌*◌, ◌%◌, ◌^◌, ◌<◌, ◌≤◌, ◌⊎◌, inl, inr, refl, sym, ◌∙◌, subst, arith, List, [], ◌∷◌, ◌++◌, length, get_or, Some, ◌↔◌}
+use Rattle.std.proofs.lemmas.Bool.{cases_lt}
+use Rattle.std.proofs.lemmas.List.{get_or_push, length_push}
+use Rattle.std.proofs.lemmas.Nat.{pow_pos}
+use Rattle.std.proofs.lemmas.List.Elements.{All-nil, All-push}
+use Rattle.std.proofs.lemmas.List.Quantifiers.{all_pairs_push, Any-push}
+use Rattle.std.proofs.Math.ListN.{get_or-append}
+use Rattle.std.specs.List.{All, AllPairs, AllZip, Any}
+use Rattle.l4_fpage.specs.Fpages.{bytes_of}
+use Rattle.l4_msg.specs.Moves.{Shifts, ItemMoves, IsMap, base_of, fpage_of, complete}
+use Rattle.l4_msg.specs.declared.items.Item.{Item}
+use Rattle.l4_msg.specs.declared.regions.Region.{Region}
+use Rattle.l4_plan.proofs.Greedy.{NoneCrosses, none_crosses_start, none_crosses_step, apart_from_crosses}
+use Rattle.l4_plan.proofs.Steps.{item_moves_is}
+use Rattle.l4_msg.specs.Regions.{IsAllowed, IsCertificate, IsPlan, ShareBlock, StartsAt}
+use Rattle.l4_plan.specs.Largest.{IsLargest, AreStarts}
+
+-- largest allowed blocks begin at these pages, one after another, from a to b
+abbrev pub Walk : Region → ℕ → List ℕ → ℕ → Type 0
+Walk r a [] b = a ≡ b
+Walk r a (p ∷ ps) b = (p ≡ a) × ((log : ℕ) × IsLargest r p log × Walk r (p + 2 ^ log) ps b)
+
+walk_push : (r : Region) (a : ℕ) (ps : List ℕ) (b log : ℕ) → Walk r a ps b → IsLargest r b log → Walk r a (ps ++ b ∷ []) (b + 2 ^ log)
+walk_push r a [] b log w best = (sym w, (log, best, refl))
+walk_push r a (p ∷ ps) b log w best = (w.0, (w.1.0, w.1.1, walk_push r (p + 2 ^ w.1.0) ps b log w.1.2 best))
+
+one_largest : (r : Region) (p j k : ℕ) → IsLargest r p j → IsLargest r p k → j ≡ k
+one_largest r p j k a b = omega (arith, a.greatest k b.allowed, b.greatest j a.allowed)
+
+pub starts_of_walk : (r : Region) (a : ℕ) (ps : List ℕ) (b : ℕ) → Walk r a ps b → AreStarts r a ps
+starts_of_walk r a [] b w = tt
+starts_of_walk r a (p ∷ ps) b w = (w.0, λ log best. subst (λ (k : ℕ). AreStarts r (p + 2 ^ k) ps) (one_largest r p w.1.0 log w.1.1 best) (starts_of_walk r (p + 2 ^ w.1.0) ps b w.1.2))
+
+pub starts_with_end : (r : Region) (a : ℕ) (ps : List ℕ) (b : ℕ) → Walk r a ps b → AreStarts r a (ps ++ b ∷ [])
+starts_with_end r a [] b w = (sym w, λ log best. tt)
+starts_with_end r a (p ∷ ps) b w = (w.0, λ log best. subst (λ (k : ℕ). AreStarts r (p + 2 ^ k) (ps ++ b ∷ [])) (one_largest r p w.1.0 log w.1.1 best) (starts_with_end r (p + 2 ^ w.1.0) ps b w.1.2))
+
+-- the items move the pages below this one, and their first pages are a certificate with it
+pub record Progress (r : Region) (page : ℕ) (items : List Item) (pages : List ℕ) : Type 0 where
+  pub from : r.source ≤ page
+  pub to : page ≤ r.source + r.count
+  pub crosses : NoneCrosses r page
+  pub walk : Walk r r.source pages page
+  pub starts : AllZip (StartsAt r) pages items
+  pub maps : All IsMap items
+  pub whole : All (λ item. base_of item % 1024 ≡ 0) items
+  pub moves : (s t : ℕ) → Any (λ item. ItemMoves item complete s t) items ↔ Shifts r.source r.target (page - r.source) s t
+  pub inside : All (λ p. (r.source ≤ p) × (p < page)) pages
+  pub rising : AllPairs ◌<◌ pages
+  pub apart : AllPairs (λ p q. ShareBlock r p q → ⊥) pages
+
+-- the last element or one before it
+any_push : {X : Type 0} (P : X → Type 0) (xs : List X) (y : X) → Any P (xs ++ y ∷ []) ↔ (Any P xs ⊎ P y)
+any_push P xs y = (
+  λ w. elim (cases_lt w.0 (length xs)) [
+    | inl lt ↦ inl (w.0, w.1, lt, sym (get_or-append xs (y ∷ []) w.1 w.0 lt) ∙ w.3, w.4)
+    | inr ge ↦
+        let last : length xs ≡ w.0 = omega (arith, w.2, length_push xs y) in
+        inr (subst P (sym w.3 ∙ get_or_push xs y w.1 w.0 last) w.4)
+  ],
+  λ c. elim c [
+    | inl w ↦ (w.0, w.1, omega (arith, w.2, length_push xs y), get_or-append xs (y ∷ []) w.1 w.0 w.2 ∙ w.3, w.4)
+    | inr p ↦ Any-push P xs y p
+  ],
+)
+
+-- std's `AllZip-push` is for two lists of one type
+zip_push : {A B : Type 0} (R : A → B → Type 0) (xs : List A) (ys : List B) (x : A) (y : B) → AllZip R xs ys → R x y → AllZip R (xs ++ x ∷ []) (ys ++ y ∷ [])
+zip_push R [] [] x y h r = (r, tt)
+zip_push R [] (b ∷ ys) x y h r = absurd h
+zip_push R (a ∷ xs) [] x y h r = absurd h
+zip_push R (a ∷ xs) (b ∷ ys) x y h r = (h.0, zip_push R xs ys x y h.1 r)
+
+pub progress_start : (r : Region) → Progress r r.source [] []
+progress_start r = record {
+  from = omega arith;
+  to = omega arith;
+  crosses = none_crosses_start r;
+  walk = refl;
+  starts = tt;
+  maps = All-nil IsMap;
+  whole = All-nil (λ item. base_of item % 1024 ≡ 0);
+  moves = λ s t. (λ w. absurd (omega (arith, w.2)), λ h. absurd (omega (arith, h.within)));
+  inside = All-nil (λ p. (r.source ≤ p) × (p < r.source));
+  rising = λ i j d less in_j. absurd (omega (arith, in_j));
+  apart = λ i j d less in_j. absurd (omega (arith, in_j));
+}
+
+-- the page that was reached joins the certificate
+pub pages_push : (r : Region) (page : ℕ) (items : List Item) (pages : List ℕ) → Progress r page items pages → AllPairs (λ p q. ShareBlock r p q → ⊥) (pages ++ page ∷ [])
+pages_push r page items pages h =
+    all_pairs_push (λ p q. ShareBlock r p q → ⊥) pages page h.apart
+    (λ k d in_k. let i = h.inside k d in_k in apart_from_crosses r (get_or pages k d) page i.1 h.crosses)
+
+pub certificate_push : (r : Region) (page : ℕ) (items : List Item) (pages : List ℕ) → Progress r page items pages → page < r.source + r.count → IsCertificate r (pages ++ page ∷ [])
+certificate_push r page items pages h below = record {
+  inside = All-push (λ p. (r.source ≤ p) × (p < r.source + r.count)) pages page (λ k d in_k. let i = h.inside k d in_k in (i.0, omega (arith, i.1, h.to))) (h.from, below);
+  apart = pages_push r page items pages h;
+}
+
+shifts_more : (a b page n s t : ℕ) → a ≤ page → (Shifts a b (page - a) s t ⊎ Shifts page (b + (page - a)) n s t) ↔ Shifts a b (page + n - a) s t
+shifts_more a b page n s t from = (
+  λ c. elim c [
+    | inl h ↦ record { index = h.index; within = omega (arith, h.within); source_is = h.source_is; target_is = h.target_is }
+    | inr h ↦ record { index = page - a + h.index; within = omega (arith, h.within); source_is = omega (arith, h.source_is); target_is = omega (arith, h.target_is) }
+  ],
+  λ h. elim (cases_lt h.index (page - a)) [
+    | inl lt ↦ inl (record { index = h.index; within = lt; source_is = h.source_is; target_is = h.target_is })
+    | inr ge ↦ inr (record { index = h.index - (page - a); within = omega (arith, h.within); source_is = omega (arith, h.source_is); target_is = omega (arith, h.target_is) })
+  ],
+)
+
+either : {A B C D : Type 0} → A ↔ B → C ↔ D → (A ⊎ C) ↔ (B ⊎ D)
+either f g = (λ c. elim c [ inl a ↦ inl (f.0 a) | inr x ↦ inr (g.0 x) ], λ c. elim c [ inl b ↦ inl (f.1 b) | inr y ↦ inr (g.1 y) ])
+
+chain : {A B C : Type 0} → A ↔ B → B ↔ C → A ↔ C
+chain f g = (λ a. g.0 (f.0 a), λ c. f.1 (g.1 c))
+
+moves_push : (r : Region) (page log : ℕ) (items : List Item) (item : Item) (pages : List ℕ) → Progress r page items pages → IsAllowed r page log → StartsAt r page item → bytes_of (fpage_of item) ≡ Some (record { base = page * 4096; log = log + 12 }) → (s t : ℕ) → Any (λ i. ItemMoves i complete s t) (items ++ item ∷ []) ↔ Shifts r.source r.target (page + 2 ^ log - r.source) s t
+moves_push r page log items item pages h a starts bytes s t =
+    chain (any_push (λ i. ItemMoves i complete s t) items item)
+    (chain (either (h.moves s t) (item_moves_is r page log item a starts.base bytes s t)) (shifts_more r.source r.target page (2 ^ log) s t h.from))
+
+-- one item more
+pub progress_step : (r : Region) (page log : ℕ) (items : List Item) (item : Item) (pages : List ℕ) → Progress r page items pages → IsLargest r page log → StartsAt r page item → bytes_of (fpage_of item) ≡ Some (record { base = page * 4096; log = log + 12 }) → Progress r (page + 2 ^ log) (items ++ item ∷ []) (pages ++ page ∷ [])
+progress_step r page log items item pages h best starts bytes = record {
+  from = omega (arith, h.from);
+  to = omega (arith, best.allowed.to);
+  crosses = none_crosses_step r page log best h.crosses;
+  walk = walk_push r r.source pages page log h.walk best;
+  starts = zip_push (StartsAt r) pages items page item h.starts starts;
+  maps = All-push IsMap items item h.maps starts.map;
+  whole = All-push (λ i. base_of i % 1024 ≡ 0) items item h.whole (rw starts.base (omega arith));
+  moves = moves_push r page log items item pages h best.allowed starts bytes;
+  inside = All-push (λ p. (r.source ≤ p) × (p < page + 2 ^ log)) pages page (λ k d in_k. let i = h.inside k d in_k in (i.0, omega (arith, i.1))) (h.from, omega (arith, pow_pos log));
+  rising = all_pairs_push ◌<◌ pages page h.rising (λ k d in_k. (h.inside k d in_k).1);
+  apart = pages_push r page items pages h;
+}
+
+pub progress_end : (r : Region) (page : ℕ) (items : List Item) (pages : List ℕ) → Progress r page items pages → r.source + r.count ≤ page → IsPlan r items pages
+progress_end r page items pages h done =
+    let e : page - r.source ≡ r.count = omega (arith, h.to) in
+    record {
+      rival = record { maps = h.maps; moves = λ s t. subst (λ (n : ℕ). Any (λ item. ItemMoves item complete s t) items ↔ Shifts r.source r.target n s t) e (h.moves s t) };
+      starts = h.starts;
+      rising = h.rising;
+      certificate = record { inside = λ k d in_k. let i = h.inside k d in_k in (i.0, omega (arith, i.1, h.to)); apart = h.apart };
+    }

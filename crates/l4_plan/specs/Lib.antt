@@ -1,0 +1,3 @@
+pub mod Largest
+pub mod Plan
+pub mod Refusals

@@ -1,0 +1,60 @@
+-- What may be wrong with the items and the pages of a plan (own).
+use Rattle.std.specs.Prelude.{◌≡◌, ℕ, ◌+◌, ◌<◌, ◌≤◌, List, length, slice_index}
+use Rattle.std.specs.List.{Any, AllWithin, HoldsAt}
+use Rattle.l4_fpage.specs.Fpages.{rights_of}
+use Rattle.l4_msg.specs.Moves.{ItemMoves, RegionMoves, IsMap, fpage_of, complete}
+use Rattle.l4_msg.specs.Regions.{ShareBlock}
+use Rattle.l4_msg.specs.declared.items.Item.{Item}
+use Rattle.l4_msg.specs.declared.regions.Region.{Region}
+
+-- a map item with the region's rights, all of whose moves in a complete window are the region's
+pub record IsGoodItem (r : Region) (item : Item) : Type 0 where
+  pub map : IsMap item
+  pub rights : rights_of (fpage_of item) ≡ r.rights
+  pub moves : (source target : ℕ) → ItemMoves item complete source target → RegionMoves r source target
+
+-- the item at i is the first that is not good
+pub record IsFirstBad (r : Region) (items : List Item) (i : ℕ) : Type 0 where
+  pub place : i < length items
+  pub before : AllWithin (IsGoodItem r) items 0 i
+  pub bad : HoldsAt (λ item. IsGoodItem r item → ⊥) items i
+
+-- some item moves the page, wherever to
+abbrev pub IsMoved : List Item → ℕ → Type 0
+IsMoved items page = (target : ℕ) × Any (λ item. ItemMoves item complete page target) items
+
+-- each source page of the region is moved
+abbrev pub HasNoGap : Region → List Item → Type 0
+HasNoGap r items = (page : ℕ) → r.source ≤ page → page < r.source + r.count → IsMoved items page
+
+-- the least source page that no item moves
+pub record IsLeastGap (r : Region) (items : List Item) (page : ℕ) : Type 0 where
+  pub from : r.source ≤ page
+  pub below : page < r.source + r.count
+  pub before : (p : ℕ) → r.source ≤ p → p < page → IsMoved items p
+  pub gap : IsMoved items page → ⊥
+
+-- the page is a source page of the region
+pub record IsInside (r : Region) (page : ℕ) : Type 0 where
+  pub from : r.source ≤ page
+  pub below : page < r.source + r.count
+
+-- each page of the list is a source page of the region
+abbrev pub AreInside : Region → List ℕ → Type 0
+AreInside r pages = (k : ℕ) → k < length pages → IsInside r (slice_index pages k)
+
+-- the page at i is the first outside the source range
+pub record IsFirstOutside (r : Region) (pages : List ℕ) (i : ℕ) : Type 0 where
+  pub place : i < length pages
+  pub before : (k : ℕ) → k < i → IsInside r (slice_index pages k)
+  pub outside : IsInside r (slice_index pages i) → ⊥
+
+-- one allowed block holds the page at i and an earlier one
+abbrev pub HasPair : Region → List ℕ → ℕ → Type 0
+HasPair r pages i = (j : ℕ) × (j < i) × ShareBlock r (slice_index pages j) (slice_index pages i)
+
+-- the page at i is the first that one allowed block holds together with an earlier one
+pub record IsFirstPair (r : Region) (pages : List ℕ) (i : ℕ) : Type 0 where
+  pub place : i < length pages
+  pub before : (k : ℕ) → k < i → HasPair r pages k → ⊥
+  pub pair : HasPair r pages i

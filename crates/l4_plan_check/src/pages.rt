@@ -1,0 +1,74 @@
+ghost use Rattle.std.specs.Prelude.{◌≡◌, ℕ, ◌+◌, ◌-◌, ◌*◌, ◌^◌, ◌<◌, ◌≤◌, ◌↔◌, IsTrue, MatchOption, length, slice_index};
+ghost use Rattle.l4_msg.specs.Regions.{InSpace, ShareBlock};
+ghost use Rattle.l4_plan_check.specs.Claims.{IsInside, AreInside, IsFirstOutside, HasPair, IsFirstPair};
+
+use l4_fpage::Block;
+use l4_msg::Region;
+
+/// Whether the page is one of the region's source pages.
+fn is_inside(region: &Region, page: u32) -> bool
+    requires { InSpace region.now }
+    ensures { IsTrue result ↔ IsInside region.now page }
+{
+    page >= region.source && page < region.source + region.count
+}
+
+/// The place of the first page outside the region.
+pub fn first_outside(region: &Region, pages: &[u32]) -> Option<usize>
+    requires { InSpace region.now }
+    ensures { MatchOption result (AreInside region.now pages.now) (IsFirstOutside region.now pages.now) }
+{
+    for (i, page) in pages.iter().enumerate() {
+        if !is_inside(region, *page) {
+            return Some(i);
+        }
+    }
+    None
+}
+
+/// Whether one allowed block holds both pages.
+fn share_block(region: &Region, a: u32, b: u32) -> bool
+    requires space { InSpace region.now }
+    requires a { IsInside region.now a }
+    requires b { IsInside region.now b }
+    ensures { IsTrue result ↔ ShareBlock region.now a b }
+{
+    let block = Block::join(a, b);
+    let size = 1u32 << block.log;
+    if block.first < region.source {
+        return false;
+    }
+    if block.first + size > region.source + region.count {
+        return false;
+    }
+    (region.target + (block.first - region.source)) % size == 0
+}
+
+/// Whether one allowed block holds this page and an earlier one.
+fn has_pair(region: &Region, pages: &[u32], i: usize) -> bool
+    requires space { InSpace region.now }
+    requires inside { AreInside region.now pages.now }
+    requires place { i < length pages.now }
+    ensures { IsTrue result ↔ HasPair region.now pages.now i }
+{
+    for j in 0..i {
+        if share_block(region, pages[j], pages[i]) {
+            return true;
+        }
+    }
+    false
+}
+
+/// The first page that shares an allowed block with an earlier one.
+pub fn first_pair(region: &Region, pages: &[u32]) -> Option<usize>
+    requires space { InSpace region.now }
+    requires inside { AreInside region.now pages.now }
+    ensures { MatchOption result ((i : ℕ) → i < length pages.now → HasPair region.now pages.now i → ⊥) (IsFirstPair region.now pages.now) }
+{
+    for i in 0..pages.len() {
+        if has_pair(region, pages, i) {
+            return Some(i);
+        }
+    }
+    None
+}

@@ -1,0 +1,56 @@
+-- What lines claim of a region: that items are its plan, or that each plan is too long (own).
+use Rattle.std.specs.Prelude.{◌≡◌, ℕ, ◌^◌, ◌<◌, ◌≤◌, List, [], ◌∷◌, ◌++◌, length, Option, Some, None}
+use Rattle.std.specs.List.{AllZip}
+use Rattle.l4_msg.specs.Moves.{IsMap}
+use Rattle.l4_msg.specs.Words.{ItemReads}
+use Rattle.l4_msg.specs.declared.items.Item.{Item}
+use Rattle.l4_plan_lines.specs.Spelling.{tag_line, page_line, item_line, long_line}
+use Rattle.l4_plan_lines.specs.declared.claims.Claim.{Claim}
+use Rattle.l4_plan_lines.specs.declared.claims.Head.{Head}
+use Rattle.l4_plan_lines.specs.declared.claims.Head.TheVariants.{Plan, TooLong}
+
+abbrev pub IsTagLine : List ℕ → ℕ → Type 0
+IsTagLine line tag = (tag < 2 ^ 32) × (line ≡ tag_line tag)
+
+abbrev pub IsPageLine : List ℕ → ℕ → Type 0
+IsPageLine line page = (page < 2 ^ 32) × (line ≡ page_line page)
+
+-- the line spells two words and a page; the words are read as this map item
+pub record IsItemLine (line : List ℕ) (item : Item) (page : ℕ) : Type 0 where
+  pub first : ℕ
+  pub second : ℕ
+  pub first_word : first < 2 ^ 32
+  pub second_word : second < 2 ^ 32
+  pub page_word : page < 2 ^ 32
+  pub spelled : line ≡ item_line first second page
+  pub map : IsMap item
+  pub reads : ItemReads first second item
+
+-- line by line, an item and its page
+abbrev pub AreItemLines : List (List ℕ) → List Item → List ℕ → Type 0
+AreItemLines [] [] [] = Unit {0}
+AreItemLines (line ∷ lines) (item ∷ items) (page ∷ pages) = IsItemLine line item page × AreItemLines lines items pages
+AreItemLines lines items pages = ⊥
+
+-- the first line says which of the two is claimed, and each line after it adds an item or a page, up to 64
+abbrev pub IsClaim : List (List ℕ) → Option Head → List Item → List ℕ → Type 0
+IsClaim [] None items pages = (items ≡ []) × (pages ≡ [])
+IsClaim [] (Some head) items pages = ⊥
+IsClaim (line ∷ lines) None items pages = ⊥
+IsClaim (line ∷ lines) (Some (Plan tag)) items pages = IsTagLine line tag × AreItemLines lines items pages × (length pages ≤ 64)
+IsClaim (line ∷ lines) (Some TooLong) items pages = (line ≡ long_line) × (items ≡ []) × AllZip IsPageLine lines pages × (length pages ≤ 64)
+
+-- the lines are a claim, whole or so far
+abbrev pub IsBeginning : List (List ℕ) → Type 0
+IsBeginning lines = (head : Option Head) × (items : List Item) × (pages : List ℕ) × IsClaim lines head items pages
+
+-- a claim of lines becomes one of the line after them, too
+abbrev pub SaysMore : Claim → Claim → List ℕ → Type 0
+SaysMore old new line =
+    (lines : List (List ℕ)) → IsClaim lines old.head old.items.items old.pages.items
+    → IsClaim (lines ++ line ∷ []) new.head new.items.items new.pages.items
+
+-- with this line after them the lines of a claim are none
+abbrev pub SaysAll : Claim → List ℕ → Type 0
+SaysAll old line =
+    (lines : List (List ℕ)) → IsClaim lines old.head old.items.items old.pages.items → IsBeginning (lines ++ line ∷ []) → ⊥

@@ -1,0 +1,75 @@
+-- An input in lines, and its first wrong line (own).
+use Rattle.std.specs.Prelude.{◌≡◌, ◌≢◌, ℕ, ◌+◌, ◌<◌, ◌≤◌, ◌⊎◌, List, [], ◌∷◌, ◌++◌, length, Option, MatchOption, MatchBool}
+use Rattle.std.specs.Io.KnownBytes.{Consumes}
+use Rattle.std.specs.List.{All, flat_map}
+use Rattle.l4_plan_lines.specs.Spelling.{ended}
+use Rattle.l4_plan_lines.specs.Claims.{IsClaim, IsBeginning}
+use Rattle.l4_plan_lines.specs.declared.claims.Claim.{Claim}
+use Rattle.l4_plan_lines.specs.declared.input.Input.{Input}
+use Rattle.l4_plan_lines.specs.declared.input.WrongLine.{WrongLine}
+use Rattle.l4_plan_lines.specs.declared.input.LineFault.{LineFault}
+use Rattle.l4_plan_lines.specs.declared.input.LineFault.TheVariants.{BadTokens, LineTooLong, CutLine}
+
+abbrev pub HasNoNewline : List ℕ → Type 0
+HasNoNewline bytes = All (λ b. b ≢ 10) bytes
+
+-- the input is these lines, each with its newline, and a rest without one
+pub record Splits (input : List ℕ) (lines : List (List ℕ)) (rest : List ℕ) : Type 0 where
+  pub text : input ≡ flat_map ended lines ++ rest
+  pub whole : All HasNoNewline lines
+  pub cut : HasNoNewline rest
+
+-- the line with this number, from 1, where those before it are a claim so far
+pub record IsLine (lines : List (List ℕ)) (number : ℕ) : Type 0 where
+  pub before : List (List ℕ)
+  pub line : List ℕ
+  pub after : List (List ℕ)
+  pub split : lines ≡ before ++ line ∷ after
+  pub place : number ≡ length before + 1
+  pub good : IsBeginning before
+
+-- a whole line is wrong: it is over 4,096 bytes long, or after it the lines are no claim any more
+abbrev pub IsWrongWhole : List (List ℕ) → ℕ → LineFault → Type 0
+IsWrongWhole lines number CutLine = ⊥
+IsWrongWhole lines number LineTooLong = (l : IsLine lines number) × (4096 < length l.line)
+IsWrongWhole lines number BadTokens = (l : IsLine lines number) × (length l.line ≤ 4096) × (IsBeginning (l.before ++ l.line ∷ []) → ⊥)
+
+-- The first wrong line: the one that the input cuts, or a whole one. An empty input counts as one wrong line.
+abbrev pub IsFirstWrong : List (List ℕ) → List ℕ → ℕ → LineFault → Type 0
+IsFirstWrong lines rest number CutLine = IsBeginning lines × (0 < length rest) × (number ≡ length lines + 1)
+IsFirstWrong lines rest number LineTooLong = IsWrongWhole lines number LineTooLong
+IsFirstWrong lines rest number BadTokens = ((lines ≡ []) × (rest ≡ []) × (number ≡ 1)) ⊎ IsWrongWhole lines number BadTokens
+
+-- the input has this first wrong line
+pub record IsRefused (input : List ℕ) (wrong : WrongLine) : Type 0 where
+  pub lines : List (List ℕ)
+  pub rest : List ℕ
+  pub splits : Splits input lines rest
+  pub first : IsFirstWrong lines rest wrong.number wrong.fault
+
+-- the input is whole lines, one at least, that are this claim
+pub record IsWhole (input : List ℕ) (claim : Claim) : Type 0 where
+  pub lines : List (List ℕ)
+  pub splits : Splits input lines []
+  pub some : 0 < length lines
+  pub claimed : IsClaim lines claim.head claim.items.items claim.pages.items
+
+-- ---- what is kept of the input so far
+
+-- no line was wrong yet
+pub record IsGoing (s : Input) (lines : List (List ℕ)) (rest : List ℕ) : Type 0 where
+  pub claimed : IsClaim lines s.claim.head s.claim.items.items s.claim.pages.items
+  pub held : MatchBool s.is_too_long (4096 < length rest) (s.line.items ≡ rest)
+
+-- the input so far is as this says
+pub record Reflects (s : Input) (input : List ℕ) : Type 0 where
+  pub lines : List (List ℕ)
+  pub rest : List ℕ
+  pub splits : Splits input lines rest
+  pub state : MatchOption s.wrong (IsGoing s lines rest) (λ w. IsWrongWhole lines w.number w.fault)
+
+-- the reader gave these bytes, and the input reflects them
+pub record HasRead (before after : Option (List ℕ)) (s : Input) : Type 0 where
+  pub bytes : List ℕ
+  pub read : Consumes before after bytes
+  pub reflects : Reflects s bytes

@@ -1,0 +1,155 @@
+ghost use Rattle.std.specs.Prelude.{◌≡◌, ◌+◌, ◌≤◌, ◌<◌, ◌^◌, ◌↔◌, ◌++◌, ℕ, List, length, IsTrue, Some, codes};
+ghost use Rattle.std.specs.Fmt.{decimal};
+ghost use Rattle.l4_plan_lines.specs.Spelling.{ended};
+ghost use Rattle.l4_plan_lines.specs.Inputs.{Reflects, IsWhole};
+ghost use Rattle.l4_plan_lines.specs.Answers.{IsAnswer, IsTagOf, answer_line, wrong_line, wrong_code, fault_line, is_proved};
+
+use crate::claims::{Claim, Head};
+use crate::input::{Input, LineFault, WrongLine};
+use crate::spelling::{Text, push_bytes, push_number};
+use l4_msg::{MAX_ITEMS, Region};
+use l4_plan_check::{Fault, check, check_too_long};
+
+/// What is answered to an input.
+#[derive(Clone, Copy, PartialEq, Eq, Debug)]
+pub enum Answer {
+    /// A line is wrong.
+    Refused(WrongLine),
+    /// The claim has a fault.
+    Faulty(Fault),
+    /// It is a plan of so many items, and no list is shorter.
+    ProvedPlan(usize),
+    /// Each plan is too long.
+    ProvedTooLong,
+}
+
+/// Whether the tag is that of a message with so many map items, label 0 and no untyped words. Of more items than a
+/// message holds any tag passes.
+fn is_tag_of(tag: u32, items: usize) -> bool
+    ensures { IsTrue result ↔ IsTagOf tag items }
+{
+    if items > MAX_ITEMS {
+        return true;
+    }
+    tag == items as u32 * 128
+}
+
+/// The answer to a claim about a region.
+fn answer_claim(region: &Region, head: Head, claim: &Claim) -> Answer
+    requires { claim.now.head ≡ Some head }
+    ensures { (input : List ℕ) → IsWhole input claim.now → IsAnswer region.now input result }
+{
+    match head {
+        Head::Plan(tag) => {
+            if !is_tag_of(tag, claim.items.len()) {
+                return Answer::Refused(WrongLine {
+                    number: 1,
+                    fault: LineFault::BadTokens,
+                });
+            }
+            match check(region, claim.items.as_slice(), claim.pages.as_slice()) {
+                Ok(_) => Answer::ProvedPlan(claim.items.len()),
+                Err(fault) => Answer::Faulty(fault),
+            }
+        }
+        Head::TooLong => match check_too_long(region, claim.pages.as_slice()) {
+            Ok(_) => Answer::ProvedTooLong,
+            Err(fault) => Answer::Faulty(fault),
+        },
+    }
+}
+
+/// The answer to an input about a region.
+pub fn answer_input(region: &Region, input: Input) -> Answer
+    ensures { (text : List ℕ) → Reflects input text → IsAnswer region.now text result }
+{
+    match input.finish() {
+        Ok((head, claim)) => answer_claim(region, head, &claim),
+        Err(wrong) => Answer::Refused(wrong),
+    }
+}
+
+/// What is said of a wrong line, after its number.
+fn fault_words(fault: LineFault) -> &'static [u8]
+    ensures words { result.now ≡ wrong_code fault }
+    ensures few { length result.now ≤ 11 }
+{
+    match fault {
+        LineFault::BadTokens => b" refused S2",
+        LineFault::LineTooLong => b" refused S3",
+        LineFault::CutLine => b" refused S4",
+    }
+}
+
+/// Puts some words and a number after them at the end of the text.
+fn push_numbered(text: &mut Text, words: &[u8], number: u64)
+    requires room { length text.old.items ≤ 100 }
+    requires few { length words.now ≤ 10 }
+    ensures text { text.new.items ≡ text.old.items ++ (words.now ++ decimal number) }
+    ensures len { length text.new.items ≤ length text.old.items + 30 }
+{
+    push_bytes(text, words);
+    push_number(text, number);
+}
+
+/// Puts the line of a wrong line at the end of the text, without its newline.
+fn push_wrong(text: &mut Text, wrong: WrongLine)
+    requires { length text.old.items ≤ 100 }
+    ensures text { text.new.items ≡ text.old.items ++ wrong_line wrong }
+    ensures len { length text.new.items ≤ length text.old.items + 50 }
+{
+    push_numbered(text, b"line ", u64::from(wrong.number));
+    push_bytes(text, fault_words(wrong.fault));
+}
+
+/// Puts the line of a fault at the end of the text, without its newline.
+fn push_fault(text: &mut Text, fault: Fault)
+    requires { length text.old.items ≤ 100 }
+    ensures text { text.new.items ≡ text.old.items ++ fault_line fault }
+    ensures len { length text.new.items ≤ length text.old.items + 50 }
+{
+    match fault {
+        Fault::Item(i) => push_numbered(text, b"fault C1 ", i as u64),
+        Fault::Gap(page) => push_numbered(text, b"fault C2 ", u64::from(page)),
+        Fault::Page(i) => push_numbered(text, b"fault C3 ", i as u64),
+        Fault::Pair(i) => push_numbered(text, b"fault C4 ", i as u64),
+        Fault::Count => push_bytes(text, b"fault C5"),
+        Fault::Region => push_bytes(text, b"fault C6"),
+    }
+}
+
+/// Puts the line of an answer at the end of the text, without its newline.
+fn push_answer(text: &mut Text, answer: Answer)
+    requires { length text.old.items ≤ 100 }
+    ensures text { text.new.items ≡ text.old.items ++ answer_line answer }
+    ensures len { length text.new.items ≤ length text.old.items + 50 }
+{
+    match answer {
+        Answer::Refused(wrong) => push_wrong(text, wrong),
+        Answer::Faulty(fault) => push_fault(text, fault),
+        Answer::ProvedPlan(items) => push_numbered(text, b"proved ", items as u64),
+        Answer::ProvedTooLong => push_bytes(text, b"proved too-long"),
+    }
+}
+
+/// The line of an answer.
+pub fn answer_text(answer: Answer) -> Text
+    ensures { result.items ≡ ended (answer_line answer) }
+{
+    let mut text = Text::new();
+    push_answer(&mut text, answer);
+    text.push(b'\n');
+    text
+}
+
+impl Answer {
+    /// Whether the claim is proved.
+    pub fn is_proved(&self) -> bool
+        ensures { result ≡ is_proved self.now }
+    {
+        match self {
+            Answer::Refused(_) | Answer::Faulty(_) => false,
+            Answer::ProvedPlan(_) | Answer::ProvedTooLong => true,
+        }
+    }
+}

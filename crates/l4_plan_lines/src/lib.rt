@@ -1,0 +1,18 @@
+//! Plans and checks of plans as lines of text: what `l4 plan` prints, and what `l4 check` reads and answers.
+#![tactic(auto)]
+
+mod answers;
+mod checking;
+mod claims;
+mod input;
+mod planning;
+mod reading;
+mod spelling;
+mod writing;
+
+pub use checking::check_lines;
+pub use planning::plan_lines;
+pub use writing::RunFault;
+
+#[cfg(test)]
+mod tests;

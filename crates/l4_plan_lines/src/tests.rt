@@ -1,0 +1,185 @@
+use crate::{RunFault, check_lines, plan_lines};
+use l4_fpage::Rights;
+use l4_msg::Region;
+use std::io::{self, Read, Write};
+use std::test::Fail;
+
+/// A region with all rights.
+fn region(source: u32, target: u32, count: u32) -> Region {
+    Region {
+        source,
+        target,
+        count,
+        rights: Rights::all(),
+    }
+}
+
+/// Whether these lines are written for the plan of a region.
+fn is_planned(rt: &HostRuntime, region: &Region, lines: &[u8], plan: bool) -> Result<bool, Fail> {
+    let mut out = Vec::new(rt.alloc());
+    let answered = plan_lines(region, &mut out);
+    Ok(answered == Ok(plan) && out.as_slice() == lines)
+}
+
+/// Whether this line is answered to these lines about a region.
+fn is_answered(rt: &HostRuntime, region: &Region, lines: &[u8], line: &[u8]) -> Result<bool, Fail> {
+    let mut out = Vec::new(rt.alloc());
+    let mut reader = lines;
+    let proved = line.starts_with(b"proved");
+    let answered = check_lines(region, &mut reader, &mut out);
+    Ok(answered == Ok(proved) && out.as_slice() == line)
+}
+
+#[test]
+fn plans(rt: HostRuntime) -> Result<(), Fail> {
+    let one = b"tag 00000080\nitem 00020008 000100c7 page 16\n";
+    assert!(rt; is_planned(&rt, &region(16, 32, 1), one, true)?);
+    let two = b"tag 00000100\nitem 0000c009 000040e7 page 4\nitem 00010008 000080f7 page 8\n";
+    assert!(rt; is_planned(&rt, &region(4, 12, 12), two, true)?);
+    let whole = b"tag 00000080\nitem 00000008 00000017 page 0\n";
+    assert!(rt; is_planned(&rt, &region(0, 0, 1_048_576), whole, true)?);
+    assert!(rt; is_planned(&rt, &region(0, 0, 0), b"refused N1\n", false)?);
+    assert!(rt; is_planned(&rt, &region(1_048_575, 0, 2), b"refused N2\n", false)?);
+    let none = Region {
+        rights: Rights::of_bits(0),
+        ..region(0, 0, 1)
+    };
+    assert!(rt; is_planned(&rt, &none, b"refused N3\n", false)?);
+    Ok(())
+}
+
+#[test]
+fn checks(rt: HostRuntime) -> Result<(), Fail> {
+    let whole = region(4, 12, 12);
+    let two = b"tag 00000100\nitem 0000c009 000040e7 page 4\nitem 00010008 000080f7 page 8\n";
+    assert!(rt; is_answered(&rt, &whole, two, b"proved 2\n")?);
+    let read = Region {
+        rights: Rights::of_bits(4),
+        ..whole
+    };
+    assert!(rt; is_answered(&rt, &read, two, b"fault C1 0\n")?);
+    let one = b"tag 00000080\nitem 0000c008 000040e7 page 4\n";
+    assert!(rt; is_answered(&rt, &whole, one, b"fault C2 8\n")?);
+    let parted = b"tag 00000100\nitem 00000009 000000c7 page 0\nitem 00001008 000010c7 page 1\n";
+    assert!(rt; is_answered(&rt, &region(0, 0, 2), parted, b"fault C4 1\n")?);
+    let pages = b"tag 00000100\nitem 0000c009 000040e7 page 8\nitem 00010008 000080f7 page 9\n";
+    assert!(rt; is_answered(&rt, &whole, pages, b"fault C4 1\n")?);
+    let outside =
+        b"tag 00000100\nitem 0000c009 000040e7 page 4\nitem 00010008 000080f7 page 4294967295\n";
+    assert!(rt; is_answered(&rt, &whole, outside, b"fault C3 1\n")?);
+    assert!(rt; is_answered(&rt, &whole, b"too-long\npage 4\n", b"fault C5\n")?);
+    assert!(rt; is_answered(&rt, &region(4, 12, 0), two, b"fault C6\n")?);
+    Ok(())
+}
+
+#[test]
+fn refuses_wrong_lines(rt: HostRuntime) -> Result<(), Fail> {
+    let whole = region(4, 12, 12);
+    assert!(rt; is_answered(&rt, &whole, b"", b"line 1 refused S2\n")?);
+    assert!(rt; is_answered(&rt, &whole, b"tag 00000080", b"line 1 refused S4\n")?);
+    assert!(rt; is_answered(&rt, &whole, b"tag 0000008g\n", b"line 1 refused S2\n")?);
+    let tag = b"tag 00000080\nitem 0000c009 000040e7 page 4\nitem 00010008 000080f7 page 8\n";
+    assert!(rt; is_answered(&rt, &whole, tag, b"line 1 refused S2\n")?);
+    let zero = b"tag 00000080\nitem 0000c009 000040e7 page 04\n";
+    assert!(rt; is_answered(&rt, &whole, zero, b"line 2 refused S2\n")?);
+    let grant = b"tag 00000080\nitem 0000c00a 000040e7 page 4\n";
+    assert!(rt; is_answered(&rt, &whole, grant, b"line 2 refused S2\n")?);
+    let large = b"too-long\npage 4294967296\n";
+    assert!(rt; is_answered(&rt, &whole, large, b"line 2 refused S2\n")?);
+    let cut = b"too-long\npage x\npage";
+    assert!(rt; is_answered(&rt, &whole, cut, b"line 2 refused S2\n")?);
+    Ok(())
+}
+
+#[test]
+fn refuses_a_long_line(rt: HostRuntime) -> Result<(), Fail> {
+    let whole = region(4, 12, 12);
+    let mut line = Vec::new(rt.alloc());
+    for _ in 0..4096 {
+        line.push(b'x')?;
+    }
+    line.push(b'\n')?;
+    assert!(rt; is_answered(&rt, &whole, line.as_slice(), b"line 1 refused S2\n")?);
+    line.insert(0, b'x')?;
+    assert!(rt; is_answered(&rt, &whole, line.as_slice(), b"line 1 refused S3\n")?);
+    line.pop();
+    assert!(rt; is_answered(&rt, &whole, line.as_slice(), b"line 1 refused S4\n")?);
+    Ok(())
+}
+
+#[test]
+fn a_long_plan_is_written_and_proved(rt: HostRuntime) -> Result<(), Fail> {
+    for count in [31, 32] {
+        let whole = region(0, 1, count);
+        let mut out = Vec::new(rt.alloc());
+        assert_eq!(rt; plan_lines(&whole, &mut out), Ok(count == 31));
+        let answer = if count == 31 {
+            b"proved 31\n".as_slice()
+        } else {
+            b"proved too-long\n".as_slice()
+        };
+        assert!(rt; is_answered(&rt, &whole, out.as_slice(), answer)?);
+    }
+    Ok(())
+}
+
+#[test]
+fn refuses_the_first_line_past_64(rt: HostRuntime) -> Result<(), Fail> {
+    let whole = region(0, 1, 32);
+    let mut lines = Vec::new(rt.alloc());
+    lines.extend_from_slice(b"too-long\n")?;
+    for _ in 0..64 {
+        lines.extend_from_slice(b"page 7\n")?;
+    }
+    assert!(rt; is_answered(&rt, &whole, lines.as_slice(), b"fault C5\n")?);
+    lines.extend_from_slice(b"page 7\nx")?;
+    assert!(rt; is_answered(&rt, &whole, lines.as_slice(), b"line 66 refused S2\n")?);
+    Ok(())
+}
+
+/// A reader whose reads fail.
+#[derive(Drop)]
+struct Broken;
+
+impl Read for Broken {
+    fn read(&mut self, _buffer: &mut [u8]) -> io::Result<usize> {
+        Err(io::Error::from(io::ErrorKind::Other))
+    }
+}
+
+/// A writer that takes so many bytes, one at a time.
+#[derive(Drop)]
+struct Narrow(u8);
+
+impl Write for Narrow {
+    fn write(&mut self, bytes: &[u8]) -> io::Result<usize> {
+        if self.0 == 0 || bytes.is_empty() {
+            return Ok(0);
+        }
+        self.0 -= 1;
+        Ok(1)
+    }
+
+    fn flush(&mut self) -> io::Result<()> {
+        Ok(())
+    }
+}
+
+#[test]
+fn faults_of_reader_and_writer(rt: HostRuntime) -> Result<(), Fail> {
+    let whole = region(4, 12, 12);
+    let mut out = Vec::new(rt.alloc());
+    assert_eq!(rt;
+        check_lines(&whole, &mut Broken, &mut out),
+        Err(RunFault::Read)
+    );
+    assert!(rt; out.is_empty());
+    assert_eq!(rt; plan_lines(&whole, &mut Narrow(40)), Err(RunFault::Write));
+    assert_eq!(rt; plan_lines(&region(0, 0, 0), &mut Narrow(11)), Ok(false));
+    let mut reader = b"".as_slice();
+    assert_eq!(rt;
+        check_lines(&whole, &mut reader, &mut Narrow(3)),
+        Err(RunFault::Write)
+    );
+    Ok(())
+}
