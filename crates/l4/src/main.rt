@@ -1,0 +1,110 @@
+//! The program `l4`: answers scripts of kernel calls (`l4 --help`).
+//!
+//! Exit statuses: 0 at the end of the script, for a plan and for a proved one, 1 where there is no plan or it is not proved, 2 for a command line that is not understood, 3 where a
+//! read or a write failed, 4 for want of memory at the start.
+#![tactic(auto)]
+
+ghost use Rattle.std.specs.Prelude.{◌≤◌};
+
+use l4_msg::Region;
+use l4_plan_lines::{RunFault as PlanFault, check_lines, plan_lines};
+use l4_shell::{OptionFault, Options, RunFault, options, run};
+use std::alloc::AllocError;
+use std::io::ErrorKind;
+use std::process::ExitCode;
+use std::rt::Env;
+use std::{env, io};
+
+const NOT_PROVED: u8 = 1;
+
+const NOT_UNDERSTOOD: u8 = 2;
+
+const STREAM_FAILED: u8 = 3;
+
+const NO_MEMORY: u8 = 4;
+
+/// Says on standard error what went wrong, and answers the status to end with.
+fn failed(rt: &impl Eprint, text: &str, status: u8) -> u8 {
+    let _ = rt.eprintln(text);
+    status
+}
+
+/// Answers the script on standard input.
+fn answer_script<R: AllocGlobal + Input + Print + Eprint>(rt: &R, frames: u32) -> u8
+    requires some { 1 ≤ frames }
+    requires fit { frames ≤ 4096 }
+{
+    match run(rt.alloc(), frames, &mut rt.reader(), &mut io::writer(rt)) {
+        Ok(_) => 0,
+        Err(RunFault::Read) => failed(rt, "error: a read of standard input failed", STREAM_FAILED),
+        Err(RunFault::Write) => failed(
+            rt,
+            "error: a write to standard output failed",
+            STREAM_FAILED,
+        ),
+        Err(RunFault::Memory) => failed(rt, "error: out of memory", NO_MEMORY),
+    }
+}
+
+/// The status of a plan that was made or proved, was not, or met a fault of a stream.
+fn judged(rt: &impl Eprint, outcome: Result<bool, PlanFault>) -> u8 {
+    match outcome {
+        Ok(true) => 0,
+        Ok(false) => NOT_PROVED,
+        Err(PlanFault::Read) => failed(rt, "error: a read of standard input failed", STREAM_FAILED),
+        Err(PlanFault::Write) => failed(
+            rt,
+            "error: a write to standard output failed",
+            STREAM_FAILED,
+        ),
+        Err(PlanFault::Memory) => failed(rt, "error: out of memory", NO_MEMORY),
+    }
+}
+
+/// Plans a region.
+fn plan<R: Print + Eprint>(rt: &R, region: &Region) -> u8 {
+    judged(rt, plan_lines(region, &mut io::writer(rt)))
+}
+
+/// Checks the plan on standard input.
+fn check<R: Input + Print + Eprint>(rt: &R, region: &Region) -> u8 {
+    judged(
+        rt,
+        check_lines(region, &mut rt.reader(), &mut io::writer(rt)),
+    )
+}
+
+/// Does what these words ask for.
+fn obey<R: AllocGlobal + Input + Print + Eprint>(rt: &R, words: &[String]) -> u8 {
+    match options(rt.alloc(), words) {
+        Ok(Options::Run { frames }) => answer_script(rt, frames),
+        Ok(Options::Plan { region }) => plan(rt, &region),
+        Ok(Options::Check { region }) => check(rt, &region),
+        Ok(Options::Show(text)) => match rt.print(&text) {
+            Ok(_) => 0,
+            Err(_) => STREAM_FAILED,
+        },
+        Err(OptionFault::Memory) => failed(rt, "error: out of memory", NO_MEMORY),
+        Err(fault) => {
+            let _ = rt.eprintln(&fault);
+            NOT_UNDERSTOOD
+        }
+    }
+}
+
+/// Does what the command line asks for, and answers the status to end with.
+fn status<R: AllocGlobal + Env + Input + Print + Eprint>(rt: &R) -> u8 {
+    let words: Result<Vec<String>, AllocError> = match env::args(rt) {
+        Ok(args) => args.collect(rt.alloc()),
+        Err(error) if error.kind() == ErrorKind::OutOfMemory => Err(AllocError),
+        Err(_) => return failed(rt, "error: a word is not UTF-8", NOT_UNDERSTOOD),
+    };
+    match words {
+        Ok(words) => obey(rt, words.as_slice()),
+        Err(_) => failed(rt, "error: out of memory", NO_MEMORY),
+    }
+}
+
+fn main(rt: HostRuntime) -> ExitCode {
+    ExitCode::from(status(&rt))
+}

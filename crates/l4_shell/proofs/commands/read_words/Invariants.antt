@@ -1,0 +1,11 @@
+use Rattle.std.proofs.Common.{◌≡◌, ◌+◌, ◌++◌, length, option_map, length}
+use Rattle.arrayvec.specs.ArrayVec.{array_vec_len}
+use Rattle.l4_shell.specs.Tokens.{tokens_of}
+use Rattle.l4_shell.specs.Commands.{numbers_of}
+use Rattle.l4_shell.proofs.commands.read_words.Given as goal
+
+abbrev pub invariant-loop-count : goal.invariant-loop-count
+invariant-loop-count l =
+    (array_vec_len l.words ≡ l.count)
+    × (length (tokens_of l.line) ≡ l.count + length (tokens_of l.rest))
+    × (numbers_of (tokens_of l.line) ≡ option_map (λ ns. l.words.items ++ ns) (numbers_of (tokens_of l.rest)))

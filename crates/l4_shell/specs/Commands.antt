@@ -1,0 +1,96 @@
+-- What the tokens of a line ask for (this profile's own).
+use Rattle.std.specs.Prelude.{ℕ, Bool, true, false, List, [], ◌∷◌, length, nat_le, Option, Some, None, Result, Ok, Err, option_and_then, ok_or, if◌then◌else◌, codes}
+use Rattle.std.specs.Str.{bytes_eq}
+use Rattle.l4_shell.specs.declared.commands.Partner.{Partner}
+use Rattle.l4_shell.specs.declared.commands.Partner.TheVariants.{Nil, Any, Thread as One}
+use Rattle.l4_shell.specs.declared.commands.NewSpace.{NewSpace}
+use Rattle.l4_shell.specs.declared.commands.NewSpace.TheVariants.{New, Of}
+use Rattle.l4_shell.specs.declared.commands.Command.{Command}
+use Rattle.l4_shell.specs.declared.commands.Command.TheVariants.{Thread, Receive, Send, Show}
+use Rattle.l4_shell.specs.declared.commands.ScriptFault.{ScriptFault}
+use Rattle.l4_shell.specs.declared.commands.ScriptFault.TheVariants.{UnknownCommand, BadTokens}
+use Rattle.l4_shell.specs.Numbers.{thread_of, number_of}
+
+infixl 10 ◌>>=◌
+abbrev pub ◌>>=◌ : {A B : Type 0} → Option A → (A → Option B) → Option B
+o >>= f = option_and_then f o
+
+-- whether a token is this word
+abbrev pub is_word : List ℕ → List ℕ → Bool
+is_word word token = bytes_eq token word
+
+-- nil, or a thread's number
+unfoldable pub nil_or_thread_of : List ℕ → Option Partner
+nil_or_thread_of token = if is_word (codes "nil") token then Some Nil else (thread_of token >>= λ n. Some (One n))
+
+-- any, nil, or a thread's number
+unfoldable pub partner_of : List ℕ → Option Partner
+partner_of token = if is_word (codes "any") token then Some Any else nil_or_thread_of token
+
+-- new, or a thread's number
+unfoldable pub new_space_of : List ℕ → Option NewSpace
+new_space_of token = if is_word (codes "new") token then Some New else (thread_of token >>= λ n. Some (Of n))
+
+-- three tokens and no more
+abbrev pub three_of : List (List ℕ) → Option (List ℕ × (List ℕ × List ℕ))
+three_of [] = None
+three_of (a ∷ []) = None
+three_of (a ∷ b ∷ []) = None
+three_of (a ∷ b ∷ c ∷ []) = Some (a, (b, c))
+three_of (a ∷ b ∷ c ∷ d ∷ tokens) = None
+
+-- N SPACE PAGER
+unfoldable pub thread_asked : List (List ℕ) → Option Command
+thread_asked tokens = do
+  three ← three_of tokens
+  number ← thread_of three.0
+  space ← new_space_of three.1.0
+  pager ← nil_or_thread_of three.1.1
+  Some (Thread number space pager)
+
+-- N FROM WINDOW
+unfoldable pub receive_asked : List (List ℕ) → Option Command
+receive_asked tokens = do
+  three ← three_of tokens
+  number ← thread_of three.0
+  from ← partner_of three.1.0
+  window ← number_of three.1.1
+  Some (Receive number from window)
+
+-- N FIRST COUNT
+unfoldable pub show_asked : List (List ℕ) → Option Command
+show_asked tokens = do
+  three ← three_of tokens
+  number ← thread_of three.0
+  first ← number_of three.1.0
+  count ← number_of three.1.1
+  Some (Show number first count)
+
+-- the numbers that all tokens spell
+abbrev pub numbers_of : List (List ℕ) → Option (List ℕ)
+numbers_of [] = Some []
+numbers_of (token ∷ tokens) = number_of token >>= λ n. numbers_of tokens >>= λ ns. Some (n ∷ ns)
+
+-- at most 64 words
+unfoldable pub words_of : List (List ℕ) → Option (List ℕ)
+words_of tokens = if nat_le (length tokens) 64 then numbers_of tokens else None
+
+-- N TO WORD..
+abbrev pub send_asked : List (List ℕ) → Option Command
+send_asked [] = None
+send_asked (number ∷ []) = None
+send_asked (number ∷ to ∷ tokens) = do
+  n ← thread_of number
+  partner ← partner_of to
+  words ← words_of tokens
+  Some (Send n partner words)
+
+-- what the tokens of a line that has some ask for, or why they can't be read
+unfoldable pub command_of : List (List ℕ) → Result Command ScriptFault
+command_of [] = Err UnknownCommand
+command_of (name ∷ tokens) =
+    if is_word (codes "thread") name then ok_or (thread_asked tokens) BadTokens
+    else (if is_word (codes "recv") name then ok_or (receive_asked tokens) BadTokens
+    else (if is_word (codes "send") name then ok_or (send_asked tokens) BadTokens
+    else (if is_word (codes "show") name then ok_or (show_asked tokens) BadTokens
+    else Err UnknownCommand)))

@@ -1,0 +1,9 @@
+pub mod Answers
+pub mod Commands
+pub mod Lines
+pub mod Numbers
+pub mod Options
+pub mod Scripts
+pub mod Streams
+pub mod Texts
+pub mod Tokens

@@ -1,0 +1,88 @@
+//! What a command line asks for.
+use l4_msg::Region;
+use thiserror::Error;
+
+/// What the command line asks for.
+#[derive(Debug, Drop)]
+pub enum Options {
+    /// To answer a script over a machine with this many frames, 1 to 4,096.
+    Run { frames: u32 },
+    /// To print the shortest plan of this region, or why there is none.
+    Plan { region: Region },
+    /// To check the plan on standard input against this region.
+    Check { region: Region },
+    /// To print this text: the usage, or the version.
+    Show(String),
+}
+
+/// Why a command line is not understood.
+#[derive(Debug, Drop, Error)]
+pub enum OptionFault {
+    /// There was no memory to read it.
+    #[error("error: out of memory")]
+    Memory,
+    /// A word that is not known, or one too many or too few.
+    #[error("{0}")]
+    Words(String),
+    /// What stands for the number of frames is none from 1 to 4,096 in decimal digits.
+    #[error("error: invalid value '{0}' for '--frames <N>': it is no decimal number from 1 to 4096")]
+    Frames(String),
+    /// What stands for a page or a count is no number up to 4,294,967,295 in decimal digits.
+    #[error("error: invalid value '{0}': it is no decimal number up to 4294967295")]
+    Number(String),
+    /// What stands for rights is not r, w and x in turn, each of them or `-` or `_` in its place.
+    #[error("error: invalid value '{0}': it is not r, w and x in turn, each of them or _ in its place")]
+    Rights(String),
+}
+
+pub(crate) const ABOUT: &str = "An L4 X.2 kernel core in user space.";
+
+pub(crate) const PLAN: &str = "\
+The region is COUNT pages from page SOURCE on, which go to the pages from TARGET
+on with these rights. A plan is the shortest list of map items that moves just
+the region; each item has a page that shows why no list is shorter.
+
+  tag WORD                   the message tag
+  item WORD WORD page P      a map item, and its page
+  too-long                   every list has more than 31 items: 32 lines page P
+  refused N1                 the count is 0 (N2: beyond the space; N3: no rights)
+
+Exit status: 0 for a plan, 1 if there is none, 2 if the command line is not
+understood, 3 if a write failed.";
+
+pub(crate) const CHECK: &str = "\
+What 'l4 plan' printed is read on standard input, and judged anew: is it exactly
+the region, and is no list shorter?
+
+  proved K                   a plan of K items, and no list of map items is shorter
+  proved too-long            every list has more than 31 items
+  fault CODE                 what is wrong with the plan, with a number
+  line L refused CODE        line L is spelled wrong
+
+Exit status: 0 if it is proved, 1 if not, 2 if the command line is not
+understood, 3 if a read or a write failed.";
+
+pub(crate) const SCRIPT: &str = "\
+The script is read on standard input, and each line is answered on standard
+output. Tokens are parted by spaces. Empty lines, and lines that begin with #,
+are skipped.
+
+  thread N SPACE PAGER   root creates thread N, in a new space (SPACE is new) or
+                         in the space of a thread; PAGER is a thread or nil
+  recv N FROM WINDOW     N receives from a thread, from any, or from nil (which
+                         receives nothing); WINDOW is the word of an fpage: 0
+                         takes no pages, 0x10 takes pages anywhere
+  send N TO WORD..       N sends these words, the tag first, to a thread
+  show N FIRST COUNT     lists the present pages of N's space among the COUNT
+                         pages from FIRST on
+
+N is a thread's number, below 262144. Thread 1 is sigma0, which holds frame i at
+page i; thread 2 is root. Numbers are decimal, or hexadecimal after 0x.
+
+  N ipc TAG ERROR FROM WORD..      a call of N ended
+  transfer S R done                a message went from S to R
+  N waits                          the call goes on until a later line ends it
+  line L refused CODE              the line changed nothing
+
+Exit status: 0 at the end of the script, 2 if the command line is not
+understood, 3 if a read or a write failed, 4 if there is no memory.";

@@ -1,0 +1,251 @@
+//! What a script line asks for.
+ghost use Rattle.std.specs.Prelude.{◌≡◌};
+ghost use Rattle.std.specs.Prelude.{◌+◌, ◌≤◌, length, option_map};
+ghost use Rattle.l4_shell.specs.Tokens.{tokens_of};
+ghost use Rattle.l4_shell.specs.Commands.{nil_or_thread_of, partner_of, new_space_of, three_of, thread_asked, receive_asked, show_asked, send_asked, words_of, command_of};
+
+use crate::numbers::{number, thread_number};
+use crate::tokens::next_token;
+use arrayvec::ArrayVec;
+use std::marker::Model;
+
+/// The most words of a line, as many as there are message registers.
+pub(crate) const MOST_WORDS: usize = 64;
+
+/// Why a line can't be read.
+#[derive(Clone, Copy, Debug, PartialEq, Eq)]
+pub(crate) enum ScriptFault {
+    /// No such command (S1).
+    UnknownCommand,
+    /// The wrong number of tokens, or a token that can't be read (S2).
+    BadTokens,
+    /// More than 4,096 bytes before the newline (S3).
+    LineTooLong,
+    /// The input ends before the line's newline (S4).
+    CutLine,
+}
+
+/// The space of a new thread.
+#[derive(Clone, Copy, Debug, PartialEq, Eq)]
+pub(crate) enum NewSpace {
+    /// A new space.
+    New,
+    /// The space of the thread of this number.
+    Of(u32),
+}
+
+/// A thread, all threads or none.
+#[derive(Clone, Copy, Debug, PartialEq, Eq)]
+pub(crate) enum Partner {
+    Nil,
+    Any,
+    Thread(u32),
+}
+
+/// The words of a message, at most 64.
+#[derive(Drop)]
+pub(crate) struct Words {
+    words: ArrayVec<u32, 64>,
+}
+
+impl Model for Words {
+    ghost use Rattle.std.specs.Prelude.{ℕ, List};
+
+    ghost Value = { List ℕ };
+
+    ghost view = { λ a. a.words.items };
+}
+
+impl Words {
+    /// The words themselves.
+    pub(crate) fn into_registers(self) -> ArrayVec<u32, 64>
+        ensures { result.items ≡ self }
+    {
+        self.words
+    }
+}
+
+/// What a line asks for. Threads go by their numbers, below 2^18.
+#[derive(Drop)]
+pub(crate) enum Command {
+    /// Root creates a thread.
+    Thread {
+        number: u32,
+        space: NewSpace,
+        pager: Partner,
+    },
+    /// A thread receives, with this window.
+    Receive {
+        number: u32,
+        from: Partner,
+        window: u32,
+    },
+    /// A thread sends these words, the tag first.
+    Send {
+        number: u32,
+        to: Partner,
+        words: Words,
+    },
+    /// The present pages of a thread's space, among `count` from `first` on.
+    Show {
+        number: u32,
+        first: u32,
+        count: u32,
+    },
+}
+
+const NIL: &[u8] = b"nil";
+
+const ANY: &[u8] = b"any";
+
+const NEW: &[u8] = b"new";
+
+const THREAD: &[u8] = b"thread";
+
+const RECV: &[u8] = b"recv";
+
+const SEND: &[u8] = b"send";
+
+const SHOW: &[u8] = b"show";
+
+/// The tokens of a line of exactly three.
+fn three(line: &[u8]) -> Option<(&[u8], (&[u8], &[u8]))>
+    ensures { option_map (λ p. (p.0.now, (p.1.0.now, p.1.1.now))) result ≡ three_of (tokens_of line.now) }
+{
+    let (first, rest) = next_token(line)?;
+    let (second, rest) = next_token(rest)?;
+    let (third, rest) = next_token(rest)?;
+    match next_token(rest) {
+        None => Some((first, (second, third))),
+        Some(_) => None,
+    }
+}
+
+/// A thread's number, or the word `nil`.
+#[tactic(auto, unfolding(crate::specs::Commands::nil_or_thread_of))]
+fn nil_or_thread(token: &[u8]) -> Option<Partner>
+    ensures { result ≡ nil_or_thread_of token.now }
+{
+    if token == NIL {
+        return Some(Partner::Nil);
+    }
+    Some(Partner::Thread(thread_number(token)?))
+}
+
+/// A thread's number, or one of the words `nil` and `any`.
+#[tactic(auto, unfolding(crate::specs::Commands::partner_of))]
+fn any_or_thread(token: &[u8]) -> Option<Partner>
+    ensures { result ≡ partner_of token.now }
+{
+    if token == ANY {
+        return Some(Partner::Any);
+    }
+    nil_or_thread(token)
+}
+
+/// The word `new`, or a thread's number.
+#[tactic(auto, unfolding(crate::specs::Commands::new_space_of))]
+fn new_space(token: &[u8]) -> Option<NewSpace>
+    ensures { result ≡ new_space_of token.now }
+{
+    if token == NEW {
+        return Some(NewSpace::New);
+    }
+    Some(NewSpace::Of(thread_number(token)?))
+}
+
+/// `N SPACE PAGER`
+#[tactic(auto, unfolding(crate::specs::Commands::thread_asked))]
+fn thread(line: &[u8]) -> Option<Command>
+    ensures { result ≡ thread_asked (tokens_of line.now) }
+{
+    let (number, (space, pager)) = three(line)?;
+    Some(Command::Thread {
+        number: thread_number(number)?,
+        space: new_space(space)?,
+        pager: nil_or_thread(pager)?,
+    })
+}
+
+/// `N FROM WINDOW`
+#[tactic(auto, unfolding(crate::specs::Commands::receive_asked))]
+fn receive(line: &[u8]) -> Option<Command>
+    ensures { result ≡ receive_asked (tokens_of line.now) }
+{
+    let (number_token, (from, window)) = three(line)?;
+    Some(Command::Receive {
+        number: thread_number(number_token)?,
+        from: any_or_thread(from)?,
+        window: number(window)?,
+    })
+}
+
+/// `N FIRST COUNT`
+#[tactic(auto, unfolding(crate::specs::Commands::show_asked))]
+fn show(line: &[u8]) -> Option<Command>
+    ensures { result ≡ show_asked (tokens_of line.now) }
+{
+    let (number_token, (first, count)) = three(line)?;
+    Some(Command::Show {
+        number: thread_number(number_token)?,
+        first: number(first)?,
+        count: number(count)?,
+    })
+}
+
+/// At most 64 numbers, to the end of the line.
+fn read_words(line: &[u8]) -> Option<Words>
+    ensures { result ≡ words_of (tokens_of line.now) }
+{
+    let mut words = ArrayVec::new();
+    let mut rest = line;
+    for count in 0..MOST_WORDS {
+        match next_token(rest) {
+            None => return Some(Words { words }),
+            Some((token, after)) => {
+                words.push(number(token)?);
+                rest = after;
+            }
+        }
+    }
+    match next_token(rest) {
+        None => Some(Words { words }),
+        Some(_) => None,
+    }
+}
+
+/// `N TO WORD..`
+fn send(line: &[u8]) -> Option<Command>
+    ensures { result ≡ send_asked (tokens_of line.now) }
+{
+    let (number_token, rest) = next_token(line)?;
+    let (to, rest) = next_token(rest)?;
+    Some(Command::Send {
+        number: thread_number(number_token)?,
+        to: any_or_thread(to)?,
+        words: read_words(rest)?,
+    })
+}
+
+/// What the tokens of a line ask for.
+#[tactic(auto, unfolding(crate::specs::Commands::command_of))]
+pub(crate) fn read_command(line: &[u8]) -> Result<Command, ScriptFault>
+    ensures { result ≡ command_of (tokens_of line.now) }
+{
+    let Some((name, rest)) = next_token(line) else {
+        return Err(ScriptFault::UnknownCommand);
+    };
+    if name == THREAD {
+        return thread(rest).ok_or(ScriptFault::BadTokens);
+    }
+    if name == RECV {
+        return receive(rest).ok_or(ScriptFault::BadTokens);
+    }
+    if name == SEND {
+        return send(rest).ok_or(ScriptFault::BadTokens);
+    }
+    if name == SHOW {
+        return show(rest).ok_or(ScriptFault::BadTokens);
+    }
+    Err(ScriptFault::UnknownCommand)
+}

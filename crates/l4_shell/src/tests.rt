@@ -1,0 +1,148 @@
+use crate::{OptionFault, Options, RunFault, options, run};
+use std::io;
+use std::io::{Read, Write};
+use std::test::Fail;
+
+const SCRIPT: &[u8] =
+    b"thread 3 new nil\nrecv 3 any 0x10\nsend 1 3 0x00000080 0x00020008 0x000100c7\nshow 3 0 1048576\n";
+
+/// The answers to the first lines of the script: none, one, two and so on.
+const ANSWERS: [&[u8]; 5] = [
+    b"",
+    b"2 control ok\n",
+    b"2 control ok\n3 waits\n",
+    b"2 control ok\n3 waits\ntransfer 1 3 done\n1 ipc 00000000 0 nil\n3 ipc 00000080 0 1 00020008 000100c7\n",
+    b"2 control ok\n3 waits\ntransfer 1 3 done\n1 ipc 00000000 0 nil\n3 ipc 00000080 0 1 00020008 000100c7\npage 32 frame 16 rwx\nshown 1\n",
+];
+
+/// How many of these bytes are newlines.
+fn newlines(bytes: &[u8]) -> usize {
+    bytes.iter().filter(|b| **b == b'\n').count()
+}
+
+/// Gives one byte a call, and fails at a call.
+#[derive(Drop)]
+struct Drip<'a> {
+    bytes: &'a [u8],
+    calls: usize,
+}
+
+impl Read for Drip<'_> {
+    fn read(&mut self, buf: &mut [u8]) -> io::Result<usize> {
+        if self.calls == 0 || buf.is_empty() {
+            return Err(io::Error::from(io::ErrorKind::Other));
+        }
+        self.calls -= 1;
+        match self.bytes.split_first() {
+            Some((first, rest)) => {
+                buf[0] = *first;
+                self.bytes = rest;
+                Ok(1)
+            }
+            None => Ok(0),
+        }
+    }
+}
+
+/// Takes one byte a call, and fails at a call.
+#[derive(Drop)]
+struct Sip {
+    taken: Vec<u8>,
+    calls: usize,
+}
+
+impl Write for Sip {
+    fn write(&mut self, buf: &[u8]) -> io::Result<usize> {
+        if self.calls == 0 {
+            return Err(io::Error::from(io::ErrorKind::Other));
+        }
+        self.calls -= 1;
+        match buf.first() {
+            Some(first) => {
+                self.taken.push(*first)?;
+                Ok(1)
+            }
+            None => Ok(0),
+        }
+    }
+
+    fn flush(&mut self) -> io::Result<()> {
+        Ok(())
+    }
+}
+
+#[test]
+fn answers_a_script(rt: HostRuntime) -> Result<(), Fail> {
+    let mut written = Vec::new(rt.alloc());
+    let mut script = SCRIPT;
+    assert_eq!(rt; run(rt.alloc(), 256, &mut script, &mut written), Ok(4));
+    assert!(rt; Some(&written.as_slice()) == ANSWERS.last());
+    Ok(())
+}
+
+#[test]
+fn a_failing_read_loses_no_answer(rt: HostRuntime) -> Result<(), Fail> {
+    for calls in 0..SCRIPT.len() + 1 {
+        let mut reader = Drip {
+            bytes: SCRIPT,
+            calls,
+        };
+        let mut written = Vec::new(rt.alloc());
+        let result = run(rt.alloc(), 256, &mut reader, &mut written);
+        assert_eq!(rt; result, Err(RunFault::Read), "at {calls}");
+        let whole = newlines(SCRIPT.get(..calls).ok_or("no front")?);
+        let owed = ANSWERS.get(whole).ok_or("no answers")?;
+        assert!(rt; written.as_slice() == *owed, "at {calls}");
+    }
+    Ok(())
+}
+
+#[test]
+fn a_failing_write_leaves_a_beginning(rt: HostRuntime) -> Result<(), Fail> {
+    let whole = ANSWERS.last().ok_or("no answers")?;
+    for calls in 0..whole.len() {
+        let mut writer = Sip {
+            taken: Vec::new(rt.alloc()),
+            calls,
+        };
+        let mut script = SCRIPT;
+        let result = run(rt.alloc(), 256, &mut script, &mut writer);
+        assert_eq!(rt; result, Err(RunFault::Write), "at {calls}");
+        assert!(rt;
+            whole.get(..calls) == Some(writer.taken.as_slice()),
+            "at {calls}"
+        );
+    }
+    Ok(())
+}
+
+#[test]
+fn reads_the_command_line(rt: HostRuntime) -> Result<(), Fail> {
+    for (word, frames) in [("1", 1), ("4096", 4096), ("007", 7)] {
+        let words = ["l4", "run", "--frames", word];
+        let Ok(Options::Run { frames: got }) = options(rt.alloc(), words.as_slice()) else {
+            return Err("not understood".into());
+        };
+        assert_eq!(rt; got, frames);
+    }
+    let words = ["l4", "run"];
+    assert!(rt;
+        matches!(
+            options(rt.alloc(), words.as_slice()),
+            Ok(Options::Run { frames: 256 })
+        )
+    );
+    for word in ["0", "4097", "+5", "0x10", ""] {
+        let words = ["l4", "run", "--frames", word];
+        assert!(rt;
+            matches!(
+                options(rt.alloc(), words.as_slice()),
+                Err(OptionFault::Frames(_))
+            ),
+            "{word}"
+        );
+    }
+    let words = ["l4", "--help"];
+    assert!(rt; matches!(options(rt.alloc(), words.as_slice()), Ok(Options::Show(_))));
+    Ok(())
+}
