@@ -1,12 +1,12 @@
 -- A delivery, page by page.
-use Rattle.std.proofs.Common.{◌≡◌, ◌≢◌, ℕ, ◌⊎◌, ◌↔◌, Option, Some, None, List, [], ◌∷◌, IsTrue, is_some, inl, inr, refl, sym, ap, ◌∙◌, subst}
-use Rattle.l4_fpage.specs.Rights.{RightsSet, no_rights}
+use Rattle.std.proofs.Common.{◌≡◌, ◌≢◌, ◌⊎◌, Option, Some, None, IsTrue, is_some, inl, inr, refl, sym, ap, ◌∙◌, subst}
+use Rattle.l4_fpage.specs.Rights.{no_rights}
 use Rattle.l4_mapdb.specs.declared.Place.{Place}
 use Rattle.l4_mapdb.specs.declared.Mapping.{Mapping}
 use Rattle.l4_mapdb.specs.Mappings.{Mappings, shown, IsForest, IsOrDescends}
 use Rattle.l4_mapdb.specs.Flat.{EveryParentIn}
 use Rattle.l4_mapdb.specs.Losing.{IsLeft}
-use Rattle.l4_mapdb.specs.Transfer.{PageMove, StandsAt, ParentLater, IsGone, Becomes, IsCut, Transfers}
+use Rattle.l4_mapdb.specs.Transfer.{PageMove, StandsAt, ParentLater, Becomes, IsCut, Transfers}
 use Rattle.l4_mapdb.proofs.Flat.{none_below, no_parent_in}
 use Rattle.l4_mapdb.proofs.Unique.{same_rights}
 use Rattle.l4_ipc.specs.Bringing.{IsBrought, BringsPages}

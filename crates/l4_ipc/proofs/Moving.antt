@@ -1,5 +1,5 @@
 -- What one map item of a message moves, as the kernel and as the mapping database say it.
-use Rattle.std.proofs.Common.{◌≡◌, ◌≢◌, ℕ, zero, suc, ◌↔◌, Option, Bool, false, true, List, [], ◌∷◌, Some, None, IsTrue, refl, sym, ap, ◌∙◌, subst, slice_get, slice_index_or, length, ◌<◌, ◌≤◌, ◌⊎◌, inl, inr, arith}
+use Rattle.std.proofs.Common.{◌≡◌, ◌≢◌, ℕ, zero, suc, ◌↔◌, Option, false, List, [], ◌∷◌, Some, None, refl, sym, ap, ◌∙◌, subst, slice_get, slice_index_or, length, ◌<◌, ◌≤◌, inl, inr, arith}
 use Rattle.std.proofs.lemmas.Bool.{false≢true}
 use Rattle.l4_fpage.specs.Rights.{RightsSet, common}
 use Rattle.l4_fpage.specs.Fpages.{rights_of}
@@ -16,8 +16,8 @@ use Rattle.l4_mapdb.proofs.Along.{transfers_along, entangled_along, nothing_move
 use Rattle.l4_mapdb.proofs.Flat.{the_item, not_entangled, no_parent_in}
 use Rattle.l4_ipc.specs.Delivering.{CanDeliver, IsOneMap}
 use Rattle.l4_ipc.specs.declared.steps.Outcome.{Outcome}
-use Rattle.l4_ipc.specs.declared.steps.Outcome.TheVariants.{Done, NoMemory, NoWindow}
-use Rattle.l4_ipc.specs.Moving.{IsUsedBy, Moves, LacksWindow}
+use Rattle.l4_ipc.specs.declared.steps.Outcome.TheVariants.{Done, NoMemory}
+use Rattle.l4_ipc.specs.Moving.{IsUsedBy, Moves}
 
 -- a message without items moves nothing
 pub moves_none : (s : Mappings) (from to : ℕ) (items : List Item) (window : Fpage) → items ≡ [] → IsForest s → Moves s from to items window Done s

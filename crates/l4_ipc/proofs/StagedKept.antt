@@ -1,5 +1,5 @@
 -- The kernel keeps what it keeps as long as calls are put off.
-use Rattle.std.proofs.Common.{◌≡◌, ◌≢◌, ℕ, ◌+◌, ◌<◌, ◌==◌, ◌&&◌, ◌||◌, not, Bool, true, false, if◌then◌else◌, Option, Some, None, List, [], ◌∷◌, Result, Ok, Err, IsTrue, refl, sym, ap, ◌∙◌, subst, inl, inr, ◌⊎◌, nat_lt, length, slice_get, zero, suc, option_and_then, is_some, cond, eq-eqb, arith}
+use Rattle.std.proofs.Common.{◌≡◌, ◌≢◌, ℕ, ◌+◌, ◌<◌, ◌==◌, ◌&&◌, ◌||◌, not, Bool, true, false, if◌then◌else◌, Option, Some, None, List, [], ◌∷◌, Result, Ok, Err, IsTrue, refl, sym, ap, ◌∙◌, subst, inl, inr, ◌⊎◌, nat_lt, length, slice_get, zero, suc, option_and_then, is_some, eq-eqb, arith}
 use Rattle.std.specs.Option.{option_map_or, option_map}
 use Rattle.std.specs.Ordering.{nat_cmp, eq_by_cmp}
 use Rattle.std.specs.Cmp.{unsigned_tied, nat_cmp_total}
@@ -11,15 +11,13 @@ use Rattle.l4_fpage.specs.declared.fpages.Fpage.{Fpage}
 use Rattle.l4_msg.specs.Moves.{is_grant}
 use Rattle.l4_msg.specs.declared.items.Item.{Item}
 use Rattle.l4_mapdb.specs.declared.Place.{Place}
-use Rattle.l4_mapdb.specs.declared.Mapping.{Mapping}
-use Rattle.l4_mapdb.specs.Mappings.{Mappings, shown, IsForest}
+use Rattle.l4_mapdb.specs.Mappings.{Mappings, IsForest}
 use Rattle.l4_mapdb.specs.Boot.{IsFirst}
-use Rattle.l4_mapdb.specs.Flat.{EveryParentIn, NoParentIn}
+use Rattle.l4_mapdb.specs.Flat.{EveryParentIn}
 use Rattle.l4_mapdb.specs.Transfer.{PageMove, StandsAt, ParentLater, Transfers}
 use Rattle.l4_mapdb.proofs.Flat.{first_parents}
 use Rattle.l4_threads.specs.declared.Later.{Later}
 use Rattle.l4_threads.specs.declared.Receiving.{Receiving}
-use Rattle.l4_threads.specs.declared.Reply.{Reply}
 use Rattle.l4_threads.specs.declared.Reply.TheVariants.{Controlled}
 use Rattle.l4_threads.specs.declared.Sending.{Sending}
 use Rattle.l4_threads.specs.declared.Source.TheVariants.{Anyone, Thread as One}
@@ -29,7 +27,7 @@ use Rattle.l4_threads.specs.declared.Thread.{Thread}
 use Rattle.l4_threads.specs.declared.ThreadId.{ThreadId}
 use Rattle.l4_threads.specs.declared.ThreadFault.{ThreadFault}
 use Rattle.l4_threads.specs.declared.ThreadFault.TheVariants.{NoPrivilege, BadId, Taken, Unknown, Full}
-use Rattle.l4_threads.specs.Threads.{Threads, pair_cmp, thread_at, state_of, space_of, named, number_of, runs, is_running, failed, with_state, nilthread, first_threads, end_call}
+use Rattle.l4_threads.specs.Threads.{Threads, pair_cmp, thread_at, space_of, named, number_of, runs, is_running, failed, with_state, nilthread, first_threads, end_call}
 use Rattle.l4_threads.specs.Control.{create_test, created, asks_new, is_privileged, is_bad_id, is_full, space_for}
 use Rattle.l4_ipc.specs.declared.calls.Call.{Call}
 use Rattle.l4_ipc.specs.declared.calls.Call.TheVariants.{Ipc, Fault, Unmap, Control as Controls}
@@ -46,11 +44,11 @@ use Rattle.l4_ipc.specs.declared.steps.Step.{Step}
 use Rattle.l4_ipc.specs.declared.steps.Step.TheVariants.{Start, Transfer, Expire}
 use Rattle.l4_ipc.specs.Machine.{Machine, machine}
 use Rattle.l4_ipc.specs.Start.{has_send, has_receive, ipc_next, going_on, later_of, partner, send_timeout, enters}
-use Rattle.l4_ipc.specs.Moving.{IsUsedBy, Used, Moves}
+use Rattle.l4_ipc.specs.Moving.{Used, Moves}
 use Rattle.l4_ipc.specs.Stages.{puts_off_items, puts_off_ipc, has_zero_timeout, IsNotYet, StepsYet}
 use Rattle.l4_ipc.specs.Staged.{AreStaged, IsStaged}
 use Rattle.l4_ipc.specs.Delivering.{CanDeliver, IsOneMap}
-use Rattle.l4_ipc.specs.Steps.{Meets, receiver_reply, sender_next, after_transfer, is_done, expiry, with_space, Steps}
+use Rattle.l4_ipc.specs.Steps.{Meets, receiver_reply, sender_next, is_done, expiry, with_space, Steps}
 use Rattle.l4_ipc.specs.Bringing.{BringsPages, BringsMessage}
 use Rattle.l4_ipc.proofs.Bringing.{brings}
 use Rattle.l4_ipc.proofs.Threads.{put_at, put_here, put_there, state_at, state_there, same_next}

@@ -1,8 +1,7 @@
 -- Starts, as the machine says them.
-use Rattle.std.proofs.Common.{◌≡◌, ◌≢◌, ℕ, ◌==◌, ◌&&◌, ◌||◌, Bool, true, false, if◌then◌else◌, not, Option, Some, None, List, [], ◌∷◌, Result, Ok, Err, MatchOption, IsTrue, IsSome, refl, sym, ap, ◌∙◌, subst, inl, inr, ◌⊎◌}
+use Rattle.std.proofs.Common.{◌≡◌, ◌≢◌, ℕ, ◌==◌, Bool, true, false, if◌then◌else◌, not, Option, Some, None, [], ◌∷◌, Ok, MatchOption, IsTrue, IsSome, refl, sym, ap, ◌∙◌, subst, inr}
 use Rattle.std.specs.Option.{option_map_or, option_map}
 use Rattle.std.proofs.lemmas.Bool.{false≢true}
-use Rattle.std.specs.FinMap as fin
 use Rattle.l4_fpage.specs.declared.fpages.Fpage.{Fpage}
 use Rattle.l4_mapdb.specs.Mappings.{Mappings}
 use Rattle.l4_threads.specs.declared.Later.{Later}
@@ -29,7 +28,7 @@ use Rattle.l4_ipc.specs.declared.steps.Refused.{Refused}
 use Rattle.l4_ipc.specs.declared.steps.Refused.TheVariants.{UnknownThread}
 use Rattle.l4_ipc.specs.declared.steps.Step.TheVariants.{Start, Expire}
 use Rattle.l4_ipc.specs.Machine.{Machine, machine}
-use Rattle.l4_ipc.specs.Start.{IsAccepted, CallRefuses, RefusesIn, StartRefuses, ipc_next, going_on, receiving, enters, ended_by, CanEnter}
+use Rattle.l4_ipc.specs.Start.{IsAccepted, CallRefuses, RefusesIn, StartRefuses, ipc_next, going_on, enters, ended_by, CanEnter}
 use Rattle.l4_ipc.specs.Stages.{puts_off_ipc, StepsYet}
 use Rattle.l4_ipc.specs.Steps.{expiry, Meets, sender_next}
 use Rattle.l4_ipc.proofs.Threads.{running_thread, put_there, has_state, state_other}

@@ -1,6 +1,6 @@
 -- What the items of a message do to the mappings when it is delivered. (L4 X.2 manual: map and grant items; that a message which
 -- contradicts itself moves nothing is this profile's own.)
-use Rattle.std.specs.Prelude.{◌≡◌, ◌≢◌, ℕ, Bool, true, false, List, [], Some, slice_get}
+use Rattle.std.specs.Prelude.{◌≡◌, ◌≢◌, ℕ, List, [], Some, slice_get}
 use Rattle.l4_fpage.specs.Rights.{common, no_rights}
 use Rattle.l4_fpage.specs.Fpages.{rights_of}
 use Rattle.l4_fpage.specs.declared.fpages.Fpage.{Fpage}

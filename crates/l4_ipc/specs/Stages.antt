@@ -1,5 +1,5 @@
 -- What is put off: these calls are refused as NotYet, as one case in front of the machine's. (this profile's own)
-use Rattle.std.specs.Prelude.{◌≡◌, ℕ, ◌==◌, ◌&&◌, ◌||◌, not, nat_lt, ◌⊎◌, Bool, true, false, List, [], ◌∷◌, length, IsTrue, Some, Result, Ok, Err}
+use Rattle.std.specs.Prelude.{◌≡◌, ℕ, ◌==◌, ◌&&◌, ◌||◌, not, nat_lt, ◌⊎◌, Bool, false, List, [], ◌∷◌, length, IsTrue, Result, Ok, Err}
 use Rattle.l4_fpage.specs.declared.fpages.Fpage.{Fpage}
 use Rattle.l4_msg.specs.Moves.{is_grant}
 use Rattle.l4_msg.specs.declared.items.Item.{Item}

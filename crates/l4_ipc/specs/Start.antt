@@ -1,6 +1,6 @@
 -- How a call starts: each refusal in its order, and what the caller does next.
 -- (L4 X.2 manual: Ipc, Unmap, ThreadControl and the page fault protocol; the timeouts, the fault label and the ErrorCodes are this profile's own.)
-use Rattle.std.specs.Prelude.{◌≡◌, ℕ, ◌+◌, ◌*◌, ◌/◌, ◌%◌, ◌^◌, ◌==◌, ◌&&◌, ◌||◌, not, ◌⊎◌, Bool, true, false, if◌then◌else◌, List, [], ◌∷◌, take, Option, Some, None, option_and_then, MatchOption, IsSome, IsTrue, Result, Ok, Err}
+use Rattle.std.specs.Prelude.{◌≡◌, ℕ, ◌+◌, ◌/◌, ◌%◌, ◌^◌, ◌==◌, ◌&&◌, ◌||◌, not, ◌⊎◌, Bool, true, false, if◌then◌else◌, List, [], ◌∷◌, take, Option, Some, None, option_and_then, MatchOption, IsSome, IsTrue, Err}
 use Rattle.std.specs.Option.{option_map_or}
 use Rattle.l4_fpage.specs.Rights.{RightsSet, is_none, without, all_rights}
 use Rattle.l4_fpage.specs.declared.fpages.Fpage.{Fpage}
@@ -8,7 +8,6 @@ use Rattle.l4_fpage.specs.declared.fpages.Fpage.TheVariants.{Nil, Complete}
 use Rattle.l4_msg.specs.Tags.{untyped_of, typed_of}
 use Rattle.l4_msg.specs.Words.{WindowReads, IsBadWindow}
 use Rattle.l4_msg.specs.Messages.{MessageReads, MessageFails, tag_of}
-use Rattle.l4_msg.specs.declared.items.Item.{Item}
 use Rattle.l4_msg.specs.declared.messages.Message.{Message}
 use Rattle.l4_msg.specs.declared.messages.MsgFault.{MsgFault}
 use Rattle.l4_msg.specs.declared.messages.MsgFault.TheVariants.{BadWindow}
@@ -28,10 +27,9 @@ use Rattle.l4_ipc.specs.declared.calls.Call.TheVariants.{Ipc, Fault, Unmap, Cont
 use Rattle.l4_ipc.specs.declared.calls.IpcCall.{IpcCall}
 use Rattle.l4_ipc.specs.declared.calls.FaultCall.{FaultCall}
 use Rattle.l4_ipc.specs.declared.calls.Control.TheVariants.{Create, SetPager, Delete}
-use Rattle.l4_ipc.specs.declared.steps.Lower.{Lower as LowerRefusal}
-use Rattle.l4_ipc.specs.declared.steps.Lower.TheVariants.{Message as LowerMessage, Unmap as LowerUnmap, Thread as LowerThread, NoMemory as LowerNoMemory}
+use Rattle.l4_ipc.specs.declared.steps.Lower.TheVariants.{Message as LowerMessage, Unmap as LowerUnmap, Thread as LowerThread}
 use Rattle.l4_ipc.specs.declared.steps.Refused.{Refused}
-use Rattle.l4_ipc.specs.declared.steps.Refused.TheVariants.{NotEnabled, UnknownThread, Busy, BadTimeout, Lower, BadFrames, NotYet}
+use Rattle.l4_ipc.specs.declared.steps.Refused.TheVariants.{UnknownThread, Busy, BadTimeout, Lower}
 use Rattle.l4_ipc.specs.declared.next.Next.{Next}
 use Rattle.l4_ipc.specs.declared.next.Next.TheVariants.{Ends, Sends, Receives}
 use Rattle.l4_ipc.specs.declared.sent.Sent.{Sent}

@@ -255,6 +255,16 @@ fn refusals(rt: HostRuntime) -> Result<(), Fail> {
             create(2, FOURTH, ThreadId(0x4002)),
             thread(ThreadFault::Unknown),
         ),
+        // The call is put off, and has another refusal, which comes first.
+        (
+            ipc(2, THIRD, ANYBODY, 0, 0x20, &[0]),
+            message(MsgFault::BadWindow),
+        ),
+        (
+            ipc(2, THIRD, ANYBODY, 0x0001_0000, 0, &[0]),
+            Refused::BadTimeout,
+        ),
+        (create(1, FOURTH, ROOT), thread(ThreadFault::NoPrivilege)),
     ];
     for (step, want) in &cases {
         assert_eq!(rt; kernel.step(step).err(), Some(*want));

@@ -1,12 +1,12 @@
 -- The effect of a delivery depends on which moves are used, and not on how that is said.
-use Rattle.std.proofs.Common.{◌≡◌, ◌≢◌, Bool, Option, Some, None, IsTrue, ◌⊎◌, inl, inr, ◌↔◌, refl, sym, ap, ◌∙◌}
-use Rattle.l4_fpage.specs.Rights.{Right, has, no_rights}
+use Rattle.std.proofs.Common.{◌≡◌, Option, Some, None, inl, inr, refl, sym, ap, ◌∙◌}
+use Rattle.l4_fpage.specs.Rights.{Right, no_rights}
 use Rattle.l4_mapdb.specs.declared.Place.{Place}
 use Rattle.l4_mapdb.specs.declared.Mapping.{Mapping}
-use Rattle.l4_mapdb.specs.Mappings.{Mappings, shown, Descends}
+use Rattle.l4_mapdb.specs.Mappings.{Mappings, shown}
 use Rattle.l4_mapdb.specs.Losing.{IsLeft, LosesRights}
 use Rattle.l4_mapdb.proofs.Unique.{same_rights}
-use Rattle.l4_mapdb.specs.Transfer.{PageMove, IsGranted, SharesTarget, GrantsTwice, ReplacesSource, IsEntangled, IsGone, StandsAt, ParentLater, IsMapped, IsHandedOver, Stays, Becomes, Moved, IsCut, Transfers}
+use Rattle.l4_mapdb.specs.Transfer.{PageMove, IsGranted, IsEntangled, IsGone, StandsAt, ParentLater, Becomes, IsCut, Transfers}
 
 module _ (Used Other : PageMove → Type 0) (to : (move : PageMove) → Used move → Other move) (back : (move : PageMove) → Other move → Used move) where
   granted_along : (place : Place) → IsGranted Other place → IsGranted Used place

@@ -1,9 +1,9 @@
 -- The lines of a script, counted one by one.
-use Rattle.std.proofs.Common.{◌≡◌, ℕ, ◌+◌, ◌-◌, ◌*◌, ◌==◌, ◌<◌, ◌≤◌, zero, suc, Bool, true, false, cond, List, [], ◌∷◌, ◌++◌, length, take, Option, Some, None, Ok, sym, ap, subst, ◌∙◌, refl, arith, length-take}
+use Rattle.std.proofs.Common.{◌≡◌, ℕ, ◌+◌, ◌-◌, ◌==◌, ◌<◌, ◌≤◌, suc, Bool, true, false, cond, List, [], ◌∷◌, ◌++◌, length, take, Option, Some, None, Ok, sym, ap, subst, ◌∙◌, refl, arith, length-take}
 use Rattle.std.specs.Io.KnownBytes.{Consumes, IsAtEnd}
 use Rattle.std.proofs.lemmas.List.{append-nil}
 use mathlib.Core.List.{append_assoc}
-use Rattle.l4_shell.specs.Lines.{NoNewline, ScriptLine, in_front, lines_of, Takes, TakesLine, TakesRest, GivesLine, left_of}
+use Rattle.l4_shell.specs.Lines.{NoNewline, in_front, lines_of, TakesLine, TakesRest, GivesLine, left_of}
 use Rattle.l4_shell.specs.declared.lines.Ending.{Ending}
 use Rattle.l4_shell.specs.declared.lines.Ending.TheVariants.{Whole, Long, Cut}
 use Rattle.l4_shell.specs.contracts.lines.Ending.{the_type}

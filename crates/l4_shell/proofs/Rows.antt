@@ -1,5 +1,5 @@
 -- Words in a row.
-use Rattle.std.proofs.Common.{◌≡◌, ℕ, ◌+◌, ◌<◌, List, [], ◌∷◌, ◌++◌, length, take, get_or, sym, ap, ◌∙◌, refl, arith, zero, suc}
+use Rattle.std.proofs.Common.{◌≡◌, ℕ, ◌+◌, ◌<◌, List, [], ◌∷◌, ◌++◌, length, take, get_or, sym, ap, ◌∙◌, refl}
 use Rattle.std.proofs.lemmas.List.{take_more}
 use mathlib.Core.List.{append_assoc, append-nil}
 use Rattle.l4_shell.specs.Texts.{word_text, words_text}

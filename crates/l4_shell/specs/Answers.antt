@@ -6,7 +6,6 @@ use Rattle.l4_ipc.specs.declared.steps.Outcome.{Outcome}
 use Rattle.l4_ipc.specs.declared.steps.Outcome.TheVariants.{Started, Done, NoWindow, Entangled, NoMemory, Expired}
 use Rattle.l4_ipc.specs.declared.steps.Refused.{Refused}
 use Rattle.l4_ipc.specs.declared.steps.Refused.TheVariants.{NotEnabled, UnknownThread, Busy, BadTimeout, Lower as Below, BadFrames, NotYet}
-use Rattle.l4_ipc.specs.declared.steps.Lower.{Lower}
 use Rattle.l4_ipc.specs.declared.steps.Lower.TheVariants.{Message, Unmap, Thread, NoMemory as LacksMemory}
 use Rattle.l4_unmap.specs.declared.UnmapFault.{UnmapFault}
 use Rattle.l4_unmap.specs.declared.UnmapFault.TheVariants.{BadFpage, TooFew}

@@ -1,5 +1,5 @@
 -- What the tokens of a line ask for (this profile's own).
-use Rattle.std.specs.Prelude.{ℕ, Bool, true, false, List, [], ◌∷◌, length, nat_le, Option, Some, None, Result, Ok, Err, option_and_then, ok_or, if◌then◌else◌, codes}
+use Rattle.std.specs.Prelude.{ℕ, Bool, List, [], ◌∷◌, length, nat_le, Option, Some, None, Result, Err, option_and_then, ok_or, if◌then◌else◌, codes}
 use Rattle.std.specs.Str.{bytes_eq}
 use Rattle.l4_shell.specs.declared.commands.Partner.{Partner}
 use Rattle.l4_shell.specs.declared.commands.Partner.TheVariants.{Nil, Any, Thread as One}

@@ -1,5 +1,5 @@
 -- The numbers of the script language (this profile's own).
-use Rattle.std.specs.Prelude.{ℕ, ◌+◌, ◌-◌, ◌*◌, ◌^◌, ◌==◌, nat_lt, nat_le, Bool, true, false, ◌&&◌, List, [], ◌∷◌, length, drop, Option, Some, None, option_and_then, if◌then◌else◌}
+use Rattle.std.specs.Prelude.{ℕ, ◌+◌, ◌-◌, ◌*◌, ◌^◌, ◌==◌, nat_lt, nat_le, Bool, false, ◌&&◌, List, [], ◌∷◌, length, drop, Option, Some, None, option_and_then, if◌then◌else◌}
 
 -- whether a byte is one of those from a to b
 abbrev pub is_in : ℕ → ℕ → ℕ → Bool

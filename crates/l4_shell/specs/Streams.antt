@@ -1,8 +1,6 @@
 -- Bytes that come in and bytes that go out.
-use Rattle.std.specs.Prelude.{ℕ, ◌≡◌, ◌≢◌, ◌+◌, ◌-◌, ◌*◌, ◌==◌, ◌<◌, ◌≤◌, Bool, List, [], ◌∷◌, ◌++◌, length, Option, Some, None, Result, Ok, Err}
-use Rattle.std.specs.Io.KnownBytes.{Appends, Consumes, IsAtEnd}
-use Rattle.l4_shell.specs.declared.running.RunFault.{RunFault}
-use Rattle.l4_shell.specs.declared.running.RunFault.TheVariants.{Read, Write, Memory}
+use Rattle.std.specs.Prelude.{ℕ, ◌≡◌, List, ◌++◌, Option}
+use Rattle.std.specs.Io.KnownBytes.{Appends}
 
 -- what went out is a beginning of what was owed
 pub record WentOut (old new : Option (List ℕ)) (owed : List ℕ) : Type 0 where

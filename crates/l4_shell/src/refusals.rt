@@ -7,7 +7,7 @@ use crate::texts::Text;
 use l4_ipc::{Lower, Refused};
 use l4_msg::MsgFault;
 use l4_threads::ThreadFault;
-use l4_unmap::{UnmapFault, UnmapFault};
+use l4_unmap::UnmapFault;
 use std::marker::Model;
 
 /// Why a line is refused: a code, and the number that some codes carry.

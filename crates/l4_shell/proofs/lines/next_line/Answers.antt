@@ -1,7 +1,7 @@
-use Rattle.std.proofs.Common.{◌≡◌, ◌<◌, ◌∙◌, ◌++◌, ap, sym, subst, length, take, List, ℕ, Bool, true, false, Ok, refl, arith, rules}
+use Rattle.std.proofs.Common.{◌≡◌, ◌<◌, ◌∙◌, ap, length, Bool, Ok, arith}
 use Rattle.std.proofs.lemmas.Result.{err_from_is_err_and}
 use Rattle.std.proofs.lemmas.Bool.Decides.{nat_tests}
-use Rattle.l4_shell.proofs.LineSteps.{SoFar, so_far_none, takes_line, takes_all, takes_rest, so_far_more, gives_line, empty_list}
+use Rattle.l4_shell.proofs.LineSteps.{takes_line, takes_all, takes_rest, so_far_more, gives_line, empty_list}
 use Rattle.l4_shell.proofs.lines.next_line.Goals as goal
 
 pub returns-then-found : goal.returns-then-found

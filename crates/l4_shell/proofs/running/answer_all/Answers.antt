@@ -1,4 +1,4 @@
-use Rattle.std.proofs.Common.{◌≡◌, ℕ, List, sym, subst, arith}
+use Rattle.std.proofs.Common.{ℕ, List, sym, subst, arith}
 use Rattle.l4_shell.proofs.Counting.{Counted, counted_none, counted_on, counted_cut, counted_end}
 use Rattle.l4_shell.proofs.running.answer_all.Goals as goal
 

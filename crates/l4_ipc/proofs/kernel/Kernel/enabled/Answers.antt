@@ -1,6 +1,3 @@
-use Rattle.std.proofs.Common.{sym, ap, ◌∙◌, subst, ◌≡◌}
-use Rattle.l4_ipc.specs.Machine.{Machine}
-use Rattle.l4_ipc.specs.Steps.{IsIdle}
 use Rattle.l4_ipc.proofs.kernel.Kernel.enabled.Goals as goal
 
 pub returns-in_err-number : goal.returns-in_err-number

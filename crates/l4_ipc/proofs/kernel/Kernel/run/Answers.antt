@@ -1,4 +1,4 @@
-use Rattle.std.proofs.Common.{◌≡◌, ◌+◌, ◌<◌, ◌≤◌, ◌++◌, ◌∷◌, [], List, Result, sym, ap, ◌∙◌, subst, take, length, vec_len, vec_capacity, arith, if◌then◌else◌, IsOk}
+use Rattle.std.proofs.Common.{◌≡◌, ◌+◌, ◌<◌, ◌≤◌, ◌++◌, ◌∷◌, [], List, Result, sym, ap, ◌∙◌, subst, take, vec_len, vec_capacity, arith, if◌then◌else◌, IsOk}
 use Rattle.std.proofs.lemmas.List.{take_more}
 use Rattle.l4_ipc.specs.declared.steps.Answer.{Answer}
 use Rattle.l4_ipc.specs.declared.steps.Refused.{Refused}

@@ -1,4 +1,4 @@
-use Rattle.std.proofs.Common.{◌≡◌, ◌∙◌, ◌++◌, ap, sym, subst, length, take, List, ℕ, Bool, true, arith, rules}
+use Rattle.std.proofs.Common.{◌≡◌, ◌∙◌, ◌++◌, ap, take, true, arith, rules}
 use Rattle.l4_shell.proofs.LineSteps.{kept_all, kept_part}
 use Rattle.l4_shell.proofs.lines.Line.add.Goals as goal
 

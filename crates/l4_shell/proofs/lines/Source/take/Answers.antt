@@ -1,4 +1,4 @@
-use Rattle.std.proofs.Common.{◌≡◌, ◌∙◌, ◌≤◌, ap, sym, subst, length, drop, List, ℕ}
+use Rattle.std.proofs.Common.{◌∙◌, ◌≤◌, ap, sym, subst, length, drop, List, ℕ}
 use Rattle.l4_shell.proofs.LineSteps.{range_less}
 use Rattle.l4_shell.proofs.lines.Source.take.Goals as goal
 
