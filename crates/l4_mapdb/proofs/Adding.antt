@@ -31,7 +31,7 @@ tested space sender first page size some h =
     let z = c.0 in
     (grind (arith, nat_tests), grind (arith, nat_tests), grind (arith, nat_tests), c.1)
 
-tests : (space sender first page size : ℕ) (some : Bool) → space ≡ sender → first ≤ page → page < first + size → some ≡ true
+pub tests : (space sender first page size : ℕ) (some : Bool) → space ≡ sender → first ≤ page → page < first + size → some ≡ true
     → ((space == sender) && (nat_le first page && (nat_lt page (first + size) && some))) ≡ true
 tests space sender first page size some a b c d =
     let x : (space == sender) ≡ true = grind (arith, nat_tests) in

@@ -23,7 +23,7 @@ chain_end parent {low} (child up) = (low, up)
 chain_end parent (further up rest) = chain_end parent rest
 
 -- the parent of a place is of a place that is there
-shows_parent : (s : Mappings) (place parent : Place) → parent_of s place ≡ Some parent → (m : Mapping) × (shown s place ≡ Some m) × (m.parent ≡ Some parent)
+pub shows_parent : (s : Mappings) (place parent : Place) → parent_of s place ≡ Some parent → (m : Mapping) × (shown s place ≡ Some m) × (m.parent ≡ Some parent)
 shows_parent s place parent up =
     elim (shown s place) as (λ o. shown s place ≡ o → option_and_then (λ (m : Mapping). m.parent) o ≡ Some parent → (m : Mapping) × (shown s place ≡ Some m) × (m.parent ≡ Some parent)) [
       | None ↦ λ e h. absurd (let k : ◌≡◌ {A = Option Place} None (Some parent) = h in cc)

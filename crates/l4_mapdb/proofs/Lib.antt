@@ -16,5 +16,8 @@ pub mod Putting
 pub mod Nearest
 pub mod Delivering
 pub mod Flat
+pub mod Climbing
+pub mod Clashing
+pub mod Tangled
 mod Rows
 pub mod Along

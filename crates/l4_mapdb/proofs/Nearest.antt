@@ -6,14 +6,14 @@ use Rattle.std.specs.FinMap.{find}
 use Rattle.std.proofs.lemmas.Bool.Decides.{nat_tests}
 use Rattle.l4_mapdb.specs.declared.Place.{Place}
 use Rattle.l4_mapdb.specs.declared.Mapping.{Mapping}
-use Rattle.l4_mapdb.specs.Mappings.{place_cmp, shown, IsPresent}
+use Rattle.l4_mapdb.specs.Mappings.{place_cmp, shown, IsPresent, IsRoot}
 use Rattle.l4_mapdb.specs.Places.{NonePresentFrom, IsNextPresent}
-use Rattle.l4_mapdb.specs.Entries.{Entries, NoneIn, IsNextIn}
-use Rattle.l4_mapdb.proofs.EntriesLemmas.{found_at, found_some, decided}
+use Rattle.l4_mapdb.specs.Entries.{Entries, StandOnce, NoneIn, IsNextIn, NoRootIn, IsRootIn}
+use Rattle.l4_mapdb.proofs.EntriesLemmas.{found_at, found_once, found_some, decided}
 use Rattle.l4_mapdb.proofs.Mapped.{at_append, append_first, append_second}
 use Rattle.l4_mapdb.proofs.Revoking.{of_lists, shown_in}
 
-one_more : (es : Entries) (item : Place × Mapping) (i : ℕ) (a : Place × Mapping) → slice_get (es ++ item ∷ []) i ≡ Some a → (slice_get es i ≡ Some a) ⊎ (item ≡ a)
+pub one_more : (es : Entries) (item : Place × Mapping) (i : ℕ) (a : Place × Mapping) → slice_get (es ++ item ∷ []) i ≡ Some a → (slice_get es i ≡ Some a) ⊎ (item ≡ a)
 one_more es item i a h = elim (at_append es (item ∷ []) i a h) [ inl l ↦ inl l | inr r ↦ inr (last r.0 r.2) ] where
   last : (n : ℕ) → slice_get (item ∷ []) n ≡ Some a → item ≡ a
   last zero h = let k : ◌≡◌ {A = Option (Place × Mapping)} (Some item) (Some a) = h in cc
@@ -150,4 +150,24 @@ next_of es spaces space page (Some next) least = record {
       let k : f.entry.0.page ≡ other = f.page_is in
       let l : next ≤ f.entry.0.page = least.least f.index f.entry f.at f.space_is (omega arith) in
       omega arith;
+}
+
+-- one more entry that is no root of the frame was passed
+pub no_root_more : (es : Entries) (frame : ℕ) (item : Place × Mapping) → NoRootIn es frame → ((item.1.frame ≡ frame) × (item.1.parent ≡ None) → ⊥) → NoRootIn (es ++ item ∷ []) frame
+no_root_more es frame item none out i a at f t = elim (one_more es item i a at) [
+  | inl l ↦ none i a l f t
+  | inr e ↦ out (ap (λ (y : Place × Mapping). y.1.frame) e ∙ f, ap (λ (y : Place × Mapping). y.1.parent) e ∙ t)
+]
+
+-- the root in the list is the root in the state
+pub root_of : (es : Entries) (spaces : List ℕ) (once : StandOnce es) (frame : ℕ) (found : Option Place) → MatchOption found (NoRootIn es frame) (IsRootIn es frame)
+    → MatchOption found ((place : Place) → ¬ (IsRoot (of_lists es spaces) frame place)) (IsRoot (of_lists es spaces) frame)
+root_of es spaces once frame None none = λ place root.
+    let f = found_at es place root.mapping (sym (shown_in es spaces place) ∙ root.at) in
+    none f.0 (place, root.mapping) f.1 root.frame_is root.top
+root_of es spaces once frame (Some place) r = record {
+  mapping = r.mapping;
+  at = shown_in es spaces place ∙ found_once es r.index (place, r.mapping) once r.at;
+  frame_is = r.frame_is;
+  top = r.top;
 }

@@ -9,7 +9,7 @@ use Rattle.l4_fpage.specs.Rights.{RightsSet, without}
 use Rattle.l4_mapdb.specs.declared.Place.{Place}
 use Rattle.l4_mapdb.specs.declared.Mapping.{Mapping}
 use Rattle.l4_mapdb.specs.Mappings.{place_cmp, Chain, child, further}
-use Rattle.l4_mapdb.specs.Entries.{Entries, StandOnce, ParentsFirst, parent_in, outline, outlined, IsCutEntry, CoveredIn}
+use Rattle.l4_mapdb.specs.Entries.{Entries, StandOnce, ParentsFirst, IsAcyclic, parent_in, outline, outlined, IsCutEntry, CoveredIn}
 
 -- an entry of the other list, with the same place and parent
 pub record Twin (fs : Entries) (i : ℕ) (a : Place × Mapping) : Type 0 where
@@ -63,6 +63,9 @@ pub chain_along : (f g : Place → Option Place) → ((p : Place) → f p ≡ g 
 chain_along f g same {low} (child is) = child (sym (same low) ∙ is)
 chain_along f g same {low} (further is rest) = further (sym (same low) ∙ is) (chain_along f g same rest)
 
+pub acyclic_along : (es fs : Entries) → outline es ≡ outline fs → IsAcyclic fs → IsAcyclic es
+acyclic_along es fs same acyclic p c = acyclic p (chain_along (parent_in es) (parent_in fs) (parent_along es fs same) c)
+
 pub covered_along : (es fs : Entries) → outline es ≡ outline fs → (from : Place) (with_self : Bool) (p : Place) → CoveredIn es from with_self p → CoveredIn fs from with_self p
 covered_along es fs same from with_self p (inl h) = inl h
 covered_along es fs same from with_self p (inr h) = inr (chain_along (parent_in es) (parent_in fs) (parent_along es fs same) h)
@@ -78,6 +81,14 @@ get_set_other (x ∷ xs) zero zero v ne = absurd (ne refl)
 get_set_other (x ∷ xs) zero (suc j) v ne = refl
 get_set_other (x ∷ xs) (suc i) zero v ne = refl
 get_set_other (x ∷ xs) (suc i) (suc j) v ne = get_set_other xs i j v (λ e. ne (ap suc e))
+
+-- a write of other rights leaves the places and parents
+pub outline_set : (xs : Entries) (i : ℕ) (item : Place × Mapping) (left : RightsSet) → slice_get xs i ≡ Some item → outline (slice_set xs i (item.0, record item.1 { rights = left })) ≡ outline xs
+outline_set [] i item left h = refl
+outline_set (x ∷ xs) zero item left h =
+    let one : x ≡ item = cc in
+    ap (λ (e : Place × Mapping). outlined e ∷ outline xs) (sym one)
+outline_set (x ∷ xs) (suc i) item left h = ap (λ (r : List (Place × Option Place)). outlined x ∷ r) (outline_set xs i item left h)
 
 -- one step of a pass that cuts the covered entries
 module _ (Covered : Place → Type 0) (lost : RightsSet) (old cur : Entries) (i : ℕ) (item : Place × Mapping) (left : RightsSet) (there : slice_get cur i ≡ Some item) (rest : (j : ℕ) → i ≤ j → slice_get cur j ≡ slice_get old j) where

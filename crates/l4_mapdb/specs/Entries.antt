@@ -41,6 +41,22 @@ pub record IsNextIn (es : Entries) (space page next : ℕ) : Type 0 where
 abbrev pub parent_in : Entries → Place → Option Place
 parent_in es place = option_and_then (λ m. m.parent) (find place_cmp place es)
 
+-- no chain of parents leads from a place back to it
+abbrev pub IsAcyclic : Entries → Type 0
+IsAcyclic es = (place : Place) → ¬ (Chain (parent_in es) place place)
+
+-- the entry of the place shows the frame and has no parent
+pub record IsRootIn (es : Entries) (frame : ℕ) (place : Place) : Type 0 where
+  pub index : ℕ
+  pub mapping : Mapping
+  pub at : slice_get es index ≡ Some (place, mapping)
+  pub frame_is : mapping.frame ≡ frame
+  pub top : mapping.parent ≡ None
+
+-- no entry without a parent shows the frame
+abbrev pub NoRootIn : Entries → ℕ → Type 0
+NoRootIn es frame = (index : ℕ) (a : Place × Mapping) → slice_get es index ≡ Some a → a.1.frame ≡ frame → a.1.parent ≡ None → ⊥
+
 -- the places in order, with their parents
 abbrev pub outlined : Place × Mapping → Place × Option Place
 outlined e = (e.0, e.1.parent)

@@ -4,5 +4,6 @@ pub mod Transfer
 pub mod Flat
 pub mod Places
 pub mod Entries
+pub mod Tangles
 pub mod Boot
 pub mod Forest

@@ -2,10 +2,12 @@
 //! which page it was mapped (L4 X.2 manual, IPC: map and grant items).
 #![tactic(auto)]
 
-ghost use Rattle.std.specs.Prelude.{◌≡◌, ◌≢◌, ◌≤◌, ◌∷◌, [], IsTrue, IsOk, OnOk, OnErr, IfOk, MatchOption, Some, codes};
+ghost use Rattle.std.specs.Prelude.{◌≡◌, ◌↔◌, ◌≢◌, ◌≤◌, ◌∷◌, [], IsTrue, IsOk, OnOk, OnErr, IfOk, MatchOption, Some, codes};
 ghost use Rattle.std.specs.FinSet as set;
 
 mod lists;
+mod losing;
+mod tangles;
 #[cfg(test)]
 mod tests;
 
@@ -104,11 +106,12 @@ impl Model for Forest {
 }
 
 impl Forest {
-    ghost use Rattle.l4_mapdb.specs.Mappings.{Mappings, shown, IsForest};
+    ghost use Rattle.l4_mapdb.specs.Mappings.{Mappings, shown, IsForest, IsRoot};
     ghost use Rattle.l4_mapdb.specs.Boot.{IsFirst};
     ghost use Rattle.l4_mapdb.specs.Places.{NonePresentFrom, IsNextPresent};
-    ghost use Rattle.l4_mapdb.specs.Transfer.{IsUsed, NeedsPlace, TargetsPresent, Delivers};
+    ghost use Rattle.l4_mapdb.specs.Transfer.{IsUsed, IsEntangled, NeedsPlace, TargetsPresent, Delivers};
     ghost use Rattle.l4_mapdb.specs.Flat.{IsFlatBetween};
+    ghost use Rattle.l4_mapdb.specs.Losing.{Revokes};
 
     /// The mappings at the start: space 0 shows each frame below `frames` at the page of its number
     /// with all rights, and there is no other space. `frames` is from 1 to 4,096.
@@ -157,6 +160,15 @@ impl Forest {
         lists::next_page(&self.places, space, page)
     }
 
+    /// Whether the used moves of a message from the one space to the other contradict each other: two
+    /// have the same target, a granted page is moved twice, or a present target is moved too or is an
+    /// ancestor of a page that is (this profile's own). It takes no memory.
+    pub fn is_entangled(&self, from: u64, to: u64, moves: &[ItemMove]) -> bool
+        ensures { IsTrue result ↔ IsEntangled (IsUsed self.now from to moves.now) self.now }
+    {
+        tangles::has_clash(&self.places, from, to, moves)
+    }
+
     /// Delivers one map item from the one space to the other: the pages of its source that are
     /// present and share a right with it are mapped to the pages of its target, in place of what
     /// those showed. The spaces are two that are there, and nothing was mapped from the second.
@@ -178,5 +190,22 @@ impl Forest {
         self.places.reserve(absent)?;
         lists::deliver(&mut self.places, from, to, item);
         Ok(())
+    }
+
+    /// Takes the rights from all that descends from the page of the space, and from that page too
+    /// where that is asked. A place goes with its last right. Nothing changes if the page is not
+    /// present.
+    pub fn revoke(&mut self, from: Place, rights: Rights, with_self: bool)
+        ensures { Revokes from rights with_self self.old self.new }
+    {
+        losing::cut(&mut self.places, from, rights, with_self);
+        losing::drop_empty(&mut self.places);
+    }
+
+    /// The place without a parent that shows the frame, None if there is none.
+    pub fn root(&self, frame: u32) -> Option<Place>
+        ensures { MatchOption result ((place : Place) → ¬ (IsRoot self.now frame place)) (IsRoot self.now frame) }
+    {
+        lists::root_in(&self.places, frame)
     }
 }

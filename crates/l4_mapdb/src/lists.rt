@@ -1,10 +1,10 @@
 //! The list of present places with what they show, in which each place stands once.
 
-ghost use Rattle.std.specs.Prelude.{◌≡◌, ◌≢◌, ◌+◌, ◌<◌, ◌≤◌, ◌⊎◌, ◌&&◌, length, IsTrue, IsOk, IfOk, MatchOption, Some, None, slice_get, min, vec_len, vec_capacity, count_by, is_some, not};
+ghost use Rattle.std.specs.Prelude.{◌≡◌, ◌↔◌, ◌≢◌, ◌+◌, ◌<◌, ◌≤◌, ◌⊎◌, ◌&&◌, length, IsTrue, IsOk, IfOk, MatchOption, Some, None, slice_get, min, vec_len, vec_capacity, count_by, is_some, not};
 ghost use Rattle.std.specs.FinMap.{find};
 ghost use Rattle.std.specs.Option.{option_map_or};
 ghost use Rattle.l4_mapdb.specs.Mappings.{place_cmp};
-ghost use Rattle.l4_mapdb.specs.Entries.{StandOnce, StandsAtIndex, Puts, ShowsMoved, IsNextIn, NoneIn, child_of, adds_place, own_entries};
+ghost use Rattle.l4_mapdb.specs.Entries.{StandOnce, StandsAtIndex, Puts, ShowsMoved, IsNextIn, NoneIn, IsRootIn, NoRootIn, child_of, adds_place, own_entries};
 
 use crate::{ItemMove, Mapping, Place};
 use l4_fpage::Rights;
@@ -76,8 +76,32 @@ fn nearer(next: Option<u32>, space: u64, page: u32, place: Place) -> Option<u32>
     Some(next.map_or(place.page, |n| n.min(place.page)))
 }
 
+/// Whether it shows the frame and has no parent.
+fn is_root(mapping: &Mapping, frame: u32) -> bool
+    ensures { IsTrue result ↔ ((mapping.now.frame ≡ frame) × (mapping.now.parent ≡ None)) }
+{
+    mapping.frame == frame && mapping.parent.is_none()
+}
+
+/// The place of the list that has no parent and shows the frame.
+pub(crate) fn root_in(places: &[(Place, Mapping)], frame: u32) -> Option<Place>
+    ensures { MatchOption result (NoRootIn places.now frame) (IsRootIn places.now frame) }
+{
+    for (place, mapping) in places {
+        if is_root(mapping, frame) {
+            return Some(*place);
+        }
+    }
+    None
+}
+
 /// The entry that a map item makes of this one in the space `to`, None if it does not move this one.
-fn child(from: u64, to: u64, item: &ItemMove, entry: &(Place, Mapping)) -> Option<(Place, Mapping)>
+pub(crate) fn child(
+    from: u64,
+    to: u64,
+    item: &ItemMove,
+    entry: &(Place, Mapping),
+) -> Option<(Place, Mapping)>
     ensures { result ≡ child_of from to item.now entry.now }
 {
     let (place, mapping) = *entry;

@@ -45,3 +45,30 @@ fn maps_two_pages(rt: HostRuntime) -> Result<(), Fail> {
     assert_eq!(rt; forest.next_present(2, 8), None);
     Ok(())
 }
+
+#[test]
+fn revokes_and_tangles(rt: HostRuntime) -> Result<(), Fail> {
+    let mut forest = Forest::new(rt.alloc(), 256)?;
+    assert_eq!(rt; forest.root(5), Some(Place { space: 0, page: 5 }));
+    assert_eq!(rt; forest.root(256), None);
+    let onto_itself = [ItemMove {
+        mv: Move {
+            source: Block { first: 5, log: 0 },
+            target: Block { first: 5, log: 0 },
+        },
+        rights: Rights::all(),
+        grant: false,
+    }];
+    assert!(rt; forest.is_entangled(0, 0, &onto_itself));
+    assert!(rt; !forest.is_entangled(0, 2, &onto_itself));
+    forest.revoke(Place { space: 0, page: 5 }, Rights::of_bits(2), true);
+    let left = Mapping {
+        frame: 5,
+        rights: Rights::of_bits(5),
+        parent: None,
+    };
+    assert_eq!(rt; forest.at(0, 5), Some(left));
+    forest.revoke(Place { space: 0, page: 5 }, Rights::all(), true);
+    assert_eq!(rt; forest.at(0, 5), None);
+    Ok(())
+}

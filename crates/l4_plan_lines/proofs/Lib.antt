@@ -1,5 +1,12 @@
 pub mod ClaimLemmas
 pub mod InputLemmas
 pub mod KnownBytes
+pub mod LargestBlocks
+pub mod PlanTexts
+pub mod SameAnswers
+pub mod SameClaims
+pub mod SameInputs
+pub mod SameLines
+pub mod SamePlans
 pub mod TextSteps
 pub mod Texts

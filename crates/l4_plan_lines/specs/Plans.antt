@@ -31,6 +31,7 @@ too_long_text pages = ended long_line ++ flat_map (λ page. ended (page_line pag
 
 -- the shortest list of map items that moves exactly the region, and the first pages of its items
 pub record IsShortest (r : Region) (p : Listing) : Type 0 where
+  pub sound : IsSound r
   pub plan : IsPlan r p.items p.pages
   pub one_each : length p.pages ≡ length p.items
   pub few : length p.items ≤ 31

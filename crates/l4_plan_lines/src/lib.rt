@@ -5,12 +5,14 @@ mod answers;
 mod checking;
 mod claims;
 mod input;
+mod laws;
 mod planning;
 mod reading;
 mod spelling;
 mod writing;
 
 pub use checking::check_lines;
+pub use laws::{answer_is_unique, plan_text_is_unique};
 pub use planning::plan_lines;
 pub use writing::RunFault;
 
