@@ -1,6 +1,6 @@
 pub mod Moving
 pub mod Threads
 pub mod Starts
-pub mod Bringing
-pub mod StagedKept
+pub mod Items
+pub mod SoundKept
 pub mod Running

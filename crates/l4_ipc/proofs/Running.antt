@@ -4,12 +4,12 @@ use Rattle.l4_ipc.specs.declared.steps.Answer.{Answer}
 use Rattle.l4_ipc.specs.declared.steps.Refused.{Refused}
 use Rattle.l4_ipc.specs.declared.steps.Step.{Step}
 use Rattle.l4_ipc.specs.Machine.{Machine}
-use Rattle.l4_ipc.specs.Runs.{Run, Brings}
+use Rattle.l4_ipc.specs.Runs.{Run}
 use Rattle.l4_ipc.specs.Stages.{StepsYet}
 
 pub run_on : (old mid new : Machine) (steps : List Step) (answers : List (Result Answer Refused)) (step : Step) (answer : Result Answer Refused)
-    → Run old steps answers mid → StepsYet mid step answer new → Brings mid step answer new → Run old (steps ++ step ∷ []) (answers ++ answer ∷ []) new
-run_on old mid new [] [] step answer r s b = (new, subst (λ (m : Machine). StepsYet m step answer new) r s, subst (λ (m : Machine). Brings m step answer new) r b, refl)
-run_on old mid new (a ∷ steps) (b ∷ answers) step answer r s t = (r.0, r.1, r.2, run_on r.0 mid new steps answers step answer r.3 s t)
-run_on old mid new [] (b ∷ answers) step answer r s t = absurd r
-run_on old mid new (a ∷ steps) [] step answer r s t = absurd r
+    → Run old steps answers mid → StepsYet mid step answer new → Run old (steps ++ step ∷ []) (answers ++ answer ∷ []) new
+run_on old mid new [] [] step answer r s = (new, subst (λ (m : Machine). StepsYet m step answer new) r s, refl)
+run_on old mid new (a ∷ steps) (b ∷ answers) step answer r s = (r.0, r.1, run_on r.0 mid new steps answers step answer r.2 s)
+run_on old mid new [] (b ∷ answers) step answer r s = absurd r
+run_on old mid new (a ∷ steps) [] step answer r s = absurd r

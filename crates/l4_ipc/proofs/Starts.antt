@@ -42,14 +42,13 @@ refuses m n call e h r =
 
 -- a running thread's Ipc that is not put off starts
 pub started : (t new : Threads) (s : Mappings) (n : ℕ) (call : IpcCall) (sent : Sent) (window : Fpage) (next : Next) (answer : Answer)
-    → IsTrue (runs t n) → IsAccepted call sent window → puts_off_ipc n call sent.items.items ≡ false
-    → ((other : Sent) (w : Fpage) → IsAccepted call other w → sent.items.items ≡ other.items.items)
+    → IsTrue (runs t n) → IsAccepted call sent window → puts_off_ipc call ≡ false
     → next ≡ ipc_next t n call sent window → answer.outcome ≡ Started → answer.ended.items ≡ ended_by n next → new ≡ enters t n next
     → StepsYet (machine t s) (Start n (Ipc call)) (Ok answer) (machine new s)
-started t new s n call sent window next answer h accepted plain only is outcome ended after =
+started t new s n call sent window next answer h accepted plain is outcome ended after =
     let there = running_thread t n h in
     inr (
-      λ y. false≢true (sym plain ∙ ap (puts_off_ipc n call) (only y.1.0 y.1.1 y.1.2) ∙ y.1.3),
+      λ y. false≢true (sym plain ∙ y.1.3),
       (there.0, there.1.0, there.1.1, outcome, (sent, window, accepted, ended ∙ ap (ended_by n) is, ap (λ (v : Threads). machine v s) (after ∙ ap (enters t n) is))),
     )
 

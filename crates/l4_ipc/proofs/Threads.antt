@@ -1,5 +1,5 @@
 -- A thread of another state, and a new thread: what stands at each number afterwards.
-use Rattle.std.proofs.Common.{◌≡◌, ◌≢◌, ℕ, ◌==◌, false, cond, Option, Some, None, IsTrue, IsSome, refl, sym, ap, ◌∙◌, subst, inl, inr, ◌⊎◌, eq-eqb}
+use Rattle.std.proofs.Common.{◌≡◌, ◌≢◌, ℕ, ◌==◌, false, cond, Option, Some, None, IsTrue, IsSome, refl, sym, ap, ◌∙◌, subst, inl, inr, ◌⊎◌}
 use Rattle.std.specs.Option.{option_map_or, option_map}
 use Rattle.std.specs.Ordering.{nat_cmp, eq_by_cmp}
 use Rattle.std.specs.Cmp.{unsigned_tied, nat_cmp_total}
@@ -25,9 +25,6 @@ put_at t n put m thread h =
           let f : cond (eq_by_cmp nat_cmp m n) (Some put) (thread_at t m) ≡ thread_at t m = ap (λ b. cond b (Some put) (thread_at t m)) (unsigned_tied m n ∙ ne.0) in
           inr (ne.1, sym f ∙ sym e ∙ h)
     ]
-
-pub put_here : (t : Threads) (n : ℕ) (put : Thread) → fin.get (fin.insert t.threads n put) n ≡ Some put
-put_here t n put = fin.get-insert nat_cmp_total t.threads n put n ∙ ap (λ b. cond b (Some put) (thread_at t n)) (unsigned_tied n n ∙ eq-eqb n n refl)
 
 -- a number that has a thread has one after another was put
 pub put_there : (t : Threads) (n : ℕ) (put : Thread) (m : ℕ) → thread_at t m ≢ None → fin.get (fin.insert t.threads n put) m ≢ None
@@ -73,18 +70,6 @@ state_at t n state m thread h =
             }
             | inr other ↦ record { before = thread; at = other.1; space = refl; state_is = inr (other.0, refl) }
           ]
-    ] refl
-
--- a thread that is there stays there as one changes its state
-pub state_there : (t : Threads) (n : ℕ) (state : State) (m : ℕ) → thread_at t m ≢ None → thread_at (with_state t n state) m ≢ None
-state_there t n state m there =
-    elim (thread_at t n) as (λ o. thread_at t n ≡ o → thread_at (with_state t n state) m ≢ None) [
-      | None ↦ λ is.
-          let e : with_state t n state ≡ t = ap (λ o. option_map_or (λ x. record t { threads = fin.insert t.threads n (record x { state = state }) }) o t) is in
-          λ h. there (sym (ap (λ (s : Threads). thread_at s m) e) ∙ h)
-      | Some old ↦ λ is.
-          let e : with_state t n state ≡ record t { threads = fin.insert t.threads n (record old { state = state }) } = ap (λ o. option_map_or (λ x. record t { threads = fin.insert t.threads n (record x { state = state }) }) o t) is in
-          λ h. put_there t n (record old { state = state }) m there (sym (ap (λ (s : Threads). thread_at s m) e) ∙ h)
     ] refl
 
 -- every other thread stays what it is as one changes its state

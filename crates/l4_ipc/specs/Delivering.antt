@@ -1,20 +1,24 @@
--- When the delivery of this stage serves. (this profile's own)
-use Rattle.std.specs.Prelude.{◌≡◌, ◌≢◌, ℕ, ◌⊎◌, false, List, [], ◌∷◌, IsTrue}
-use Rattle.std.specs.FinSet as set
-use Rattle.l4_msg.specs.Moves.{is_grant}
+-- How the kernel asks the mapping database for a delivery. (this profile's own)
+use Rattle.std.specs.Prelude.{◌≡◌, ◌↔◌, ◌⊎◌, ℕ, Some}
+use Rattle.l4_fpage.specs.Rights.{no_rights}
+use Rattle.l4_fpage.specs.Fpages.{rights_of}
+use Rattle.l4_fpage.specs.declared.fpages.Fpage.{Fpage}
+use Rattle.l4_msg.specs.Moves.{ItemMoves, MovePairs, fpage_of, is_grant}
 use Rattle.l4_msg.specs.declared.items.Item.{Item}
-use Rattle.l4_mapdb.specs.Mappings.{Mappings}
-use Rattle.l4_mapdb.specs.Flat.{EveryParentIn}
+use Rattle.l4_mapdb.specs.declared.Cause.{Cause}
+use Rattle.l4_mapdb.specs.declared.Cause.TheVariants.{Entangled as IsEntangled, NoMemory as WantOfMemory}
+use Rattle.l4_mapdb.specs.declared.ItemMove.{ItemMove}
+use Rattle.l4_ipc.specs.declared.steps.Outcome.{Outcome}
+use Rattle.l4_ipc.specs.declared.steps.Outcome.TheVariants.{Entangled, NoMemory}
 
--- there is one item, and it maps
-pub record IsOneMap (items : List Item) : Type 0 where
-  pub item : Item
-  pub list : items ≡ item ∷ []
-  pub map : is_grant item ≡ false
+-- what the item moves in this window, by blocks of pages; where it moves no page there is no right, so that no move is used
+pub record IsListed (window : Fpage) (item : Item) (listed : ItemMove) : Type 0 where
+  pub grant : listed.grant ≡ is_grant item
+  pub moves :
+      (((source target : ℕ) → MovePairs (Some listed.mv) source target ↔ ItemMoves item window source target) × (listed.rights ≡ rights_of (fpage_of item)))
+      ⊎ (((source target : ℕ) → ¬ (ItemMoves item window source target)) × (listed.rights ≡ no_rights))
 
--- a message of no items, or of one map item from space 0 to another space, where whatever was mapped was mapped from space 0
-pub record CanDeliver («from» to : ℕ) (items : List Item) (s : Mappings) : Type 0 where
-  pub flat : EveryParentIn 0 s
-  pub from_there : IsTrue (set.contains s.spaces «from»)
-  pub to_there : IsTrue (set.contains s.spaces to)
-  pub items_are : (items ≡ []) ⊎ (IsOneMap items × («from» ≡ 0) × (to ≢ 0))
+-- the outcome where nothing was delivered
+abbrev pub outcome_of : Cause → Outcome
+outcome_of IsEntangled = Entangled
+outcome_of WantOfMemory = NoMemory

@@ -1,10 +1,10 @@
 -- What a contract sees of the kernel, and what it keeps.
 use Rattle.l4_ipc.specs.declared.kernel.Kernel.TheInside.{Inside}
 use Rattle.l4_ipc.specs.Machine.{Machine, machine}
-use Rattle.l4_ipc.specs.Staged.{IsStaged}
+use Rattle.l4_ipc.specs.Sound.{IsSound}
 
 abbrev pub seen : Inside → Machine
 seen a = machine a.threads a.forest
 
 abbrev pub IsKept : Inside → Type 0
-IsKept a = IsStaged (seen a)
+IsKept a = IsSound (seen a)

@@ -2,10 +2,9 @@ pub mod Machine
 pub mod Start
 pub mod Moving
 pub mod Steps
-pub mod Runs
 pub mod Stages
-pub mod Staged
+pub mod Runs
+pub mod Sound
 pub mod Kept
 pub mod Delivering
 pub mod Reading
-pub mod Bringing

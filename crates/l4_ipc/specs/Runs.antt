@@ -1,24 +1,14 @@
 -- Runs of steps, one after another, each from the state that the last left (this profile's own).
-use Rattle.std.specs.Prelude.{◌≡◌, List, [], ◌∷◌, Result, Ok, Err}
-use Rattle.l4_ipc.specs.declared.steps.Outcome.TheVariants.{Done}
+use Rattle.std.specs.Prelude.{◌≡◌, List, [], ◌∷◌, Result}
 use Rattle.l4_ipc.specs.declared.steps.Step.{Step}
-use Rattle.l4_ipc.specs.declared.steps.Step.TheVariants.{Start, Transfer, Expire}
 use Rattle.l4_ipc.specs.declared.steps.Answer.{Answer}
 use Rattle.l4_ipc.specs.declared.steps.Refused.{Refused}
 use Rattle.l4_ipc.specs.Machine.{Machine}
-use Rattle.l4_ipc.specs.Bringing.{BringsMessage}
 use Rattle.l4_ipc.specs.Stages.{StepsYet}
-
--- what a step that delivers a message does, page by page
-abbrev pub Brings : Machine → Step → Result Answer Refused → Machine → Type 0
-Brings old (Transfer sender receiver) (Ok answer) new = answer.outcome ≡ Done → BringsMessage old sender receiver new
-Brings old (Transfer sender receiver) (Err e) new = Unit {0}
-Brings old (Start n call) answer new = Unit {0}
-Brings old (Expire n) answer new = Unit {0}
 
 -- from old, the steps may give these answers and refusals and lead to new
 abbrev pub Run : Machine → List Step → List (Result Answer Refused) → Machine → Type 0
 Run old [] [] new = new ≡ old
-Run old (step ∷ steps) (answer ∷ answers) new = (between : Machine) × StepsYet old step answer between × Brings old step answer between × Run between steps answers new
+Run old (step ∷ steps) (answer ∷ answers) new = (between : Machine) × StepsYet old step answer between × Run between steps answers new
 Run old [] (answer ∷ answers) new = ⊥
 Run old (step ∷ steps) [] new = ⊥

@@ -1,10 +1,7 @@
 -- What is put off: these calls are refused as NotYet, as one case in front of the machine's. (this profile's own)
-use Rattle.std.specs.Prelude.{◌≡◌, ℕ, ◌==◌, ◌&&◌, ◌||◌, not, nat_lt, ◌⊎◌, Bool, false, List, [], ◌∷◌, length, IsTrue, Result, Ok, Err}
+use Rattle.std.specs.Prelude.{◌≡◌, ◌==◌, ◌&&◌, ◌||◌, ◌⊎◌, Bool, IsTrue, Result, Err}
 use Rattle.l4_fpage.specs.declared.fpages.Fpage.{Fpage}
-use Rattle.l4_msg.specs.Moves.{is_grant}
-use Rattle.l4_msg.specs.declared.items.Item.{Item}
 use Rattle.l4_threads.specs.Threads.{runs}
-use Rattle.l4_threads.specs.Control.{create_test, asks_new}
 use Rattle.l4_ipc.specs.declared.calls.IpcCall.{IpcCall}
 use Rattle.l4_ipc.specs.declared.calls.Call.{Call}
 use Rattle.l4_ipc.specs.declared.calls.Call.TheVariants.{Ipc, Fault, Unmap, Control as Controls}
@@ -23,27 +20,22 @@ use Rattle.l4_ipc.specs.Steps.{Steps}
 abbrev pub has_zero_timeout : IpcCall → Bool
 has_zero_timeout call = (has_send call && (send_timeout call == 0x400)) || (has_receive call && (receive_timeout call == 0x400))
 
--- the items of a message that is put off: there are some and the caller is not sigma0, or there are several, or one is granted
-abbrev pub puts_off_items : ℕ → List Item → Bool
-puts_off_items n [] = false
-puts_off_items n (item ∷ items) = not (n == 1) || (nat_lt 0 (length items) || is_grant item)
+-- the Ipc has both phases, or a timeout of zero
+abbrev pub puts_off_ipc : IpcCall → Bool
+puts_off_ipc call = (has_send call && has_receive call) || has_zero_timeout call
 
--- the Ipc has both phases, or a timeout of zero, or a message that is put off
-abbrev pub puts_off_ipc : ℕ → IpcCall → List Item → Bool
-puts_off_ipc n call items = (has_send call && has_receive call) || (has_zero_timeout call || puts_off_items n items)
-
--- the call of this running thread is put off: of an Ipc and of a Create the refusals for words and for thread ids come first
-abbrev pub PutsOff : Machine → ℕ → Call → Type 0
-PutsOff m n (Ipc call) = (sent : Sent) × (window : Fpage) × IsAccepted call sent window × IsTrue (puts_off_ipc n call sent.items.items)
-PutsOff m n (Fault call) = Unit {0}
-PutsOff m n (Unmap call) = Unit {0}
-PutsOff m n (Controls (Create c)) = ((space : ℕ) × (create_test m.threads n c.id c.space ≡ Ok space)) × (asks_new c.id c.space ≡ false)
-PutsOff m n (Controls (SetPager c)) = Unit {0}
-PutsOff m n (Controls (Delete id)) = Unit {0}
+-- the call is put off: of an Ipc the refusals for its words come first
+abbrev pub PutsOff : Call → Type 0
+PutsOff (Ipc call) = (sent : Sent) × (window : Fpage) × IsAccepted call sent window × IsTrue (puts_off_ipc call)
+PutsOff (Fault call) = Unit {0}
+PutsOff (Unmap call) = Unit {0}
+PutsOff (Controls (Create c)) = ⊥
+PutsOff (Controls (SetPager c)) = Unit {0}
+PutsOff (Controls (Delete id)) = Unit {0}
 
 -- the step is the Start of a running thread whose call is put off
 abbrev pub IsNotYet : Machine → Step → Type 0
-IsNotYet m (Start n call) = IsTrue (runs m.threads n) × PutsOff m n call
+IsNotYet m (Start n call) = IsTrue (runs m.threads n) × PutsOff call
 IsNotYet m (Transfer s r) = ⊥
 IsNotYet m (Expire n) = ⊥
 

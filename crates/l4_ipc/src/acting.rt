@@ -1,12 +1,12 @@
 //! The steps on the kernel's parts.
-ghost use Rattle.std.specs.Prelude.{◌≡◌, ◌∷◌, [], ℕ, IsTrue, IfOk};
+ghost use Rattle.std.specs.Prelude.{◌≡◌, ◌∷◌, [], ℕ, IsTrue, OnOk, OnErr};
 ghost use Rattle.l4_mapdb.specs.Mappings.{Mappings};
 ghost use Rattle.l4_threads.specs.Threads.{runs};
 ghost use Rattle.l4_ipc.specs.Machine.{machine};
 ghost use Rattle.l4_ipc.specs.Stages.{StepsYet};
-ghost use Rattle.l4_ipc.specs.Staged.{IsStaged};
-ghost use Rattle.l4_ipc.specs.Bringing.{BringsMessage};
-ghost use Rattle.l4_ipc.specs.Steps.{expiry};
+ghost use Rattle.l4_threads.specs.Control.{asks_new};
+ghost use Rattle.l4_ipc.specs.Sound.{HaveSpaces};
+ghost use Rattle.l4_ipc.specs.Steps.{expiry, with_space};
 ghost use Rattle.l4_ipc.specs.declared.steps.Step.TheVariants.{Start, Transfer as Transfers, Expire as Expires};
 ghost use Rattle.l4_ipc.specs.declared.calls.Call.TheVariants.{Ipc, Control as Controls};
 ghost use Rattle.l4_ipc.specs.declared.calls.Control.TheVariants.{Create as Creates};
@@ -16,7 +16,7 @@ use crate::delivering::{deliver, is_done, meet, receiver_reply, sender_next};
 use crate::starting::{enter, failed, ipc_next, puts_off_ipc};
 use crate::steps::{Answer, Lower, Outcome, Refused};
 use arrayvec::ArrayVec;
-use l4_mapdb::Forest;
+use l4_mapdb::{Forest, NoMemory};
 use l4_threads::{Reply, State, Threads};
 
 /// A list of one thread.
@@ -37,7 +37,7 @@ fn start_ipc(threads: &mut Threads, number: u32, call: &IpcCall) -> Result<Answe
         Ok(read) => read,
         Err(refused) => return Err(refused),
     };
-    if puts_off_ipc(number, call, sent.items.as_slice()) {
+    if puts_off_ipc(call) {
         return Err(Refused::NotYet);
     }
     let next = ipc_next(threads, number, call, sent, window);
@@ -46,6 +46,19 @@ fn start_ipc(threads: &mut Threads, number: u32, call: &IpcCall) -> Result<Answe
         outcome: Outcome::Started,
         ended,
     })
+}
+
+/// Begins the space of a new thread, where the thread isn't put in the space of another.
+fn begin_space(forest: &mut Forest, call: &Create, space: u64) -> Result<(), NoMemory>
+    ensures ok { OnOk result (forest.new ≡ with_space forest.old (asks_new call.now.id call.now.space) space) }
+    ensures err { OnErr result (forest.new ≡ forest.old) }
+    ensures asked { OnErr result (IsTrue (asks_new call.now.id call.now.space)) }
+{
+    if call.space.0 == call.id.0 {
+        forest.new_space(space)
+    } else {
+        Ok(())
+    }
 }
 
 /// Creates a thread for a running thread.
@@ -62,10 +75,7 @@ fn create(
         Ok(space) => space,
         Err(fault) => return Err(Refused::Lower(Lower::Thread(fault))),
     };
-    if call.space.0 != call.id.0 {
-        return Err(Refused::NotYet);
-    }
-    if forest.new_space(space).is_err() {
+    if begin_space(forest, call, space).is_err() {
         return Err(Refused::Lower(Lower::NoMemory));
     }
     threads.create(call.id, space, call.pager);
@@ -120,11 +130,9 @@ pub fn transfer(
     sender: u32,
     receiver: u32,
 ) -> Result<Answer, Refused>
-    requires { IsStaged (machine threads.old forest.old) }
-    ensures steps { StepsYet (machine threads.old forest.old) (Transfers sender receiver) result (machine threads.new forest.new) }
-    ensures brings { IfOk result (λ answer. answer.outcome ≡ Outcome.Done → BringsMessage (machine threads.old forest.old) sender receiver (machine threads.new forest.new)) }
+    requires { HaveSpaces forest.old.spaces threads.old }
+    ensures { StepsYet (machine threads.old forest.old) (Transfers sender receiver) result (machine threads.new forest.new) }
 {
-    forest.law_forest();
     let Some(meeting) = meet(threads, sender, receiver) else {
         return Err(Refused::NotEnabled);
     };

@@ -1,17 +1,21 @@
 //! Transfers: what a message's items do, and what its two threads do next.
-ghost use Rattle.std.specs.Prelude.{◌≡◌, MatchOption};
+ghost use Rattle.std.specs.Prelude.{◌≡◌, ◌≢◌, ◌≤◌, ◌↔◌, [], length, IsTrue, MatchOption};
+ghost use Rattle.std.specs.List.{AllZip};
+ghost use Rattle.std.specs.FinSet as set;
+ghost use Rattle.l4_fpage.specs.declared.fpages.Fpage.TheVariants.{Nil as NilFpage};
 ghost use Rattle.l4_threads.specs.Enabled.{IsFirstSender};
 ghost use Rattle.l4_ipc.specs.Moving.{Moves};
-ghost use Rattle.l4_ipc.specs.Delivering.{CanDeliver};
+ghost use Rattle.l4_ipc.specs.Delivering.{IsListed, outcome_of};
 ghost use Rattle.l4_ipc.specs.Steps.{Meets, received, receiver_reply, sender_next, is_done};
 
 use crate::next::Next;
 use crate::reading::copied;
 use crate::starting::{failed, going_on};
 use crate::steps::Outcome;
-use l4_fpage::Fpage;
-use l4_mapdb::{Forest, ItemMove};
-use l4_msg::{Item, item_moves};
+use arrayvec::ArrayVec;
+use l4_fpage::{Block, Fpage, Rights};
+use l4_mapdb::{Cause, Forest, ItemMove};
+use l4_msg::{Item, MAX_ITEMS, Move, item_moves};
 use l4_threads::{IpcReply, Receiving, Reply, Sending, State, Thread, Threads};
 
 /// The two threads of an enabled transfer, and what each does.
@@ -95,28 +99,79 @@ pub fn sender_next(done: bool, threads: &Threads, sends: &Sending) -> Next
     }
 }
 
-/// Moves the pages of a message, which has one map item of sigma0 or none.
+/// The first page, which goes nowhere.
+fn no_move() -> Move {
+    let page = Block { first: 0, log: 0 };
+    Move {
+        source: page,
+        target: page,
+    }
+}
+
+/// What an item moves in a window. One that moves no page has no right here, so that nothing of it is used.
+fn item_move(item: &Item, window: &Fpage) -> ItemMove
+    ensures { IsListed window.now item.now result }
+{
+    let grant = item.is_grant();
+    match item_moves(item, window) {
+        Some(mv) => ItemMove {
+            mv,
+            rights: item.fpage().rights(),
+            grant,
+        },
+        None => ItemMove {
+            mv: no_move(),
+            rights: Rights::of_bits(0),
+            grant,
+        },
+    }
+}
+
+/// What the items of a message move in a window. Each item keeps its number.
+fn listed(items: &[Item], window: &Fpage) -> ArrayVec<ItemMove, MAX_ITEMS>
+    requires { length items.now ≤ 31 }
+    ensures { AllZip (IsListed window.now) items.now result.items }
+{
+    let mut moves = ArrayVec::new();
+    for item in items {
+        moves.push(item_move(item, window));
+    }
+    moves
+}
+
+/// Whether the message has items and the window is nil.
+fn lacks_window(items: &[Item], window: &Fpage) -> bool
+    ensures { IsTrue result ↔ ((items.now ≢ []) × (window.now ≡ NilFpage)) }
+{
+    match window {
+        Fpage::Nil => !items.is_empty(),
+        _ => false,
+    }
+}
+
+/// The outcome where nothing was delivered.
+fn outcome_of(cause: Cause) -> Outcome
+    ensures { result ≡ outcome_of cause }
+{
+    match cause {
+        Cause::Entangled => Outcome::Entangled,
+        Cause::NoMemory => Outcome::NoMemory,
+    }
+}
+
+/// Moves the pages of a message from the one space to the other, two that are there.
 pub fn deliver(forest: &mut Forest, from: u64, to: u64, items: &[Item], window: &Fpage) -> Outcome
-    requires { CanDeliver from to items.now forest.old }
+    requires from_there { IsTrue (set.contains forest.old.spaces from) }
+    requires to_there { IsTrue (set.contains forest.old.spaces to) }
+    requires few { length items.now ≤ 31 }
     ensures { Moves forest.old from to items.now window.now result forest.new }
 {
-    forest.law_forest();
-    let [item, ..] = items else {
-        return Outcome::Done;
-    };
-    if let Fpage::Nil = window {
+    if lacks_window(items, window) {
         return Outcome::NoWindow;
     }
-    let Some(mv) = item_moves(item, window) else {
-        return Outcome::Done;
-    };
-    let item_move = ItemMove {
-        mv,
-        rights: item.fpage().rights(),
-        grant: false,
-    };
-    match forest.map_item(from, to, &item_move) {
+    let moves = listed(items, window);
+    match forest.map_all(from, to, moves.as_slice()) {
         Ok(()) => Outcome::Done,
-        Err(_) => Outcome::NoMemory,
+        Err(cause) => outcome_of(cause),
     }
 }

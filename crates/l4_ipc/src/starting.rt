@@ -2,18 +2,14 @@
 ghost use Rattle.std.specs.Prelude.{◌≡◌, ◌<◌, ◌≤◌, length};
 ghost use Rattle.l4_threads.specs.Threads.{failed};
 ghost use Rattle.l4_ipc.specs.Start.{receiving, going_on, partner, ipc_next, enters, ended_by, CanEnter};
-ghost use Rattle.l4_ipc.specs.Stages.{puts_off_items, puts_off_ipc};
+ghost use Rattle.l4_ipc.specs.Stages.{puts_off_ipc};
 
 use crate::calls::IpcCall;
 use crate::next::Next;
 use crate::sent::Sent;
 use arrayvec::ArrayVec;
 use l4_fpage::Fpage;
-use l4_msg::Item;
 use l4_threads::{IpcReply, Later, Receiving, Reply, Sending, Source, ThreadId, Threads};
-
-/// The number of sigma0.
-const SIGMA0: u32 = 1;
 
 /// The tag of the reply of an Ipc that failed.
 const ERROR_TAG: u32 = 0x8000;
@@ -103,23 +99,11 @@ pub fn ipc_next(threads: &Threads, number: u32, call: &IpcCall, sent: Sent, wind
     }
 }
 
-/// Whether the items of a message are put off.
-fn puts_off_items(number: u32, items: &[Item]) -> bool
-    ensures { result ≡ puts_off_items number items.now }
+/// Whether an Ipc is put off.
+pub fn puts_off_ipc(call: &IpcCall) -> bool
+    ensures { result ≡ puts_off_ipc call.now }
 {
-    match items {
-        [] => false,
-        [item, rest @ ..] => number != SIGMA0 || !rest.is_empty() || item.is_grant(),
-    }
-}
-
-/// Whether an Ipc with these items is put off.
-pub fn puts_off_ipc(number: u32, call: &IpcCall, items: &[Item]) -> bool
-    ensures { result ≡ puts_off_ipc number call.now items.now }
-{
-    (call.has_send() && call.has_receive())
-        || call.has_zero_timeout()
-        || puts_off_items(number, items)
+    (call.has_send() && call.has_receive()) || call.has_zero_timeout()
 }
 
 /// The thread does this next. The list holds the thread if its call ended.

@@ -24,6 +24,8 @@ const THIRD: ThreadId = ThreadId(3 * 16384 + 1);
 
 const FOURTH: ThreadId = ThreadId(4 * 16384 + 1);
 
+const FIFTH: ThreadId = ThreadId(5 * 16384 + 1);
+
 /// The window of all pages.
 const COMPLETE: u32 = 0x10;
 
@@ -249,6 +251,7 @@ fn refusals(rt: HostRuntime) -> Result<(), Fail> {
         (send(2, SIGMA0, &[0x1000]), message(MsgFault::Flags)),
         (receive(2, ANYBODY, 0x20), message(MsgFault::BadWindow)),
         (create(1, FOURTH, FOURTH), thread(ThreadFault::NoPrivilege)),
+        (create(1, FOURTH, ROOT), thread(ThreadFault::NoPrivilege)),
         (create(2, ANYBODY, FOURTH), thread(ThreadFault::BadId)),
         (create(2, ROOT, ROOT), thread(ThreadFault::Taken)),
         (
@@ -264,7 +267,6 @@ fn refusals(rt: HostRuntime) -> Result<(), Fail> {
             ipc(2, THIRD, ANYBODY, 0x0001_0000, 0, &[0]),
             Refused::BadTimeout,
         ),
-        (create(1, FOURTH, ROOT), thread(ThreadFault::NoPrivilege)),
     ];
     for (step, want) in &cases {
         assert_eq!(rt; kernel.step(step).err(), Some(*want));
@@ -294,13 +296,9 @@ fn calls_that_are_put_off(rt: HostRuntime) -> Result<(), Fail> {
         Step::Start(2, Call::Unmap(unmap)),
         control(2, Control::SetPager(pager)),
         control(2, Control::Delete(THIRD)),
-        create(2, FOURTH, ROOT),
         ipc(2, THIRD, ANYBODY, 0, 0, &[0]),
         ipc(2, THIRD, NOBODY, 0x0400_0000, 0, &[0]),
         ipc(2, NOBODY, ANYBODY, 0x0400, 0, &[]),
-        send(2, THIRD, &MAPS),
-        send(1, THIRD, &[0x80, 0x2_000a, 0x1_00c7]),
-        send(1, THIRD, &[0x100, 0x2_0009, 0x1_00c7, 0x2_1008, 0x1_10c7]),
     ];
     for (index, step) in steps.iter().enumerate() {
         assert_eq!(rt;
@@ -310,5 +308,142 @@ fn calls_that_are_put_off(rt: HostRuntime) -> Result<(), Fail> {
         );
         assert!(rt; is_untouched(&kernel), "after {index}");
     }
+    Ok(())
+}
+
+/// A thread receives from anybody in the window of all pages, and a message is sent to it.
+fn deliver(kernel: &mut Kernel, from: u32, to: ThreadId, words: &[u32]) -> Result<Outcome, Refused>
+    requires { length words.now ≤ 64 }
+{
+    kernel.step(&receive(to.number(), ANYBODY, COMPLETE))?;
+    kernel.step(&send(from, to, words))?;
+    let answer = kernel.step(&Step::Transfer(from, to.number()))?;
+    Ok(answer.outcome)
+}
+
+/// A kernel in which root created threads 3, 4 and 5 in spaces 2, 3 and 4, and sigma0 mapped its page 5 to page 5 of thread 3.
+fn with_page(alloc: Global) -> Result<Kernel, Refused> {
+    let mut kernel = Kernel::boot(alloc, 256)?;
+    kernel.step(&create(2, THIRD, THIRD))?;
+    kernel.step(&create(2, FOURTH, FOURTH))?;
+    kernel.step(&create(2, FIFTH, FIFTH))?;
+    deliver(&mut kernel, 1, THIRD, &[0x80, 0x5008, 0x50c7])?;
+    Ok(kernel)
+}
+
+/// What a page shows that was mapped from a page of a space.
+fn mapped(frame: u32, rights: u8, space: u64, page: u32) -> Option<Mapping> {
+    Some(Mapping {
+        frame,
+        rights: Rights::of_bits(rights),
+        parent: Some(Place { space, page }),
+    })
+}
+
+#[test]
+fn rights_are_common(rt: HostRuntime) -> Result<(), Fail> {
+    let mut kernel = Kernel::boot(rt.alloc(), 256)?;
+    kernel.step(&create(2, THIRD, THIRD))?;
+    kernel.step(&create(2, FOURTH, FOURTH))?;
+    deliver(&mut kernel, 1, THIRD, &[0x80, 0x5008, 0x50c5])?;
+    deliver(&mut kernel, 1, FOURTH, &[0x80, 0x6008, 0x60c7])?;
+    let outcome = deliver(&mut kernel, 3, FOURTH, &[0x80, 0x4008, 0x40e6])?;
+    assert_eq!(rt; outcome, Outcome::Done);
+    assert_eq!(rt; kernel.mapping(3, 5), mapped(5, 4, 2, 5));
+    assert_eq!(rt; kernel.mapping(3, 6), mapped(6, 7, 0, 6));
+    assert_eq!(rt; kernel.next_page(3, 0), Some(5));
+    assert_eq!(rt; kernel.next_page(3, 7), None);
+    Ok(())
+}
+
+#[test]
+fn a_page_onto_its_ancestor(rt: HostRuntime) -> Result<(), Fail> {
+    let mut kernel = with_page(rt.alloc())?;
+    let there = deliver(&mut kernel, 3, FOURTH, &[0x80, 0x9008, 0x50c7])?;
+    assert_eq!(rt; there, Outcome::Done);
+    let back = deliver(&mut kernel, 4, THIRD, &[0x80, 0x5008, 0x90c7])?;
+    assert_eq!(rt; back, Outcome::Entangled);
+    assert!(rt; replied(&kernel, 4, 0x8000, 8, NOBODY, &[]));
+    assert!(rt; replied(&kernel, 3, 0x8000, 9, NOBODY, &[]));
+    assert_eq!(rt; kernel.mapping(2, 5), mapped(5, 7, 0, 5));
+    assert_eq!(rt; kernel.mapping(3, 9), mapped(5, 7, 2, 5));
+    Ok(())
+}
+
+#[test]
+fn a_grant_hands_the_children_over(rt: HostRuntime) -> Result<(), Fail> {
+    let mut kernel = with_page(rt.alloc())?;
+    deliver(&mut kernel, 3, FOURTH, &[0x80, 0x5008, 0x50c7])?;
+    let outcome = deliver(&mut kernel, 3, FIFTH, &[0x80, 0x500a, 0x50c7])?;
+    assert_eq!(rt; outcome, Outcome::Done);
+    assert_eq!(rt; kernel.next_page(2, 0), None);
+    assert_eq!(rt; kernel.mapping(3, 5), mapped(5, 7, 4, 5));
+    assert_eq!(rt; kernel.mapping(4, 5), mapped(5, 7, 0, 5));
+    Ok(())
+}
+
+#[test]
+fn a_grant_cuts_the_children(rt: HostRuntime) -> Result<(), Fail> {
+    let mut kernel = with_page(rt.alloc())?;
+    deliver(&mut kernel, 3, FOURTH, &[0x80, 0x5008, 0x50c7])?;
+    let outcome = deliver(&mut kernel, 3, FIFTH, &[0x80, 0x500a, 0x50c4])?;
+    assert_eq!(rt; outcome, Outcome::Done);
+    assert_eq!(rt; kernel.mapping(3, 5), mapped(5, 4, 4, 5));
+    assert_eq!(rt; kernel.mapping(4, 5), mapped(5, 4, 0, 5));
+    Ok(())
+}
+
+#[test]
+fn two_items_for_one_page(rt: HostRuntime) -> Result<(), Fail> {
+    let mut kernel = with_page(rt.alloc())?;
+    let both = [0x100, 0x5009, 0x50c7, 0x5008, 0x50c7];
+    assert_eq!(rt; deliver(&mut kernel, 3, FOURTH, &both)?, Outcome::Entangled);
+    assert_eq!(rt; kernel.next_page(3, 0), None);
+    let second_unused = [0x100, 0x5009, 0x50c7, 0x5008, 0x50c0];
+    assert_eq!(rt;
+        deliver(&mut kernel, 3, FOURTH, &second_unused)?,
+        Outcome::Done
+    );
+    assert_eq!(rt; kernel.mapping(3, 5), mapped(5, 7, 2, 5));
+    let first_nil = [0x100, 0x9, 0, 0x9008, 0x50c7];
+    assert_eq!(rt; deliver(&mut kernel, 3, FOURTH, &first_nil)?, Outcome::Done);
+    assert_eq!(rt; kernel.mapping(3, 9), mapped(5, 7, 2, 5));
+    Ok(())
+}
+
+#[test]
+fn a_thread_in_the_space_of_another(rt: HostRuntime) -> Result<(), Fail> {
+    let mut kernel = Kernel::boot(rt.alloc(), 256)?;
+    kernel.step(&create(2, THIRD, THIRD))?;
+    kernel.step(&create(2, FOURTH, THIRD))?;
+    kernel.step(&create(2, FIFTH, FIFTH))?;
+    assert_eq!(rt; kernel.space_of(4), Some(2));
+    assert_eq!(rt; kernel.space_of(5), Some(3));
+    deliver(&mut kernel, 1, THIRD, &[0x80, 0x5008, 0x50c7])?;
+    let within = deliver(&mut kernel, 4, THIRD, &[0x80, 0x9008, 0x50c4])?;
+    assert_eq!(rt; within, Outcome::Done);
+    assert_eq!(rt; kernel.mapping(2, 9), mapped(5, 4, 2, 5));
+    let onto_itself = deliver(&mut kernel, 3, FOURTH, &[0x80, 0x5008, 0x50c7])?;
+    assert_eq!(rt; onto_itself, Outcome::Entangled);
+    Ok(())
+}
+
+#[test]
+fn keeps_all_where_memory_is_wanted(rt: HostRuntime) -> Result<(), Fail> {
+    let mut kernel = Kernel::boot(rt.alloc(), 256)?;
+    if let Err(refused) = kernel.step(&create(2, THIRD, THIRD)) {
+        assert_eq!(rt; refused, Refused::Lower(Lower::NoMemory));
+        assert_eq!(rt; kernel.space_of(3), None);
+        return Err(refused.into());
+    }
+    kernel.step(&receive(3, ANYBODY, COMPLETE))?;
+    kernel.step(&send(1, THIRD, &MAPS))?;
+    let answer = kernel.step(&Step::Transfer(1, 3))?;
+    if answer.outcome == Outcome::NoMemory {
+        assert_eq!(rt; kernel.next_page(2, 0), None);
+        assert_eq!(rt; kernel.next_page(0, 16), Some(16));
+        return Err(Refused::Lower(Lower::NoMemory).into());
+    }
+    assert_eq!(rt; kernel.next_page(2, 0), Some(32));
     Ok(())
 }

@@ -1,4 +1,4 @@
--- The walk up the parents of a list in which each place stands once and a parent before its children.
+-- The walk up the parents of a list in which each place stands once.
 use Rattle.std.proofs.Common.{◌≡◌, ◌≢◌, ℕ, suc, zero, ◌+◌, ◌-◌, ◌<◌, ◌≤◌, Bool, true, false, ◌||◌, ◌&&◌, not, cond, filter, List, [], ◌∷◌, length, Option, Some, None, refl, sym, ap, ◌∙◌, subst, IsTrue, ◌↔◌, slice_get, arith, inl, inr, ◌⊎◌, option_and_then, nat_eq}
 use Rattle.std.specs.Option.{option_map_or}
 use Rattle.std.specs.FinMap.{find}
@@ -6,16 +6,23 @@ use Rattle.std.proofs.lemmas.Bool.Decides.{nat_tests}
 use Rattle.std.proofs.lemmas.Option.{slice_get_within}
 use Rattle.l4_mapdb.specs.declared.Place.{Place}
 use Rattle.l4_mapdb.specs.declared.Mapping.{Mapping}
-use Rattle.l4_mapdb.specs.Mappings.{place_cmp, Mappings, parent_of, Chain, child, further, IsForest}
+use Rattle.l4_mapdb.specs.Mappings.{place_cmp, Mappings, shown, parent_of, Chain, child, further, IsForest}
 use Rattle.l4_mapdb.specs.Entries.{Entries, IsAcyclic, CoveredIn, parent_in}
-use Rattle.l4_mapdb.specs.Tangles.{climbs, same_place, covers_place}
+use Rattle.l4_mapdb.specs.Covering.{climbs, same_place, covers_place}
 use Rattle.l4_mapdb.proofs.EntriesLemmas.{eq_true, found_at, chain_up, no_chain}
 use Rattle.l4_mapdb.proofs.Adding.{and_true}
 use Rattle.l4_mapdb.proofs.Outline.{chain_along}
 use Rattle.l4_mapdb.proofs.Revoking.{of_lists, parent_shown}
 use Rattle.l4_mapdb.proofs.Filtered.{rank, kept_at}
-use Rattle.l4_mapdb.proofs.Flat.{shows_parent}
 use Rattle.std.proofs.lemmas.List.Sums.{length-filter, count_by-le-length}
+
+-- the parent of a place is of a place that is there
+pub shows_parent : (s : Mappings) (place parent : Place) → parent_of s place ≡ Some parent → (m : Mapping) × (shown s place ≡ Some m) × (m.parent ≡ Some parent)
+shows_parent s place parent up =
+    elim (shown s place) as (λ o. shown s place ≡ o → option_and_then (λ (m : Mapping). m.parent) o ≡ Some parent → (m : Mapping) × (shown s place ≡ Some m) × (m.parent ≡ Some parent)) [
+      | None ↦ λ e h. absurd (let k : ◌≡◌ {A = Option Place} None (Some parent) = h in cc)
+      | Some m ↦ λ e h. (m, e, h)
+    ] refl up
 
 pub or_true : (a b : Bool) → (a || b) ≡ true → (a ≡ true) ⊎ (b ≡ true)
 or_true true b h = inl refl
@@ -37,7 +44,7 @@ same_true a b e =
     let y : nat_eq a.page b.page ≡ true = grind (arith, nat_tests) in
     λ i. x i && y i
 
-not_same : (a b : Place) → a ≢ b → same_place a b ≡ false
+pub not_same : (a b : Place) → a ≢ b → same_place a b ≡ false
 not_same a b ne = elim (same_place a b) as (λ t. same_place a b ≡ t → t ≡ false) [
   | true ↦ λ e. absurd (ne (eq_true a b e))
   | false ↦ λ _. refl
@@ -95,7 +102,7 @@ stands es at parent up =
     ] refl up
 
 -- a chain begins with a parent
-chain_first : {parent : Place → Option Place} {low high : Place} → Chain parent low high → (q : Place) × (parent low ≡ Some q)
+pub chain_first : {parent : Place → Option Place} {low high : Place} → Chain parent low high → (q : Place) × (parent low ≡ Some q)
 chain_first {high = high} (child is) = (high, is)
 chain_first (further {middle = q} is _) = (q, is)
 
@@ -104,7 +111,7 @@ chain_append (child up) more = further up (child more)
 chain_append (further up rest) more = further up (chain_append rest more)
 
 -- no place that leads to a place without a parent leads back to itself
-no_cycle : (parent : Place → Option Place) {p r : Place} → parent r ≡ None → Chain parent p r → Chain parent p p → ⊥
+pub no_cycle : (parent : Place → Option Place) {p r : Place} → parent r ≡ None → Chain parent p r → Chain parent p p → ⊥
 no_cycle parent {p} {r} none (child up) cycle = elim (chain_up parent r up cycle) [
   | inl e ↦ (let k : ◌≡◌ {A = Option Place} None (Some r) = sym none ∙ ap parent e ∙ up in cc)
   | inr c ↦ no_chain parent none c
@@ -126,7 +133,7 @@ forest_acyclic s forest p cycle =
     ]
 
 -- a list without one of its entries is shorter
-shorter : (keep : Place × Mapping → Bool) (es : Entries) (i : ℕ) (a : Place × Mapping) → slice_get es i ≡ Some a → keep a ≡ false → length (filter keep es) < length es
+pub shorter : (keep : Place × Mapping → Bool) (es : Entries) (i : ℕ) (a : Place × Mapping) → slice_get es i ≡ Some a → keep a ≡ false → length (filter keep es) < length es
 shorter keep [] i a at out = absurd (let k : ◌≡◌ {A = Option (Place × Mapping)} None (Some a) = at in cc)
 shorter keep (e ∷ es) zero a at out =
     let one : e ≡ a = cc in
@@ -137,10 +144,10 @@ shorter keep (e ∷ es) (suc i) a at out =
     elim (keep e) as (λ b. length (cond b (e ∷ filter keep es) (filter keep es)) < suc (length es)) [ true ↦ omega (arith, r) | false ↦ omega (arith, r) ]
 
 -- the place stands in the list
-record Standing (es : Entries) (place : Place) : Type 0 where
-  index : ℕ
-  mapping : Mapping
-  at : slice_get es index ≡ Some (place, mapping)
+pub record Standing (es : Entries) (place : Place) : Type 0 where
+  pub index : ℕ
+  pub mapping : Mapping
+  pub at : slice_get es index ≡ Some (place, mapping)
 
 module _ (es : Entries) (acyclic : (p : Place) → ¬ (Chain (parent_in es) p p)) where
   -- as many steps are enough as there are entries among which all that is met stands

@@ -1,5 +1,5 @@
--- The list of places with what they show, in which each place stands once and a parent before its children.
-use Rattle.std.proofs.Common.{◌≡◌, ◌≢◌, ℕ, suc, zero, ◌+◌, ◌==◌, ◌-◌, ◌<◌, Bool, true, false, cond, [], ◌∷◌, Option, Some, None, refl, sym, ap, ◌∙◌, ◌↔◌, IsTrue, subst, slice_get, arith, inl, inr, ◌⊎◌, option_and_then, ◌&&◌, nat_eq}
+-- The list of places with what they show, in which each place stands once.
+use Rattle.std.proofs.Common.{◌≡◌, ◌≢◌, ℕ, suc, zero, ◌+◌, ◌==◌, ◌<◌, Bool, true, false, cond, [], ◌∷◌, Option, Some, None, refl, sym, ap, ◌∙◌, ◌↔◌, IsTrue, subst, slice_get, arith, inl, inr, ◌⊎◌, option_and_then, ◌&&◌, nat_eq}
 use Rattle.std.specs.Ordering.{eq_by_cmp, is_eq}
 use Rattle.std.specs.Cmp.{tied_itself}
 use Rattle.std.specs.declared.cmp.Ordering.{Ordering}
@@ -9,7 +9,7 @@ use Rattle.std.proofs.lemmas.Bool.Decides.{nat_tests}
 use Rattle.l4_mapdb.specs.declared.Place.{Place}
 use Rattle.l4_mapdb.specs.declared.Mapping.{Mapping}
 use Rattle.l4_mapdb.specs.Mappings.{place_cmp, Chain, child, further}
-use Rattle.l4_mapdb.specs.Entries.{Entries, StandOnce, ParentsFirst, parent_in, StandsAtIndex}
+use Rattle.l4_mapdb.specs.Entries.{Entries, StandOnce, parent_in, StandsAtIndex}
 use Rattle.l4_mapdb.proofs.Places.{places_total, exact_places}
 
 pub tie : (p q : Place) → p ≡ q → eq_by_cmp place_cmp p q ≡ true
@@ -104,24 +104,6 @@ ends_no parent low at high same none = (λ h. absurd (let k : false ≡ true = h
 pub passes_on : (parent : Place → Option Place) (at next high : Place) → parent at ≡ Some next → next ≢ high → Chain parent at high ↔ Chain parent next high
 passes_on parent at next high up ne =
     (λ h. elim (chain_up parent next up h) [ inl e ↦ absurd (ne e) | inr r ↦ r ], λ h. further up h)
-
-module _ (es : Entries) (once : StandOnce es) (first : ParentsFirst es) (i : ℕ) (item : Place × Mapping) (there : slice_get es i ≡ Some item) (at : Place) (same : item.0 ≡ at) where
-  pub parent_here : parent_in es at ≡ item.1.parent
-  parent_here = ap (parent_in es) (sym same) ∙ parent_at es i item once there
-
-  -- the parent stands before what was passed
-  pub parent_below : (parent : Place) → item.1.parent ≡ Some parent → (j : ℕ) (a : Place × Mapping) → slice_get es j ≡ Some a → a.0 ≡ parent → j < i
-  parent_below parent is j a at_j e = first i j item a there at_j (is ∙ ap (λ (p : Place). Some p) (sym e))
-
--- what was to stand below i and is not at i - 1 stands below i - 1
-pub still_below : (es : Entries) (i : ℕ) (item : Place × Mapping) (at : Place) → 0 < i → slice_get es (i - 1) ≡ Some item → item.0 ≢ at → ((j : ℕ) (a : Place × Mapping) → slice_get es j ≡ Some a → a.0 ≡ at → j < i) → (j : ℕ) (a : Place × Mapping) → slice_get es j ≡ Some a → a.0 ≡ at → j < i - 1
-still_below es i item at pos there ne below j a at_j e =
-    let lt : j < i = below j a at_j e in
-    let apart : j ≢ i - 1 = λ is.
-    (let both : Some a ≡ Some item = sym at_j ∙ ap (slice_get es) is ∙ there in
-    let one : a ≡ item = cc in
-    ne (ap (λ x. x.0) (sym one) ∙ e)) in
-    omega arith
 
 -- by cases on a test
 pub decided : {A : Type 0} (b : Bool) → (IsTrue b → A) → (¬ (IsTrue b) → A) → A

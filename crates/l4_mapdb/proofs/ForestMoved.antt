@@ -1,44 +1,31 @@
 -- A delivery that is not entangled leaves a forest.
-use Rattle.std.proofs.Common.{◌≡◌, ◌≢◌, ℕ, ◌<◌, ◌^◌, ◌==◌, true, Option, Some, None, IsTrue, is_some, refl, sym, ap, ◌∙◌, subst, inl, inr, ◌⊎◌, option_and_then, unwrap_or, arith}
-use Rattle.std.proofs.lemmas.Bool.Decides.{nat_tests}
+use Rattle.std.proofs.Common.{◌≡◌, ◌≢◌, ℕ, ◌<◌, ◌^◌, Option, Some, None, IsTrue, is_some, refl, sym, ap, ◌∙◌, subst, inl, inr, ◌⊎◌, option_and_then, unwrap_or}
 use Rattle.std.specs.FinSet as set
-use Rattle.l4_fpage.specs.Rights.{RightsSet, Right, has, no_rights, Within}
+use Rattle.l4_fpage.specs.Rights.{RightsSet, Right, has, Within}
 use Rattle.l4_mapdb.specs.declared.Place.{Place}
 use Rattle.l4_mapdb.specs.declared.Mapping.{Mapping}
 use Rattle.l4_mapdb.specs.Mappings.{Mappings, shown, parent_of, Chain, child, further, Descends, IsOrDescends, IsPresent, IsRoot, IsForest}
 use Rattle.l4_mapdb.specs.Transfer.{Stays, PageMove, IsGranted, IsEntangled, IsGone, StandsAt, ParentLater, IsMapped, Becomes, Moved, IsCut, Transfers}
 use Rattle.l4_mapdb.proofs.EntriesLemmas.{decided}
+use Rattle.l4_mapdb.proofs.Single.{KnownMoves, one_target, one_grant, one_place}
 use Rattle.l4_mapdb.proofs.ForestKept.{decide, IsLoose, LooseParent, forest_kept}
 
 same_value : {X : Type 0} {x y : X} → Some x ≡ Some y → x ≡ y
 same_value {x = x} e = ap (λ o. unwrap_or o x) e
-
--- what is known of each used move
-pub record KnownMoves (Used : PageMove → Type 0) (old : Mappings) : Type 0 where
-  pub shows : (u : PageMove) → Used u → shown old u.source ≡ Some u.shows
-  pub within : (u : PageMove) → Used u → Within u.rights u.shows.rights
-  pub some_right : (u : PageMove) → Used u → u.rights ≢ no_rights
-  pub in_space : (u : PageMove) → Used u → IsTrue (set.contains old.spaces u.target.space)
-  pub page_fits : (u : PageMove) → Used u → u.target.page < 2 ^ 20
-  pub same_source : (u v : PageMove) → Used u → Used v → u.item ≡ v.item → u.source ≡ v.source → u ≡ v
-  pub same_target : (u v : PageMove) → Used u → Used v → u.item ≡ v.item → u.target ≡ v.target → u ≡ v
 
 module _ (Used : PageMove → Type 0) (old mid : Mappings) (known : KnownMoves Used old) (forest : IsForest old)
     (free : ¬ (IsEntangled Used old)) (moved : Moved Used old mid) where
   abbrev Cut : Place → Right → Type 0
   Cut = IsCut Used mid
 
-  -- two used moves with one target are one
-  one_target : (u v : PageMove) → Used u → Used v → u.target ≡ v.target → u ≡ v
-  one_target u v a b e = decided (u.item == v.item)
-      (λ t. let i : u.item ≡ v.item = grind (arith, nat_tests) in known.same_target u v a b i e)
-      (λ f. absurd (free (inl (record { one = u; other = v; one_used = a; other_used = b; differ = λ i. f (let t : (u.item == v.item) ≡ true = grind (arith, nat_tests) in t); target = e }))))
+  same_target : (u v : PageMove) → Used u → Used v → u.target ≡ v.target → u ≡ v
+  same_target = one_target Used old known free
 
-  -- a granted source is the source of one used move
-  one_grant : (u v : PageMove) → Used u → Used v → IsTrue u.grant → u.source ≡ v.source → u ≡ v
-  one_grant u v a b g e = decided (u.item == v.item)
-      (λ t. let i : u.item ≡ v.item = grind (arith, nat_tests) in known.same_source u v a b i e)
-      (λ f. absurd (free (inr (inl (record { one = u; other = v; one_used = a; other_used = b; differ = λ i. f (let t : (u.item == v.item) ≡ true = grind (arith, nat_tests) in t); grant = g; source = e })))))
+  same_grant : (u v : PageMove) → Used u → Used v → IsTrue u.grant → u.source ≡ v.source → u ≡ v
+  same_grant = one_grant Used old known free
+
+  same_place : (c q r : Place) → StandsAt Used c q → StandsAt Used c r → q ≡ r
+  same_place = one_place Used old known free
 
   -- no source is gone
   source_stays : (u : PageMove) → Used u → ¬ (IsGone Used old u.source)
@@ -94,9 +81,9 @@ module _ (Used : PageMove → Type 0) (old mid : Mappings) (known : KnownMoves U
   granted_stands : (u : PageMove) → Used u → IsTrue u.grant → (k : Mapping) → shown mid u.target ≡ Some k → Stands u.source u.target u.shows k
   granted_stands u a g k at =
       elim ((moved.places u.target k).0 at) [
-        | inl b ↦ absurd (let e : b.move ≡ u = one_target b.move u b.used a b.target in b.map (subst (λ (v : PageMove). IsTrue v.grant) (sym e) g))
+        | inl b ↦ absurd (let e : b.move ≡ u = same_target b.move u b.used a b.target in b.map (subst (λ (v : PageMove). IsTrue v.grant) (sym e) g))
         | inr (inl b) ↦
-            let e : b.move ≡ u = one_target b.move u b.used a b.target in
+            let e : b.move ≡ u = same_target b.move u b.used a b.target in
             record {
               was = known.shows u a;
               now = at;
@@ -186,7 +173,7 @@ module _ (Used : PageMove → Type 0) (old mid : Mappings) (known : KnownMoves U
 
   not_granted_source : (u : PageMove) → Used u → ¬ (IsTrue u.grant) → ¬ (IsGranted Used u.source)
   not_granted_source u a map g =
-      let e : g.move ≡ u = one_grant g.move u g.used a g.grant g.source in
+      let e : g.move ≡ u = same_grant g.move u g.used a g.grant g.source in
       map (subst (λ (v : PageMove). IsTrue v.grant) e g.grant)
 
   -- the source of a map item stands where it stood
@@ -253,14 +240,6 @@ module _ (Used : PageMove → Type 0) (old mid : Mappings) (known : KnownMoves U
         | inr chain ↦ up_root m.frame chain root q b m s
       ]
 
-  one_place : (c q r : Place) → StandsAt Used c q → StandsAt Used c r → q ≡ r
-  one_place c q r (inl g) (inl h) =
-      let e : g.0 ≡ h.0 = one_grant g.0 h.0 g.1 h.1 g.2 (g.3 ∙ sym h.3) in
-      sym g.4 ∙ ap (λ (v : PageMove). v.target) e ∙ h.4
-  one_place c q r (inl g) (inr n) = absurd (n.0 (record { move = g.0; used = g.1; grant = g.2; source = g.3 }))
-  one_place c q r (inr n) (inl g) = absurd (n.0 (record { move = g.0; used = g.1; grant = g.2; source = g.3 }))
-  one_place c q r (inr n) (inr k) = sym n.1 ∙ k.1
-
   -- the root of a frame stood at its root
   record RootWas (frame : ℕ) (q : Place) : Type 0 where
     c : Place
@@ -281,7 +260,7 @@ module _ (Used : PageMove → Type 0) (old mid : Mappings) (known : KnownMoves U
   chain_moved : {c p : Place} → Chain (parent_of old) c p → (q p' : Place) (b m : Mapping) → Stands c q b m → StandsAt Used p p' → Descends mid q p'
   chain_moved {c} {p} (child up) q p' b m s stood =
       let t = step_up c q b m p s (sym (ap (option_and_then (λ (x : Mapping). x.parent)) s.was) ∙ up) in
-      child (parent_is q m s.now ∙ t.up ∙ ap (λ (x : Place). Some x) (one_place p t.later p' t.stood stood))
+      child (parent_is q m s.now ∙ t.up ∙ ap (λ (x : Place). Some x) (same_place p t.later p' t.stood stood))
   chain_moved {c} {p} (further {middle = c'} up rest) q p' b m s stood =
       let t = step_up c q b m c' s (sym (ap (option_and_then (λ (x : Mapping). x.parent)) s.was) ∙ up) in
       further (parent_is q m s.now ∙ t.up) (chain_moved rest t.later p' t.a t.k t.stands stood)
@@ -315,8 +294,8 @@ module _ (Used : PageMove → Type 0) (old mid : Mappings) (known : KnownMoves U
       (λ map.
       let t = source_stands u used map in
       let up : parent_of mid u.target ≡ Some u.source = elim ((moved.places u.target m).0 at) [
-        | inl x ↦ parent_is u.target m at ∙ x.parent ∙ ap (λ (v : PageMove). Some v.source) (one_target x.move u x.used used x.target)
-        | inr (inl x) ↦ absurd (map (subst (λ (v : PageMove). IsTrue v.grant) (one_target x.move u x.used used x.target) x.grant))
+        | inl x ↦ parent_is u.target m at ∙ x.parent ∙ ap (λ (v : PageMove). Some v.source) (same_target x.move u x.used used x.target)
+        | inr (inl x) ↦ absurd (map (subst (λ (v : PageMove). IsTrue v.grant) (same_target x.move u x.used used x.target) x.grant))
         | inr (inr x) ↦ absurd (x.not_gone (target_gone u used u.target x.before refl x.at))
       ] in
       elim d [
@@ -367,7 +346,7 @@ module _ (Used : PageMove → Type 0) (old mid : Mappings) (known : KnownMoves U
         let s = root_was f a x in
         let t = root_was f b y in
         let e : s.c ≡ t.c = forest.one_root f s.c t.c s.root t.root in
-        one_place t.c a b (subst (λ (v : Place). StandsAt Used v a) e s.stood) t.stood;
+        same_place t.c a b (subst (λ (v : Place). StandsAt Used v a) e s.stood) t.stood;
   }
 
 -- a delivery that is not entangled leaves a forest

@@ -6,18 +6,21 @@ pub mod Filtered
 pub mod Revoking
 pub mod ForestKept
 pub mod Adding
-pub mod Mapped
+pub mod Appending
+pub mod Single
 pub mod ForestMoved
 pub mod UsedMoves
 pub mod Own
 pub mod ForestEnds
 pub mod Beginning
-pub mod Putting
+pub mod Laters
 pub mod Nearest
-pub mod Delivering
-pub mod Flat
 pub mod Climbing
+pub mod Middle
+pub mod Cutting
 pub mod Clashing
+pub mod Sources
+pub mod Rising
 pub mod Tangled
 mod Rows
 pub mod Along

@@ -10,7 +10,7 @@ use Rattle.l4_mapdb.specs.Mappings.{place_cmp, shown, IsPresent, IsRoot}
 use Rattle.l4_mapdb.specs.Places.{NonePresentFrom, IsNextPresent}
 use Rattle.l4_mapdb.specs.Entries.{Entries, StandOnce, NoneIn, IsNextIn, NoRootIn, IsRootIn}
 use Rattle.l4_mapdb.proofs.EntriesLemmas.{found_at, found_once, found_some, decided}
-use Rattle.l4_mapdb.proofs.Mapped.{at_append, append_first, append_second}
+use Rattle.l4_mapdb.proofs.Appending.{at_append, append_first, append_second}
 use Rattle.l4_mapdb.proofs.Revoking.{of_lists, shown_in}
 
 pub one_more : (es : Entries) (item : Place × Mapping) (i : ℕ) (a : Place × Mapping) → slice_get (es ++ item ∷ []) i ≡ Some a → (slice_get es i ≡ Some a) ⊎ (item ≡ a)

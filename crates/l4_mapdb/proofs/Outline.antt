@@ -9,7 +9,7 @@ use Rattle.l4_fpage.specs.Rights.{RightsSet, without}
 use Rattle.l4_mapdb.specs.declared.Place.{Place}
 use Rattle.l4_mapdb.specs.declared.Mapping.{Mapping}
 use Rattle.l4_mapdb.specs.Mappings.{place_cmp, Chain, child, further}
-use Rattle.l4_mapdb.specs.Entries.{Entries, StandOnce, ParentsFirst, IsAcyclic, parent_in, outline, outlined, IsCutEntry, CoveredIn}
+use Rattle.l4_mapdb.specs.Entries.{Entries, StandOnce, IsAcyclic, parent_in, outline, outlined, IsCutEntry, CoveredIn}
 
 -- an entry of the other list, with the same place and parent
 pub record Twin (fs : Entries) (i : ℕ) (a : Place × Mapping) : Type 0 where
@@ -35,12 +35,6 @@ once_along es fs same once i j a b at_i at_j e =
     let s = twin_of es fs same i a at_i in
     let t = twin_of es fs same j b at_j in
     once i j s.twin t.twin s.at t.at (s.place ∙ e ∙ sym t.place)
-
-pub first_along : (es fs : Entries) → outline es ≡ outline fs → ParentsFirst fs → ParentsFirst es
-first_along es fs same first i j a b at_i at_j e =
-    let s = twin_of es fs same i a at_i in
-    let t = twin_of es fs same j b at_j in
-    first i j s.twin t.twin s.at t.at (s.parent ∙ e ∙ ap (λ (p : Place). Some p) (sym t.place))
 
 pub parent_along : (es fs : Entries) → outline es ≡ outline fs → (p : Place) → parent_in es p ≡ parent_in fs p
 parent_along [] [] same p = refl

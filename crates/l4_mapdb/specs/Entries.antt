@@ -1,5 +1,5 @@
--- The list of places with what they show, in which each place stands once and a parent before its children.
-use Rattle.std.specs.Prelude.{◌≡◌, ℕ, zero, suc, [], ◌∷◌, ◌++◌, None, ◌<◌, ◌⊎◌, Bool, not, ◌==◌, ◌&&◌, nat_le, nat_lt, ◌≤◌, ◌+◌, ◌-◌, ◌^◌, IsTrue, ◌↔◌, ◌≢◌, if◌then◌else◌, is_some, List, map, Option, Some, slice_get, option_and_then}
+-- The list of places with what they show, in which each place stands once.
+use Rattle.std.specs.Prelude.{◌≡◌, ℕ, zero, suc, [], ◌∷◌, ◌++◌, None, ◌⊎◌, Bool, not, ◌==◌, ◌&&◌, nat_le, nat_lt, ◌≤◌, ◌+◌, ◌-◌, ◌^◌, IsTrue, if◌then◌else◌, List, map, Option, Some, slice_get, option_and_then}
 use Rattle.l4_fpage.specs.Rights.{RightsSet, without, is_none, common, all_rights}
 use Rattle.std.specs.FinMap.{find}
 use Rattle.l4_mapdb.specs.declared.Place.{Place}
@@ -13,10 +13,6 @@ Entries = List (Place × Mapping)
 -- each place stands once
 abbrev pub StandOnce : Entries → Type 0
 StandOnce es = (i j : ℕ) (a b : Place × Mapping) → slice_get es i ≡ Some a → slice_get es j ≡ Some b → a.0 ≡ b.0 → i ≡ j
-
--- a parent stands before its children
-abbrev pub ParentsFirst : Entries → Type 0
-ParentsFirst es = (i j : ℕ) (a b : Place × Mapping) → slice_get es i ≡ Some a → slice_get es j ≡ Some b → a.1.parent ≡ Some b.0 → j < i
 
 -- the place stands at this index
 pub record StandsAtIndex (place : Place) (es : Entries) (index : ℕ) : Type 0 where
@@ -102,47 +98,6 @@ child_entry receiver by e = (
 -- the entry that the item makes of this one, if it moves it
 abbrev pub child_of : ℕ → ℕ → ItemMove → Place × Mapping → Option (Place × Mapping)
 child_of sender receiver by e = if moves_it sender by e then Some (child_entry receiver by e) else None
-
--- the item moves the entry to a place that isn't in the list
-abbrev pub adds_place : Entries → ℕ → ℕ → ItemMove → Place × Mapping → Bool
-adds_place es sender receiver by e = moves_it sender by e && not (is_some (find place_cmp (child_entry receiver by e).0 es))
-
--- the list shows this mapping at the place, what it held there before is gone, and all else is as it was
-pub record Puts (place : Place) (mapping : Mapping) (old new : Entries) : Type 0 where
-  pub once : StandOnce new
-  pub here : find place_cmp place new ≡ Some mapping
-  pub elsewhere : (other : Place) → other ≢ place → find place_cmp other new ≡ find place_cmp other old
-  pub each : (i : ℕ) (a : Place × Mapping) → slice_get old i ≡ Some a → (b : Place × Mapping) × (slice_get new i ≡ Some b) × (b.0 ≡ a.0) × (a.0 ≢ place → b ≡ a)
-
--- one of the first entries, up to the count, is moved to the place, and this is what it shows there
-pub record IsPut (sender receiver : ℕ) (by : ItemMove) (es : Entries) (count : ℕ) (place : Place) (mapping : Mapping) : Type 0 where
-  pub index : ℕ
-  pub below : index < count
-  pub source : Place × Mapping
-  pub source_at : slice_get es index ≡ Some source
-  pub moves : IsTrue (moves_it sender by source)
-  pub is : (place, mapping) ≡ child_entry receiver by source
-
--- the place was shown so before, and none of the first entries is moved to it
-pub record IsLeftAlone (sender receiver : ℕ) (by : ItemMove) (es : Entries) (count : ℕ) (place : Place) (mapping : Mapping) : Type 0 where
-  pub before : find place_cmp place es ≡ Some mapping
-  pub no_target : (index : ℕ) (source : Place × Mapping) → index < count → slice_get es index ≡ Some source → IsTrue (moves_it sender by source) → (child_entry receiver by source).0 ≢ place
-
--- what the list shows once the first entries are moved
-abbrev pub ShowsMoved : ℕ → ℕ → ItemMove → Entries → ℕ → Entries → Type 0
-ShowsMoved sender receiver by es count new = (place : Place) (mapping : Mapping) →
-    (find place_cmp place new ≡ Some mapping) ↔ (IsPut sender receiver by es count place mapping ⊎ IsLeftAlone sender receiver by es count place mapping)
-
--- the entry is one that an item of the list makes of one of the entries
-pub record IsAdded (sender receiver : ℕ) (items : List ItemMove) (es : Entries) (x : Place × Mapping) : Type 0 where
-  pub item : ℕ
-  pub by : ItemMove
-  pub item_at : slice_get items item ≡ Some by
-  pub index : ℕ
-  pub source : Place × Mapping
-  pub source_at : slice_get es index ≡ Some source
-  pub moves : IsTrue (moves_it sender by source)
-  pub is : x ≡ child_entry receiver by source
 
 -- sigma0's page for a frame
 abbrev pub own_entry : ℕ → Place × Mapping

@@ -1,9 +1,12 @@
 pub mod Mappings
 pub mod Losing
 pub mod Transfer
-pub mod Flat
 pub mod Places
 pub mod Entries
 pub mod Tangles
+pub mod Covering
 pub mod Boot
 pub mod Forest
+pub mod Shown
+pub mod Building
+pub mod Causes

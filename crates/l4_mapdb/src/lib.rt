@@ -2,16 +2,18 @@
 //! which page it was mapped (L4 X.2 manual, IPC: map and grant items).
 #![tactic(auto)]
 
-ghost use Rattle.std.specs.Prelude.{◌≡◌, ◌↔◌, ◌≢◌, ◌≤◌, ◌∷◌, [], IsTrue, IsOk, OnOk, OnErr, IfOk, MatchOption, Some, codes};
+ghost use Rattle.std.specs.Prelude.{◌≡◌, ◌↔◌, ◌≢◌, ◌≤◌, ◌∷◌, [], IsTrue, IsOk, OnOk, OnErr, IfOk, IfErr, MatchOption, Some, codes};
 ghost use Rattle.std.specs.FinSet as set;
 
+mod building;
 mod lists;
 mod losing;
+mod moving;
 mod tangles;
 #[cfg(test)]
 mod tests;
 
-use l4_fpage::Rights;
+use l4_fpage::{Block, Rights};
 use l4_msg::Move;
 use std::alloc::{AllocError, AllocFailed, Global};
 use std::fmt;
@@ -46,6 +48,27 @@ pub struct ItemMove {
     pub rights: Rights,
     /// Whether the item grants its pages rather than maps them.
     pub grant: bool,
+}
+
+impl Default for ItemMove {
+    ghost use Rattle.std.specs.Prelude.{◌≡◌, false};
+    ghost use Rattle.l4_fpage.specs.Rights.{no_rights};
+
+    ghost is_default = { λ item. (item.rights ≡ no_rights) × (item.grant ≡ false) };
+
+    /// A map item without a right, of which no move is ever used.
+    fn default() -> ItemMove {
+        let page = Block { first: 0, log: 0 };
+        let mv = Move {
+            source: page,
+            target: page,
+        };
+        ItemMove {
+            mv,
+            rights: Rights::of_bits(0),
+            grant: false,
+        }
+    }
 }
 
 /// There was no memory for what was asked, and nothing was changed.
@@ -88,6 +111,8 @@ pub enum Cause {
 #[derive(Drop)]
 pub struct Forest {
     places: Vec<(Place, Mapping)>,
+    // where the list of places is built anew; it has room for as many
+    next: Vec<(Place, Mapping)>,
     spaces: Vec<u64>,
 }
 
@@ -109,8 +134,8 @@ impl Forest {
     ghost use Rattle.l4_mapdb.specs.Mappings.{Mappings, shown, IsForest, IsRoot};
     ghost use Rattle.l4_mapdb.specs.Boot.{IsFirst};
     ghost use Rattle.l4_mapdb.specs.Places.{NonePresentFrom, IsNextPresent};
-    ghost use Rattle.l4_mapdb.specs.Transfer.{IsUsed, IsEntangled, NeedsPlace, TargetsPresent, Delivers};
-    ghost use Rattle.l4_mapdb.specs.Flat.{IsFlatBetween};
+    ghost use Rattle.l4_mapdb.specs.Transfer.{IsUsed, IsEntangled, Delivers};
+    ghost use Rattle.l4_mapdb.specs.Causes.{HasCause};
     ghost use Rattle.l4_mapdb.specs.Losing.{Revokes};
 
     /// The mappings at the start: space 0 shows each frame below `frames` at the page of its number
@@ -121,9 +146,14 @@ impl Forest {
         ensures { IfOk result (IsFirst frames) }
     {
         let places = lists::own_places(alloc, frames)?;
+        let next = Vec::with_capacity(alloc, places.len())?;
         let mut spaces = Vec::new(alloc);
         spaces.push(0)?;
-        Ok(Forest { places, spaces })
+        Ok(Forest {
+            places,
+            next,
+            spaces,
+        })
     }
 
     /// Begins an empty space. Nothing changes if it is there.
@@ -166,30 +196,34 @@ impl Forest {
     pub fn is_entangled(&self, from: u64, to: u64, moves: &[ItemMove]) -> bool
         ensures { IsTrue result ↔ IsEntangled (IsUsed self.now from to moves.now) self.now }
     {
-        tangles::has_clash(&self.places, from, to, moves)
+        tangles::has_tangle(&self.places, from, to, moves)
     }
 
-    /// Delivers one map item from the one space to the other: the pages of its source that are
-    /// present and share a right with it are mapped to the pages of its target, in place of what
-    /// those showed. The spaces are two that are there, and nothing was mapped from the second.
+    /// Moves what a message maps and grants from the one space to the other, and these are two spaces that are there, or one. Used are
+    /// the moves of pages that are present and share a right with their item. All is read before anything is changed. Each present
+    /// target of a used move goes with all its descendants. A mapped page shows the source's frame with the common rights, and has the
+    /// source as parent. A granted page takes its source's place, with the common rights: it has its parent and its children, and all that
+    /// descends from it loses the rights that the source had and it has not (L4 X.2 manual, IPC: map item, grant item).
     ///
-    /// NoMemory can come only where a page that is not present has to be mapped, and changes
-    /// nothing.
-    pub fn map_item(&mut self, from: u64, to: u64, item: &ItemMove) -> Result<(), NoMemory>
-        requires map { ¬ (IsTrue item.now.grant) }
-        requires flat { IsFlatBetween from to self.old }
-
-        ensures ok { OnOk result (Delivers from to (item.now ∷ []) self.old self.new) }
+    /// `Entangled` comes where the used moves contradict each other, and else `NoMemory` may come, but only where a used target is not
+    /// present. After either, every mapping is as before.
+    pub fn map_all(&mut self, from: u64, to: u64, moves: &[ItemMove]) -> Result<(), Cause>
+        requires from_there { IsTrue (set.contains self.old.spaces from) }
+        requires to_there { IsTrue (set.contains self.old.spaces to) }
+        ensures ok { OnOk result (Delivers from to moves.now self.old self.new) }
+        ensures free { OnOk result (¬ (IsEntangled (IsUsed self.old from to moves.now) self.old)) }
         ensures err { OnErr result (self.new ≡ self.old) }
 
         // Only a used target that is not present needs memory.
-        ensures no_memory { OnErr result (NeedsPlace (IsUsed self.old from to (item.now ∷ [])) self.old) }
-        ensures succeeds { TargetsPresent (IsUsed self.old from to (item.now ∷ [])) self.old → IsOk result }
+        ensures cause { IfErr result (HasCause (IsUsed self.old from to moves.now) self.old) }
     {
-        let absent = lists::absent_targets(&self.places, from, to, item);
-        self.places.reserve(absent)?;
-        lists::deliver(&mut self.places, from, to, item);
-        Ok(())
+        if self.is_entangled(from, to, moves) {
+            return Err(Cause::Entangled);
+        }
+        match building::transfer(&mut self.places, &mut self.next, from, to, moves) {
+            Ok(()) => Ok(()),
+            Err(_) => Err(Cause::NoMemory),
+        }
     }
 
     /// Takes the rights from all that descends from the page of the space, and from that page too

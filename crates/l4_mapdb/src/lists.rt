@@ -4,7 +4,7 @@ ghost use Rattle.std.specs.Prelude.{◌≡◌, ◌↔◌, ◌≢◌, ◌+◌, �
 ghost use Rattle.std.specs.FinMap.{find};
 ghost use Rattle.std.specs.Option.{option_map_or};
 ghost use Rattle.l4_mapdb.specs.Mappings.{place_cmp};
-ghost use Rattle.l4_mapdb.specs.Entries.{StandOnce, StandsAtIndex, Puts, ShowsMoved, IsNextIn, NoneIn, IsRootIn, NoRootIn, child_of, adds_place, own_entries};
+ghost use Rattle.l4_mapdb.specs.Entries.{StandsAtIndex, IsNextIn, NoneIn, IsRootIn, NoRootIn, child_of, own_entries, parent_in};
 
 use crate::{ItemMove, Mapping, Place};
 use l4_fpage::Rights;
@@ -42,8 +42,15 @@ pub(crate) fn mapping_in(places: &[(Place, Mapping)], place: Place) -> Option<Ma
     None
 }
 
+/// The place that this one was mapped from.
+pub(crate) fn parent_at(places: &[(Place, Mapping)], place: Place) -> Option<Place>
+    ensures { result ≡ parent_in places.now place }
+{
+    mapping_in(places, place)?.parent
+}
+
 /// Where the place stands in the list.
-fn index_in(places: &[(Place, Mapping)], place: Place) -> Option<usize>
+pub(crate) fn index_in(places: &[(Place, Mapping)], place: Place) -> Option<usize>
     ensures { MatchOption result (find place_cmp place places.now ≡ None) (StandsAtIndex place places.now) }
 {
     for i in 0..places.len() {
@@ -119,68 +126,4 @@ pub(crate) fn child(
         parent: Some(place),
     };
     Some((target, mapped))
-}
-
-/// Whether a map item moves the entry to a place that is not in the list.
-fn is_absent(
-    places: &[(Place, Mapping)],
-    from: u64,
-    to: u64,
-    item: &ItemMove,
-    entry: &(Place, Mapping),
-) -> bool
-    ensures { result ≡ adds_place places.now from to item.now entry.now }
-{
-    match child(from, to, item, entry) {
-        None => false,
-        Some((place, _)) => mapping_in(places, place).is_none(),
-    }
-}
-
-/// How many entries a map item moves to places that are not in the list.
-pub(crate) fn absent_targets(
-    places: &[(Place, Mapping)],
-    from: u64,
-    to: u64,
-    item: &ItemMove,
-) -> usize
-    ensures { result ≡ count_by (adds_place places.now from to item.now) places.now }
-{
-    places
-        .iter()
-        .filter(|entry| is_absent(places, from, to, item, entry))
-        .count()
-}
-
-/// Lets the place show the mapping. A place that is not in the list needs room for one more.
-fn put(places: &mut Vec<(Place, Mapping)>, place: Place, mapping: Mapping)
-    requires once { StandOnce places.old.items }
-    requires room { find place_cmp place places.old.items ≡ None → vec_len places.old < vec_capacity places.old }
-    ensures puts { Puts place mapping places.old.items places.new.items }
-    ensures capacity { vec_capacity places.old ≤ vec_capacity places.new }
-    ensures longer { vec_len places.new ≤ vec_len places.old + 1 }
-    ensures same_len { find place_cmp place places.old.items ≢ None → vec_len places.new ≡ vec_len places.old }
-{
-    match index_in(places, place) {
-        Some(i) => places[i] = (place, mapping),
-        None => {
-            let _ = places.push((place, mapping));
-        }
-    }
-}
-
-/// Maps all that a map item moves. There is room for the places that are not in the list.
-pub(crate) fn deliver(places: &mut Vec<(Place, Mapping)>, from: u64, to: u64, item: &ItemMove)
-    requires apart { from ≢ to }
-    requires once { StandOnce places.old.items }
-    requires room { vec_len places.old + count_by (adds_place places.old.items from to item.now) places.old.items ≤ vec_capacity places.old }
-    ensures once { StandOnce places.new.items }
-    ensures shows { ShowsMoved from to item.now places.old.items (vec_len places.old) places.new.items }
-{
-    for i in 0..places.len() {
-        let entry = places[i];
-        if let Some((place, mapping)) = child(from, to, item, &entry) {
-            put(places, place, mapping);
-        }
-    }
 }

@@ -2,10 +2,10 @@
 
 ghost use Rattle.std.specs.Prelude.{◌≡◌, ◌↔◌, ◌||◌, ◌&&◌, IsTrue, length, filter};
 ghost use Rattle.l4_fpage.specs.Rights.{without};
-ghost use Rattle.l4_mapdb.specs.Tangles.{same_place, covers_place};
+ghost use Rattle.l4_mapdb.specs.Covering.{same_place, climbs, covers_place};
 ghost use Rattle.l4_mapdb.specs.Entries.{IsAcyclic, CoveredIn, CutsEntries, has_right};
 
-use crate::tangles::descends;
+use crate::lists::parent_at;
 use crate::{Mapping, Place};
 use l4_fpage::Rights;
 
@@ -14,6 +14,23 @@ fn is_meant(with_self: bool, place: Place, from: Place) -> bool
     ensures { result ≡ (with_self && same_place place from) }
 {
     with_self && place == from
+}
+
+/// Whether the first place descends from the second. A chain of parents meets no place twice.
+fn descends(places: &[(Place, Mapping)], low: Place, high: Place) -> bool
+    ensures { result ≡ climbs (length places.now) places.now low high }
+{
+    let mut at = low;
+    for _ in 0..places.len() {
+        let Some(parent) = parent_at(places, at) else {
+            return false;
+        };
+        if parent == high {
+            return true;
+        }
+        at = parent;
+    }
+    false
 }
 
 /// Whether the place descends from the other, or is the other where that one is meant too.

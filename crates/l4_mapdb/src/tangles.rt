@@ -1,141 +1,176 @@
 //! Whether what a message does would depend on the order of its items.
 
-ghost use Rattle.std.specs.Prelude.{◌≡◌, ◌&&◌, ◌||◌, is_some, ◌↔◌, ◌<◌, ◌==◌, not, length, IsTrue, Some, slice_get};
-ghost use Rattle.std.specs.List.{list_any};
-ghost use Rattle.std.specs.FinMap.{find};
-ghost use Rattle.l4_mapdb.specs.Mappings.{place_cmp};
-ghost use Rattle.l4_mapdb.specs.Entries.{StandOnce, ParentsFirst, parent_in};
-ghost use Rattle.l4_mapdb.specs.Tangles.{climbs, same_place, clash, items_clash, ClashesWith, HasClash};
+ghost use Rattle.std.specs.Prelude.{◌≡◌, ◌≢◌, ◌↔◌, ◌<◌, length, IsTrue, MatchOption};
+ghost use Rattle.l4_mapdb.specs.Mappings.{Mappings, IsForest};
+ghost use Rattle.l4_mapdb.specs.Transfer.{PageMove, IsUsed, IsEntangled};
+ghost use Rattle.l4_mapdb.specs.Shown.{IsShownBy, page_move};
+ghost use Rattle.l4_mapdb.specs.Tangles.{FillsToo, MovesToo, Tangles, ItemTangles, PlaceTangles};
 
-use crate::lists::{child, mapping_in};
+use crate::moving::{UsedMove, is_gone, move_into, move_out};
 use crate::{ItemMove, Mapping, Place};
 
-/// Whether the first place descends from the second. A chain of parents meets no place twice.
-pub(crate) fn descends(places: &[(Place, Mapping)], low: Place, high: Place) -> bool
-    ensures { result ≡ climbs (length places.now) places.now low high }
+/// The used move of the item `other` into the place, None too if that is this item.
+fn other_into(
+    places: &[(Place, Mapping)],
+    from: u64,
+    to: u64,
+    items: &[ItemMove],
+    item: usize,
+    other: usize,
+    place: Place,
+) -> Option<UsedMove>
+    requires { other < length items.now }
+    ensures { (s : Mappings) → IsShownBy s places.now → MatchOption result
+        ((move : PageMove) → IsUsed s from to items.now move → move.item ≡ other → item ≢ move.item → move.target ≢ place)
+        (λ m. IsUsed s from to items.now (page_move m) × (item ≢ m.item) × (m.target ≡ place)) }
 {
-    let mut at = low;
-    for _ in 0..places.len() {
-        let Some(parent) = parent_at(places, at) else {
-            return false;
-        };
-        if parent == high {
+    if other == item {
+        return None;
+    }
+    move_into(places, from, to, items, other, place)
+}
+
+/// The used move of the item `other` out of the place, None too if that is this item.
+fn other_out(
+    places: &[(Place, Mapping)],
+    from: u64,
+    to: u64,
+    items: &[ItemMove],
+    item: usize,
+    other: usize,
+    place: Place,
+) -> Option<UsedMove>
+    requires { other < length items.now }
+    ensures { (s : Mappings) → IsShownBy s places.now → MatchOption result
+        ((move : PageMove) → IsUsed s from to items.now move → move.item ≡ other → item ≢ move.item → move.source ≢ place)
+        (λ m. IsUsed s from to items.now (page_move m) × (item ≢ m.item) × (m.source ≡ place)) }
+{
+    if other == item {
+        return None;
+    }
+    move_out(places, from, to, items, other, place)
+}
+
+/// Whether another item than this one fills the place.
+fn is_filled_too(
+    places: &[(Place, Mapping)],
+    from: u64,
+    to: u64,
+    items: &[ItemMove],
+    item: usize,
+    place: Place,
+) -> bool
+    ensures { (s : Mappings) → IsShownBy s places.now → IsTrue result ↔ FillsToo (IsUsed s from to items.now) item place }
+{
+    for other in 0..items.len() {
+        if let Some(_) = other_into(places, from, to, items, item, other, place) {
             return true;
         }
-        at = parent;
     }
     false
 }
 
-/// The place that this one was mapped from.
-fn parent_at(places: &[(Place, Mapping)], place: Place) -> Option<Place>
-    ensures { result ≡ parent_in places.now place }
-{
-    mapping_in(places, place)?.parent
-}
-
-/// Whether the first place is the second or descends from it.
-fn is_or_descends(places: &[(Place, Mapping)], low: Place, high: Place) -> bool
-    ensures { result ≡ (same_place low high || climbs (length places.now) places.now low high) }
-{
-    low == high || descends(places, low, high)
-}
-
-/// Whether what is mapped to the target takes the source away, or what the source was mapped from.
-fn replaces(places: &[(Place, Mapping)], target: Place, source: Place) -> bool
-    ensures { result ≡ (is_some (find place_cmp target places.now) && (same_place source target || climbs (length places.now) places.now source target)) }
-{
-    mapping_in(places, target).is_some() && is_or_descends(places, source, target)
-}
-
-/// Whether moves of two items have one target, or the first grants what the second moves too.
-fn are_rivals(differ: bool, grant: bool, targets: (Place, Place), sources: (Place, Place)) -> bool
-    ensures { result ≡ (differ && (same_place targets.0 targets.1 || (grant && same_place sources.0 sources.1))) }
-{
-    differ && (targets.0 == targets.1 || (grant && sources.0 == sources.1))
-}
-
-/// Whether the move of `a` by the one item and the move of `b` by the other entangle the message.
-fn moves_clash(
+/// Whether another item than this one moves the place.
+fn is_moved_too(
     places: &[(Place, Mapping)],
     from: u64,
     to: u64,
-    differ: bool,
-    one: &ItemMove,
-    other: &ItemMove,
-    a: &(Place, Mapping),
-    b: &(Place, Mapping),
+    items: &[ItemMove],
+    item: usize,
+    place: Place,
 ) -> bool
-    ensures { result ≡ clash places.now from to differ one.now other.now a.now b.now }
+    ensures { (s : Mappings) → IsShownBy s places.now → IsTrue result ↔ MovesToo (IsUsed s from to items.now) item place }
 {
-    let Some((target, _)) = child(from, to, one, a) else {
+    for other in 0..items.len() {
+        if let Some(_) = other_out(places, from, to, items, item, other, place) {
+            return true;
+        }
+    }
+    false
+}
+
+/// Whether the used move grants what another item moves too.
+fn grants_twice(
+    places: &[(Place, Mapping)],
+    from: u64,
+    to: u64,
+    items: &[ItemMove],
+    used: &UsedMove,
+) -> bool
+    ensures { (s : Mappings) → IsShownBy s places.now → IsTrue result ↔ (IsTrue used.now.grant × MovesToo (IsUsed s from to items.now) used.now.item used.now.source) }
+{
+    if !used.grant {
         return false;
-    };
-    let Some((second, _)) = child(from, to, other, b) else {
-        return false;
-    };
-    if are_rivals(differ, one.grant, (target, second), (a.0, b.0)) {
+    }
+    is_moved_too(places, from, to, items, used.item, used.source)
+}
+
+/// Whether the used move entangles the message.
+fn move_tangles(
+    places: &[(Place, Mapping)],
+    from: u64,
+    to: u64,
+    items: &[ItemMove],
+    used: &UsedMove,
+) -> bool
+    ensures { (s : Mappings) → IsShownBy s places.now → IsForest s → IsTrue result ↔ Tangles (IsUsed s from to items.now) s (page_move used.now) }
+{
+    if is_filled_too(places, from, to, items, used.item, used.target) {
         return true;
     }
-    replaces(places, target, b.0)
+    if grants_twice(places, from, to, items, used) {
+        return true;
+    }
+    is_gone(places, from, to, items, used.source)
 }
 
-/// Whether the move of `a` by the one item and one by the other item entangle the message.
-fn entry_clashes(
+/// Whether the used move of the item of this number out of the place entangles the message.
+fn item_tangles(
     places: &[(Place, Mapping)],
     from: u64,
     to: u64,
-    differ: bool,
-    one: &ItemMove,
-    other: &ItemMove,
-    a: &(Place, Mapping),
+    items: &[ItemMove],
+    item: usize,
+    place: Place,
 ) -> bool
-    ensures { result ≡ list_any (λ b. clash places.now from to differ one.now other.now a.now b) places.now }
+    requires { item < length items.now }
+    ensures { (s : Mappings) → IsShownBy s places.now → IsForest s → IsTrue result ↔ ItemTangles (IsUsed s from to items.now) s item place }
 {
-    places.iter().any(|b| moves_clash(places, from, to, differ, one, other, a, b))
+    let Some(used) = move_out(places, from, to, items, item, place) else {
+        return false;
+    };
+    move_tangles(places, from, to, items, &used)
 }
 
-/// Whether two moves of these items entangle the message.
-fn pair_clashes(
+/// Whether a used move out of the place entangles the message.
+fn place_tangles(
     places: &[(Place, Mapping)],
     from: u64,
     to: u64,
-    differ: bool,
-    one: &ItemMove,
-    other: &ItemMove,
+    items: &[ItemMove],
+    place: Place,
 ) -> bool
-    ensures { result ≡ items_clash places.now from to differ one.now other.now }
+    ensures { (s : Mappings) → IsShownBy s places.now → IsForest s → IsTrue result ↔ PlaceTangles (IsUsed s from to items.now) s place }
 {
-    places
-        .iter()
-        .any(|a| entry_clashes(places, from, to, differ, one, other, a))
-}
-
-/// Whether a move of the item at `index` and one of any item entangle the message.
-fn clashes_with(
-    places: &[(Place, Mapping)],
-    from: u64,
-    to: u64,
-    moves: &[ItemMove],
-    index: usize,
-    one: &ItemMove,
-) -> bool
-    ensures { IsTrue result ↔ ClashesWith places.now from to moves.now index one.now }
-{
-    for at in 0..moves.len() {
-        if pair_clashes(places, from, to, index != at, one, &moves[at]) {
+    for item in 0..items.len() {
+        if item_tangles(places, from, to, items, item, place) {
             return true;
         }
     }
     false
 }
 
-/// Whether two used moves entangle the message.
-pub(crate) fn has_clash(places: &[(Place, Mapping)], from: u64, to: u64, moves: &[ItemMove]) -> bool
-    ensures { IsTrue result ↔ HasClash places.now from to moves.now }
+/// Whether the used moves contradict each other.
+pub(crate) fn has_tangle(
+    places: &[(Place, Mapping)],
+    from: u64,
+    to: u64,
+    items: &[ItemMove],
+) -> bool
+    ensures { (s : Mappings) → IsShownBy s places.now → IsForest s → IsTrue result ↔ IsEntangled (IsUsed s from to items.now) s }
 {
-    for index in 0..moves.len() {
-        if clashes_with(places, from, to, moves, index, &moves[index]) {
+    for index in 0..places.len() {
+        if place_tangles(places, from, to, items, places[index].0) {
             return true;
         }
     }

@@ -1,4 +1,4 @@
-use crate::{Forest, ItemMove, Mapping, Place};
+use crate::{Cause, Forest, ItemMove, Mapping, NoMemory, Place};
 use l4_fpage::{Block, Rights};
 use l4_msg::Move;
 use std::test::Fail;
@@ -31,7 +31,13 @@ fn maps_two_pages(rt: HostRuntime) -> Result<(), Fail> {
         rights: Rights::of_bits(5),
         grant: false,
     };
-    forest.map_item(0, 2, &item)?;
+    if let Err(cause) = forest.map_all(0, 2, &[item]) {
+        // where memory is wanted all is as before
+        assert_eq!(rt; cause, Cause::NoMemory);
+        assert_eq!(rt; forest.next_present(2, 0), None);
+        assert_eq!(rt; forest.next_present(0, 254), Some(254));
+        return Err(NoMemory.into());
+    }
     let shown = Mapping {
         frame: 255,
         rights: Rights::of_bits(5),

@@ -21,6 +21,12 @@ pub enum ItemFault {
 }
 
 impl Default for Item {
+    ghost use Rattle.l4_msg.specs.declared.items.Item.TheVariants.{Map as AMap};
+    ghost use Rattle.l4_fpage.specs.declared.fpages.Fpage.TheVariants.{Nil};
+
+    ghost is_default = { λ item. item ≡ AMap 0 Nil };
+
+    /// A map item that moves no page.
     fn default() -> Item {
         Item::Map {
             base: 0,

@@ -1,4 +1,4 @@
-use Rattle.std.proofs.Common.{◌≡◌, ◌∙◌, ap, ℕ, List, [], ◌∷◌, ◌++◌}
+use Rattle.std.proofs.Common.{◌≡◌, ◌∙◌, ap, ℕ, List, [], ◌∷◌, ◌++◌, arith}
 use Rattle.l4_mapdb.proofs.Own.{once_own, is_first}
 use Rattle.l4_mapdb.proofs.ForestEnds.{first_forest}
 use Rattle.l4_mapdb.proofs.Forest.new.Goals as goal
@@ -9,6 +9,7 @@ invariant_of-result c =
     record {
       once = rw c.in_ok-places.ensures (once_own c.args.frames);
       forest = rw (c.in_ok-places.ensures, spaces) (first_forest c.args.frames _ c.requires.fit (is_first c.args.frames));
+      room = omega (arith, c.len.ensures, c.in_ok-next.ensures.capacity);
     }
 
 pub returns : goal.returns

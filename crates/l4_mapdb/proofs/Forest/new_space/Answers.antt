@@ -6,6 +6,7 @@ pub invariant_of-self : goal.invariant_of-self
 invariant_of-self c = record {
   once = c.self.invariant.once;
   forest = rw c.in_ok-push.ensures.items (forest_begun c.self.inside.places.items c.self.inside.spaces.items c.args.space c.self.invariant.forest);
+  room = c.self.invariant.room;
 }
 
 pub returns-in_err-push-clause-succeeds : goal.returns-in_err-push-clause-succeeds

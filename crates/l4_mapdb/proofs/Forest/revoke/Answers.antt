@@ -1,7 +1,9 @@
-use Rattle.std.proofs.Common.{◌≡◌, ap, sym, ◌∙◌, subst, filter, take, drop, ◌++◌, length, vec_len}
+use Rattle.std.proofs.Common.{◌≡◌, ap, sym, ◌∙◌, subst, filter, take, drop, ◌++◌, length, vec_len, count_by, ◌≤◌}
+use Rattle.std.proofs.lemmas.List.{length-map}
+use Rattle.std.proofs.lemmas.List.Sums.{length-filter, count_by-le-length}
 use Rattle.std.proofs.lemmas.Grind.{common_steps}
 use Rattle.std.proofs.Common.{arith}
-use Rattle.l4_mapdb.specs.Entries.{Entries, has_right, CoveredIn, CutsEntries, IsAcyclic, outline}
+use Rattle.l4_mapdb.specs.Entries.{Entries, has_right, CoveredIn, CutsEntries, IsAcyclic, outline, outlined}
 use Rattle.l4_mapdb.proofs.Outline.{once_along}
 use Rattle.l4_mapdb.proofs.Filtered.{once_filter}
 use Rattle.l4_mapdb.proofs.Revoking.{revokes, of_lists}
@@ -33,6 +35,12 @@ invariant_of-self c =
     record {
       once = rw (kept c) (once_filter has_right c.cut.new.places (once_along _ _ same c.self.invariant.once));
       forest = rw (kept c) (revokes_keeps c.args.from c.args.rights c.args.with_self _ _ c.self.invariant.forest (revoked c));
+      room =
+          let a : length c.drop_empty.new.places.items ≡ length (filter has_right c.cut.new.places) = ap length (kept c) in
+          let b : length (filter has_right c.cut.new.places) ≡ count_by has_right c.cut.new.places = length-filter has_right c.cut.new.places in
+          let d : count_by has_right c.cut.new.places ≤ length c.cut.new.places = count_by-le-length has_right c.cut.new.places in
+          let e : length c.cut.new.places ≡ length c.self.inside.places.items = sym (length-map c.cut.new.places outlined) ∙ ap length same ∙ length-map c.self.inside.places.items outlined in
+          omega (arith, a, b, d, e, c.drop_empty.new.places.ok.0, c.self.inside.places.ok.0, c.self.invariant.room);
     }
 
 pub returns : goal.returns

@@ -3,12 +3,12 @@ use Rattle.std.specs.FinSet as set
 use Rattle.l4_mapdb.specs.Mappings.{Mappings}
 use Rattle.l4_threads.specs.Threads.{Threads, first_threads}
 use Rattle.l4_ipc.specs.Machine.{machine}
-use Rattle.l4_ipc.specs.Staged.{IsStaged}
-use Rattle.l4_ipc.proofs.StagedKept.{staged_boot}
+use Rattle.l4_ipc.specs.Sound.{IsSound}
+use Rattle.l4_ipc.proofs.SoundKept.{sound_boot}
 use Rattle.l4_ipc.proofs.kernel.Kernel.boot.Goals as goal
 
 pub invariant_of-result : goal.invariant_of-result
 invariant_of-result c =
     let began : c.new_space.new.self ≡ record c.in-Ok.forest { spaces = set.insert c.in-Ok.forest.spaces 1 } = c.in-Ok-new_space.ensures.ok in
-    subst (λ (t : Threads). IsStaged (machine t c.new_space.new.self)) (sym c.boot.ensures)
-    (subst (λ (s : Mappings). IsStaged (machine first_threads s)) (sym began) (staged_boot c.args.frames c.in-Ok.forest c.in-Ok.ensures))
+    subst (λ (t : Threads). IsSound (machine t c.new_space.new.self)) (sym c.boot.ensures)
+    (subst (λ (s : Mappings). IsSound (machine first_threads s)) (sym began) (sound_boot c.args.frames c.in-Ok.forest c.in-Ok.ensures))

@@ -21,7 +21,7 @@ loop-step-preserved c =
     record {
       run = subst (λ (a : List (Result Answer Refused)). Run c.args.self.now (take (c.loop-step.step-index + 1) steps) a c.step-answer.new.self) (sym items)
           (subst (λ (s : List Step). Run c.args.self.now s (old ++ c.step-answer.result ∷ []) c.step-answer.new.self) (sym taken)
-          (run_on c.args.self.now c.loop-step.self c.step-answer.new.self (take c.loop-step.step-index steps) old c.step-item.result c.step-answer.result c.loop-step.invariant.run c.step-answer.ensures.steps c.step-answer.ensures.brings));
+          (run_on c.args.self.now c.loop-step.self c.step-answer.new.self (take c.loop-step.step-index steps) old c.step-item.result c.step-answer.result c.loop-step.invariant.run c.step-answer.ensures));
       count = omega (arith, count, c.loop-step.invariant.count);
       room = omega (arith, room, c.loop-step.invariant.room);
     }

@@ -1,0 +1,87 @@
+-- What a place becomes is one thing, where the message is not entangled.
+use Rattle.std.proofs.Common.{◌≡◌, ◌≢◌, ◌<◌, ◌^◌, ◌==◌, true, Option, Some, None, IsTrue, is_some, sym, ap, ◌∙◌, subst, inl, inr, arith}
+use Rattle.std.proofs.lemmas.Bool.Decides.{nat_tests}
+use Rattle.std.specs.FinSet as set
+use Rattle.l4_fpage.specs.Rights.{no_rights, Within}
+use Rattle.l4_mapdb.specs.declared.Place.{Place}
+use Rattle.l4_mapdb.specs.declared.Mapping.{Mapping}
+use Rattle.l4_mapdb.specs.Mappings.{Mappings, shown}
+use Rattle.l4_mapdb.specs.Transfer.{PageMove, IsEntangled, IsGone, StandsAt, ParentLater, Becomes}
+use Rattle.l4_mapdb.proofs.EntriesLemmas.{decided}
+
+-- what is known of each used move
+pub record KnownMoves (Used : PageMove → Type 0) (old : Mappings) : Type 0 where
+  pub shows : (u : PageMove) → Used u → shown old u.source ≡ Some u.shows
+  pub within : (u : PageMove) → Used u → Within u.rights u.shows.rights
+  pub some_right : (u : PageMove) → Used u → u.rights ≢ no_rights
+  pub in_space : (u : PageMove) → Used u → IsTrue (set.contains old.spaces u.target.space)
+  pub page_fits : (u : PageMove) → Used u → u.target.page < 2 ^ 20
+  pub same_source : (u v : PageMove) → Used u → Used v → u.item ≡ v.item → u.source ≡ v.source → u ≡ v
+  pub same_target : (u v : PageMove) → Used u → Used v → u.item ≡ v.item → u.target ≡ v.target → u ≡ v
+
+module _ (Used : PageMove → Type 0) (old : Mappings) (known : KnownMoves Used old) (free : ¬ (IsEntangled Used old)) where
+  -- two used moves with one target are one
+  pub one_target : (u v : PageMove) → Used u → Used v → u.target ≡ v.target → u ≡ v
+  one_target u v a b e = decided (u.item == v.item)
+      (λ t. let i : u.item ≡ v.item = grind (arith, nat_tests) in known.same_target u v a b i e)
+      (λ f. absurd (free (inl (record { one = u; other = v; one_used = a; other_used = b; differ = λ i. f (let t : (u.item == v.item) ≡ true = grind (arith, nat_tests) in t); target = e }))))
+
+  -- a granted source is the source of one used move
+  pub one_grant : (u v : PageMove) → Used u → Used v → IsTrue u.grant → u.source ≡ v.source → u ≡ v
+  one_grant u v a b g e = decided (u.item == v.item)
+      (λ t. let i : u.item ≡ v.item = grind (arith, nat_tests) in known.same_source u v a b i e)
+      (λ f. absurd (free (inr (inl (record { one = u; other = v; one_used = a; other_used = b; differ = λ i. f (let t : (u.item == v.item) ≡ true = grind (arith, nat_tests) in t); grant = g; source = e })))))
+
+  -- a place stands at one place later
+  pub one_place : (c q r : Place) → StandsAt Used c q → StandsAt Used c r → q ≡ r
+  one_place c q r (inl g) (inl h) =
+      let e : g.0 ≡ h.0 = one_grant g.0 h.0 g.1 h.1 g.2 (g.3 ∙ sym h.3) in
+      sym g.4 ∙ ap (λ (v : PageMove). v.target) e ∙ h.4
+  one_place c q r (inl g) (inr n) = absurd (n.0 (record { move = g.0; used = g.1; grant = g.2; source = g.3 }))
+  one_place c q r (inr n) (inl g) = absurd (n.0 (record { move = g.0; used = g.1; grant = g.2; source = g.3 }))
+  one_place c q r (inr n) (inr k) = sym n.1 ∙ k.1
+
+  -- so it has one parent later
+  one_parent : (parent a b : Option Place) → ParentLater Used parent a → ParentLater Used parent b → a ≡ b
+  one_parent None a b x y = x ∙ sym y
+  one_parent (Some p) a b x y = x.2 ∙ ap (λ (q : Place). Some q) (one_place p x.0 y.0 x.1 y.1) ∙ sym y.2
+
+  same_mapping : (a b : Mapping) → a.frame ≡ b.frame → a.rights ≡ b.rights → a.parent ≡ b.parent → a ≡ b
+  same_mapping a b f r p = λ i. record { frame = f i; rights = r i; parent = p i }
+
+  -- a present target is gone
+  target_gone : (u : PageMove) → Used u → (q : Place) (b : Mapping) → u.target ≡ q → shown old q ≡ Some b → IsGone Used old q
+  target_gone u a q b e at = record { move = u; used = a; present = ap is_some (ap (shown old) e ∙ at); below = inl (sym e) }
+
+  -- what a place becomes is one mapping
+  pub becomes_one : (q : Place) (a b : Mapping) → Becomes Used old q a → Becomes Used old q b → a ≡ b
+  becomes_one q a b (inl x) (inl y) =
+      let e : x.move ≡ y.move = one_target x.move y.move x.used y.used (x.target ∙ sym y.target) in
+      same_mapping a b
+      (x.frame ∙ ap (λ (v : PageMove). v.shows.frame) e ∙ sym y.frame)
+      (x.rights ∙ ap (λ (v : PageMove). v.rights) e ∙ sym y.rights)
+      (x.parent ∙ ap (λ (v : PageMove). Some v.source) e ∙ sym y.parent)
+  becomes_one q a b (inl x) (inr (inl y)) =
+      let e : x.move ≡ y.move = one_target x.move y.move x.used y.used (x.target ∙ sym y.target) in
+      absurd (x.map (ap (λ (v : PageMove). v.grant) e ∙ y.grant))
+  becomes_one q a b (inl x) (inr (inr y)) = absurd (y.not_gone (target_gone x.move x.used q y.before x.target y.at))
+  becomes_one q a b (inr (inl x)) (inl y) =
+      let e : y.move ≡ x.move = one_target y.move x.move y.used x.used (y.target ∙ sym x.target) in
+      absurd (y.map (ap (λ (v : PageMove). v.grant) e ∙ x.grant))
+  becomes_one q a b (inr (inl x)) (inr (inl y)) =
+      let e : x.move ≡ y.move = one_target x.move y.move x.used y.used (x.target ∙ sym y.target) in
+      let shows : x.move.shows.parent ≡ y.move.shows.parent = ap (λ (v : PageMove). v.shows.parent) e in
+      same_mapping a b
+      (x.frame ∙ ap (λ (v : PageMove). v.shows.frame) e ∙ sym y.frame)
+      (x.rights ∙ ap (λ (v : PageMove). v.rights) e ∙ sym y.rights)
+      (one_parent y.move.shows.parent a.parent b.parent (subst (λ (p : Option Place). ParentLater Used p a.parent) shows x.parent) y.parent)
+  becomes_one q a b (inr (inl x)) (inr (inr y)) = absurd (y.not_gone (target_gone x.move x.used q y.before x.target y.at))
+  becomes_one q a b (inr (inr x)) (inl y) = absurd (x.not_gone (target_gone y.move y.used q x.before y.target x.at))
+  becomes_one q a b (inr (inr x)) (inr (inl y)) = absurd (x.not_gone (target_gone y.move y.used q x.before y.target x.at))
+  becomes_one q a b (inr (inr x)) (inr (inr y)) =
+      let both : Some x.before ≡ Some y.before = sym x.at ∙ y.at in
+      let e : x.before ≡ y.before = cc in
+      same_mapping a b
+      (x.frame ∙ ap (λ (v : Mapping). v.frame) e ∙ sym y.frame)
+      (x.rights ∙ ap (λ (v : Mapping). v.rights) e ∙ sym y.rights)
+      (one_parent y.before.parent a.parent b.parent (subst (λ (p : Option Place). ParentLater Used p a.parent) (ap (λ (v : Mapping). v.parent) e) x.parent) y.parent)

@@ -1,0 +1,24 @@
+use Rattle.std.proofs.Common.{◌∙◌, sym, refl}
+use Rattle.std.proofs.lemmas.Bool.{false≢true}
+use Rattle.l4_mapdb.specs.Transfer.{IsUsed}
+use Rattle.l4_mapdb.specs.Shown.{page_move}
+use Rattle.l4_mapdb.proofs.Sources.{none_stays, granted_goes, gone_goes, stays}
+use Rattle.l4_mapdb.proofs.moving.later.Goals as goal
+
+pub returns-in_default-mapping_in : goal.returns-in_default-mapping_in
+returns-in_default-mapping_in c = λ s by_list forest.
+    none_stays (IsUsed s c.args.from c.args.to c.args.items.now) s c.args.place (c.in_default.ensures s by_list) (by_list c.args.place ∙ sym c.mapping_in.ensures ∙ c.in_default-mapping_in.is)
+
+pub returns-in-Some-granted_out : goal.returns-in-Some-granted_out
+returns-in-Some-granted_out c = λ s by_list forest.
+    let h = c.in-Some-granted_out.ensures s by_list in
+    granted_goes (IsUsed s c.args.from c.args.to c.args.items.now) s c.args.place (c.in_default.ensures s by_list) (record { move = page_move c.in-Some-granted_out.field-0; used = h.0; grant = h.1; source = h.2 })
+
+pub returns-then-is_gone : goal.returns-then-is_gone
+returns-then-is_gone c = λ s by_list forest.
+    gone_goes (IsUsed s c.args.from c.args.to c.args.items.now) s c.args.place (c.in_default.ensures s by_list) ((c.is_gone.ensures s by_list forest).0 c.if-is_gone.true)
+
+pub returns : goal.returns
+returns c = λ s by_list forest.
+    stays (IsUsed s c.args.from c.args.to c.args.items.now) s c.args.place c.in-Some-mapping_in.mapping _ (by_list c.args.place ∙ sym c.mapping_in.ensures ∙ c.in-Some-mapping_in.is)
+    (λ g. false≢true (sym c.if-is_gone.false ∙ (c.is_gone.ensures s by_list forest).1 g)) (c.in_default-granted_out.ensures s by_list) refl refl (c.renamed.ensures s by_list)
