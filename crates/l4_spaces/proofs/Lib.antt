@@ -1,0 +1,4 @@
+pub mod Below
+pub mod Rising
+pub mod Finding
+pub mod Showing

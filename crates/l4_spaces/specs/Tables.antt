@@ -1,0 +1,54 @@
+-- The page tables of all spaces as one value: the node of each present page, and which spaces there are (this profile's own).
+use Rattle.std.specs.Prelude.{◌≡◌, ℕ, ◌≤◌, ◌==◌, List, length, Option, None, cond, IsTrue, is_some, refl}
+use Rattle.std.specs.Ordering.{nat_cmp, ordering_then}
+use Rattle.std.specs.declared.cmp.Ordering.{Ordering}
+use Rattle.std.specs.Coded.{Coded, code_by, coded×, coded_ℕ}
+use Rattle.std.specs.FinMap as map
+use Rattle.std.specs.FinSet as set
+
+-- a page of a space, by space and then by page
+abbrev pub place_cmp : ℕ × ℕ → ℕ × ℕ → Ordering
+place_cmp a b = ordering_then (nat_cmp a.0 b.0) (nat_cmp a.1 b.1)
+
+-- the nodes' keys of the present pages, the spaces that there are, and what room there is for more pages, of which `HasRoom` speaks
+pub record Tables : Type 0 where
+  pub pages : map.FinMap place_cmp ℕ
+  pub spaces : set.FinSet nat_cmp
+  pub room : ℕ
+
+abbrev pub tables_code : Coded Tables
+tables_code =
+    code_by (map.FinMap place_cmp ℕ × (set.FinSet nat_cmp × ℕ)) (coded× (map.code (coded× coded_ℕ coded_ℕ) coded_ℕ) (coded× (set.code coded_ℕ) coded_ℕ))
+    (λ s. (s.pages, (s.spaces, s.room))) (λ p. record { pages = p.0; spaces = p.1.0; room = p.1.1 }) (λ _. refl)
+
+-- the key of a page's node, if the page is present
+abbrev pub key_of : Tables → ℕ → ℕ → Option ℕ
+key_of s space page = map.get s.pages (space, page)
+
+abbrev pub IsPresent : Tables → ℕ → ℕ → Type 0
+IsPresent s space page = IsTrue (is_some (key_of s space page))
+
+abbrev pub IsSpace : Tables → ℕ → Type 0
+IsSpace s space = IsTrue (set.contains s.spaces space)
+
+-- these pages of the space can be set in turn, one after another, without memory
+unfoldable pub HasRoom : Tables → ℕ → List ℕ → Type 0
+HasRoom s space pages = length pages ≤ s.room
+
+-- all room that there was is there
+abbrev pub KeepsRoom : Tables → Tables → Type 0
+KeepsRoom old new = (space : ℕ) (pages : List ℕ) → HasRoom old space pages → HasRoom new space pages
+
+-- the space has no page left, and the others have theirs
+abbrev pub Empties : ℕ → Tables → Tables → Type 0
+Empties space old new = (other page : ℕ) → key_of new other page ≡ cond (other == space) None (key_of old other page)
+
+-- no page of the space from this one on is present
+abbrev pub NonePresentFrom : Tables → ℕ → ℕ → Type 0
+NonePresentFrom s space page = (other : ℕ) → page ≤ other → ¬ (IsPresent s space other)
+
+-- the least present page of the space that is not below this one
+pub record IsNextPresent (s : Tables) (space page next : ℕ) : Type 0 where
+  pub present : IsPresent s space next
+  pub from : page ≤ next
+  pub least : (other : ℕ) → page ≤ other → IsPresent s space other → next ≤ other
