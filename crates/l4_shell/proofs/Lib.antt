@@ -1,7 +1,5 @@
-pub mod Digits
-pub mod Counting
-pub mod Gone
-pub mod LineSteps
 pub mod Numerals
-pub mod Parts
-pub mod Rows
+pub mod Work
+pub mod Going
+pub mod Listing
+pub mod Scripting

@@ -3,7 +3,7 @@ use Rattle.std.proofs.Common.{◌≡◌, ℕ, ◌<◌, ◌≤◌, true, false, c
 use Rattle.std.proofs.lemmas.List.{append-nil}
 use Rattle.std.proofs.lemmas.Bool.Decides.{nat_tests}
 use Rattle.std.specs.Option.{option_and_then}
-use Rattle.l4_shell.specs.Numbers.{number_of}
+use Rattle.l4_text.specs.Numbers.{number_of}
 use Rattle.l4_shell.specs.Commands.{numbers_of, words_of}
 
 -- few enough words, and no token left

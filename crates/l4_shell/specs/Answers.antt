@@ -10,6 +10,7 @@ use Rattle.l4_ipc.specs.declared.steps.Lower.TheVariants.{Message, Unmap, Thread
 use Rattle.l4_unmap.specs.declared.UnmapFault.{UnmapFault}
 use Rattle.l4_unmap.specs.declared.UnmapFault.TheVariants.{BadFpage, TooFew}
 use Rattle.l4_mapdb.specs.declared.Mapping.{Mapping}
+use Rattle.l4_mapdb.specs.declared.Place.{Place}
 use Rattle.l4_msg.specs.declared.messages.MsgFault.{MsgFault}
 use Rattle.l4_msg.specs.declared.messages.MsgFault.TheVariants.{TooManyWords, OddTyped, BadItem, Unsupported, Flags, BadWindow, Short}
 use Rattle.l4_threads.specs.declared.IpcReply.{IpcReply}
@@ -19,7 +20,7 @@ use Rattle.l4_threads.specs.declared.ThreadFault.{ThreadFault}
 use Rattle.l4_threads.specs.declared.ThreadFault.TheVariants.{NoPrivilege, BadId, Taken, Unknown, Full, Kept}
 use Rattle.l4_shell.specs.declared.commands.ScriptFault.{ScriptFault}
 use Rattle.l4_shell.specs.declared.commands.ScriptFault.TheVariants.{UnknownCommand, BadTokens, LineTooLong, CutLine}
-use Rattle.l4_shell.specs.Texts.{word_text, words_text}
+use Rattle.l4_text.specs.Texts.{word_text, words_text}
 
 abbrev pub space : List ℕ
 space = 32 ∷ []
@@ -83,6 +84,16 @@ page_text page mapping =
 
 abbrev pub shown_text : ℕ → List ℕ
 shown_text count = codes "shown " ++ decimal count ++ newline
+
+-- a place by its space and its page, if there is one
+abbrev pub place_or_none : Option Place → List ℕ
+place_or_none None = codes "none"
+place_or_none (Some place) = decimal place.space ++ space ++ decimal place.page
+
+-- the parent of a page that shows this: a root has none, and a page that shows nothing is absent
+abbrev pub parent_text : Option Mapping → List ℕ
+parent_text None = codes "absent" ++ newline
+parent_text (Some mapping) = codes "parent " ++ place_or_none mapping.parent ++ newline
 
 -- a code, and the number that some codes carry
 pub record Refusal : Type 0 where

@@ -1,15 +1,15 @@
 -- What the tokens of a line ask for (this profile's own).
-use Rattle.std.specs.Prelude.{ℕ, Bool, List, [], ◌∷◌, length, nat_le, Option, Some, None, Result, Err, option_and_then, ok_or, if◌then◌else◌, codes}
+use Rattle.std.specs.Prelude.{ℕ, ◌^◌, Bool, List, [], ◌∷◌, length, nat_le, Option, Some, None, Result, Err, option_and_then, ok_or, if◌then◌else◌, codes}
 use Rattle.std.specs.Str.{bytes_eq}
 use Rattle.l4_shell.specs.declared.commands.Partner.{Partner}
 use Rattle.l4_shell.specs.declared.commands.Partner.TheVariants.{Nil, Any, Thread as One}
 use Rattle.l4_shell.specs.declared.commands.NewSpace.{NewSpace}
 use Rattle.l4_shell.specs.declared.commands.NewSpace.TheVariants.{New, Of}
 use Rattle.l4_shell.specs.declared.commands.Command.{Command}
-use Rattle.l4_shell.specs.declared.commands.Command.TheVariants.{Thread, Receive, Send, Show}
+use Rattle.l4_shell.specs.declared.commands.Command.TheVariants.{Thread, Receive, Send, Show, Parent}
 use Rattle.l4_shell.specs.declared.commands.ScriptFault.{ScriptFault}
 use Rattle.l4_shell.specs.declared.commands.ScriptFault.TheVariants.{UnknownCommand, BadTokens}
-use Rattle.l4_shell.specs.Numbers.{thread_of, number_of}
+use Rattle.l4_text.specs.Numbers.{below, number_of}
 
 infixl 10 ◌>>=◌
 abbrev pub ◌>>=◌ : {A B : Type 0} → Option A → (A → Option B) → Option B
@@ -18,6 +18,10 @@ o >>= f = option_and_then f o
 -- whether a token is this word
 abbrev pub is_word : List ℕ → List ℕ → Bool
 is_word word token = bytes_eq token word
+
+-- a thread's number
+unfoldable pub thread_of : List ℕ → Option ℕ
+thread_of text = below (2 ^ 18) (number_of text)
 
 -- nil, or a thread's number
 unfoldable pub nil_or_thread_of : List ℕ → Option Partner
@@ -30,6 +34,13 @@ partner_of token = if is_word (codes "any") token then Some Any else nil_or_thre
 -- new, or a thread's number
 unfoldable pub new_space_of : List ℕ → Option NewSpace
 new_space_of token = if is_word (codes "new") token then Some New else (thread_of token >>= λ n. Some (Of n))
+
+-- two tokens and no more
+abbrev pub two_of : List (List ℕ) → Option (List ℕ × List ℕ)
+two_of [] = None
+two_of (a ∷ []) = None
+two_of (a ∷ b ∷ []) = Some (a, b)
+two_of (a ∷ b ∷ c ∷ tokens) = None
 
 -- three tokens and no more
 abbrev pub three_of : List (List ℕ) → Option (List ℕ × (List ℕ × List ℕ))
@@ -66,6 +77,14 @@ show_asked tokens = do
   count ← number_of three.1.1
   Some (Show number first count)
 
+-- N PAGE
+unfoldable pub parent_asked : List (List ℕ) → Option Command
+parent_asked tokens = do
+  two ← two_of tokens
+  number ← thread_of two.0
+  page ← number_of two.1
+  Some (Parent number page)
+
 -- the numbers that all tokens spell
 abbrev pub numbers_of : List (List ℕ) → Option (List ℕ)
 numbers_of [] = Some []
@@ -93,4 +112,5 @@ command_of (name ∷ tokens) =
     else (if is_word (codes "recv") name then ok_or (receive_asked tokens) BadTokens
     else (if is_word (codes "send") name then ok_or (send_asked tokens) BadTokens
     else (if is_word (codes "show") name then ok_or (show_asked tokens) BadTokens
-    else Err UnknownCommand)))
+    else (if is_word (codes "parent") name then ok_or (parent_asked tokens) BadTokens
+    else Err UnknownCommand))))

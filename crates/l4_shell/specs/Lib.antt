@@ -1,9 +1,7 @@
 pub mod Answers
 pub mod Commands
 pub mod Lines
-pub mod Numbers
 pub mod Options
+pub mod Requests
 pub mod Scripts
-pub mod Streams
-pub mod Texts
-pub mod Tokens
+pub mod Sessions

@@ -1,12 +1,12 @@
 //! The texts of answers.
 ghost use Rattle.std.specs.Prelude.{◌≡◌, ◌≤◌, ◌+◌, ◌++◌, length, decimal, codes};
 ghost use Rattle.std.specs.Option.{option_copied};
-ghost use Rattle.l4_shell.specs.Answers.{outcome_word, transfer_text, expire_text, numbered_text, waits_text, from_text, ipc_text, reply_text, rights_text, page_text, shown_text, newline};
+ghost use Rattle.l4_shell.specs.Answers.{outcome_word, transfer_text, expire_text, numbered_text, waits_text, from_text, ipc_text, reply_text, rights_text, page_text, shown_text, place_or_none, parent_text, newline};
 
-use crate::texts::Text;
 use l4_fpage::Rights;
 use l4_ipc::Outcome;
-use l4_mapdb::Mapping;
+use l4_mapdb::{Mapping, Place};
+use l4_text::Text;
 use l4_threads::{IpcReply, Reply, ThreadId};
 
 /// What came of a transfer, in a word.
@@ -127,7 +127,7 @@ pub(crate) fn reply_text(number: u32, reply: Option<&Reply>) -> Text
 }
 
 /// The letters of the rights, and dashes in the place of those that are not there.
-fn letters(rights: Rights) -> [u8; 3]
+pub fn letters(rights: Rights) -> [u8; 3]
     ensures { result ≡ rights_text rights }
 {
     let bits = rights.bits();
@@ -155,12 +155,44 @@ pub(crate) fn page_text(page: u32, mapping: &Mapping) -> Text
 }
 
 /// `shown K`
-pub(crate) fn shown_text(count: u32) -> Text
+pub fn shown_text(count: u32) -> Text
     ensures { result ≡ shown_text count }
 {
     let mut text = Text::new();
     text.add(b"shown ");
     text.add_number(u64::from(count));
+    text.push(b'\n');
+    text
+}
+
+/// Adds a place's space and page, or `none`.
+pub fn add_place(text: &mut Text, place: Option<Place>)
+    requires { length text.old + 41 ≤ 1024 }
+    ensures value { text.new ≡ text.old ++ place_or_none place }
+    ensures len { length text.new ≤ length text.old + 41 }
+{
+    match place {
+        Some(place) => {
+            text.add_number(place.space);
+            text.push(b' ');
+            text.add_number(u64::from(place.page));
+        }
+        None => text.add(b"none"),
+    }
+}
+
+/// `parent SPACE PAGE`, `parent none` or `absent`, of what a page shows.
+pub(crate) fn parent_text(mapping: Option<Mapping>) -> Text
+    ensures { result ≡ parent_text mapping }
+{
+    let mut text = Text::new();
+    let Some(mapping) = mapping else {
+        text.add(b"absent");
+        text.push(b'\n');
+        return text;
+    };
+    text.add(b"parent ");
+    add_place(&mut text, mapping.parent);
     text.push(b'\n');
     text
 }

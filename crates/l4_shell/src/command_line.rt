@@ -75,6 +75,8 @@ are skipped.
   send N TO WORD..       N sends these words, the tag first, to a thread
   show N FIRST COUNT     lists the present pages of N's space among the COUNT
                          pages from FIRST on
+  parent N PAGE          the space and page that a page of N's space was mapped
+                         from
 
 N is a thread's number, below 262144. Thread 1 is sigma0, which holds frame i at
 page i; thread 2 is root. Numbers are decimal, or hexadecimal after 0x.
@@ -82,6 +84,8 @@ page i; thread 2 is root. Numbers are decimal, or hexadecimal after 0x.
   N ipc TAG ERROR FROM WORD..      a call of N ended
   transfer S R done                a message went from S to R
   N waits                          the call goes on until a later line ends it
+  parent SPACE PAGE                where the page was mapped from (none: a root);
+                                   absent: the page isn't present
   line L refused CODE              the line changed nothing
 
 Exit status: 0 at the end of the script, 2 if the command line is not

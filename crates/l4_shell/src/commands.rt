@@ -1,12 +1,11 @@
 //! What a script line asks for.
 ghost use Rattle.std.specs.Prelude.{◌≡◌};
 ghost use Rattle.std.specs.Prelude.{◌+◌, ◌≤◌, length, option_map};
-ghost use Rattle.l4_shell.specs.Tokens.{tokens_of};
-ghost use Rattle.l4_shell.specs.Commands.{nil_or_thread_of, partner_of, new_space_of, three_of, thread_asked, receive_asked, show_asked, send_asked, words_of, command_of};
+ghost use Rattle.l4_text.specs.Tokens.{tokens_of};
+ghost use Rattle.l4_shell.specs.Commands.{thread_of, nil_or_thread_of, partner_of, new_space_of, two_of, three_of, thread_asked, receive_asked, show_asked, parent_asked, send_asked, words_of, command_of};
 
-use crate::numbers::{number, thread_number};
-use crate::tokens::next_token;
 use arrayvec::ArrayVec;
+use l4_text::{next_token, number};
 use std::marker::Model;
 
 /// The most words of a line, as many as there are message registers.
@@ -92,6 +91,11 @@ pub(crate) enum Command {
         first: u32,
         count: u32,
     },
+    /// The parent of a page of a thread's space.
+    Parent {
+        number: u32,
+        page: u32,
+    },
 }
 
 const NIL: &[u8] = b"nil";
@@ -108,6 +112,20 @@ const SEND: &[u8] = b"send";
 
 const SHOW: &[u8] = b"show";
 
+const PARENT: &[u8] = b"parent";
+
+/// The tokens of a line of exactly two.
+fn two(line: &[u8]) -> Option<(&[u8], &[u8])>
+    ensures { option_map (λ p. (p.0.now, p.1.now)) result ≡ two_of (tokens_of line.now) }
+{
+    let (first, rest) = next_token(line)?;
+    let (second, rest) = next_token(rest)?;
+    match next_token(rest) {
+        None => Some((first, second)),
+        Some(_) => None,
+    }
+}
+
 /// The tokens of a line of exactly three.
 fn three(line: &[u8]) -> Option<(&[u8], (&[u8], &[u8]))>
     ensures { option_map (λ p. (p.0.now, (p.1.0.now, p.1.1.now))) result ≡ three_of (tokens_of line.now) }
@@ -119,6 +137,15 @@ fn three(line: &[u8]) -> Option<(&[u8], (&[u8], &[u8]))>
         None => Some((first, (second, third))),
         Some(_) => None,
     }
+}
+
+/// A thread's number, below 2^18.
+#[tactic(auto, unfolding(crate::specs::Commands::thread_of))]
+fn thread_number(text: &[u8]) -> Option<u32>
+    ensures { result ≡ thread_of text.now }
+{
+    let value = number(text)?;
+    if value < 0x4_0000 { Some(value) } else { None }
 }
 
 /// A thread's number, or the word `nil`.
@@ -193,6 +220,18 @@ fn show(line: &[u8]) -> Option<Command>
     })
 }
 
+/// `N PAGE`
+#[tactic(auto, unfolding(crate::specs::Commands::parent_asked))]
+fn parent(line: &[u8]) -> Option<Command>
+    ensures { result ≡ parent_asked (tokens_of line.now) }
+{
+    let (number_token, page) = two(line)?;
+    Some(Command::Parent {
+        number: thread_number(number_token)?,
+        page: number(page)?,
+    })
+}
+
 /// At most 64 numbers, to the end of the line.
 fn read_words(line: &[u8]) -> Option<Words>
     ensures { result ≡ words_of (tokens_of line.now) }
@@ -246,6 +285,9 @@ pub(crate) fn read_command(line: &[u8]) -> Result<Command, ScriptFault>
     }
     if name == SHOW {
         return show(rest).ok_or(ScriptFault::BadTokens);
+    }
+    if name == PARENT {
+        return parent(rest).ok_or(ScriptFault::BadTokens);
     }
     Err(ScriptFault::UnknownCommand)
 }

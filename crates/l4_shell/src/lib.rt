@@ -4,19 +4,16 @@
 mod answers;
 mod command_line;
 mod commands;
-mod lines;
-mod numbers;
-mod output;
 mod refusals;
 mod running;
 mod session;
-mod texts;
-mod tokens;
 mod words;
 
+pub use answers::{add_place, letters, shown_text};
 pub use command_line::{OptionFault, Options};
+pub use refusals::{Code, add_code, refused_code};
 pub use running::{RunFault, run};
-pub use words::options;
+pub use words::{frames_of, frames_option, help_text, options};
 
 #[cfg(test)]
 mod tests;

@@ -3,16 +3,16 @@ ghost use Rattle.std.specs.Prelude.{◌≡◌, ◌≤◌, ◌+◌, ◌++◌, len
 ghost use Rattle.l4_shell.specs.Answers.{Refusal, plainly, at_place, message_refusal, thread_refusal, unmap_refusal, kernel_refusal, script_refusal, place_text, refused_text};
 
 use crate::commands::ScriptFault;
-use crate::texts::Text;
 use l4_ipc::{Lower, Refused};
 use l4_msg::MsgFault;
+use l4_text::Text;
 use l4_threads::ThreadFault;
 use l4_unmap::UnmapFault;
 use std::marker::Model;
 
 /// Why a line is refused: a code, and the number that some codes carry.
 #[derive(Drop)]
-pub(crate) struct Code {
+pub struct Code {
     name: &'static [u8],
     number: Option<u32>,
 }
@@ -85,7 +85,7 @@ fn unmap_code(fault: UnmapFault) -> Code
 }
 
 /// The innermost code of a refusal.
-pub(crate) fn refused_code(refused: Refused) -> Code
+pub fn refused_code(refused: Refused) -> Code
     ensures { result ≡ kernel_refusal refused }
 {
     match refused {
@@ -126,6 +126,16 @@ fn add_place(text: &mut Text, place: Option<u32>)
     }
 }
 
+/// Adds a code, and the number that it carries.
+pub fn add_code(text: &mut Text, code: &Code)
+    requires { length text.old + 29 ≤ 1024 }
+    ensures value { text.new ≡ text.old ++ code.now.name ++ place_text code.now.number }
+    ensures len { length text.new ≤ length text.old + 29 }
+{
+    text.add(code.name);
+    add_place(text, code.number);
+}
+
 /// `line L refused CODE`, or `line L refused CODE I`
 pub(crate) fn refused_text(line: u64, code: &Code) -> Text
     ensures { result ≡ refused_text line code.now }
@@ -134,8 +144,7 @@ pub(crate) fn refused_text(line: u64, code: &Code) -> Text
     text.add(b"line ");
     text.add_number(line);
     text.add(b" refused ");
-    text.add(code.name);
-    add_place(&mut text, code.number);
+    add_code(&mut text, code);
     text.push(b'\n');
     text
 }

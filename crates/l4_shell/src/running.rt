@@ -1,11 +1,10 @@
 //! Scripts from a reader to a writer.
-ghost use Rattle.std.specs.Prelude.{◌≡◌, ◌≤◌, IfOk};
-ghost use Rattle.l4_shell.specs.Scripts.{ReadsLines, ReadsAll};
+ghost use Rattle.std.specs.Prelude.{◌≡◌, ◌≤◌};
+ghost use Rattle.l4_shell.specs.Scripts.{Runs, TellsScript};
 
-use crate::lines::{Ending, Line, Source, next_line};
-use crate::output::Output;
 use crate::session::answer_line;
 use l4_ipc::Kernel;
+use l4_text::{Ending, Line, Output, Source, next_line};
 use std::alloc::Global;
 use std::io::{Read, Write};
 
@@ -28,19 +27,25 @@ fn answer_all<R: Read, W: Write>(
     out: &mut Output,
     writer: &mut W,
 ) -> Result<u64, RunFault>
-    ensures { ReadsAll (R.remaining reader.old) (R.remaining reader.new) result }
+    ensures { TellsScript kernel.old (R.remaining reader.old) (R.remaining reader.new)
+        (W.contents writer.old) (W.contents writer.new) out.old out.new result }
 {
     let mut source = Source::new();
     let mut line = Line::new();
     for number in 1..u64::MAX {
-        match next_line(&mut source, &mut line, reader)? {
-            None => return Ok(number - 1),
-            Some(ending) => {
-                answer_line(kernel, number, ending, line.as_slice(), out, writer)?;
-                if ending == Ending::Cut {
-                    return Ok(number);
-                }
-            }
+        let next = match next_line(&mut source, &mut line, reader) {
+            Ok(next) => next,
+            Err(_) => return Err(RunFault::Read),
+        };
+        let Some(ending) = next else {
+            return Ok(number - 1);
+        };
+        answer_line(kernel, number, ending, line.as_slice(), out, writer);
+        if out.has_failed() {
+            return Err(RunFault::Write);
+        }
+        if ending == Ending::Cut {
+            return Ok(number);
         }
     }
     Err(RunFault::Read)
@@ -62,26 +67,19 @@ pub fn run<R: Read, W: Write>(
     requires some { 1 ≤ frames }
     requires fit { frames ≤ 4096 }
 
-    // The script was read to its end, and each of its lines counts.
-    ensures lines { IfOk result (ReadsLines (R.remaining reader.old) (R.remaining reader.new)) }
-
-    // Want of memory comes before all else.
-    ensures unread { result ≡ Err RunFault.Memory → R.remaining reader.new ≡ R.remaining reader.old }
-    ensures unwritten { result ≡ Err RunFault.Memory → W.contents writer.new ≡ W.contents writer.old }
+    // What goes out is the script text of what was read: to its end, of the whole lines before a
+    // read that failed, or a beginning of it where a write failed. Want of memory comes before all
+    // else.
+    ensures { Runs frames (R.remaining reader.old) (R.remaining reader.new)
+        (W.contents writer.old) (W.contents writer.new) result }
 {
     let Ok(mut kernel) = Kernel::boot(alloc, frames) else {
         return Err(RunFault::Memory);
     };
     let mut out = Output::new();
-    match answer_all(&mut kernel, reader, &mut out, writer) {
-        Ok(count) => {
-            out.finish(writer)?;
-            Ok(count)
-        }
-        Err(RunFault::Write) => Err(RunFault::Write),
-        Err(fault) => {
-            out.finish(writer)?;
-            Err(fault)
-        }
+    let answered = answer_all(&mut kernel, reader, &mut out, writer);
+    match out.finish(writer) {
+        Ok(()) => answered,
+        Err(_) => Err(RunFault::Write),
     }
 }

@@ -1,34 +1,40 @@
 //! Script lines over a kernel.
-ghost use Rattle.std.specs.Prelude.{◌≡◌, IfErr};
+ghost use Rattle.std.specs.Prelude.{◌≡◌, ℕ, List, MatchOption, Ok};
+ghost use Rattle.l4_ipc.specs.Stages.{StepsYet};
+ghost use Rattle.l4_ipc.specs.Steps.{IsNext, IsIdle};
+ghost use Rattle.l4_text.specs.Streams.{Tells};
+ghost use Rattle.l4_text.specs.Tokens.{tokens_of};
+ghost use Rattle.l4_shell.specs.Requests.{script_id, partner_id, space_id, create_call, receive_call, send_call, is_comment, is_empty, asked_at};
+ghost use Rattle.l4_shell.specs.Sessions.{step_line, ended_text, step_text, is_among, waiting_text, GoesOn, Enters, place_text, ListsBelow, Shows, parent_answer, CarriesOut, AnswersLine};
 
-use crate::answers::{expire_text, page_text, reply_text, shown_text, transfer_text, waits_text};
+use crate::answers::{
+    expire_text, page_text, parent_text, reply_text, shown_text, transfer_text, waits_text,
+};
 use crate::commands::{Command, NewSpace, Partner, ScriptFault, read_command};
-use crate::lines::Ending;
-use crate::output::Output;
 use crate::refusals::{refused_code, refused_text, script_code};
-use crate::running::RunFault;
-use crate::tokens::next_token;
 use arrayvec::ArrayVec;
-use l4_ipc::{Answer, Call, Control, Create, IpcCall, Kernel, Refused, Step};
+use l4_ipc::{Answer, Call, Control, Create, IpcCall, Kernel, Outcome, Refused, Step};
+use l4_text::{Ending, Output, next_token};
 use l4_threads::ThreadId;
 use std::io::Write;
 
 /// The thread that creates threads.
 const ROOT: u32 = 2;
 
-/// The most steps that follow a call: each thread sends and receives at most once.
-const MOST_STEPS: u32 = 128;
-
 /// The pages of a space.
 const PAGES: u32 = 1_048_576;
 
 /// The id of a script's thread: its number, and version 1.
-fn id_of(number: u32) -> ThreadId {
-    ThreadId(number << 14 | 1)
+fn id_of(number: u32) -> ThreadId
+    ensures { result ≡ script_id number }
+{
+    ThreadId((number << 14) + 1)
 }
 
 /// The id of a partner: nilthread, anythread, or a thread's.
-fn partner_id(partner: Partner) -> ThreadId {
+fn id_of_partner(partner: Partner) -> ThreadId
+    ensures { result ≡ partner_id partner }
+{
     match partner {
         Partner::Nil => ThreadId(0),
         Partner::Any => ThreadId(0xffff_ffff),
@@ -36,23 +42,34 @@ fn partner_id(partner: Partner) -> ThreadId {
     }
 }
 
+/// The id that names the space of a new thread.
+fn id_of_space(number: u32, space: NewSpace) -> ThreadId
+    ensures { result ≡ space_id number space }
+{
+    match space {
+        NewSpace::New => id_of(number),
+        NewSpace::Of(other) => id_of(other),
+    }
+}
+
 /// Root's call that creates a thread.
-fn create_call(number: u32, space: NewSpace, pager: Partner) -> Call {
+fn create_call(number: u32, space: NewSpace, pager: Partner) -> Call
+    ensures { result ≡ create_call number space pager }
+{
     Call::Control(Control::Create(Create {
         id: id_of(number),
-        space: match space {
-            NewSpace::New => id_of(number),
-            NewSpace::Of(other) => id_of(other),
-        },
-        pager: partner_id(pager),
+        space: id_of_space(number, space),
+        pager: id_of_partner(pager),
     }))
 }
 
 /// A receive phase alone, without timeout.
-fn receive_call(from: Partner, window: u32) -> Call {
+fn receive_call(from: Partner, window: u32) -> Call
+    ensures { result ≡ receive_call «from» window }
+{
     Call::Ipc(IpcCall {
         to: ThreadId(0),
-        from: partner_id(from),
+        from: id_of_partner(from),
         timeouts: 0,
         acceptor: window,
         words: ArrayVec::new(),
@@ -60,9 +77,11 @@ fn receive_call(from: Partner, window: u32) -> Call {
 }
 
 /// A send phase alone, without timeout.
-fn send_call(to: Partner, words: ArrayVec<u32, 64>) -> Call {
+fn send_call(to: Partner, words: ArrayVec<u32, 64>) -> Call
+    ensures { result ≡ send_call to words.items }
+{
     Call::Ipc(IpcCall {
-        to: partner_id(to),
+        to: id_of_partner(to),
         from: ThreadId(0),
         timeouts: 0,
         acceptor: 0,
@@ -70,73 +89,125 @@ fn send_call(to: Partner, words: ArrayVec<u32, 64>) -> Call {
     })
 }
 
+/// Whether a line's first byte is `#`.
+fn is_comment(line: &[u8]) -> bool
+    ensures { result ≡ is_comment line.now }
+{
+    !line.is_empty() && line[0] == b'#'
+}
+
+/// Whether a line has no token.
+fn is_empty(line: &[u8]) -> bool
+    ensures { result ≡ is_empty (tokens_of line.now) }
+{
+    match next_token(line) {
+        None => true,
+        Some(_) => false,
+    }
+}
+
 /// What a line asks for. None where it is empty or a comment.
-fn asked(ending: Ending, line: &[u8]) -> Result<Option<Command>, ScriptFault> {
+fn asked(ending: Ending, line: &[u8]) -> Result<Option<Command>, ScriptFault>
+    ensures { result ≡ asked_at ending line.now }
+{
     match ending {
         Ending::Cut => return Err(ScriptFault::CutLine),
         Ending::Long => return Err(ScriptFault::LineTooLong),
         Ending::Whole => {}
     }
-    if line.first() == Some(&b'#') || next_token(line).is_none() {
+    if is_comment(line) || is_empty(line) {
         return Ok(None);
     }
-    Ok(Some(read_command(line)?))
+    match read_command(line) {
+        Ok(command) => Ok(Some(command)),
+        Err(fault) => Err(fault),
+    }
 }
 
 /// Tells how the calls ended that ended in a step.
-fn tell_ended<W: Write>(
-    kernel: &Kernel,
-    answer: &Answer,
-    out: &mut Output,
-    writer: &mut W,
-) -> Result<(), RunFault>
-    ensures { IfErr result (λ e. e ≡ RunFault.Write) }
+fn tell_ended<W: Write>(kernel: &Kernel, answer: &Answer, out: &mut Output, writer: &mut W)
+    ensures { Tells (W.contents writer.old) (W.contents writer.new) out.old out.new
+        (ended_text kernel.now answer.now.ended.items) }
 {
     for number in answer.ended.as_slice() {
-        out.put(writer, &reply_text(*number, kernel.reply(*number)))?;
+        out.put(writer, &reply_text(*number, kernel.reply(*number)));
     }
-    Ok(())
 }
 
-/// Tells a step, and how the calls ended that ended in it.
-fn tell<W: Write>(
-    kernel: &Kernel,
-    step: &Step,
-    answer: &Answer,
-    out: &mut Output,
-    writer: &mut W,
-) -> Result<(), RunFault>
-    ensures { IfErr result (λ e. e ≡ RunFault.Write) }
+/// Tells a step itself.
+fn tell_step<W: Write>(step: &Step, outcome: Outcome, out: &mut Output, writer: &mut W)
+    ensures { Tells (W.contents writer.old) (W.contents writer.new) out.old out.new
+        (step_line step.now outcome) }
 {
     match step {
         Step::Start(_, _) => {}
-        Step::Transfer(s, r) => out.put(writer, &transfer_text(*s, *r, answer.outcome))?,
-        Step::Expire(n) => out.put(writer, &expire_text(*n))?,
+        Step::Transfer(s, r) => out.put(writer, &transfer_text(*s, *r, outcome)),
+        Step::Expire(n) => out.put(writer, &expire_text(*n)),
     }
-    tell_ended(kernel, answer, out, writer)
 }
 
-/// Does the step that is enabled, and tells it. Says whether this thread's call ended in it, None
-/// where no step is enabled.
-fn go_on<W: Write>(
-    kernel: &mut Kernel,
-    thread: u32,
-    out: &mut Output,
-    writer: &mut W,
-) -> Result<Option<bool>, RunFault>
-    ensures { IfErr result (λ e. e ≡ RunFault.Write) }
+/// Tells a step, and how the calls ended that ended in it.
+fn tell<W: Write>(kernel: &Kernel, step: &Step, answer: &Answer, out: &mut Output, writer: &mut W)
+    ensures { Tells (W.contents writer.old) (W.contents writer.new) out.old out.new
+        (step_text step.now answer.now kernel.now) }
+{
+    tell_step(step, answer.outcome, out, writer);
+    tell_ended(kernel, answer, out, writer);
+}
+
+/// Whether the thread's call ended in a step.
+fn has_ended(answer: &Answer, thread: u32) -> bool
+    ensures { result ≡ is_among thread answer.now.ended.items }
+{
+    answer.ended.as_slice().contains(&thread)
+}
+
+/// Does the step that comes next. None where there is none.
+fn go_on(kernel: &mut Kernel) -> Option<(Step, Answer)>
+    ensures next { MatchOption result (IsIdle kernel.old) (λ d. IsNext kernel.old d.0
+        × StepsYet kernel.old d.0 (Ok d.1) kernel.new) }
+    ensures still { result ≡ None → kernel.new ≡ kernel.old }
 {
     let Some(step) = kernel.enabled() else {
-        return Ok(None);
+        return None;
     };
     let Ok(answer) = kernel.step(&step) else {
-        return Ok(None);
+        return None;
     };
-    tell(kernel, &step, &answer, out, writer)?;
-    Ok(Some(answer.ended.as_slice().contains(&thread)))
+    Some((step, answer))
 }
 
-/// Enters a call, and does the steps that follow until none is enabled.
+/// Tells that a thread's call has not ended.
+fn tell_waiting<W: Write>(thread: u32, ended: bool, out: &mut Output, writer: &mut W)
+    ensures { Tells (W.contents writer.old) (W.contents writer.new) out.old out.new
+        (waiting_text thread ended) }
+{
+    if !ended {
+        out.put(writer, &waits_text(thread));
+    }
+}
+
+/// Does the steps that follow a call's start until there is none, and tells them and whether the
+/// caller waits.
+fn follow<W: Write>(
+    kernel: &mut Kernel,
+    thread: u32,
+    start: &Answer,
+    out: &mut Output,
+    writer: &mut W,
+)
+    ensures { (text : List ℕ) × GoesOn kernel.old thread start.now.ended.items text kernel.new
+        × Tells (W.contents writer.old) (W.contents writer.new) out.old out.new text }
+{
+    let mut ended = has_ended(start, thread);
+    while let Some((step, answer)) = go_on(kernel) {
+        tell(kernel, &step, &answer, out, writer);
+        ended = ended | has_ended(&answer, thread);
+    }
+    tell_waiting(thread, ended, out, writer);
+}
+
+/// Enters a call, and does the steps that follow until there is none.
 fn enter<W: Write>(
     kernel: &mut Kernel,
     line: u64,
@@ -144,26 +215,55 @@ fn enter<W: Write>(
     call: Call,
     out: &mut Output,
     writer: &mut W,
-) -> Result<(), RunFault>
-    ensures { IfErr result (λ e. e ≡ RunFault.Write) }
+)
+    ensures { (text : List ℕ) × Enters kernel.old line thread call text kernel.new
+        × Tells (W.contents writer.old) (W.contents writer.new) out.old out.new text }
 {
     let step = Step::Start(thread, call);
-    let answer = match kernel.step(&step) {
-        Ok(answer) => answer,
-        Err(refused) => return out.put(writer, &refused_text(line, &refused_code(refused))),
-    };
-    tell(kernel, &step, &answer, out, writer)?;
-    let mut waits = !answer.ended.as_slice().contains(&thread);
-    for _ in 0..MOST_STEPS {
-        match go_on(kernel, thread, out, writer)? {
-            None => break,
-            Some(ended) => waits = waits && !ended,
+    match kernel.step(&step) {
+        Ok(answer) => {
+            tell(kernel, &step, &answer, out, writer);
+            follow(kernel, thread, &answer, out, writer);
         }
+        Err(refused) => out.put(writer, &refused_text(line, &refused_code(refused))),
     }
-    if waits {
-        out.put(writer, &waits_text(thread))?;
+}
+
+/// Tells what a page shows, if it is present.
+fn tell_page<W: Write>(kernel: &Kernel, space: u64, page: u32, out: &mut Output, writer: &mut W)
+    ensures { Tells (W.contents writer.old) (W.contents writer.new) out.old out.new
+        (place_text kernel.now space page) }
+{
+    if let Some(mapping) = kernel.mapping(space, page) {
+        out.put(writer, &page_text(page, &mapping));
     }
-    Ok(())
+}
+
+/// Lists the present pages of a space from the first on, below an end. Answers their number.
+fn list_pages<W: Write>(
+    kernel: &Kernel,
+    space: u64,
+    first: u32,
+    end: u32,
+    out: &mut Output,
+    writer: &mut W,
+) -> u32
+    ensures { ListsBelow kernel.now space first end result
+        (W.contents writer.old) (W.contents writer.new) out.old out.new }
+{
+    let mut from = first;
+    let mut shown = 0u32;
+    loop {
+        let Some(page) = kernel.next_page(space, from) else {
+            return shown;
+        };
+        if page >= end {
+            return shown;
+        }
+        tell_page(kernel, space, page, out, writer);
+        shown += 1;
+        from = page + 1;
+    }
 }
 
 /// Lists the present pages of a thread's space.
@@ -174,8 +274,9 @@ fn show<W: Write>(
     pages: (u32, u32),
     out: &mut Output,
     writer: &mut W,
-) -> Result<(), RunFault>
-    ensures { IfErr result (λ e. e ≡ RunFault.Write) }
+)
+    ensures { (text : List ℕ) × Shows kernel.now line number pages.0 pages.1 text
+        × Tells (W.contents writer.old) (W.contents writer.new) out.old out.new text }
 {
     let Some(space) = kernel.space_of(number) else {
         let code = refused_code(Refused::UnknownThread);
@@ -183,23 +284,27 @@ fn show<W: Write>(
     };
     let (first, count) = pages;
     let end = first.saturating_add(count).min(PAGES);
-    let mut from = first;
-    let mut shown = 0u32;
-    for turn in 0..PAGES {
-        let Some(page) = kernel.next_page(space, from) else {
-            break;
-        };
-        if page >= end {
-            break;
-        }
-        let Some(mapping) = kernel.mapping(space, page) else {
-            break;
-        };
-        out.put(writer, &page_text(page, &mapping))?;
-        shown = turn + 1;
-        from = page + 1;
-    }
-    out.put(writer, &shown_text(shown))
+    let shown = list_pages(kernel, space, first, end, out, writer);
+    out.put(writer, &shown_text(shown));
+}
+
+/// Tells the parent of a page of a thread's space.
+fn tell_parent<W: Write>(
+    kernel: &Kernel,
+    line: u64,
+    number: u32,
+    page: u32,
+    out: &mut Output,
+    writer: &mut W,
+)
+    ensures { Tells (W.contents writer.old) (W.contents writer.new) out.old out.new
+        (parent_answer kernel.now line number page) }
+{
+    let Some(space) = kernel.space_of(number) else {
+        let code = refused_code(Refused::UnknownThread);
+        return out.put(writer, &refused_text(line, &code));
+    };
+    out.put(writer, &parent_text(kernel.mapping(space, page)));
 }
 
 /// Carries out what a line asks for.
@@ -209,49 +314,37 @@ fn carry_out<W: Write>(
     command: Command,
     out: &mut Output,
     writer: &mut W,
-) -> Result<(), RunFault>
-    ensures { IfErr result (λ e. e ≡ RunFault.Write) }
+)
+    ensures { (text : List ℕ) × CarriesOut kernel.old line command text kernel.new
+        × Tells (W.contents writer.old) (W.contents writer.new) out.old out.new text }
 {
     match command {
         Command::Thread {
             number,
             space,
             pager,
-        } => enter(
-            kernel,
-            line,
-            ROOT,
-            create_call(number, space, pager),
-            out,
-            writer,
-        ),
+        } => {
+            let call = create_call(number, space, pager);
+            enter(kernel, line, ROOT, call, out, writer)
+        }
         Command::Receive {
             number,
             from,
             window,
-        } => enter(
-            kernel,
-            line,
-            number,
-            receive_call(from, window),
-            out,
-            writer,
-        ),
+        } => {
+            let call = receive_call(from, window);
+            enter(kernel, line, number, call, out, writer)
+        }
         Command::Send { number, to, words } => {
-            enter(
-                kernel,
-                line,
-                number,
-                send_call(to, words.into_registers()),
-                out,
-                writer,
-            )
+            let call = send_call(to, words.into_registers());
+            enter(kernel, line, number, call, out, writer)
         }
         Command::Show {
             number,
             first,
             count,
         } => show(kernel, line, number, (first, count), out, writer),
+        Command::Parent { number, page } => { tell_parent(kernel, line, number, page, out, writer) }
     }
 }
 
@@ -263,11 +356,12 @@ pub(crate) fn answer_line<W: Write>(
     line: &[u8],
     out: &mut Output,
     writer: &mut W,
-) -> Result<(), RunFault>
-    ensures { IfErr result (λ e. e ≡ RunFault.Write) }
+)
+    ensures { (text : List ℕ) × AnswersLine kernel.old number (asked_at ending line.now) text kernel.new
+        × Tells (W.contents writer.old) (W.contents writer.new) out.old out.new text }
 {
     match asked(ending, line) {
-        Ok(None) => Ok(()),
+        Ok(None) => {}
         Ok(Some(command)) => carry_out(kernel, number, command, out, writer),
         Err(fault) => out.put(writer, &refused_text(number, &script_code(fault))),
     }

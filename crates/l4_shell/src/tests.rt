@@ -15,6 +15,14 @@ const ANSWERS: [&[u8]; 5] = [
     b"2 control ok\n3 waits\ntransfer 1 3 done\n1 ipc 00000000 0 nil\n3 ipc 00000080 0 1 00020008 000100c7\npage 32 frame 16 rwx\nshown 1\n",
 ];
 
+/// What is answered to a line that the end of the script cuts, by the number of lines before it.
+const REFUSALS: [&[u8]; 4] = [
+    b"line 1 refused S4\n",
+    b"line 2 refused S4\n",
+    b"line 3 refused S4\n",
+    b"line 4 refused S4\n",
+];
+
 /// How many of these bytes are newlines.
 fn newlines(bytes: &[u8]) -> usize {
     bytes.iter().filter(|b| **b == b'\n').count()
@@ -41,6 +49,23 @@ impl Read for Drip<'_> {
             }
             None => Ok(0),
         }
+    }
+}
+
+/// Gives one `#` a call, and fails at a call.
+#[derive(Drop)]
+struct Hashes {
+    calls: usize,
+}
+
+impl Read for Hashes {
+    fn read(&mut self, buf: &mut [u8]) -> io::Result<usize> {
+        if self.calls == 0 || buf.is_empty() {
+            return Err(io::Error::from(io::ErrorKind::Other));
+        }
+        self.calls -= 1;
+        buf[0] = b'#';
+        Ok(1)
     }
 }
 
@@ -81,6 +106,31 @@ fn answers_a_script(rt: HostRuntime) -> Result<(), Fail> {
 }
 
 #[test]
+fn tells_parents(rt: HostRuntime) -> Result<(), Fail> {
+    let rows: [(&[u8], &[u8]); 8] = [
+        (b"parent 1 0\n", b"parent none\n"),
+        (b"parent 1 256\n", b"absent\n"),
+        (b"parent 1 4294967295\n", b"absent\n"),
+        (b"parent 1 4294967296\n", b"line 1 refused S2\n"),
+        (b"parent 1 nil\n", b"line 1 refused S2\n"),
+        (b"parent 1 0 0\n", b"line 1 refused S2\n"),
+        (b"parent 3 4294967295\n", b"line 1 refused K2\n"),
+        (
+            b"thread 3 new nil\nrecv 3 any 0x10\nsend 1 3 0x80 0x20008 0x100c7\nparent 3 32\n",
+            b"2 control ok\n3 waits\ntransfer 1 3 done\n1 ipc 00000000 0 nil\n3 ipc 00000080 0 1 00020008 000100c7\nparent 0 16\n",
+        ),
+    ];
+    for (script, answers) in rows {
+        let mut script = script;
+        let mut written = Vec::new(rt.alloc());
+        let result = run(rt.alloc(), 256, &mut script, &mut written);
+        assert!(rt; result.is_ok());
+        assert!(rt; written.as_slice() == answers);
+    }
+    Ok(())
+}
+
+#[test]
 fn a_failing_read_loses_no_answer(rt: HostRuntime) -> Result<(), Fail> {
     for calls in 0..SCRIPT.len() + 1 {
         let mut reader = Drip {
@@ -93,6 +143,44 @@ fn a_failing_read_loses_no_answer(rt: HostRuntime) -> Result<(), Fail> {
         let whole = newlines(SCRIPT.get(..calls).ok_or("no front")?);
         let owed = ANSWERS.get(whole).ok_or("no answers")?;
         assert!(rt; written.as_slice() == *owed, "at {calls}");
+    }
+    Ok(())
+}
+
+#[test]
+fn a_cut_line_is_refused(rt: HostRuntime) -> Result<(), Fail> {
+    for end in 0..SCRIPT.len() + 1 {
+        let front = SCRIPT.get(..end).ok_or("no front")?;
+        let whole = newlines(front);
+        let is_cut = !front.is_empty() && front.last() != Some(&b'\n');
+        let mut reader = front;
+        let mut written = Vec::new(rt.alloc());
+        let count = (whole as u64).saturating_add(u64::from(is_cut));
+        assert_eq!(rt;
+            run(rt.alloc(), 256, &mut reader, &mut written),
+            Ok(count),
+            "at {end}"
+        );
+        let owed = ANSWERS.get(whole).ok_or("no answers")?;
+        let refusal = if is_cut {
+            *REFUSALS.get(whole).ok_or("no refusal")?
+        } else {
+            b""
+        };
+        assert!(rt; written.get(..owed.len()) == Some(*owed), "at {end}");
+        assert!(rt; written.get(owed.len()..) == Some(refusal), "at {end}");
+    }
+    Ok(())
+}
+
+#[test]
+fn a_comment_without_end_gives_nothing(rt: HostRuntime) -> Result<(), Fail> {
+    for calls in [0, 1, 4_095, 4_096, 4_097, 10_000] {
+        let mut reader = Hashes { calls };
+        let mut written = Vec::new(rt.alloc());
+        let result = run(rt.alloc(), 256, &mut reader, &mut written);
+        assert_eq!(rt; result, Err(RunFault::Read), "after {calls}");
+        assert!(rt; written.is_empty(), "after {calls}");
     }
     Ok(())
 }

@@ -16,6 +16,15 @@ const DEFAULT_FRAMES: u32 = 256;
 /// The most frames of a machine.
 const MOST_FRAMES: u32 = 4_096;
 
+/// The option `--frames`.
+pub fn frames_option<'a>(alloc: Global) -> Arg<'a> {
+    Arg::new(alloc, "frames")
+        .long("frames")
+        .value_name("N")
+        .help("The frames of the machine, from 1 to 4096 [default: 256]")
+        .action(ArgAction::Set)
+}
+
 /// An argument of a region.
 fn region_word<'a>(alloc: Global, id: &'a str, name: &'a str, help: &'a str) -> Arg<'a> {
     Arg::new(alloc, id)
@@ -48,15 +57,10 @@ fn of_region<'a>(
 
 /// The commands and options that are known.
 fn known<'a>(alloc: Global) -> Result<Command<'a>, AllocError> {
-    let frames = Arg::new(alloc, "frames")
-        .long("frames")
-        .value_name("N")
-        .help("The frames of the machine, from 1 to 4096 [default: 256]")
-        .action(ArgAction::Set);
     let run = Command::new(alloc, "run")
         .about("Answers a script of kernel calls")
         .after_help(SCRIPT)
-        .arg(frames)?;
+        .arg(frames_option(alloc))?;
     Command::new(alloc, "l4")
         .about(ABOUT)
         .version("0.1.0")
@@ -116,17 +120,25 @@ fn rights_in(text: &[u8]) -> Option<Rights> {
     Some(Rights::of_bits(4 * u8::from(r) + 2 * u8::from(w) + u8::from(x)))
 }
 
-/// What a parse that gave no matches means.
-fn without_matches(alloc: Global, error: &Error) -> Result<Options, OptionFault>
-    ensures { IfOk result IsInRange }
-{
+/// The usage or the version, where a parse gave it in place of matches.
+pub fn help_text(alloc: Global, error: &Error) -> Result<String, OptionFault> {
     let Ok(text) = error.to_string(alloc) else {
         return Err(OptionFault::Memory);
     };
     match error.kind() {
-        ErrorKind::DisplayHelp | ErrorKind::DisplayVersion => Ok(Options::Show(text)),
+        ErrorKind::DisplayHelp | ErrorKind::DisplayVersion => Ok(text),
         ErrorKind::OutOfMemory => Err(OptionFault::Memory),
         _ => Err(OptionFault::Words(text)),
+    }
+}
+
+/// What a parse that gave no matches means.
+fn without_matches(alloc: Global, error: &Error) -> Result<Options, OptionFault>
+    ensures { IfOk result IsInRange }
+{
+    match help_text(alloc, error) {
+        Ok(text) => Ok(Options::Show(text)),
+        Err(fault) => Err(fault),
     }
 }
 
@@ -164,21 +176,29 @@ fn region_of(alloc: Global, matches: &ArgMatches<'_>) -> Result<Region, OptionFa
     })
 }
 
-/// What the matches of `run` ask for.
-fn run_options(alloc: Global, matches: &ArgMatches<'_>) -> Result<Options, OptionFault>
-    ensures { IfOk result IsInRange }
+/// The number of frames that the matches name: 256 where the option is left out.
+pub fn frames_of(alloc: Global, matches: &ArgMatches<'_>) -> Result<u32, OptionFault>
+    ensures { IfOk result (λ n. (1 ≤ n) × (n ≤ 4096)) }
 {
     let Some(word) = matches.get_str("frames") else {
-        return Ok(Options::Run {
-            frames: DEFAULT_FRAMES,
-        });
+        return Ok(DEFAULT_FRAMES);
     };
     if let Some(frames) = frames_in(word.as_bytes()) {
-        return Ok(Options::Run { frames });
+        return Ok(frames);
     }
     match String::from_str(alloc, word) {
         Ok(text) => Err(OptionFault::Frames(text)),
         Err(_) => Err(OptionFault::Memory),
+    }
+}
+
+/// What the matches of `run` ask for.
+fn run_options(alloc: Global, matches: &ArgMatches<'_>) -> Result<Options, OptionFault>
+    ensures { IfOk result IsInRange }
+{
+    match frames_of(alloc, matches) {
+        Ok(frames) => Ok(Options::Run { frames }),
+        Err(fault) => Err(fault),
     }
 }
 

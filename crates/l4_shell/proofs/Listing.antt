@@ -1,0 +1,143 @@
+-- The present pages of a space, listed one after another.
+use Rattle.std.proofs.Common.{◌≡◌, ℕ, Bool, true, false, nat_lt, min, Some, ◌+◌, ◌<◌, ◌≤◌, List, [], ◌∷◌, ◌++◌, length, get_or, Contains, Option, sym, ap, subst, ◌∙◌, refl, arith, inl, inr, ◌⊎◌, ◌↔◌, length-append, ◌^◌}
+use Rattle.std.proofs.lemmas.List.{append-nil, get_or_default}
+use Rattle.std.proofs.lemmas.List.Quantifiers.{all_pairs_push}
+use Rattle.std.proofs.lemmas.List.Elements.{Contains-push, Contains-push_cases, Contains-append_left}
+use Rattle.std.proofs.lemmas.Bool.Decides.{nat_tests}
+use Rattle.std.proofs.lemmas.Grind.{flat_map-append}
+use Rattle.std.specs.List.{flat_map, AllPairs}
+use Rattle.l4_mapdb.specs.Mappings.{IsPresent}
+use Rattle.l4_mapdb.specs.Places.{NonePresentFrom, IsNextPresent}
+use Rattle.l4_ipc.specs.Machine.{Machine}
+use Rattle.l4_shell.specs.Answers.{shown_text}
+use Rattle.l4_text.specs.Streams.{Tells}
+use Rattle.l4_threads.specs.Threads.{space_of}
+use Rattle.std.specs.Prelude.{MatchOption}
+use Rattle.l4_shell.specs.Answers.{refused_text, kernel_refusal}
+use Rattle.l4_ipc.specs.declared.steps.Refused.TheVariants.{UnknownThread}
+use Rattle.l4_shell.specs.declared.commands.Command.{Command}
+use Rattle.l4_shell.specs.declared.commands.Command.TheVariants.{Parent}
+use Rattle.l4_shell.specs.Sessions.{place_in, place_text, ListsBelow, ListsPages, Shows, parent_answer, CarriesOut}
+use Rattle.l4_text.proofs.Telling.{tells_none, tells_more, tells_is}
+
+below_or : (a b : ℕ) → (a < b) ⊎ (b ≤ a)
+below_or a b =
+    elim (nat_lt a b) as (λ v. nat_lt a b ≡ v → (a < b) ⊎ (b ≤ a)) [
+      | true ↦ λ t. inl (let lt : a < b = grind (arith, nat_tests) in lt)
+      | false ↦ λ f. inr (let le : b ≤ a = grind (arith, nat_tests) in le)
+    ] refl
+
+-- the pages listed so far, all below the next one that is looked at
+pub record Listed (m : Machine) (space first end «from» shown : ℕ) (written now : Option (List ℕ)) (before after : List ℕ × Bool) : Type 0 where
+  pub pages : List ℕ
+  pub rising : AllPairs (λ a b. a < b) pages
+  pub each : (page : ℕ) → Contains pages page ↔ ((first ≤ page) × (page < «from») × (page < end) × IsPresent m.mappings (place_in space page))
+  pub number : shown ≡ length pages
+  pub few : first + shown ≤ «from»
+  pub tells : Tells written now before after (flat_map (place_text m space) pages)
+
+pub listed_none : (m : Machine) (space first end : ℕ) (a : Option (List ℕ)) (s : List ℕ × Bool) → Listed m space first end first 0 a a s s
+listed_none m space first end a s = record {
+  pages = [];
+  rising = λ i j d lt short. absurd (omega arith);
+  each = λ page. (λ h. absurd (let k = h.1 in omega arith), λ h. absurd (let k = h.0 in let l = h.1 in omega arith));
+  number = refl;
+  few = omega arith;
+  tells = tells_none a s;
+}
+
+pub listed_more : (m : Machine) (space first end «from» shown : ℕ) (written a b : Option (List ℕ)) (before s t : List ℕ × Bool) (page : ℕ)
+    → Listed m space first end «from» shown written a before s → IsNextPresent m.mappings space «from» page → page < end → Tells a b s t (place_text m space page)
+    → Listed m space first end (page + 1) (shown + 1) written b before t
+listed_more m space first end «from» shown written a b before s t page l next lt tells = record {
+  pages = l.pages ++ page ∷ [];
+  rising = all_pairs_push (λ x y. x < y) l.pages page l.rising (λ k d short.
+      let c : Contains l.pages (get_or l.pages k d) = (k, short, get_or_default l.pages k _ d short) in
+      let below = ((l.each (get_or l.pages k d)).0 c).1 in
+      let le = next.«from» in
+      omega arith);
+  each = λ q. (
+    λ h. elim (Contains-push_cases l.pages page q h) [
+      | inl was ↦ let w = (l.each q).0 was in let a = w.1 in let le = next.«from» in (w.0, omega arith, w.2, w.3)
+      | inr is ↦
+          let le = next.«from» in
+          let few = l.few in (omega (arith, is), omega (arith, is), omega (arith, is), subst (λ (p : ℕ). IsPresent m.mappings (place_in space p)) is next.present)
+    ],
+    λ h. elim (below_or q «from») [
+      | inl below ↦ Contains-append_left l.pages (page ∷ []) q ((l.each q).1 (h.0, below, h.2, h.3))
+      | inr above ↦
+          let least : page ≤ q = next.least q above h.3 in
+          let a = h.1 in
+          let same : page ≡ q = omega arith in
+          subst (λ (p : ℕ). Contains (l.pages ++ page ∷ []) p) same (Contains-push l.pages page)
+    ],
+  );
+  number = omega (arith, l.number, length-append l.pages (page ∷ []));
+  few = omega (arith, l.few, next.«from»);
+  tells = tells_is written b before t _ _ (ap (λ x. flat_map (place_text m space) l.pages ++ x) (sym (append-nil (place_text m space page)))
+      ∙ sym (flat_map-append (place_text m space) l.pages (page ∷ []))) (tells_more written a b before s t _ _ l.tells tells);
+}
+
+-- no present page is left below the end
+listed_all : (m : Machine) (space first end «from» shown : ℕ) (written a : Option (List ℕ)) (before s : List ℕ × Bool)
+    → Listed m space first end «from» shown written a before s
+    → ((page : ℕ) → «from» ≤ page → page < end → IsPresent m.mappings (place_in space page) → ⊥)
+    → ListsBelow m space first end shown written a before s
+listed_all m space first end «from» shown written a before s l none = record {
+  pages = l.pages;
+  rising = l.rising;
+  each = λ q. (
+    λ h. let w = (l.each q).0 h in (w.0, w.2, w.3),
+    λ h.
+        let at : q < «from» = elim (below_or q «from») [ inl lt ↦ lt | inr le ↦ absurd (none q le h.1 h.2) ] in
+        (l.each q).1 (h.0, at, h.1, h.2),
+  );
+  number = l.number;
+  tells = l.tells;
+}
+
+pub listed_end : (m : Machine) (space first end «from» shown : ℕ) (written a : Option (List ℕ)) (before s : List ℕ × Bool)
+    → Listed m space first end «from» shown written a before s → NonePresentFrom m.mappings space «from» → ListsBelow m space first end shown written a before s
+listed_end m space first end «from» shown written a before s l none = listed_all m space first end «from» shown written a before s l (λ page le lt is. none page le is)
+
+pub listed_beyond : (m : Machine) (space first end «from» shown : ℕ) (written a : Option (List ℕ)) (before s : List ℕ × Bool) (page : ℕ)
+    → Listed m space first end «from» shown written a before s → IsNextPresent m.mappings space «from» page → end ≤ page → ListsBelow m space first end shown written a before s
+listed_beyond m space first end «from» shown written a before s page l next beyond =
+    listed_all m space first end «from» shown written a before s l (λ q le lt is. let least = next.least q le is in omega arith)
+
+-- all of them were listed, and then their number
+pub lists_pages : (m : Machine) (space first count end shown : ℕ) (written a b : Option (List ℕ)) (before s t : List ℕ × Bool)
+    → ((page : ℕ) → (page < end) ↔ ((page < first + count) × (page < 2 ^ 20)))
+    → ListsBelow m space first end shown written a before s → Tells a b s t (shown_text shown)
+    → (text : List ℕ) × ListsPages m space first count text × Tells written b before t text
+lists_pages m space first count end shown written a b before s t end_is l tells = (
+  flat_map (place_text m space) l.pages ++ shown_text (length l.pages),
+  record {
+    pages = l.pages;
+    are = record {
+      rising = l.rising;
+      each = λ q. (
+        λ h. let w = (l.each q).0 h in let e = (end_is q).0 w.1 in (w.0, e.0, e.1, w.2),
+        λ h. (l.each q).1 (h.0, (end_is q).1 (h.1, h.2), h.3),
+      );
+    };
+    text_is = refl;
+  },
+  tells_is written b before t _ _ (ap (λ n. flat_map (place_text m space) l.pages ++ shown_text n) l.number) (tells_more written a b before s t _ _ l.tells tells),
+)
+
+-- the thread is there
+pub shows_pages : (m : Machine) (line thread first count space : ℕ) (written b : Option (List ℕ)) (before t : List ℕ × Bool) → Some space ≡ space_of m.threads thread
+    → (text : List ℕ) × ListsPages m space first count text × Tells written b before t text → (text : List ℕ) × Shows m line thread first count text × Tells written b before t text
+shows_pages m line thread first count space written b before t is l =
+    (l.0, subst (λ (o : Option ℕ). MatchOption o (l.0 ≡ refused_text line (kernel_refusal UnknownThread)) (λ s. ListsPages m s first count l.0)) is l.1, l.2)
+
+-- the end of the pages that a line names
+pub end_of : (first count sum end : ℕ) → sum ≡ min (first + count) 4294967295 → end ≡ min sum 1048576 → (page : ℕ) → (page < end) ↔ ((page < first + count) × (page < 2 ^ 20))
+end_of first count sum end a b page = (λ lt. (omega (arith, a, b), omega (arith, a, b)), λ h. let c = h.0 in let d = h.1 in omega (arith, a, b))
+
+-- the parent of a page was told, and nothing else was done
+pub carries_parent : (m : Machine) (line thread page : ℕ) (command : Command) (written b : Option (List ℕ)) (before t : List ℕ × Bool) → command ≡ Parent thread page
+    → Tells written b before t (parent_answer m line thread page) → (text : List ℕ) × CarriesOut m line command text m × Tells written b before t text
+carries_parent m line thread page command written b before t is tells =
+    (parent_answer m line thread page, subst (λ (c : Command). CarriesOut m line c (parent_answer m line thread page) m) (sym is) (refl, refl), tells)

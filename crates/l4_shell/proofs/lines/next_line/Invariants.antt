@@ -1,6 +1,0 @@
-use Rattle.l4_shell.proofs.LineSteps.{SoFar}
-use Rattle.l4_shell.proofs.lines.next_line.Given as goal
-
-abbrev pub invariant-loop-turn : goal.invariant-loop-turn
-invariant-loop-turn g l =
-    SoFar (g.R.Read.remaining l.initial.reader) (g.R.Read.remaining l.reader) l.initial.source l.source l.line l.turn

@@ -1,0 +1,6 @@
+pub mod Digits
+pub mod Gone
+pub mod LineSteps
+pub mod Parts
+pub mod Rows
+pub mod Telling

@@ -1,0 +1,5 @@
+pub mod Lines
+pub mod Numbers
+pub mod Streams
+pub mod Texts
+pub mod Tokens

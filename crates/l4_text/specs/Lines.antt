@@ -1,0 +1,60 @@
+-- Lines of a stream (this profile's own).
+use Rattle.std.specs.Prelude.{ℕ, ◌≡◌, ◌+◌, ◌-◌, ◌*◌, ◌==◌, ◌<◌, ◌≤◌, nat_lt, Bool, true, false, List, [], ◌∷◌, ◌++◌, length, take, Option, Some, None, Result, Ok, Err}
+use Rattle.std.specs.Io.KnownBytes.{Consumes, IsAtEnd}
+use Rattle.l4_text.specs.declared.faults.StreamFault.{StreamFault}
+use Rattle.l4_text.specs.declared.faults.StreamFault.TheVariants.{Read}
+use Rattle.l4_text.specs.declared.lines.Ending.{Ending}
+use Rattle.l4_text.specs.declared.lines.Ending.TheVariants.{Whole, Long, Cut}
+
+abbrev pub is_newline : ℕ → Bool
+is_newline byte = byte == 10
+
+-- no byte is a newline
+abbrev pub NoNewline : List ℕ → Type 0
+NoNewline [] = Unit {0}
+NoNewline (byte ∷ bytes) = ((byte == 10) ≡ false) × NoNewline bytes
+
+-- what is kept of a line: its first 4,096 bytes, and whether there are more
+abbrev pub kept_of : List ℕ → List ℕ × Bool
+kept_of bytes = (take 4096 bytes, nat_lt 4096 (length bytes))
+
+-- what was there and what was read is what was taken and what is there then
+pub record Takes (old new : Option (List ℕ)) (before after taken : List ℕ) : Type 0 where
+  pub read : List ℕ
+  pub from : Consumes old new read
+  pub same : before ++ read ≡ taken ++ after
+
+-- how much a stream can still give, which bounds the lines
+abbrev pub left_of : List ℕ × ℕ → ℕ
+left_of source = (16777216 - source.1) * 4097 + length source.0
+
+-- a read put new bytes in the place of those that were there
+pub record Filled (old new : Option (List ℕ)) (before after : List ℕ × ℕ) (result : Result Bool StreamFault) : Type 0 where
+  pub more : result ≡ Ok true → Consumes old new after.0 × (0 < length after.0) × (length after.0 ≤ 4096) × (after.1 ≡ before.1 + 1) × (after.1 ≤ 16777216)
+  pub none : result ≡ Ok false → Consumes old new [] × IsAtEnd new × (after.0 ≡ [])
+  pub fault : (e : StreamFault) → result ≡ Err e → (e ≡ Read) × Consumes old new [] × (before.0 ≡ [] → after.0 ≡ [])
+
+-- a line that a newline ends
+pub record TakesLine (old new : Option (List ℕ)) (before after : List ℕ × ℕ) (kept : List ℕ × Bool) : Type 0 where
+  pub bytes : List ℕ
+  pub plain : NoNewline bytes
+  pub takes : Takes old new before.0 after.0 (bytes ++ 10 ∷ [])
+  pub kept_is : kept ≡ kept_of bytes
+  pub shorter : left_of after < left_of before
+  pub few : after.1 ≤ 16777216
+
+-- the end, after these bytes
+pub record TakesRest (old new : Option (List ℕ)) (before after : List ℕ × ℕ) (kept : List ℕ × Bool) : Type 0 where
+  pub bytes : List ℕ
+  pub plain : NoNewline bytes
+  pub takes : Takes old new before.0 after.0 bytes
+  pub kept_is : kept ≡ kept_of bytes
+  pub empty : after.0 ≡ []
+
+-- the next line, or what stands in its place
+abbrev pub GivesLine : Option (List ℕ) → Option (List ℕ) → List ℕ × ℕ → List ℕ × ℕ → List ℕ × Bool → Result (Option Ending) StreamFault → Type 0
+GivesLine old new before after kept (Ok (Some Whole)) = TakesLine old new before after kept × (kept.1 ≡ false)
+GivesLine old new before after kept (Ok (Some Long)) = TakesLine old new before after kept × (kept.1 ≡ true)
+GivesLine old new before after kept (Ok (Some Cut)) = TakesRest old new before after kept × IsAtEnd new × (0 < length kept.0)
+GivesLine old new before after kept (Ok None) = TakesRest old new before after kept × IsAtEnd new × (kept.0 ≡ [])
+GivesLine old new before after kept (Err e) = TakesRest old new before after kept × (e ≡ Read)

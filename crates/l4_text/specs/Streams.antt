@@ -1,0 +1,26 @@
+-- Bytes that come in and bytes that go out.
+use Rattle.std.specs.Prelude.{ℕ, ◌≡◌, Bool, true, false, List, ◌++◌, Option}
+use Rattle.std.specs.Io.KnownBytes.{Appends}
+
+-- what went out is a beginning of what was owed
+pub record WentOut (old new : Option (List ℕ)) (owed : List ℕ) : Type 0 where
+  pub front : List ℕ
+  pub rest : List ℕ
+  pub whole : owed ≡ front ++ rest
+  pub out : Appends old new front
+
+-- what went out, and then what is held back, is what was held back before, and then the text
+pub record Puts (old new : Option (List ℕ)) (held held' text : List ℕ) : Type 0 where
+  pub front : List ℕ
+  pub whole : held ++ text ≡ front ++ held'
+  pub out : Appends old new front
+
+-- the text was told: it went out but for what is held back; after a failed write a beginning of it went out
+abbrev pub HasTold : Option (List ℕ) → Option (List ℕ) → List ℕ → Bool → List ℕ → Type 0
+HasTold old new held false text = (front : List ℕ) × (text ≡ front ++ held) × Appends old new front
+HasTold old new held true text = WentOut old new text
+
+-- whatever was told before, this text was told after it
+abbrev pub Tells : Option (List ℕ) → Option (List ℕ) → List ℕ × Bool → List ℕ × Bool → List ℕ → Type 0
+Tells old new before after text =
+    (start : Option (List ℕ)) (told : List ℕ) → HasTold start old before.0 before.1 told → HasTold start new after.0 after.1 (told ++ text)

@@ -1,0 +1,17 @@
+-- The tokens of a line (this profile's own).
+use Rattle.std.specs.Prelude.{ℕ, ◌==◌, Bool, true, false, not, List, [], ◌∷◌, filter}
+use Rattle.std.specs.List.{slice_split}
+
+abbrev pub is_space : ℕ → Bool
+is_space byte = byte == 32
+
+abbrev pub is_no_space : ℕ → Bool
+is_no_space byte = not (byte == 32)
+
+abbrev pub has_bytes : List ℕ → Bool
+has_bytes [] = false
+has_bytes (b ∷ bs) = true
+
+-- the parts of a line between its spaces, without the empty ones
+unfoldable pub tokens_of : List ℕ → List (List ℕ)
+tokens_of line = filter has_bytes (slice_split is_space line)

@@ -1,0 +1,19 @@
+//! Lines of bytes from a reader, tokens, numbers, texts of bounded length, and bytes to a writer.
+#![tactic(auto)]
+
+mod faults;
+mod lines;
+mod numbers;
+mod output;
+mod texts;
+mod tokens;
+
+pub use faults::StreamFault;
+pub use lines::{Ending, Line, Source, next_line};
+pub use numbers::number;
+pub use output::Output;
+pub use texts::Text;
+pub use tokens::next_token;
+
+#[cfg(test)]
+mod tests;

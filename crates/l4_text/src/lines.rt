@@ -1,0 +1,208 @@
+//! Lines of a stream, of which no more than one is kept.
+ghost use Rattle.std.specs.Prelude.{◌≡◌, ◌+◌, ◌-◌, ◌*◌, ◌<◌, ◌≤◌, [], ◌++◌, drop, length, ◌==◌, if◌then◌else◌, ℕ, List};
+ghost use Rattle.std.specs.List.{position, position_or_len};
+ghost use Rattle.l4_text.specs.Lines.{is_newline, GivesLine, Filled};
+
+use crate::faults::StreamFault;
+use arrayvec::ArrayVec;
+use std::io::Read;
+use std::marker::Model;
+
+/// The most reads of a stream.
+const MOST_READS: u32 = 16_777_216;
+
+/// How a line ended.
+#[derive(Clone, Copy, Debug, PartialEq, Eq)]
+pub enum Ending {
+    /// By a newline, after at most 4,096 bytes.
+    Whole,
+    /// By a newline, after more than 4,096 bytes.
+    Long,
+    /// By the end of the input.
+    Cut,
+}
+
+/// What was read of a stream in reads of at most 4,096 bytes and not yet taken, and how many reads
+/// there were.
+#[derive(Drop)]
+pub struct Source {
+    chunk: [u8; 4_096],
+    start: usize,
+    end: usize,
+    reads: u32,
+}
+
+impl Model for Source {
+    ghost use Rattle.std.specs.Prelude.{ℕ, List, ◌≤◌, slice_range};
+
+    ghost Value = { List ℕ × ℕ };
+
+    ghost view = { λ a. (slice_range a.chunk a.start a.end, a.reads) };
+
+    ghost invariant = { λ a. (a.start ≤ a.end) × (a.end ≤ 4096) };
+}
+
+impl Source {
+    /// Nothing was read yet.
+    pub fn new() -> Source
+        ensures { result ≡ ([], 0) }
+    {
+        Source {
+            chunk: [0; 4_096],
+            start: 0,
+            end: 0,
+            reads: 0,
+        }
+    }
+
+    /// The bytes that were read and not taken.
+    fn pending(&self) -> &[u8]
+        ensures { result.now ≡ self.now.0 }
+    {
+        &self.chunk[self.start..self.end]
+    }
+
+    /// Takes this many of them.
+    fn take(&mut self, count: usize)
+        requires { count ≤ length self.old.0 }
+        ensures { self.new ≡ (drop count self.old.0, self.old.1) }
+    {
+        self.start += count;
+    }
+
+    /// Reads the next bytes, in one read, in place of those that were there. False at the end of the
+    /// stream.
+    fn fill<R: Read>(&mut self, reader: &mut R) -> Result<bool, StreamFault>
+        ensures { Filled (R.remaining reader.old) (R.remaining reader.new) self.old self.new result }
+    {
+        if self.reads >= MOST_READS {
+            return Err(StreamFault::Read);
+        }
+        let Ok(count) = reader.read(&mut self.chunk) else {
+            self.end = self.start;
+            return Err(StreamFault::Read);
+        };
+        self.reads += 1;
+        self.start = 0;
+        self.end = count;
+        Ok(count > 0)
+    }
+}
+
+/// A line as far as it came, or the first 4,096 bytes of a longer one.
+#[derive(Drop)]
+pub struct Line {
+    bytes: ArrayVec<u8, 4_096>,
+    long: bool,
+}
+
+impl Model for Line {
+    ghost use Rattle.std.specs.Prelude.{ℕ, List, Bool};
+
+    ghost Value = { List ℕ × Bool };
+
+    ghost view = { λ a. (a.bytes.items, a.long) };
+}
+
+impl Line {
+    ghost use Rattle.l4_text.specs.Lines.{kept_of};
+
+    /// An empty line.
+    pub fn new() -> Line
+        ensures { result ≡ kept_of [] }
+    {
+        Line {
+            bytes: ArrayVec::new(),
+            long: false,
+        }
+    }
+
+    /// Its bytes, at most 4,096.
+    pub fn as_slice(&self) -> &[u8]
+        ensures { result.now ≡ self.now.0 }
+    {
+        self.bytes.as_slice()
+    }
+
+    fn is_empty(&self) -> bool
+        ensures { result ≡ (length self.now.0 == 0) }
+    {
+        self.bytes.is_empty()
+    }
+
+    fn clear(&mut self)
+        ensures { self.new ≡ kept_of [] }
+    {
+        self.bytes.clear();
+        self.long = false;
+    }
+
+    fn add(&mut self, bytes: &[u8])
+        ensures { (before : List ℕ) → self.old ≡ kept_of before → self.new ≡ kept_of (before ++ bytes.now) }
+    {
+        let room = self.bytes.remaining_capacity();
+        if bytes.len() <= room {
+            let _ = self.bytes.try_extend_from_slice(bytes);
+        } else {
+            let _ = self.bytes.try_extend_from_slice(&bytes[..room]);
+            self.long = true;
+        }
+    }
+
+    /// How a line ended that a newline ended.
+    fn ending(&self) -> Ending
+        ensures { result ≡ (if self.now.1 then Ending.Long else Ending.Whole) }
+    {
+        if self.long {
+            Ending::Long
+        } else {
+            Ending::Whole
+        }
+    }
+}
+
+/// Where the first newline stands.
+fn first_newline(bytes: &[u8]) -> Option<usize>
+    ensures { result ≡ position is_newline bytes.now }
+{
+    bytes.iter().position(|b| *b == b'\n')
+}
+
+/// How many bytes stand before the first newline.
+fn line_len(bytes: &[u8]) -> usize
+    ensures value { result ≡ position_or_len is_newline bytes.now }
+    ensures within { result ≤ length bytes.now }
+{
+    first_newline(bytes).unwrap_or(bytes.len())
+}
+
+/// Takes the next line. None at the end of the stream.
+pub fn next_line<R: Read>(
+    source: &mut Source,
+    line: &mut Line,
+    reader: &mut R,
+) -> Result<Option<Ending>, StreamFault>
+    requires { source.old.1 ≤ 16777216 }
+    ensures { GivesLine (R.remaining reader.old) (R.remaining reader.new) source.old source.new line.new result }
+{
+    line.clear();
+    for turn in 0..MOST_READS + 1 {
+        let pending = source.pending();
+        let count = line_len(pending);
+        let found = count < pending.len();
+        line.add(&pending[..count]);
+        if found {
+            source.take(count + 1);
+            return Ok(Some(line.ending()));
+        }
+        source.take(count);
+        if !source.fill(reader)? {
+            return Ok(if line.is_empty() {
+                None
+            } else {
+                Some(Ending::Cut)
+            });
+        }
+    }
+    Err(StreamFault::Read)
+}

@@ -1,0 +1,177 @@
+//! What was answered and has not yet gone out.
+ghost use Rattle.std.specs.Prelude.{◌≡◌, ◌≤◌, ◌+◌, [], ◌++◌, length, OnOk, IfErr};
+ghost use Rattle.std.specs.Io.KnownBytes.{Appends};
+ghost use Rattle.std.specs.Prelude.{ℕ, List, Option, false};
+ghost use Rattle.l4_text.specs.Streams.{WentOut, Puts, HasTold, Tells};
+
+use crate::faults::StreamFault;
+use crate::texts::Text;
+use arrayvec::ArrayVec;
+use std::io::Write;
+use std::marker::Model;
+
+/// The bytes that are held back until there are many, at most 16,384.
+#[derive(Drop)]
+struct Held {
+    bytes: ArrayVec<u8, 16_384>,
+}
+
+impl Model for Held {
+    ghost use Rattle.std.specs.Prelude.{ℕ, List};
+
+    ghost Value = { List ℕ };
+
+    ghost view = { λ a. a.bytes.items };
+}
+
+/// Writes all of the bytes. A write that fails, or takes none of them, is a fault.
+fn write_out<W: Write>(writer: &mut W, bytes: &[u8]) -> Result<(), StreamFault>
+    ensures ok { OnOk result (Appends (W.contents writer.old) (W.contents writer.new) bytes.now) }
+    ensures err { IfErr result (λ e. (e ≡ StreamFault.Write)
+        × WentOut (W.contents writer.old) (W.contents writer.new) bytes.now) }
+{
+    let mut at = 0;
+    for turn in 0..bytes.len() {
+        if at >= bytes.len() {
+            break;
+        }
+        let Ok(count) = writer.write(&bytes[at..]) else {
+            return Err(StreamFault::Write);
+        };
+        if count == 0 {
+            return Err(StreamFault::Write);
+        }
+        at += count;
+    }
+    Ok(())
+}
+
+impl Held {
+    fn new() -> Held
+        ensures { result ≡ [] }
+    {
+        Held {
+            bytes: ArrayVec::new(),
+        }
+    }
+
+    /// Holds these bytes back too.
+    fn hold(&mut self, bytes: &[u8])
+        requires { length self.old + length bytes.now ≤ 16384 }
+        ensures { self.new ≡ self.old ++ bytes.now }
+    {
+        let _ = self.bytes.try_extend_from_slice(bytes);
+    }
+
+    /// Writes what is held back.
+    fn send<W: Write>(&mut self, writer: &mut W) -> Result<(), StreamFault>
+        ensures ok { OnOk result ((self.new ≡ [])
+            × Appends (W.contents writer.old) (W.contents writer.new) self.old) }
+        ensures err { IfErr result (λ e. (e ≡ StreamFault.Write)
+            × WentOut (W.contents writer.old) (W.contents writer.new) self.old) }
+    {
+        write_out(writer, self.bytes.as_slice())?;
+        self.bytes.clear();
+        Ok(())
+    }
+
+    /// Writes what is held back, where there is no room for so many bytes more.
+    fn make_room<W: Write>(&mut self, writer: &mut W, count: usize) -> Result<(), StreamFault>
+        requires { count ≤ 1024 }
+        ensures ok { OnOk result ((length self.new + count ≤ 16384)
+            × Puts (W.contents writer.old) (W.contents writer.new) self.old self.new []) }
+        ensures err { IfErr result (λ e. (e ≡ StreamFault.Write)
+            × WentOut (W.contents writer.old) (W.contents writer.new) self.old) }
+    {
+        if self.bytes.remaining_capacity() < count {
+            return self.send(writer);
+        }
+        Ok(())
+    }
+
+    /// Adds a text, after writing what is held where there is no room for it.
+    fn put<W: Write>(&mut self, writer: &mut W, text: &Text) -> Result<(), StreamFault>
+        ensures ok { OnOk result
+            (Puts (W.contents writer.old) (W.contents writer.new) self.old self.new text.now) }
+        ensures err { IfErr result (λ e. (e ≡ StreamFault.Write)
+            × WentOut (W.contents writer.old) (W.contents writer.new) (self.old ++ text.now)) }
+    {
+        let bytes = text.as_slice();
+        self.make_room(writer, bytes.len())?;
+        self.hold(bytes);
+        Ok(())
+    }
+
+    /// Writes what is held, and has the writer pass on what it holds back itself.
+    fn finish<W: Write>(&mut self, writer: &mut W) -> Result<(), StreamFault>
+        ensures ok { OnOk result (Appends (W.contents writer.old) (W.contents writer.new) self.old) }
+        ensures err { IfErr result (λ e. (e ≡ StreamFault.Write)
+            × WentOut (W.contents writer.old) (W.contents writer.new) self.old) }
+    {
+        self.send(writer)?;
+        match writer.flush() {
+            Ok(_) => Ok(()),
+            Err(_) => Err(StreamFault::Write),
+        }
+    }
+}
+
+/// What is told to a writer. After a write that failed nothing more is written.
+#[derive(Drop)]
+pub struct Output {
+    held: Held,
+    failed: bool,
+}
+
+impl Model for Output {
+    ghost use Rattle.std.specs.Prelude.{ℕ, List, Bool};
+
+    ghost Value = { List ℕ × Bool };
+
+    ghost view = { λ a. (a.held, a.failed) };
+}
+
+impl Output {
+    /// Nothing was told yet.
+    pub fn new() -> Output
+        ensures { result ≡ ([], false) }
+    {
+        Output {
+            held: Held::new(),
+            failed: false,
+        }
+    }
+
+    /// Whether a write failed.
+    pub fn has_failed(&self) -> bool
+        ensures { result ≡ self.now.1 }
+    {
+        self.failed
+    }
+
+    /// Tells a text.
+    pub fn put<W: Write>(&mut self, writer: &mut W, text: &Text)
+        ensures { Tells (W.contents writer.old) (W.contents writer.new) self.old self.new text.now }
+    {
+        if self.failed {
+            return;
+        }
+        match self.held.put(writer, text) {
+            Ok(()) => {}
+            Err(_) => self.failed = true,
+        }
+    }
+
+    /// Writes what is held back, and has the writer pass on what it holds back itself.
+    pub fn finish<W: Write>(&mut self, writer: &mut W) -> Result<(), StreamFault>
+        ensures ok { OnOk result ((start : Option (List ℕ)) (told : List ℕ)
+            → HasTold start (W.contents writer.old) self.old.0 self.old.1 told → Appends start (W.contents writer.new) told) }
+        ensures err { IfErr result (λ e. (e ≡ StreamFault.Write) × ((start : Option (List ℕ)) (told : List ℕ)
+            → HasTold start (W.contents writer.old) self.old.0 self.old.1 told → WentOut start (W.contents writer.new) told)) }
+    {
+        if self.failed {
+            return Err(StreamFault::Write);
+        }
+        self.held.finish(writer)
+    }
+}

@@ -1,0 +1,108 @@
+use crate::{Ending, Line, Output, Source, Text, next_line, next_token, number};
+use std::io;
+use std::io::Write;
+use std::test::Fail;
+
+/// Takes one byte a call, and fails at a call.
+#[derive(Drop)]
+struct Sip {
+    taken: Vec<u8>,
+    calls: usize,
+}
+
+impl Write for Sip {
+    fn write(&mut self, buf: &[u8]) -> io::Result<usize> {
+        if self.calls == 0 {
+            return Err(io::Error::from(io::ErrorKind::Other));
+        }
+        self.calls -= 1;
+        match buf.first() {
+            Some(first) => {
+                self.taken.push(*first)?;
+                Ok(1)
+            }
+            None => Ok(0),
+        }
+    }
+
+    fn flush(&mut self) -> io::Result<()> {
+        Ok(())
+    }
+}
+
+#[test]
+fn reads_numbers(rt: HostRuntime) -> Result<(), Fail> {
+    let rows: [(&[u8], Option<u32>); 11] = [
+        (b"0", Some(0)),
+        (b"007", Some(7)),
+        (b"4294967295", Some(0xffff_ffff)),
+        (b"4294967296", None),
+        (b"00000000001", None),
+        (b"0xaBcDeF09", Some(0xabcd_ef09)),
+        (b"0x000000001", None),
+        (b"0x", None),
+        (b"0X1", None),
+        (b"+1", None),
+        (b"", None),
+    ];
+    for (text, value) in rows {
+        assert_eq!(rt; number(text), value);
+    }
+    Ok(())
+}
+
+#[test]
+fn parts_a_line_at_spaces(rt: HostRuntime) -> Result<(), Fail> {
+    let (first, rest) = next_token(b"  one two\t3 ").ok_or("no first token")?;
+    assert!(rt; first == b"one".as_slice());
+    let (second, rest) = next_token(rest).ok_or("no second token")?;
+    assert!(rt; second == b"two\t3".as_slice());
+    assert!(rt; next_token(rest).is_none());
+    Ok(())
+}
+
+#[test]
+fn reads_a_line(rt: HostRuntime) -> Result<(), Fail> {
+    let long = [b'x'; 4_097];
+    let rows: [(&[u8], Option<Ending>, &[u8]); 4] = [
+        (b"", None, b""),
+        (b"\nx", Some(Ending::Whole), b""),
+        (b"x", Some(Ending::Cut), b"x"),
+        (&long, Some(Ending::Cut), &long[..4_096]),
+    ];
+    for (input, ending, kept) in rows {
+        let mut reader = input;
+        let mut line = Line::new();
+        let read = next_line(&mut Source::new(), &mut line, &mut reader);
+        assert_eq!(rt; read, Ok(ending));
+        assert!(rt; line.as_slice() == kept);
+    }
+    Ok(())
+}
+
+#[test]
+fn tells_a_text(rt: HostRuntime) -> Result<(), Fail> {
+    let told = b"7 00000bad 80000000 00000001\n".as_slice();
+    for calls in 0..told.len() + 1 {
+        let mut text = Text::new();
+        text.add_number(7);
+        text.push(b' ');
+        text.add_word(0xbad);
+        text.add_words([0x8000_0000, 1].as_slice());
+        text.add(b"\n");
+        let mut writer = Sip {
+            taken: Vec::new(rt.alloc()),
+            calls,
+        };
+        let mut out = Output::new();
+        out.put(&mut writer, &text);
+        assert!(rt; !out.has_failed());
+        let end = out.finish(&mut writer);
+        assert_eq!(rt; end.is_ok(), calls == told.len(), "at {calls}");
+        assert!(rt;
+            told.get(..calls) == Some(writer.taken.as_slice()),
+            "at {calls}"
+        );
+    }
+    Ok(())
+}

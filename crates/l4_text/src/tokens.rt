@@ -1,0 +1,47 @@
+ghost use Rattle.std.specs.Prelude.{◌≡◌, ◌∷◌, [], ◌≤◌, length, MatchOption};
+ghost use Rattle.std.specs.List.{position, position_or_len};
+ghost use Rattle.l4_text.specs.Tokens.{tokens_of, is_space, is_no_space};
+
+/// Where the first byte stands that is no space.
+fn first_other(line: &[u8]) -> Option<usize>
+    ensures { result ≡ position is_no_space line.now }
+{
+    line.iter().position(|b| *b != b' ')
+}
+
+/// Where the first space stands.
+fn first_space(line: &[u8]) -> Option<usize>
+    ensures { result ≡ position is_space line.now }
+{
+    line.iter().position(|b| *b == b' ')
+}
+
+/// How many spaces a line begins with.
+fn spaces(line: &[u8]) -> usize
+    ensures value { result ≡ position_or_len is_no_space line.now }
+    ensures within { result ≤ length line.now }
+{
+    first_other(line).unwrap_or(line.len())
+}
+
+/// How many bytes stand before the first space.
+fn token_len(line: &[u8]) -> usize
+    ensures value { result ≡ position_or_len is_space line.now }
+    ensures within { result ≤ length line.now }
+{
+    first_space(line).unwrap_or(line.len())
+}
+
+/// The first token of a line, and what follows it. Tokens are parted by spaces, one or more.
+pub fn next_token(line: &[u8]) -> Option<(&[u8], &[u8])>
+    ensures { MatchOption result (tokens_of line.now ≡ [])
+        (λ p. tokens_of line.now ≡ p.0.now ∷ tokens_of p.1.now) }
+{
+    let start = spaces(line);
+    let rest = &line[start..];
+    let end = token_len(rest);
+    if end == 0 {
+        return None;
+    }
+    Some((&rest[..end], &rest[end..]))
+}
