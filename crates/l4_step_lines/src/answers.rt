@@ -1,0 +1,165 @@
+//! The texts of answers.
+ghost use Rattle.std.specs.Prelude.{◌≤◌, ◌+◌, length};
+
+use l4_ipc::{Outcome, Refused, Step};
+use l4_mapdb::Mapping;
+use l4_shell::{add_code, add_place, letters, refused_code};
+use l4_text::Text;
+use l4_threads::{IpcReply, Reply};
+
+/// What a step did, in a word.
+fn outcome_name(outcome: Outcome) -> &'static [u8]
+    ensures { length result.now ≤ 16 }
+{
+    match outcome {
+        Outcome::Started => b"started",
+        Outcome::Done => b"done",
+        Outcome::NoWindow => b"no-window",
+        Outcome::Entangled => b"entangled",
+        Outcome::NoMemory => b"no-memory",
+        Outcome::Expired => b"expired",
+    }
+}
+
+/// What a step did.
+pub(crate) fn outcome_text(outcome: Outcome) -> Text {
+    let mut text = Text::new();
+    text.add(outcome_name(outcome));
+    text.push(b'\n');
+    text
+}
+
+/// `refused CODE`, or `refused CODE I`
+pub(crate) fn refused_text(refused: Refused) -> Text {
+    let mut text = Text::new();
+    text.add(b"refused ");
+    add_code(&mut text, &refused_code(refused));
+    text.push(b'\n');
+    text
+}
+
+/// Adds `ipc TAG ERROR FROM WORD..`
+fn add_ipc(text: &mut Text, reply: &IpcReply)
+    requires { length text.old + 700 ≤ 1024 }
+    ensures { length text.new ≤ length text.old + 700 }
+{
+    text.add(b"ipc ");
+    text.add_word(reply.tag);
+    text.push(b' ');
+    text.add_number(u64::from(reply.error));
+    text.push(b' ');
+    text.add_word(reply.from.0);
+    text.add_words(reply.words.as_slice());
+}
+
+/// Adds `failed CODE`
+fn add_failed(text: &mut Text, code: u32)
+    requires { length text.old + 700 ≤ 1024 }
+    ensures { length text.new ≤ length text.old + 700 }
+{
+    text.add(b"failed ");
+    text.add_number(u64::from(code));
+}
+
+/// Adds how a call ended, or this word where there is no reply.
+fn add_reply(text: &mut Text, reply: Option<&Reply>, word: &[u8])
+    requires room { length text.old + 700 ≤ 1024 }
+    requires short { length word.now ≤ 8 }
+    ensures { length text.new ≤ length text.old + 700 }
+{
+    match reply {
+        Some(Reply::Ipc(reply)) => add_ipc(text, reply),
+        Some(Reply::Hit) => text.add(b"hit"),
+        Some(Reply::Answered) => text.add(b"answered"),
+        Some(Reply::FaultFailed(code)) => add_failed(text, *code),
+        Some(Reply::Unmapped) => text.add(b"unmapped"),
+        Some(Reply::Controlled) => text.add(b"controlled"),
+        Some(Reply::Gone) => text.add(b"gone"),
+        None => text.add(word),
+    }
+}
+
+/// How the call of this thread ended. A thread that is gone has no reply.
+pub(crate) fn ended_text(number: u32, reply: Option<&Reply>) -> Text {
+    let mut text = Text::new();
+    text.add_number(u64::from(number));
+    text.push(b' ');
+    add_reply(&mut text, reply, b"gone");
+    text.push(b'\n');
+    text
+}
+
+/// The reply of a thread, or `none`.
+pub(crate) fn reply_text(reply: Option<&Reply>) -> Text {
+    let mut text = Text::new();
+    add_reply(&mut text, reply, b"none");
+    text.push(b'\n');
+    text
+}
+
+/// Adds `transfer S R`, `expire N` or `none`
+fn add_step(text: &mut Text, step: Option<&Step>)
+    requires { length text.old + 60 ≤ 1024 }
+    ensures { length text.new ≤ length text.old + 60 }
+{
+    match step {
+        Some(Step::Transfer(sender, receiver)) => {
+            text.add(b"transfer ");
+            text.add_number(u64::from(*sender));
+            text.push(b' ');
+            text.add_number(u64::from(*receiver));
+        }
+        Some(Step::Expire(number)) => {
+            text.add(b"expire ");
+            text.add_number(u64::from(*number));
+        }
+        Some(Step::Start(_, _)) | None => text.add(b"none"),
+    }
+}
+
+/// `enabled transfer S R`, `enabled expire N` or `enabled none`
+pub(crate) fn enabled_text(step: Option<&Step>) -> Text {
+    let mut text = Text::new();
+    text.add(b"enabled ");
+    add_step(&mut text, step);
+    text.push(b'\n');
+    text
+}
+
+/// Adds `space K`, or `none`
+fn add_space(text: &mut Text, space: Option<u64>)
+    requires { length text.old + 26 ≤ 1024 }
+    ensures { length text.new ≤ length text.old + 26 }
+{
+    match space {
+        Some(space) => {
+            text.add(b"space ");
+            text.add_number(space);
+        }
+        None => text.add(b"none"),
+    }
+}
+
+/// `space K`, or `none`
+pub(crate) fn space_text(space: Option<u64>) -> Text {
+    let mut text = Text::new();
+    add_space(&mut text, space);
+    text.push(b'\n');
+    text
+}
+
+/// `page P frame F RIGHTS`, and `none` or the space and the page that it was mapped from.
+pub(crate) fn page_text(page: u32, mapping: &Mapping) -> Text {
+    let mut text = Text::new();
+    text.add(b"page ");
+    text.add_number(u64::from(page));
+    text.add(b" frame ");
+    text.add_number(u64::from(mapping.frame));
+    text.push(b' ');
+    let letters = letters(mapping.rights);
+    text.add(letters.as_slice());
+    text.push(b' ');
+    add_place(&mut text, mapping.parent);
+    text.push(b'\n');
+    text
+}

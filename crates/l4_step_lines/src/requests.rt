@@ -1,0 +1,207 @@
+//! What a line asks for.
+use crate::numbers::numbers;
+use arrayvec::ArrayVec;
+use l4_fpage::Rights;
+use l4_ipc::{Call, Control, Create, FaultCall, IpcCall, SetPager, Step, UnmapCall};
+use l4_text::{next_token, number};
+use l4_threads::ThreadId;
+
+/// A step of the kernel, or a question about its state.
+#[derive(Drop)]
+pub(crate) enum Request {
+    /// To do this step.
+    Do(Step),
+    /// Which step is enabled.
+    Enabled,
+    /// The reply of a thread.
+    Reply(u32),
+    /// The space of a thread.
+    Space(u32),
+    /// The present pages of a space.
+    Pages(u64),
+}
+
+const START: &[u8] = b"start";
+
+const TRANSFER: &[u8] = b"transfer";
+
+const EXPIRE: &[u8] = b"expire";
+
+const ENABLED: &[u8] = b"enabled";
+
+const REPLY: &[u8] = b"reply";
+
+const SPACE: &[u8] = b"space";
+
+const PAGES: &[u8] = b"pages";
+
+const IPC: &[u8] = b"ipc";
+
+const FAULT: &[u8] = b"fault";
+
+const UNMAP: &[u8] = b"unmap";
+
+const CREATE: &[u8] = b"create";
+
+const SETPAGER: &[u8] = b"setpager";
+
+const DELETE: &[u8] = b"delete";
+
+/// A copy of at most 64 words.
+fn registers(words: &[u32]) -> Option<ArrayVec<u32, 64>> {
+    let mut registers = ArrayVec::new();
+    match registers.try_extend_from_slice(words) {
+        Ok(()) => Some(registers),
+        Err(_) => None,
+    }
+}
+
+/// `TO FROM TIMEOUTS ACCEPTOR WORD..`
+fn ipc(numbers: &[u32]) -> Option<Call> {
+    let [to, from, timeouts, acceptor, words @ ..] = numbers else {
+        return None;
+    };
+    Some(Call::Ipc(IpcCall {
+        to: ThreadId(*to),
+        from: ThreadId(*from),
+        timeouts: *timeouts,
+        acceptor: *acceptor,
+        words: registers(words)?,
+    }))
+}
+
+/// Rights by the sum of r (4), w (2) and x (1).
+fn access(number: u32) -> Option<Rights> {
+    if number < 8 {
+        Some(Rights::of_bits(number as u8))
+    } else {
+        None
+    }
+}
+
+/// `ADDRESS IP ACCESS`
+fn fault(numbers: &[u32]) -> Option<Call> {
+    let [address, ip, sum] = numbers else {
+        return None;
+    };
+    Some(Call::Fault(FaultCall {
+        address: *address,
+        ip: *ip,
+        access: access(*sum)?,
+    }))
+}
+
+/// `CONTROL WORD..`
+fn unmap(numbers: &[u32]) -> Option<Call> {
+    let [control, words @ ..] = numbers else {
+        return None;
+    };
+    Some(Call::Unmap(UnmapCall {
+        control: *control,
+        words: registers(words)?,
+    }))
+}
+
+/// `ID SPACE PAGER`
+fn create(numbers: &[u32]) -> Option<Control> {
+    let [id, space, pager] = numbers else {
+        return None;
+    };
+    Some(Control::Create(Create {
+        id: ThreadId(*id),
+        space: ThreadId(*space),
+        pager: ThreadId(*pager),
+    }))
+}
+
+/// `ID PAGER`
+fn set_pager(numbers: &[u32]) -> Option<Control> {
+    let [id, pager] = numbers else {
+        return None;
+    };
+    Some(Control::SetPager(SetPager {
+        id: ThreadId(*id),
+        pager: ThreadId(*pager),
+    }))
+}
+
+/// The only number.
+fn only(numbers: &[u32]) -> Option<u32> {
+    let [number] = numbers else {
+        return None;
+    };
+    Some(*number)
+}
+
+/// A control of this kind.
+fn control(kind: &[u8], numbers: &[u32]) -> Option<Control> {
+    if kind == CREATE {
+        return create(numbers);
+    }
+    if kind == SETPAGER {
+        return set_pager(numbers);
+    }
+    if kind == DELETE {
+        return Some(Control::Delete(ThreadId(only(numbers)?)));
+    }
+    None
+}
+
+/// A call of this kind.
+fn call(kind: &[u8], numbers: &[u32]) -> Option<Call> {
+    if kind == IPC {
+        return ipc(numbers);
+    }
+    if kind == FAULT {
+        return fault(numbers);
+    }
+    if kind == UNMAP {
+        return unmap(numbers);
+    }
+    Some(Call::Control(control(kind, numbers)?))
+}
+
+/// `N KIND NUMBER..`
+fn start(line: &[u8]) -> Option<Step> {
+    let (caller, rest) = next_token(line)?;
+    let (kind, rest) = next_token(rest)?;
+    let caller = number(caller)?;
+    let numbers = numbers(rest)?;
+    Some(Step::Start(caller, call(kind, numbers.as_slice())?))
+}
+
+/// The step or question of this name.
+fn named(name: &[u8], numbers: &[u32]) -> Option<Request> {
+    if name == TRANSFER {
+        let [sender, receiver] = numbers else {
+            return None;
+        };
+        return Some(Request::Do(Step::Transfer(*sender, *receiver)));
+    }
+    if name == EXPIRE {
+        return Some(Request::Do(Step::Expire(only(numbers)?)));
+    }
+    if name == REPLY {
+        return Some(Request::Reply(only(numbers)?));
+    }
+    if name == SPACE {
+        return Some(Request::Space(only(numbers)?));
+    }
+    if name == PAGES {
+        return Some(Request::Pages(u64::from(only(numbers)?)));
+    }
+    if name == ENABLED && numbers.is_empty() {
+        return Some(Request::Enabled);
+    }
+    None
+}
+
+/// What a line asks for. None where it can't be read.
+pub(crate) fn read_request(line: &[u8]) -> Option<Request> {
+    let (name, rest) = next_token(line)?;
+    if name == START {
+        return Some(Request::Do(start(rest)?));
+    }
+    let numbers = numbers(rest)?;
+    named(name, numbers.as_slice())
+}

@@ -1,0 +1,78 @@
+//! Lists of steps from a reader to a writer.
+use crate::session::answer_line;
+use l4_ipc::Kernel;
+use l4_text::{Ending, Line, Output, Source, next_line};
+use std::alloc::Global;
+use std::io::{Read, Write};
+use thiserror::Error;
+
+/// Why a run stopped before the end of its list. All lines before a fault have been answered, but for `Write` and `Memory`.
+#[derive(Debug, Drop, Error)]
+pub enum Fault {
+    /// A read failed, or the list had not ended after 16,777,216 reads.
+    #[error("error: a read of standard input failed")]
+    Read,
+    /// A write failed, or took no byte.
+    #[error("error: a write to standard output failed")]
+    Write,
+    /// There was no memory for a kernel. Nothing was read or written.
+    #[error("error: out of memory")]
+    Memory,
+    /// The input ends within the line of this number.
+    #[error("error: line {0} has no newline at its end")]
+    Cut(u64),
+    /// The line of this number has more than 4,096 bytes.
+    #[error("error: line {0} has more than 4096 bytes")]
+    Long(u64),
+    /// The line of this number can't be read.
+    #[error("error: line {0} is no step and no question")]
+    Unread(u64),
+}
+
+/// Answers line after line, to the end of the list.
+fn answer_all<R: Read, W: Write>(
+    kernel: &mut Kernel,
+    reader: &mut R,
+    out: &mut Output,
+    writer: &mut W,
+) -> Result<(), Fault> {
+    let mut source = Source::new();
+    let mut line = Line::new();
+    for number in 1..u64::MAX {
+        let Ok(next) = next_line(&mut source, &mut line, reader) else {
+            return Err(Fault::Read);
+        };
+        match next {
+            None => return Ok(()),
+            Some(Ending::Cut) => return Err(Fault::Cut(number)),
+            Some(Ending::Long) => return Err(Fault::Long(number)),
+            Some(Ending::Whole) => answer_line(kernel, number, line.as_slice(), out, writer)?,
+        }
+        if out.has_failed() {
+            return Err(Fault::Write);
+        }
+    }
+    Err(Fault::Read)
+}
+
+/// Answers the list that the reader gives, line by line, over a kernel of its own with this many frames, 1 to 4,096; with any other
+/// number there is no kernel, and that is `Memory`.
+///
+/// A read asks for 4,096 bytes, and there are at most 16,777,216 reads. An error of any kind is a fault, and so is a write that takes no
+/// byte. What was answered goes out after a fault too.
+pub fn run<R: Read, W: Write>(
+    alloc: Global,
+    frames: u32,
+    reader: &mut R,
+    writer: &mut W,
+) -> Result<(), Fault> {
+    let Ok(mut kernel) = Kernel::boot(alloc, frames) else {
+        return Err(Fault::Memory);
+    };
+    let mut out = Output::new();
+    let answered = answer_all(&mut kernel, reader, &mut out, writer);
+    match out.finish(writer) {
+        Ok(()) => answered,
+        Err(_) => Err(Fault::Write),
+    }
+}

@@ -1,0 +1,72 @@
+//! Lines over a kernel.
+use crate::answers::{
+    enabled_text, ended_text, outcome_text, page_text, refused_text, reply_text, space_text,
+};
+use crate::requests::{Request, read_request};
+use crate::running::Fault;
+use l4_ipc::{Kernel, Step};
+use l4_shell::shown_text;
+use l4_text::{Output, next_token};
+use std::io::Write;
+
+/// The pages of a space.
+const PAGES: u32 = 1_048_576;
+
+/// Does a step, and tells what it did and how the calls ended that ended in it.
+fn do_step<W: Write>(kernel: &mut Kernel, step: &Step, out: &mut Output, writer: &mut W) {
+    let answer = match kernel.step(step) {
+        Ok(answer) => answer,
+        Err(refused) => return out.put(writer, &refused_text(refused)),
+    };
+    out.put(writer, &outcome_text(answer.outcome));
+    for number in answer.ended.as_slice() {
+        out.put(writer, &ended_text(*number, kernel.reply(*number)));
+    }
+}
+
+/// Lists the present pages of a space.
+fn list_pages<W: Write>(kernel: &Kernel, space: u64, out: &mut Output, writer: &mut W) {
+    let mut from = 0u32;
+    let mut shown = 0u32;
+    for turn in 0..PAGES {
+        let Some(page) = kernel.next_page(space, from) else {
+            break;
+        };
+        let Some(mapping) = kernel.mapping(space, page) else {
+            break;
+        };
+        out.put(writer, &page_text(page, &mapping));
+        shown = turn + 1;
+        from = page.saturating_add(1);
+    }
+    out.put(writer, &shown_text(shown));
+}
+
+/// Does or answers what a line asks for.
+fn answer<W: Write>(kernel: &mut Kernel, request: Request, out: &mut Output, writer: &mut W) {
+    match request {
+        Request::Do(step) => do_step(kernel, &step, out, writer),
+        Request::Enabled => out.put(writer, &enabled_text(kernel.enabled().as_ref())),
+        Request::Reply(thread) => out.put(writer, &reply_text(kernel.reply(thread))),
+        Request::Space(thread) => out.put(writer, &space_text(kernel.space_of(thread))),
+        Request::Pages(space) => list_pages(kernel, space, out, writer),
+    }
+}
+
+/// Answers one line, which has this number.
+pub(crate) fn answer_line<W: Write>(
+    kernel: &mut Kernel,
+    number: u64,
+    line: &[u8],
+    out: &mut Output,
+    writer: &mut W,
+) -> Result<(), Fault> {
+    if line.first() == Some(&b'#') || next_token(line).is_none() {
+        return Ok(());
+    }
+    let Some(request) = read_request(line) else {
+        return Err(Fault::Unread(number));
+    };
+    answer(kernel, request, out, writer);
+    Ok(())
+}

@@ -1,0 +1,106 @@
+use crate::answers::{enabled_text, ended_text, outcome_text, page_text};
+use crate::{Fault, run};
+use arrayvec::ArrayVec;
+use l4_fpage::Rights;
+use l4_ipc::{Outcome, Step};
+use l4_mapdb::{Mapping, Place};
+use l4_threads::{IpcReply, Reply, ThreadId};
+use std::io;
+use std::io::Read;
+use std::test::Fail;
+
+const LIST: &[u8] = b"space 1\nenabled\nspace 2\n";
+
+/// The answers to the first lines of the list: none, one, two, three.
+const ANSWERS: [&[u8]; 4] = [
+    b"",
+    b"space 0\n",
+    b"space 0\nenabled none\n",
+    b"space 0\nenabled none\nspace 1\n",
+];
+
+/// Gives one byte a call, and fails at a call.
+#[derive(Drop)]
+struct Drip<'a> {
+    bytes: &'a [u8],
+    calls: usize,
+}
+
+impl Read for Drip<'_> {
+    fn read(&mut self, buf: &mut [u8]) -> io::Result<usize> {
+        if self.calls == 0 || buf.is_empty() {
+            return Err(io::Error::from(io::ErrorKind::Other));
+        }
+        self.calls -= 1;
+        match self.bytes.split_first() {
+            Some((first, rest)) => {
+                buf[0] = *first;
+                self.bytes = rest;
+                Ok(1)
+            }
+            None => Ok(0),
+        }
+    }
+}
+
+#[test]
+fn a_failing_read_loses_no_answer(rt: HostRuntime) -> Result<(), Fail> {
+    for (calls, lines) in [(0, 0), (7, 0), (8, 1), (15, 1), (16, 2), (24, 3)] {
+        let mut reader = Drip { bytes: LIST, calls };
+        let mut written = Vec::new(rt.alloc());
+        let result = run(rt.alloc(), 256, &mut reader, &mut written);
+        assert!(rt; matches!(result, Err(Fault::Read)), "at {calls}");
+        assert!(rt;
+            Some(&written.as_slice()) == ANSWERS.get(lines),
+            "at {calls}"
+        );
+    }
+    Ok(())
+}
+
+/// What the kernel doesn't give yet, or seldom.
+#[test]
+fn spells_every_answer(rt: HostRuntime) -> Result<(), Fail> {
+    for (outcome, text) in [
+        (Outcome::Entangled, b"entangled\n".as_slice()),
+        (Outcome::NoMemory, b"no-memory\n"),
+        (Outcome::Expired, b"expired\n"),
+    ] {
+        assert!(rt; outcome_text(outcome).as_slice() == text);
+    }
+    assert!(rt;
+        enabled_text(Some(&Step::Expire(63))).as_slice() == b"enabled expire 63\n".as_slice()
+    );
+    for (reply, text) in [
+        (Reply::Hit, b"7 hit\n".as_slice()),
+        (Reply::Answered, b"7 answered\n"),
+        (Reply::FaultFailed(5), b"7 failed 5\n"),
+        (Reply::Unmapped, b"7 unmapped\n"),
+        (Reply::Gone, b"7 gone\n"),
+    ] {
+        assert!(rt; ended_text(7, Some(&reply)).as_slice() == text);
+    }
+    assert!(rt; ended_text(7, None).as_slice() == b"7 gone\n".as_slice());
+    let reply = Reply::Ipc(IpcReply {
+        tag: 0xfedc_ba98,
+        error: 9,
+        from: ThreadId(0x0123_4567),
+        words: ArrayVec::new(),
+    });
+    assert!(rt;
+        ended_text(262_143, Some(&reply)).as_slice()
+            == b"262143 ipc fedcba98 9 01234567\n".as_slice()
+    );
+    let mapping = Mapping {
+        frame: 4_095,
+        rights: Rights::of_bits(2),
+        parent: Some(Place {
+            space: 70,
+            page: 1_048_575,
+        }),
+    };
+    assert!(rt;
+        page_text(8, &mapping).as_slice() == b"page 8 frame 4095 -w- 70 1048575\n".as_slice()
+    );
+    Ok(())
+}
