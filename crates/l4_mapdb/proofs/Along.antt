@@ -1,11 +1,10 @@
 -- The effect of a delivery depends on which moves are used, and not on how that is said.
-use Rattle.std.proofs.Common.{◌≡◌, Option, Some, None, inl, inr, refl, sym, ap, ◌∙◌}
-use Rattle.l4_fpage.specs.Rights.{Right, no_rights}
+use Rattle.std.proofs.Common.{Option, Some, None, inl, inr}
+use Rattle.l4_fpage.specs.Rights.{Right}
 use Rattle.l4_mapdb.specs.declared.Place.{Place}
 use Rattle.l4_mapdb.specs.declared.Mapping.{Mapping}
-use Rattle.l4_mapdb.specs.Mappings.{Mappings, shown}
+use Rattle.l4_mapdb.specs.Mappings.{Mappings}
 use Rattle.l4_mapdb.specs.Losing.{IsLeft, LosesRights}
-use Rattle.l4_mapdb.proofs.Unique.{same_rights}
 use Rattle.l4_mapdb.specs.Transfer.{PageMove, IsGranted, IsEntangled, IsGone, StandsAt, ParentLater, Becomes, IsCut, Transfers}
 
 module _ (Used Other : PageMove → Type 0) (to : (move : PageMove) → Used move → Other move) (back : (move : PageMove) → Other move → Used move) where
@@ -81,72 +80,3 @@ transfers_along Used Other to back old new t = record {
   cut = loses_along (IsCut Used t.middle) (IsCut Other t.middle) t.middle new
       (λ p k c. cut_along Used Other to back t.middle p k c) (λ p k c. cut_along Other Used back to t.middle p k c) t.cut;
 }
-
-module _ (Used : PageMove → Type 0) (none : (move : PageMove) → ¬ (Used move)) where
-  parent_stays : (parent : Option Place) → ParentLater Used parent parent
-  parent_stays None = refl
-  parent_stays (Some parent) = (parent, inr (λ g. none g.move g.used, refl), refl)
-
-  parent_same : (parent later : Option Place) → ParentLater Used parent later → later ≡ parent
-  parent_same None later h = h
-  parent_same (Some parent) later h = h.2 ∙ ap Some (stood h.0 h.1) where
-    stood : (place : Place) → StandsAt Used parent place → place ≡ parent
-    stood place (inl m) = absurd (none m.0 m.1)
-    stood place (inr s) = sym s.1
-
-  stays_same : (old : Mappings) (place : Place) (m : Mapping) → Becomes Used old place m → shown old place ≡ Some m
-  stays_same old place m (inl x) = absurd (none x.move x.used)
-  stays_same old place m (inr (inl x)) = absurd (none x.move x.used)
-  stays_same old place m (inr (inr x)) =
-      let parents : m.parent ≡ x.before.parent = parent_same x.before.parent m.parent x.parent in
-      let same : x.before ≡ m = λ i. record { frame = sym x.frame i; rights = sym x.rights i; parent = sym parents i } in
-      x.at ∙ ap Some same
-
-  left_same : (middle : Mappings) (place : Place) (before m : Mapping) → IsLeft (IsCut Used middle place) before m → before ≡ m
-  left_same middle place before m l =
-      let rights : before.rights ≡ m.rights = same_rights before.rights m.rights
-      (λ k. (λ h. (l.rights k).1 (h, λ c. none c.move c.used), λ h. ((l.rights k).0 h).0)) in
-      λ i. record { frame = sym l.frame i; rights = rights i; parent = sym l.parent i }
-
-  -- where no move is used nothing is entangled
-  pub nothing_entangled : (old : Mappings) → ¬ (IsEntangled Used old)
-  nothing_entangled old (inl s) = none s.one s.one_used
-  nothing_entangled old (inr (inl g)) = none g.one g.one_used
-  nothing_entangled old (inr (inr r)) = none r.one r.one_used
-
-  -- where no move is used nothing changes
-  pub nothing_moves : (old : Mappings) → ((place : Place) (m : Mapping) → shown old place ≡ Some m → ¬ (m.rights ≡ no_rights)) → Transfers Used old old
-  nothing_moves old some = record {
-    middle = old;
-    moved = record {
-      spaces = refl;
-      places = λ place m. (
-        λ at. inr (inr (record {
-          before = m;
-          at = at;
-          not_gone = λ g. none g.move g.used;
-          not_granted = λ g. none g.move g.used;
-          frame = refl;
-          rights = refl;
-          parent = parent_stays m.parent;
-        })),
-        stays_same old place m,
-      );
-    };
-    cut = record {
-      spaces = refl;
-      places = λ place m. (
-        λ at. (
-          m,
-          at,
-          record {
-            frame = refl;
-            parent = refl;
-            rights = λ k. (λ h. (h, λ c. none c.move c.used), λ h. h.0);
-            some_right = some place m at;
-          },
-        ),
-        λ h. h.1 ∙ ap Some (left_same old place h.0 m h.2),
-      );
-    };
-  }

@@ -1,5 +1,5 @@
--- The list of places with what they show, in which each place stands once.
-use Rattle.std.proofs.Common.{◌≡◌, ◌≢◌, ℕ, suc, zero, ◌+◌, ◌==◌, ◌<◌, Bool, true, false, cond, [], ◌∷◌, Option, Some, None, refl, sym, ap, ◌∙◌, ◌↔◌, IsTrue, subst, slice_get, arith, inl, inr, ◌⊎◌, option_and_then, ◌&&◌, nat_eq}
+-- Places as keys of a list, and chains of parents.
+use Rattle.std.proofs.Common.{◌≡◌, ◌≢◌, ℕ, suc, Bool, true, false, cond, [], ◌∷◌, Option, Some, None, refl, sym, ap, ◌∙◌, ◌↔◌, IsTrue, subst, slice_get, arith, inl, inr, ◌⊎◌, ◌&&◌, nat_eq}
 use Rattle.std.specs.Ordering.{eq_by_cmp, is_eq}
 use Rattle.std.specs.Cmp.{tied_itself}
 use Rattle.std.specs.declared.cmp.Ordering.{Ordering}
@@ -9,7 +9,7 @@ use Rattle.std.proofs.lemmas.Bool.Decides.{nat_tests}
 use Rattle.l4_mapdb.specs.declared.Place.{Place}
 use Rattle.l4_mapdb.specs.declared.Mapping.{Mapping}
 use Rattle.l4_mapdb.specs.Mappings.{place_cmp, Chain, child, further}
-use Rattle.l4_mapdb.specs.Entries.{Entries, StandOnce, parent_in, StandsAtIndex}
+use Rattle.l4_mapdb.specs.Entries.{Entries}
 use Rattle.l4_mapdb.proofs.Places.{places_total, exact_places}
 
 pub tie : (p q : Place) → p ≡ q → eq_by_cmp place_cmp p q ≡ true
@@ -39,39 +39,6 @@ found_at (e ∷ es) q m h =
       | false ↦ λ t is. let r = found_at es q m is in (suc r.0, r.1)
     ] refl h
 
--- where a place stands at no index it isn't found
-pub found_none : (es : Entries) (q : Place) → ((i : ℕ) (a : Place × Mapping) → slice_get es i ≡ Some a → a.0 ≢ q) → find place_cmp q es ≡ None
-found_none [] q h = refl
-found_none (e ∷ es) q h =
-    let k : eq_by_cmp place_cmp q e.0 ≡ false = apart q e.0 (λ is. h 0 e refl (sym is)) in
-    ap (λ b. cond b (Some e.1) (find place_cmp q es)) k ∙ found_none es q (λ i a at. h (suc i) a at)
-
--- what stands at an index has a place that is found
-pub found_some : (es : Entries) (i : ℕ) (a : Place × Mapping) → slice_get es i ≡ Some a → (m : Mapping) × (find place_cmp a.0 es ≡ Some m)
-found_some [] i a at = absurd (let k : ◌≡◌ {A = Option (Place × Mapping)} None (Some a) = at in cc)
-found_some (e ∷ es) zero a at =
-    let same : e ≡ a = cc in
-    (e.1, ap (λ b. cond b (Some e.1) (find place_cmp a.0 es)) (tie a.0 e.0 (sym (ap (λ x. x.0) same))))
-found_some (e ∷ es) (suc i) a at =
-    elim (eq_by_cmp place_cmp a.0 e.0) as (λ b. (m : Mapping) × (cond b (Some e.1) (find place_cmp a.0 es) ≡ Some m)) [
-      | true ↦ (e.1, refl)
-      | false ↦ found_some es i a at
-    ]
-
--- what stands at an index is found, where each place stands once
-pub found_once : (es : Entries) (i : ℕ) (a : Place × Mapping) → StandOnce es → slice_get es i ≡ Some a → find place_cmp a.0 es ≡ Some a.1
-found_once es i a once at =
-    let some = found_some es i a at in
-    let there = found_at es a.0 some.0 some.1 in
-    let same : i ≡ there.0 = once i there.0 a (a.0, some.0) at there.1 refl in
-    let both : Some a ≡ Some (a.0, some.0) = sym at ∙ ap (slice_get es) same ∙ there.1 in
-    let value : a ≡ (a.0, some.0) = cc in
-    some.1 ∙ ap (λ (x : Place × Mapping). Some x.1) (sym value)
-
--- the parent of what stands at an index
-pub parent_at : (es : Entries) (i : ℕ) (a : Place × Mapping) → StandOnce es → slice_get es i ≡ Some a → parent_in es a.0 ≡ a.1.parent
-parent_at es i a once at = ap (option_and_then (λ m. m.parent)) (found_once es i a once at)
-
 -- no chain leads up from a place without a parent
 pub no_chain : (parent : Place → Option Place) {low high : Place} → parent low ≡ None → Chain parent low high → ⊥
 no_chain parent none (child is) = let k : ◌≡◌ {A = Option Place} None (Some _) = sym none ∙ is in cc
@@ -96,10 +63,6 @@ eq_false a b h e =
     let page : a.page ≡ b.page = ap (λ p. p.page) e in
     grind (arith, nat_tests)
 
--- the answer `false` is right where no parent is left
-pub ends_no : (parent : Place → Option Place) (low at high : Place) → (Chain parent low high → Chain parent at high) → parent at ≡ None → (IsTrue false → Chain parent low high) × (Chain parent low high → IsTrue false)
-ends_no parent low at high same none = (λ h. absurd (let k : false ≡ true = h in cc), λ h. absurd (no_chain parent none (same h)))
-
 -- the parent is not the place that is looked for, so the question is passed on to it
 pub passes_on : (parent : Place → Option Place) (at next high : Place) → parent at ≡ Some next → next ≢ high → Chain parent at high ↔ Chain parent next high
 passes_on parent at next high up ne =
@@ -109,20 +72,3 @@ passes_on parent at next high up ne =
 pub decided : {A : Type 0} (b : Bool) → (IsTrue b → A) → (¬ (IsTrue b) → A) → A
 decided true f g = f refl
 decided false f g = g (λ h. let k : false ≡ true = h in cc)
-
--- an entry of the place stands at this index
-pub stands_at : (es : Entries) (i : ℕ) (item : Place × Mapping) (place : Place) → slice_get es i ≡ Some item → item.0 ≡ place → StandsAtIndex place es i
-stands_at es i item place there same = record { mapping = item.1; at = there ∙ (λ k. Some (same k, item.1)) }
-
--- one more entry of another place was passed
-pub none_below : (es : Entries) (i : ℕ) (item : Place × Mapping) (place : Place) → slice_get es i ≡ Some item → item.0 ≢ place
-    → ((j : ℕ) (a : Place × Mapping) → j < i → slice_get es j ≡ Some a → a.0 ≢ place)
-    → (j : ℕ) (a : Place × Mapping) → j < i + 1 → slice_get es j ≡ Some a → a.0 ≢ place
-none_below es i item place there ne below j a lt at =
-    decided (j == i)
-    (λ t. let e : j ≡ i = grind (arith, nat_tests) in
-    let both : Some a ≡ Some item = sym at ∙ ap (slice_get es) e ∙ there in
-    let one : a ≡ item = cc in
-    λ same. ne (ap (λ (x : Place × Mapping). x.0) (sym one) ∙ same))
-    (λ f. let apart : j ≢ i = (λ e. f (let t : (j == i) ≡ true = grind (arith, nat_tests) in t)) in
-    below j a (omega arith) at)

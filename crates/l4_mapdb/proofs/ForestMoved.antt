@@ -1,11 +1,11 @@
 -- A delivery that is not entangled leaves a forest.
-use Rattle.std.proofs.Common.{◌≡◌, ◌≢◌, ℕ, ◌<◌, ◌^◌, Option, Some, None, IsTrue, is_some, refl, sym, ap, ◌∙◌, subst, inl, inr, ◌⊎◌, option_and_then, unwrap_or}
+use Rattle.std.proofs.Common.{◌≡◌, ℕ, ◌<◌, ◌^◌, Option, Some, None, IsTrue, is_some, refl, sym, ap, ◌∙◌, subst, inl, inr, ◌⊎◌, option_and_then, unwrap_or}
 use Rattle.std.specs.FinSet as set
 use Rattle.l4_fpage.specs.Rights.{RightsSet, Right, has, Within}
 use Rattle.l4_mapdb.specs.declared.Place.{Place}
 use Rattle.l4_mapdb.specs.declared.Mapping.{Mapping}
 use Rattle.l4_mapdb.specs.Mappings.{Mappings, shown, parent_of, Chain, child, further, Descends, IsOrDescends, IsPresent, IsRoot, IsForest}
-use Rattle.l4_mapdb.specs.Transfer.{Stays, PageMove, IsGranted, IsEntangled, IsGone, StandsAt, ParentLater, IsMapped, Becomes, Moved, IsCut, Transfers}
+use Rattle.l4_mapdb.specs.Transfer.{PageMove, IsGranted, IsEntangled, IsGone, StandsAt, ParentLater, IsMapped, Becomes, Moved, IsCut, Transfers}
 use Rattle.l4_mapdb.proofs.EntriesLemmas.{decided}
 use Rattle.l4_mapdb.proofs.Single.{KnownMoves, one_target, one_grant, one_place}
 use Rattle.l4_mapdb.proofs.ForestKept.{decide, IsLoose, LooseParent, forest_kept}
@@ -264,44 +264,6 @@ module _ (Used : PageMove → Type 0) (old mid : Mappings) (known : KnownMoves U
   chain_moved {c} {p} (further {middle = c'} up rest) q p' b m s stood =
       let t = step_up c q b m c' s (sym (ap (option_and_then (λ (x : Mapping). x.parent)) s.was) ∙ up) in
       further (parent_is q m s.now ∙ t.up) (chain_moved rest t.later p' t.a t.k t.stands stood)
-
-  -- a place that is there before and after and is no used target is neither gone nor granted
-  left_stays : (q : Place) (m : Mapping) → shown mid q ≡ Some m → ((move : PageMove) → Used move → move.target ≢ q) → Stays Used old q m
-  left_stays q m at not_target = elim ((moved.places q m).0 at) [
-    | inl x ↦ absurd (not_target x.move x.used x.target)
-    | inr (inl x) ↦ absurd (not_target x.move x.used x.target)
-    | inr (inr x) ↦ x
-  ]
-
-  -- between two such places descent is as it was
-  pub descent_left : (q p : Place) (m k : Mapping) → shown mid q ≡ Some m → shown mid p ≡ Some k
-      → ((move : PageMove) → Used move → move.target ≢ q) → ((move : PageMove) → Used move → move.target ≢ p) → Descends old q p → Descends mid q p
-  descent_left q p m k at_q at_p not_q not_p d =
-      let a = left_stays q m at_q not_q in
-      let b = left_stays p k at_p not_p in
-      chain_moved d q p a.before m (kept_stands q a.before a.at a.not_gone a.not_granted m at_q) (inr (b.not_granted, refl))
-
-  -- what a used move brings descends from what its source descends from, as far as that is left alone
-  pub descent_moved : (u : PageMove) → Used u → (p : Place) (m k : Mapping) → shown mid u.target ≡ Some m → shown mid p ≡ Some k
-      → ((move : PageMove) → Used move → move.target ≢ p) → IsOrDescends old u.source p → Descends mid u.target p
-  descent_moved u used p m k at at_p not_p d =
-      let b = left_stays p k at_p not_p in
-      decided u.grant
-      (λ g. elim d [
-        | inl e ↦ absurd (b.not_granted (record { move = u; used = used; grant = g; source = e }))
-        | inr c ↦ chain_moved c u.target p u.shows m (granted_stands u used g m at) (inr (b.not_granted, refl))
-      ])
-      (λ map.
-      let t = source_stands u used map in
-      let up : parent_of mid u.target ≡ Some u.source = elim ((moved.places u.target m).0 at) [
-        | inl x ↦ parent_is u.target m at ∙ x.parent ∙ ap (λ (v : PageMove). Some v.source) (same_target x.move u x.used used x.target)
-        | inr (inl x) ↦ absurd (map (subst (λ (v : PageMove). IsTrue v.grant) (same_target x.move u x.used used x.target) x.grant))
-        | inr (inr x) ↦ absurd (x.not_gone (target_gone u used u.target x.before refl x.at))
-      ] in
-      elim d [
-        | inl e ↦ child (up ∙ ap (λ (v : Place). Some v) e)
-        | inr c ↦ further up (chain_moved c u.source p u.shows t.0 t.1 (inr (b.not_granted, refl)))
-      ])
 
   pub moved_loose : IsLoose Cut mid
   moved_loose = record {

@@ -13,7 +13,7 @@ use Rattle.l4_mapdb.specs.Covering.{same_place}
 use Rattle.l4_mapdb.specs.Shown.{IsShownBy, IsClimbedBy, LosesAt}
 use Rattle.l4_mapdb.specs.Transfer.{PageMove, IsUsed, IsGone, IsCut, SharesTarget}
 use Rattle.l4_mapdb.proofs.EntriesLemmas.{found_at, chain_up, no_chain, decided}
-use Rattle.l4_mapdb.proofs.Outline.{chain_along}
+use Rattle.l4_mapdb.proofs.Chains.{chain_along}
 use Rattle.l4_mapdb.proofs.Revoking.{has-without}
 use Rattle.l4_mapdb.proofs.Filtered.{rank, kept_at}
 use Rattle.l4_mapdb.proofs.Climbing.{Standing, shorter, same_true, not_same, or_true, or_left, or_right, forest_acyclic}

@@ -1,21 +1,18 @@
 -- A message is entangled just where one of its used moves entangles it.
-use Rattle.std.proofs.Common.{◌≡◌, ◌≢◌, ℕ, ◌<◌, ◌≤◌, Bool, true, false, List, length, Option, Some, None, IsTrue, MatchOption, refl, sym, ◌∙◌, ◌↔◌, subst, slice_get, arith, inl, inr}
+use Rattle.std.proofs.Common.{◌≡◌, ◌≢◌, ℕ, ◌<◌, ◌≤◌, Bool, List, length, Option, Some, None, IsTrue, MatchOption, sym, ◌∙◌, ◌↔◌, subst, arith, inl, inr}
 use Rattle.std.proofs.lemmas.Option.{slice_get_within}
 use Rattle.l4_mapdb.specs.declared.Place.{Place}
-use Rattle.l4_mapdb.specs.declared.Mapping.{Mapping}
 use Rattle.l4_mapdb.specs.declared.ItemMove.{ItemMove}
 use Rattle.l4_mapdb.specs.declared.moving.UsedMove.{UsedMove}
+use Rattle.l4_mapdb.specs.declared.store.Node.{Node}
 use Rattle.l4_mapdb.specs.Mappings.{Mappings}
 use Rattle.l4_mapdb.specs.Entries.{Entries}
+use Rattle.l4_mapdb.specs.Sheets.{now_in}
 use Rattle.l4_mapdb.specs.Shown.{IsShownBy, page_move}
 use Rattle.l4_mapdb.specs.Transfer.{PageMove, IsUsed, IsEntangled}
-use Rattle.l4_mapdb.specs.Tangles.{FillsToo, MovesToo, Tangles, ItemTangles, PlaceTangles}
-use Rattle.l4_mapdb.proofs.EntriesLemmas.{found_at}
+use Rattle.l4_mapdb.specs.Tangles.{FillsToo, MovesToo, Tangles, ItemTangles, PlaceTangles, KeyTangles}
+use Rattle.l4_mapdb.proofs.Slots.{slot_within, shown_under}
 use Rattle.l4_mapdb.proofs.UsedMoves.{same_source}
-
--- what an answer refutes
-pub refuted : {A : Type 0} (b : Bool) → IsTrue b ↔ A → b ≡ false → ¬ A
-refuted b e is a = let k : true ≡ false = sym (e.1 a) ∙ is in cc
 
 -- the answer for another item says the same of the items that are not this one
 pub others : (Moves : PageMove → Type 0) (At : PageMove → Type 0) (item other : ℕ) (answer : Option UsedMove) → other ≢ item
@@ -66,10 +63,12 @@ module _ (s : Mappings) (es : Entries) (from to : ℕ) (items : List ItemMove) (
   tangle_of (inr (inl e)) = (e.one, (e.one_used, inr (inl (e.grant, record { other = e.other; used = e.other_used; differ = e.differ; source = sym e.source }))))
   tangle_of (inr (inr e)) = (e.other, (e.other_used, inr (inr (record { move = e.one; used = e.one_used; present = e.present; below = e.above }))))
 
-  -- the source of a used move stands in the list
-  pub no_tangle : (n : ℕ) → length es ≤ n → ((j : ℕ) (a : Place × Mapping) → j < n → slice_get es j ≡ Some a → ¬ (PlaceTangles Used s a.0)) → ¬ (IsEntangled Used s)
-  no_tangle n all below e =
-      let t = tangle_of e in
-      let f = found_at es t.0.source t.0.shows (sym (by_list t.0.source) ∙ t.1.0.present) in
-      let lt = slice_get_within es f.0 (t.0.source, t.0.shows) f.1 in
-      below f.0 (t.0.source, t.0.shows) (omega (arith, lt, all)) f.1 (record { move = t.0; used = t.1.0; source = refl; tangles = t.1.1 })
+-- the source of a used move has a key
+pub no_tangle : (s : Mappings) (slots : List (Option Node)) (from to : ℕ) (items : List ItemMove) (by_list : IsShownBy s (now_in slots)) (n : ℕ) → length slots ≤ n
+    → ((key : ℕ) → key < n → ¬ (KeyTangles (IsUsed s from to items) s slots key)) → ¬ (IsEntangled (IsUsed s from to items) s)
+no_tangle s slots from to items by_list n all below e =
+    let t = tangle_of s (now_in slots) from to items by_list e in
+    let under = shown_under slots t.0.source t.0.shows (sym (by_list t.0.source) ∙ t.1.0.present) in
+    let lt = slot_within slots under.key under.node under.at in
+    below under.key (omega (arith, lt, all))
+    (record { node = under.node; at = under.at; tangles = record { move = t.0; used = t.1.0; source = sym under.place_is; tangles = t.1.1 } })

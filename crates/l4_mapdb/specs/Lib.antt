@@ -8,5 +8,7 @@ pub mod Covering
 pub mod Boot
 pub mod Forest
 pub mod Shown
-pub mod Building
+pub mod Planning
+pub mod Sheets
+pub mod Stores
 pub mod Causes

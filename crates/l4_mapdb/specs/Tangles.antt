@@ -1,6 +1,8 @@
 -- When a used move entangles its message, seen from the one move.
-use Rattle.std.specs.Prelude.{◌≡◌, ◌≢◌, ℕ, IsTrue, ◌⊎◌}
+use Rattle.std.specs.Prelude.{◌≡◌, ◌≢◌, ℕ, List, Option, Some, IsTrue, ◌⊎◌}
 use Rattle.l4_mapdb.specs.declared.Place.{Place}
+use Rattle.l4_mapdb.specs.declared.store.Node.{Node}
+use Rattle.l4_mapdb.specs.Sheets.{slot_at}
 use Rattle.l4_mapdb.specs.Mappings.{Mappings}
 use Rattle.l4_mapdb.specs.Transfer.{PageMove, IsGone}
 
@@ -37,3 +39,9 @@ module _ (Used : PageMove → Type 0) where
     pub used : Used move
     pub source : move.source ≡ place
     pub tangles : Tangles old move
+
+  -- a used move out of the place of this key entangles the message
+  pub record KeyTangles (old : Mappings) (slots : List (Option Node)) (key : ℕ) : Type 0 where
+    pub node : Node
+    pub at : slot_at slots key ≡ Some node
+    pub tangles : PlaceTangles old node.place

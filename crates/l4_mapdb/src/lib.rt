@@ -2,22 +2,24 @@
 //! which page it was mapped (L4 X.2 manual, IPC: map and grant items).
 #![tactic(auto)]
 
-ghost use Rattle.std.specs.Prelude.{◌≡◌, ◌↔◌, ◌≢◌, ◌≤◌, ◌∷◌, [], IsTrue, IsOk, OnOk, OnErr, IfOk, IfErr, MatchOption, Some, codes};
+ghost use Rattle.std.specs.Prelude.{◌≡◌, ◌↔◌, ◌≢◌, ◌≤◌, ◌∷◌, [], IsTrue, IsOk, OnOk, OnErr, IfOk, IfErr, MatchOption, Some};
 ghost use Rattle.std.specs.FinSet as set;
 
 mod building;
 mod lists;
 mod losing;
 mod moving;
+mod store;
 mod tangles;
 #[cfg(test)]
 mod tests;
 
 use l4_fpage::{Block, Rights};
 use l4_msg::Move;
-use std::alloc::{AllocError, AllocFailed, Global};
-use std::fmt;
+pub use l4_spaces::NoMemory;
+use std::alloc::Global;
 use std::marker::Model;
+use store::Store;
 
 /// A page of a space.
 #[derive(Clone, Copy, Debug, PartialEq, Eq)]
@@ -71,32 +73,6 @@ impl Default for ItemMove {
     }
 }
 
-/// There was no memory for what was asked, and nothing was changed.
-#[derive(Clone, Copy, Debug, PartialEq, Eq)]
-pub struct NoMemory;
-
-impl fmt::Display for NoMemory {
-    ghost output = { λ _. Some (codes "no memory") };
-
-    fn fmt<W: fmt::Write>(&self, f: &mut fmt::Formatter<W>) -> fmt::Result {
-        write!(f, "no memory")
-    }
-}
-
-impl std::error::Error for NoMemory {}
-
-impl From<AllocError> for NoMemory {
-    fn from(_e: AllocError) -> NoMemory {
-        NoMemory
-    }
-}
-
-impl<T: Drop> From<AllocFailed<T>> for NoMemory {
-    fn from(_e: AllocFailed<T>) -> NoMemory {
-        NoMemory
-    }
-}
-
 /// Why a message was not delivered. Nothing was changed.
 #[derive(Clone, Copy, Debug, PartialEq, Eq)]
 pub enum Cause {
@@ -110,10 +86,7 @@ pub enum Cause {
 /// The mappings of all spaces, and the spaces that there are.
 #[derive(Drop)]
 pub struct Forest {
-    places: Vec<(Place, Mapping)>,
-    // where the list of places is built anew; it has room for as many
-    next: Vec<(Place, Mapping)>,
-    spaces: Vec<u64>,
+    store: Store,
 }
 
 impl Model for Forest {
@@ -134,7 +107,7 @@ impl Forest {
     ghost use Rattle.l4_mapdb.specs.Mappings.{Mappings, shown, IsForest, IsRoot};
     ghost use Rattle.l4_mapdb.specs.Boot.{IsFirst};
     ghost use Rattle.l4_mapdb.specs.Places.{NonePresentFrom, IsNextPresent};
-    ghost use Rattle.l4_mapdb.specs.Transfer.{IsUsed, IsEntangled, Delivers};
+    ghost use Rattle.l4_mapdb.specs.Transfer.{IsUsed, IsEntangled, TargetsPresent, Delivers};
     ghost use Rattle.l4_mapdb.specs.Causes.{HasCause};
     ghost use Rattle.l4_mapdb.specs.Losing.{Revokes};
 
@@ -145,15 +118,10 @@ impl Forest {
         requires fit { frames ≤ 4096 }
         ensures { IfOk result (IsFirst frames) }
     {
-        let places = lists::own_places(alloc, frames)?;
-        let next = Vec::with_capacity(alloc, places.len())?;
-        let mut spaces = Vec::new(alloc);
-        spaces.push(0)?;
-        Ok(Forest {
-            places,
-            next,
-            spaces,
-        })
+        let mut store = Store::new(alloc);
+        store.add_space(0)?;
+        lists::own_places(&mut store, frames)?;
+        Ok(Forest { store })
     }
 
     /// Begins an empty space. Nothing changes if it is there.
@@ -162,10 +130,7 @@ impl Forest {
         ensures err { OnErr result (self.new ≡ self.old) }
         ensures succeeds { IsTrue (set.contains self.old.spaces space) → IsOk result }
     {
-        if !self.spaces.contains(&space) {
-            self.spaces.push(space)?;
-        }
-        Ok(())
+        self.store.add_space(space)
     }
 
     /// What the page of the space shows, None if it is not present.
@@ -173,21 +138,21 @@ impl Forest {
         ensures shown { result ≡ shown self.now (record { space = space; page = page }) }
         ensures forest { IsForest self.now }
     {
-        lists::mapping_in(&self.places, Place { space, page })
+        self.store.shown(Place { space, page })
     }
 
     /// What holds of the mappings at all times: they are trees, one for each frame that is shown. It does nothing.
     pub fn law_forest(&self)
         ensures { IsForest self.now }
     {
-        let _ = &self.places;
+        let _ = &self.store;
     }
 
     /// The least present page of the space that is not below `page`, None where there is none.
     pub fn next_present(&self, space: u64, page: u32) -> Option<u32>
         ensures { MatchOption result (NonePresentFrom self.now space page) (IsNextPresent self.now space page) }
     {
-        lists::next_page(&self.places, space, page)
+        self.store.next_page(space, page)
     }
 
     /// Whether the used moves of a message from the one space to the other contradict each other: two
@@ -196,7 +161,7 @@ impl Forest {
     pub fn is_entangled(&self, from: u64, to: u64, moves: &[ItemMove]) -> bool
         ensures { IsTrue result ↔ IsEntangled (IsUsed self.now from to moves.now) self.now }
     {
-        tangles::has_tangle(&self.places, from, to, moves)
+        tangles::has_tangle(&self.store, from, to, moves)
     }
 
     /// Moves what a message maps and grants from the one space to the other, and these are two spaces that are there, or one. Used are
@@ -216,11 +181,12 @@ impl Forest {
 
         // Only a used target that is not present needs memory.
         ensures cause { IfErr result (HasCause (IsUsed self.old from to moves.now) self.old) }
+        ensures succeeds { TargetsPresent (IsUsed self.old from to moves.now) self.old → ¬ (IsEntangled (IsUsed self.old from to moves.now) self.old) → IsOk result }
     {
         if self.is_entangled(from, to, moves) {
             return Err(Cause::Entangled);
         }
-        match building::transfer(&mut self.places, &mut self.next, from, to, moves) {
+        match building::transfer(&mut self.store, from, to, moves) {
             Ok(()) => Ok(()),
             Err(_) => Err(Cause::NoMemory),
         }
@@ -232,14 +198,14 @@ impl Forest {
     pub fn revoke(&mut self, from: Place, rights: Rights, with_self: bool)
         ensures { Revokes from rights with_self self.old self.new }
     {
-        losing::cut(&mut self.places, from, rights, with_self);
-        losing::drop_empty(&mut self.places);
+        losing::cut(&mut self.store, from, rights, with_self);
+        self.store.settle();
     }
 
     /// The place without a parent that shows the frame, None if there is none.
     pub fn root(&self, frame: u32) -> Option<Place>
         ensures { MatchOption result ((place : Place) → ¬ (IsRoot self.now frame place)) (IsRoot self.now frame) }
     {
-        lists::root_in(&self.places, frame)
+        lists::root_in(&self.store, frame)
     }
 }

@@ -1,20 +1,24 @@
-//! The list of present places with what they show, in which each place stands once.
+//! Sigma0's places, the tops of trees, and what an item makes of a place.
 
-ghost use Rattle.std.specs.Prelude.{◌≡◌, ◌↔◌, ◌≢◌, ◌+◌, ◌<◌, ◌≤◌, ◌⊎◌, ◌&&◌, length, IsTrue, IsOk, IfOk, MatchOption, Some, None, slice_get, min, vec_len, vec_capacity, count_by, is_some, not};
-ghost use Rattle.std.specs.FinMap.{find};
-ghost use Rattle.std.specs.Option.{option_map_or};
-ghost use Rattle.l4_mapdb.specs.Mappings.{place_cmp};
-ghost use Rattle.l4_mapdb.specs.Entries.{StandsAtIndex, IsNextIn, NoneIn, IsRootIn, NoRootIn, child_of, own_entries, parent_in};
+ghost use Rattle.std.specs.Prelude.{◌≡◌, ◌↔◌, [], OnOk, IsTrue, MatchOption, None, ℕ};
+ghost use Rattle.std.specs.FinSet as set;
+ghost use Rattle.l4_mapdb.specs.Entries.{child_of};
+ghost use Rattle.l4_mapdb.specs.Sheets.{IsWhole, RecordedOnce, now_in};
+ghost use Rattle.l4_mapdb.specs.Planning.{ShowsOwn, IsRootKey, NoRootKey};
 
-use crate::{ItemMove, Mapping, Place};
+use crate::store::{Node, Store};
+use crate::{ItemMove, Mapping, NoMemory, Place};
 use l4_fpage::Rights;
-use std::alloc::{AllocError, Global};
 
-/// Sigma0's place for each frame.
-pub(crate) fn own_places(alloc: Global, frames: u32) -> Result<Vec<(Place, Mapping)>, AllocError>
-    ensures { IfOk result (λ v. v.items ≡ own_entries frames) }
+/// Adds sigma0's place for each frame.
+pub(crate) fn own_places(places: &mut Store, frames: u32) -> Result<(), NoMemory>
+    requires empty { places.old.slots ≡ [] }
+    requires there { IsTrue (set.contains places.old.spaces 0) }
+    ensures shows { OnOk result (ShowsOwn frames places.new.slots) }
+    ensures whole { OnOk result (IsWhole places.new.slots) }
+    ensures once { RecordedOnce places.new.slots }
+    ensures spaces { places.new.spaces ≡ places.old.spaces }
 {
-    let mut places = Vec::new(alloc);
     for frame in 0..frames {
         let place = Place {
             space: 0,
@@ -25,62 +29,9 @@ pub(crate) fn own_places(alloc: Global, frames: u32) -> Result<Vec<(Place, Mappi
             rights: Rights::all(),
             parent: None,
         };
-        places.push((place, mapping))?;
+        places.add(place, Some(mapping))?;
     }
-    Ok(places)
-}
-
-/// What the place shows, if it stands in the list.
-pub(crate) fn mapping_in(places: &[(Place, Mapping)], place: Place) -> Option<Mapping>
-    ensures { result ≡ find place_cmp place places.now }
-{
-    for (p, m) in places {
-        if *p == place {
-            return Some(*m);
-        }
-    }
-    None
-}
-
-/// The place that this one was mapped from.
-pub(crate) fn parent_at(places: &[(Place, Mapping)], place: Place) -> Option<Place>
-    ensures { result ≡ parent_in places.now place }
-{
-    mapping_in(places, place)?.parent
-}
-
-/// Where the place stands in the list.
-pub(crate) fn index_in(places: &[(Place, Mapping)], place: Place) -> Option<usize>
-    ensures { MatchOption result (find place_cmp place places.now ≡ None) (StandsAtIndex place places.now) }
-{
-    for i in 0..places.len() {
-        if places[i].0 == place {
-            return Some(i);
-        }
-    }
-    None
-}
-
-/// The least page of the space in the list that is not below `page`.
-pub(crate) fn next_page(places: &[(Place, Mapping)], space: u64, page: u32) -> Option<u32>
-    ensures { MatchOption result (NoneIn places.now space page) (IsNextIn places.now space page) }
-{
-    let mut next = None;
-    for (place, _) in places {
-        next = nearer(next, space, page, *place);
-    }
-    next
-}
-
-/// The lesser of the pages, if the place is one of the space that is not below `page`.
-fn nearer(next: Option<u32>, space: u64, page: u32, place: Place) -> Option<u32>
-    ensures counts { place.space ≡ space → page ≤ place.page → result ≡ Some (option_map_or (λ n. min n place.page) next place.page) }
-    ensures left_out { (place.space ≡ space → page ≤ place.page → ⊥) → result ≡ next }
-{
-    if place.space != space || place.page < page {
-        return next;
-    }
-    Some(next.map_or(place.page, |n| n.min(place.page)))
+    Ok(())
 }
 
 /// Whether it shows the frame and has no parent.
@@ -90,13 +41,29 @@ fn is_root(mapping: &Mapping, frame: u32) -> bool
     mapping.frame == frame && mapping.parent.is_none()
 }
 
-/// The place of the list that has no parent and shows the frame.
-pub(crate) fn root_in(places: &[(Place, Mapping)], frame: u32) -> Option<Place>
-    ensures { MatchOption result (NoRootIn places.now frame) (IsRootIn places.now frame) }
+/// The place of this key, if it has no parent and shows the frame.
+fn root_at(places: &Store, frame: u32, key: usize) -> Option<Place>
+    ensures { MatchOption result (NoRootKey places.now.slots frame key) (λ place. IsRootKey places.now.slots frame key place) }
 {
-    for (place, mapping) in places {
-        if is_root(mapping, frame) {
-            return Some(*place);
+    let Some(Node { place, shows, .. }) = places.at(key) else {
+        return None;
+    };
+    let Some(mapping) = shows else {
+        return None;
+    };
+    if !is_root(&mapping, frame) {
+        return None;
+    }
+    Some(place)
+}
+
+/// The place that has no parent and shows the frame.
+pub(crate) fn root_in(places: &Store, frame: u32) -> Option<Place>
+    ensures { MatchOption result ((key : ℕ) → NoRootKey places.now.slots frame key) (λ place. (key : ℕ) × IsRootKey places.now.slots frame key place) }
+{
+    for key in 0..places.bound() {
+        if let Some(place) = root_at(places, frame, key) {
+            return Some(place);
         }
     }
     None

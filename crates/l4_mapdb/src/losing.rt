@@ -1,11 +1,14 @@
-//! Rights that the places of the list lose, and the places that go with their last right.
+//! Rights that places lose.
 
-ghost use Rattle.std.specs.Prelude.{◌≡◌, ◌↔◌, ◌||◌, ◌&&◌, IsTrue, length, filter};
+ghost use Rattle.std.specs.Prelude.{◌≡◌, ◌↔◌, ◌&&◌, ℕ, IsTrue};
 ghost use Rattle.l4_fpage.specs.Rights.{without};
-ghost use Rattle.l4_mapdb.specs.Covering.{same_place, climbs, covers_place};
-ghost use Rattle.l4_mapdb.specs.Entries.{IsAcyclic, CoveredIn, CutsEntries, has_right};
+ghost use Rattle.l4_mapdb.specs.Mappings.{Chain};
+ghost use Rattle.l4_mapdb.specs.Covering.{same_place};
+ghost use Rattle.l4_mapdb.specs.Entries.{IsAcyclic, CoveredIn, parent_in};
+ghost use Rattle.l4_mapdb.specs.Sheets.{slot_at, now_in, RecordedOnce};
+ghost use Rattle.l4_mapdb.specs.Planning.{CutsSlot, IsCutMapping};
 
-use crate::lists::parent_at;
+use crate::store::{Node, Store};
 use crate::{Mapping, Place};
 use l4_fpage::Rights;
 
@@ -17,12 +20,13 @@ fn is_meant(with_self: bool, place: Place, from: Place) -> bool
 }
 
 /// Whether the first place descends from the second. A chain of parents meets no place twice.
-fn descends(places: &[(Place, Mapping)], low: Place, high: Place) -> bool
-    ensures { result ≡ climbs (length places.now) places.now low high }
+fn descends(places: &Store, low: Place, high: Place) -> bool
+    requires { IsAcyclic (now_in places.now.slots) }
+    ensures { IsTrue result ↔ Chain (parent_in (now_in places.now.slots)) low high }
 {
     let mut at = low;
-    for _ in 0..places.len() {
-        let Some(parent) = parent_at(places, at) else {
+    for _ in 0..places.bound() {
+        let Some(parent) = places.parent(at) else {
             return false;
         };
         if parent == high {
@@ -34,8 +38,9 @@ fn descends(places: &[(Place, Mapping)], low: Place, high: Place) -> bool
 }
 
 /// Whether the place descends from the other, or is the other where that one is meant too.
-fn covers(places: &[(Place, Mapping)], from: Place, with_self: bool, place: Place) -> bool
-    ensures { result ≡ covers_place places.now from with_self place }
+fn covers(places: &Store, from: Place, with_self: bool, place: Place) -> bool
+    requires { IsAcyclic (now_in places.now.slots) }
+    ensures { IsTrue result ↔ CoveredIn (now_in places.now.slots) from with_self place }
 {
     is_meant(with_self, place, from) || descends(places, place, from)
 }
@@ -52,27 +57,39 @@ fn less(rights: Rights, lost: Rights, are_lost: bool) -> Rights
     }
 }
 
-/// Takes the rights from each place that is covered.
-pub(crate) fn cut(places: &mut [(Place, Mapping)], from: Place, rights: Rights, with_self: bool)
-    requires { IsAcyclic places.old }
-    ensures { CutsEntries (CoveredIn places.old from with_self) rights places.old places.new }
+/// What the record shows once its place has lost the rights, if it is covered.
+fn left(
+    places: &Store,
+    node: &Node,
+    from: Place,
+    rights: Rights,
+    with_self: bool,
+) -> Option<Mapping>
+    requires { IsAcyclic (now_in places.now.slots) }
+    ensures { IsCutMapping (CoveredIn (now_in places.now.slots) from with_self) rights node.now.place node.now.shows result }
 {
-    for i in 0..places.len() {
-        let entry = places[i];
-        let (place, mapping) = entry;
-        let covered = covers(places, from, with_self, place);
-        let rights = less(mapping.rights, rights, covered);
-        places[i] = (place, Mapping { rights, ..mapping });
-    }
+    let Some(mapping) = node.shows else {
+        return None;
+    };
+    let covered = covers(places, from, with_self, node.place);
+    Some(Mapping {
+        rights: less(mapping.rights, rights, covered),
+        ..mapping
+    })
 }
 
-/// Drops the entries that have no right.
-pub(crate) fn drop_empty(places: &mut Vec<(Place, Mapping)>)
-    ensures { places.new.items ≡ filter has_right places.old.items }
+/// Lets each place be to show what it shows, without the rights if it is covered.
+pub(crate) fn cut(places: &mut Store, from: Place, rights: Rights, with_self: bool)
+    requires acyclic { IsAcyclic (now_in places.old.slots) }
+    requires once { RecordedOnce places.old.slots }
+    ensures cuts { (key : ℕ) → CutsSlot (CoveredIn (now_in places.old.slots) from with_self) rights (slot_at places.old.slots key) (slot_at places.new.slots key) }
+    ensures once { RecordedOnce places.new.slots }
+    ensures spaces { places.new.spaces ≡ places.old.spaces }
 {
-    places.retain(
-        |e| -> bool
-            ensures { result ≡ has_right e.now }
-        { !e.1.rights.is_empty() },
-    );
+    for key in 0..places.bound() {
+        if let Some(node) = places.at(key) {
+            let later = left(places, &node, from, rights, with_self);
+            places.plan(key, later);
+        }
+    }
 }

@@ -5,9 +5,11 @@ ghost use Rattle.l4_fpage.specs.Rights.{Right, has};
 ghost use Rattle.l4_mapdb.specs.Mappings.{Mappings, IsForest};
 ghost use Rattle.l4_mapdb.specs.Transfer.{PageMove, IsUsed, IsGranted, IsGone, IsCut, IsEntangled, SharesTarget, ParentLater, Becomes};
 ghost use Rattle.l4_mapdb.specs.Entries.{IsAcyclic};
+ghost use Rattle.l4_mapdb.specs.Sheets.{now_in, later_in};
 ghost use Rattle.l4_mapdb.specs.Shown.{IsShownBy, IsClimbedBy, LosesAt, page_move};
 
-use crate::lists::{child, mapping_in, parent_at};
+use crate::lists::child;
+use crate::store::Store;
 use crate::{ItemMove, Mapping, Place};
 use l4_fpage::Rights;
 
@@ -27,7 +29,7 @@ pub(crate) struct UsedMove {
 
 /// The used move of the item of this number out of the place.
 pub(crate) fn move_out(
-    places: &[(Place, Mapping)],
+    places: &Store,
     from: u64,
     to: u64,
     items: &[ItemMove],
@@ -35,7 +37,7 @@ pub(crate) fn move_out(
     place: Place,
 ) -> Option<UsedMove>
     requires { item < length items.now }
-    ensures { (s : Mappings) → IsShownBy s places.now → MatchOption result
+    ensures { (s : Mappings) → IsShownBy s (now_in places.now.slots) → MatchOption result
         ((move : PageMove) → IsUsed s from to items.now move → move.item ≡ item → move.source ≢ place)
         (λ m. IsUsed s from to items.now (page_move m) × (m.item ≡ item) × (m.source ≡ place)) }
 {
@@ -43,7 +45,7 @@ pub(crate) fn move_out(
     if place.space != from || !by.mv.source.contains(place.page) {
         return None;
     }
-    let Some(shows) = mapping_in(places, place) else {
+    let Some(shows) = places.shown(place) else {
         return None;
     };
     let entry = (place, shows);
@@ -62,7 +64,7 @@ pub(crate) fn move_out(
 
 /// The used move of the item of this number into the place.
 pub(crate) fn move_into(
-    places: &[(Place, Mapping)],
+    places: &Store,
     from: u64,
     to: u64,
     items: &[ItemMove],
@@ -70,7 +72,7 @@ pub(crate) fn move_into(
     place: Place,
 ) -> Option<UsedMove>
     requires { item < length items.now }
-    ensures { (s : Mappings) → IsShownBy s places.now → MatchOption result
+    ensures { (s : Mappings) → IsShownBy s (now_in places.now.slots) → MatchOption result
         ((move : PageMove) → IsUsed s from to items.now move → move.item ≡ item → move.target ≢ place)
         (λ m. IsUsed s from to items.now (page_move m) × (m.item ≡ item) × (m.target ≡ place)) }
 {
@@ -87,13 +89,13 @@ pub(crate) fn move_into(
 
 /// A used move into the place.
 pub(crate) fn into_place(
-    places: &[(Place, Mapping)],
+    places: &Store,
     from: u64,
     to: u64,
     items: &[ItemMove],
     place: Place,
 ) -> Option<UsedMove>
-    ensures { (s : Mappings) → IsShownBy s places.now → MatchOption result
+    ensures { (s : Mappings) → IsShownBy s (now_in places.now.slots) → MatchOption result
         ((move : PageMove) → IsUsed s from to items.now move → move.target ≢ place)
         (λ m. IsUsed s from to items.now (page_move m) × (m.target ≡ place)) }
 {
@@ -107,7 +109,7 @@ pub(crate) fn into_place(
 
 /// The used move of the item of this number out of the place, if it is a grant item.
 fn grant_out(
-    places: &[(Place, Mapping)],
+    places: &Store,
     from: u64,
     to: u64,
     items: &[ItemMove],
@@ -115,7 +117,7 @@ fn grant_out(
     place: Place,
 ) -> Option<UsedMove>
     requires { item < length items.now }
-    ensures { (s : Mappings) → IsShownBy s places.now → MatchOption result
+    ensures { (s : Mappings) → IsShownBy s (now_in places.now.slots) → MatchOption result
         ((move : PageMove) → IsUsed s from to items.now move → move.item ≡ item → IsTrue move.grant → move.source ≢ place)
         (λ m. IsUsed s from to items.now (page_move m) × IsTrue m.grant × (m.source ≡ place)) }
 {
@@ -127,13 +129,13 @@ fn grant_out(
 
 /// A used move of a grant item out of the place.
 pub(crate) fn granted_out(
-    places: &[(Place, Mapping)],
+    places: &Store,
     from: u64,
     to: u64,
     items: &[ItemMove],
     place: Place,
 ) -> Option<UsedMove>
-    ensures { (s : Mappings) → IsShownBy s places.now → MatchOption result
+    ensures { (s : Mappings) → IsShownBy s (now_in places.now.slots) → MatchOption result
         (¬ (IsGranted (IsUsed s from to items.now) place))
         (λ m. IsUsed s from to items.now (page_move m) × IsTrue m.grant × (m.source ≡ place)) }
 {
@@ -147,13 +149,13 @@ pub(crate) fn granted_out(
 
 /// The parent afterwards: a granted place is renamed.
 fn renamed(
-    places: &[(Place, Mapping)],
+    places: &Store,
     from: u64,
     to: u64,
     items: &[ItemMove],
     parent: Option<Place>,
 ) -> Option<Place>
-    ensures { (s : Mappings) → IsShownBy s places.now → ParentLater (IsUsed s from to items.now) parent result }
+    ensures { (s : Mappings) → IsShownBy s (now_in places.now.slots) → ParentLater (IsUsed s from to items.now) parent result }
 {
     let Some(parent) = parent else {
         return None;
@@ -165,18 +167,12 @@ fn renamed(
 }
 
 /// Whether a used move replaces the place, or one that it descends from.
-pub(crate) fn is_gone(
-    places: &[(Place, Mapping)],
-    from: u64,
-    to: u64,
-    items: &[ItemMove],
-    place: Place,
-) -> bool
-    ensures { (s : Mappings) → IsShownBy s places.now → IsForest s → IsTrue result ↔ IsGone (IsUsed s from to items.now) s place }
+pub(crate) fn is_gone(places: &Store, from: u64, to: u64, items: &[ItemMove], place: Place) -> bool
+    ensures { (s : Mappings) → IsShownBy s (now_in places.now.slots) → IsForest s → IsTrue result ↔ IsGone (IsUsed s from to items.now) s place }
 {
     let mut at = place;
-    for _ in 0..places.len() {
-        let Some(mapping) = mapping_in(places, at) else {
+    for _ in 0..places.bound() {
+        let Some(mapping) = places.shown(at) else {
             return false;
         };
         if let Some(_) = into_place(places, from, to, items, at) {
@@ -191,14 +187,8 @@ pub(crate) fn is_gone(
 }
 
 /// What the target of the used move shows.
-fn arrived(
-    places: &[(Place, Mapping)],
-    from: u64,
-    to: u64,
-    items: &[ItemMove],
-    used: &UsedMove,
-) -> Mapping
-    ensures { (s : Mappings) → IsShownBy s places.now → IsUsed s from to items.now (page_move used.now) → Becomes (IsUsed s from to items.now) s used.now.target result }
+fn arrived(places: &Store, from: u64, to: u64, items: &[ItemMove], used: &UsedMove) -> Mapping
+    ensures { (s : Mappings) → IsShownBy s (now_in places.now.slots) → IsUsed s from to items.now (page_move used.now) → Becomes (IsUsed s from to items.now) s used.now.target result }
 {
     if !used.grant {
         return Mapping {
@@ -217,20 +207,20 @@ fn arrived(
 
 /// What the place shows once the used moves are done and before granted places' descendants are cut.
 pub(crate) fn later(
-    places: &[(Place, Mapping)],
+    places: &Store,
     from: u64,
     to: u64,
     items: &[ItemMove],
     place: Place,
 ) -> Option<Mapping>
-    ensures { (s : Mappings) → IsShownBy s places.now → IsForest s → MatchOption result
+    ensures { (s : Mappings) → IsShownBy s (now_in places.now.slots) → IsForest s → MatchOption result
         ((m : Mapping) → ¬ (Becomes (IsUsed s from to items.now) s place m))
         (Becomes (IsUsed s from to items.now) s place) }
 {
     if let Some(used) = into_place(places, from, to, items, place) {
         return Some(arrived(places, from, to, items, &used));
     }
-    let Some(mapping) = mapping_in(places, place) else {
+    let Some(mapping) = places.shown(place) else {
         return None;
     };
     if let Some(_) = granted_out(places, from, to, items, place) {
@@ -245,22 +235,15 @@ pub(crate) fn later(
     })
 }
 
-/// The rights that the place loses with the granted places that it descends from. `next` is what the places show once the used moves are done.
-pub(crate) fn lost(
-    places: &[(Place, Mapping)],
-    next: &[(Place, Mapping)],
-    from: u64,
-    to: u64,
-    items: &[ItemMove],
-    place: Place,
-) -> Rights
-    ensures { (s middle : Mappings) → IsShownBy s places.now → IsClimbedBy middle next.now → ¬ (SharesTarget (IsUsed s from to items.now)) → IsAcyclic next.now →
+/// The rights that the place loses with the granted places that it descends from. What the places are to show is what they show once the used moves are done.
+pub(crate) fn lost(places: &Store, from: u64, to: u64, items: &[ItemMove], place: Place) -> Rights
+    ensures { (s middle : Mappings) → IsShownBy s (now_in places.now.slots) → IsClimbedBy middle (later_in places.now.slots) → ¬ (SharesTarget (IsUsed s from to items.now)) → IsAcyclic (later_in places.now.slots) →
         (right : Right) → IsTrue (has result right) ↔ IsCut (IsUsed s from to items.now) middle place right }
 {
     let mut rights = Rights::of_bits(0);
     let mut at = place;
-    for _ in 0..next.len() {
-        let Some(parent) = parent_at(next, at) else {
+    for _ in 0..places.bound() {
+        let Some(parent) = places.parent_later(at) else {
             return rights;
         };
         rights = rights.union(lost_at(places, from, to, items, parent));
@@ -270,14 +253,8 @@ pub(crate) fn lost(
 }
 
 /// The rights that a granted place had and its target has not; none where no used move of a grant item fills the place.
-fn lost_at(
-    places: &[(Place, Mapping)],
-    from: u64,
-    to: u64,
-    items: &[ItemMove],
-    place: Place,
-) -> Rights
-    ensures { (s : Mappings) → IsShownBy s places.now → ¬ (SharesTarget (IsUsed s from to items.now)) →
+fn lost_at(places: &Store, from: u64, to: u64, items: &[ItemMove], place: Place) -> Rights
+    ensures { (s : Mappings) → IsShownBy s (now_in places.now.slots) → ¬ (SharesTarget (IsUsed s from to items.now)) →
         (right : Right) → IsTrue (has result right) ↔ LosesAt (IsUsed s from to items.now) place right }
 {
     let Some(used) = into_place(places, from, to, items, place) else {

@@ -3,15 +3,17 @@
 ghost use Rattle.std.specs.Prelude.{◌≡◌, ◌≢◌, ◌↔◌, ◌<◌, length, IsTrue, MatchOption};
 ghost use Rattle.l4_mapdb.specs.Mappings.{Mappings, IsForest};
 ghost use Rattle.l4_mapdb.specs.Transfer.{PageMove, IsUsed, IsEntangled};
+ghost use Rattle.l4_mapdb.specs.Sheets.{now_in};
 ghost use Rattle.l4_mapdb.specs.Shown.{IsShownBy, page_move};
-ghost use Rattle.l4_mapdb.specs.Tangles.{FillsToo, MovesToo, Tangles, ItemTangles, PlaceTangles};
+ghost use Rattle.l4_mapdb.specs.Tangles.{FillsToo, MovesToo, Tangles, ItemTangles, PlaceTangles, KeyTangles};
 
 use crate::moving::{UsedMove, is_gone, move_into, move_out};
-use crate::{ItemMove, Mapping, Place};
+use crate::store::Store;
+use crate::{ItemMove, Place};
 
 /// The used move of the item `other` into the place, None too if that is this item.
 fn other_into(
-    places: &[(Place, Mapping)],
+    places: &Store,
     from: u64,
     to: u64,
     items: &[ItemMove],
@@ -20,7 +22,7 @@ fn other_into(
     place: Place,
 ) -> Option<UsedMove>
     requires { other < length items.now }
-    ensures { (s : Mappings) → IsShownBy s places.now → MatchOption result
+    ensures { (s : Mappings) → IsShownBy s (now_in places.now.slots) → MatchOption result
         ((move : PageMove) → IsUsed s from to items.now move → move.item ≡ other → item ≢ move.item → move.target ≢ place)
         (λ m. IsUsed s from to items.now (page_move m) × (item ≢ m.item) × (m.target ≡ place)) }
 {
@@ -32,7 +34,7 @@ fn other_into(
 
 /// The used move of the item `other` out of the place, None too if that is this item.
 fn other_out(
-    places: &[(Place, Mapping)],
+    places: &Store,
     from: u64,
     to: u64,
     items: &[ItemMove],
@@ -41,7 +43,7 @@ fn other_out(
     place: Place,
 ) -> Option<UsedMove>
     requires { other < length items.now }
-    ensures { (s : Mappings) → IsShownBy s places.now → MatchOption result
+    ensures { (s : Mappings) → IsShownBy s (now_in places.now.slots) → MatchOption result
         ((move : PageMove) → IsUsed s from to items.now move → move.item ≡ other → item ≢ move.item → move.source ≢ place)
         (λ m. IsUsed s from to items.now (page_move m) × (item ≢ m.item) × (m.source ≡ place)) }
 {
@@ -53,14 +55,14 @@ fn other_out(
 
 /// Whether another item than this one fills the place.
 fn is_filled_too(
-    places: &[(Place, Mapping)],
+    places: &Store,
     from: u64,
     to: u64,
     items: &[ItemMove],
     item: usize,
     place: Place,
 ) -> bool
-    ensures { (s : Mappings) → IsShownBy s places.now → IsTrue result ↔ FillsToo (IsUsed s from to items.now) item place }
+    ensures { (s : Mappings) → IsShownBy s (now_in places.now.slots) → IsTrue result ↔ FillsToo (IsUsed s from to items.now) item place }
 {
     for other in 0..items.len() {
         if let Some(_) = other_into(places, from, to, items, item, other, place) {
@@ -72,14 +74,14 @@ fn is_filled_too(
 
 /// Whether another item than this one moves the place.
 fn is_moved_too(
-    places: &[(Place, Mapping)],
+    places: &Store,
     from: u64,
     to: u64,
     items: &[ItemMove],
     item: usize,
     place: Place,
 ) -> bool
-    ensures { (s : Mappings) → IsShownBy s places.now → IsTrue result ↔ MovesToo (IsUsed s from to items.now) item place }
+    ensures { (s : Mappings) → IsShownBy s (now_in places.now.slots) → IsTrue result ↔ MovesToo (IsUsed s from to items.now) item place }
 {
     for other in 0..items.len() {
         if let Some(_) = other_out(places, from, to, items, item, other, place) {
@@ -90,14 +92,8 @@ fn is_moved_too(
 }
 
 /// Whether the used move grants what another item moves too.
-fn grants_twice(
-    places: &[(Place, Mapping)],
-    from: u64,
-    to: u64,
-    items: &[ItemMove],
-    used: &UsedMove,
-) -> bool
-    ensures { (s : Mappings) → IsShownBy s places.now → IsTrue result ↔ (IsTrue used.now.grant × MovesToo (IsUsed s from to items.now) used.now.item used.now.source) }
+fn grants_twice(places: &Store, from: u64, to: u64, items: &[ItemMove], used: &UsedMove) -> bool
+    ensures { (s : Mappings) → IsShownBy s (now_in places.now.slots) → IsTrue result ↔ (IsTrue used.now.grant × MovesToo (IsUsed s from to items.now) used.now.item used.now.source) }
 {
     if !used.grant {
         return false;
@@ -106,14 +102,8 @@ fn grants_twice(
 }
 
 /// Whether the used move entangles the message.
-fn move_tangles(
-    places: &[(Place, Mapping)],
-    from: u64,
-    to: u64,
-    items: &[ItemMove],
-    used: &UsedMove,
-) -> bool
-    ensures { (s : Mappings) → IsShownBy s places.now → IsForest s → IsTrue result ↔ Tangles (IsUsed s from to items.now) s (page_move used.now) }
+fn move_tangles(places: &Store, from: u64, to: u64, items: &[ItemMove], used: &UsedMove) -> bool
+    ensures { (s : Mappings) → IsShownBy s (now_in places.now.slots) → IsForest s → IsTrue result ↔ Tangles (IsUsed s from to items.now) s (page_move used.now) }
 {
     if is_filled_too(places, from, to, items, used.item, used.target) {
         return true;
@@ -126,7 +116,7 @@ fn move_tangles(
 
 /// Whether the used move of the item of this number out of the place entangles the message.
 fn item_tangles(
-    places: &[(Place, Mapping)],
+    places: &Store,
     from: u64,
     to: u64,
     items: &[ItemMove],
@@ -134,7 +124,7 @@ fn item_tangles(
     place: Place,
 ) -> bool
     requires { item < length items.now }
-    ensures { (s : Mappings) → IsShownBy s places.now → IsForest s → IsTrue result ↔ ItemTangles (IsUsed s from to items.now) s item place }
+    ensures { (s : Mappings) → IsShownBy s (now_in places.now.slots) → IsForest s → IsTrue result ↔ ItemTangles (IsUsed s from to items.now) s item place }
 {
     let Some(used) = move_out(places, from, to, items, item, place) else {
         return false;
@@ -143,14 +133,8 @@ fn item_tangles(
 }
 
 /// Whether a used move out of the place entangles the message.
-fn place_tangles(
-    places: &[(Place, Mapping)],
-    from: u64,
-    to: u64,
-    items: &[ItemMove],
-    place: Place,
-) -> bool
-    ensures { (s : Mappings) → IsShownBy s places.now → IsForest s → IsTrue result ↔ PlaceTangles (IsUsed s from to items.now) s place }
+fn place_tangles(places: &Store, from: u64, to: u64, items: &[ItemMove], place: Place) -> bool
+    ensures { (s : Mappings) → IsShownBy s (now_in places.now.slots) → IsForest s → IsTrue result ↔ PlaceTangles (IsUsed s from to items.now) s place }
 {
     for item in 0..items.len() {
         if item_tangles(places, from, to, items, item, place) {
@@ -160,17 +144,22 @@ fn place_tangles(
     false
 }
 
-/// Whether the used moves contradict each other.
-pub(crate) fn has_tangle(
-    places: &[(Place, Mapping)],
-    from: u64,
-    to: u64,
-    items: &[ItemMove],
-) -> bool
-    ensures { (s : Mappings) → IsShownBy s places.now → IsForest s → IsTrue result ↔ IsEntangled (IsUsed s from to items.now) s }
+/// Whether a used move out of the place of this key entangles the message.
+fn key_tangles(places: &Store, from: u64, to: u64, items: &[ItemMove], key: usize) -> bool
+    ensures { (s : Mappings) → IsShownBy s (now_in places.now.slots) → IsForest s → IsTrue result ↔ KeyTangles (IsUsed s from to items.now) s places.now.slots key }
 {
-    for index in 0..places.len() {
-        if place_tangles(places, from, to, items, places[index].0) {
+    let Some(node) = places.at(key) else {
+        return false;
+    };
+    place_tangles(places, from, to, items, node.place)
+}
+
+/// Whether the used moves contradict each other.
+pub(crate) fn has_tangle(places: &Store, from: u64, to: u64, items: &[ItemMove]) -> bool
+    ensures { (s : Mappings) → IsShownBy s (now_in places.now.slots) → IsForest s → IsTrue result ↔ IsEntangled (IsUsed s from to items.now) s }
+{
+    for key in 0..places.bound() {
+        if key_tangles(places, from, to, items, key) {
             return true;
         }
     }

@@ -1,6 +1,17 @@
-//! Unmap: what its registers say and which rights it takes away (L4 X.2 manual, Unmap). This crate holds its definitions and its
-//! refusals; no function carries it out yet.
+//! Unmap: what its registers say and which rights it takes away (L4 X.2 manual, Unmap).
 #![tactic(auto)]
+
+ghost use Rattle.std.specs.Prelude.{◌≡◌, ◌<◌, ◌≤◌, ◌∷◌, [], List, length, IsTrue, IsOk, OnOk, OnErr, IfErr};
+ghost use Rattle.l4_mapdb.specs.Mappings.{IsForest};
+ghost use Rattle.l4_fpage.specs.Fpages.{ReadsAs};
+ghost use Rattle.l4_unmap.specs.Unmap.{fpage_count, with_own, UnmapReads, UnmapFails, Unmaps};
+ghost use Rattle.l4_unmap.specs.Taking.{Takes, BlockNames};
+
+#[cfg(test)]
+mod tests;
+
+use l4_fpage::{Block, Fpage, Rights};
+use l4_mapdb::{Forest, Place};
 
 /// Why an Unmap is refused.
 #[derive(Clone, Copy, Debug, PartialEq, Eq)]
@@ -9,4 +20,103 @@ pub enum UnmapFault {
     BadFpage(u32),
     /// U2: there are fewer message registers than the control word counts.
     TooFew,
+}
+
+/// Takes away what an Unmap by a thread of the space asks for (L4 X.2 manual, Unmap). Bits 5 to 0 of the control word are k: the
+/// registers 0 to k hold fpages, and further ones mean nothing. All that descends from an fpage's pages in the space loses the rights
+/// that the fpage names, and with bit 6 of the control word (f) these pages do too. A place goes with its last right.
+///
+/// `TooFew` comes where there are not so many registers, and else `BadFpage` with the first that holds no fpage. After either, every
+/// mapping is as before. It takes no memory.
+pub fn unmap(forest: &mut Forest, space: u64, control: u32, words: &[u32]) -> Result<(), UnmapFault>
+    ensures ok { OnOk result ((fpages : List Fpage) × UnmapReads control words.now fpages × Unmaps space (with_own control) fpages forest.old forest.new) }
+    ensures err { OnErr result (forest.new ≡ forest.old) }
+    ensures fault { IfErr result (UnmapFails control words.now) }
+    ensures only { (fpages : List Fpage) → UnmapReads control words.now fpages → IsOk result }
+    ensures refused { (fault : UnmapFault) → UnmapFails control words.now fault → result ≡ Err fault }
+{
+    match test_words(control, words) {
+        Ok(()) => {
+            forest.law_forest();
+            unmap_words(forest, space, control, words);
+            Ok(())
+        }
+        Err(fault) => Err(fault),
+    }
+}
+
+/// How many registers hold fpages.
+fn register_count(control: u32) -> usize
+    ensures { result ≡ fpage_count control }
+{
+    (control & 0x3f) as usize + 1
+}
+
+/// Whether the caller's own pages are meant too.
+fn means_own(control: u32) -> bool
+    ensures { result ≡ with_own control }
+{
+    control >> 6 & 1 == 1
+}
+
+/// Why the registers are refused, if they are.
+fn test_words(control: u32, words: &[u32]) -> Result<(), UnmapFault>
+    ensures ok { OnOk result ((fpages : List Fpage) × UnmapReads control words.now fpages) }
+    ensures fault { IfErr result (UnmapFails control words.now) }
+{
+    let count = register_count(control);
+    if words.len() < count {
+        return Err(UnmapFault::TooFew);
+    }
+    for i in 0..count {
+        match Fpage::read(words[i]) {
+            Ok(_) => {}
+            Err(_) => return Err(UnmapFault::BadFpage(i as u32)),
+        }
+    }
+    Ok(())
+}
+
+/// Takes away what the registers' fpages name.
+fn unmap_words(forest: &mut Forest, space: u64, control: u32, words: &[u32])
+    requires forest { IsForest forest.old }
+    requires read { (fpages : List Fpage) × UnmapReads control words.now fpages }
+    ensures { (fpages : List Fpage) → UnmapReads control words.now fpages → Unmaps space (with_own control) fpages forest.old forest.new }
+{
+    let own = means_own(control);
+    for i in 0..register_count(control) {
+        unmap_word(forest, space, own, words[i]);
+    }
+}
+
+/// Takes away what the fpage of the word names.
+fn unmap_word(forest: &mut Forest, space: u64, own: bool, word: u32)
+    requires { IsForest forest.old }
+    ensures { (fpage : Fpage) → ReadsAs word fpage → Unmaps space own (fpage ∷ []) forest.old forest.new }
+{
+    let Ok(fpage) = Fpage::read(word) else {
+        return;
+    };
+    if let Some(block) = fpage.pages() {
+        revoke_block(forest, space, own, block, fpage.rights());
+    }
+}
+
+/// Takes the rights from all that descends from the block's pages of the space, and from these too where they are meant.
+fn revoke_block(forest: &mut Forest, space: u64, own: bool, block: Block, rights: Rights)
+    requires { IsForest forest.old }
+    ensures { Takes (BlockNames block.first block.log rights) space own forest.old forest.new }
+{
+    let end = block.first + (1 << block.log);
+    let mut from = block.first;
+    loop {
+        let Some(page) = forest.next_present(space, from) else {
+            return;
+        };
+        if page >= end {
+            return;
+        }
+        forest.revoke(Place { space, page }, rights, own);
+        from = page + 1;
+    }
 }

@@ -1,18 +1,23 @@
-use Rattle.std.proofs.Common.{◌≡◌, ◌∙◌, ap, ℕ, List, [], ◌∷◌, ◌++◌, arith}
-use Rattle.l4_mapdb.proofs.Own.{once_own, is_first}
-use Rattle.l4_mapdb.proofs.ForestEnds.{first_forest}
+use Rattle.std.proofs.Common.{◌∙◌, ap}
+use Rattle.std.specs.Ordering.{nat_cmp}
+use Rattle.std.specs.Cmp.{nat_cmp_total}
+use Rattle.std.specs.FinSet as set
+use Rattle.l4_mapdb.proofs.Kept.{kept_first, first_space}
 use Rattle.l4_mapdb.proofs.Forest.new.Goals as goal
+
+pub own_places-requires-clause-there : goal.own_places-requires-clause-there
+own_places-requires-clause-there c =
+    let space = first_space c.new-store.result c.add_space.new.self c.new-store.ensures.spaces c.in_ok-add_space.ensures.ok in
+    ap (λ (v : set.FinSet nat_cmp). set.contains v 0) space ∙ set.contains-insert nat_cmp_total set.empty 0 0
 
 pub invariant_of-result : goal.invariant_of-result
 invariant_of-result c =
-    let spaces : c.push.new.self.items ≡ 0 ∷ [] = c.in_ok-push.ensures.items ∙ ap (λ (l : List ℕ). l ++ 0 ∷ []) c.new-spaces.ensures.items in
-    record {
-      once = rw c.in_ok-places.ensures (once_own c.args.frames);
-      forest = rw (c.in_ok-places.ensures, spaces) (first_forest c.args.frames _ c.requires.fit (is_first c.args.frames));
-      room = omega (arith, c.len.ensures, c.in_ok-next.ensures.capacity);
-    }
+    let space = first_space c.new-store.result c.add_space.new.self c.new-store.ensures.spaces c.in_ok-add_space.ensures.ok in
+    let e = c.in_ok-own_places.ensures in
+    (kept_first c.args.frames c.own_places.new.places c.requires.fit e.shows e.whole e.once (e.spaces ∙ space)).1
 
 pub returns : goal.returns
 returns c =
-    let spaces : c.push.new.self.items ≡ 0 ∷ [] = c.in_ok-push.ensures.items ∙ ap (λ (l : List ℕ). l ++ 0 ∷ []) c.new-spaces.ensures.items in
-    rw (c.in_ok-places.ensures, spaces) (is_first c.args.frames)
+    let space = first_space c.new-store.result c.add_space.new.self c.new-store.ensures.spaces c.in_ok-add_space.ensures.ok in
+    let e = c.in_ok-own_places.ensures in
+    (kept_first c.args.frames c.own_places.new.places c.requires.fit e.shows e.whole e.once (e.spaces ∙ space)).0

@@ -1,10 +1,13 @@
-use Rattle.std.proofs.Common.{◌≤◌, ◌⊎◌, vec_len, vec_capacity}
-use Rattle.l4_mapdb.specs.Building.{ListsFilled, LacksPlace}
+use Rattle.std.proofs.Common.{◌≡◌, ◌<◌, ℕ}
+use Rattle.l4_mapdb.specs.Sheets.{RecordedOnce}
+use Rattle.l4_mapdb.specs.Planning.{Grows, TargetOf}
 use Rattle.l4_mapdb.proofs.building.add_item.Given as goal
 
-abbrev pub invariant-loop-at : goal.invariant-loop-at
-invariant-loop-at l = record {
-  filled : ListsFilled l.from l.to l.items l.places l.item l.at l.next.items;
-  room : vec_capacity l.fn.next ≤ vec_capacity l.next;
-  grown : (vec_len l.next ≤ vec_len l.fn.next) ⊎ LacksPlace l.from l.to l.items l.places;
+-- the targets of the item's used moves out of the places of the keys below this one have records
+abbrev pub invariant-loop-key : goal.invariant-loop-key
+invariant-loop-key l = record {
+  grows : Grows l.fn.places.slots l.places.slots;
+  done : (k : ℕ) → k < l.key → TargetOf l.from l.to l.items l.item k l.fn.places.slots l.places.slots;
+  spaces : l.places.spaces ≡ l.fn.places.spaces;
+  once : RecordedOnce l.places.slots;
 }

@@ -1,33 +1,31 @@
-use Rattle.std.proofs.Common.{sym, ap, ◌∙◌, inl, inr, refl}
-use Rattle.std.specs.FinMap.{find}
-use Rattle.std.proofs.lemmas.Result.{err_from_is_err_and}
-use Rattle.l4_mapdb.specs.Mappings.{place_cmp}
-use Rattle.l4_mapdb.specs.Building.{IsLacking}
-use Rattle.l4_mapdb.proofs.Laters.{not_some}
+use Rattle.std.proofs.Common.{sym, subst, inl, inr}
+use Rattle.std.proofs.lemmas.Result.{on_ok_weaker, on_err_weaker}
+use Rattle.l4_mapdb.specs.Sheets.{Sheet, HasRecord}
+use Rattle.l4_mapdb.specs.Shown.{page_move}
+use Rattle.l4_mapdb.proofs.Planned.{target_none, target_has, target_lacks, target_there, has_added}
 use Rattle.l4_mapdb.proofs.building.add_target.Goals as goal
 
-pub returns-in_default-clause-adds : goal.returns-in_default-clause-adds
-returns-in_default-clause-adds c = inl (refl, inr c.in_default.ensures)
+pub returns-in_default-move_out-clause-ok : goal.returns-in_default-move_out-clause-ok
+returns-in_default-move_out-clause-ok c =
+    target_none c.args.from c.args.to c.args.items.now c.args.item c.args.key c.args.places.now.slots c.args.places.now.slots c.in-Some.node (sym c.in-Some.ensures) c.in_default-move_out.ensures
 
-pub returns-in_err-push-clause-err : goal.returns-in_err-push-clause-err
-returns-in_err-push-clause-err c =
-    let p = err_from_is_err_and c.from_residual.result c.from_residual.ensures.1 in
-    let lacks : IsLacking c.args.from c.args.to c.args.items.now c.args.places.now c.args.target c.args.next.now.items = (
-      ap (find place_cmp c.args.target) (sym c.deref.ensures.value) ∙ sym c.mapping_in.ensures ∙ not_some _ (sym c.is_some.ensures ∙ c.if-is_some.false),
-      (c.in-Some.mapping, c.in-Some.ensures),
-    ) in
-    rw p.1 lacks
+pub add-requires : goal.add-requires
+add-requires c =
+    target_there c.args.from c.args.to c.args.items.now c.args.item c.args.key c.args.places.now.slots c.args.places.now.slots c.in-Some.node (sym c.in-Some.ensures)
+    (page_move c.in-Some-move_out.used) c.in-Some-move_out.ensures c.args.places.now.spaces c.requires.there
 
-pub returns-clause-adds : goal.returns-clause-adds
-returns-clause-adds c = inr (
-  c.in-Some.mapping,
-  ap (find place_cmp c.args.target) (sym c.deref.ensures.value) ∙ sym c.mapping_in.ensures ∙ not_some _ (sym c.is_some.ensures ∙ c.if-is_some.false),
-  c.in-Some.ensures,
-  c.in_ok-push.ensures.items,
-)
+pub returns-clause-ok : goal.returns-clause-ok
+returns-clause-ok c =
+    on_ok_weaker c.add.result (λ added.
+    target_has c.args.from c.args.to c.args.items.now c.args.item c.args.key c.args.places.now.slots c.add.new.self.slots c.in-Some.node (sym c.in-Some.ensures)
+    (page_move c.in-Some-move_out.used) c.in-Some-move_out.ensures
+    (has_added c.in-Some-move_out.used.target _ c.args.places.now.slots c.add.new.self.slots
+    (elim added [ inl h ↦ inl (subst (λ (x : Sheet). HasRecord x.slots c.in-Some-move_out.used.target) (sym h.1) h.0) | inr a ↦ inr a ])))
+    c.add.ensures.ok
 
-pub returns-clause-grown : goal.returns-clause-grown
-returns-clause-grown c = inr (
-  ap (find place_cmp c.args.target) (sym c.deref.ensures.value) ∙ sym c.mapping_in.ensures ∙ not_some _ (sym c.is_some.ensures ∙ c.if-is_some.false),
-  (c.in-Some.mapping, c.in-Some.ensures),
-)
+pub returns-clause-err : goal.returns-clause-err
+returns-clause-err c =
+    on_err_weaker c.add.result (λ none.
+    target_lacks c.args.from c.args.to c.args.items.now c.args.item c.args.key c.args.places.now.slots c.args.places.now.slots c.in-Some.node (sym c.in-Some.ensures)
+    (page_move c.in-Some-move_out.used) c.in-Some-move_out.ensures none.0)
+    c.add.ensures.err

@@ -1,6 +1,7 @@
-use Rattle.std.proofs.Common.{take}
-use Rattle.l4_mapdb.specs.Entries.{NoRootIn}
+use Rattle.std.proofs.Common.{ℕ, ◌<◌}
+use Rattle.l4_mapdb.specs.Planning.{NoRootKey}
 use Rattle.l4_mapdb.proofs.lists.root_in.Given as goal
 
-abbrev pub invariant-loop-place : goal.invariant-loop-place
-invariant-loop-place l = NoRootIn (take l.place-index l.places) l.frame
+-- none of the keys below this one is of a root
+abbrev pub invariant-loop-key : goal.invariant-loop-key
+invariant-loop-key l = (k : ℕ) → k < l.key → NoRootKey l.places.slots l.frame k

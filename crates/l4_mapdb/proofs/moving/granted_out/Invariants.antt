@@ -2,8 +2,9 @@ use Rattle.std.proofs.Common.{◌≢◌, ◌<◌, IsTrue}
 use Rattle.l4_mapdb.specs.Mappings.{Mappings}
 use Rattle.l4_mapdb.specs.Transfer.{PageMove, IsUsed}
 use Rattle.l4_mapdb.specs.Shown.{IsShownBy}
+use Rattle.l4_mapdb.specs.Sheets.{now_in}
 use Rattle.l4_mapdb.proofs.moving.granted_out.Given as goal
 
 -- no item below this one grants the place
 abbrev pub invariant-loop-item : goal.invariant-loop-item
-invariant-loop-item l = (s : Mappings) → IsShownBy s l.places → (u : PageMove) → IsUsed s l.from l.to l.items u → u.item < l.item → IsTrue u.grant → u.source ≢ l.place
+invariant-loop-item l = (s : Mappings) → IsShownBy s (now_in l.places.slots) → (u : PageMove) → IsUsed s l.from l.to l.items u → u.item < l.item → IsTrue u.grant → u.source ≢ l.place

@@ -1,4 +1,5 @@
 use Rattle.std.proofs.Common.{◌≡◌, arith}
+use Rattle.l4_mapdb.specs.Sheets.{now_in}
 use Rattle.l4_mapdb.proofs.Sources.{passed_all}
 use Rattle.l4_mapdb.proofs.moving.into_place.Goals as goal
 
@@ -7,4 +8,4 @@ returns-in-Some c = λ s by_list. let h = c.in-Some.ensures s by_list in (h.0, h
 
 pub returns : goal.returns
 returns c = λ s by_list.
-    passed_all s c.args.places.now c.args.from c.args.to c.args.items.now by_list (λ u. u.target ≡ c.args.place) c.loop-item.item (omega (arith, c.loop-item-test.false)) (c.loop-item.invariant s by_list)
+    passed_all s (now_in c.args.places.now.slots) c.args.from c.args.to c.args.items.now by_list (λ u. u.target ≡ c.args.place) c.loop-item.item (omega (arith, c.loop-item-test.false)) (c.loop-item.invariant s by_list)

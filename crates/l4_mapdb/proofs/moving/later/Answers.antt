@@ -5,9 +5,9 @@ use Rattle.l4_mapdb.specs.Shown.{page_move}
 use Rattle.l4_mapdb.proofs.Sources.{none_stays, granted_goes, gone_goes, stays}
 use Rattle.l4_mapdb.proofs.moving.later.Goals as goal
 
-pub returns-in_default-mapping_in : goal.returns-in_default-mapping_in
-returns-in_default-mapping_in c = λ s by_list forest.
-    none_stays (IsUsed s c.args.from c.args.to c.args.items.now) s c.args.place (c.in_default.ensures s by_list) (by_list c.args.place ∙ sym c.mapping_in.ensures ∙ c.in_default-mapping_in.is)
+pub returns-in_default-shown : goal.returns-in_default-shown
+returns-in_default-shown c = λ s by_list forest.
+    none_stays (IsUsed s c.args.from c.args.to c.args.items.now) s c.args.place (c.in_default.ensures s by_list) (by_list c.args.place ∙ sym c.shown.ensures ∙ c.in_default-shown.is)
 
 pub returns-in-Some-granted_out : goal.returns-in-Some-granted_out
 returns-in-Some-granted_out c = λ s by_list forest.
@@ -20,5 +20,5 @@ returns-then-is_gone c = λ s by_list forest.
 
 pub returns : goal.returns
 returns c = λ s by_list forest.
-    stays (IsUsed s c.args.from c.args.to c.args.items.now) s c.args.place c.in-Some-mapping_in.mapping _ (by_list c.args.place ∙ sym c.mapping_in.ensures ∙ c.in-Some-mapping_in.is)
+    stays (IsUsed s c.args.from c.args.to c.args.items.now) s c.args.place c.in-Some-shown.mapping _ (by_list c.args.place ∙ sym c.shown.ensures ∙ c.in-Some-shown.is)
     (λ g. false≢true (sym c.if-is_gone.false ∙ (c.is_gone.ensures s by_list forest).1 g)) (c.in_default-granted_out.ensures s by_list) refl refl (c.renamed.ensures s by_list)

@@ -1,5 +1,6 @@
 use Rattle.std.proofs.Common.{arith}
 use Rattle.l4_mapdb.specs.Shown.{page_move}
+use Rattle.l4_mapdb.specs.Sheets.{now_in}
 use Rattle.l4_mapdb.proofs.Rising.{so, not_so}
 use Rattle.l4_mapdb.proofs.Tangled.{not_moved_too}
 use Rattle.l4_mapdb.proofs.tangles.is_moved_too.Goals as goal
@@ -9,4 +10,4 @@ returns-in-Some c = λ s by_list. let h = c.in-Some.ensures s by_list in so (rec
 
 pub returns : goal.returns
 returns c = λ s by_list.
-    not_so (not_moved_too s c.args.places.now c.args.from c.args.to c.args.items.now by_list c.loop-other.other c.args.item c.args.place (omega (arith, c.loop-other-test.false)) (c.loop-other.invariant s by_list))
+    not_so (not_moved_too s (now_in c.args.places.now.slots) c.args.from c.args.to c.args.items.now by_list c.loop-other.other c.args.item c.args.place (omega (arith, c.loop-other-test.false)) (c.loop-other.invariant s by_list))
