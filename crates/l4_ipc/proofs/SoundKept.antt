@@ -12,7 +12,7 @@ use Rattle.l4_msg.specs.declared.items.Item.{Item}
 use Rattle.l4_mapdb.specs.Mappings.{Mappings}
 use Rattle.l4_mapdb.specs.Boot.{IsFirst}
 use Rattle.l4_threads.specs.declared.Later.{Later}
-use Rattle.l4_threads.specs.declared.Reply.TheVariants.{Controlled}
+use Rattle.l4_threads.specs.declared.Reply.TheVariants.{Unmapped, Controlled}
 use Rattle.l4_threads.specs.declared.Sending.{Sending}
 use Rattle.l4_threads.specs.declared.Source.TheVariants.{Anyone, Thread as One}
 use Rattle.l4_threads.specs.declared.State.{State}
@@ -22,7 +22,7 @@ use Rattle.l4_threads.specs.declared.ThreadId.{ThreadId}
 use Rattle.l4_threads.specs.declared.ThreadFault.{ThreadFault}
 use Rattle.l4_threads.specs.declared.ThreadFault.TheVariants.{NoPrivilege, BadId, Taken, Unknown, Full}
 use Rattle.l4_threads.specs.Threads.{Threads, pair_cmp, thread_at, space_of, named, number_of, runs, is_running, failed, with_state, nilthread, first_threads, end_call}
-use Rattle.l4_threads.specs.Control.{create_test, created, asks_new, is_privileged, is_bad_id, is_full}
+use Rattle.l4_threads.specs.Control.{create_test, created, asks_new, is_privileged, is_bad_id, is_full, with_pager}
 use Rattle.l4_ipc.specs.declared.calls.Call.{Call}
 use Rattle.l4_ipc.specs.declared.calls.Call.TheVariants.{Ipc, Fault, Unmap, Control as Controls}
 use Rattle.l4_ipc.specs.declared.calls.Control.TheVariants.{Create, SetPager, Delete}
@@ -43,7 +43,7 @@ use Rattle.l4_ipc.specs.Stages.{IsNotYet, StepsYet}
 use Rattle.l4_ipc.specs.Sound.{IsOfWords, AreSound, IsSound}
 use Rattle.l4_ipc.specs.Steps.{receiver_reply, sender_next, is_done, expiry, with_space, Steps}
 use Rattle.l4_ipc.proofs.Items.{items_of_words}
-use Rattle.l4_ipc.proofs.Threads.{put_at, state_at, same_next}
+use Rattle.l4_ipc.proofs.Threads.{put_at, state_at, same_next, pager_at, pager_next}
 
 -- THREADS
 
@@ -70,6 +70,13 @@ sound_state spaces t before n state faithful sound =
             | inr other ↦ sound.messages m was.before sends was.at (sym other.1 ∙ is)
           ];
     }
+
+sound_pager : (spaces : set.FinSet nat_cmp) (t : Threads) (n : ℕ) (pager : ThreadId) → AreSound spaces t → AreSound spaces (with_pager t n pager)
+sound_pager spaces t n pager sound = record {
+  have_spaces = λ m thread at. let was = pager_at t n pager m thread at in subst (λ (space : ℕ). IsTrue (set.contains spaces space)) (sym was.1.1.0) (sound.have_spaces m was.0 was.1.0);
+  below = λ space there. subst (λ (k : ℕ). space < k) (sym (pager_next t n pager)) (sound.below space there);
+  messages = λ m thread sends at is. let was = pager_at t n pager m thread at in sound.messages m was.0 sends was.1.0 (sym was.1.1.1 ∙ is);
+}
 
 -- and so in what comes next
 abbrev IsFaithfulNext : Next → Type 0
@@ -234,8 +241,14 @@ start_keeps old n (Ipc call) answer new sound no_later x =
     refused_keeps (record old { threads = enters old.threads n (ipc_next old.threads n call x.4.0 x.4.1) }) new x.4.4
     (sound_enters old.mappings.spaces old.threads n _ (faithful_ipc old.threads n call x.4.0 x.4.1 x.4.2.sends) sound)
 start_keeps old n (Fault call) answer new sound no_later x = absurd (no_later (running old.threads n x.0 x.1 x.2, tt))
-start_keeps old n (Unmap call) answer new sound no_later x = absurd (no_later (running old.threads n x.0 x.1 x.2, tt))
-start_keeps old n (Controls (SetPager c)) answer new sound no_later x = absurd (no_later (running old.threads n x.0 x.1 x.2, tt))
+start_keeps old n (Unmap call) answer new sound no_later x =
+    let spaces : set.FinSet nat_cmp = old.mappings.spaces in
+    let after = sound_state spaces old.threads _ n (Running (Some Unmapped)) tt sound in
+    subst (λ (v : set.FinSet nat_cmp). AreSound v new.threads) (sym x.4.4.spaces) (subst (AreSound spaces) (sym x.4.3) after)
+start_keeps old n (Controls (SetPager c)) answer new sound no_later x =
+    let t : Threads = with_pager old.threads x.4.0 c.pager in
+    refused_keeps (record old { threads = end_call t n Controlled }) new x.4.3
+    (sound_state old.mappings.spaces t _ n (Running (Some Controlled)) tt (sound_pager old.mappings.spaces old.threads x.4.0 c.pager sound))
 start_keeps old n (Controls (Delete id)) answer new sound no_later x = absurd (no_later (running old.threads n x.0 x.1 x.2, tt))
 start_keeps old n (Controls (Create c)) answer new sound no_later x =
     let space : ℕ = x.4.0 in

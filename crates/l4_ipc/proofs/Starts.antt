@@ -1,7 +1,6 @@
 -- Starts, as the machine says them.
 use Rattle.std.proofs.Common.{◌≡◌, ◌≢◌, ℕ, ◌==◌, Bool, true, false, if◌then◌else◌, not, Option, Some, None, [], ◌∷◌, Ok, MatchOption, IsTrue, IsSome, refl, sym, ap, ◌∙◌, subst, inr}
 use Rattle.std.specs.Option.{option_map_or, option_map}
-use Rattle.std.proofs.lemmas.Bool.{false≢true}
 use Rattle.l4_fpage.specs.declared.fpages.Fpage.{Fpage}
 use Rattle.l4_mapdb.specs.Mappings.{Mappings}
 use Rattle.l4_threads.specs.declared.Later.{Later}
@@ -13,7 +12,7 @@ use Rattle.l4_threads.specs.declared.State.{State}
 use Rattle.l4_threads.specs.declared.Thread.{Thread}
 use Rattle.l4_threads.specs.declared.ThreadId.{ThreadId}
 use Rattle.l4_threads.specs.Threads.{Threads, thread_at, state_of, runs, is_running, is_receiving, may_receive, named, number_of, failed, out_of_queue, end_call}
-use Rattle.l4_threads.specs.Control.{created}
+use Rattle.l4_threads.specs.Control.{created, with_pager}
 use Rattle.l4_threads.specs.Enabled.{CanExpire}
 use Rattle.l4_ipc.specs.declared.calls.Call.{Call}
 use Rattle.l4_ipc.specs.declared.calls.Call.TheVariants.{Ipc}
@@ -29,9 +28,9 @@ use Rattle.l4_ipc.specs.declared.steps.Refused.TheVariants.{UnknownThread}
 use Rattle.l4_ipc.specs.declared.steps.Step.TheVariants.{Start, Expire}
 use Rattle.l4_ipc.specs.Machine.{Machine, machine}
 use Rattle.l4_ipc.specs.Start.{IsAccepted, CallRefuses, RefusesIn, StartRefuses, ipc_next, going_on, enters, ended_by, CanEnter}
-use Rattle.l4_ipc.specs.Stages.{puts_off_ipc, StepsYet}
+use Rattle.l4_ipc.specs.Stages.{StepsYet}
 use Rattle.l4_ipc.specs.Steps.{expiry, Meets, sender_next}
-use Rattle.l4_ipc.proofs.Threads.{running_thread, put_there, has_state, state_other}
+use Rattle.l4_ipc.proofs.Threads.{running_thread, put_there, pager_there, has_state, state_other}
 
 -- the Start of a running thread is refused where its call is
 pub refuses : (m : Machine) (n : ℕ) (call : Call) (e : Refused) → IsTrue (runs m.threads n) → CallRefuses m n call e → StartRefuses m n call e
@@ -40,15 +39,15 @@ refuses m n call e h r =
     subst (λ (o : Option Thread). MatchOption (option_map (λ (x : Thread). x.state) o) (e ≡ UnknownThread) (λ state. RefusesIn (is_running state) m n call e)) (sym there.1.0)
     (subst (λ (b : Bool). RefusesIn b m n call e) (sym there.1.1) r)
 
--- a running thread's Ipc that is not put off starts
+-- a running thread's Ipc starts
 pub started : (t new : Threads) (s : Mappings) (n : ℕ) (call : IpcCall) (sent : Sent) (window : Fpage) (next : Next) (answer : Answer)
-    → IsTrue (runs t n) → IsAccepted call sent window → puts_off_ipc call ≡ false
+    → IsTrue (runs t n) → IsAccepted call sent window
     → next ≡ ipc_next t n call sent window → answer.outcome ≡ Started → answer.ended.items ≡ ended_by n next → new ≡ enters t n next
     → StepsYet (machine t s) (Start n (Ipc call)) (Ok answer) (machine new s)
-started t new s n call sent window next answer h accepted plain is outcome ended after =
+started t new s n call sent window next answer h accepted is outcome ended after =
     let there = running_thread t n h in
     inr (
-      λ y. false≢true (sym plain ∙ y.1.3),
+      λ y. y.1,
       (there.0, there.1.0, there.1.1, outcome, (sent, window, accepted, ended ∙ ap (ended_by n) is, ap (λ (v : Threads). machine v s) (after ∙ ap (enters t n) is))),
     )
 
@@ -61,12 +60,22 @@ expired t new s n state reply answer able at is outcome ended after =
     let same : state ≡ able.state = cc in
     inr (λ y. y, (able, outcome, ended, ap (λ (v : Threads). machine v s) (after ∙ ap (end_call t n) (is ∙ ap expiry same))))
 
+-- a thread that runs is there
+running_there : (t : Threads) (n : ℕ) → IsTrue (runs t n) → thread_at t n ≢ None
+running_there t n h none =
+    let there = running_thread t n h in
+    let k : ◌≡◌ {A = Option Thread} (Some there.0) None = sym there.1.0 ∙ none in
+    cc
+
 -- a thread that was there is there once another was created
 pub still_there : (t new : Threads) (id : ThreadId) (space : ℕ) (pager : ThreadId) (n : ℕ) → IsTrue (runs t n) → new ≡ created t id space pager → IsSome (state_of new n)
 still_there t new id space pager n h is =
-    let there = running_thread t n h in
-    let some : thread_at t n ≢ None = λ none. (let k : ◌≡◌ {A = Option Thread} (Some there.0) None = sym there.1.0 ∙ none in cc) in
-    has_state new n (λ none. put_there t (number_of id) _ n some (sym (ap (λ (v : Threads). thread_at v n) is) ∙ none))
+    has_state new n (λ none. put_there t (number_of id) _ n (running_there t n h) (sym (ap (λ (v : Threads). thread_at v n) is) ∙ none))
+
+-- a thread that was there is there once one got another pager
+pub still_with_pager : (t new : Threads) (other : ℕ) (pager : ThreadId) (n : ℕ) → IsTrue (runs t n) → new ≡ with_pager t other pager → IsSome (state_of new n)
+still_with_pager t new other pager n h is =
+    has_state new n (λ none. pager_there t other pager n (running_there t n h) (sym (ap (λ (v : Threads). thread_at v n) is) ∙ none))
 
 -- a thread that is there and doesn't receive can go on after it has sent
 pub can_go_on : (t threads : Threads) (n : ℕ) (later : Option Later) (fault : Bool) → IsSome (state_of t n) → IsTrue (may_receive t n) → CanEnter t n (going_on threads later fault)

@@ -1,4 +1,4 @@
--- A thread of another state, and a new thread: what stands at each number afterwards.
+-- A thread of another state or pager, and a new thread: what stands at each number afterwards.
 use Rattle.std.proofs.Common.{◌≡◌, ◌≢◌, ℕ, ◌==◌, false, cond, Option, Some, None, IsTrue, IsSome, refl, sym, ap, ◌∙◌, subst, inl, inr, ◌⊎◌}
 use Rattle.std.specs.Option.{option_map_or, option_map}
 use Rattle.std.specs.Ordering.{nat_cmp, eq_by_cmp}
@@ -8,7 +8,9 @@ use Rattle.std.proofs.lemmas.Bool.Decides.{eqb_tells}
 use Rattle.std.specs.FinMap as fin
 use Rattle.l4_threads.specs.declared.Thread.{Thread}
 use Rattle.l4_threads.specs.declared.State.{State}
+use Rattle.l4_threads.specs.declared.ThreadId.{ThreadId}
 use Rattle.l4_threads.specs.Threads.{Threads, thread_at, state_of, runs, is_running, with_state}
+use Rattle.l4_threads.specs.Control.{with_pager}
 
 -- the thread put at a number stands there, and every other where it stood
 pub put_at : (t : Threads) (n : ℕ) (put : Thread) (m : ℕ) (thread : Thread) → fin.get (fin.insert t.threads n put) m ≡ Some thread
@@ -89,6 +91,36 @@ state_other t n state m other =
 pub same_next : (t : Threads) (n : ℕ) (state : State) → (with_state t n state).next_space ≡ t.next_space
 same_next t n state =
     elim (thread_at t n) as (λ o. (option_map_or (λ x. record t { threads = fin.insert t.threads n (record x { state = state }) }) o t).next_space ≡ t.next_space) [
+      | None ↦ refl
+      | Some old ↦ refl
+    ]
+
+-- a thread that is there after one got another pager was there before, in its space and with its state
+pub pager_at : (t : Threads) (n : ℕ) (pager : ThreadId) (m : ℕ) (thread : Thread) → thread_at (with_pager t n pager) m ≡ Some thread
+    → (before : Thread) × ((thread_at t m ≡ Some before) × ((thread.space ≡ before.space) × (thread.state ≡ before.state)))
+pager_at t n pager m thread h =
+    elim (thread_at t n) as (λ o. thread_at t n ≡ o → thread_at (option_map_or (λ x. record t { threads = fin.insert t.threads n (record x { pager = pager }) }) o t) m ≡ Some thread
+    → (before : Thread) × ((thread_at t m ≡ Some before) × ((thread.space ≡ before.space) × (thread.state ≡ before.state)))) [
+      | None ↦ λ is at. (thread, (at, (refl, refl)))
+      | Some old ↦ λ is at.
+          elim (put_at t n (record old { pager = pager }) m thread at) [
+            | inl new ↦ (old, (ap (thread_at t) new.0 ∙ is, (ap (λ (x : Thread). x.space) new.1, ap (λ (x : Thread). x.state) new.1)))
+            | inr other ↦ (thread, (other.1, (refl, refl)))
+          ]
+    ] refl h
+
+-- a number that has a thread has one after one got another pager
+pub pager_there : (t : Threads) (n : ℕ) (pager : ThreadId) (m : ℕ) → thread_at t m ≢ None → thread_at (with_pager t n pager) m ≢ None
+pager_there t n pager m there =
+    elim (thread_at t n) as (λ o. thread_at (option_map_or (λ x. record t { threads = fin.insert t.threads n (record x { pager = pager }) }) o t) m ≢ None) [
+      | None ↦ there
+      | Some old ↦ put_there t n (record old { pager = pager }) m there
+    ]
+
+-- another pager changes no space number
+pub pager_next : (t : Threads) (n : ℕ) (pager : ThreadId) → (with_pager t n pager).next_space ≡ t.next_space
+pager_next t n pager =
+    elim (thread_at t n) as (λ o. (option_map_or (λ x. record t { threads = fin.insert t.threads n (record x { pager = pager }) }) o t).next_space ≡ t.next_space) [
       | None ↦ refl
       | Some old ↦ refl
     ]

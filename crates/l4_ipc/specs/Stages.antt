@@ -1,8 +1,6 @@
 -- What is put off: these calls are refused as NotYet, as one case in front of the machine's. (this profile's own)
-use Rattle.std.specs.Prelude.{◌≡◌, ◌==◌, ◌&&◌, ◌||◌, ◌⊎◌, Bool, IsTrue, Result, Err}
-use Rattle.l4_fpage.specs.declared.fpages.Fpage.{Fpage}
+use Rattle.std.specs.Prelude.{◌≡◌, ◌⊎◌, IsTrue, Result, Err}
 use Rattle.l4_threads.specs.Threads.{runs}
-use Rattle.l4_ipc.specs.declared.calls.IpcCall.{IpcCall}
 use Rattle.l4_ipc.specs.declared.calls.Call.{Call}
 use Rattle.l4_ipc.specs.declared.calls.Call.TheVariants.{Ipc, Fault, Unmap, Control as Controls}
 use Rattle.l4_ipc.specs.declared.calls.Control.TheVariants.{Create, SetPager, Delete}
@@ -11,26 +9,16 @@ use Rattle.l4_ipc.specs.declared.steps.Step.TheVariants.{Start, Transfer, Expire
 use Rattle.l4_ipc.specs.declared.steps.Answer.{Answer}
 use Rattle.l4_ipc.specs.declared.steps.Refused.{Refused}
 use Rattle.l4_ipc.specs.declared.steps.Refused.TheVariants.{NotYet}
-use Rattle.l4_ipc.specs.declared.sent.Sent.{Sent}
 use Rattle.l4_ipc.specs.Machine.{Machine}
-use Rattle.l4_ipc.specs.Start.{has_send, has_receive, send_timeout, receive_timeout, IsAccepted}
 use Rattle.l4_ipc.specs.Steps.{Steps}
 
--- a phase that the call has waits for no time
-abbrev pub has_zero_timeout : IpcCall → Bool
-has_zero_timeout call = (has_send call && (send_timeout call == 0x400)) || (has_receive call && (receive_timeout call == 0x400))
-
--- the Ipc has both phases, or a timeout of zero
-abbrev pub puts_off_ipc : IpcCall → Bool
-puts_off_ipc call = (has_send call && has_receive call) || has_zero_timeout call
-
--- the call is put off: of an Ipc the refusals for its words come first
+-- the call is put off
 abbrev pub PutsOff : Call → Type 0
-PutsOff (Ipc call) = (sent : Sent) × (window : Fpage) × IsAccepted call sent window × IsTrue (puts_off_ipc call)
+PutsOff (Ipc call) = ⊥
 PutsOff (Fault call) = Unit {0}
-PutsOff (Unmap call) = Unit {0}
+PutsOff (Unmap call) = ⊥
 PutsOff (Controls (Create c)) = ⊥
-PutsOff (Controls (SetPager c)) = Unit {0}
+PutsOff (Controls (SetPager c)) = ⊥
 PutsOff (Controls (Delete id)) = Unit {0}
 
 -- the step is the Start of a running thread whose call is put off

@@ -1,23 +1,26 @@
 //! The steps on the kernel's parts.
-ghost use Rattle.std.specs.Prelude.{◌≡◌, ◌∷◌, [], ℕ, IsTrue, OnOk, OnErr};
+ghost use Rattle.std.specs.Prelude.{◌≡◌, ◌∷◌, [], ℕ, IsTrue, IsSome, OnOk, OnErr};
 ghost use Rattle.l4_mapdb.specs.Mappings.{Mappings};
-ghost use Rattle.l4_threads.specs.Threads.{runs};
+ghost use Rattle.l4_threads.specs.Threads.{state_of, runs, end_call};
+ghost use Rattle.l4_threads.specs.declared.Reply.TheVariants.{Controlled};
 ghost use Rattle.l4_ipc.specs.Machine.{machine};
 ghost use Rattle.l4_ipc.specs.Stages.{StepsYet};
 ghost use Rattle.l4_threads.specs.Control.{asks_new};
 ghost use Rattle.l4_ipc.specs.Sound.{HaveSpaces};
 ghost use Rattle.l4_ipc.specs.Steps.{expiry, with_space};
 ghost use Rattle.l4_ipc.specs.declared.steps.Step.TheVariants.{Start, Transfer as Transfers, Expire as Expires};
-ghost use Rattle.l4_ipc.specs.declared.calls.Call.TheVariants.{Ipc, Control as Controls};
-ghost use Rattle.l4_ipc.specs.declared.calls.Control.TheVariants.{Create as Creates};
+ghost use Rattle.l4_ipc.specs.declared.steps.Outcome.TheVariants.{Started};
+ghost use Rattle.l4_ipc.specs.declared.calls.Call.TheVariants.{Ipc, Unmap as Unmaps, Control as Controls};
+ghost use Rattle.l4_ipc.specs.declared.calls.Control.TheVariants.{Create as Creates, SetPager as SetsPager};
 
-use crate::calls::{Call, Control, Create, IpcCall};
+use crate::calls::{Call, Control, Create, IpcCall, SetPager, UnmapCall};
 use crate::delivering::{deliver, is_done, meet, receiver_reply, sender_next};
-use crate::starting::{enter, failed, ipc_next, puts_off_ipc};
+use crate::starting::{enter, failed, ipc_next};
 use crate::steps::{Answer, Lower, Outcome, Refused};
 use arrayvec::ArrayVec;
 use l4_mapdb::{Forest, NoMemory};
 use l4_threads::{Reply, State, Threads};
+use l4_unmap::unmap;
 
 /// A list of one thread.
 fn only(number: u32) -> ArrayVec<u32, 64>
@@ -37,15 +40,49 @@ fn start_ipc(threads: &mut Threads, number: u32, call: &IpcCall) -> Result<Answe
         Ok(read) => read,
         Err(refused) => return Err(refused),
     };
-    if puts_off_ipc(call) {
-        return Err(Refused::NotYet);
-    }
     let next = ipc_next(threads, number, call, sent, window);
     let ended = enter(threads, number, next);
     Ok(Answer {
         outcome: Outcome::Started,
         ended,
     })
+}
+
+/// Takes rights away for a running thread.
+fn start_unmap(
+    threads: &mut Threads,
+    forest: &mut Forest,
+    number: u32,
+    call: &UnmapCall,
+) -> Result<Answer, Refused>
+    requires { IsTrue (runs threads.old number) }
+    ensures { StepsYet (machine threads.old forest.old) (Start number (Unmaps call.now)) result (machine threads.new forest.new) }
+{
+    let Some(space) = threads.space_of(number) else {
+        return Err(Refused::UnknownThread);
+    };
+    if let Err(fault) = unmap(forest, space, call.control, call.words.as_slice()) {
+        return Err(Refused::Lower(Lower::Unmap(fault)));
+    }
+    threads.end_call(number, Reply::Unmapped);
+    Ok(Answer {
+        outcome: Outcome::Started,
+        ended: only(number),
+    })
+}
+
+/// The call of a control of threads ends, and no other call.
+fn controlled(threads: &mut Threads, number: u32) -> Answer
+    requires { IsSome (state_of threads.old number) }
+    ensures threads { threads.new ≡ end_call threads.old number Controlled }
+    ensures outcome { result.outcome ≡ Started }
+    ensures ended { result.ended.items ≡ number ∷ [] }
+{
+    threads.end_call(number, Reply::Controlled);
+    Answer {
+        outcome: Outcome::Started,
+        ended: only(number),
+    }
 }
 
 /// Begins the space of a new thread, where the thread isn't put in the space of another.
@@ -79,11 +116,18 @@ fn create(
         return Err(Refused::Lower(Lower::NoMemory));
     }
     threads.create(call.id, space, call.pager);
-    threads.end_call(number, Reply::Controlled);
-    Ok(Answer {
-        outcome: Outcome::Started,
-        ended: only(number),
-    })
+    Ok(controlled(threads, number))
+}
+
+/// Gives a thread another pager for a running thread.
+fn set_pager(threads: &mut Threads, number: u32, call: &SetPager) -> Result<Answer, Refused>
+    requires { IsTrue (runs threads.old number) }
+    ensures { (s : Mappings) → StepsYet (machine threads.old s) (Start number (Controls (SetsPager call.now))) result (machine threads.new s) }
+{
+    if let Err(fault) = threads.set_pager(number, call.id, call.pager) {
+        return Err(Refused::Lower(Lower::Thread(fault)));
+    }
+    Ok(controlled(threads, number))
 }
 
 /// Starts a control of threads by a running thread.
@@ -98,6 +142,7 @@ fn start_control(
 {
     match control {
         Control::Create(call) => create(threads, forest, number, call),
+        Control::SetPager(call) => set_pager(threads, number, call),
         _ => Err(Refused::NotYet),
     }
 }
@@ -118,6 +163,7 @@ pub fn start(
     }
     match call {
         Call::Ipc(call) => start_ipc(threads, number, call),
+        Call::Unmap(call) => start_unmap(threads, forest, number, call),
         Call::Control(control) => start_control(threads, forest, number, control),
         _ => Err(Refused::NotYet),
     }

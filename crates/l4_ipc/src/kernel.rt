@@ -78,10 +78,10 @@ impl Kernel {
 
     /// Does one step, and says what it did and whose calls ended in it, or why it is refused. A refused step changes nothing.
     ///
-    /// The refusals of a Start, in this order: `UnknownThread` (K2), `Busy` (K3), `BadTimeout` (K4), and then `Lower` (K5) with the
-    /// first refusal of the message, of the window or of a Create; `NotYet` (K7) where the call is one that isn't carried out yet: an
-    /// Ipc with both phases or with a timeout of zero, and (right after K3) a Fault, an Unmap, a SetPager and a Delete; and last
-    /// `Lower(NoMemory)` of a Create in a new space. A Transfer or an Expire that is not enabled is `NotEnabled` (K1).
+    /// The refusals of a Start, in this order: `UnknownThread` (K2), `Busy` (K3), `NotYet` (K7) for a Fault and a Delete, which aren't
+    /// carried out yet, `BadTimeout` (K4), `Lower` (K5) with the first refusal of the message, of the window, of the fpages of an Unmap,
+    /// or of a Create or a SetPager, and last `Lower(NoMemory)` of a Create in a new space. A Transfer or an Expire that is not enabled
+    /// is `NotEnabled` (K1).
     pub fn step(&mut self, step: &Step) -> Result<Answer, Refused>
         // The step is one of the machine's, or is refused because it is put off.
         ensures { StepsYet self.old step.now result self.new }

@@ -35,7 +35,6 @@ pub fn copied(words: &[u32]) -> ArrayVec<u32, 64>
 
 impl IpcCall {
     ghost use Rattle.l4_ipc.specs.Start.{has_send, has_receive, send_timeout, receive_timeout, has_bad_timeout, counted_words, later_of, IsSent, IsWindow, IsAccepted, IpcRefuses};
-    ghost use Rattle.l4_ipc.specs.Stages.{has_zero_timeout};
     ghost use Rattle.l4_msg.specs.Words.{IsBadWindow};
     ghost use Rattle.l4_ipc.specs.declared.sent.Sent.{Sent as ASent};
     ghost use Rattle.l4_fpage.specs.declared.fpages.Fpage.{Fpage as AnFpage};
@@ -81,14 +80,6 @@ impl IpcCall {
     {
         (self.has_send() && !is_timeout(self.send_timeout()))
             || (self.has_receive() && !is_timeout(self.receive_timeout()))
-    }
-
-    /// Whether a phase that the call has waits for no time.
-    pub(crate) fn has_zero_timeout(&self) -> bool
-        ensures { result ≡ has_zero_timeout self.now }
-    {
-        (self.has_send() && self.send_timeout() == ZERO)
-            || (self.has_receive() && self.receive_timeout() == ZERO)
     }
 
     /// The registers of the message that the words begin with.

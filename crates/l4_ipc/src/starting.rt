@@ -2,7 +2,6 @@
 ghost use Rattle.std.specs.Prelude.{◌≡◌, ◌<◌, ◌≤◌, length};
 ghost use Rattle.l4_threads.specs.Threads.{failed};
 ghost use Rattle.l4_ipc.specs.Start.{receiving, going_on, partner, ipc_next, enters, ended_by, CanEnter};
-ghost use Rattle.l4_ipc.specs.Stages.{puts_off_ipc};
 
 use crate::calls::IpcCall;
 use crate::next::Next;
@@ -97,13 +96,6 @@ pub fn ipc_next(threads: &Threads, number: u32, call: &IpcCall, sent: Sent, wind
         }),
         None => Next::Ends(failed(false, 4)),
     }
-}
-
-/// Whether an Ipc is put off.
-pub fn puts_off_ipc(call: &IpcCall) -> bool
-    ensures { result ≡ puts_off_ipc call.now }
-{
-    (call.has_send() && call.has_receive()) || call.has_zero_timeout()
 }
 
 /// The thread does this next. The list holds the thread if its call ended.

@@ -9,6 +9,7 @@ use l4_fpage::Rights;
 use l4_mapdb::{Mapping, Place};
 use l4_msg::MsgFault;
 use l4_threads::{Reply, ThreadFault, ThreadId};
+use l4_unmap::UnmapFault;
 use std::alloc::Global;
 use std::test::Fail;
 
@@ -65,6 +66,17 @@ fn receive(number: u32, from: ThreadId, acceptor: u32) -> Step {
     ipc(number, NOBODY, from, 0, acceptor, &[])
 }
 
+/// An Unmap.
+fn unmap(number: u32, control: u32, words: &[u32]) -> Step
+    requires { length words.now ≤ 64 }
+{
+    let call = UnmapCall {
+        control,
+        words: copied(words),
+    };
+    Step::Start(number, Call::Unmap(call))
+}
+
 /// A control of threads.
 fn control(number: u32, control: Control) -> Step {
     Step::Start(number, Call::Control(control))
@@ -80,6 +92,11 @@ fn create(number: u32, id: ThreadId, space: ThreadId) -> Step {
             pager: NOBODY,
         }),
     )
+}
+
+/// Another pager for a thread.
+fn set_pager(number: u32, id: ThreadId, pager: ThreadId) -> Step {
+    control(number, Control::SetPager(SetPager { id, pager }))
 }
 
 /// A kernel in which root created thread 3, and that thread waits for anybody's message.
@@ -211,6 +228,71 @@ fn partners_that_are_missing(rt: HostRuntime) -> Result<(), Fail> {
     Ok(())
 }
 
+#[test]
+fn a_call_that_is_answered(rt: HostRuntime) -> Result<(), Fail> {
+    let mut kernel = waiting(rt.alloc(), COMPLETE)?;
+    let answer = kernel.step(&ipc(2, THIRD, THIRD, 0, 0, &[0x1, 7]))?;
+    assert_eq!(rt; answer.outcome, Outcome::Started);
+    assert!(rt; answer.ended.is_empty());
+    let answer = kernel.step(&Step::Transfer(2, 3))?;
+    assert_eq!(rt; answer.outcome, Outcome::Done);
+    assert_eq!(rt; answer.ended.as_slice(), [3].as_slice());
+    assert!(rt; replied(&kernel, 3, 0x1, 0, ROOT, &[7]));
+    assert!(rt; kernel.reply(2).is_none());
+    // The receive phase takes no other thread's message.
+    kernel.step(&send(1, ROOT, &[0x1, 9]))?;
+    assert!(rt; kernel.enabled().is_none());
+    kernel.step(&send(3, ROOT, &[0x1, 8]))?;
+    assert!(rt; matches!(kernel.enabled(), Some(Step::Transfer(3, 2))));
+    let answer = kernel.step(&Step::Transfer(3, 2))?;
+    assert_eq!(rt; answer.ended.as_slice(), [3, 2].as_slice());
+    assert!(rt; replied(&kernel, 2, 0x1, 0, THIRD, &[8]));
+    assert!(rt; replied(&kernel, 3, 0, 0, NOBODY, &[]));
+    Ok(())
+}
+
+/// The wait of a thread with a timeout of zero is the step that comes next, and ends with this ErrorCode.
+fn expires(kernel: &mut Kernel, number: u32, error: u32) -> Result<bool, Refused> {
+    if !matches!(kernel.enabled(), Some(Step::Expire(next)) if next == number) {
+        return Ok(false);
+    }
+    let answer = kernel.step(&Step::Expire(number))?;
+    Ok(
+        answer.outcome == Outcome::Expired
+            && answer.ended.as_slice() == [number].as_slice()
+            && replied(kernel, number, 0x8000, error, NOBODY, &[]),
+    )
+}
+
+#[test]
+fn waits_that_expire(rt: HostRuntime) -> Result<(), Fail> {
+    let mut kernel = waiting(rt.alloc(), COMPLETE)?;
+    let answer = kernel.step(&ipc(2, NOBODY, ANYBODY, 0x0400, 0, &[]))?;
+    assert!(rt; answer.ended.is_empty());
+    assert!(rt; expires(&mut kernel, 2, 3)?);
+    let answer = kernel.step(&ipc(2, SIGMA0, NOBODY, 0x0400_0000, 0, &[0]))?;
+    assert!(rt; answer.ended.is_empty());
+    assert!(rt; expires(&mut kernel, 2, 2)?);
+    Ok(())
+}
+
+#[test]
+fn a_wait_that_expires_after_its_send(rt: HostRuntime) -> Result<(), Fail> {
+    let mut kernel = waiting(rt.alloc(), COMPLETE)?;
+    kernel.step(&ipc(2, THIRD, ANYBODY, 0x0400_0400, 0, &[0x1, 7]))?;
+    // A send that can be taken doesn't expire.
+    assert_eq!(rt;
+        kernel.step(&Step::Expire(2)).err(),
+        Some(Refused::NotEnabled)
+    );
+    assert!(rt; matches!(kernel.enabled(), Some(Step::Transfer(2, 3))));
+    kernel.step(&Step::Transfer(2, 3))?;
+    assert!(rt; replied(&kernel, 3, 0x1, 0, ROOT, &[7]));
+    assert!(rt; expires(&mut kernel, 2, 3)?);
+    assert!(rt; kernel.enabled().is_none());
+    Ok(())
+}
+
 /// Whether the kernel is as `waiting` made it, as far as it shows.
 fn is_untouched(kernel: &Kernel) -> bool {
     kernel.enabled().is_none()
@@ -228,6 +310,7 @@ fn refusals(rt: HostRuntime) -> Result<(), Fail> {
     let mut kernel = waiting(rt.alloc(), COMPLETE)?;
     let message = |fault| Refused::Lower(Lower::Message(fault));
     let thread = |fault| Refused::Lower(Lower::Thread(fault));
+    let unmapping = |fault| Refused::Lower(Lower::Unmap(fault));
     let cases = [
         (Step::Transfer(1, 3), Refused::NotEnabled),
         (Step::Expire(3), Refused::NotEnabled),
@@ -258,7 +341,18 @@ fn refusals(rt: HostRuntime) -> Result<(), Fail> {
             create(2, FOURTH, ThreadId(0x4002)),
             thread(ThreadFault::Unknown),
         ),
-        // The call is put off, and has another refusal, which comes first.
+        (set_pager(1, THIRD, ROOT), thread(ThreadFault::NoPrivilege)),
+        (set_pager(2, FOURTH, ROOT), thread(ThreadFault::Unknown)),
+        (
+            set_pager(2, ThreadId(3 * 16384 + 2), ROOT),
+            thread(ThreadFault::Unknown),
+        ),
+        (unmap(2, 0x40, &[]), unmapping(UnmapFault::TooFew)),
+        (unmap(2, 1, &[0x17]), unmapping(UnmapFault::TooFew)),
+        (unmap(2, 0, &[0x1020]), unmapping(UnmapFault::BadFpage(0))),
+        (unmap(9, 0, &[]), Refused::UnknownThread),
+        (unmap(3, 0, &[]), Refused::Busy),
+        // Of both phases, each is read.
         (
             ipc(2, THIRD, ANYBODY, 0, 0x20, &[0]),
             message(MsgFault::BadWindow),
@@ -283,22 +377,9 @@ fn calls_that_are_put_off(rt: HostRuntime) -> Result<(), Fail> {
         ip: 0,
         access: Rights::all(),
     };
-    let unmap = UnmapCall {
-        control: 0,
-        words: copied(&[0x17]),
-    };
-    let pager = SetPager {
-        id: THIRD,
-        pager: ROOT,
-    };
     let steps = [
         Step::Start(2, Call::Fault(fault)),
-        Step::Start(2, Call::Unmap(unmap)),
-        control(2, Control::SetPager(pager)),
         control(2, Control::Delete(THIRD)),
-        ipc(2, THIRD, ANYBODY, 0, 0, &[0]),
-        ipc(2, THIRD, NOBODY, 0x0400_0000, 0, &[0]),
-        ipc(2, NOBODY, ANYBODY, 0x0400, 0, &[]),
     ];
     for (index, step) in steps.iter().enumerate() {
         assert_eq!(rt;
@@ -408,6 +489,58 @@ fn two_items_for_one_page(rt: HostRuntime) -> Result<(), Fail> {
     let first_nil = [0x100, 0x9, 0, 0x9008, 0x50c7];
     assert_eq!(rt; deliver(&mut kernel, 3, FOURTH, &first_nil)?, Outcome::Done);
     assert_eq!(rt; kernel.mapping(3, 9), mapped(5, 7, 2, 5));
+    Ok(())
+}
+
+#[test]
+fn an_unmap(rt: HostRuntime) -> Result<(), Fail> {
+    let mut kernel = with_page(rt.alloc())?;
+    deliver(&mut kernel, 3, FOURTH, &[0x80, 0x9008, 0x50c7])?;
+    let answer = kernel.step(&unmap(3, 0, &[0x50c2]))?;
+    assert_eq!(rt; answer.outcome, Outcome::Started);
+    assert_eq!(rt; answer.ended.as_slice(), [3].as_slice());
+    assert!(rt; matches!(kernel.reply(3), Some(Reply::Unmapped)));
+    assert_eq!(rt; kernel.mapping(2, 5), mapped(5, 7, 0, 5));
+    assert_eq!(rt; kernel.mapping(3, 9), mapped(5, 5, 2, 5));
+    kernel.step(&unmap(3, 0x40, &[0x50c7]))?;
+    assert_eq!(rt; kernel.next_page(2, 0), None);
+    assert_eq!(rt; kernel.next_page(3, 0), None);
+    assert_eq!(rt; kernel.next_page(0, 5), Some(5));
+    Ok(())
+}
+
+#[test]
+fn an_unmap_that_is_refused(rt: HostRuntime) -> Result<(), Fail> {
+    let mut kernel = with_page(rt.alloc())?;
+    let cases = [
+        (unmap(3, 0x41, &[0x50c7]), UnmapFault::TooFew),
+        (unmap(3, 0x41, &[0x50c7, 0x1020]), UnmapFault::BadFpage(1)),
+    ];
+    for (step, want) in &cases {
+        assert_eq!(rt;
+            kernel.step(step).err(),
+            Some(Refused::Lower(Lower::Unmap(*want)))
+        );
+        assert_eq!(rt; kernel.mapping(2, 5), mapped(5, 7, 0, 5));
+        assert!(rt; matches!(kernel.reply(3), Some(Reply::Ipc(_))));
+    }
+    Ok(())
+}
+
+#[test]
+fn another_pager(rt: HostRuntime) -> Result<(), Fail> {
+    let mut kernel = waiting(rt.alloc(), COMPLETE)?;
+    for id in [THIRD, ROOT, SIGMA0] {
+        kernel.step(&receive(2, FOURTH, 0))?;
+        assert!(rt; replied(&kernel, 2, 0x8000, 5, NOBODY, &[]));
+        let answer = kernel.step(&set_pager(2, id, FOURTH))?;
+        assert_eq!(rt; answer.outcome, Outcome::Started);
+        assert_eq!(rt; answer.ended.as_slice(), [2].as_slice());
+        assert!(rt; matches!(kernel.reply(2), Some(Reply::Controlled)));
+    }
+    kernel.step(&send(2, THIRD, &[0x1, 7]))?;
+    kernel.step(&Step::Transfer(2, 3))?;
+    assert!(rt; replied(&kernel, 3, 0x1, 0, ROOT, &[7]));
     Ok(())
 }
 
