@@ -89,8 +89,8 @@ fn plan(places: &mut Store, from: u64, to: u64, items: &[ItemMove])
 {
     for key in 0..places.bound() {
         if let Some(node) = places.at(key) {
-            let mapping = later(places, from, to, items, node.place);
-            places.plan(key, mapping);
+            let becomes = later(places, from, to, items, node.place);
+            places.plan(key, becomes);
         }
     }
 }

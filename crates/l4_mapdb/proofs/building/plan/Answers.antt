@@ -11,8 +11,8 @@ pub loop-key-preserved : goal.loop-key-preserved
 loop-key-preserved c = elim c.match-at.branch [
   | in-Some w ↦
       subst (λ (x : Sheet). PlannedSoFar c.args.from c.args.to c.args.items.now c.args.places.now (c.loop-key.key + 1) x) (sym w.places-is)
-      (planned_some c.args.from c.args.to c.args.items.now c.args.places.now c.loop-key.key c.loop-key.places c.loop-key.invariant w.later-mapping.result w.plan.new.self w.in-Some.node
-      (sym w.in-Some.ensures) w.plan.ensures.plans w.plan.ensures.spaces w.plan.ensures.once w.later-mapping.ensures)
+      (planned_some c.args.from c.args.to c.args.items.now c.args.places.now c.loop-key.key c.loop-key.places c.loop-key.invariant w.later-becomes.result w.plan.new.self w.in-Some.node
+      (sym w.in-Some.ensures) w.plan.ensures.plans w.plan.ensures.spaces w.plan.ensures.once w.later-becomes.ensures)
   | in_default w ↦
       subst (λ (x : Sheet). PlannedSoFar c.args.from c.args.to c.args.items.now c.args.places.now (c.loop-key.key + 1) x) (sym w.places-is)
       (planned_none c.args.from c.args.to c.args.items.now c.args.places.now c.loop-key.key c.loop-key.places c.loop-key.invariant (sym w.in_default.ensures))
