@@ -16,6 +16,7 @@ pub mod Climbing
 pub mod Middle
 pub mod Planned
 pub mod Kept
+pub mod Ended
 pub mod Cuts
 pub mod Initial
 pub mod Delivered

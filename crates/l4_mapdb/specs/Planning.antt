@@ -1,4 +1,4 @@
--- What the code says of the records while a message is delivered or rights are lost.
+-- What the code says of the records while a message is delivered, rights are lost or a space ends.
 use Rattle.std.specs.Prelude.{◌≡◌, ℕ, ◌<◌, ◌⊎◌, ◌↔◌, List, Option, Some, None, IsTrue, MatchOption}
 use Rattle.std.specs.FinMap.{find}
 use Rattle.std.specs.FinSet as set
@@ -7,8 +7,8 @@ use Rattle.l4_mapdb.specs.declared.Place.{Place}
 use Rattle.l4_mapdb.specs.declared.Mapping.{Mapping}
 use Rattle.l4_mapdb.specs.declared.ItemMove.{ItemMove}
 use Rattle.l4_mapdb.specs.declared.store.Node.{Node}
-use Rattle.l4_mapdb.specs.Mappings.{place_cmp, Mappings, IsForest}
-use Rattle.l4_mapdb.specs.Entries.{IsCutEntry}
+use Rattle.l4_mapdb.specs.Mappings.{place_cmp, Mappings, Chain, IsForest}
+use Rattle.l4_mapdb.specs.Entries.{Entries, parent_in, IsCutEntry}
 use Rattle.l4_mapdb.specs.Transfer.{PageMove, IsUsed, IsEntangled, Becomes, NeedsPlace}
 use Rattle.l4_mapdb.specs.Shown.{IsShownBy}
 use Rattle.l4_mapdb.specs.Sheets.{slot_at, StandsUnder, HasRecord, now_in}
@@ -76,6 +76,15 @@ IsCutMapping Covered rights place (Some m) new = (later : Mapping) × (new ≡ S
 abbrev pub CutsSlot : (Place → Type 0) → RightsSet → Option Node → Option Node → Type 0
 CutsSlot Covered rights None new = new ≡ None
 CutsSlot Covered rights (Some n) new = (later : Option Mapping) × (new ≡ Some (record n { later = later })) × IsCutMapping Covered rights n.place n.shows later
+
+-- the place is of the space or descends from a place of it
+abbrev pub GoesIn : Entries → ℕ → Place → Type 0
+GoesIn es space place = (own : Place) × (own.space ≡ space) × ((place ≡ own) ⊎ Chain (parent_in es) place own)
+
+-- the record is to show what it shows, or nothing if its place goes
+abbrev pub EndsSlot : (Place → Type 0) → Option Node → Option Node → Type 0
+EndsSlot Goes None new = new ≡ None
+EndsSlot Goes (Some n) new = (later : Option Mapping) × (new ≡ Some (record n { later = later })) × (Goes n.place → later ≡ None) × (¬ (Goes n.place) → later ≡ n.shows)
 
 -- the mappings are a forest, the receiver's space is there, and the message is not entangled
 pub record IsReady (s : Mappings) (from to : ℕ) (items : List ItemMove) : Type 0 where

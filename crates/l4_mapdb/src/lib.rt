@@ -6,6 +6,7 @@ ghost use Rattle.std.specs.Prelude.{◌≡◌, ◌↔◌, ◌≢◌, ◌≤◌, 
 ghost use Rattle.std.specs.FinSet as set;
 
 mod building;
+mod ending;
 mod lists;
 mod losing;
 mod moving;
@@ -109,7 +110,7 @@ impl Forest {
     ghost use Rattle.l4_mapdb.specs.Places.{NonePresentFrom, IsNextPresent};
     ghost use Rattle.l4_mapdb.specs.Transfer.{IsUsed, IsEntangled, TargetsPresent, Delivers};
     ghost use Rattle.l4_mapdb.specs.Causes.{HasCause};
-    ghost use Rattle.l4_mapdb.specs.Losing.{Revokes};
+    ghost use Rattle.l4_mapdb.specs.Losing.{Revokes, EndsSpace};
 
     /// The mappings at the start: space 0 shows each frame below `frames` at the page of its number
     /// with all rights, and there is no other space. `frames` is from 1 to 4,096.
@@ -200,6 +201,16 @@ impl Forest {
     {
         losing::cut(&mut self.store, from, rights, with_self);
         self.store.settle();
+    }
+
+    /// Ends a space: its places go with all that descends from them, and the space is there no longer. Nothing changes if it isn't there.
+    pub fn end_space(&mut self, space: u64)
+        ensures ends { EndsSpace space self.old self.new }
+        ensures absent { ¬ (IsTrue (set.contains self.old.spaces space)) → self.new ≡ self.old }
+    {
+        ending::clear(&mut self.store, space);
+        self.store.settle();
+        self.store.end_space(space);
     }
 
     /// The place without a parent that shows the frame, None if there is none.

@@ -66,6 +66,14 @@ impl Store {
         self.pages.add(space)
     }
 
+    /// Ends a space that no record is of. Nothing changes if it isn't there.
+    pub fn end_space(&mut self, space: u64)
+        requires { NoPageFrom self.old.slots space 0 }
+        ensures { self.new ≡ record self.old { spaces = set.remove self.old.spaces space } }
+    {
+        self.pages.remove(space);
+    }
+
     /// A number that all keys lie below.
     pub fn bound(&self) -> usize
         ensures { length self.now.slots ≤ result }

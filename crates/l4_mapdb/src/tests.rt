@@ -78,3 +78,40 @@ fn revokes_and_tangles(rt: HostRuntime) -> Result<(), Fail> {
     assert_eq!(rt; forest.at(0, 5), None);
     Ok(())
 }
+
+#[test]
+fn ends_a_space(rt: HostRuntime) -> Result<(), Fail> {
+    let mut forest = Forest::new(rt.alloc(), 256)?;
+    forest.new_space(2)?;
+    forest.new_space(3)?;
+    let page = [ItemMove {
+        mv: Move {
+            source: Block { first: 5, log: 0 },
+            target: Block { first: 5, log: 0 },
+        },
+        rights: Rights::all(),
+        grant: false,
+    }];
+    match forest.map_all(0, 2, &page) {
+        Ok(()) => {}
+        Err(_) => return Err(NoMemory.into()),
+    }
+    match forest.map_all(2, 3, &page) {
+        Ok(()) => {}
+        Err(_) => return Err(NoMemory.into()),
+    }
+    assert_eq!(rt; forest.next_present(2, 0), Some(5));
+    assert_eq!(rt; forest.next_present(3, 0), Some(5));
+    forest.end_space(2);
+    let shown = Mapping {
+        frame: 5,
+        rights: Rights::all(),
+        parent: None,
+    };
+    assert_eq!(rt; forest.at(0, 5), Some(shown));
+    assert_eq!(rt; forest.at(2, 5), None);
+    assert_eq!(rt; forest.at(3, 5), None);
+    assert_eq!(rt; forest.next_present(2, 0), None);
+    assert_eq!(rt; forest.next_present(3, 0), None);
+    Ok(())
+}

@@ -6,7 +6,7 @@ use Rattle.l4_shell.specs.declared.commands.Partner.TheVariants.{Nil, Any, Threa
 use Rattle.l4_shell.specs.declared.commands.NewSpace.{NewSpace}
 use Rattle.l4_shell.specs.declared.commands.NewSpace.TheVariants.{New, Of}
 use Rattle.l4_shell.specs.declared.commands.Command.{Command}
-use Rattle.l4_shell.specs.declared.commands.Command.TheVariants.{Thread, Receive, Send, Show, Parent}
+use Rattle.l4_shell.specs.declared.commands.Command.TheVariants.{Thread, SetPager, Receive, Send, Ipc, Unmap, Show, Parent}
 use Rattle.l4_shell.specs.declared.commands.ScriptFault.{ScriptFault}
 use Rattle.l4_shell.specs.declared.commands.ScriptFault.TheVariants.{UnknownCommand, BadTokens}
 use Rattle.l4_text.specs.Numbers.{below, number_of}
@@ -59,6 +59,14 @@ thread_asked tokens = do
   pager ← nil_or_thread_of three.1.1
   Some (Thread number space pager)
 
+-- N PAGER
+unfoldable pub set_pager_asked : List (List ℕ) → Option Command
+set_pager_asked tokens = do
+  two ← two_of tokens
+  number ← thread_of two.0
+  pager ← nil_or_thread_of two.1
+  Some (SetPager number pager)
+
 -- N FROM WINDOW
 unfoldable pub receive_asked : List (List ℕ) → Option Command
 receive_asked tokens = do
@@ -104,13 +112,42 @@ send_asked (number ∷ to ∷ tokens) = do
   words ← words_of tokens
   Some (Send n partner words)
 
+-- N TO FROM TIMEOUTS WINDOW WORD..
+abbrev pub ipc_asked : List (List ℕ) → Option Command
+ipc_asked [] = None
+ipc_asked (number ∷ []) = None
+ipc_asked (number ∷ to ∷ []) = None
+ipc_asked (number ∷ to ∷ «from» ∷ []) = None
+ipc_asked (number ∷ to ∷ «from» ∷ timeouts ∷ []) = None
+ipc_asked (number ∷ to ∷ «from» ∷ timeouts ∷ window ∷ tokens) = do
+  n ← thread_of number
+  receiver ← partner_of to
+  sender ← partner_of «from»
+  t ← number_of timeouts
+  w ← number_of window
+  words ← words_of tokens
+  Some (Ipc n receiver sender t w words)
+
+-- N CONTROL WORD..
+abbrev pub unmap_asked : List (List ℕ) → Option Command
+unmap_asked [] = None
+unmap_asked (number ∷ []) = None
+unmap_asked (number ∷ control ∷ tokens) = do
+  n ← thread_of number
+  c ← number_of control
+  words ← words_of tokens
+  Some (Unmap n c words)
+
 -- what the tokens of a line that has some ask for, or why they can't be read
 unfoldable pub command_of : List (List ℕ) → Result Command ScriptFault
 command_of [] = Err UnknownCommand
 command_of (name ∷ tokens) =
     if is_word (codes "thread") name then ok_or (thread_asked tokens) BadTokens
+    else (if is_word (codes "setpager") name then ok_or (set_pager_asked tokens) BadTokens
     else (if is_word (codes "recv") name then ok_or (receive_asked tokens) BadTokens
     else (if is_word (codes "send") name then ok_or (send_asked tokens) BadTokens
+    else (if is_word (codes "ipc") name then ok_or (ipc_asked tokens) BadTokens
+    else (if is_word (codes "unmap") name then ok_or (unmap_asked tokens) BadTokens
     else (if is_word (codes "show") name then ok_or (show_asked tokens) BadTokens
     else (if is_word (codes "parent") name then ok_or (parent_asked tokens) BadTokens
-    else Err UnknownCommand))))
+    else Err UnknownCommand)))))))

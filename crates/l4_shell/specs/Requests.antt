@@ -3,13 +3,16 @@ use Rattle.std.specs.Prelude.{ℕ, ◌+◌, ◌*◌, ◌%◌, ◌^◌, ◌==◌,
 use Rattle.l4_threads.specs.declared.ThreadId.{ThreadId}
 use Rattle.l4_threads.specs.Threads.{nilthread, anythread}
 use Rattle.l4_ipc.specs.declared.calls.Call.{Call}
-use Rattle.l4_ipc.specs.declared.calls.Call.TheVariants.{Ipc, Control as Controls}
-use Rattle.l4_ipc.specs.declared.calls.Control.TheVariants.{Create}
+use Rattle.l4_ipc.specs.declared.calls.Call.TheVariants.{Ipc as Exchanges, Unmap as Unmaps, Control as Controls}
+use Rattle.l4_ipc.specs.declared.calls.Control.TheVariants.{Create, SetPager as ChangePager}
 use Rattle.l4_shell.specs.declared.commands.Partner.{Partner}
 use Rattle.l4_shell.specs.declared.commands.Partner.TheVariants.{Nil, Any, Thread as One}
 use Rattle.l4_shell.specs.declared.commands.NewSpace.{NewSpace}
 use Rattle.l4_shell.specs.declared.commands.NewSpace.TheVariants.{New, Of}
 use Rattle.l4_shell.specs.declared.commands.Command.{Command}
+use Rattle.l4_shell.specs.declared.commands.Command.TheVariants.{Thread, SetPager, Receive, Send, Ipc, Unmap, Show, Parent}
+use Rattle.l4_shell.specs.declared.requests.Request.{Request}
+use Rattle.l4_shell.specs.declared.requests.Request.TheVariants.{Enter, ListPages, TellParent}
 use Rattle.l4_shell.specs.declared.commands.ScriptFault.{ScriptFault}
 use Rattle.l4_shell.specs.declared.commands.ScriptFault.TheVariants.{LineTooLong, CutLine}
 use Rattle.l4_text.specs.declared.lines.Ending.{Ending}
@@ -39,15 +42,37 @@ abbrev pub create_call : ℕ → NewSpace → Partner → Call
 create_call number space pager =
     Controls (Create (record { id = script_id number; space = space_id number space; pager = partner_id pager }))
 
+-- `setpager`: a thread's pager is changed
+abbrev pub set_pager_call : ℕ → Partner → Call
+set_pager_call number pager = Controls (ChangePager (record { id = script_id number; pager = partner_id pager }))
+
+-- `ipc`: both partners, the timeouts, the receive window and the message registers from MR0 on
+abbrev pub ipc_call : Partner → Partner → ℕ → ℕ → List ℕ → Call
+ipc_call to «from» timeouts window words =
+    Exchanges (record { to = partner_id to; «from» = partner_id «from»; timeouts = timeouts; acceptor = window; words = record { items = words } })
+
 -- `recv`: a receive phase alone, which waits for ever
 abbrev pub receive_call : Partner → ℕ → Call
-receive_call partner window =
-    Ipc (record { to = nilthread; «from» = partner_id partner; timeouts = 0; acceptor = window; words = record { items = [] } })
+receive_call partner window = ipc_call Nil partner 0 window []
 
 -- `send`: a send phase alone, which waits for ever
 abbrev pub send_call : Partner → List ℕ → Call
-send_call partner words =
-    Ipc (record { to = partner_id partner; «from» = nilthread; timeouts = 0; acceptor = 0; words = record { items = words } })
+send_call partner words = ipc_call partner Nil 0 0 words
+
+-- `unmap`: the control word, and the message registers from MR0 on
+abbrev pub unmap_call : ℕ → List ℕ → Call
+unmap_call control words = Unmaps (record { control = control; words = record { items = words } })
+
+-- what a command comes to; thread 2 is root, which creates threads and names their pagers
+abbrev pub request_of : Command → Request
+request_of (Thread number space pager) = Enter 2 (create_call number space pager)
+request_of (SetPager number pager) = Enter 2 (set_pager_call number pager)
+request_of (Receive number partner window) = Enter number (receive_call partner window)
+request_of (Send number partner words) = Enter number (send_call partner words)
+request_of (Ipc number to «from» timeouts window words) = Enter number (ipc_call to «from» timeouts window words)
+request_of (Unmap number control words) = Enter number (unmap_call control words)
+request_of (Show number first count) = ListPages number first count
+request_of (Parent number page) = TellParent number page
 
 -- WHAT A LINE ASKS FOR
 

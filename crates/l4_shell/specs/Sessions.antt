@@ -17,12 +17,13 @@ use Rattle.l4_ipc.specs.Reading.{reply_of}
 use Rattle.l4_ipc.specs.Stages.{StepsYet}
 use Rattle.l4_ipc.specs.Steps.{IsNext, IsIdle}
 use Rattle.l4_shell.specs.declared.commands.Command.{Command}
-use Rattle.l4_shell.specs.declared.commands.Command.TheVariants.{Thread, Receive, Send, Show, Parent}
 use Rattle.l4_shell.specs.declared.commands.ScriptFault.{ScriptFault}
+use Rattle.l4_shell.specs.declared.requests.Request.{Request}
+use Rattle.l4_shell.specs.declared.requests.Request.TheVariants.{Enter, ListPages, TellParent}
 use Rattle.l4_shell.specs.Answers.{transfer_text, expire_text, reply_text, waits_text, page_text, shown_text, parent_text, kernel_refusal, script_refusal, refused_text}
 use Rattle.l4_shell.specs.Lines.{ScriptLine}
 use Rattle.l4_text.specs.Streams.{Tells}
-use Rattle.l4_shell.specs.Requests.{create_call, receive_call, send_call, asked_of}
+use Rattle.l4_shell.specs.Requests.{request_of, asked_of}
 
 -- STEPS
 
@@ -136,18 +137,16 @@ parent_answer m line thread page =
 
 -- LINES
 
--- thread 2 is root, which creates threads
-abbrev pub CarriesOut : Machine → ℕ → Command → List ℕ → Machine → Type 0
-CarriesOut old line (Thread number space pager) text new = Enters old line 2 (create_call number space pager) text new
-CarriesOut old line (Receive number partner window) text new = Enters old line number (receive_call partner window) text new
-CarriesOut old line (Send number partner words) text new = Enters old line number (send_call partner words) text new
-CarriesOut old line (Show number first count) text new = Shows old line number first count text × (new ≡ old)
-CarriesOut old line (Parent number page) text new = (text ≡ parent_answer old line number page) × (new ≡ old)
+-- a line's request was carried out, and the text is what was told of it
+abbrev pub CarriesOut : Machine → ℕ → Request → List ℕ → Machine → Type 0
+CarriesOut old line (Enter thread call) text new = Enters old line thread call text new
+CarriesOut old line (ListPages thread first count) text new = Shows old line thread first count text × (new ≡ old)
+CarriesOut old line (TellParent thread page) text new = (text ≡ parent_answer old line thread page) × (new ≡ old)
 
 -- the answer to a line of this number that asks for this
 abbrev pub AnswersLine : Machine → ℕ → Result (Option Command) ScriptFault → List ℕ → Machine → Type 0
 AnswersLine old line (Ok None) text new = (text ≡ []) × (new ≡ old)
-AnswersLine old line (Ok (Some command)) text new = CarriesOut old line command text new
+AnswersLine old line (Ok (Some command)) text new = CarriesOut old line (request_of command) text new
 AnswersLine old line (Err fault) text new = (text ≡ refused_text line (script_refusal fault)) × (new ≡ old)
 
 -- the answers to lines, of which the first has this number, one after another

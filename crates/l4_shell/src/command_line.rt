@@ -69,10 +69,20 @@ are skipped.
 
   thread N SPACE PAGER   root creates thread N, in a new space (SPACE is new) or
                          in the space of a thread; PAGER is a thread or nil
+  setpager N PAGER       root changes the pager of thread N
   recv N FROM WINDOW     N receives from a thread, from any, or from nil (which
                          receives nothing); WINDOW is the word of an fpage: 0
                          takes no pages, 0x10 takes pages anywhere
   send N TO WORD..       N sends these words, the tag first, to a thread
+  ipc N TO FROM TIMEOUTS WINDOW WORD..
+                         N sends these words, unless TO is nil, and then
+                         receives, unless FROM is nil; TIMEOUTS has the send
+                         timeout in bits 31 to 16 and the receive timeout in
+                         bits 15 to 0, where 0 is never and 0x400 is zero
+  unmap N CONTROL WORD.. N takes rights from the pages that were mapped from its
+                         own; the words are fpages with the rights to take, one
+                         more of them than bits 5 to 0 of CONTROL say, and bit 6
+                         means N's own pages too
   show N FIRST COUNT     lists the present pages of N's space among the COUNT
                          pages from FIRST on
   parent N PAGE          the space and page that a page of N's space was mapped
@@ -81,8 +91,11 @@ are skipped.
 N is a thread's number, below 262144. Thread 1 is sigma0, which holds frame i at
 page i; thread 2 is root. Numbers are decimal, or hexadecimal after 0x.
 
-  N ipc TAG ERROR FROM WORD..      a call of N ended
+  N ipc TAG ERROR FROM WORD..      an ipc of N ended
+  N unmap ok                       an unmap of N ended
+  N control ok                     root's call ended (N is 2)
   transfer S R done                a message went from S to R
+  expire N                         a wait of N with a timeout of zero ended
   N waits                          the call goes on until a later line ends it
   parent SPACE PAGE                where the page was mapped from (none: a root);
                                    absent: the page isn't present

@@ -1,8 +1,8 @@
 //! What a script line asks for.
 ghost use Rattle.std.specs.Prelude.{◌≡◌};
-ghost use Rattle.std.specs.Prelude.{◌+◌, ◌≤◌, length, option_map};
+ghost use Rattle.std.specs.Prelude.{◌+◌, ◌≤◌, [], length, option_map};
 ghost use Rattle.l4_text.specs.Tokens.{tokens_of};
-ghost use Rattle.l4_shell.specs.Commands.{thread_of, nil_or_thread_of, partner_of, new_space_of, two_of, three_of, thread_asked, receive_asked, show_asked, parent_asked, send_asked, words_of, command_of};
+ghost use Rattle.l4_shell.specs.Commands.{thread_of, nil_or_thread_of, partner_of, new_space_of, two_of, three_of, thread_asked, set_pager_asked, receive_asked, show_asked, parent_asked, send_asked, ipc_asked, unmap_asked, words_of, command_of};
 
 use arrayvec::ArrayVec;
 use l4_text::{next_token, number};
@@ -56,6 +56,15 @@ impl Model for Words {
 }
 
 impl Words {
+    /// No words.
+    pub(crate) fn empty() -> Words
+        ensures { result ≡ [] }
+    {
+        Words {
+            words: ArrayVec::new(),
+        }
+    }
+
     /// The words themselves.
     pub(crate) fn into_registers(self) -> ArrayVec<u32, 64>
         ensures { result.items ≡ self }
@@ -73,6 +82,11 @@ pub(crate) enum Command {
         space: NewSpace,
         pager: Partner,
     },
+    /// Root changes a thread's pager.
+    SetPager {
+        number: u32,
+        pager: Partner,
+    },
     /// A thread receives, with this window.
     Receive {
         number: u32,
@@ -83,6 +97,21 @@ pub(crate) enum Command {
     Send {
         number: u32,
         to: Partner,
+        words: Words,
+    },
+    /// A thread sends these words, the tag first, and then receives with this window.
+    Ipc {
+        number: u32,
+        to: Partner,
+        from: Partner,
+        timeouts: u32,
+        window: u32,
+        words: Words,
+    },
+    /// A thread revokes rights: the control word, and the message registers.
+    Unmap {
+        number: u32,
+        control: u32,
         words: Words,
     },
     /// The present pages of a thread's space, among `count` from `first` on.
@@ -106,9 +135,15 @@ const NEW: &[u8] = b"new";
 
 const THREAD: &[u8] = b"thread";
 
+const SETPAGER: &[u8] = b"setpager";
+
 const RECV: &[u8] = b"recv";
 
 const SEND: &[u8] = b"send";
+
+const IPC: &[u8] = b"ipc";
+
+const UNMAP: &[u8] = b"unmap";
 
 const SHOW: &[u8] = b"show";
 
@@ -194,6 +229,18 @@ fn thread(line: &[u8]) -> Option<Command>
     })
 }
 
+/// `N PAGER`
+#[tactic(auto, unfolding(crate::specs::Commands::set_pager_asked))]
+fn set_pager(line: &[u8]) -> Option<Command>
+    ensures { result ≡ set_pager_asked (tokens_of line.now) }
+{
+    let (number, pager) = two(line)?;
+    Some(Command::SetPager {
+        number: thread_number(number)?,
+        pager: nil_or_thread(pager)?,
+    })
+}
+
 /// `N FROM WINDOW`
 #[tactic(auto, unfolding(crate::specs::Commands::receive_asked))]
 fn receive(line: &[u8]) -> Option<Command>
@@ -266,6 +313,38 @@ fn send(line: &[u8]) -> Option<Command>
     })
 }
 
+/// `N TO FROM TIMEOUTS WINDOW WORD..`
+fn ipc(line: &[u8]) -> Option<Command>
+    ensures { result ≡ ipc_asked (tokens_of line.now) }
+{
+    let (number_token, rest) = next_token(line)?;
+    let (to, rest) = next_token(rest)?;
+    let (from, rest) = next_token(rest)?;
+    let (timeouts, rest) = next_token(rest)?;
+    let (window, rest) = next_token(rest)?;
+    Some(Command::Ipc {
+        number: thread_number(number_token)?,
+        to: any_or_thread(to)?,
+        from: any_or_thread(from)?,
+        timeouts: number(timeouts)?,
+        window: number(window)?,
+        words: read_words(rest)?,
+    })
+}
+
+/// `N CONTROL WORD..`
+fn unmap(line: &[u8]) -> Option<Command>
+    ensures { result ≡ unmap_asked (tokens_of line.now) }
+{
+    let (number_token, rest) = next_token(line)?;
+    let (control, rest) = next_token(rest)?;
+    Some(Command::Unmap {
+        number: thread_number(number_token)?,
+        control: number(control)?,
+        words: read_words(rest)?,
+    })
+}
+
 /// What the tokens of a line ask for.
 #[tactic(auto, unfolding(crate::specs::Commands::command_of))]
 pub(crate) fn read_command(line: &[u8]) -> Result<Command, ScriptFault>
@@ -277,11 +356,20 @@ pub(crate) fn read_command(line: &[u8]) -> Result<Command, ScriptFault>
     if name == THREAD {
         return thread(rest).ok_or(ScriptFault::BadTokens);
     }
+    if name == SETPAGER {
+        return set_pager(rest).ok_or(ScriptFault::BadTokens);
+    }
     if name == RECV {
         return receive(rest).ok_or(ScriptFault::BadTokens);
     }
     if name == SEND {
         return send(rest).ok_or(ScriptFault::BadTokens);
+    }
+    if name == IPC {
+        return ipc(rest).ok_or(ScriptFault::BadTokens);
+    }
+    if name == UNMAP {
+        return unmap(rest).ok_or(ScriptFault::BadTokens);
     }
     if name == SHOW {
         return show(rest).ok_or(ScriptFault::BadTokens);

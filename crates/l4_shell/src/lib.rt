@@ -5,6 +5,7 @@ mod answers;
 mod command_line;
 mod commands;
 mod refusals;
+mod requests;
 mod running;
 mod session;
 mod words;

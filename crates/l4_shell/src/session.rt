@@ -4,90 +4,21 @@ ghost use Rattle.l4_ipc.specs.Stages.{StepsYet};
 ghost use Rattle.l4_ipc.specs.Steps.{IsNext, IsIdle};
 ghost use Rattle.l4_text.specs.Streams.{Tells};
 ghost use Rattle.l4_text.specs.Tokens.{tokens_of};
-ghost use Rattle.l4_shell.specs.Requests.{script_id, partner_id, space_id, create_call, receive_call, send_call, is_comment, is_empty, asked_at};
+ghost use Rattle.l4_shell.specs.Requests.{is_comment, is_empty, asked_at};
 ghost use Rattle.l4_shell.specs.Sessions.{step_line, ended_text, step_text, is_among, waiting_text, GoesOn, Enters, place_text, ListsBelow, Shows, parent_answer, CarriesOut, AnswersLine};
 
 use crate::answers::{
     expire_text, page_text, parent_text, reply_text, shown_text, transfer_text, waits_text,
 };
-use crate::commands::{Command, NewSpace, Partner, ScriptFault, read_command};
+use crate::commands::{Command, ScriptFault, read_command};
 use crate::refusals::{refused_code, refused_text, script_code};
-use arrayvec::ArrayVec;
-use l4_ipc::{Answer, Call, Control, Create, IpcCall, Kernel, Outcome, Refused, Step};
+use crate::requests::{Request, request_of};
+use l4_ipc::{Answer, Call, Kernel, Outcome, Refused, Step};
 use l4_text::{Ending, Output, next_token};
-use l4_threads::ThreadId;
 use std::io::Write;
-
-/// The thread that creates threads.
-const ROOT: u32 = 2;
 
 /// The pages of a space.
 const PAGES: u32 = 1_048_576;
-
-/// The id of a script's thread: its number, and version 1.
-fn id_of(number: u32) -> ThreadId
-    ensures { result ≡ script_id number }
-{
-    ThreadId((number << 14) + 1)
-}
-
-/// The id of a partner: nilthread, anythread, or a thread's.
-fn id_of_partner(partner: Partner) -> ThreadId
-    ensures { result ≡ partner_id partner }
-{
-    match partner {
-        Partner::Nil => ThreadId(0),
-        Partner::Any => ThreadId(0xffff_ffff),
-        Partner::Thread(number) => id_of(number),
-    }
-}
-
-/// The id that names the space of a new thread.
-fn id_of_space(number: u32, space: NewSpace) -> ThreadId
-    ensures { result ≡ space_id number space }
-{
-    match space {
-        NewSpace::New => id_of(number),
-        NewSpace::Of(other) => id_of(other),
-    }
-}
-
-/// Root's call that creates a thread.
-fn create_call(number: u32, space: NewSpace, pager: Partner) -> Call
-    ensures { result ≡ create_call number space pager }
-{
-    Call::Control(Control::Create(Create {
-        id: id_of(number),
-        space: id_of_space(number, space),
-        pager: id_of_partner(pager),
-    }))
-}
-
-/// A receive phase alone, without timeout.
-fn receive_call(from: Partner, window: u32) -> Call
-    ensures { result ≡ receive_call «from» window }
-{
-    Call::Ipc(IpcCall {
-        to: ThreadId(0),
-        from: id_of_partner(from),
-        timeouts: 0,
-        acceptor: window,
-        words: ArrayVec::new(),
-    })
-}
-
-/// A send phase alone, without timeout.
-fn send_call(to: Partner, words: ArrayVec<u32, 64>) -> Call
-    ensures { result ≡ send_call to words.items }
-{
-    Call::Ipc(IpcCall {
-        to: id_of_partner(to),
-        from: ThreadId(0),
-        timeouts: 0,
-        acceptor: 0,
-        words,
-    })
-}
 
 /// Whether a line's first byte is `#`.
 fn is_comment(line: &[u8]) -> bool
@@ -311,40 +242,19 @@ fn tell_parent<W: Write>(
 fn carry_out<W: Write>(
     kernel: &mut Kernel,
     line: u64,
-    command: Command,
+    request: Request,
     out: &mut Output,
     writer: &mut W,
 )
-    ensures { (text : List ℕ) × CarriesOut kernel.old line command text kernel.new
+    ensures { (text : List ℕ) × CarriesOut kernel.old line request text kernel.new
         × Tells (W.contents writer.old) (W.contents writer.new) out.old out.new text }
 {
-    match command {
-        Command::Thread {
-            number,
-            space,
-            pager,
-        } => {
-            let call = create_call(number, space, pager);
-            enter(kernel, line, ROOT, call, out, writer)
+    match request {
+        Request::Enter(thread, call) => enter(kernel, line, thread, call, out, writer),
+        Request::ListPages(thread, first, count) => {
+            show(kernel, line, thread, (first, count), out, writer)
         }
-        Command::Receive {
-            number,
-            from,
-            window,
-        } => {
-            let call = receive_call(from, window);
-            enter(kernel, line, number, call, out, writer)
-        }
-        Command::Send { number, to, words } => {
-            let call = send_call(to, words.into_registers());
-            enter(kernel, line, number, call, out, writer)
-        }
-        Command::Show {
-            number,
-            first,
-            count,
-        } => show(kernel, line, number, (first, count), out, writer),
-        Command::Parent { number, page } => { tell_parent(kernel, line, number, page, out, writer) }
+        Request::TellParent(thread, page) => tell_parent(kernel, line, thread, page, out, writer),
     }
 }
 
@@ -362,7 +272,7 @@ pub(crate) fn answer_line<W: Write>(
 {
     match asked(ending, line) {
         Ok(None) => {}
-        Ok(Some(command)) => carry_out(kernel, number, command, out, writer),
+        Ok(Some(command)) => carry_out(kernel, number, request_of(command), out, writer),
         Err(fault) => out.put(writer, &refused_text(number, &script_code(fault))),
     }
 }

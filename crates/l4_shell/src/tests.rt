@@ -1,6 +1,11 @@
+use crate::commands::{Command, read_command};
+use crate::requests::{Request, request_of};
 use crate::{OptionFault, Options, RunFault, options, run};
+use l4_ipc::{Call, Control};
+use std::alloc::Global;
 use std::io;
 use std::io::{Read, Write};
+use std::process::Abort;
 use std::test::Fail;
 
 const SCRIPT: &[u8] =
@@ -127,6 +132,167 @@ fn tells_parents(rt: HostRuntime) -> Result<(), Fail> {
         assert!(rt; result.is_ok());
         assert!(rt; written.as_slice() == answers);
     }
+    Ok(())
+}
+
+/// Runs each script over a machine of its own, and compares what it is answered.
+fn check_answers(rt: &impl Abort, alloc: Global, rows: &[(&[u8], &[u8])]) -> Result<(), Fail> {
+    for (script, answers) in rows {
+        let mut script = *script;
+        let mut written = Vec::new(alloc);
+        let result = run(alloc, 256, &mut script, &mut written);
+        assert!(rt; result.is_ok());
+        assert!(rt; written.as_slice() == *answers);
+    }
+    Ok(())
+}
+
+/// The call that a line enters, and the number of its caller.
+fn entered(line: &[u8]) -> Result<(u32, Call), Fail> {
+    let Ok(command) = read_command(line) else {
+        return Err("not read".into());
+    };
+    match request_of(command) {
+        Request::Enter(caller, call) => Ok((caller, call)),
+        _ => Err("no call".into()),
+    }
+}
+
+#[test]
+fn does_ipcs(rt: HostRuntime) -> Result<(), Fail> {
+    let rows: [(&[u8], &[u8]); 10] = [
+        (b"ipc 1 nil nil 0 0\n", b"1 ipc 00000000 0 nil\n"),
+        (b"ipc 1 nil nil 0 0 0xffffffff\n", b"1 ipc 00000000 0 nil\n"),
+        (b"ipc 1 nil any 0 0x10\n", b"1 waits\n"),
+        (b"ipc 1 nil 7 0 0x10\n", b"1 ipc 00008000 5 nil\n"),
+        (b"ipc 1 7 nil 0 0 0\n", b"1 ipc 00008000 4 nil\n"),
+        (b"ipc 1 2 nil 1 0 0\n", b"1 waits\n"),
+        (b"ipc 1 2 nil 0x10000 0 0\n", b"line 1 refused K4\n"),
+        (b"ipc 1 nil 2 1 0\n", b"line 1 refused K4\n"),
+        (b"ipc 7 nil any 0 0\n", b"line 1 refused K2\n"),
+        (
+            b"thread 3 new nil\nipc 3 nil any 0 0x10\nipc 1 3 nil 0 0 0x80 0x20008 0x100c7\nparent 3 32\n",
+            b"2 control ok\n3 waits\ntransfer 1 3 done\n1 ipc 00000000 0 nil\n3 ipc 00000080 0 1 00020008 000100c7\nparent 0 16\n",
+        ),
+    ];
+    check_answers(&rt, rt.alloc(), rows.as_slice())
+}
+
+#[test]
+fn names_the_callers(rt: HostRuntime) -> Result<(), Fail> {
+    let rows: [(&[u8], &[u8]); 4] = [
+        (b"unmap 7 0\n", b"line 1 refused K2\n"),
+        (
+            b"recv 1 any 0\nunmap 1 0x40 0x37\n",
+            b"1 waits\nline 2 refused K3\n",
+        ),
+        (
+            b"recv 2 any 0\nsetpager 1 nil\n",
+            b"2 waits\nline 2 refused K3\n",
+        ),
+        (
+            b"recv 1 any 0\nipc 1 nil nil 0 0\n",
+            b"1 waits\nline 2 refused K3\n",
+        ),
+    ];
+    check_answers(&rt, rt.alloc(), rows.as_slice())
+}
+
+#[test]
+fn refuses_wrong_tokens(rt: HostRuntime) -> Result<(), Fail> {
+    let lines: [&[u8]; 26] = [
+        b"ipc\n",
+        b"ipc 1\n",
+        b"ipc 1 nil nil 0\n",
+        b"ipc nil nil nil 0 0\n",
+        b"ipc 262144 nil nil 0 0\n",
+        b"ipc 1 new nil 0 0\n",
+        b"ipc 1 262144 nil 0 0\n",
+        b"ipc 1 nil new 0 0\n",
+        b"ipc 1 nil nil any 0\n",
+        b"ipc 1 nil nil 0 any\n",
+        b"ipc 1 nil nil 4294967296 0\n",
+        b"ipc 1 nil nil 0 0 nil\n",
+        b"unmap\n",
+        b"unmap 1\n",
+        b"unmap any 0\n",
+        b"unmap 262144 0\n",
+        b"unmap 1 nil\n",
+        b"unmap 1 4294967296\n",
+        b"unmap 1 0 nil\n",
+        b"setpager\n",
+        b"setpager 1\n",
+        b"setpager 1 2 3\n",
+        b"setpager nil 1\n",
+        b"setpager 262144 1\n",
+        b"setpager 1 any\n",
+        b"setpager 1 262144\n",
+    ];
+    for line in lines {
+        let mut script = line;
+        let mut written = Vec::new(rt.alloc());
+        assert_eq!(rt; run(rt.alloc(), 256, &mut script, &mut written), Ok(1));
+        assert!(rt; written.as_slice() == b"line 1 refused S2\n".as_slice());
+    }
+    Ok(())
+}
+
+#[test]
+fn takes_64_words(rt: HostRuntime) -> Result<(), Fail> {
+    let rows: [(&[u8], &[u8]); 2] = [
+        (b"ipc 1 nil nil 0 0", b"1 ipc 00000000 0 nil\n"),
+        (b"unmap 7 0", b"line 1 refused K2\n"),
+    ];
+    for (front, answer) in rows {
+        for count in [0, 1, 63, 64, 65, 66] {
+            let mut script = Vec::new(rt.alloc());
+            script.extend_from_slice(front)?;
+            for _ in 0..count {
+                script.extend_from_slice(b" 0")?;
+            }
+            script.push(b'\n')?;
+            let mut reader = script.as_slice();
+            let mut written = Vec::new(rt.alloc());
+            assert_eq!(rt; run(rt.alloc(), 256, &mut reader, &mut written), Ok(1));
+            let owed = if count > 64 {
+                b"line 1 refused S2\n"
+            } else {
+                answer
+            };
+            assert!(rt; written.as_slice() == owed, "with {count}");
+        }
+    }
+    Ok(())
+}
+
+#[test]
+fn reads_calls(rt: HostRuntime) -> Result<(), Fail> {
+    let (caller, call) = entered(b"ipc 5 any 3 0x4000000 0x10 0x80 9")?;
+    let Call::Ipc(ipc) = call else {
+        return Err("no Ipc".into());
+    };
+    assert_eq!(rt; caller, 5);
+    assert_eq!(rt; ipc.to.0, 0xffff_ffff);
+    assert_eq!(rt; ipc.from.0, 0xc001);
+    assert_eq!(rt; ipc.timeouts, 0x400_0000);
+    assert_eq!(rt; ipc.acceptor, 0x10);
+    assert!(rt; ipc.words.as_slice() == [0x80, 9].as_slice());
+
+    let (caller, call) = entered(b"unmap 5 0x41 0x10 0x1017")?;
+    let Call::Unmap(unmap) = call else {
+        return Err("no Unmap".into());
+    };
+    assert_eq!(rt; caller, 5);
+    assert_eq!(rt; unmap.control, 0x41);
+    assert!(rt; unmap.words.as_slice() == [0x10, 0x1017].as_slice());
+
+    let (caller, call) = entered(b"setpager 5 3")?;
+    let Call::Control(Control::SetPager(change)) = call else {
+        return Err("no SetPager".into());
+    };
+    assert_eq!(rt; caller, 2);
+    assert_eq!(rt; change.id.0, 0x1_4001);
+    assert_eq!(rt; change.pager.0, 0xc001);
     Ok(())
 }
 
