@@ -1,5 +1,5 @@
 -- Each step keeps what holds of the kernel at all times.
-use Rattle.std.proofs.Common.{◌≡◌, ℕ, ◌+◌, ◌<◌, ◌==◌, ◌||◌, not, Bool, true, false, if◌then◌else◌, Option, Some, None, List, Result, Ok, Err, IsTrue, refl, sym, ap, ◌∙◌, subst, inl, inr, ◌⊎◌, option_and_then, is_some, eq-eqb, arith}
+use Rattle.std.proofs.Common.{◌≡◌, ℕ, ◌+◌, ◌<◌, ◌==◌, ◌||◌, ◌&&◌, not, Bool, true, false, if◌then◌else◌, Option, Some, None, List, [], Result, Ok, Err, IsTrue, refl, sym, ap, ◌∙◌, subst, inl, inr, ◌⊎◌, option_and_then, is_some, eq-eqb, arith}
 use Rattle.std.specs.Option.{option_map_or, option_map}
 use Rattle.std.specs.Ordering.{nat_cmp, eq_by_cmp}
 use Rattle.std.specs.Cmp.{unsigned_tied, nat_cmp_total}
@@ -7,12 +7,15 @@ use Rattle.std.proofs.lemmas.Bool.{false≢true}
 use Rattle.std.proofs.lemmas.Bool.Decides.{eqb_tells}
 use Rattle.std.specs.FinMap as fin
 use Rattle.std.specs.FinSet as set
+use Rattle.l4_fpage.specs.Rights.{all_rights}
 use Rattle.l4_fpage.specs.declared.fpages.Fpage.{Fpage}
+use Rattle.l4_fpage.specs.declared.fpages.Fpage.TheVariants.{Complete}
 use Rattle.l4_msg.specs.declared.items.Item.{Item}
 use Rattle.l4_mapdb.specs.Mappings.{Mappings}
 use Rattle.l4_mapdb.specs.Boot.{IsFirst}
+use Rattle.l4_mapdb.specs.Losing.{EndsSpace}
 use Rattle.l4_threads.specs.declared.Later.{Later}
-use Rattle.l4_threads.specs.declared.Reply.TheVariants.{Unmapped, Controlled}
+use Rattle.l4_threads.specs.declared.Reply.TheVariants.{Hit, Unmapped, Controlled}
 use Rattle.l4_threads.specs.declared.Sending.{Sending}
 use Rattle.l4_threads.specs.declared.Source.TheVariants.{Anyone, Thread as One}
 use Rattle.l4_threads.specs.declared.State.{State}
@@ -22,11 +25,12 @@ use Rattle.l4_threads.specs.declared.ThreadId.{ThreadId}
 use Rattle.l4_threads.specs.declared.ThreadFault.{ThreadFault}
 use Rattle.l4_threads.specs.declared.ThreadFault.TheVariants.{NoPrivilege, BadId, Taken, Unknown, Full}
 use Rattle.l4_threads.specs.Threads.{Threads, pair_cmp, thread_at, space_of, named, number_of, runs, is_running, failed, with_state, nilthread, first_threads, end_call}
-use Rattle.l4_threads.specs.Control.{create_test, created, asks_new, is_privileged, is_bad_id, is_full, with_pager}
+use Rattle.l4_threads.specs.Control.{create_test, created, asks_new, is_privileged, is_bad_id, is_full, with_pager, waits_for, without_partner, Deletes, HasEnded}
 use Rattle.l4_ipc.specs.declared.calls.Call.{Call}
 use Rattle.l4_ipc.specs.declared.calls.Call.TheVariants.{Ipc, Fault, Unmap, Control as Controls}
 use Rattle.l4_ipc.specs.declared.calls.Control.TheVariants.{Create, SetPager, Delete}
 use Rattle.l4_ipc.specs.declared.calls.IpcCall.{IpcCall}
+use Rattle.l4_ipc.specs.declared.calls.FaultCall.{FaultCall}
 use Rattle.l4_ipc.specs.declared.next.Next.{Next}
 use Rattle.l4_ipc.specs.declared.next.Next.TheVariants.{Ends, Sends, Receives}
 use Rattle.l4_ipc.specs.declared.sent.Sent.{Sent}
@@ -37,13 +41,14 @@ use Rattle.l4_ipc.specs.declared.steps.Refused.{Refused}
 use Rattle.l4_ipc.specs.declared.steps.Step.{Step}
 use Rattle.l4_ipc.specs.declared.steps.Step.TheVariants.{Start, Transfer, Expire}
 use Rattle.l4_ipc.specs.Machine.{Machine, machine}
-use Rattle.l4_ipc.specs.Start.{has_send, IsSent, ipc_next, going_on, later_of, partner, send_timeout, enters}
+use Rattle.l4_ipc.specs.Start.{has_send, IsSent, ipc_next, going_on, later_of, partner, send_timeout, has_page, fault_words, fault_next, enters}
 use Rattle.l4_ipc.specs.Moving.{Moves}
-use Rattle.l4_ipc.specs.Stages.{IsNotYet, StepsYet}
 use Rattle.l4_ipc.specs.Sound.{IsOfWords, AreSound, IsSound}
 use Rattle.l4_ipc.specs.Steps.{receiver_reply, sender_next, is_done, expiry, with_space, Steps}
 use Rattle.l4_ipc.proofs.Items.{items_of_words}
-use Rattle.l4_ipc.proofs.Threads.{put_at, state_at, same_next, pager_at, pager_next}
+use Rattle.l4_ipc.proofs.Deletes.{differs, left_at}
+use Rattle.l4_ipc.proofs.Faults.{items_of_fault}
+use Rattle.l4_ipc.proofs.Threads.{past, put_at, state_at, same_next, pager_at, pager_next}
 
 -- THREADS
 
@@ -113,15 +118,23 @@ faithful_ipc t n call sent window sends =
       | false ↦ λ is. faithful_going_on t (later_of call window) false
     ] sends
 
+faithful_fault : (t : Threads) (s : Mappings) (n space : ℕ) (pager : ThreadId) (call : FaultCall) → IsFaithfulNext (fault_next t s n space pager call)
+faithful_fault t s n space pager call =
+    elim (has_page s space call) as (λ b. IsFaithfulNext (if b then Ends Hit else
+    option_map_or (λ to. Sends (record { words = record { items = fault_words call }; items = record { items = [] }; to = to; expires = false; «then» = Some (record { «from» = pager; window = Complete all_rights; expires = false }); fault = true }))
+    (partner t n pager) (Ends (failed true 4)))) [
+      | true ↦ tt
+      | false ↦ elim (partner t n pager) as (λ o. IsFaithfulNext (option_map_or (λ to. Sends (record { words = record { items = fault_words call }; items = record { items = [] }; to = to; expires = false; «then» = Some (record { «from» = pager; window = Complete all_rights; expires = false }); fault = true })) o (Ends (failed true 4)))) [
+        | None ↦ tt
+        | Some to ↦ items_of_fault call
+      ]
+    ]
+
 faithful_sender : (t : Threads) (done : Bool) (sends : Sending) → IsFaithfulNext (sender_next done t sends)
 faithful_sender t true sends = faithful_going_on t sends.«then» sends.fault
 faithful_sender t false sends = tt
 
 -- CREATE
-
-past : (b : Bool) (e : ThreadFault) (rest : Result ℕ ThreadFault) (space : ℕ) → (if b then Err e else rest) ≡ Ok space → (b ≡ false) × (rest ≡ Ok space)
-past true e rest space h = absurd (let k : ◌≡◌ {A = Result ℕ ThreadFault} (Err e) (Ok space) = h in cc)
-past false e rest space h = (refl, h)
 
 -- the space of a new thread is the next one, or one that a thread has
 abbrev SpaceOf : Threads → Bool → ℕ → Type 0
@@ -217,6 +230,55 @@ sound_with_space s t id space pager false is sound =
     (subst (λ (k : ℕ). IsTrue (set.contains s.spaces k)) is.1.1.1 (sound.have_spaces is.0 is.1.0 is.1.1.0))
     (λ q there. there) (λ q there. still_below (space == t.next_space) t.next_space q (sound.below q there)) sound
 
+-- DELETE
+
+-- the items of a message that still waits are those of its words
+faithful_without : (victim : ℕ) (state : State) (sends : Sending) → without_partner victim state ≡ IsSender sends → state ≡ IsSender sends
+faithful_without victim (Running reply) sends is = is
+faithful_without victim (IsSender s) sends is =
+    elim (s.to == victim) as (λ b. (if b then Running (Some (failed s.fault 4)) else IsSender s) ≡ IsSender sends → IsSender s ≡ IsSender sends) [
+      | true ↦ λ h. cc
+      | false ↦ λ h. h
+    ] is
+faithful_without victim (IsReceiver r) sends is =
+    elim (waits_for victim r.«from») as (λ b. (if b then Running (Some (failed r.fault 5)) else IsReceiver r) ≡ IsSender sends → IsReceiver r ≡ IsSender sends) [
+      | true ↦ λ h. cc
+      | false ↦ λ h. h
+    ] is
+
+sound_left : (spaces more : set.FinSet nat_cmp) (t left : Threads) (victim : ℕ) → Deletes victim t left
+    → ((q : ℕ) → IsTrue (set.contains more q) → IsTrue (set.contains spaces q))
+    → ((m space : ℕ) → space_of left m ≡ Some space → IsTrue (set.contains spaces space) → IsTrue (set.contains more space))
+    → AreSound spaces t → AreSound more left
+sound_left spaces more t left victim d fewer kept sound = record {
+  have_spaces = λ m thread at.
+      let was = left_at t left victim m thread d at in
+      kept m thread.space (ap (option_map (λ (x : Thread). x.space)) at)
+      (subst (λ (k : ℕ). IsTrue (set.contains spaces k)) (sym (ap (λ (x : Thread). x.space) was.1.1)) (sound.have_spaces m was.0 was.1.0));
+  below = λ q there. subst (λ (k : ℕ). q < k) (sym d.next_space) (sound.below q (fewer q there));
+  messages = λ m thread sends at is.
+      let was = left_at t left victim m thread d at in
+      sound.messages m was.0 sends was.1.0 (faithful_without victim was.0.state sends (sym (ap (λ (x : Thread). x.state) was.1.1) ∙ is));
+}
+
+and_right : (a b : Bool) → IsTrue (a && b) → IsTrue b
+and_right true b h = h
+and_right false b h = absurd (false≢true h)
+
+-- the threads that are left keep it, and where a space ends none of them is in it
+sound_without : (old new : Mappings) (t left : Threads) (victim space : ℕ) → Deletes victim t left
+    → (HasEnded left space × EndsSpace space old new) ⊎ (¬ (HasEnded left space) × (new ≡ old)) → AreSound old.spaces t → AreSound new.spaces left
+sound_without old new t left victim space d (inl ends) sound =
+    let gone : new.spaces ≡ set.remove old.spaces space = ends.1.spaces in
+    let at : (q : ℕ) → set.contains new.spaces q ≡ (not (eq_by_cmp nat_cmp q space) && set.contains old.spaces q) =
+    λ q. ap (λ (v : set.FinSet nat_cmp). set.contains v q) gone ∙ set.contains-remove nat_cmp_total old.spaces space q in
+    sound_left old.spaces new.spaces t left victim d
+    (λ q there. and_right (not (eq_by_cmp nat_cmp q space)) (set.contains old.spaces q) (sym (at q) ∙ there))
+    (λ m own is there. at own ∙ ap (λ b. not b && set.contains old.spaces own) (unsigned_tied own space ∙ differs own space (λ same. ends.0 m (is ∙ ap Some same))) ∙ there)
+    sound
+sound_without old new t left victim space d (inr stays) sound =
+    subst (λ (s : Mappings). AreSound s.spaces left) (sym stays.1) (sound_left old.spaces old.spaces t left victim d (λ q there. there) (λ m own is there. there) sound)
+
 -- A TRANSFER
 
 -- a transfer begins and ends no space
@@ -230,27 +292,30 @@ moves_keep old new «from» to items window Expired h = absurd h
 
 -- THE STEP
 
-running : (t : Threads) (n : ℕ) (thread : Thread) → thread_at t n ≡ Some thread → IsTrue (is_running thread.state) → IsTrue (runs t n)
-running t n thread at runs_on = ap (λ (o : Option Thread). option_map_or is_running (option_map (λ (x : Thread). x.state) o) false) at ∙ runs_on
-
 refused_keeps : (old new : Machine) → new ≡ old → IsSound old → IsSound new
 refused_keeps old new same sound = subst IsSound (sym same) sound
 
-start_keeps : (old : Machine) (n : ℕ) (call : Call) (answer : Answer) (new : Machine) → IsSound old → ¬ (IsNotYet old (Start n call)) → Steps old (Start n call) (Ok answer) new → IsSound new
-start_keeps old n (Ipc call) answer new sound no_later x =
+start_keeps : (old : Machine) (n : ℕ) (call : Call) (answer : Answer) (new : Machine) → IsSound old → Steps old (Start n call) (Ok answer) new → IsSound new
+start_keeps old n (Ipc call) answer new sound x =
     refused_keeps (record old { threads = enters old.threads n (ipc_next old.threads n call x.4.0 x.4.1) }) new x.4.4
     (sound_enters old.mappings.spaces old.threads n _ (faithful_ipc old.threads n call x.4.0 x.4.1 x.4.2.sends) sound)
-start_keeps old n (Fault call) answer new sound no_later x = absurd (no_later (running old.threads n x.0 x.1 x.2, tt))
-start_keeps old n (Unmap call) answer new sound no_later x =
+start_keeps old n (Fault call) answer new sound x =
+    refused_keeps (record old { threads = enters old.threads n (fault_next old.threads old.mappings n x.0.space x.0.pager call) }) new x.4.1
+    (sound_enters old.mappings.spaces old.threads n _ (faithful_fault old.threads old.mappings n x.0.space x.0.pager call) sound)
+start_keeps old n (Unmap call) answer new sound x =
     let spaces : set.FinSet nat_cmp = old.mappings.spaces in
     let after = sound_state spaces old.threads _ n (Running (Some Unmapped)) tt sound in
     subst (λ (v : set.FinSet nat_cmp). AreSound v new.threads) (sym x.4.4.spaces) (subst (AreSound spaces) (sym x.4.3) after)
-start_keeps old n (Controls (SetPager c)) answer new sound no_later x =
+start_keeps old n (Controls (SetPager c)) answer new sound x =
     let t : Threads = with_pager old.threads x.4.0 c.pager in
     refused_keeps (record old { threads = end_call t n Controlled }) new x.4.3
     (sound_state old.mappings.spaces t _ n (Running (Some Controlled)) tt (sound_pager old.mappings.spaces old.threads x.4.0 c.pager sound))
-start_keeps old n (Controls (Delete id)) answer new sound no_later x = absurd (no_later (running old.threads n x.0 x.1 x.2, tt))
-start_keeps old n (Controls (Create c)) answer new sound no_later x =
+start_keeps old n (Controls (Delete id)) answer new sound x =
+    let d = x.4.5 in
+    let spaces : set.FinSet nat_cmp = new.mappings.spaces in
+    subst (AreSound spaces) (sym d.threads) (sound_state spaces d.left _ n (Running (Some Controlled)) tt
+    (sound_without old.mappings new.mappings old.threads d.left x.4.0 x.4.1.space d.deleted d.mappings sound))
+start_keeps old n (Controls (Create c)) answer new sound x =
     let space : ℕ = x.4.0 in
     let asks : Bool = asks_new c.id c.space in
     let t : Threads = created old.threads c.id space c.pager in
@@ -267,16 +332,15 @@ transfer_keeps old sender receiver answer new sound x =
     subst (λ (v : set.FinSet nat_cmp). AreSound v new.threads) (sym kept) (subst (AreSound spaces) (sym x.7) after)
 
 -- each step keeps it
-pub sound_step : (old : Machine) (step : Step) (answer : Result Answer Refused) (new : Machine) → StepsYet old step answer new → IsSound old → IsSound new
-sound_step old step answer new (inl y) sound = refused_keeps old new y.2 sound
-sound_step old (Start n call) (Ok answer) new (inr y) sound = start_keeps old n call answer new sound y.0 y.1
-sound_step old (Start n call) (Err e) new (inr y) sound = refused_keeps old new y.1.1 sound
-sound_step old (Transfer s r) (Ok answer) new (inr y) sound = transfer_keeps old s r answer new sound y.1
-sound_step old (Transfer s r) (Err e) new (inr y) sound = refused_keeps old new y.1.2 sound
-sound_step old (Expire n) (Ok answer) new (inr y) sound =
-    refused_keeps (record old { threads = end_call old.threads n (expiry y.1.0.state) }) new y.1.3
-    (sound_state old.mappings.spaces old.threads _ n (Running (Some (expiry y.1.0.state))) tt sound)
-sound_step old (Expire n) (Err e) new (inr y) sound = refused_keeps old new y.1.2 sound
+pub sound_step : (old : Machine) (step : Step) (answer : Result Answer Refused) (new : Machine) → Steps old step answer new → IsSound old → IsSound new
+sound_step old (Start n call) (Ok answer) new y sound = start_keeps old n call answer new sound y
+sound_step old (Start n call) (Err e) new y sound = refused_keeps old new y.1 sound
+sound_step old (Transfer s r) (Ok answer) new y sound = transfer_keeps old s r answer new sound y
+sound_step old (Transfer s r) (Err e) new y sound = refused_keeps old new y.2 sound
+sound_step old (Expire n) (Ok answer) new y sound =
+    refused_keeps (record old { threads = end_call old.threads n (expiry y.0.state) }) new y.3
+    (sound_state old.mappings.spaces old.threads _ n (Running (Some (expiry y.0.state))) tt sound)
+sound_step old (Expire n) (Err e) new y sound = refused_keeps old new y.2 sound
 
 -- BOOT
 

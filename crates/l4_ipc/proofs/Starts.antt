@@ -28,8 +28,7 @@ use Rattle.l4_ipc.specs.declared.steps.Refused.TheVariants.{UnknownThread}
 use Rattle.l4_ipc.specs.declared.steps.Step.TheVariants.{Start, Expire}
 use Rattle.l4_ipc.specs.Machine.{Machine, machine}
 use Rattle.l4_ipc.specs.Start.{IsAccepted, CallRefuses, RefusesIn, StartRefuses, ipc_next, going_on, enters, ended_by, CanEnter}
-use Rattle.l4_ipc.specs.Stages.{StepsYet}
-use Rattle.l4_ipc.specs.Steps.{expiry, Meets, sender_next}
+use Rattle.l4_ipc.specs.Steps.{expiry, Meets, sender_next, Steps}
 use Rattle.l4_ipc.proofs.Threads.{running_thread, put_there, pager_there, has_state, state_other}
 
 -- the Start of a running thread is refused where its call is
@@ -43,22 +42,19 @@ refuses m n call e h r =
 pub started : (t new : Threads) (s : Mappings) (n : ℕ) (call : IpcCall) (sent : Sent) (window : Fpage) (next : Next) (answer : Answer)
     → IsTrue (runs t n) → IsAccepted call sent window
     → next ≡ ipc_next t n call sent window → answer.outcome ≡ Started → answer.ended.items ≡ ended_by n next → new ≡ enters t n next
-    → StepsYet (machine t s) (Start n (Ipc call)) (Ok answer) (machine new s)
+    → Steps (machine t s) (Start n (Ipc call)) (Ok answer) (machine new s)
 started t new s n call sent window next answer h accepted is outcome ended after =
     let there = running_thread t n h in
-    inr (
-      λ y. y.1,
-      (there.0, there.1.0, there.1.1, outcome, (sent, window, accepted, ended ∙ ap (ended_by n) is, ap (λ (v : Threads). machine v s) (after ∙ ap (enters t n) is))),
-    )
+    (there.0, there.1.0, there.1.1, outcome, (sent, window, accepted, ended ∙ ap (ended_by n) is, ap (λ (v : Threads). machine v s) (after ∙ ap (enters t n) is)))
 
 -- a wait with a timeout of zero that takes part in no enabled transfer ends
 pub expired : (t new : Threads) (s : Mappings) (n : ℕ) (state : State) (reply : Reply) (answer : Answer)
     → CanExpire t n → Some state ≡ state_of t n → reply ≡ expiry state → answer.outcome ≡ Expired → answer.ended.items ≡ n ∷ [] → new ≡ end_call t n reply
-    → StepsYet (machine t s) (Expire n) (Ok answer) (machine new s)
+    → Steps (machine t s) (Expire n) (Ok answer) (machine new s)
 expired t new s n state reply answer able at is outcome ended after =
     let both : Some state ≡ Some able.state = at ∙ able.at in
     let same : state ≡ able.state = cc in
-    inr (λ y. y, (able, outcome, ended, ap (λ (v : Threads). machine v s) (after ∙ ap (end_call t n) (is ∙ ap expiry same))))
+    (able, outcome, ended, ap (λ (v : Threads). machine v s) (after ∙ ap (end_call t n) (is ∙ ap expiry same)))
 
 -- a thread that runs is there
 running_there : (t : Threads) (n : ℕ) → IsTrue (runs t n) → thread_at t n ≢ None

@@ -1,5 +1,5 @@
 -- A thread of another state or pager, and a new thread: what stands at each number afterwards.
-use Rattle.std.proofs.Common.{◌≡◌, ◌≢◌, ℕ, ◌==◌, false, cond, Option, Some, None, IsTrue, IsSome, refl, sym, ap, ◌∙◌, subst, inl, inr, ◌⊎◌}
+use Rattle.std.proofs.Common.{◌≡◌, ◌≢◌, ℕ, ◌==◌, false, cond, if◌then◌else◌, Bool, true, Option, Some, None, Result, Ok, Err, IsTrue, IsSome, refl, sym, ap, ◌∙◌, subst, inl, inr, ◌⊎◌}
 use Rattle.std.specs.Option.{option_map_or, option_map}
 use Rattle.std.specs.Ordering.{nat_cmp, eq_by_cmp}
 use Rattle.std.specs.Cmp.{unsigned_tied, nat_cmp_total}
@@ -9,6 +9,7 @@ use Rattle.std.specs.FinMap as fin
 use Rattle.l4_threads.specs.declared.Thread.{Thread}
 use Rattle.l4_threads.specs.declared.State.{State}
 use Rattle.l4_threads.specs.declared.ThreadId.{ThreadId}
+use Rattle.l4_threads.specs.declared.ThreadFault.{ThreadFault}
 use Rattle.l4_threads.specs.Threads.{Threads, thread_at, state_of, runs, is_running, with_state}
 use Rattle.l4_threads.specs.Control.{with_pager}
 
@@ -124,6 +125,11 @@ pager_next t n pager =
       | None ↦ refl
       | Some old ↦ refl
     ]
+
+-- past a test that didn't refuse
+pub past : (b : Bool) (e : ThreadFault) (rest : Result ℕ ThreadFault) (space : ℕ) → (if b then Err e else rest) ≡ Ok space → (b ≡ false) × (rest ≡ Ok space)
+past true e rest space h = absurd (let k : ◌≡◌ {A = Result ℕ ThreadFault} (Err e) (Ok space) = h in cc)
+past false e rest space h = (refl, h)
 
 -- some thread is there
 pub is_there : (t : Threads) (n : ℕ) → thread_at t n ≢ None → (thread : Thread) × (thread_at t n ≡ Some thread)

@@ -2,7 +2,6 @@ pub mod Machine
 pub mod Start
 pub mod Moving
 pub mod Steps
-pub mod Stages
 pub mod Runs
 pub mod Sound
 pub mod Kept

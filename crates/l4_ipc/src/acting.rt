@@ -4,17 +4,18 @@ ghost use Rattle.l4_mapdb.specs.Mappings.{Mappings};
 ghost use Rattle.l4_threads.specs.Threads.{state_of, runs, end_call};
 ghost use Rattle.l4_threads.specs.declared.Reply.TheVariants.{Controlled};
 ghost use Rattle.l4_ipc.specs.Machine.{machine};
-ghost use Rattle.l4_ipc.specs.Stages.{StepsYet};
 ghost use Rattle.l4_threads.specs.Control.{asks_new};
 ghost use Rattle.l4_ipc.specs.Sound.{HaveSpaces};
-ghost use Rattle.l4_ipc.specs.Steps.{expiry, with_space};
+ghost use Rattle.l4_ipc.specs.Steps.{expiry, with_space, Steps};
 ghost use Rattle.l4_ipc.specs.declared.steps.Step.TheVariants.{Start, Transfer as Transfers, Expire as Expires};
 ghost use Rattle.l4_ipc.specs.declared.steps.Outcome.TheVariants.{Started};
-ghost use Rattle.l4_ipc.specs.declared.calls.Call.TheVariants.{Ipc, Unmap as Unmaps, Control as Controls};
+ghost use Rattle.l4_ipc.specs.declared.calls.Call.TheVariants.{Ipc, Fault as Faults, Unmap as Unmaps, Control as Controls};
 ghost use Rattle.l4_ipc.specs.declared.calls.Control.TheVariants.{Create as Creates, SetPager as SetsPager};
 
-use crate::calls::{Call, Control, Create, IpcCall, SetPager, UnmapCall};
+use crate::calls::{Call, Control, Create, FaultCall, IpcCall, SetPager, UnmapCall};
+use crate::deleting::delete;
 use crate::delivering::{deliver, is_done, meet, receiver_reply, sender_next};
+use crate::faulting::fault_next;
 use crate::starting::{enter, failed, ipc_next};
 use crate::steps::{Answer, Lower, Outcome, Refused};
 use arrayvec::ArrayVec;
@@ -34,13 +35,34 @@ fn only(number: u32) -> ArrayVec<u32, 64>
 /// Starts an Ipc of a running thread.
 fn start_ipc(threads: &mut Threads, number: u32, call: &IpcCall) -> Result<Answer, Refused>
     requires { IsTrue (runs threads.old number) }
-    ensures { (s : Mappings) → StepsYet (machine threads.old s) (Start number (Ipc call.now)) result (machine threads.new s) }
+    ensures { (s : Mappings) → Steps (machine threads.old s) (Start number (Ipc call.now)) result (machine threads.new s) }
 {
     let (sent, window) = match call.read() {
         Ok(read) => read,
         Err(refused) => return Err(refused),
     };
     let next = ipc_next(threads, number, call, sent, window);
+    let ended = enter(threads, number, next);
+    Ok(Answer {
+        outcome: Outcome::Started,
+        ended,
+    })
+}
+
+/// Starts a page fault of a running thread.
+fn start_fault(
+    threads: &mut Threads,
+    forest: &Forest,
+    number: u32,
+    call: &FaultCall,
+) -> Result<Answer, Refused>
+    requires { IsTrue (runs threads.old number) }
+    ensures { Steps (machine threads.old forest.now) (Start number (Faults call.now)) result (machine threads.new forest.now) }
+{
+    let Some(thread) = threads.thread(number) else {
+        return Err(Refused::UnknownThread);
+    };
+    let next = fault_next(threads, forest, number, thread.space, thread.pager, call);
     let ended = enter(threads, number, next);
     Ok(Answer {
         outcome: Outcome::Started,
@@ -56,7 +78,7 @@ fn start_unmap(
     call: &UnmapCall,
 ) -> Result<Answer, Refused>
     requires { IsTrue (runs threads.old number) }
-    ensures { StepsYet (machine threads.old forest.old) (Start number (Unmaps call.now)) result (machine threads.new forest.new) }
+    ensures { Steps (machine threads.old forest.old) (Start number (Unmaps call.now)) result (machine threads.new forest.new) }
 {
     let Some(space) = threads.space_of(number) else {
         return Err(Refused::UnknownThread);
@@ -106,7 +128,7 @@ fn create(
     call: &Create,
 ) -> Result<Answer, Refused>
     requires { IsTrue (runs threads.old number) }
-    ensures { StepsYet (machine threads.old forest.old) (Start number (Controls (Creates call.now))) result (machine threads.new forest.new) }
+    ensures { Steps (machine threads.old forest.old) (Start number (Controls (Creates call.now))) result (machine threads.new forest.new) }
 {
     let space = match threads.test_create(number, call.id, call.space) {
         Ok(space) => space,
@@ -122,7 +144,7 @@ fn create(
 /// Gives a thread another pager for a running thread.
 fn set_pager(threads: &mut Threads, number: u32, call: &SetPager) -> Result<Answer, Refused>
     requires { IsTrue (runs threads.old number) }
-    ensures { (s : Mappings) → StepsYet (machine threads.old s) (Start number (Controls (SetsPager call.now))) result (machine threads.new s) }
+    ensures { (s : Mappings) → Steps (machine threads.old s) (Start number (Controls (SetsPager call.now))) result (machine threads.new s) }
 {
     if let Err(fault) = threads.set_pager(number, call.id, call.pager) {
         return Err(Refused::Lower(Lower::Thread(fault)));
@@ -138,12 +160,12 @@ fn start_control(
     control: &Control,
 ) -> Result<Answer, Refused>
     requires { IsTrue (runs threads.old number) }
-    ensures { StepsYet (machine threads.old forest.old) (Start number (Controls control.now)) result (machine threads.new forest.new) }
+    ensures { Steps (machine threads.old forest.old) (Start number (Controls control.now)) result (machine threads.new forest.new) }
 {
     match control {
         Control::Create(call) => create(threads, forest, number, call),
         Control::SetPager(call) => set_pager(threads, number, call),
-        _ => Err(Refused::NotYet),
+        Control::Delete(id) => delete(threads, forest, number, *id),
     }
 }
 
@@ -154,7 +176,7 @@ pub fn start(
     number: u32,
     call: &Call,
 ) -> Result<Answer, Refused>
-    ensures { StepsYet (machine threads.old forest.old) (Start number call.now) result (machine threads.new forest.new) }
+    ensures { Steps (machine threads.old forest.old) (Start number call.now) result (machine threads.new forest.new) }
 {
     match threads.state(number) {
         None => return Err(Refused::UnknownThread),
@@ -164,8 +186,8 @@ pub fn start(
     match call {
         Call::Ipc(call) => start_ipc(threads, number, call),
         Call::Unmap(call) => start_unmap(threads, forest, number, call),
+        Call::Fault(call) => start_fault(threads, forest, number, call),
         Call::Control(control) => start_control(threads, forest, number, control),
-        _ => Err(Refused::NotYet),
     }
 }
 
@@ -177,7 +199,7 @@ pub fn transfer(
     receiver: u32,
 ) -> Result<Answer, Refused>
     requires { HaveSpaces forest.old.spaces threads.old }
-    ensures { StepsYet (machine threads.old forest.old) (Transfers sender receiver) result (machine threads.new forest.new) }
+    ensures { Steps (machine threads.old forest.old) (Transfers sender receiver) result (machine threads.new forest.new) }
 {
     let Some(meeting) = meet(threads, sender, receiver) else {
         return Err(Refused::NotEnabled);
@@ -212,7 +234,7 @@ fn expiry(state: &State) -> Reply
 
 /// Ends a wait with a timeout of zero.
 pub fn expire(threads: &mut Threads, number: u32) -> Result<Answer, Refused>
-    ensures { (s : Mappings) → StepsYet (machine threads.old s) (Expires number) result (machine threads.new s) }
+    ensures { (s : Mappings) → Steps (machine threads.old s) (Expires number) result (machine threads.new s) }
 {
     if !threads.can_expire(number) {
         return Err(Refused::NotEnabled);

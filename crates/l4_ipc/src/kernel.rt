@@ -44,8 +44,7 @@ impl Kernel {
     ghost use Rattle.l4_mapdb.specs.Mappings.{shown};
     ghost use Rattle.l4_mapdb.specs.Places.{NonePresentFrom, IsNextPresent};
     ghost use Rattle.l4_ipc.specs.Machine.{IsBoot};
-    ghost use Rattle.l4_ipc.specs.Stages.{StepsYet};
-    ghost use Rattle.l4_ipc.specs.Steps.{IsNext, IsIdle};
+    ghost use Rattle.l4_ipc.specs.Steps.{IsNext, IsIdle, Steps};
     ghost use Rattle.l4_ipc.specs.Runs.{Run};
     ghost use Rattle.l4_ipc.specs.Reading.{reply_of};
     ghost use Rattle.l4_ipc.specs.declared.steps.Refused.TheVariants.{BadFrames, Lower as IsLower};
@@ -78,13 +77,12 @@ impl Kernel {
 
     /// Does one step, and says what it did and whose calls ended in it, or why it is refused. A refused step changes nothing.
     ///
-    /// The refusals of a Start, in this order: `UnknownThread` (K2), `Busy` (K3), `NotYet` (K7) for a Fault and a Delete, which aren't
-    /// carried out yet, `BadTimeout` (K4), `Lower` (K5) with the first refusal of the message, of the window, of the fpages of an Unmap,
-    /// or of a Create or a SetPager, and last `Lower(NoMemory)` of a Create in a new space. A Transfer or an Expire that is not enabled
-    /// is `NotEnabled` (K1).
+    /// The refusals of a Start, in this order: `UnknownThread` (K2), `Busy` (K3), `BadTimeout` (K4), `Lower` (K5) with the first
+    /// refusal of the message, of the window, of the fpages of an Unmap, or of a control of threads, and last `Lower(NoMemory)` of a
+    /// Create in a new space. A Fault of a running thread is never refused. A Transfer or an Expire that is not enabled is `NotEnabled`
+    /// (K1).
     pub fn step(&mut self, step: &Step) -> Result<Answer, Refused>
-        // The step is one of the machine's, or is refused because it is put off.
-        ensures { StepsYet self.old step.now result self.new }
+        ensures { Steps self.old step.now result self.new }
     {
         match step {
             Step::Start(number, call) => start(&mut self.threads, &mut self.forest, *number, call),

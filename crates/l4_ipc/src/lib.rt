@@ -3,7 +3,9 @@
 
 mod acting;
 mod calls;
+mod deleting;
 mod delivering;
+mod faulting;
 mod kernel;
 mod next;
 mod reading;

@@ -64,7 +64,7 @@ pub fn going_on(threads: &Threads, later: Option<Later>, fault: bool) -> Next
 }
 
 /// The partner of a send phase: a thread other than the caller; anythread names nobody.
-fn partner(threads: &Threads, caller: u32, id: ThreadId) -> Option<u32>
+pub fn partner(threads: &Threads, caller: u32, id: ThreadId) -> Option<u32>
     ensures { result ≡ partner threads.now caller id }
 {
     if id.0 == ThreadId::any().0 {

@@ -70,6 +70,4 @@ pub enum Refused {
     Lower(Lower),
     /// K6: fewer than 1 or more than 4,096 frames at the boot.
     BadFrames,
-    /// K7: the call is one that this version doesn't carry out yet, a Fault or a Delete.
-    NotYet,
 }

@@ -77,6 +77,16 @@ fn unmap(number: u32, control: u32, words: &[u32]) -> Step
     Step::Start(number, Call::Unmap(call))
 }
 
+/// A page fault at this address with the instruction pointer 0x1234.
+fn fault(number: u32, address: u32, access: u8) -> Step {
+    let call = FaultCall {
+        address,
+        ip: 0x1234,
+        access: Rights::of_bits(access),
+    };
+    Step::Start(number, Call::Fault(call))
+}
+
 /// A control of threads.
 fn control(number: u32, control: Control) -> Step {
     Step::Start(number, Call::Control(control))
@@ -97,6 +107,11 @@ fn create(number: u32, id: ThreadId, space: ThreadId) -> Step {
 /// Another pager for a thread.
 fn set_pager(number: u32, id: ThreadId, pager: ThreadId) -> Step {
     control(number, Control::SetPager(SetPager { id, pager }))
+}
+
+/// The end of a thread.
+fn delete(number: u32, id: ThreadId) -> Step {
+    control(number, Control::Delete(id))
 }
 
 /// A kernel in which root created thread 3, and that thread waits for anybody's message.
@@ -347,11 +362,23 @@ fn refusals(rt: HostRuntime) -> Result<(), Fail> {
             set_pager(2, ThreadId(3 * 16384 + 2), ROOT),
             thread(ThreadFault::Unknown),
         ),
+        (delete(1, THIRD), thread(ThreadFault::NoPrivilege)),
+        (delete(2, FOURTH), thread(ThreadFault::Unknown)),
+        (
+            delete(2, ThreadId(3 * 16384 + 2)),
+            thread(ThreadFault::Unknown),
+        ),
+        (delete(2, SIGMA0), thread(ThreadFault::Kept)),
+        (delete(2, ROOT), thread(ThreadFault::Kept)),
+        (delete(9, THIRD), Refused::UnknownThread),
+        (delete(3, THIRD), Refused::Busy),
         (unmap(2, 0x40, &[]), unmapping(UnmapFault::TooFew)),
         (unmap(2, 1, &[0x17]), unmapping(UnmapFault::TooFew)),
         (unmap(2, 0, &[0x1020]), unmapping(UnmapFault::BadFpage(0))),
         (unmap(9, 0, &[]), Refused::UnknownThread),
         (unmap(3, 0, &[]), Refused::Busy),
+        (fault(9, 0x5000, 4), Refused::UnknownThread),
+        (fault(3, 0x5000, 4), Refused::Busy),
         // Of both phases, each is read.
         (
             ipc(2, THIRD, ANYBODY, 0, 0x20, &[0]),
@@ -365,29 +392,6 @@ fn refusals(rt: HostRuntime) -> Result<(), Fail> {
     for (step, want) in &cases {
         assert_eq!(rt; kernel.step(step).err(), Some(*want));
         assert!(rt; is_untouched(&kernel), "after {want:?}");
-    }
-    Ok(())
-}
-
-#[test]
-fn calls_that_are_put_off(rt: HostRuntime) -> Result<(), Fail> {
-    let mut kernel = waiting(rt.alloc(), COMPLETE)?;
-    let fault = FaultCall {
-        address: 0x5000,
-        ip: 0,
-        access: Rights::all(),
-    };
-    let steps = [
-        Step::Start(2, Call::Fault(fault)),
-        control(2, Control::Delete(THIRD)),
-    ];
-    for (index, step) in steps.iter().enumerate() {
-        assert_eq!(rt;
-            kernel.step(step).err(),
-            Some(Refused::NotYet),
-            "at {index}"
-        );
-        assert!(rt; is_untouched(&kernel), "after {index}");
     }
     Ok(())
 }
@@ -524,6 +528,166 @@ fn an_unmap_that_is_refused(rt: HostRuntime) -> Result<(), Fail> {
         assert_eq!(rt; kernel.mapping(2, 5), mapped(5, 7, 0, 5));
         assert!(rt; matches!(kernel.reply(3), Some(Reply::Ipc(_))));
     }
+    Ok(())
+}
+
+#[test]
+fn a_fault_that_is_a_hit(rt: HostRuntime) -> Result<(), Fail> {
+    let mut kernel = with_page(rt.alloc())?;
+    deliver(&mut kernel, 1, THIRD, &[0x80, 0x6008, 0x60c4])?;
+    let hits = [(0x5000, 7), (0x5fff, 2), (0x6abc, 4), (0x6000, 0)];
+    for (address, access) in hits {
+        let answer = kernel.step(&fault(3, address, access))?;
+        assert_eq!(rt; answer.outcome, Outcome::Started);
+        assert_eq!(rt; answer.ended.as_slice(), [3].as_slice());
+        assert!(rt; matches!(kernel.reply(3), Some(Reply::Hit)));
+    }
+    // A page lacks a right of the access, or isn't there.
+    for (address, access) in [(0x6000, 6), (0x6000, 1), (0x4fff, 4), (0x7000, 0)] {
+        let answer = kernel.step(&fault(3, address, access))?;
+        assert_eq!(rt; answer.ended.as_slice(), [3].as_slice());
+        assert!(rt; matches!(kernel.reply(3), Some(Reply::FaultFailed(4))));
+    }
+    Ok(())
+}
+
+#[test]
+fn a_fault_that_the_pager_answers(rt: HostRuntime) -> Result<(), Fail> {
+    let mut kernel = with_page(rt.alloc())?;
+    kernel.step(&set_pager(2, FOURTH, THIRD))?;
+    let answer = kernel.step(&fault(4, 0x9123, 6))?;
+    assert_eq!(rt; answer.outcome, Outcome::Started);
+    assert!(rt; answer.ended.is_empty());
+    assert!(rt; kernel.enabled().is_none());
+    kernel.step(&receive(3, ANYBODY, 0))?;
+    assert!(rt; matches!(kernel.enabled(), Some(Step::Transfer(4, 3))));
+    let answer = kernel.step(&Step::Transfer(4, 3))?;
+    assert_eq!(rt; answer.outcome, Outcome::Done);
+    assert_eq!(rt; answer.ended.as_slice(), [3].as_slice());
+    assert!(rt; replied(&kernel, 3, 0xffe6_0002, 0, FOURTH, &[0x9123, 0x1234]));
+    // The fault takes no other thread's message, and never expires.
+    kernel.step(&send(1, FOURTH, &[0x1, 9]))?;
+    assert!(rt; kernel.enabled().is_none());
+    kernel.step(&send(3, FOURTH, &[0x80, 0x9008, 0x50c7]))?;
+    assert!(rt; matches!(kernel.enabled(), Some(Step::Transfer(3, 4))));
+    let answer = kernel.step(&Step::Transfer(3, 4))?;
+    assert_eq!(rt; answer.outcome, Outcome::Done);
+    assert_eq!(rt; answer.ended.as_slice(), [3, 4].as_slice());
+    assert!(rt; matches!(kernel.reply(4), Some(Reply::Answered)));
+    assert_eq!(rt; kernel.mapping(3, 9), mapped(5, 7, 2, 5));
+    kernel.step(&fault(4, 0x9123, 6))?;
+    assert!(rt; matches!(kernel.reply(4), Some(Reply::Hit)));
+    Ok(())
+}
+
+#[test]
+fn a_fault_without_a_pager(rt: HostRuntime) -> Result<(), Fail> {
+    let mut kernel = with_page(rt.alloc())?;
+    for pager in [NOBODY, ANYBODY, THIRD, ThreadId(6 * 16384 + 1)] {
+        kernel.step(&set_pager(2, THIRD, pager))?;
+        let answer = kernel.step(&fault(3, 0x9000, 4))?;
+        assert_eq!(rt; answer.outcome, Outcome::Started);
+        assert_eq!(rt; answer.ended.as_slice(), [3].as_slice());
+        assert!(rt; matches!(kernel.reply(3), Some(Reply::FaultFailed(4))));
+    }
+    Ok(())
+}
+
+#[test]
+fn a_fault_that_is_answered_amiss(rt: HostRuntime) -> Result<(), Fail> {
+    let mut kernel = with_page(rt.alloc())?;
+    kernel.step(&set_pager(2, FOURTH, THIRD))?;
+    kernel.step(&fault(4, 0x9000, 4))?;
+    kernel.step(&receive(3, ANYBODY, 0))?;
+    kernel.step(&Step::Transfer(4, 3))?;
+    let both = [0x100, 0x5009, 0x50c7, 0x5008, 0x50c7];
+    kernel.step(&send(3, FOURTH, &both))?;
+    let answer = kernel.step(&Step::Transfer(3, 4))?;
+    assert_eq!(rt; answer.outcome, Outcome::Entangled);
+    assert!(rt; replied(&kernel, 3, 0x8000, 8, NOBODY, &[]));
+    assert!(rt; matches!(kernel.reply(4), Some(Reply::FaultFailed(9))));
+    assert_eq!(rt; kernel.next_page(3, 0), None);
+    Ok(())
+}
+
+#[test]
+fn a_thread_that_is_deleted(rt: HostRuntime) -> Result<(), Fail> {
+    let mut kernel = with_page(rt.alloc())?;
+    deliver(&mut kernel, 3, FOURTH, &[0x80, 0x9008, 0x50c7])?;
+    deliver(&mut kernel, 1, FOURTH, &[0x80, 0x6008, 0x60c7])?;
+    kernel.step(&receive(5, THIRD, 0))?;
+    kernel.step(&send(4, THIRD, &[0x1, 7]))?;
+    kernel.step(&receive(1, ANYBODY, 0))?;
+    let answer = kernel.step(&delete(2, THIRD))?;
+    assert_eq!(rt; answer.outcome, Outcome::Started);
+    assert_eq!(rt; answer.ended.as_slice(), [2, 4, 5].as_slice());
+    assert!(rt; matches!(kernel.reply(2), Some(Reply::Controlled)));
+    assert!(rt; replied(&kernel, 4, 0x8000, 4, NOBODY, &[]));
+    assert!(rt; replied(&kernel, 5, 0x8000, 5, NOBODY, &[]));
+    assert!(rt; kernel.reply(1).is_none());
+    // Its space goes with all that descends from it.
+    assert_eq!(rt; kernel.space_of(3), None);
+    assert_eq!(rt; kernel.next_page(2, 0), None);
+    assert_eq!(rt; kernel.mapping(3, 9), None);
+    assert_eq!(rt; kernel.mapping(3, 6), mapped(6, 7, 0, 6));
+    assert_eq!(rt; kernel.next_page(0, 5), Some(5));
+    assert_eq!(rt;
+        kernel.step(&send(3, SIGMA0, &[0])).err(),
+        Some(Refused::UnknownThread)
+    );
+    // The number of a space is never used again.
+    kernel.step(&create(2, THIRD, THIRD))?;
+    assert_eq!(rt; kernel.space_of(3), Some(5));
+    Ok(())
+}
+
+#[test]
+fn a_space_goes_with_its_last_thread(rt: HostRuntime) -> Result<(), Fail> {
+    let mut kernel = Kernel::boot(rt.alloc(), 256)?;
+    kernel.step(&create(2, THIRD, THIRD))?;
+    kernel.step(&create(2, FOURTH, THIRD))?;
+    deliver(&mut kernel, 1, THIRD, &[0x80, 0x5008, 0x50c7])?;
+    kernel.step(&receive(3, ANYBODY, 0))?;
+    let answer = kernel.step(&delete(2, THIRD))?;
+    assert_eq!(rt; answer.ended.as_slice(), [2, 3].as_slice());
+    assert_eq!(rt; kernel.mapping(2, 5), mapped(5, 7, 0, 5));
+    let answer = kernel.step(&delete(2, FOURTH))?;
+    assert_eq!(rt; answer.ended.as_slice(), [2].as_slice());
+    assert_eq!(rt; kernel.next_page(2, 0), None);
+    Ok(())
+}
+
+#[test]
+fn a_thread_never_deletes_itself(rt: HostRuntime) -> Result<(), Fail> {
+    let mut kernel = Kernel::boot(rt.alloc(), 1)?;
+    kernel.step(&create(2, THIRD, ROOT))?;
+    kernel.step(&create(2, FOURTH, ROOT))?;
+    assert_eq!(rt;
+        kernel.step(&delete(3, THIRD)).err(),
+        Some(Refused::Lower(Lower::Thread(ThreadFault::Kept)))
+    );
+    assert!(rt; kernel.reply(3).is_none());
+    let answer = kernel.step(&delete(3, FOURTH))?;
+    assert_eq!(rt; answer.ended.as_slice(), [3].as_slice());
+    assert_eq!(rt; kernel.space_of(4), None);
+    assert_eq!(rt; kernel.space_of(3), Some(1));
+    Ok(())
+}
+
+#[test]
+fn a_pager_that_is_deleted(rt: HostRuntime) -> Result<(), Fail> {
+    let mut kernel = with_page(rt.alloc())?;
+    kernel.step(&set_pager(2, FOURTH, THIRD))?;
+    kernel.step(&set_pager(2, FIFTH, THIRD))?;
+    kernel.step(&fault(5, 0x9000, 4))?;
+    kernel.step(&receive(3, ANYBODY, 0))?;
+    kernel.step(&Step::Transfer(5, 3))?;
+    kernel.step(&fault(4, 0x9000, 4))?;
+    let answer = kernel.step(&delete(2, THIRD))?;
+    assert_eq!(rt; answer.ended.as_slice(), [2, 4, 5].as_slice());
+    assert!(rt; matches!(kernel.reply(4), Some(Reply::FaultFailed(4))));
+    assert!(rt; matches!(kernel.reply(5), Some(Reply::FaultFailed(5))));
+    assert!(rt; kernel.enabled().is_none());
     Ok(())
 }
 

@@ -11,18 +11,17 @@ use Rattle.l4_ipc.specs.declared.steps.Answer.{Answer}
 use Rattle.l4_shell.specs.Answers.{refused_text, kernel_refusal}
 use Rattle.l4_ipc.specs.declared.calls.Call.{Call}
 use Rattle.l4_ipc.specs.Machine.{Machine}
-use Rattle.l4_ipc.specs.Steps.{IsNext, IsIdle}
-use Rattle.l4_ipc.specs.Stages.{StepsYet}
+use Rattle.l4_ipc.specs.Steps.{Steps, IsNext, IsIdle}
 use Rattle.l4_text.specs.Streams.{Tells}
 use Rattle.l4_shell.specs.Sessions.{Done, AreNext, done_text, step_text, is_among, ended_in, waiting_text, GoesOn, Enters}
 use Rattle.std.specs.List.{flat_map}
 use Rattle.l4_text.proofs.Telling.{tells_none, tells_more, tells_is}
 
 -- one step after those that were done
-next_more : (old between new : Machine) (steps : List Done) (step : Step) (answer : Answer) → AreNext old steps between → IsNext between step → StepsYet between step (Ok answer) new
+next_more : (old between new : Machine) (steps : List Done) (step : Step) (answer : Answer) → AreNext old steps between → IsNext between step → Steps between step (Ok answer) new
     → AreNext old (steps ++ record { step = step; answer = answer; after = new } ∷ []) new
 next_more old between new [] step answer are next is =
-    (subst (λ (m : Machine). IsNext m step) are next, subst (λ (m : Machine). StepsYet m step (Ok answer) new) are is, refl)
+    (subst (λ (m : Machine). IsNext m step) are next, subst (λ (m : Machine). Steps m step (Ok answer) new) are is, refl)
 next_more old between new (done ∷ steps) step answer are next is =
     (are.0, are.1, next_more done.after between new steps step answer are.2 next is)
 
@@ -43,7 +42,7 @@ going_none old thread ended has a s is = record {
 }
 
 pub going_more : (old : Machine) (thread : ℕ) (ended : List ℕ) (m : Machine) (has : Bool) (written a b : Option (List ℕ)) (before s t : List ℕ × Bool)
-    (new : Machine) (step : Step) (answer : Answer) (has' : Bool) → Going old thread ended m has written a before s → IsNext m step → StepsYet m step (Ok answer) new
+    (new : Machine) (step : Step) (answer : Answer) (has' : Bool) → Going old thread ended m has written a before s → IsNext m step → Steps m step (Ok answer) new
     → Tells a b s t (step_text step answer new) → has' ≡ is_among thread answer.ended.items → Going old thread ended new (has || has') written b before t
 going_more old thread ended m has written a b before s t new step answer has' g next is tells has_is =
     let done : Done = record { step = step; answer = answer; after = new } in
@@ -72,7 +71,7 @@ going_done old thread ended m new has written a b before s t g idle same tells =
 
 -- the call was started
 pub enters_on : (old started new : Machine) (line thread : ℕ) (call : Call) (answer : Answer) (written a b : Option (List ℕ)) (before s t : List ℕ × Bool)
-    → StepsYet old (Start thread call) (Ok answer) started → Tells written a before s (step_text (Start thread call) answer started)
+    → Steps old (Start thread call) (Ok answer) started → Tells written a before s (step_text (Start thread call) answer started)
     → (rest : List ℕ) × GoesOn started thread answer.ended.items rest new × Tells a b s t rest
     → (text : List ℕ) × Enters old line thread call text new × Tells written b before t text
 enters_on old started new line thread call answer written a b before s t starts first g = (
@@ -83,7 +82,7 @@ enters_on old started new line thread call answer written a b before s t starts 
 
 -- the call was refused
 pub enters_not : (old new : Machine) (line thread : ℕ) (call : Call) (refusal : Refused) (text : List ℕ) (written b : Option (List ℕ)) (before t : List ℕ × Bool)
-    → StepsYet old (Start thread call) (Err refusal) new → text ≡ refused_text line (kernel_refusal refusal) → Tells written b before t text
+    → Steps old (Start thread call) (Err refusal) new → text ≡ refused_text line (kernel_refusal refusal) → Tells written b before t text
     → (text : List ℕ) × Enters old line thread call text new × Tells written b before t text
 enters_not old new line thread call refusal text written b before t refused is tells =
     (text, inr (record { refusal = refusal; refused = refused; text_is = is }), tells)

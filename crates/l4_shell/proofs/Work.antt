@@ -21,7 +21,6 @@ use Rattle.l4_ipc.specs.declared.steps.Answer.{Answer}
 use Rattle.l4_ipc.specs.Start.{enters}
 use Rattle.l4_ipc.specs.Machine.{Machine}
 use Rattle.l4_ipc.specs.Steps.{Steps, IsNext, is_done, sender_next, expiry, receiver_reply}
-use Rattle.l4_ipc.specs.Stages.{StepsYet}
 use Rattle.l4_ipc.proofs.Threads.{state_other}
 
 -- a thread that waits counts
@@ -87,15 +86,10 @@ entered t n thread (Sends s) is =
     omega (arith, changed t (record t { before = set.union t.before (set.from_list (map (λ m. (m, n)) (senders t))) }) n thread (IsSender s) is refl)
 entered t n thread (Receives r) is = omega (arith, changed t (out_of_queue t n) n thread (IsReceiver r) is refl)
 
--- a step that is done at this stage is one of the machine's
-pub step_of : (old new : Machine) (step : Step) (answer : Answer) → StepsYet old step (Ok answer) new → Steps old step (Ok answer) new
-step_of old new step answer h = elim h [ inl put_off ↦ absurd (let e = put_off.1 in cc) | inr done ↦ done.1 ]
-
 -- each step that comes next leaves fewer threads that wait
-pub fewer : (old new : Machine) (step : Step) (answer : Answer) → IsNext old step → StepsYet old step (Ok answer) new → work new.threads < work old.threads
-fewer old new (Start n call) answer next steps = absurd next
-fewer old new (Transfer sender receiver) answer next steps =
-    let s = step_of old new (Transfer sender receiver) answer steps in
+pub fewer : (old new : Machine) (step : Step) (answer : Answer) → IsNext old step → Steps old step (Ok answer) new → work new.threads < work old.threads
+fewer old new (Start n call) answer next s = absurd next
+fewer old new (Transfer sender receiver) answer next s =
     let «from» = s.0 in
     let to = s.1 in
     let sends = s.2 in
@@ -115,8 +109,7 @@ fewer old new (Transfer sender receiver) answer next steps =
     let b : waits to.state ≡ 1 = ap waits meets.to_state in
     let after : work new.threads ≡ work (enters between sender (sender_next done old.threads sends)) = ap work s.7 in
     omega (arith, one, two, a, b, after)
-fewer old new (Expire n) answer next steps =
-    let s = step_of old new (Expire n) answer steps in
+fewer old new (Expire n) answer next s =
     let able = s.0 in
     let at : (thread : Thread) × ((thread_at old.threads n ≡ Some thread) × (thread.state ≡ able.state)) = there_is (thread_at old.threads n) able.state able.at in
     let one = changed old.threads (out_of_queue old.threads n) n at.0 (Running (Some (expiry able.state))) at.1.0 refl in

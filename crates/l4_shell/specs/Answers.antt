@@ -5,7 +5,7 @@ use Rattle.l4_fpage.specs.Rights.{RightsSet}
 use Rattle.l4_ipc.specs.declared.steps.Outcome.{Outcome}
 use Rattle.l4_ipc.specs.declared.steps.Outcome.TheVariants.{Started, Done, NoWindow, Entangled, NoMemory, Expired}
 use Rattle.l4_ipc.specs.declared.steps.Refused.{Refused}
-use Rattle.l4_ipc.specs.declared.steps.Refused.TheVariants.{NotEnabled, UnknownThread, Busy, BadTimeout, Lower as Below, BadFrames, NotYet}
+use Rattle.l4_ipc.specs.declared.steps.Refused.TheVariants.{NotEnabled, UnknownThread, Busy, BadTimeout, Lower as Below, BadFrames}
 use Rattle.l4_ipc.specs.declared.steps.Lower.TheVariants.{Message, Unmap, Thread, NoMemory as LacksMemory}
 use Rattle.l4_unmap.specs.declared.UnmapFault.{UnmapFault}
 use Rattle.l4_unmap.specs.declared.UnmapFault.TheVariants.{BadFpage, TooFew}
@@ -142,7 +142,6 @@ kernel_refusal (Below (Unmap fault)) = unmap_refusal fault
 kernel_refusal (Below (Thread fault)) = thread_refusal fault
 kernel_refusal (Below LacksMemory) = plainly (codes "NoMemory")
 kernel_refusal BadFrames = plainly (codes "K6")
-kernel_refusal NotYet = plainly (codes "K7")
 
 -- the code of a line that can't be read
 abbrev pub script_refusal : ScriptFault → Refusal

@@ -1,12 +1,12 @@
 -- What the tokens of a line ask for (this profile's own).
 use Rattle.std.specs.Prelude.{ℕ, ◌^◌, Bool, List, [], ◌∷◌, length, nat_le, Option, Some, None, Result, Err, option_and_then, ok_or, if◌then◌else◌, codes}
 use Rattle.std.specs.Str.{bytes_eq}
-use Rattle.l4_shell.specs.declared.commands.Partner.{Partner}
-use Rattle.l4_shell.specs.declared.commands.Partner.TheVariants.{Nil, Any, Thread as One}
-use Rattle.l4_shell.specs.declared.commands.NewSpace.{NewSpace}
-use Rattle.l4_shell.specs.declared.commands.NewSpace.TheVariants.{New, Of}
+use Rattle.l4_shell.specs.declared.partners.Partner.{Partner}
+use Rattle.l4_shell.specs.declared.partners.Partner.TheVariants.{Nil, Any, Thread as One}
+use Rattle.l4_shell.specs.declared.partners.NewSpace.{NewSpace}
+use Rattle.l4_shell.specs.declared.partners.NewSpace.TheVariants.{New, Of}
 use Rattle.l4_shell.specs.declared.commands.Command.{Command}
-use Rattle.l4_shell.specs.declared.commands.Command.TheVariants.{Thread, SetPager, Receive, Send, Ipc, Unmap, Show, Parent}
+use Rattle.l4_shell.specs.declared.commands.Command.TheVariants.{Thread, SetPager, Delete, Receive, Send, Ipc, Unmap, Show, Parent}
 use Rattle.l4_shell.specs.declared.commands.ScriptFault.{ScriptFault}
 use Rattle.l4_shell.specs.declared.commands.ScriptFault.TheVariants.{UnknownCommand, BadTokens}
 use Rattle.l4_text.specs.Numbers.{below, number_of}
@@ -34,6 +34,12 @@ partner_of token = if is_word (codes "any") token then Some Any else nil_or_thre
 -- new, or a thread's number
 unfoldable pub new_space_of : List ℕ → Option NewSpace
 new_space_of token = if is_word (codes "new") token then Some New else (thread_of token >>= λ n. Some (Of n))
+
+-- one token and no more
+abbrev pub one_of : List (List ℕ) → Option (List ℕ)
+one_of [] = None
+one_of (a ∷ []) = Some a
+one_of (a ∷ b ∷ tokens) = None
 
 -- two tokens and no more
 abbrev pub two_of : List (List ℕ) → Option (List ℕ × List ℕ)
@@ -66,6 +72,13 @@ set_pager_asked tokens = do
   number ← thread_of two.0
   pager ← nil_or_thread_of two.1
   Some (SetPager number pager)
+
+-- N
+unfoldable pub delete_asked : List (List ℕ) → Option Command
+delete_asked tokens = do
+  token ← one_of tokens
+  number ← thread_of token
+  Some (Delete number)
 
 -- N FROM WINDOW
 unfoldable pub receive_asked : List (List ℕ) → Option Command
@@ -144,10 +157,11 @@ command_of [] = Err UnknownCommand
 command_of (name ∷ tokens) =
     if is_word (codes "thread") name then ok_or (thread_asked tokens) BadTokens
     else (if is_word (codes "setpager") name then ok_or (set_pager_asked tokens) BadTokens
+    else (if is_word (codes "delete") name then ok_or (delete_asked tokens) BadTokens
     else (if is_word (codes "recv") name then ok_or (receive_asked tokens) BadTokens
     else (if is_word (codes "send") name then ok_or (send_asked tokens) BadTokens
     else (if is_word (codes "ipc") name then ok_or (ipc_asked tokens) BadTokens
     else (if is_word (codes "unmap") name then ok_or (unmap_asked tokens) BadTokens
     else (if is_word (codes "show") name then ok_or (show_asked tokens) BadTokens
     else (if is_word (codes "parent") name then ok_or (parent_asked tokens) BadTokens
-    else Err UnknownCommand)))))))
+    else Err UnknownCommand))))))))

@@ -4,13 +4,13 @@ use Rattle.l4_threads.specs.declared.ThreadId.{ThreadId}
 use Rattle.l4_threads.specs.Threads.{nilthread, anythread}
 use Rattle.l4_ipc.specs.declared.calls.Call.{Call}
 use Rattle.l4_ipc.specs.declared.calls.Call.TheVariants.{Ipc as Exchanges, Unmap as Unmaps, Control as Controls}
-use Rattle.l4_ipc.specs.declared.calls.Control.TheVariants.{Create, SetPager as ChangePager}
-use Rattle.l4_shell.specs.declared.commands.Partner.{Partner}
-use Rattle.l4_shell.specs.declared.commands.Partner.TheVariants.{Nil, Any, Thread as One}
-use Rattle.l4_shell.specs.declared.commands.NewSpace.{NewSpace}
-use Rattle.l4_shell.specs.declared.commands.NewSpace.TheVariants.{New, Of}
+use Rattle.l4_ipc.specs.declared.calls.Control.TheVariants.{Create, SetPager as ChangePager, Delete as End}
+use Rattle.l4_shell.specs.declared.partners.Partner.{Partner}
+use Rattle.l4_shell.specs.declared.partners.Partner.TheVariants.{Nil, Any, Thread as One}
+use Rattle.l4_shell.specs.declared.partners.NewSpace.{NewSpace}
+use Rattle.l4_shell.specs.declared.partners.NewSpace.TheVariants.{New, Of}
 use Rattle.l4_shell.specs.declared.commands.Command.{Command}
-use Rattle.l4_shell.specs.declared.commands.Command.TheVariants.{Thread, SetPager, Receive, Send, Ipc, Unmap, Show, Parent}
+use Rattle.l4_shell.specs.declared.commands.Command.TheVariants.{Thread, SetPager, Delete, Receive, Send, Ipc, Unmap, Show, Parent}
 use Rattle.l4_shell.specs.declared.requests.Request.{Request}
 use Rattle.l4_shell.specs.declared.requests.Request.TheVariants.{Enter, ListPages, TellParent}
 use Rattle.l4_shell.specs.declared.commands.ScriptFault.{ScriptFault}
@@ -46,6 +46,10 @@ create_call number space pager =
 abbrev pub set_pager_call : ℕ → Partner → Call
 set_pager_call number pager = Controls (ChangePager (record { id = script_id number; pager = partner_id pager }))
 
+-- `delete`: a thread is deleted
+abbrev pub delete_call : ℕ → Call
+delete_call number = Controls (End (script_id number))
+
 -- `ipc`: both partners, the timeouts, the receive window and the message registers from MR0 on
 abbrev pub ipc_call : Partner → Partner → ℕ → ℕ → List ℕ → Call
 ipc_call to «from» timeouts window words =
@@ -63,10 +67,11 @@ send_call partner words = ipc_call partner Nil 0 0 words
 abbrev pub unmap_call : ℕ → List ℕ → Call
 unmap_call control words = Unmaps (record { control = control; words = record { items = words } })
 
--- what a command comes to; thread 2 is root, which creates threads and names their pagers
+-- what a command comes to; thread 2 is root, which creates and deletes threads and names their pagers
 abbrev pub request_of : Command → Request
 request_of (Thread number space pager) = Enter 2 (create_call number space pager)
 request_of (SetPager number pager) = Enter 2 (set_pager_call number pager)
+request_of (Delete number) = Enter 2 (delete_call number)
 request_of (Receive number partner window) = Enter number (receive_call partner window)
 request_of (Send number partner words) = Enter number (send_call partner words)
 request_of (Ipc number to «from» timeouts window words) = Enter number (ipc_call to «from» timeouts window words)

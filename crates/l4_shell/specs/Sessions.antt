@@ -14,8 +14,7 @@ use Rattle.l4_ipc.specs.declared.steps.Refused.{Refused}
 use Rattle.l4_ipc.specs.declared.steps.Refused.TheVariants.{UnknownThread}
 use Rattle.l4_ipc.specs.Machine.{Machine, IsBoot}
 use Rattle.l4_ipc.specs.Reading.{reply_of}
-use Rattle.l4_ipc.specs.Stages.{StepsYet}
-use Rattle.l4_ipc.specs.Steps.{IsNext, IsIdle}
+use Rattle.l4_ipc.specs.Steps.{Steps, IsNext, IsIdle}
 use Rattle.l4_shell.specs.declared.commands.Command.{Command}
 use Rattle.l4_shell.specs.declared.commands.ScriptFault.{ScriptFault}
 use Rattle.l4_shell.specs.declared.requests.Request.{Request}
@@ -51,7 +50,7 @@ pub record Done : Type 0 where
 abbrev pub AreNext : Machine → List Done → Machine → Type 0
 AreNext old [] new = new ≡ old
 AreNext old (done ∷ rest) new =
-    IsNext old done.step × StepsYet old done.step (Ok done.answer) done.after × AreNext done.after rest new
+    IsNext old done.step × Steps old done.step (Ok done.answer) done.after × AreNext done.after rest new
 
 abbrev pub done_text : Done → List ℕ
 done_text done = step_text done.step done.answer done.after
@@ -82,7 +81,7 @@ pub record GoesOn (old : Machine) (thread : ℕ) (ended text : List ℕ) (new : 
 pub record Follows (old : Machine) (thread : ℕ) (call : Call) (text : List ℕ) (new : Machine) : Type 0 where
   pub answer : Answer
   pub started : Machine
-  pub starts : StepsYet old (Start thread call) (Ok answer) started
+  pub starts : Steps old (Start thread call) (Ok answer) started
   pub rest : List ℕ
   pub goes_on : GoesOn started thread answer.ended.items rest new
   pub text_is : text ≡ step_text (Start thread call) answer started ++ rest
@@ -90,7 +89,7 @@ pub record Follows (old : Machine) (thread : ℕ) (call : Call) (text : List ℕ
 -- the call of this line was refused, and the text is its refusal
 pub record Refuses (old : Machine) (line thread : ℕ) (call : Call) (text : List ℕ) (new : Machine) : Type 0 where
   pub refusal : Refused
-  pub refused : StepsYet old (Start thread call) (Err refusal) new
+  pub refused : Steps old (Start thread call) (Err refusal) new
   pub text_is : text ≡ refused_text line (kernel_refusal refusal)
 
 abbrev pub Enters : Machine → ℕ → ℕ → Call → List ℕ → Machine → Type 0

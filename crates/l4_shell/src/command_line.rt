@@ -70,6 +70,8 @@ are skipped.
   thread N SPACE PAGER   root creates thread N, in a new space (SPACE is new) or
                          in the space of a thread; PAGER is a thread or nil
   setpager N PAGER       root changes the pager of thread N
+  delete N               root deletes thread N, which can't be 1 or 2; a space
+                         goes with its last thread
   recv N FROM WINDOW     N receives from a thread, from any, or from nil (which
                          receives nothing); WINDOW is the word of an fpage: 0
                          takes no pages, 0x10 takes pages anywhere
@@ -94,6 +96,7 @@ page i; thread 2 is root. Numbers are decimal, or hexadecimal after 0x.
   N ipc TAG ERROR FROM WORD..      an ipc of N ended
   N unmap ok                       an unmap of N ended
   N control ok                     root's call ended (N is 2)
+  N gone                           N was deleted while its call went on
   transfer S R done                a message went from S to R
   expire N                         a wait of N with a timeout of zero ended
   N waits                          the call goes on until a later line ends it

@@ -2,8 +2,9 @@
 ghost use Rattle.std.specs.Prelude.{◌≡◌};
 ghost use Rattle.std.specs.Prelude.{◌+◌, ◌≤◌, [], length, option_map};
 ghost use Rattle.l4_text.specs.Tokens.{tokens_of};
-ghost use Rattle.l4_shell.specs.Commands.{thread_of, nil_or_thread_of, partner_of, new_space_of, two_of, three_of, thread_asked, set_pager_asked, receive_asked, show_asked, parent_asked, send_asked, ipc_asked, unmap_asked, words_of, command_of};
+ghost use Rattle.l4_shell.specs.Commands.{one_of, two_of, three_of, thread_asked, set_pager_asked, delete_asked, receive_asked, show_asked, parent_asked, send_asked, ipc_asked, unmap_asked, words_of, command_of};
 
+use crate::partners::{NewSpace, Partner, any_or_thread, new_space, nil_or_thread, thread_number};
 use arrayvec::ArrayVec;
 use l4_text::{next_token, number};
 use std::marker::Model;
@@ -22,23 +23,6 @@ pub(crate) enum ScriptFault {
     LineTooLong,
     /// The input ends before the line's newline (S4).
     CutLine,
-}
-
-/// The space of a new thread.
-#[derive(Clone, Copy, Debug, PartialEq, Eq)]
-pub(crate) enum NewSpace {
-    /// A new space.
-    New,
-    /// The space of the thread of this number.
-    Of(u32),
-}
-
-/// A thread, all threads or none.
-#[derive(Clone, Copy, Debug, PartialEq, Eq)]
-pub(crate) enum Partner {
-    Nil,
-    Any,
-    Thread(u32),
 }
 
 /// The words of a message, at most 64.
@@ -87,6 +71,10 @@ pub(crate) enum Command {
         number: u32,
         pager: Partner,
     },
+    /// Root deletes a thread.
+    Delete {
+        number: u32,
+    },
     /// A thread receives, with this window.
     Receive {
         number: u32,
@@ -127,15 +115,11 @@ pub(crate) enum Command {
     },
 }
 
-const NIL: &[u8] = b"nil";
-
-const ANY: &[u8] = b"any";
-
-const NEW: &[u8] = b"new";
-
 const THREAD: &[u8] = b"thread";
 
 const SETPAGER: &[u8] = b"setpager";
+
+const DELETE: &[u8] = b"delete";
 
 const RECV: &[u8] = b"recv";
 
@@ -148,6 +132,17 @@ const UNMAP: &[u8] = b"unmap";
 const SHOW: &[u8] = b"show";
 
 const PARENT: &[u8] = b"parent";
+
+/// The token of a line of exactly one.
+fn one(line: &[u8]) -> Option<&[u8]>
+    ensures { option_map (λ p. p.now) result ≡ one_of (tokens_of line.now) }
+{
+    let (first, rest) = next_token(line)?;
+    match next_token(rest) {
+        None => Some(first),
+        Some(_) => None,
+    }
+}
 
 /// The tokens of a line of exactly two.
 fn two(line: &[u8]) -> Option<(&[u8], &[u8])>
@@ -174,48 +169,6 @@ fn three(line: &[u8]) -> Option<(&[u8], (&[u8], &[u8]))>
     }
 }
 
-/// A thread's number, below 2^18.
-#[tactic(auto, unfolding(crate::specs::Commands::thread_of))]
-fn thread_number(text: &[u8]) -> Option<u32>
-    ensures { result ≡ thread_of text.now }
-{
-    let value = number(text)?;
-    if value < 0x4_0000 { Some(value) } else { None }
-}
-
-/// A thread's number, or the word `nil`.
-#[tactic(auto, unfolding(crate::specs::Commands::nil_or_thread_of))]
-fn nil_or_thread(token: &[u8]) -> Option<Partner>
-    ensures { result ≡ nil_or_thread_of token.now }
-{
-    if token == NIL {
-        return Some(Partner::Nil);
-    }
-    Some(Partner::Thread(thread_number(token)?))
-}
-
-/// A thread's number, or one of the words `nil` and `any`.
-#[tactic(auto, unfolding(crate::specs::Commands::partner_of))]
-fn any_or_thread(token: &[u8]) -> Option<Partner>
-    ensures { result ≡ partner_of token.now }
-{
-    if token == ANY {
-        return Some(Partner::Any);
-    }
-    nil_or_thread(token)
-}
-
-/// The word `new`, or a thread's number.
-#[tactic(auto, unfolding(crate::specs::Commands::new_space_of))]
-fn new_space(token: &[u8]) -> Option<NewSpace>
-    ensures { result ≡ new_space_of token.now }
-{
-    if token == NEW {
-        return Some(NewSpace::New);
-    }
-    Some(NewSpace::Of(thread_number(token)?))
-}
-
 /// `N SPACE PAGER`
 #[tactic(auto, unfolding(crate::specs::Commands::thread_asked))]
 fn thread(line: &[u8]) -> Option<Command>
@@ -238,6 +191,16 @@ fn set_pager(line: &[u8]) -> Option<Command>
     Some(Command::SetPager {
         number: thread_number(number)?,
         pager: nil_or_thread(pager)?,
+    })
+}
+
+/// `N`
+#[tactic(auto, unfolding(crate::specs::Commands::delete_asked))]
+fn delete(line: &[u8]) -> Option<Command>
+    ensures { result ≡ delete_asked (tokens_of line.now) }
+{
+    Some(Command::Delete {
+        number: thread_number(one(line)?)?,
     })
 }
 
@@ -358,6 +321,9 @@ pub(crate) fn read_command(line: &[u8]) -> Result<Command, ScriptFault>
     }
     if name == SETPAGER {
         return set_pager(rest).ok_or(ScriptFault::BadTokens);
+    }
+    if name == DELETE {
+        return delete(rest).ok_or(ScriptFault::BadTokens);
     }
     if name == RECV {
         return receive(rest).ok_or(ScriptFault::BadTokens);

@@ -4,6 +4,7 @@
 mod answers;
 mod command_line;
 mod commands;
+mod partners;
 mod refusals;
 mod requests;
 mod running;

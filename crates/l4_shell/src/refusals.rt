@@ -98,7 +98,6 @@ pub fn refused_code(refused: Refused) -> Code
         Refused::Lower(Lower::Thread(fault)) => thread_code(fault),
         Refused::Lower(Lower::NoMemory) => plain(b"NoMemory"),
         Refused::BadFrames => plain(b"K6"),
-        Refused::NotYet => plain(b"K7"),
     }
 }
 

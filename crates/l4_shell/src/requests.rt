@@ -1,12 +1,13 @@
 //! What a command comes to: a call that a thread enters, or pages that are told.
 ghost use Rattle.std.specs.Prelude.{◌≡◌};
-ghost use Rattle.l4_shell.specs.Requests.{script_id, partner_id, space_id, create_call, set_pager_call, receive_call, send_call, ipc_call, unmap_call, request_of};
+ghost use Rattle.l4_shell.specs.Requests.{script_id, partner_id, space_id, create_call, set_pager_call, delete_call, receive_call, send_call, ipc_call, unmap_call, request_of};
 
-use crate::commands::{Command, NewSpace, Partner, Words};
+use crate::commands::{Command, Words};
+use crate::partners::{NewSpace, Partner};
 use l4_ipc::{Call, Control, Create, IpcCall, SetPager, UnmapCall};
 use l4_threads::ThreadId;
 
-/// The thread that creates threads, and names their pagers.
+/// The thread that creates and deletes threads, and names their pagers.
 const ROOT: u32 = 2;
 
 /// What a command comes to. Threads go by their numbers.
@@ -69,6 +70,13 @@ fn set_pager_call(number: u32, pager: Partner) -> Call
     }))
 }
 
+/// Root's call that deletes a thread.
+fn delete_call(number: u32) -> Call
+    ensures { result ≡ delete_call number }
+{
+    Call::Control(Control::Delete(id_of(number)))
+}
+
 /// An Ipc of these parts.
 fn ipc_call(to: Partner, from: Partner, timeouts: u32, window: u32, words: Words) -> Call
     ensures { result ≡ ipc_call to «from» timeouts window words }
@@ -117,6 +125,7 @@ pub(crate) fn request_of(command: Command) -> Request
             pager,
         } => Request::Enter(ROOT, create_call(number, space, pager)),
         Command::SetPager { number, pager } => Request::Enter(ROOT, set_pager_call(number, pager)),
+        Command::Delete { number } => Request::Enter(ROOT, delete_call(number)),
         Command::Receive {
             number,
             from,

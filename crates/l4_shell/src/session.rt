@@ -1,7 +1,6 @@
 //! Script lines over a kernel.
 ghost use Rattle.std.specs.Prelude.{◌≡◌, ℕ, List, MatchOption, Ok};
-ghost use Rattle.l4_ipc.specs.Stages.{StepsYet};
-ghost use Rattle.l4_ipc.specs.Steps.{IsNext, IsIdle};
+ghost use Rattle.l4_ipc.specs.Steps.{Steps, IsNext, IsIdle};
 ghost use Rattle.l4_text.specs.Streams.{Tells};
 ghost use Rattle.l4_text.specs.Tokens.{tokens_of};
 ghost use Rattle.l4_shell.specs.Requests.{is_comment, is_empty, asked_at};
@@ -96,7 +95,7 @@ fn has_ended(answer: &Answer, thread: u32) -> bool
 /// Does the step that comes next. None where there is none.
 fn go_on(kernel: &mut Kernel) -> Option<(Step, Answer)>
     ensures next { MatchOption result (IsIdle kernel.old) (λ d. IsNext kernel.old d.0
-        × StepsYet kernel.old d.0 (Ok d.1) kernel.new) }
+        × Steps kernel.old d.0 (Ok d.1) kernel.new) }
     ensures still { result ≡ None → kernel.new ≡ kernel.old }
 {
     let Some(step) = kernel.enabled() else {

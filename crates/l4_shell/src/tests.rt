@@ -180,7 +180,7 @@ fn does_ipcs(rt: HostRuntime) -> Result<(), Fail> {
 
 #[test]
 fn names_the_callers(rt: HostRuntime) -> Result<(), Fail> {
-    let rows: [(&[u8], &[u8]); 4] = [
+    let rows: [(&[u8], &[u8]); 5] = [
         (b"unmap 7 0\n", b"line 1 refused K2\n"),
         (
             b"recv 1 any 0\nunmap 1 0x40 0x37\n",
@@ -190,6 +190,7 @@ fn names_the_callers(rt: HostRuntime) -> Result<(), Fail> {
             b"recv 2 any 0\nsetpager 1 nil\n",
             b"2 waits\nline 2 refused K3\n",
         ),
+        (b"recv 2 any 0\ndelete 1\n", b"2 waits\nline 2 refused K3\n"),
         (
             b"recv 1 any 0\nipc 1 nil nil 0 0\n",
             b"1 waits\nline 2 refused K3\n",
@@ -200,7 +201,7 @@ fn names_the_callers(rt: HostRuntime) -> Result<(), Fail> {
 
 #[test]
 fn refuses_wrong_tokens(rt: HostRuntime) -> Result<(), Fail> {
-    let lines: [&[u8]; 26] = [
+    let lines: [&[u8]; 33] = [
         b"ipc\n",
         b"ipc 1\n",
         b"ipc 1 nil nil 0\n",
@@ -227,6 +228,13 @@ fn refuses_wrong_tokens(rt: HostRuntime) -> Result<(), Fail> {
         b"setpager 262144 1\n",
         b"setpager 1 any\n",
         b"setpager 1 262144\n",
+        b"delete\n",
+        b"delete 1 2\n",
+        b"delete nil\n",
+        b"delete any\n",
+        b"delete new\n",
+        b"delete 262144\n",
+        b"delete 4294967296\n",
     ];
     for line in lines {
         let mut script = line;
@@ -293,6 +301,18 @@ fn reads_calls(rt: HostRuntime) -> Result<(), Fail> {
     assert_eq!(rt; caller, 2);
     assert_eq!(rt; change.id.0, 0x1_4001);
     assert_eq!(rt; change.pager.0, 0xc001);
+
+    let (caller, call) = entered(b"delete 5")?;
+    let Call::Control(Control::Delete(id)) = call else {
+        return Err("no Delete".into());
+    };
+    assert_eq!(rt; caller, 2);
+    assert_eq!(rt; id.0, 0x1_4001);
+    let (_, call) = entered(b"delete 262143")?;
+    let Call::Control(Control::Delete(id)) = call else {
+        return Err("no Delete".into());
+    };
+    assert_eq!(rt; id.0, 0xffff_c001);
     Ok(())
 }
 

@@ -1,0 +1,56 @@
+//! Deletions of threads.
+ghost use Rattle.std.specs.Prelude.{◌≡◌, ◌<◌, ◌∷◌, length, IsTrue, MatchOption};
+ghost use Rattle.l4_mapdb.specs.Losing.{EndsSpace};
+ghost use Rattle.l4_threads.specs.Threads.{runs};
+ghost use Rattle.l4_ipc.specs.Machine.{machine};
+ghost use Rattle.l4_ipc.specs.Steps.{Steps};
+ghost use Rattle.l4_ipc.specs.declared.steps.Step.TheVariants.{Start};
+ghost use Rattle.l4_ipc.specs.declared.calls.Call.TheVariants.{Control as Controls};
+ghost use Rattle.l4_ipc.specs.declared.calls.Control.TheVariants.{Delete as Deletion};
+
+use crate::steps::{Answer, Lower, Outcome, Refused};
+use arrayvec::ArrayVec;
+use l4_mapdb::Forest;
+use l4_threads::{Reply, ThreadId, Threads};
+
+/// Ends the space of a deleted thread, where it was the last one there.
+fn end_space(forest: &mut Forest, space: Option<u64>)
+    ensures { MatchOption space (forest.new ≡ forest.old) (λ ended. EndsSpace ended forest.old forest.new) }
+{
+    if let Some(space) = space {
+        forest.end_space(space);
+    }
+}
+
+/// The caller, and then the others.
+fn caller_first(number: u32, others: ArrayVec<u32, 64>) -> ArrayVec<u32, 64>
+    requires { length others.items < 64 }
+    ensures { result.items ≡ number ∷ others.items }
+{
+    let mut ended = others;
+    ended.insert(0, number);
+    ended
+}
+
+/// Deletes a thread for a running thread.
+pub fn delete(
+    threads: &mut Threads,
+    forest: &mut Forest,
+    number: u32,
+    id: ThreadId,
+) -> Result<Answer, Refused>
+    requires { IsTrue (runs threads.old number) }
+    ensures { Steps (machine threads.old forest.old) (Start number (Controls (Deletion id))) result (machine threads.new forest.new) }
+{
+    threads.law_consistent();
+    let deleted = match threads.delete(number, id) {
+        Ok(deleted) => deleted,
+        Err(fault) => return Err(Refused::Lower(Lower::Thread(fault))),
+    };
+    end_space(forest, deleted.space);
+    threads.end_call(number, Reply::Controlled);
+    Ok(Answer {
+        outcome: Outcome::Started,
+        ended: caller_first(number, deleted.ended),
+    })
+}

@@ -1,0 +1,70 @@
+//! The threads that tokens name, and the words in their place.
+ghost use Rattle.std.specs.Prelude.{◌≡◌};
+ghost use Rattle.l4_shell.specs.Commands.{thread_of, nil_or_thread_of, partner_of, new_space_of};
+
+use l4_text::number;
+
+/// The space of a new thread.
+#[derive(Clone, Copy, Debug, PartialEq, Eq)]
+pub(crate) enum NewSpace {
+    /// A new space.
+    New,
+    /// The space of the thread of this number.
+    Of(u32),
+}
+
+/// A thread, all threads or none.
+#[derive(Clone, Copy, Debug, PartialEq, Eq)]
+pub(crate) enum Partner {
+    Nil,
+    Any,
+    Thread(u32),
+}
+
+const NIL: &[u8] = b"nil";
+
+const ANY: &[u8] = b"any";
+
+const NEW: &[u8] = b"new";
+
+/// A thread's number, below 2^18.
+#[tactic(auto, unfolding(crate::specs::Commands::thread_of))]
+pub(crate) fn thread_number(text: &[u8]) -> Option<u32>
+    ensures { result ≡ thread_of text.now }
+{
+    let value = number(text)?;
+    if value < 0x4_0000 { Some(value) } else { None }
+}
+
+/// A thread's number, or the word `nil`.
+#[tactic(auto, unfolding(crate::specs::Commands::nil_or_thread_of))]
+pub(crate) fn nil_or_thread(token: &[u8]) -> Option<Partner>
+    ensures { result ≡ nil_or_thread_of token.now }
+{
+    if token == NIL {
+        return Some(Partner::Nil);
+    }
+    Some(Partner::Thread(thread_number(token)?))
+}
+
+/// A thread's number, or one of the words `nil` and `any`.
+#[tactic(auto, unfolding(crate::specs::Commands::partner_of))]
+pub(crate) fn any_or_thread(token: &[u8]) -> Option<Partner>
+    ensures { result ≡ partner_of token.now }
+{
+    if token == ANY {
+        return Some(Partner::Any);
+    }
+    nil_or_thread(token)
+}
+
+/// The word `new`, or a thread's number.
+#[tactic(auto, unfolding(crate::specs::Commands::new_space_of))]
+pub(crate) fn new_space(token: &[u8]) -> Option<NewSpace>
+    ensures { result ≡ new_space_of token.now }
+{
+    if token == NEW {
+        return Some(NewSpace::New);
+    }
+    Some(NewSpace::Of(thread_number(token)?))
+}
