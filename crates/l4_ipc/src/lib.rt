@@ -15,6 +15,7 @@ mod steps;
 
 pub use calls::{Call, Control, Create, FaultCall, IpcCall, SetPager, UnmapCall};
 pub use kernel::Kernel;
+pub use l4_threads::{IpcReply, Reply};
 pub use next::Next;
 pub use sent::Sent;
 pub use steps::{Answer, Lower, Outcome, Refused, Step};

@@ -1,4 +1,4 @@
--- Whether two places are one, as a truth value.
+-- Whether two places are one, as a truth value. (this profile's own)
 use Rattle.std.specs.Prelude.{Bool, ◌&&◌, nat_eq}
 use Rattle.l4_mapdb.specs.declared.Place.{Place}
 

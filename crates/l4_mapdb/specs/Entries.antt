@@ -1,4 +1,4 @@
--- Places with what they show as a list, and what an item and a loss of rights make of one of them.
+-- Places with what they show as a list, and what an item and a loss of rights make of one of them. (this profile's own)
 use Rattle.std.specs.Prelude.{◌≡◌, ℕ, None, ◌⊎◌, Bool, not, ◌==◌, ◌&&◌, nat_le, nat_lt, ◌+◌, ◌-◌, ◌^◌, IsTrue, if◌then◌else◌, List, Option, Some, option_and_then}
 use Rattle.l4_fpage.specs.Rights.{RightsSet, without, is_none, common}
 use Rattle.std.specs.FinMap.{find}

@@ -1,4 +1,4 @@
--- What a contract sees of a forest, and what its records keep.
+-- What a contract sees of a forest, and what its records keep. (this profile's own)
 use Rattle.std.specs.FinMap as map
 use Rattle.l4_mapdb.specs.declared.Forest.TheInside.{Inside}
 use Rattle.l4_mapdb.specs.Mappings.{Mappings, IsForest}

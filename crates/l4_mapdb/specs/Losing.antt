@@ -1,4 +1,4 @@
--- Rights that places lose, and places that go with their last right or with their space.
+-- Rights that places lose, and places that go with their last right or with their space. (L4 X.2 manual, Unmap; that a place goes with its last right, and the end of a space, are this profile's own)
 use Rattle.std.specs.Prelude.{◌≡◌, ℕ, ◌↔◌, Bool, Some, IsTrue, ◌⊎◌}
 use Rattle.std.specs.FinSet as set
 use Rattle.l4_fpage.specs.Rights.{RightsSet, Right, has, no_rights}

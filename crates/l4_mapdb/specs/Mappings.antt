@@ -1,4 +1,5 @@
 -- The mappings of all spaces as one value: what each place shows, and which spaces there are.
+-- (L4 X.2 manual: recursive mapping by map and grant items; the one value is this profile's own.)
 use Rattle.std.specs.Prelude.{◌≡◌, ℕ, ◌<◌, ◌^◌, Option, Some, None, IsTrue, is_some, option_and_then, ◌⊎◌, refl}
 use Rattle.std.specs.Ordering.{nat_cmp, ordering_then}
 use Rattle.std.specs.Option.{option_map_or}
@@ -39,7 +40,7 @@ shown s place = map.get s.places place
 abbrev pub IsPresent : Mappings → Place → Type 0
 IsPresent s place = IsTrue (is_some (shown s place))
 
--- the place that this one was mapped from
+-- the parent of a place
 abbrev pub parent_of : Mappings → Place → Option Place
 parent_of s place = option_and_then (λ m. m.parent) (shown s place)
 

@@ -1,4 +1,4 @@
--- What the code says of the records while a message is delivered, rights are lost or a space ends.
+-- What the code says of the records while a message is delivered, rights are lost or a space ends. (this profile's own)
 use Rattle.std.specs.Prelude.{◌≡◌, ℕ, ◌<◌, ◌⊎◌, ◌↔◌, List, Option, Some, None, IsTrue, MatchOption}
 use Rattle.std.specs.FinMap.{find}
 use Rattle.std.specs.FinSet as set

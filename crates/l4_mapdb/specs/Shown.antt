@@ -1,4 +1,4 @@
--- Mappings as a list of entries shows them, and what the code says of a used move.
+-- Mappings as a list of entries shows them, and what the code says of a used move. (this profile's own)
 use Rattle.std.specs.Prelude.{◌≡◌, IsTrue}
 use Rattle.std.specs.FinMap.{find}
 use Rattle.l4_fpage.specs.Rights.{Right, has}

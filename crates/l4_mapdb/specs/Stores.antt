@@ -1,4 +1,4 @@
--- What a contract sees of the slab and the page tables, and that these name the keys of the records.
+-- What a contract sees of the slab and the page tables, and that these name the keys of the records. (this profile's own)
 use Rattle.std.specs.Prelude.{◌≡◌, ◌↔◌, ℕ, Some}
 use Rattle.l4_spaces.specs.Tables.{key_of}
 use Rattle.l4_mapdb.specs.declared.Place.{Place}

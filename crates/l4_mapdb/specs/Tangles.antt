@@ -1,4 +1,4 @@
--- When a used move entangles its message, seen from the one move.
+-- When a used move entangles its message, seen from the one move. (this profile's own)
 use Rattle.std.specs.Prelude.{◌≡◌, ◌≢◌, ℕ, List, Option, Some, IsTrue, ◌⊎◌}
 use Rattle.l4_mapdb.specs.declared.Place.{Place}
 use Rattle.l4_mapdb.specs.declared.store.Node.{Node}

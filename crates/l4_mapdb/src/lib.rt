@@ -38,7 +38,7 @@ pub struct Mapping {
     pub frame: u32,
     /// What the space may do with the page.
     pub rights: Rights,
-    /// The place that this one was mapped from.
+    /// The parent: the place that it was mapped from, or the parent that a granted page brought with it. None at the top of its tree.
     pub parent: Option<Place>,
 }
 

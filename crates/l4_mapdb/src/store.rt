@@ -121,7 +121,7 @@ impl Store {
         node.later
     }
 
-    /// The place that this one was mapped from.
+    /// The parent of the place.
     pub fn parent(&self, place: Place) -> Option<Place>
         ensures { result ≡ parent_in (now_in self.now.slots) place }
     {
@@ -131,7 +131,7 @@ impl Store {
         mapping.parent
     }
 
-    /// The place that this one is to have as parent.
+    /// The parent that the place is to have.
     pub fn parent_later(&self, place: Place) -> Option<Place>
         ensures { result ≡ parent_in (later_in self.now.slots) place }
     {

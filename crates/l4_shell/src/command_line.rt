@@ -74,7 +74,7 @@ are skipped.
                          goes with its last thread
   recv N FROM WINDOW     N receives from a thread, from any, or from nil (which
                          receives nothing); WINDOW is the word of an fpage: 0
-                         takes no pages, 0x10 takes pages anywhere
+                         takes no message with pages, 0x10 takes pages anywhere
   send N TO WORD..       N sends these words, the tag first, to a thread
   ipc N TO FROM TIMEOUTS WINDOW WORD..
                          N sends these words, unless TO is nil, and then
@@ -87,8 +87,8 @@ are skipped.
                          means N's own pages too
   show N FIRST COUNT     lists the present pages of N's space among the COUNT
                          pages from FIRST on
-  parent N PAGE          the space and page that a page of N's space was mapped
-                         from
+  parent N PAGE          the parent of a page of N's space: the page that it was
+                         mapped from, or that a granted page brought with it
 
 N is a thread's number, below 262144. Thread 1 is sigma0, which holds frame i at
 page i; thread 2 is root. Numbers are decimal, or hexadecimal after 0x.
@@ -97,11 +97,13 @@ page i; thread 2 is root. Numbers are decimal, or hexadecimal after 0x.
   N unmap ok                       an unmap of N ended
   N control ok                     root's call ended (N is 2)
   N gone                           N was deleted while its call went on
-  transfer S R done                a message went from S to R
+  transfer S R done                a message went from S to R (no-window,
+                                   entangled, no-memory: it didn't)
   expire N                         a wait of N with a timeout of zero ended
   N waits                          the call goes on until a later line ends it
-  parent SPACE PAGE                where the page was mapped from (none: a root);
-                                   absent: the page isn't present
+  page P frame F RIGHTS            a page that show lists; then shown K, how many
+  parent SPACE PAGE                the page's parent (parent none: it has none;
+                                   absent: it isn't present)
   line L refused CODE              the line changed nothing
 
 Exit status: 0 at the end of the script, 2 if the command line is not

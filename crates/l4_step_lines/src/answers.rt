@@ -148,7 +148,7 @@ pub(crate) fn space_text(space: Option<u64>) -> Text {
     text
 }
 
-/// `page P frame F RIGHTS`, and `none` or the space and the page that it was mapped from.
+/// `page P frame F RIGHTS`, and `none` or the space and the page of its parent.
 pub(crate) fn page_text(page: u32, mapping: &Mapping) -> Text {
     let mut text = Text::new();
     text.add(b"page ");

@@ -1,4 +1,4 @@
--- The lists that the tables of threads keep: the threads with their numbers, and the queue of senders.
+-- The lists that the tables of threads keep: the threads with their numbers, and the queue of senders. (this profile's own)
 use Rattle.std.specs.Prelude.{◌≡◌, ◌≢◌, ℕ, ◌<◌, ◌≤◌, ◌^◌, length, ◌==◌, ◌&&◌, ◌||◌, Bool, false, not, nat_lt, filter, if◌then◌else◌, List, [], ◌∷◌, ◌++◌, map, Option, Some, slice_get}
 use Rattle.std.specs.List.{list_any}
 use Rattle.std.specs.Option.{option_map_or, option_map}

@@ -1,4 +1,4 @@
--- What the tables of threads keep, and what a contract sees of them.
+-- What the tables of threads keep, and what a contract sees of them. (this profile's own)
 use Rattle.std.specs.Prelude.{ℕ, List}
 use Rattle.std.specs.FinMap as fin
 use Rattle.std.specs.FinSet as set

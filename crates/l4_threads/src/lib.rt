@@ -35,7 +35,7 @@ pub enum Reply {
     Hit,
     /// A fault that the pager answered.
     Answered,
-    /// A fault whose message failed with this ErrorCode.
+    /// A fault that failed with this ErrorCode.
     FaultFailed(u32),
     Unmapped,
     Controlled,

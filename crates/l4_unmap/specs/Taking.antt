@@ -1,4 +1,4 @@
--- The rights that pages of a space are named with, and what goes with them.
+-- The rights that pages of a space are named with, and what goes with them. (this profile's own)
 use Rattle.std.specs.Prelude.{◌≡◌, ℕ, ◌⊎◌, Bool, IsTrue}
 use Rattle.l4_fpage.specs.Pages.{InBlock}
 use Rattle.l4_fpage.specs.Rights.{RightsSet, Right, has}
