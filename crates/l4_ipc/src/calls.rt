@@ -3,7 +3,7 @@ use l4_fpage::Rights;
 use l4_threads::ThreadId;
 
 /// An Ipc: a send phase unless `to` is nilthread, and then a receive phase unless `from` is nilthread (L4 X.2 manual, Ipc).
-#[derive(Drop)]
+#[derive(Clone, Debug, PartialEq, Eq, Drop)]
 pub struct IpcCall {
     /// To whom the message is sent.
     pub to: ThreadId,
@@ -29,7 +29,7 @@ pub struct FaultCall {
 }
 
 /// An Unmap (L4 X.2 manual, Unmap).
-#[derive(Drop)]
+#[derive(Clone, Debug, PartialEq, Eq, Drop)]
 pub struct UnmapCall {
     /// Bit 6 is f, which means the caller's own pages too, and bits 5 to 0 are k.
     pub control: u32,
@@ -69,7 +69,7 @@ pub enum Control {
 }
 
 /// What a thread may call.
-#[derive(Drop)]
+#[derive(Clone, Debug, PartialEq, Eq, Drop)]
 pub enum Call {
     /// Send, receive or both.
     Ipc(IpcCall),

@@ -5,7 +5,7 @@ use l4_threads::ThreadFault;
 use l4_unmap::UnmapFault;
 
 /// One atomic step of the kernel; threads go by their numbers.
-#[derive(Drop)]
+#[derive(Clone, Debug, PartialEq, Eq, Drop)]
 pub enum Step {
     /// The thread enters a call.
     Start(u32, Call),
@@ -33,7 +33,7 @@ pub enum Outcome {
 }
 
 /// What a step did, and whose calls ended in it.
-#[derive(Drop)]
+#[derive(Clone, Debug, PartialEq, Eq, Drop)]
 pub struct Answer {
     /// What the step did.
     pub outcome: Outcome,

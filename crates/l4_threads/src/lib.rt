@@ -14,7 +14,7 @@ pub use table::Threads;
 pub struct ThreadId(pub u32);
 
 /// What an Ipc call replies.
-#[derive(Drop)]
+#[derive(Clone, Debug, PartialEq, Eq, Drop)]
 pub struct IpcReply {
     /// The message tag: the sender's, or 0x8000 where the call failed.
     pub tag: u32,
@@ -27,7 +27,7 @@ pub struct IpcReply {
 }
 
 /// How a call ended.
-#[derive(Drop)]
+#[derive(Clone, Debug, PartialEq, Eq, Drop)]
 pub enum Reply {
     /// An Ipc call, with or without an error.
     Ipc(IpcReply),
