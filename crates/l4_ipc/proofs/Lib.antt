@@ -6,3 +6,5 @@ pub mod Items
 pub mod Faults
 pub mod SoundKept
 pub mod Running
+pub mod Work
+pub mod Waiting

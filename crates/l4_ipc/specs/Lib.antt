@@ -7,3 +7,4 @@ pub mod Sound
 pub mod Kept
 pub mod Delivering
 pub mod Reading
+pub mod Following

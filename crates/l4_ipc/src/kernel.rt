@@ -40,8 +40,8 @@ impl Model for Kernel {
 }
 
 impl Kernel {
-    ghost use Rattle.l4_threads.specs.Threads.{space_of};
-    ghost use Rattle.l4_mapdb.specs.Mappings.{shown};
+    ghost use Rattle.l4_threads.specs.Threads.{space_of, IsConsistent};
+    ghost use Rattle.l4_mapdb.specs.Mappings.{shown, IsForest};
     ghost use Rattle.l4_mapdb.specs.Places.{NonePresentFrom, IsNextPresent};
     ghost use Rattle.l4_ipc.specs.Machine.{IsBoot};
     ghost use Rattle.l4_ipc.specs.Steps.{IsNext, IsIdle, Steps};
@@ -94,6 +94,21 @@ impl Kernel {
             ),
             Step::Expire(number) => expire(&mut self.threads, *number),
         }
+    }
+
+    /// What holds of the threads at all times: the queue is a strict order of the senders. It does nothing.
+    pub fn law_consistent(&self)
+        ensures { IsConsistent self.now.threads }
+    {
+        self.threads.law_consistent();
+    }
+
+    /// The mappings are a forest at all times: a child's rights lie within its parent's, and all places of a frame are one tree. It
+    /// does nothing.
+    pub fn law_forest(&self)
+        ensures { IsForest self.now.mappings }
+    {
+        self.forest.law_forest();
     }
 
     /// Does some steps one after another, and gives their answers and refusals in order. Room for all of them is made first; where that

@@ -13,7 +13,8 @@ use Rattle.l4_ipc.specs.declared.calls.Call.{Call}
 use Rattle.l4_ipc.specs.Machine.{Machine}
 use Rattle.l4_ipc.specs.Steps.{Steps, IsNext, IsIdle}
 use Rattle.l4_text.specs.Streams.{Tells}
-use Rattle.l4_shell.specs.Sessions.{Done, AreNext, done_text, step_text, is_among, ended_in, waiting_text, GoesOn, Enters}
+use Rattle.l4_ipc.specs.Following.{Done, AreNext}
+use Rattle.l4_shell.specs.Sessions.{done_text, step_text, is_among, ended_in, waiting_text, GoesOn, Enters}
 use Rattle.std.specs.List.{flat_map}
 use Rattle.l4_text.proofs.Telling.{tells_none, tells_more, tells_is}
 

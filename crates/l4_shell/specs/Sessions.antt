@@ -14,7 +14,8 @@ use Rattle.l4_ipc.specs.declared.steps.Refused.{Refused}
 use Rattle.l4_ipc.specs.declared.steps.Refused.TheVariants.{UnknownThread}
 use Rattle.l4_ipc.specs.Machine.{Machine, IsBoot}
 use Rattle.l4_ipc.specs.Reading.{reply_of}
-use Rattle.l4_ipc.specs.Steps.{Steps, IsNext, IsIdle}
+use Rattle.l4_ipc.specs.Steps.{Steps, IsIdle}
+use Rattle.l4_ipc.specs.Following.{Done, AreNext}
 use Rattle.l4_shell.specs.declared.commands.Command.{Command}
 use Rattle.l4_shell.specs.declared.commands.ScriptFault.{ScriptFault}
 use Rattle.l4_shell.specs.declared.requests.Request.{Request}
@@ -39,18 +40,6 @@ ended_text m numbers = flat_map (λ n. reply_text n (reply_of m.threads n)) numb
 -- what is told of a step: its line, and then the calls that ended in it
 abbrev pub step_text : Step → Answer → Machine → List ℕ
 step_text step answer new = step_line step answer.outcome ++ ended_text new answer.ended.items
-
--- a step that was done, its answer, and the machine right after it
-pub record Done : Type 0 where
-  pub step : Step
-  pub answer : Answer
-  pub after : Machine
-
--- from old, these steps were done one after another to new, each the one that comes next
-abbrev pub AreNext : Machine → List Done → Machine → Type 0
-AreNext old [] new = new ≡ old
-AreNext old (done ∷ rest) new =
-    IsNext old done.step × Steps old done.step (Ok done.answer) done.after × AreNext done.after rest new
 
 abbrev pub done_text : Done → List ℕ
 done_text done = step_text done.step done.answer done.after

@@ -1,6 +1,6 @@
 use Rattle.std.proofs.Common.{refl}
 use Rattle.l4_shell.proofs.Going.{going_more, going_done}
-use Rattle.l4_shell.proofs.Work.{fewer}
+use Rattle.l4_ipc.proofs.Work.{fewer}
 use Rattle.l4_shell.proofs.session.follow.Goals as goal
 
 pub loop-step-smaller : goal.loop-step-smaller

@@ -1,5 +1,5 @@
 use Rattle.l4_shell.proofs.Going.{Going}
-use Rattle.l4_shell.proofs.Work.{work}
+use Rattle.l4_ipc.proofs.Work.{work}
 use Rattle.l4_shell.proofs.session.follow.Given as goal
 
 abbrev pub invariant-loop-step : goal.invariant-loop-step
