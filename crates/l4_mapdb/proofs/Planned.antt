@@ -6,6 +6,7 @@ use Rattle.std.specs.FinSet as set
 use Rattle.std.specs.Ordering.{nat_cmp}
 use Rattle.std.proofs.lemmas.Option.{slice_get_within}
 use Rattle.l4_fpage.specs.Rights.{RightsSet, Right, has, without}
+use Rattle.l4_spaces.specs.Tables.{IsPage}
 use Rattle.l4_mapdb.specs.declared.Place.{Place}
 use Rattle.l4_mapdb.specs.declared.Mapping.{Mapping}
 use Rattle.l4_mapdb.specs.declared.ItemMove.{ItemMove}
@@ -25,7 +26,7 @@ use Rattle.l4_mapdb.proofs.Places.{same_option}
 use Rattle.l4_mapdb.proofs.Unique.{same_rights}
 use Rattle.l4_mapdb.proofs.Revoking.{has-without}
 use Rattle.l4_mapdb.proofs.ForestMoved.{moved_loose}
-use Rattle.l4_mapdb.proofs.UsedMoves.{known_moves, same_source}
+use Rattle.l4_mapdb.proofs.UsedMoves.{known_moves, same_source, target_fits}
 use Rattle.l4_mapdb.proofs.Single.{becomes_one}
 use Rattle.l4_mapdb.proofs.Middle.{mappings_of, shown_of, climbed_of, loose_acyclic}
 use Rattle.l4_mapdb.proofs.Slots.{Slots, PlannedUnder, slot_within, shown_under, later_under, under_later, none_shown, node_later, grows_stands, grows_shown, plans_shown, same_shown, settled_shown, dropped_shown}
@@ -83,6 +84,12 @@ module _ (from to : ℕ) (items : List ItemMove) (item key : ℕ) (old new : Slo
       pub target_there : (spaces : set.FinSet nat_cmp) → IsTrue (set.contains spaces to) → IsTrue (set.contains spaces u.target.space)
       target_there spaces there =
           subst (λ (x : ℕ). IsTrue (set.contains spaces x)) (sym (moves (mappings_of (now_in old) spaces) (shown_of (now_in old) spaces)).0.to_space) there
+
+      -- its target lies in its space
+      pub target_page : IsPage u.target.page
+      target_page =
+          let t = target_fits (mappings_of (now_in old) set.empty) from to items u (moves (mappings_of (now_in old) set.empty) (shown_of (now_in old) set.empty)).0 in
+          omega (arith, t)
 
 -- a place that has a record, or for which one came, has one
 pub has_added : (place : Place) (shows : Option Mapping) (old new : Slots) → (HasRecord new place) ⊎ Adds place shows old new → HasRecord new place

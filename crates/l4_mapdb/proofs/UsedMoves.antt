@@ -1,5 +1,5 @@
 -- What is known of the used moves of a message, and that its delivery leaves a forest.
-use Rattle.std.proofs.Common.{◌≡◌, ℕ, ◌+◌, ◌≤◌, ◌^◌, Bool, true, false, ◌&&◌, List, Some, IsTrue, refl, sym, ap, ◌∙◌, subst, slice_get, arith}
+use Rattle.std.proofs.Common.{◌≡◌, ℕ, ◌+◌, ◌<◌, ◌≤◌, ◌^◌, Bool, true, false, ◌&&◌, List, Some, IsTrue, refl, sym, ap, ◌∙◌, subst, slice_get, arith}
 use Rattle.std.specs.FinSet as set
 use Rattle.l4_fpage.specs.Rights.{RightsSet, Read, Write, Execute, common, Within}
 use Rattle.l4_msg.specs.declared.items.Move.{Move}
@@ -71,6 +71,10 @@ module _ (old : Mappings) (sender receiver : ℕ) (items : List ItemMove) where
       let space : u.source.space ≡ v.source.space = a.from_space ∙ sym b.from_space in
       one_move u v a b item (λ i. record { space = space i; page = page i }) target
 
+  -- the target of a used move lies in its space
+  pub target_fits : (u : PageMove) → Used u → u.target.page < 2 ^ 20
+  target_fits u a = let f = fits a.by.mv in let p = a.pages.within in let q = a.pages.target_is in omega arith
+
 module _ (old : Mappings) (sender receiver : ℕ) (items : List ItemMove)
     (there : IsTrue (set.contains old.spaces receiver)) where
   abbrev Moves : PageMove → Type 0
@@ -82,7 +86,7 @@ module _ (old : Mappings) (sender receiver : ℕ) (items : List ItemMove)
     within = λ u a. subst (λ (r : RightsSet). Within r u.shows.rights) (sym a.rights) (common_within u.shows.rights a.by.rights);
     some_right = λ u a. a.some_right;
     in_space = λ u a. subst (λ (n : ℕ). IsTrue (set.contains old.spaces n)) (sym a.to_space) there;
-    page_fits = λ u a. let f = fits a.by.mv in let p = a.pages.within in let q = a.pages.target_is in omega arith;
+    page_fits = target_fits old sender receiver items;
     same_source = same_source old sender receiver items;
     same_target = same_target old sender receiver items;
   }

@@ -1,7 +1,8 @@
 //! Sigma0's places, the tops of trees, and what an item makes of a place.
 
-ghost use Rattle.std.specs.Prelude.{◌≡◌, ◌↔◌, [], OnOk, IsTrue, MatchOption, None, ℕ};
+ghost use Rattle.std.specs.Prelude.{◌≡◌, ◌↔◌, ◌≤◌, [], OnOk, IsTrue, MatchOption, None, ℕ};
 ghost use Rattle.std.specs.FinSet as set;
+ghost use Rattle.l4_spaces.specs.Tables.{space_pages};
 ghost use Rattle.l4_mapdb.specs.Entries.{child_of};
 ghost use Rattle.l4_mapdb.specs.Sheets.{IsWhole, RecordedOnce, now_in};
 ghost use Rattle.l4_mapdb.specs.Planning.{ShowsOwn, IsRootKey, NoRootKey};
@@ -14,6 +15,7 @@ use l4_fpage::Rights;
 pub(crate) fn own_places(places: &mut Store, frames: u32) -> Result<(), NoMemory>
     requires empty { places.old.slots ≡ [] }
     requires there { IsTrue (set.contains places.old.spaces 0) }
+    requires fit { frames ≤ space_pages }
     ensures shows { OnOk result (ShowsOwn frames places.new.slots) }
     ensures whole { OnOk result (IsWhole places.new.slots) }
     ensures once { RecordedOnce places.new.slots }

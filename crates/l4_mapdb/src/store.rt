@@ -3,6 +3,7 @@
 ghost use Rattle.std.specs.Prelude.{◌≡◌, ◌≢◌, ◌⊎◌, ◌≤◌, [], ℕ, length, IsTrue, IsOk, OnOk, OnErr, MatchOption, Option, option_and_then};
 ghost use Rattle.std.specs.FinMap.{find};
 ghost use Rattle.std.specs.FinSet as set;
+ghost use Rattle.l4_spaces.specs.Tables.{IsPage};
 ghost use Rattle.l4_mapdb.specs.Mappings.{place_cmp};
 ghost use Rattle.l4_mapdb.specs.Entries.{parent_in};
 ghost use Rattle.l4_mapdb.specs.Sheets.{slot_at, StandsUnder, HasRecord, RecordedOnce, IsWhole, now_in, later_in, Adds, Plans, settled, shown_only, NoPageFrom, IsPageFrom};
@@ -150,7 +151,8 @@ impl Store {
 
     /// Adds a record that shows this for the place, unless it has one.
     pub fn add(&mut self, place: Place, shows: Option<Mapping>) -> Result<(), NoMemory>
-        requires { IsTrue (set.contains self.old.spaces place.space) }
+        requires there { IsTrue (set.contains self.old.spaces place.space) }
+        requires fits { IsPage place.page }
         ensures ok { OnOk result ((HasRecord self.old.slots place × (self.new ≡ self.old)) ⊎ Adds place shows self.old.slots self.new.slots) }
         ensures err { OnErr result (((key : ℕ) → ¬ (StandsUnder self.old.slots key place)) × (self.new ≡ self.old)) }
         ensures spaces { self.new.spaces ≡ self.old.spaces }

@@ -1,48 +1,318 @@
--- What the lists show as page tables.
-use Rattle.std.proofs.Common.{◌≡◌, ◌≢◌, ℕ, ◌≤◌, ◌==◌, ◌&&◌, ◌||◌, Bool, true, false, not, cond, List, [], ◌∷◌, ◌++◌, length, filter, nat_eq, Option, Some, None, is_some, IsTrue, MatchOption, refl, sym, ap, ◌∙◌, arith}
-use Rattle.std.specs.List.{list_any}
+-- What a contract sees once a space was written, has come or has gone.
+use Rattle.std.proofs.Common.{◌≡◌, ◌≢◌, ℕ, zero, suc, ◌+◌, ◌*◌, ◌/◌, ◌%◌, ◌<◌, ◌≤◌, ◌==◌, ◌&&◌, ◌||◌, Bool, true, false, nat_eq, nat_lt, not, cond, List, [], ◌∷◌, ◌++◌, length, filter, slice_index_or, slice_set, Option, Some, None, is_some, IsTrue, MatchOption, IfSome, Vec, refl, sym, ap, ◌∙◌, subst, ◌⊎◌, inl, inr, arith}
+use Rattle.std.specs.List.{list_any, count_by}
 use Rattle.std.specs.Ordering.{nat_cmp, eq_by_cmp, is_eq}
 use Rattle.std.specs.Cmp.{nat_cmp_total, tied_itself}
 use Rattle.std.specs.FinMap as map
-use Rattle.std.specs.FinMap.{find, nat_cmp-IsAntisymmetric}
+use Rattle.std.specs.FinMap.{nat_cmp-IsAntisymmetric}
 use Rattle.std.specs.FinSet as set
+use Rattle.std.specs.declared.alloc.Global.{Global}
+use Rattle.std.proofs.lemmas.Bool.{cases_lt, cases_eq}
 use Rattle.std.proofs.lemmas.Bool.Decides.{nat_tests}
-use Rattle.l4_spaces.specs.Tables.{Tables, place_cmp, key_of, HasRoom, KeepsRoom, Empties, NonePresentFrom, IsNextPresent}
-use Rattle.l4_spaces.specs.Entries.{Entries, Puts, Drops, DropsSpace, NoneIn, IsNextIn}
-use Rattle.l4_spaces.specs.Inside.{tables, IsHoused}
-use Rattle.l4_spaces.proofs.Below.{places_total, exact_places, is_equal, untie, or_second, not_both, decided}
+use Rattle.std.proofs.lemmas.List.{get_or_past}
+use Rattle.std.proofs.lemmas.List.Sums.{sum_by-cons}
+use Rattle.l4_spaces.specs.Tables.{Tables, place_cmp, key_of, table_pages, space_tables, HasRoom, KeepsRoom, KeepsOthersRoom, Empties, IsPresent, NonePresentFrom, IsNextPresent, NonePresentIn, IsNextIn}
+use Rattle.l4_spaces.specs.Two.{Rows, row, entry, is_made, IsReady, AreWhole, AreMade, NoneIn, IsFirstIn}
+use Rattle.l4_spaces.specs.Inside.{Space, Live, numbers, has, tables_of, StandsAt, key_at, is_there, shown, IsLaid}
+use Rattle.l4_spaces.proofs.Below.{places_total, exact_places, tie, untie, apart, is_equal, or_second, not_both, decided}
+use Rattle.l4_spaces.proofs.Finding.{eq_yes, eq_no, eq_of, ne_of, stands_tables, stands_number, stands_has, no_tables_of, written_here, written_other, written_numbers}
+use Rattle.l4_spaces.proofs.Listing.{key_shown, there_shown, has_shown, pages_are, same_shown, past_entry, past_made}
 
-pub key_shown : (es : Entries) (ks : List ℕ) (room space page : ℕ) → key_of (tables es ks room) space page ≡ find place_cmp (space, page) es
-key_shown es ks room space page = map.get-from_entries places_total es (space, page)
+-- what is asked of the view is asked of the list
 
--- what the list shows at the page is what a contract sees
-pub found : (space page : ℕ) (es : Entries) (ks : List ℕ) (room : ℕ) (s : Tables) → tables es ks room ≡ s → key_of s space page ≡ find place_cmp (space, page) es
-found space page es ks room s view = ap (λ (t : Tables). key_of t space page) (sym view) ∙ key_shown es ks room space page
+pub found : (ss : Live) (s : Tables) (space page : ℕ) → shown ss ≡ s → key_of s space page ≡ key_at ss (space, page)
+found ss s space page view = ap (λ (t : Tables). key_of t space page) (sym view) ∙ key_shown ss space page
 
--- what the code asks of the list of spaces is asked of the set
-pub is_there : (es : Entries) (ks read : List ℕ) (room : ℕ) (s : Tables) (k : ℕ) (answer : Bool) → tables es ks room ≡ s → read ≡ ks → answer ≡ list_any (λ y. nat_eq y k) read → set.contains s.spaces k ≡ answer
-is_there es ks read room s k answer view same said =
-    ap (λ (t : Tables). set.contains t.spaces k) (sym view) ∙ set.contains-from_list_nat ks k ∙ ap (list_any (λ y. nat_eq y k)) (sym same) ∙ sym said
+pub stands : (ss : Live) (s : Tables) (k : ℕ) → shown ss ≡ s → set.contains s.spaces k ≡ has ss k
+stands ss s k view = ap (λ (t : Tables). set.contains t.spaces k) (sym view) ∙ has_shown ss k
+
+made : (ss : Live) (s : Tables) (k high : ℕ) → shown ss ≡ s → set.contains s.tables (k, high) ≡ is_there ss (k, high)
+made ss s k high view = ap (λ (t : Tables). set.contains t.tables (k, high)) (sym view) ∙ there_shown ss k high
+
+pub at_here : (ss : Live) (k i : ℕ) (s : Space) → StandsAt k ss i → s ≡ slice_index_or ss i s → tables_of ss k ≡ s.1.items
+at_here ss k i s h is = stands_tables k ss i s h ∙ ap (λ (r : Space). r.1.items) (sym is)
+
+pub absent_key : (ss : Live) (s : Tables) (k page : ℕ) → shown ss ≡ s → has ss k ≡ false → key_of s k page ≡ None
+absent_key ss s k page view h = found ss s k page view ∙ ap (λ (ts : Rows). entry ts page) (no_tables_of ss k h)
 
 -- room
 
-pub has_room : (s : Tables) (space : ℕ) (pages : List ℕ) → length pages ≤ s.room → HasRoom s space pages
+missing_yes : (f : ℕ → Bool) (x : ℕ) → f x ≡ true → ◌≡◌ {A = ℕ} (cond (not (f x)) 1 0) 0
+missing_yes f x h = ap (λ b. cond {A = ℕ} (not b) 1 0) h
+
+missing_no : (f : ℕ → Bool) (x : ℕ) → f x ≡ false → ◌≡◌ {A = ℕ} (cond (not (f x)) 1 0) 1
+missing_no f x h = ap (λ b. cond {A = ℕ} (not b) 1 0) h
+
+count_more : (f : ℕ → Bool) (x : ℕ) (xs : List ℕ) → count_by (λ x. not (f x)) (x ∷ xs) ≡ cond (not (f x)) 1 0 + count_by (λ x. not (f x)) xs
+count_more f x xs = sum_by-cons (λ x. cond (not (f x)) 1 0) x xs
+
+count_le : (f g : ℕ → Bool) → ((x : ℕ) → f x ≡ true → g x ≡ true) → (xs : List ℕ) → count_by (λ x. not (g x)) xs ≤ count_by (λ x. not (f x)) xs
+count_le f g h [] = omega arith
+count_le f g h (x ∷ xs) =
+    let r = count_le f g h xs in
+    let one : cond (not (g x)) 1 0 ≤ cond (not (f x)) 1 0 =
+    decided (f x)
+    (λ t. omega (arith, missing_yes g x (h x t)))
+    (λ u. decided (g x)
+    (λ t. omega (arith, missing_yes g x t))
+    (λ t. omega (arith, missing_no f x u, missing_no g x t))) in
+    omega (arith, count_more g x xs, count_more f x xs, r, one)
+
+count_none : (f : ℕ → Bool) (xs : List ℕ) → ((i : ℕ) → i < length xs → f (slice_index_or xs i 0) ≡ true) → count_by (λ x. not (f x)) xs ≡ 0
+count_none f [] h = refl
+count_none f (x ∷ xs) h = omega (arith, count_more f x xs, count_none f xs (λ i lt. h (suc i) (omega arith)), missing_yes f x (h 0 (omega arith)))
+
+first_counts : (f : ℕ → Bool) (x : ℕ) (xs : List ℕ) → count_by (λ x. not (f x)) (x ∷ xs) ≤ 0 → (f x ≡ true) × (count_by (λ x. not (f x)) xs ≤ 0)
+first_counts f x xs le = (decided (f x) (λ t. t) (λ u. absurd (omega (arith, count_more f x xs, missing_no f x u, le))), omega (arith, count_more f x xs, le))
+
+none_counts : (f : ℕ → Bool) (xs : List ℕ) → count_by (λ x. not (f x)) xs ≤ 0 → (i : ℕ) → i < length xs → f (slice_index_or xs i 0) ≡ true
+none_counts f [] le i lt = absurd (omega arith)
+none_counts f (x ∷ xs) le zero lt = (first_counts f x xs le).0
+none_counts f (x ∷ xs) le (suc i) lt = none_counts f xs (first_counts f x xs le).1 i (omega arith)
+
+pub room_le : (s t : Tables) (k : ℕ) (pages : List ℕ) → ((high : ℕ) → set.contains s.tables (k, high) ≡ true → set.contains t.tables (k, high) ≡ true) → s.room ≤ t.room → HasRoom s k pages → HasRoom t k pages
 unfolding HasRoom
-has_room s space pages h = h
+room_le s t k pages h le room =
+    let c = count_le (λ page. set.contains s.tables (k, page / table_pages)) (λ page. set.contains t.tables (k, page / table_pages)) (λ x. h (x / table_pages)) pages in
+    omega (arith, c, room, le)
 
-pub room_for : (s : Tables) (space : ℕ) (pages : List ℕ) → HasRoom s space pages → length pages ≤ s.room
+-- the same tables and room keep the room
+pub keeps : (a b : Live) (s : Tables) → shown a ≡ s → ((p : ℕ × ℕ) → is_there a p ≡ true → is_there b p ≡ true) → KeepsRoom s (shown b)
+keeps a b s view h k pages room =
+    let zero_room : s.room ≡ 0 = sym (ap (λ (t : Tables). t.room) view) in
+    room_le s (shown b) k pages (λ high t. there_shown b k high ∙ h (k, high) (sym (made a s k high view) ∙ t)) (omega (arith, zero_room)) room
+
+pub keeps_others : (a b : Live) (s : Tables) (space : ℕ) → shown a ≡ s → ((q : ℕ) → q ≢ space → tables_of b q ≡ tables_of a q) → KeepsOthersRoom space s (shown b)
+keeps_others a b s space view h k pages ne room =
+    let zero_room : s.room ≡ 0 = sym (ap (λ (t : Tables). t.room) view) in
+    room_le s (shown b) k pages (λ high t. there_shown b k high ∙ ap (λ (ts : Rows). is_made ts high) (h k ne) ∙ sym (made a s k high view) ∙ t) (omega (arith, zero_room)) room
+
+drops_first : (f : ℕ → Bool) (x : ℕ) (xs : List ℕ) → count_by (λ x. not (f x)) xs ≤ count_by (λ x. not (f x)) (x ∷ xs)
+drops_first f x xs = omega (arith, count_more f x xs)
+
+pub rest_has : (s : Tables) (k page : ℕ) (rest : List ℕ) → HasRoom s k (page ∷ rest) → HasRoom s k rest
 unfolding HasRoom
-room_for s space pages h = h
+rest_has s k page rest room = let a = drops_first (λ page. set.contains s.tables (k, page / table_pages)) page rest in omega (arith, a, room)
 
-pub keeps_room : (a b : Tables) → a.room ≤ b.room → KeepsRoom a b
-keeps_room a b le space pages h = has_room b space pages (let l = room_for a space pages h in omega arith)
+pub first_made : (ss : Live) (s : Tables) (k page : ℕ) (rest : List ℕ) → shown ss ≡ s → HasRoom s k (page ∷ rest) → is_made (tables_of ss k) (page / table_pages) ≡ true
+unfolding HasRoom
+first_made ss s k page rest view room =
+    let zero_room : s.room ≡ 0 = sym (ap (λ (t : Tables). t.room) view) in
+    sym (made ss s k (page / table_pages) view) ∙ (first_counts (λ page. set.contains s.tables (k, page / table_pages)) page rest (omega (arith, room, zero_room))).0
 
--- spaces
+pub all_made : (ss : Live) (s : Tables) (k : ℕ) (pages : List ℕ) → shown ss ≡ s → HasRoom s k pages → AreMade (tables_of ss k) pages (length pages)
+unfolding HasRoom
+all_made ss s k pages view room i lt =
+    let zero_room : s.room ≡ 0 = sym (ap (λ (t : Tables). t.room) view) in
+    sym (made ss s k (slice_index_or pages i 0 / table_pages) view) ∙ none_counts (λ page. set.contains s.tables (k, page / table_pages)) pages (omega (arith, room, zero_room)) i lt
 
-pub set_push : (ks : List ℕ) (k : ℕ) → ◌≡◌ {A = set.FinSet nat_cmp} (set.from_list (ks ++ k ∷ [])) (set.insert (set.from_list ks) k)
-set_push ks k = set.from_list_push nat_cmp_total nat_cmp-IsAntisymmetric ks k
+pub room_made : (ss : Live) (k : ℕ) (pages : List ℕ) → AreMade (tables_of ss k) pages (length pages) → HasRoom (shown ss) k pages
+unfolding HasRoom
+room_made ss k pages h =
+    let c = count_none (λ page. set.contains (shown ss).tables (k, page / table_pages)) pages (λ i lt. there_shown ss k (slice_index_or pages i 0 / table_pages) ∙ h i lt) in
+    omega (arith, c)
 
--- what is in a set already changes nothing
+-- a page with a key has its table, and so has a page whose table is whole
+
+pub ready_shown : (ts : Rows) (page : ℕ) → is_some (entry ts page) ≡ true → IsReady ts page
+ready_shown ts page h = elim (cases_lt (page % table_pages) (length (row ts (page / table_pages)))) [
+  | inl lt ↦ lt
+  | inr le ↦ absurd (let e : entry ts page ≡ None = get_or_past (row ts (page / table_pages)) (page % table_pages) None le in let f : false ≡ true = sym (ap is_some e) ∙ h in cc)
+]
+
+pub ready_made : (ts : Rows) (page : ℕ) → AreWhole ts → is_made ts (page / table_pages) ≡ true → IsReady ts page
+ready_made ts page whole h = elim (whole (page / table_pages)) [
+  | inl none ↦ absurd (let e : false ≡ true = sym (ap (λ (z : List (Option ℕ)). nat_lt 0 (length z)) none) ∙ h in cc)
+  | inr all ↦ omega (arith, all)
+]
+
+-- one space's tables were written
+
+pub record Wrote (k : ℕ) (ss new : Live) (old tables : Rows) : Type 0 where
+  pub was : tables_of ss k ≡ old
+  pub here : tables_of new k ≡ tables
+  pub other : (q : ℕ) → q ≢ k → tables_of new q ≡ tables_of ss q
+  pub same : numbers new ≡ numbers ss
+
+pub wrote : (ss : Live) (k i : ℕ) (s : Space) (v : Vec (Vec (Option ℕ) Global) Global) → StandsAt k ss i → s ≡ slice_index_or ss i s → Wrote k ss (slice_set ss i (s.0, v)) s.1.items v.items
+wrote ss k i s v h is =
+    let n : s.0 ≡ k = ap (λ (r : Space). r.0) is ∙ stands_number k ss i s h in record {
+      was = at_here ss k i s h is;
+      here = written_here k ss i (s.0, v) h n;
+      other = λ q ne. written_other k ss i (s.0, v) q h n ne;
+      same = written_numbers k ss i (s.0, v) h n;
+    }
+
+pub wrote_all : {k : ℕ} {ss new : Live} {old ts : Rows} (P : ℕ → Rows → Rows → Type 0) → Wrote k ss new old ts → P k old ts → ((q : ℕ) → P q (tables_of ss q) (tables_of ss q)) → (q : ℕ) → P q (tables_of ss q) (tables_of new q)
+wrote_all {k} {ss} {new} {old} {ts} P w here other q = elim (cases_eq q k) [
+  | inl e ↦ subst (λ (j : ℕ). P j (tables_of ss j) (tables_of new j)) (sym e) (subst (λ (t : Rows). P k t (tables_of new k)) (sym w.was) (subst (λ (t : Rows). P k old t) (sym w.here) here))
+  | inr ne ↦ subst (λ (t : Rows). P q (tables_of ss q) t) (sym (w.other q ne)) (other q)
+]
+
+pub laid : {k : ℕ} {ss new : Live} {old ts : Rows} → Wrote k ss new old ts → IsLaid ss → (AreWhole old → AreWhole ts) → (length ts ≡ length old) → IsLaid new
+laid {k} {ss} {new} {old} {ts} w l whole full = record {
+  whole = λ q. wrote_all (λ _ a b. AreWhole a → AreWhole b) w whole (λ _ h. h) q (l.whole q);
+  full = λ q h.
+      wrote_all (λ _ a b. length b ≡ length a) w full (λ _. refl) q
+      ∙ l.full q (ap (list_any (λ y. nat_eq y q)) (sym w.same) ∙ h);
+}
+
+pub whole_long : (old new : Rows) → ((high : ℕ) → length (row new high) ≡ length (row old high)) → AreWhole old → AreWhole new
+whole_long old new long whole high = elim (whole high) [
+  | inl none ↦ inl (no_items (row new high) (long high ∙ ap length none))
+  | inr all ↦ inr (long high ∙ all)
+]
+  where
+    no_items : (xs : List (Option ℕ)) → length xs ≡ 0 → xs ≡ []
+    no_items [] e = refl
+    no_items (x ∷ xs) e = absurd (omega (arith, e))
+
+pub there_long : {k : ℕ} {ss new : Live} {old ts : Rows} → Wrote k ss new old ts → ((high : ℕ) → length (row ts high) ≡ length (row old high)) → (p : ℕ × ℕ) → is_there new p ≡ is_there ss p
+there_long w long p = wrote_all (λ _ a b. is_made b p.1 ≡ is_made a p.1) w (ap (nat_lt 0) (long p.1)) (λ _. refl) p.0
+
+pub keys_same : {k : ℕ} {ss new : Live} {old ts : Rows} → Wrote k ss new old ts → ((page : ℕ) → entry ts page ≡ entry old page) → (p : ℕ × ℕ) → key_at new p ≡ key_at ss p
+keys_same w same p = wrote_all (λ _ a b. entry b p.1 ≡ entry a p.1) w (same p.1) (λ _. refl) p.0
+
+pub keys_put : {k : ℕ} {ss new : Live} {old ts : Rows} (page : ℕ) (key : Option ℕ) → Wrote k ss new old ts → entry ts page ≡ key → ((other : ℕ) → other ≢ page → entry ts other ≡ entry old other)
+    → (p : ℕ × ℕ) → key_at new p ≡ cond (eq_by_cmp place_cmp p (k, page)) key (key_at ss p)
+keys_put {k} {ss} {new} {old} {ts} page key w here others p =
+    decided (eq_by_cmp place_cmp p (k, page))
+    (λ t. ap (key_at new) (untie p (k, page) t) ∙ ap (λ (z : Rows). entry z page) w.here ∙ here ∙ sym (ap (λ b. cond b key (key_at ss p)) t))
+    (λ f. (elim (cases_eq p.0 k) [
+      | inl e ↦
+          let ne : p.1 ≢ page = (λ g. not_both _ (tie p (k, page) (λ i. (e i, g i))) f) in
+          ap (λ (j : ℕ). entry (tables_of new j) p.1) e ∙ ap (λ (z : Rows). entry z p.1) w.here ∙ others p.1 ne ∙ sym (ap (λ (z : Rows). entry z p.1) w.was) ∙ sym (ap (λ (j : ℕ). entry (tables_of ss j) p.1) e)
+      | inr ne ↦ ap (λ (z : Rows). entry z p.1) (w.other p.0 ne)
+    ]) ∙ sym (ap (λ b. cond b key (key_at ss p)) f))
+
+pub pages_set : (ss new : Live) (s : Tables) (q : ℕ × ℕ) (key : ℕ) → shown ss ≡ s → ((p : ℕ × ℕ) → key_at new p ≡ cond (eq_by_cmp place_cmp p q) (Some key) (key_at ss p)) → (shown new).pages ≡ map.insert s.pages q key
+pages_set ss new s q key view h = pages_are new (map.insert s.pages q key) (λ p.
+    map.get-insert places_total s.pages q key p ∙ ap (cond (eq_by_cmp place_cmp p q) (Some key)) (found ss s p.0 p.1 view) ∙ sym (h p))
+
+pub pages_clear : (ss new : Live) (s : Tables) (q : ℕ × ℕ) → shown ss ≡ s → ((p : ℕ × ℕ) → key_at new p ≡ cond (eq_by_cmp place_cmp p q) None (key_at ss p)) → (shown new).pages ≡ map.remove s.pages q
+pages_clear ss new s q view h = pages_are new (map.remove s.pages q) (λ p.
+    map.get-remove places_total s.pages q p ∙ ap (cond (eq_by_cmp place_cmp p q) None) (found ss s p.0 p.1 view) ∙ sym (h p))
+
+-- a page that is absent is cleared by nothing
+pub pages_clear_none : (ss : Live) (s : Tables) (q : ℕ × ℕ) → shown ss ≡ s → key_at ss q ≡ None → s.pages ≡ map.remove s.pages q
+pages_clear_none ss s q view none = sym (ap (λ (t : Tables). t.pages) view) ∙ pages_clear ss ss s q view (λ p.
+    decided (eq_by_cmp place_cmp p q)
+    (λ t. ap (key_at ss) (untie p q t) ∙ none ∙ sym (ap (λ b. cond b None (key_at ss p)) t))
+    (λ f. sym (ap (λ b. cond b None (key_at ss p)) f)))
+
+-- what the search of a space says
+pub told : (ss : Live) (k : ℕ) (r : Option ℕ) → MatchOption r (has ss k ≡ false) (StandsAt k ss) → is_some r ≡ has ss k
+told ss k None h = sym h
+told ss k (Some i) h = sym (stands_has k ss i h)
+
+-- the next page
+
+pub next_absent : (ss : Live) (s : Tables) (k page : ℕ) → shown ss ≡ s → has ss k ≡ false → NonePresentFrom s k page
+next_absent ss s k page view h other le here = let e : false ≡ true = sym (ap is_some (absent_key ss s k other view h)) ∙ here in cc
+
+some_of : (o : Option ℕ) → is_some o ≡ true → (key : ℕ) × (o ≡ Some key)
+some_of None h = absurd (let k : false ≡ true = h in cc)
+some_of (Some key) h = (key, refl)
+
+none_at : (ss : Live) (s : Tables) (k : ℕ) (ts : Rows) (other : ℕ) → shown ss ≡ s → tables_of ss k ≡ ts → entry ts other ≡ None → ¬ (IsPresent s k other)
+none_at ss s k ts other view is none here =
+    let n : key_of s k other ≡ None = found ss s k other view ∙ ap (λ (t : Rows). entry t other) is ∙ none in
+    let e : false ≡ true = sym (ap is_some n) ∙ here in cc
+
+pub next_in : (ss : Live) (s : Tables) (k page end : ℕ) (ts : Rows) (r : Option ℕ) → shown ss ≡ s → tables_of ss k ≡ ts
+    → MatchOption r (NoneIn ts page end) (IsFirstIn ts page end) → MatchOption r (NonePresentIn s k page end) (IsNextIn s k page end)
+next_in ss s k page end ts None view is h = λ other le lt. none_at ss s k ts other view is (h other le lt)
+next_in ss s k page end ts (Some next) view is h = record {
+  present = ap is_some (found ss s k next view ∙ ap (λ (t : Rows). entry t next) is ∙ h.shows);
+  from = h.from;
+  before = h.before;
+  least = λ other le here. elim (cases_lt other next) [
+    | inl lt ↦ absurd (none_at ss s k ts other view is (h.least other le lt) here)
+    | inr more ↦ more
+  ];
+}
+
+pub next_from : (ss : Live) (s : Tables) (k page end : ℕ) (ts : Rows) (r : Option ℕ) → shown ss ≡ s → tables_of ss k ≡ ts → length ts * table_pages ≤ end
+    → MatchOption r (NoneIn ts page end) (IsFirstIn ts page end) → MatchOption r (NonePresentFrom s k page) (IsNextPresent s k page)
+next_from ss s k page end ts None view is fits h = λ other le. none_at ss s k ts other view is (elim (cases_lt other end) [
+  | inl lt ↦ h other le lt
+  | inr more ↦ past_entry ts other (omega (arith, fits, more))
+])
+next_from ss s k page end ts (Some next) view is fits h =
+    let n : IsNextIn s k page end next = next_in ss s k page end ts (Some next) view is h in
+    record { present = n.present; from = n.from; least = n.least }
+
+pub is_none_of : (o : Option ℕ) → is_some o ≡ false → o ≡ None
+is_none_of None h = refl
+is_none_of (Some key) h = absurd (let k : true ≡ false = h in cc)
+
+pub keeps_same : (a b : Live) (s : Tables) → shown a ≡ s → ((p : ℕ × ℕ) → is_there b p ≡ is_there a p) → KeepsRoom s (shown b)
+keeps_same a b s view h = keeps a b s view (λ p t. h p ∙ t)
+
+-- a space has come
+
+pub tables_push : (ss : Live) (k : ℕ) (v : Vec (Vec (Option ℕ) Global) Global) (q : ℕ) → tables_of (ss ++ (k, v) ∷ []) q ≡ cond (has ss q) (tables_of ss q) (cond (nat_eq k q) v.items [])
+tables_push [] k v q = refl
+tables_push (s ∷ ss) k v q =
+    decided (nat_eq s.0 q)
+    (λ t. ap (λ b. cond b s.1.items (tables_of (ss ++ (k, v) ∷ []) q)) t ∙ sym (ap (λ b. cond (b || has ss q) (cond b s.1.items (tables_of ss q)) (cond (nat_eq k q) v.items [])) t))
+    (λ f. ap (λ b. cond b s.1.items (tables_of (ss ++ (k, v) ∷ []) q)) f ∙ tables_push ss k v q ∙ sym (ap (λ b. cond (b || has ss q) (cond b s.1.items (tables_of ss q)) (cond (nat_eq k q) v.items [])) f))
+
+numbers_push : (ss : Live) (k : ℕ) (v : Vec (Vec (Option ℕ) Global) Global) → numbers (ss ++ (k, v) ∷ []) ≡ numbers ss ++ k ∷ []
+numbers_push [] k v = refl
+numbers_push (s ∷ ss) k v = ap (λ l. s.0 ∷ l) (numbers_push ss k v)
+
+-- each table is as it was, or is one of a new space, where all are absent
+pub rows_push : (ss : Live) (k : ℕ) (v : Vec (Vec (Option ℕ) Global) Global) → ((high : ℕ) → row v.items high ≡ []) → (q high : ℕ) → row (tables_of (ss ++ (k, v) ∷ []) q) high ≡ row (tables_of ss q) high
+rows_push ss k v none q high =
+    ap (λ (ts : Rows). row ts high) (tables_push ss k v q)
+    ∙ decided (has ss q)
+    (λ t. ap (λ b. row (cond b (tables_of ss q) (cond (nat_eq k q) v.items [])) high) t)
+    (λ f. ap (λ b. row (cond b (tables_of ss q) (cond (nat_eq k q) v.items [])) high) f
+    ∙ decided (nat_eq k q)
+    (λ t. ap (λ b. row (cond b v.items []) high) t ∙ none high ∙ sym (ap (λ (ts : Rows). row ts high) (no_tables_of ss q f)))
+    (λ u. ap (λ b. row (cond b v.items []) high) u ∙ sym (ap (λ (ts : Rows). row ts high) (no_tables_of ss q f))))
+
+pub has_push : (ss : Live) (k : ℕ) (v : Vec (Vec (Option ℕ) Global) Global) (q : ℕ) → has (ss ++ (k, v) ∷ []) q ≡ (has ss q || nat_eq k q)
+has_push [] k v q = or_none (nat_eq k q)
+  where
+    or_none : (b : Bool) → (b || false) ≡ b
+    or_none true = refl
+    or_none false = refl
+has_push (s ∷ ss) k v q = ap (λ b. nat_eq s.0 q || b) (has_push ss k v q) ∙ or_along (nat_eq s.0 q) (has ss q) (nat_eq k q)
+  where
+    or_along : (a b c : Bool) → (a || (b || c)) ≡ ((a || b) || c)
+    or_along true b c = refl
+    or_along false b c = refl
+
+pub laid_push : (ss : Live) (k : ℕ) (v : Vec (Vec (Option ℕ) Global) Global) → IsLaid ss → length v.items ≡ space_tables → ((high : ℕ) → row v.items high ≡ []) → IsLaid (ss ++ (k, v) ∷ [])
+laid_push ss k v l full none = record {
+  whole = λ q high. elim (l.whole q high) [
+    | inl e ↦ inl (rows_push ss k v none q high ∙ e)
+    | inr e ↦ inr (ap length (rows_push ss k v none q high) ∙ e)
+  ];
+  full = λ q h.
+      ap length (tables_push ss k v q)
+      ∙ decided (has ss q)
+      (λ t. ap (λ b. length (cond b (tables_of ss q) (cond (nat_eq k q) v.items []))) t ∙ l.full q t)
+      (λ f.
+      let e : nat_eq k q ≡ true = sym (ap (λ b. b || nat_eq k q) f) ∙ sym (has_push ss k v q) ∙ h in
+      ap (λ b. length (cond b (tables_of ss q) (cond (nat_eq k q) v.items []))) f ∙ ap (λ b. length (cond b v.items [])) e ∙ full);
+}
+
+pub pages_push : (ss : Live) (s : Tables) (k : ℕ) (v : Vec (Vec (Option ℕ) Global) Global) → shown ss ≡ s → ((high : ℕ) → row v.items high ≡ []) → (shown (ss ++ (k, v) ∷ [])).pages ≡ s.pages
+pages_push ss s k v view none = pages_are (ss ++ (k, v) ∷ []) s.pages (λ p.
+    found ss s p.0 p.1 view ∙ sym (ap (λ (z : List (Option ℕ)). slice_index_or z (p.1 % table_pages) None) (rows_push ss k v none p.0 (p.1 / table_pages))))
+
+pub there_push : (ss : Live) (k : ℕ) (v : Vec (Vec (Option ℕ) Global) Global) → ((high : ℕ) → row v.items high ≡ []) → (p : ℕ × ℕ) → is_there (ss ++ (k, v) ∷ []) p ≡ is_there ss p
+there_push ss k v none p = ap (λ (z : List (Option ℕ)). nat_lt 0 (length z)) (rows_push ss k v none p.0 p.1)
+
+pub spaces_push : (ss : Live) (s : Tables) (k : ℕ) (v : Vec (Vec (Option ℕ) Global) Global) → shown ss ≡ s → (shown (ss ++ (k, v) ∷ [])).spaces ≡ set.insert s.spaces k
+spaces_push ss s k v view =
+    ap (λ (ks : List ℕ). set.from_list {R = nat_cmp} ks) (numbers_push ss k v) ∙ set.from_list_push nat_cmp_total nat_cmp-IsAntisymmetric (numbers ss) k ∙ ap (λ (t : Tables). set.insert t.spaces k) view
+
+-- a space that is there is added by nothing, and one that isn't there is removed by nothing
+
 pub set_same : (s : set.FinSet nat_cmp) (k : ℕ) → set.contains s k ≡ true → set.insert s k ≡ s
 set_same s k h = set.same_set nat_cmp_total nat_cmp-IsAntisymmetric _ _ (λ q.
     set.contains-insert nat_cmp_total s k q
@@ -51,10 +321,6 @@ set_same s k h = set.same_set nat_cmp_total nat_cmp-IsAntisymmetric _ _ (λ q.
       | false ↦ λ _. refl
     ] refl)
 
-pub set_has : (s : set.FinSet nat_cmp) (k : ℕ) → set.contains (set.insert s k) k ≡ true
-set_has s k = set.contains-insert nat_cmp_total s k k ∙ ap (λ r. is_eq r || set.contains s k) (tied_itself nat_cmp_total k)
-
--- what isn't in a set leaves it as it was
 pub set_without : (s : set.FinSet nat_cmp) (k : ℕ) → set.contains s k ≡ false → set.remove s k ≡ s
 set_without s k h = set.same_set nat_cmp_total nat_cmp-IsAntisymmetric _ _ (λ q.
     set.contains-remove nat_cmp_total s k q
@@ -63,113 +329,96 @@ set_without s k h = set.same_set nat_cmp_total nat_cmp-IsAntisymmetric _ _ (λ q
       | false ↦ λ _. refl
     ] refl)
 
-any_kept : (ks : List ℕ) (k q : ℕ) → q ≢ k → list_any (λ y. nat_eq y q) (filter (λ y. not (y == k)) ks) ≡ list_any (λ y. nat_eq y q) ks
-any_kept [] k q ne = refl
-any_kept (x ∷ ks) k q ne =
-    elim (x == k) as (λ b. (x == k) ≡ b → list_any (λ y. nat_eq y q) (cond (not b) (x ∷ filter (λ y. not (y == k)) ks) (filter (λ y. not (y == k)) ks)) ≡ (nat_eq x q || list_any (λ y. nat_eq y q) ks)) [
-      | true ↦ λ t.
-          let k1 : (x == k) ≡ true = t in
-          let e : x ≡ k = grind (arith, nat_tests) in
-          decided (nat_eq x q)
-          (λ u. let k2 : nat_eq x q ≡ true = u in let f : x ≡ q = grind (arith, nat_tests) in absurd (ne (sym f ∙ e)))
-          (λ u. any_kept ks k q ne ∙ sym (ap (λ b. b || list_any (λ y. nat_eq y q) ks) u))
-      | false ↦ λ t. ap (λ b. nat_eq x q || b) (any_kept ks k q ne)
-    ] refl
+-- a space has gone
 
-any_gone : (ks : List ℕ) (k : ℕ) → list_any (λ y. nat_eq y k) (filter (λ y. not (y == k)) ks) ≡ false
-any_gone [] k = refl
-any_gone (x ∷ ks) k =
-    elim (x == k) as (λ b. (x == k) ≡ b → list_any (λ y. nat_eq y k) (cond (not b) (x ∷ filter (λ y. not (y == k)) ks) (filter (λ y. not (y == k)) ks)) ≡ false) [
-      | true ↦ λ t. any_gone ks k
-      | false ↦ λ t. ap (λ b. b || list_any (λ y. nat_eq y k) (filter (λ y. not (y == k)) ks)) t ∙ any_gone ks k
-    ] refl
+abbrev pub left : ℕ → Live → Live
+left k ss = filter (λ (s : Space). not (s.0 == k)) ss
 
-pub set_filter : (ks : List ℕ) (k : ℕ) → ◌≡◌ {A = set.FinSet nat_cmp} (set.from_list (filter (λ y. not (y == k)) ks)) (set.remove (set.from_list ks) k)
-set_filter ks k = set.same_set nat_cmp_total nat_cmp-IsAntisymmetric _ _ (λ q.
-    elim (eq_by_cmp nat_cmp q k) as (λ b. eq_by_cmp nat_cmp q k ≡ b → set.contains {R = nat_cmp} (set.from_list (filter (λ y. not (y == k)) ks)) q ≡ (not b && set.contains {R = nat_cmp} (set.from_list ks) q)) [
-      | true ↦ λ t.
-          ap (set.contains (set.from_list (filter (λ y. not (y == k)) ks))) (nat_cmp-IsAntisymmetric q k (is_equal (nat_cmp q k) t))
-          ∙ set.contains-from_list_nat (filter (λ y. not (y == k)) ks) k ∙ any_gone ks k
-      | false ↦ λ t.
-          set.contains-from_list_nat (filter (λ y. not (y == k)) ks) q
-          ∙ any_kept ks k q (λ e. not_both _ (ap (λ r. is_eq (nat_cmp q r)) (sym e) ∙ ap is_eq (tied_itself nat_cmp_total q)) t)
-          ∙ sym (set.contains-from_list_nat ks q)
-    ] refl
-    ∙ sym (set.contains-remove nat_cmp_total (set.from_list ks) k q))
+pub tables_left : (ss : Live) (k q : ℕ) → tables_of (left k ss) q ≡ cond (q == k) [] (tables_of ss q)
+tables_left [] k q = decided (q == k) (λ t. sym (ap (λ b. cond {A = Rows} b [] []) t)) (λ f. sym (ap (λ b. cond {A = Rows} b [] []) f))
+tables_left (s ∷ ss) k q =
+    decided (s.0 == k)
+    (λ t. ap (λ b. tables_of (cond (not b) (s ∷ left k ss) (left k ss)) q) t ∙ tables_left ss k q
+    ∙ decided (q == k)
+    (λ u. ap (λ b. cond b [] (tables_of ss q)) u ∙ sym (ap (λ b. cond b [] (cond (nat_eq s.0 q) s.1.items (tables_of ss q))) u))
+    (λ u. ap (λ b. cond b [] (tables_of ss q)) u
+    ∙ sym (ap (λ b. cond b s.1.items (tables_of ss q)) (eq_no s.0 q (λ e. let g : q ≡ k = sym e ∙ eq_of s.0 k t in ne_of q k u g)))
+    ∙ sym (ap (λ b. cond b [] (cond (nat_eq s.0 q) s.1.items (tables_of ss q))) u)))
+    (λ f. ap (λ b. tables_of (cond (not b) (s ∷ left k ss) (left k ss)) q) f
+    ∙ ap (cond (nat_eq s.0 q) s.1.items) (tables_left ss k q)
+    ∙ decided (q == k)
+    (λ u. ap (λ b. cond (nat_eq s.0 q) s.1.items (cond b [] (tables_of ss q))) u
+    ∙ ap (λ b. cond b s.1.items []) (eq_no s.0 q (λ e. let g : s.0 ≡ k = e ∙ eq_of q k u in ne_of s.0 k f g))
+    ∙ sym (ap (λ b. cond b [] (cond (nat_eq s.0 q) s.1.items (tables_of ss q))) u))
+    (λ u. ap (λ b. cond (nat_eq s.0 q) s.1.items (cond b [] (tables_of ss q))) u
+    ∙ sym (ap (λ b. cond b [] (cond (nat_eq s.0 q) s.1.items (tables_of ss q))) u)))
 
--- the space of each page goes on being there
+pub set_has : (s : set.FinSet nat_cmp) (k : ℕ) → set.contains (set.insert s k) k ≡ true
+set_has s k = set.contains-insert nat_cmp_total s k k ∙ ap (λ r. is_eq r || set.contains s k) (tied_itself nat_cmp_total k)
 
-pub housed_push : (es : Entries) (ks : List ℕ) (k : ℕ) → IsHoused es ks → IsHoused es (ks ++ k ∷ [])
-housed_push es ks k h p key found =
-    ap (λ (s : set.FinSet nat_cmp). set.contains s p.0) (set_push ks k) ∙ set.contains-insert nat_cmp_total (set.from_list ks) k p.0
-    ∙ or_second (eq_by_cmp nat_cmp p.0 k) _ (h p key found)
+has_left : (ss : Live) (k q : ℕ) → has (left k ss) q ≡ (not (q == k) && has ss q)
+has_left [] k q = decided (q == k) (λ t. sym (ap (λ b. not b && false) t)) (λ f. sym (ap (λ b. not b && false) f))
+has_left (s ∷ ss) k q =
+    decided (s.0 == k)
+    (λ t. ap (λ b. has (cond (not b) (s ∷ left k ss) (left k ss)) q) t ∙ has_left ss k q
+    ∙ decided (q == k)
+    (λ u. ap (λ b. not b && has ss q) u ∙ sym (ap (λ b. not b && (nat_eq s.0 q || has ss q)) u))
+    (λ u. sym (ap (λ b. not (q == k) && (b || has ss q)) (eq_no s.0 q (λ e. let g : q ≡ k = sym e ∙ eq_of s.0 k t in ne_of q k u g)))))
+    (λ f. ap (λ b. has (cond (not b) (s ∷ left k ss) (left k ss)) q) f
+    ∙ ap (λ b. nat_eq s.0 q || b) (has_left ss k q)
+    ∙ decided (q == k)
+    (λ u. ap (λ b. nat_eq s.0 q || (not b && has ss q)) u
+    ∙ ap (λ b. b || false) (eq_no s.0 q (λ e. let g : s.0 ≡ k = e ∙ eq_of q k u in ne_of s.0 k f g))
+    ∙ sym (ap (λ b. not b && (nat_eq s.0 q || has ss q)) u))
+    (λ u. ap (λ b. nat_eq s.0 q || (not b && has ss q)) u ∙ sym (ap (λ b. not b && (nat_eq s.0 q || has ss q)) u)))
 
-pub housed_puts : (q : ℕ × ℕ) (key : ℕ) (es new : Entries) (ks : List ℕ) → IsHoused es ks → IsTrue (set.contains {R = nat_cmp} (set.from_list ks) q.0) → Puts q key es new → IsHoused new ks
-housed_puts q key es new ks h here puts p k found =
-    decided (eq_by_cmp place_cmp p q)
-    (λ t. ap (λ (x : ℕ × ℕ). set.contains {R = nat_cmp} (set.from_list ks) x.0) (untie p q t) ∙ here)
-    (λ f. h p k (sym (ap (λ b. cond b (Some key) (find place_cmp p es)) f) ∙ sym (puts p) ∙ found))
+pub spaces_left : (ss : Live) (s : Tables) (k : ℕ) → shown ss ≡ s → (shown (left k ss)).spaces ≡ set.remove s.spaces k
+spaces_left ss s k view = set.same_set nat_cmp_total nat_cmp-IsAntisymmetric _ _ (λ q.
+    has_shown (left k ss) q ∙ has_left ss k q
+    ∙ decided (q == k)
+    (λ t. ap (λ b. not b && has ss q) t ∙ sym (ap (λ b. not b && set.contains s.spaces q) (tied q t)))
+    (λ f. ap (λ b. not b && has ss q) f ∙ sym (stands ss s q view) ∙ sym (ap (λ b. not b && set.contains s.spaces q) (loose q f)))
+    ∙ sym (set.contains-remove nat_cmp_total s.spaces k q))
+  where
+    tied : (q : ℕ) → (q == k) ≡ true → eq_by_cmp nat_cmp q k ≡ true
+    tied q t = ap (λ r. is_eq (nat_cmp q r)) (sym (eq_of q k t)) ∙ ap is_eq (tied_itself nat_cmp_total q)
 
-no_key : {A : Type 0} {key : ℕ} → ◌≡◌ {A = Option ℕ} None (Some key) → A
-no_key h = absurd (let k : ◌≡◌ {A = Option ℕ} None (Some _) = h in cc)
+    loose : (q : ℕ) → (q == k) ≡ false → eq_by_cmp nat_cmp q k ≡ false
+    loose q f = decided (eq_by_cmp nat_cmp q k) (λ t. absurd (ne_of q k f (nat_cmp-IsAntisymmetric q k (is_equal (nat_cmp q k) t)))) (λ u. u)
 
-pub housed_drops : (q : ℕ × ℕ) (es new : Entries) (ks : List ℕ) → IsHoused es ks → Drops q es new → IsHoused new ks
-housed_drops q es new ks h drops p k found =
-    decided (eq_by_cmp place_cmp p q)
-    (λ t. no_key (sym (ap (λ b. cond b None (find place_cmp p es)) t) ∙ sym (drops p) ∙ found))
-    (λ f. h p k (sym (ap (λ b. cond b None (find place_cmp p es)) f) ∙ sym (drops p) ∙ found))
-
-pub housed_space : (space : ℕ) (es new : Entries) (ks : List ℕ) → IsHoused es ks → DropsSpace space es new → IsHoused new (filter (λ y. not (y == space)) ks)
-housed_space space es new ks h drops p k found =
-    decided (p.0 == space)
-    (λ t. no_key (sym (ap (λ b. cond b None (find place_cmp p es)) t) ∙ sym (drops p) ∙ found))
-    (λ f. let ne : p.0 ≢ space = (λ e. let k1 : (p.0 == space) ≡ false = f in let k2 : (p.0 == space) ≡ true = grind (arith, nat_tests) in not_both _ k2 k1) in
-    set.contains-from_list_nat (filter (λ y. not (y == space)) ks) p.0 ∙ any_kept ks space p.0 ne ∙ sym (set.contains-from_list_nat ks p.0)
-    ∙ h p k (sym (ap (λ b. cond b None (find place_cmp p es)) f) ∙ sym (drops p) ∙ found))
-
--- the maps
-
-pub pages_put : (q : ℕ × ℕ) (key : ℕ) (es new : Entries) → Puts q key es new → ◌≡◌ {A = map.FinMap place_cmp ℕ} (map.from_entries new) (map.insert (map.from_entries es) q key)
-pages_put q key es new puts = map.same_map places_total exact_places _ _ (λ p.
-    map.get-from_entries places_total new p ∙ puts p ∙ ap (cond (eq_by_cmp place_cmp p q) (Some key)) (sym (map.get-from_entries places_total es p))
-    ∙ sym (map.get-insert places_total (map.from_entries es) q key p))
-
-pub pages_drop : (q : ℕ × ℕ) (es new : Entries) → Drops q es new → ◌≡◌ {A = map.FinMap place_cmp ℕ} (map.from_entries new) (map.remove (map.from_entries es) q)
-pages_drop q es new drops = map.same_map places_total exact_places _ _ (λ p.
-    map.get-from_entries places_total new p ∙ drops p ∙ ap (cond (eq_by_cmp place_cmp p q) None) (sym (map.get-from_entries places_total es p))
-    ∙ sym (map.get-remove places_total (map.from_entries es) q p))
-
-pub empties : (space : ℕ) (es new : Entries) (ks kept : List ℕ) (room left : ℕ) → DropsSpace space es new → Empties space (tables es ks room) (tables new kept left)
-empties space es new ks kept room left drops other page =
-    key_shown new kept left other page ∙ drops (other, page) ∙ ap (cond (other == space) None) (sym (key_shown es ks room other page))
-
--- a space that isn't there has no pages
-pub empty_absent : (space : ℕ) (es : Entries) (ks : List ℕ) (room : ℕ) → IsHoused es ks → set.contains {R = nat_cmp} (set.from_list ks) space ≡ false → Empties space (tables es ks room) (tables es ks room)
-empty_absent space es ks room h absent other page =
-    decided (other == space)
-    (λ t. let k1 : (other == space) ≡ true = t in
-    let e : other ≡ space = grind (arith, nat_tests) in
-    elim (find place_cmp (other, page) es) as (λ (o : Option ℕ). find place_cmp (other, page) es ≡ o → key_of (tables es ks room) other page ≡ cond (other == space) None (key_of (tables es ks room) other page)) [
-      | None ↦ λ is. key_shown es ks room other page ∙ is ∙ sym (ap (λ b. cond b None (key_of (tables es ks room) other page)) t)
-      | Some key ↦ λ is. absurd (not_both _ (h (other, page) key is) (ap (set.contains {R = nat_cmp} (set.from_list ks)) e ∙ absent))
-    ] refl)
-    (λ f. sym (ap (λ b. cond b None (key_of (tables es ks room) other page)) f))
-
--- the next present page
-
-some_of : (o : Option ℕ) → is_some o ≡ true → (key : ℕ) × (o ≡ Some key)
-some_of None h = absurd (let k : false ≡ true = h in cc)
-some_of (Some key) h = (key, refl)
-
-pub next_of : (es : Entries) (ks : List ℕ) (room space page : ℕ) (next : Option ℕ) → MatchOption next (NoneIn es space page) (IsNextIn es space page)
-    → MatchOption next (NonePresentFrom (tables es ks room) space page) (IsNextPresent (tables es ks room) space page)
-next_of es ks room space page None none = λ other le here.
-    let f = some_of (find place_cmp (space, other) es) (ap is_some (sym (key_shown es ks room space other)) ∙ here) in
-    none other f.0 le f.1
-next_of es ks room space page (Some next) n = record {
-  present = ap is_some (key_shown es ks room space next ∙ n.shows);
-  from = n.from;
-  least = λ other le here.
-      let f = some_of (find place_cmp (space, other) es) (ap is_some (sym (key_shown es ks room space other)) ∙ here) in
-      n.least other f.0 le f.1;
+pub laid_left : (ss : Live) (k : ℕ) → IsLaid ss → IsLaid (left k ss)
+laid_left ss k l = record {
+  whole = λ q. subst AreWhole (sym (tables_left ss k q)) (decided (q == k)
+      (λ t. subst (λ b. AreWhole (cond b [] (tables_of ss q))) (sym t) (λ high. inl refl))
+      (λ f. subst (λ b. AreWhole (cond b [] (tables_of ss q))) (sym f) (l.whole q)));
+  full = λ q h. ap length (tables_left ss k q) ∙ decided (q == k)
+      (λ t. absurd (let e : false ≡ true = sym (ap (λ b. not b && has ss q) t) ∙ sym (has_left ss k q) ∙ h in cc))
+      (λ f. ap (λ b. length (cond b [] (tables_of ss q))) f ∙ l.full q (sym (ap (λ b. not b && has ss q) f) ∙ sym (has_left ss k q) ∙ h));
 }
+
+pub empties_left : (ss : Live) (s : Tables) (k : ℕ) → shown ss ≡ s → Empties k s (shown (left k ss))
+empties_left ss s k view other page =
+    key_shown (left k ss) other page ∙ ap (λ (ts : Rows). entry ts page) (tables_left ss k other)
+    ∙ decided (other == k)
+    (λ t. ap (λ b. entry (cond b [] (tables_of ss other)) page) t ∙ sym (ap (λ b. cond b None (key_of s other page)) t))
+    (λ f. ap (λ b. entry (cond b [] (tables_of ss other)) page) f ∙ sym (found ss s other page view) ∙ sym (ap (λ b. cond b None (key_of s other page)) f))
+
+pub keeps_left : (ss : Live) (s : Tables) (k : ℕ) → shown ss ≡ s → KeepsOthersRoom k s (shown (left k ss))
+keeps_left ss s k view = keeps_others ss (left k ss) s k view (λ q ne. tables_left ss k q ∙ ap (λ b. cond b [] (tables_of ss q)) (eq_no q k ne))
+
+pub empty_absent : (ss : Live) (s : Tables) (k : ℕ) → shown ss ≡ s → has ss k ≡ false → Empties k s s
+empty_absent ss s k view h other page = decided (other == k)
+    (λ t. ap (λ (q : ℕ). key_of s q page) (eq_of other k t) ∙ absent_key ss s k page view h ∙ sym (ap (λ b. cond b None (key_of s other page)) t))
+    (λ f. sym (ap (λ b. cond b None (key_of s other page)) f))
+
+pub there_more : {k : ℕ} {ss new : Live} {old ts : Rows} → Wrote k ss new old ts → ((high : ℕ) → is_made old high ≡ true → is_made ts high ≡ true) → (p : ℕ × ℕ) → is_there ss p ≡ true → is_there new p ≡ true
+there_more w more p = wrote_all (λ _ a b. is_made a p.1 ≡ true → is_made b p.1 ≡ true) w (more p.1) (λ _ h. h) p.0
+
+pub there_same : {k : ℕ} {ss new : Live} {old ts : Rows} → Wrote k ss new old ts → ((high : ℕ) → is_made ts high ≡ is_made old high) → (p : ℕ × ℕ) → is_there new p ≡ is_there ss p
+there_same w same p = wrote_all (λ _ a b. is_made b p.1 ≡ is_made a p.1) w (same p.1) (λ _. refl) p.0
+
+pub pages_kept : (ss new : Live) (s : Tables) → shown ss ≡ s → ((p : ℕ × ℕ) → key_at new p ≡ key_at ss p) → (shown new).pages ≡ s.pages
+pages_kept ss new s view h = pages_are new s.pages (λ p. found ss s p.0 p.1 view ∙ sym (h p))
+
+pub same_view : (ss new : Live) (s : Tables) → shown ss ≡ s → ((p : ℕ × ℕ) → key_at new p ≡ key_at ss p) → ((p : ℕ × ℕ) → is_there new p ≡ is_there ss p) → numbers new ≡ numbers ss → shown new ≡ s
+same_view ss new s view keys made names = same_shown new ss keys made names ∙ view

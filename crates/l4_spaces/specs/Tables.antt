@@ -1,25 +1,38 @@
--- The page tables of all spaces as one value: the node of each present page, and which spaces there are (this profile's own).
-use Rattle.std.specs.Prelude.{◌≡◌, ℕ, ◌≤◌, ◌==◌, List, length, Option, None, cond, IsTrue, is_some, refl}
+-- The page tables of all spaces as one value: the node of each present page, which spaces there are, and which tables (this profile's own).
+use Rattle.std.specs.Prelude.{◌≡◌, ◌≢◌, ℕ, ◌<◌, ◌≤◌, ◌==◌, ◌*◌, ◌/◌, List, Option, None, cond, not, IsTrue, is_some, refl}
+use Rattle.std.specs.List.{count_by, All}
 use Rattle.std.specs.Ordering.{nat_cmp, ordering_then}
 use Rattle.std.specs.declared.cmp.Ordering.{Ordering}
 use Rattle.std.specs.Coded.{Coded, code_by, coded×, coded_ℕ}
 use Rattle.std.specs.FinMap as map
 use Rattle.std.specs.FinSet as set
 
--- a page of a space, by space and then by page
+-- how many pages a table has, and how many tables a space
+abbrev pub table_pages : ℕ
+table_pages = 1024
+
+abbrev pub space_tables : ℕ
+space_tables = 1024
+
+abbrev pub space_pages : ℕ
+space_pages = space_tables * table_pages
+
+-- a page of a space, or a table of a space, by space and then by number
 abbrev pub place_cmp : ℕ × ℕ → ℕ × ℕ → Ordering
 place_cmp a b = ordering_then (nat_cmp a.0 b.0) (nat_cmp a.1 b.1)
 
--- the nodes' keys of the present pages, the spaces that there are, and what room there is for more pages, of which `HasRoom` speaks
+-- the nodes' keys of the present pages, the spaces that there are, the tables that there are, and what room there is for more, of which `HasRoom` speaks
 pub record Tables : Type 0 where
   pub pages : map.FinMap place_cmp ℕ
   pub spaces : set.FinSet nat_cmp
+  pub tables : set.FinSet place_cmp
   pub room : ℕ
 
 abbrev pub tables_code : Coded Tables
 tables_code =
-    code_by (map.FinMap place_cmp ℕ × (set.FinSet nat_cmp × ℕ)) (coded× (map.code (coded× coded_ℕ coded_ℕ) coded_ℕ) (coded× (set.code coded_ℕ) coded_ℕ))
-    (λ s. (s.pages, (s.spaces, s.room))) (λ p. record { pages = p.0; spaces = p.1.0; room = p.1.1 }) (λ _. refl)
+    code_by (map.FinMap place_cmp ℕ × (set.FinSet nat_cmp × (set.FinSet place_cmp × ℕ)))
+    (coded× (map.code (coded× coded_ℕ coded_ℕ) coded_ℕ) (coded× (set.code coded_ℕ) (coded× (set.code (coded× coded_ℕ coded_ℕ)) coded_ℕ)))
+    (λ s. (s.pages, (s.spaces, (s.tables, s.room)))) (λ p. record { pages = p.0; spaces = p.1.0; tables = p.1.1.0; room = p.1.1.1 }) (λ _. refl)
 
 -- the key of a page's node, if the page is present
 abbrev pub key_of : Tables → ℕ → ℕ → Option ℕ
@@ -31,13 +44,22 @@ IsPresent s space page = IsTrue (is_some (key_of s space page))
 abbrev pub IsSpace : Tables → ℕ → Type 0
 IsSpace s space = IsTrue (set.contains s.spaces space)
 
--- these pages of the space can be set in turn, one after another, without memory
+-- the page lies in a space
+abbrev pub IsPage : ℕ → Type 0
+IsPage page = page < space_pages
+
+-- these pages of the space can be set in turn, one after another, without memory:
+-- of them, those whose table isn't there are no more than the room
 unfoldable pub HasRoom : Tables → ℕ → List ℕ → Type 0
-HasRoom s space pages = length pages ≤ s.room
+HasRoom s space pages = count_by (λ page. not (set.contains s.tables (space, page / table_pages))) pages ≤ s.room
 
 -- all room that there was is there
 abbrev pub KeepsRoom : Tables → Tables → Type 0
 KeepsRoom old new = (space : ℕ) (pages : List ℕ) → HasRoom old space pages → HasRoom new space pages
+
+-- all room that there was for the other spaces is there
+abbrev pub KeepsOthersRoom : ℕ → Tables → Tables → Type 0
+KeepsOthersRoom space old new = (other : ℕ) (pages : List ℕ) → other ≢ space → HasRoom old other pages → HasRoom new other pages
 
 -- the space has no page left, and the others have theirs
 abbrev pub Empties : ℕ → Tables → Tables → Type 0
@@ -51,4 +73,15 @@ NonePresentFrom s space page = (other : ℕ) → page ≤ other → ¬ (IsPresen
 pub record IsNextPresent (s : Tables) (space page next : ℕ) : Type 0 where
   pub present : IsPresent s space next
   pub from : page ≤ next
+  pub least : (other : ℕ) → page ≤ other → IsPresent s space other → next ≤ other
+
+-- no page of the space from this one on and below the end is present
+abbrev pub NonePresentIn : Tables → ℕ → ℕ → ℕ → Type 0
+NonePresentIn s space page end = (other : ℕ) → page ≤ other → other < end → ¬ (IsPresent s space other)
+
+-- the least present page of the space that is not below this one, and it is below the end
+pub record IsNextIn (s : Tables) (space page end next : ℕ) : Type 0 where
+  pub present : IsPresent s space next
+  pub from : page ≤ next
+  pub before : next < end
   pub least : (other : ℕ) → page ≤ other → IsPresent s space other → next ≤ other

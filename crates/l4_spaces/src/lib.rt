@@ -1,17 +1,21 @@
 //! Page tables: which node each present page of each space has.
 #![tactic(auto)]
 
-ghost use Rattle.std.specs.Prelude.{◌≡◌, ◌∷◌, [], ◌≤◌, ◌⊎◌, ℕ, List, IsTrue, IsOk, OnOk, OnErr, IfSome, MatchOption, Some, None, codes};
+ghost use Rattle.std.specs.Prelude.{◌≡◌, ◌≢◌, ◌∷◌, [], ◌<◌, ◌≤◌, ◌⊎◌, ℕ, List, All, length, false, IsTrue, IsOk, OnOk, OnErr, IfSome, MatchOption, MatchResult, ⊤, Some, None, codes};
 ghost use Rattle.std.specs.FinMap as map;
 ghost use Rattle.std.specs.FinSet as set;
+ghost use Rattle.l4_spaces.specs.Tables.{space_tables};
+ghost use Rattle.l4_spaces.specs.Inside.{has, StandsAt};
+ghost use Rattle.l4_spaces.specs.Two.{row};
 
-mod entries;
+mod tables;
 #[cfg(test)]
 mod tests;
 
 use std::alloc::{AllocError, AllocFailed, Global};
 use std::fmt;
 use std::marker::Model;
+use tables::{SPACE_PAGES, SPACE_TABLES};
 
 /// There was no memory for what was asked, and nothing was changed.
 #[derive(Clone, Copy, Debug, PartialEq, Eq)]
@@ -42,8 +46,8 @@ impl<T: Drop> From<AllocFailed<T>> for NoMemory {
 /// For each space that is there a map from its present pages to the keys of their nodes.
 #[derive(Drop)]
 pub struct Spaces {
-    entries: Vec<((u64, u32), usize)>,
-    spaces: Vec<u64>,
+    alloc: Global,
+    spaces: Vec<(u64, Vec<Vec<Option<usize>>>)>,
 }
 
 impl Model for Spaces {
@@ -60,8 +64,33 @@ impl Model for Spaces {
     ghost invariant = { IsKept };
 }
 
+/// Where the space stands.
+fn index_of(spaces: &Vec<(u64, Vec<Vec<Option<usize>>>)>, space: u64) -> Option<usize>
+    ensures at { MatchOption result (has spaces.now.items space ≡ false) (StandsAt space spaces.now.items) }
+    ensures within { IfSome result (λ at. at < length spaces.now.items) }
+{
+    for index in 0..spaces.len() {
+        if spaces[index].0 == space {
+            return Some(index);
+        }
+    }
+    None
+}
+
+/// As many absent tables as a space has.
+fn no_tables(alloc: Global) -> Result<Vec<Vec<Option<usize>>>, NoMemory>
+    ensures absent { MatchResult result (λ tables. (length tables.items ≡ space_tables) × ((high : ℕ) → row tables.items high ≡ [])) (λ _. ⊤) }
+{
+    let mut tables = Vec::new(alloc);
+    tables.reserve(SPACE_TABLES)?;
+    for _ in 0..SPACE_TABLES {
+        let _ = tables.push(Vec::new(alloc));
+    }
+    Ok(tables)
+}
+
 impl Spaces {
-    ghost use Rattle.l4_spaces.specs.Tables.{Tables, key_of, IsPresent, IsSpace, HasRoom, KeepsRoom, Empties, NonePresentFrom, IsNextPresent};
+    ghost use Rattle.l4_spaces.specs.Tables.{Tables, key_of, IsPresent, IsSpace, IsPage, HasRoom, KeepsRoom, KeepsOthersRoom, Empties, NonePresentFrom, IsNextPresent, NonePresentIn, IsNextIn};
 
     /// No space.
     pub fn new(alloc: Global) -> Spaces
@@ -69,7 +98,7 @@ impl Spaces {
         ensures spaces { result.spaces ≡ set.empty }
     {
         Spaces {
-            entries: Vec::new(alloc),
+            alloc,
             spaces: Vec::new(alloc),
         }
     }
@@ -83,22 +112,23 @@ impl Spaces {
         ensures err { OnErr result (self.new ≡ self.old) }
         ensures there { IsSpace self.old space → IsOk result × (self.new ≡ self.old) }
     {
-        if !self.spaces.contains(&space) {
-            self.spaces.push(space)?;
+        if index_of(&self.spaces, space).is_some() {
+            return Ok(());
         }
+        let tables = no_tables(self.alloc)?;
+        self.spaces.push((space, tables))?;
         Ok(())
     }
 
-    /// Removes a space with all its pages. Nothing changes if it isn't there.
+    /// Removes a space with all its pages and tables. Nothing changes if it isn't there.
     pub fn remove(&mut self, space: u64)
         ensures pages { Empties space self.old self.new }
         ensures spaces { self.new.spaces ≡ set.remove self.old.spaces space }
-        ensures room { KeepsRoom self.old self.new }
+        ensures room { KeepsOthersRoom space self.old self.new }
         ensures absent { ¬ (IsSpace self.old space) → self.new ≡ self.old }
     {
-        if self.spaces.contains(&space) {
-            entries::drop_space(&mut self.entries, space);
-            self.spaces.retain(|other| *other != space);
+        if index_of(&self.spaces, space).is_some() {
+            self.spaces.retain(|other| other.0 != space);
         }
     }
 
@@ -106,7 +136,7 @@ impl Spaces {
     pub fn has(&self, space: u64) -> bool
         ensures { result ≡ set.contains self.now.spaces space }
     {
-        self.spaces.contains(&space)
+        index_of(&self.spaces, space).is_some()
     }
 
     /// The key of a page's node, None if the page isn't present.
@@ -116,14 +146,18 @@ impl Spaces {
         // A present page's space is there.
         ensures housed { IfSome result (λ _. IsSpace self.now space) }
     {
-        entries::key_in(&self.entries, space, page)
+        let Some(at) = index_of(&self.spaces, space) else {
+            return None;
+        };
+        tables::key_in(&self.spaces[at].1, page)
     }
 
     /// Makes room for these pages of the space, to be set in turn. No page is set.
     ///
     /// NoMemory can come only where that room was missing, and changes nothing.
     pub fn prepare(&mut self, space: u64, pages: &[u32]) -> Result<(), NoMemory>
-        requires { IsSpace self.old space }
+        requires there { IsSpace self.old space }
+        requires fit { All IsPage pages.now }
         ensures pages { self.new.pages ≡ self.old.pages }
         ensures spaces { self.new.spaces ≡ self.old.spaces }
         ensures ok { OnOk result (HasRoom self.new space pages.now) }
@@ -134,13 +168,18 @@ impl Spaces {
         ensures succeeds { HasRoom self.old space pages.now → IsOk result }
         ensures nothing { pages.now ≡ [] → IsOk result }
     {
-        self.entries.reserve(pages.len())?;
+        let Some(at) = index_of(&self.spaces, space) else {
+            return Ok(());
+        };
+        let alloc = self.alloc;
+        tables::make_all(&mut self.spaces[at].1, alloc, pages)?;
         Ok(())
     }
 
     /// Sets the key of a page. The page is present, or is the first of pages that there is room for.
     pub fn set(&mut self, space: u64, page: u32, key: usize)
         requires there { IsSpace self.old space }
+        requires fits { IsPage page }
         requires room { IsPresent self.old space page ⊎ (rest : List ℕ) × HasRoom self.old space (page ∷ rest) }
         ensures pages { self.new.pages ≡ map.insert self.old.pages (space, page) key }
         ensures spaces { self.new.spaces ≡ self.old.spaces }
@@ -149,7 +188,10 @@ impl Spaces {
         ensures rest { (rest : List ℕ) → HasRoom self.old space (page ∷ rest) → HasRoom self.new space rest }
         ensures room { IsPresent self.old space page → KeepsRoom self.old self.new }
     {
-        entries::put(&mut self.entries, space, page, key);
+        let Some(at) = index_of(&self.spaces, space) else {
+            return;
+        };
+        tables::put(&mut self.spaces[at].1, page, Some(key));
     }
 
     /// Makes a page absent. Nothing changes if it is so.
@@ -159,13 +201,31 @@ impl Spaces {
         ensures room { KeepsRoom self.old self.new }
         ensures absent { key_of self.old space page ≡ None → self.new ≡ self.old }
     {
-        entries::drop_page(&mut self.entries, space, page);
+        let Some(at) = index_of(&self.spaces, space) else {
+            return;
+        };
+        if tables::key_in(&self.spaces[at].1, page).is_some() {
+            tables::put(&mut self.spaces[at].1, page, None);
+        }
     }
 
     /// The least present page of the space that is not below `page`, None where there is none.
     pub fn next_present(&self, space: u64, page: u32) -> Option<u32>
         ensures { MatchOption result (NonePresentFrom self.now space page) (IsNextPresent self.now space page) }
     {
-        entries::next_page(&self.entries, space, page)
+        let Some(at) = index_of(&self.spaces, space) else {
+            return None;
+        };
+        tables::next_page(&self.spaces[at].1, page, SPACE_PAGES)
+    }
+
+    /// The least present page of the space that is not below `page`, if it is below `end`. Nothing from `end` on is looked at.
+    pub fn next_in(&self, space: u64, page: u32, end: u32) -> Option<u32>
+        ensures { MatchOption result (NonePresentIn self.now space page end) (IsNextIn self.now space page end) }
+    {
+        let Some(at) = index_of(&self.spaces, space) else {
+            return None;
+        };
+        tables::next_page(&self.spaces[at].1, page, end)
     }
 }

@@ -1,11 +1,13 @@
-ghost use Rattle.l4_spaces.specs.Tables.{IsSpace};
+ghost use Rattle.std.specs.Prelude.{All};
+ghost use Rattle.l4_spaces.specs.Tables.{IsSpace, IsPage};
 
 use crate::{NoMemory, Spaces};
 use std::test::Fail;
 
 /// Sets each of the pages: after `prepare` none of it can fail.
 fn fill(spaces: &mut Spaces, space: u64, pages: &[u32]) -> Result<(), NoMemory>
-    requires { IsSpace spaces.old space }
+    requires there { IsSpace spaces.old space }
+    requires fit { All IsPage pages.now }
 {
     spaces.prepare(space, pages)?;
     for page in pages {
@@ -32,7 +34,7 @@ fn keeps_pages(rt: HostRuntime) -> Result<(), Fail> {
     let mut spaces = Spaces::new(rt.alloc());
     assert!(rt; !spaces.has(7));
     spaces.add(7)?;
-    spaces.prepare(7, &[5, 3, 9])?;
+    spaces.prepare(7, &[5, 3, 2000])?;
     spaces.set(7, 5, 50);
     spaces.set(7, 3, 30);
     spaces.set(7, 5, 51);
@@ -48,7 +50,9 @@ fn keeps_pages(rt: HostRuntime) -> Result<(), Fail> {
         (6, None),
     ] {
         assert_eq!(rt; spaces.next_present(7, page), next, "from {page}");
+        assert_eq!(rt; spaces.next_in(7, page, 6), next, "below 6, from {page}");
     }
+    assert_eq!(rt; spaces.next_in(7, 4, 5), None);
     assert_eq!(rt; spaces.next_present(6, 0), None);
     spaces.clear(7, 3);
     spaces.clear(7, 4);
@@ -66,7 +70,7 @@ fn keeps_all_where_memory_is_wanted(rt: HostRuntime) -> Result<(), Fail> {
         assert!(rt; !spaces.has(7));
         return Err(refused.into());
     }
-    if let Err(refused) = spaces.prepare(7, &[5, 3, 9]) {
+    if let Err(refused) = spaces.prepare(7, &[5, 2000, 9]) {
         assert!(rt; spaces.has(7));
         assert_eq!(rt; spaces.next_present(7, 0), None);
         return Err(refused.into());

@@ -1,24 +1,51 @@
-use Rattle.std.proofs.Common.{◌≡◌, ◌∙◌, ◌-◌, ◌≤◌, ℕ, None, Vec, Global, vec_len, vec_capacity, ap, sym, arith}
-use Rattle.std.specs.FinMap as map
-use Rattle.l4_spaces.specs.Tables.{Tables, place_cmp, key_of}
-use Rattle.l4_spaces.specs.Inside.{tables}
-use Rattle.l4_spaces.proofs.Showing.{key_shown, keeps_room, pages_drop}
+use Rattle.std.proofs.Common.{◌≡◌, ◌∙◌, ℕ, List, Option, Some, None, is_some, true, false, sym, ap, subst}
+use Rattle.std.specs.Ordering.{nat_cmp}
+use Rattle.std.specs.FinSet as set
+use Rattle.l4_spaces.specs.Tables.{Tables, key_of}
+use Rattle.l4_spaces.specs.Two.{Rows, entry, is_made, IsReady}
+use Rattle.l4_spaces.specs.Inside.{tables_of}
+use Rattle.l4_spaces.proofs.Finding.{no_tables_of}
+use Rattle.l4_spaces.proofs.Showing.{wrote, at_here, found, laid, whole_long, there_long, keys_put, keeps_same, pages_clear, pages_clear_none, ready_shown, is_none_of}
 use Rattle.l4_spaces.proofs.Spaces.clear.Goals as goal
 
-pub returns-clause-pages : goal.returns-clause-pages
-returns-clause-pages c =
-    pages_drop (c.args.space, c.args.page) c.self.inside.entries.items c.drop_page.new.entries.items c.drop_page.ensures.drops
-    ∙ ap (λ (s : Tables). map.remove s.pages (c.args.space, c.args.page)) c.self.view_is
+pub returns-in_default-clause-pages : goal.returns-in_default-clause-pages
+returns-in_default-clause-pages c =
+    pages_clear_none c.self.inside.spaces.items c.args.self.now (c.args.space, c.args.page) c.self.view_is (ap (λ (ts : Rows). entry ts c.args.page) (no_tables_of c.self.inside.spaces.items c.args.space c.in_default.ensures.at))
 
-pub returns-clause-room : goal.returns-clause-room
-returns-clause-room c =
-    let room : vec_capacity c.self.inside.entries - vec_len c.self.inside.entries ≡ c.args.self.now.room = ap (λ (s : Tables). s.room) c.self.view_is in
-    let more : c.args.self.now.room ≤ vec_capacity c.drop_page.new.entries - vec_len c.drop_page.new.entries = omega (arith, c.drop_page.ensures.capacity, c.drop_page.ensures.shorter) in
-    keeps_room c.args.self.now _ more
+pub put-requires : goal.put-requires
+put-requires c = record {
+  ready = ready_shown c.index_mut.result.now.1.items c.args.page (ap (λ (ts : Rows). is_some (entry ts c.args.page))
+      (sym (at_here c.self.inside.spaces.items c.args.space c.in-Some.at c.index_mut.result.now c.in-Some.ensures.at c.index_mut.ensures.value)
+      ∙ at_here c.self.inside.spaces.items c.args.space c.in-Some.at c.index.result.now c.in-Some.ensures.at c.index.ensures)
+      ∙ sym (ap is_some c.key_in.ensures) ∙ sym c.is_some.ensures ∙ c.if-is_some.true);
+}
 
-pub returns-clause-absent : goal.returns-clause-absent
-returns-clause-absent c = λ h.
-    let none : map.find place_cmp (c.args.space, c.args.page) c.self.inside.entries.items ≡ None =
-    sym (key_shown c.self.inside.entries.items c.self.inside.spaces.items (vec_capacity c.self.inside.entries - vec_len c.self.inside.entries) c.args.space c.args.page)
-    ∙ ap (λ (s : Tables). key_of s c.args.space c.args.page) c.self.view_is ∙ h in
-    ap (λ (v : Vec ((ℕ × ℕ) × ℕ) Global). tables v.items c.self.inside.spaces.items (vec_capacity v - vec_len v)) (c.drop_page.ensures.absent none) ∙ c.self.view_is
+pub invariant_of-self : goal.invariant_of-self
+invariant_of-self c = laid (wrote c.self.inside.spaces.items c.args.space c.in-Some.at c.index_mut.result.now c.put.new.tables c.in-Some.ensures.at c.index_mut.ensures.value) c.self.invariant (whole_long c.index_mut.result.now.1.items c.put.new.tables.items c.put.ensures.long) c.put.ensures.full
+
+pub returns-then-is_some-clause-pages : goal.returns-then-is_some-clause-pages
+returns-then-is_some-clause-pages c =
+    pages_clear c.self.inside.spaces.items _ c.args.self.now (c.args.space, c.args.page) c.self.view_is (keys_put c.args.page None (wrote c.self.inside.spaces.items c.args.space c.in-Some.at c.index_mut.result.now c.put.new.tables c.in-Some.ensures.at c.index_mut.ensures.value) c.put.ensures.here c.put.ensures.others)
+
+pub returns-then-is_some-clause-spaces : goal.returns-then-is_some-clause-spaces
+returns-then-is_some-clause-spaces c =
+    ap (λ (ks : List ℕ). set.from_list {R = nat_cmp} ks) (wrote c.self.inside.spaces.items c.args.space c.in-Some.at c.index_mut.result.now c.put.new.tables c.in-Some.ensures.at c.index_mut.ensures.value).same ∙ ap (λ (s : Tables). s.spaces) c.self.view_is
+
+pub returns-then-is_some-clause-room : goal.returns-then-is_some-clause-room
+returns-then-is_some-clause-room c = keeps_same c.self.inside.spaces.items _ c.args.self.now c.self.view_is (there_long (wrote c.self.inside.spaces.items c.args.space c.in-Some.at c.index_mut.result.now c.put.new.tables c.in-Some.ensures.at c.index_mut.ensures.value) c.put.ensures.long)
+
+pub returns-then-is_some-clause-absent : goal.returns-then-is_some-clause-absent
+returns-then-is_some-clause-absent c none =
+    let is : entry c.index_mut.result.now.1.items c.args.page ≡ None =
+    sym (ap (λ (ts : Rows). entry ts c.args.page) (at_here c.self.inside.spaces.items c.args.space c.in-Some.at c.index_mut.result.now c.in-Some.ensures.at c.index_mut.ensures.value))
+    ∙ sym (found c.self.inside.spaces.items c.args.self.now c.args.space c.args.page c.self.view_is) ∙ none in
+    absurd (let e : false ≡ true = sym (ap is_some is) ∙ (ap (λ (ts : Rows). is_some (entry ts c.args.page))
+    (sym (at_here c.self.inside.spaces.items c.args.space c.in-Some.at c.index_mut.result.now c.in-Some.ensures.at c.index_mut.ensures.value)
+    ∙ at_here c.self.inside.spaces.items c.args.space c.in-Some.at c.index.result.now c.in-Some.ensures.at c.index.ensures)
+    ∙ sym (ap is_some c.key_in.ensures) ∙ sym c.is_some.ensures ∙ c.if-is_some.true) in cc)
+
+pub returns-else-is_some-clause-pages : goal.returns-else-is_some-clause-pages
+returns-else-is_some-clause-pages c =
+    pages_clear_none c.self.inside.spaces.items c.args.self.now (c.args.space, c.args.page) c.self.view_is
+    (ap (λ (ts : Rows). entry ts c.args.page) (at_here c.self.inside.spaces.items c.args.space c.in-Some.at c.index.result.now c.in-Some.ensures.at c.index.ensures)
+    ∙ sym c.key_in.ensures ∙ is_none_of c.key_in.result (sym c.is_some.ensures ∙ c.if-is_some.false))

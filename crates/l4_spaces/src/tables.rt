@@ -1,0 +1,170 @@
+//! The tables of one space: each is absent or has a place for each of its pages.
+
+ghost use Rattle.std.specs.Prelude.{◌≡◌, ◌≢◌, ◌<◌, ◌≤◌, ◌/◌, ◌%◌, ◌*◌, ℕ, length, [], All, Some, None, OnOk, OnErr, IsOk, IfSome, MatchOption, is_some, slice_index_or, true, false};
+ghost use Rattle.l4_spaces.specs.Tables.{table_pages, space_tables, IsPage};
+ghost use Rattle.l4_spaces.specs.Two.{entry, is_made, IsReady, AreWhole, AreMade, NoKeys, NoneIn, IsFirstIn, row};
+
+use std::alloc::{AllocError, Global};
+
+/// How many pages a table has.
+pub(crate) const TABLE_PAGES: u32 = 1024;
+
+/// How many tables a space has.
+pub(crate) const SPACE_TABLES: usize = 1024;
+
+/// How many pages a space has.
+pub(crate) const SPACE_PAGES: u32 = SPACE_TABLES as u32 * TABLE_PAGES;
+
+/// The key of the page.
+pub(crate) fn key_in(tables: &Vec<Vec<Option<usize>>>, page: u32) -> Option<usize>
+    ensures { result ≡ entry tables.now.items page }
+{
+    let high = (page / TABLE_PAGES) as usize;
+    if high >= tables.len() {
+        return None;
+    }
+    let row = &tables[high];
+    let low = (page % TABLE_PAGES) as usize;
+    if low >= row.len() {
+        return None;
+    }
+    row[low]
+}
+
+/// Sets the key of a page whose table is there.
+pub(crate) fn put(tables: &mut Vec<Vec<Option<usize>>>, page: u32, key: Option<usize>)
+    requires ready { IsReady tables.old.items page }
+    ensures here { entry tables.new.items page ≡ key }
+    ensures others { (other : ℕ) → other ≢ page → entry tables.new.items other ≡ entry tables.old.items other }
+    ensures long { (high : ℕ) → length (row tables.new.items high) ≡ length (row tables.old.items high) }
+    ensures full { length tables.new.items ≡ length tables.old.items }
+{
+    let high = (page / TABLE_PAGES) as usize;
+    let low = (page % TABLE_PAGES) as usize;
+    tables[high][low] = key;
+}
+
+/// Makes the table with this number.
+fn make(tables: &mut Vec<Vec<Option<usize>>>, alloc: Global, high: usize) -> Result<(), AllocError>
+    requires absent { row tables.old.items high ≡ [] }
+    requires within { high < length tables.old.items }
+    ensures same { (other : ℕ) → entry tables.new.items other ≡ entry tables.old.items other }
+    ensures made { OnOk result (length (row tables.new.items high) ≡ table_pages) }
+    ensures others { (other : ℕ) → other ≢ high → row tables.new.items other ≡ row tables.old.items other }
+    ensures full { length tables.new.items ≡ length tables.old.items }
+    ensures err { OnErr result (tables.new ≡ tables.old) }
+{
+    let table = vec![in alloc; None; TABLE_PAGES as usize]?;
+    tables[high] = table;
+    Ok(())
+}
+
+/// Takes the table with this number away.
+fn unmake(tables: &mut Vec<Vec<Option<usize>>>, alloc: Global, high: usize)
+    requires within { high < length tables.old.items }
+    ensures gone { row tables.new.items high ≡ [] }
+    ensures others { (other : ℕ) → other ≢ high → row tables.new.items other ≡ row tables.old.items other }
+    ensures full { length tables.new.items ≡ length tables.old.items }
+{
+    tables[high] = Vec::new(alloc);
+}
+
+/// Whether the page's table is there.
+fn is_ready(tables: &Vec<Vec<Option<usize>>>, page: u32) -> bool
+    requires { page / table_pages < length tables.now.items }
+    ensures { result ≡ is_made tables.now.items (page / table_pages) }
+{
+    !tables[(page / TABLE_PAGES) as usize].is_empty()
+}
+
+/// The first of these pages whose table isn't there.
+fn first_absent(tables: &Vec<Vec<Option<usize>>>, pages: &[u32]) -> Option<usize>
+    requires full { length tables.now.items ≡ space_tables }
+    requires fit { All IsPage pages.now }
+    ensures ready { MatchOption result (AreMade tables.now.items pages.now (length pages.now)) (λ at. AreMade tables.now.items pages.now at) }
+    ensures absent { IfSome result (λ at. (at < length pages.now) × (is_made tables.now.items (slice_index_or pages.now at 0 / table_pages) ≡ false)) }
+{
+    for at in 0..pages.len() {
+        if !is_ready(tables, pages[at]) {
+            return Some(at);
+        }
+    }
+    None
+}
+
+/// Makes the tables of all these pages. Where memory is refused, those that were made go again.
+pub(crate) fn make_all(
+    tables: &mut Vec<Vec<Option<usize>>>,
+    alloc: Global,
+    pages: &[u32],
+) -> Result<(), AllocError>
+    requires whole { AreWhole tables.old.items }
+    requires full { length tables.old.items ≡ space_tables }
+    requires fit { All IsPage pages.now }
+    ensures same { (other : ℕ) → entry tables.new.items other ≡ entry tables.old.items other }
+    ensures ok { OnOk result (AreMade tables.new.items pages.now (length pages.now)) }
+    ensures kept { (high : ℕ) → is_made tables.old.items high ≡ true → is_made tables.new.items high ≡ true }
+    ensures err { OnErr result ((high : ℕ) → is_made tables.new.items high ≡ is_made tables.old.items high) }
+    ensures whole { AreWhole tables.new.items }
+    ensures full { length tables.new.items ≡ space_tables }
+    ensures succeeds { AreMade tables.old.items pages.now (length pages.now) → IsOk result }
+{
+    let Some(at) = first_absent(tables, pages) else {
+        return Ok(());
+    };
+    let high = (pages[at] / TABLE_PAGES) as usize;
+    make(tables, alloc, high)?;
+    if let Err(refused) = make_all(tables, alloc, &pages[at + 1..]) {
+        unmake(tables, alloc, high);
+        return Err(refused);
+    }
+    Ok(())
+}
+
+/// The first place from this one on that has a key.
+fn next_in_row(row: &Vec<Option<usize>>, from: usize) -> Option<usize>
+    ensures none { MatchOption result (NoKeys row.now.items from (length row.now.items)) (λ low. NoKeys row.now.items from low) }
+    ensures some { IfSome result (λ low. (from ≤ low) × (low < length row.now.items) × (is_some (slice_index_or row.now.items low None) ≡ true)) }
+{
+    for low in from..row.len() {
+        if row[low].is_some() {
+            return Some(low);
+        }
+    }
+    None
+}
+
+/// Where a walk from `page` on begins in the table with this number.
+fn first_low(page: u32, high: usize) -> usize
+    ensures here { high ≡ page / table_pages → result ≡ page % table_pages }
+    ensures later { high ≢ page / table_pages → result ≡ 0 }
+{
+    if high == (page / TABLE_PAGES) as usize {
+        return (page % TABLE_PAGES) as usize;
+    }
+    0
+}
+
+/// The first page with a key from `page` on and below `end`. Tables that are absent are stepped over.
+pub(crate) fn next_page(tables: &Vec<Vec<Option<usize>>>, page: u32, end: u32) -> Option<u32>
+    requires whole { AreWhole tables.now.items }
+    requires full { length tables.now.items ≤ space_tables }
+    ensures { MatchOption result (NoneIn tables.now.items page end) (IsFirstIn tables.now.items page end) }
+{
+    let first = (page / TABLE_PAGES) as usize;
+    for high in first..tables.len() {
+        let start = high as u32 * TABLE_PAGES;
+        if start >= end {
+            return None;
+        }
+        let from = first_low(page, high);
+        if let Some(low) = next_in_row(&tables[high], from) {
+            let next = start + low as u32;
+            if next >= end {
+                return None;
+            }
+            return Some(next);
+        }
+    }
+    None
+}
