@@ -1,5 +1,6 @@
 pub mod Places
 pub mod Unique
+pub mod Nothing
 pub mod EntriesLemmas
 pub mod Chains
 pub mod Filtered

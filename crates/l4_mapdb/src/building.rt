@@ -4,7 +4,7 @@ ghost use Rattle.std.specs.Prelude.{◌≡◌, ◌<◌, length, option_and_then,
 ghost use Rattle.std.specs.FinMap.{find};
 ghost use Rattle.std.specs.FinSet as set;
 ghost use Rattle.l4_mapdb.specs.Mappings.{Mappings, place_cmp};
-ghost use Rattle.l4_mapdb.specs.Transfer.{IsUsed, IsCut, IsEntangled, Transfers};
+ghost use Rattle.l4_mapdb.specs.Transfer.{PageMove, IsUsed, IsCut, IsEntangled, Transfers};
 ghost use Rattle.l4_mapdb.specs.Entries.{IsAcyclic};
 ghost use Rattle.l4_mapdb.specs.Shown.{IsShownBy, IsClimbedBy};
 ghost use Rattle.l4_mapdb.specs.Sheets.{slot_at, now_in, later_in, RecordedOnce, IsWhole};
@@ -13,6 +13,19 @@ ghost use Rattle.l4_mapdb.specs.Planning.{Grows, TargetOf, HasTargets, LacksPlac
 use crate::moving::{later, lost, move_out};
 use crate::store::{Node, Store};
 use crate::{ItemMove, Mapping, NoMemory, Place};
+
+/// Whether no item names a right, so that no move is used.
+pub(crate) fn moves_nothing(items: &[ItemMove]) -> bool
+    ensures { IsTrue result → (s : Mappings) (from to : ℕ) (move : PageMove) → ¬ (IsUsed s from to items.now move) }
+{
+    for item in 0..items.len() {
+        let by = &items[item];
+        if !by.rights.is_empty() {
+            return false;
+        }
+    }
+    true
+}
 
 /// Makes a record for the target of the used move of this item out of the place of this key.
 fn add_target(

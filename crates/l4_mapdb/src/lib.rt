@@ -184,6 +184,10 @@ impl Forest {
         ensures cause { IfErr result (HasCause (IsUsed self.old from to moves.now) self.old) }
         ensures succeeds { TargetsPresent (IsUsed self.old from to moves.now) self.old → ¬ (IsEntangled (IsUsed self.old from to moves.now) self.old) → IsOk result }
     {
+        self.law_forest();
+        if building::moves_nothing(moves) {
+            return Ok(());
+        }
         if self.is_entangled(from, to, moves) {
             return Err(Cause::Entangled);
         }

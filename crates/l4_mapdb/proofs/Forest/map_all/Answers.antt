@@ -1,8 +1,17 @@
 use Rattle.std.proofs.Common.{◌≡◌, false, true, refl}
 use Rattle.l4_mapdb.specs.Transfer.{IsUsed, IsEntangled, NeedsPlace}
+use Rattle.l4_mapdb.proofs.Nothing.{transfers_none, free_none}
 use Rattle.l4_mapdb.proofs.Delivered.{can_transfer, receiver_there, needs_place, delivered, kept_delivered, unchanged, kept_unchanged}
 use Rattle.l4_mapdb.proofs.Forest.map_all.Goals.{in-Ok, in-Err}
 use Rattle.l4_mapdb.proofs.Forest.map_all.Goals as goal
+
+pub returns-then-moves_nothing-clause-ok : goal.returns-then-moves_nothing-clause-ok
+returns-then-moves_nothing-clause-ok c =
+    transfers_none (IsUsed c.args.self.now c.args.from c.args.to c.args.moves.now) (c.moves_nothing.ensures c.if-moves_nothing.true c.args.self.now c.args.from c.args.to) c.args.self.now c.law_forest.ensures
+
+pub returns-then-moves_nothing-clause-free : goal.returns-then-moves_nothing-clause-free
+returns-then-moves_nothing-clause-free c =
+    free_none (IsUsed c.args.self.now c.args.from c.args.to c.args.moves.now) (c.moves_nothing.ensures c.if-moves_nothing.true c.args.self.now c.args.from c.args.to) c.args.self.now
 
 pub returns-then-is_entangled-clause-succeeds : goal.returns-then-is_entangled-clause-succeeds
 returns-then-is_entangled-clause-succeeds c = λ present free. absurd (free (c.is_entangled.ensures.0 c.if-is_entangled.true))
