@@ -1,4 +1,4 @@
-ghost use Rattle.std.specs.Prelude.{◌≡◌, ℕ, ◌+◌, ◌-◌, ◌*◌, ◌^◌, ◌<◌, ◌≤◌, ◌↔◌, length, IfOk, IfErr, MatchResult, IsOk, Some};
+ghost use Rattle.std.specs.Prelude.{◌≡◌, ℕ, ◌+◌, ◌-◌, ◌*◌, ◌%◌, ◌^◌, ◌<◌, ◌≤◌, ◌↔◌, length, IfOk, IfErr, MatchResult, IsOk, Some};
 ghost use Rattle.arrayvec.specs.ArrayVec.{array_vec_len};
 ghost use Rattle.l4_fpage.specs.Fpages.{bytes_of};
 ghost use Rattle.l4_msg.specs.Moves.{fpage_of};
@@ -14,6 +14,16 @@ use l4_msg::{Item, Region};
 /// The pages of a space.
 const SPACE_PAGES: u32 = 1 << SPACE_LOG;
 
+/// The log of the largest power of two, up to 2^32, that divides both pages.
+#[tactic(auto, using(l4_fpage::proofs::Powers::trailing_aligned, l4_fpage::proofs::Powers::aligned_trailing))]
+fn alignment(source: u32, target: u32) -> u32
+    ensures divides_source { (k : ℕ) → k ≤ result → source % 2 ^ k ≡ 0 }
+    ensures divides_target { (k : ℕ) → k ≤ result → target % 2 ^ k ≡ 0 }
+    ensures greatest { (k : ℕ) → k ≤ 32 → source % 2 ^ k ≡ 0 → target % 2 ^ k ≡ 0 → k ≤ result }
+{
+    source.trailing_zeros().min(target.trailing_zeros())
+}
+
 /// The log of the size, in pages, of the largest allowed block that begins at this page.
 fn largest_allowed(region: &Region, page: u32) -> u8
     requires space { InSpace region.now }
@@ -23,8 +33,7 @@ fn largest_allowed(region: &Region, page: u32) -> u8
 {
     let target = region.target + (page - region.source);
     let left = region.source + region.count - page;
-    let aligned = page.trailing_zeros().min(target.trailing_zeros());
-    aligned.min(left.ilog2()) as u8
+    alignment(page, target).min(left.ilog2()) as u8
 }
 
 /// The map item that moves an allowed block: with the region's rights, its send base the target block's first byte.
