@@ -7,7 +7,7 @@
 ghost use Rattle.std.specs.Prelude.{◌≤◌};
 
 use l4_msg::Region;
-use l4_plan_lines::{RunFault as PlanFault, check_lines, plan_lines};
+use l4_plan_lines::{check_lines, plan_lines};
 use l4_shell::{OptionFault, Options, RunFault, options, run};
 use std::alloc::AllocError;
 use std::io::ErrorKind;
@@ -47,17 +47,17 @@ fn answer_script<R: AllocGlobal + Input + Print + Eprint>(rt: &R, frames: u32) -
 }
 
 /// The status of a plan that was made or proved, was not, or met a fault of a stream.
-fn judged(rt: &impl Eprint, outcome: Result<bool, PlanFault>) -> u8 {
+fn judged(rt: &impl Eprint, outcome: Result<bool, RunFault>) -> u8 {
     match outcome {
         Ok(true) => 0,
         Ok(false) => NOT_PROVED,
-        Err(PlanFault::Read) => failed(rt, "error: a read of standard input failed", STREAM_FAILED),
-        Err(PlanFault::Write) => failed(
+        Err(RunFault::Read) => failed(rt, "error: a read of standard input failed", STREAM_FAILED),
+        Err(RunFault::Write) => failed(
             rt,
             "error: a write to standard output failed",
             STREAM_FAILED,
         ),
-        Err(PlanFault::Memory) => failed(rt, "error: out of memory", NO_MEMORY),
+        Err(RunFault::Memory) => failed(rt, "error: out of memory", NO_MEMORY),
     }
 }
 

@@ -6,8 +6,9 @@ ghost use Rattle.l4_plan_lines.specs.Writing.{WroteBeginning};
 
 use crate::answers::{answer_input, answer_text};
 use crate::input::Input;
-use crate::writing::{RunFault, write_whole};
+use crate::writing::write_whole;
 use l4_msg::Region;
+use l4_text::RunFault;
 use std::io::{Read, Write};
 
 /// The most reads of an input.

@@ -12,9 +12,9 @@ mod spelling;
 mod writing;
 
 pub use checking::check_lines;
+pub use l4_text::RunFault;
 pub use laws::{answer_is_unique, plan_text_is_unique};
 pub use planning::plan_lines;
-pub use writing::RunFault;
 
 #[cfg(test)]
 mod tests;

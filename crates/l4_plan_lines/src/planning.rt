@@ -5,9 +5,10 @@ ghost use Rattle.l4_plan_lines.specs.Plans.{IsPlanText, message_text, plan_text 
 ghost use Rattle.l4_plan_lines.specs.Writing.{WroteBeginning};
 
 use crate::spelling::{Text, push_bytes, push_item_line, push_page_line, push_tag_line};
-use crate::writing::{RunFault, write_whole};
+use crate::writing::write_whole;
 use l4_msg::Region;
 use l4_plan::{Plan, PlanRefusal, plan};
+use l4_text::RunFault;
 use std::io::Write;
 
 /// The lines of a message's words, with a page for each item.

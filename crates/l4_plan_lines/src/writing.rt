@@ -2,18 +2,8 @@ ghost use Rattle.std.specs.Prelude.{◌≡◌, ℕ, ◌≤◌, length, OnOk, IfE
 ghost use Rattle.std.specs.Io.KnownBytes.{Appends};
 ghost use Rattle.l4_plan_lines.specs.Writing.{WroteBeginning};
 
+use l4_text::RunFault;
 use std::io::Write;
-
-/// Why a text was not read or written whole.
-#[derive(Clone, Copy, PartialEq, Eq, Debug)]
-pub enum RunFault {
-    /// A read failed, or the input had not ended after 16,777,216 reads.
-    Read,
-    /// A write failed, or took no byte.
-    Write,
-    /// There was no memory.
-    Memory,
-}
 
 /// Writes these bytes, or after a fault a beginning of them.
 pub fn write_whole<W: Write>(writer: &mut W, bytes: &[u8]) -> Result<(), RunFault>

@@ -10,7 +10,6 @@ use denote.Enum.Bare.{sameb}
 use Rattle.std.proofs.lemmas.Bool.{false≢true}
 use Rattle.l4_ipc.specs.Machine.{Machine, IsBoot}
 use Rattle.l4_text.specs.Lines.{NoNewline, kept_of, TakesLine, TakesRest, GivesLine, left_of}
-use Rattle.l4_text.specs.declared.faults.StreamFault.{StreamFault}
 use Rattle.l4_shell.specs.Lines.{ScriptLine, in_front, lines_of}
 use Rattle.l4_shell.specs.Requests.{asked_at, asked_of}
 use Rattle.l4_text.specs.Streams.{WentOut, HasTold, Tells}
@@ -19,8 +18,8 @@ use Rattle.l4_shell.specs.Scripts.{Runs, TellsBeginning, TellsAll, TellsWhole, T
 use Rattle.l4_text.specs.declared.lines.Ending.{Ending}
 use Rattle.l4_text.specs.declared.lines.Ending.TheVariants.{Whole, Long, Cut}
 use Rattle.l4_text.specs.contracts.lines.Ending.{the_type}
-use Rattle.l4_shell.specs.declared.running.RunFault.{RunFault}
-use Rattle.l4_shell.specs.declared.running.RunFault.TheVariants.{Read, Write, Memory}
+use Rattle.l4_text.specs.declared.faults.RunFault.{RunFault}
+use Rattle.l4_text.specs.declared.faults.RunFault.TheVariants.{Read, Write, Memory}
 use Rattle.l4_text.proofs.LineSteps.{consumes_more, consumes_same, empty_list}
 use Rattle.l4_text.proofs.Gone.{appends_same}
 use Rattle.l4_text.proofs.Telling.{tells_none, tells_more}
@@ -180,7 +179,7 @@ same_rest m last old mid new now after kept number written out before s a l =
 
 -- reading failed
 pub answered_read : (m last : Machine) (old mid new : Option (List ℕ)) (now after : List ℕ × ℕ) (kept : List ℕ × Bool) (number : ℕ) (written out : Option (List ℕ)) (before s : List ℕ × Bool)
-    (e : StreamFault) → Answered m old mid now number last written out before s → GivesLine mid new now after kept (Err e) → TellsWhole m old new written out before s
+    (e : RunFault) → Answered m old mid now number last written out before s → GivesLine mid new now after kept (Err e) → TellsWhole m old new written out before s
 answered_read m last old mid new now after kept number written out before s e a gives =
     let l = gives.0 in
     let parts = same_rest m last old mid new now after kept number written out before s a l in

@@ -6,8 +6,8 @@ use Rattle.l4_shell.specs.Lines.{ScriptLine, lines_of}
 use Rattle.l4_text.specs.Streams.{WentOut, Tells}
 use Rattle.l4_shell.specs.Sessions.{AnswersLines, IsScriptText}
 use Rattle.l4_ipc.specs.Machine.{Machine}
-use Rattle.l4_shell.specs.declared.running.RunFault.{RunFault}
-use Rattle.l4_shell.specs.declared.running.RunFault.TheVariants.{Read, Write, Memory}
+use Rattle.l4_text.specs.declared.faults.RunFault.{RunFault}
+use Rattle.l4_text.specs.declared.faults.RunFault.TheVariants.{Read, Write, Memory}
 
 -- all was read, and what went out is its script text; it has so many lines, a cut last one too
 pub record AnswersAll (frames : ℕ) (old new written now : Option (List ℕ)) (count : ℕ) : Type 0 where

@@ -14,7 +14,8 @@ mod words;
 pub use answers::{add_place, letters, shown_text};
 pub use command_line::{OptionFault, Options};
 pub use refusals::{Code, add_code, refused_code};
-pub use running::{RunFault, run};
+pub use l4_text::RunFault;
+pub use running::run;
 pub use words::{frames_of, frames_option, help_text, options};
 
 #[cfg(test)]

@@ -4,21 +4,9 @@ ghost use Rattle.l4_shell.specs.Scripts.{Runs, TellsScript};
 
 use crate::session::answer_line;
 use l4_ipc::Kernel;
-use l4_text::{Ending, Line, Output, Source, next_line};
+use l4_text::{Ending, Line, Output, RunFault, Source, next_line};
 use std::alloc::Global;
 use std::io::{Read, Write};
-
-/// Why a run stopped before the end of its script.
-#[derive(Clone, Copy, Debug, PartialEq, Eq)]
-pub enum RunFault {
-    /// A read failed, or the script had not ended after 16,777,216 reads. All lines before the fault
-    /// have been answered.
-    Read,
-    /// A write failed, or took no byte. What went out is a beginning of the output.
-    Write,
-    /// There was no memory for a kernel. Nothing was read or written.
-    Memory,
-}
 
 /// Answers line after line, to the end of the script. Answers their number.
 fn answer_all<R: Read, W: Write>(
@@ -57,7 +45,9 @@ fn answer_all<R: Read, W: Write>(
 ///
 /// A read asks for 4,096 bytes, and there are at most 16,777,216 reads: where the script has not
 /// ended by then, that is `Read`. An error of any kind is a fault, and so is a write that takes no
-/// byte. What was answered goes out after `Read` too.
+/// byte. All lines before a `Read` are answered, and that goes out too; after `Write` a beginning of
+/// the answers went out; `Memory` comes where there is none for a kernel, and then nothing was read
+/// or written.
 pub fn run<R: Read, W: Write>(
     alloc: Global,
     frames: u32,

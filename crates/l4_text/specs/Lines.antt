@@ -1,8 +1,8 @@
 -- Lines of a stream (this profile's own).
 use Rattle.std.specs.Prelude.{ℕ, ◌≡◌, ◌+◌, ◌-◌, ◌*◌, ◌==◌, ◌<◌, ◌≤◌, nat_lt, Bool, true, false, List, [], ◌∷◌, ◌++◌, length, take, Option, Some, None, Result, Ok, Err}
 use Rattle.std.specs.Io.KnownBytes.{Consumes, IsAtEnd}
-use Rattle.l4_text.specs.declared.faults.StreamFault.{StreamFault}
-use Rattle.l4_text.specs.declared.faults.StreamFault.TheVariants.{Read}
+use Rattle.l4_text.specs.declared.faults.RunFault.{RunFault}
+use Rattle.l4_text.specs.declared.faults.RunFault.TheVariants.{Read}
 use Rattle.l4_text.specs.declared.lines.Ending.{Ending}
 use Rattle.l4_text.specs.declared.lines.Ending.TheVariants.{Whole, Long, Cut}
 
@@ -29,10 +29,10 @@ abbrev pub left_of : List ℕ × ℕ → ℕ
 left_of source = (16777216 - source.1) * 4097 + length source.0
 
 -- a read put new bytes in the place of those that were there
-pub record Filled (old new : Option (List ℕ)) (before after : List ℕ × ℕ) (result : Result Bool StreamFault) : Type 0 where
+pub record Filled (old new : Option (List ℕ)) (before after : List ℕ × ℕ) (result : Result Bool RunFault) : Type 0 where
   pub more : result ≡ Ok true → Consumes old new after.0 × (0 < length after.0) × (length after.0 ≤ 4096) × (after.1 ≡ before.1 + 1) × (after.1 ≤ 16777216)
   pub none : result ≡ Ok false → Consumes old new [] × IsAtEnd new × (after.0 ≡ [])
-  pub fault : (e : StreamFault) → result ≡ Err e → (e ≡ Read) × Consumes old new [] × (before.0 ≡ [] → after.0 ≡ [])
+  pub fault : (e : RunFault) → result ≡ Err e → (e ≡ Read) × Consumes old new [] × (before.0 ≡ [] → after.0 ≡ [])
 
 -- a line that a newline ends
 pub record TakesLine (old new : Option (List ℕ)) (before after : List ℕ × ℕ) (kept : List ℕ × Bool) : Type 0 where
@@ -52,7 +52,7 @@ pub record TakesRest (old new : Option (List ℕ)) (before after : List ℕ × �
   pub empty : after.0 ≡ []
 
 -- the next line, or what stands in its place
-abbrev pub GivesLine : Option (List ℕ) → Option (List ℕ) → List ℕ × ℕ → List ℕ × ℕ → List ℕ × Bool → Result (Option Ending) StreamFault → Type 0
+abbrev pub GivesLine : Option (List ℕ) → Option (List ℕ) → List ℕ × ℕ → List ℕ × ℕ → List ℕ × Bool → Result (Option Ending) RunFault → Type 0
 GivesLine old new before after kept (Ok (Some Whole)) = TakesLine old new before after kept × (kept.1 ≡ false)
 GivesLine old new before after kept (Ok (Some Long)) = TakesLine old new before after kept × (kept.1 ≡ true)
 GivesLine old new before after kept (Ok (Some Cut)) = TakesRest old new before after kept × IsAtEnd new × (0 < length kept.0)

@@ -1,8 +1,10 @@
-/// Why bytes no longer come or no longer go out.
+/// Why a run stopped before the end of its input, or before all was written.
 #[derive(Clone, Copy, Debug, PartialEq, Eq)]
-pub enum StreamFault {
-    /// A read failed, or there had been 16,777,216 reads.
+pub enum RunFault {
+    /// A read failed, or the input had not ended after 16,777,216 reads.
     Read,
     /// A write failed, or took no byte.
     Write,
+    /// There was no memory at the start.
+    Memory,
 }

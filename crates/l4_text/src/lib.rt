@@ -8,7 +8,7 @@ mod output;
 mod texts;
 mod tokens;
 
-pub use faults::StreamFault;
+pub use faults::RunFault;
 pub use lines::{Ending, Line, Source, next_line};
 pub use numbers::number;
 pub use output::Output;

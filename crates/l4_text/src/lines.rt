@@ -3,7 +3,7 @@ ghost use Rattle.std.specs.Prelude.{◌≡◌, ◌+◌, ◌-◌, ◌*◌, ◌<�
 ghost use Rattle.std.specs.List.{position, position_or_len};
 ghost use Rattle.l4_text.specs.Lines.{is_newline, GivesLine, Filled};
 
-use crate::faults::StreamFault;
+use crate::faults::RunFault;
 use arrayvec::ArrayVec;
 use std::io::Read;
 use std::marker::Model;
@@ -23,7 +23,7 @@ pub enum Ending {
 }
 
 /// What was read of a stream in reads of at most 4,096 bytes and not yet taken, and how many reads
-/// there were.
+/// gave some, at most 16,777,216.
 #[derive(Drop)]
 pub struct Source {
     chunk: [u8; 4_096],
@@ -39,7 +39,7 @@ impl Model for Source {
 
     ghost view = { λ a. (slice_range a.chunk a.start a.end, a.reads) };
 
-    ghost invariant = { λ a. (a.start ≤ a.end) × (a.end ≤ 4096) };
+    ghost invariant = { λ a. (a.start ≤ a.end) × (a.end ≤ 4096) × (a.reads ≤ 16777216) };
 }
 
 impl Source {
@@ -53,6 +53,13 @@ impl Source {
             end: 0,
             reads: 0,
         }
+    }
+
+    /// What holds of the number of reads at all times. It does nothing.
+    fn law_few_reads(&self)
+        ensures { self.now.1 ≤ 16777216 }
+    {
+        let _ = &self.reads;
     }
 
     /// The bytes that were read and not taken.
@@ -72,20 +79,23 @@ impl Source {
 
     /// Reads the next bytes, in one read, in place of those that were there. False at the end of the
     /// stream.
-    fn fill<R: Read>(&mut self, reader: &mut R) -> Result<bool, StreamFault>
+    fn fill<R: Read>(&mut self, reader: &mut R) -> Result<bool, RunFault>
         ensures { Filled (R.remaining reader.old) (R.remaining reader.new) self.old self.new result }
     {
         if self.reads >= MOST_READS {
-            return Err(StreamFault::Read);
+            return Err(RunFault::Read);
         }
         let Ok(count) = reader.read(&mut self.chunk) else {
             self.end = self.start;
-            return Err(StreamFault::Read);
+            return Err(RunFault::Read);
         };
-        self.reads += 1;
         self.start = 0;
         self.end = count;
-        Ok(count > 0)
+        if count == 0 {
+            return Ok(false);
+        }
+        self.reads += 1;
+        Ok(true)
     }
 }
 
@@ -176,15 +186,15 @@ fn line_len(bytes: &[u8]) -> usize
     first_newline(bytes).unwrap_or(bytes.len())
 }
 
-/// Takes the next line. None at the end of the stream.
+/// Takes the next line. None at the end of the stream, and a call after it asks the stream again.
 pub fn next_line<R: Read>(
     source: &mut Source,
     line: &mut Line,
     reader: &mut R,
-) -> Result<Option<Ending>, StreamFault>
-    requires { source.old.1 ≤ 16777216 }
+) -> Result<Option<Ending>, RunFault>
     ensures { GivesLine (R.remaining reader.old) (R.remaining reader.new) source.old source.new line.new result }
 {
+    source.law_few_reads();
     line.clear();
     for turn in 0..MOST_READS + 1 {
         let pending = source.pending();
@@ -204,5 +214,5 @@ pub fn next_line<R: Read>(
             });
         }
     }
-    Err(StreamFault::Read)
+    Err(RunFault::Read)
 }

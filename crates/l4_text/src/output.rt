@@ -4,7 +4,7 @@ ghost use Rattle.std.specs.Io.KnownBytes.{Appends};
 ghost use Rattle.std.specs.Prelude.{ℕ, List, Option, false};
 ghost use Rattle.l4_text.specs.Streams.{WentOut, Puts, HasTold, Tells};
 
-use crate::faults::StreamFault;
+use crate::faults::RunFault;
 use crate::texts::Text;
 use arrayvec::ArrayVec;
 use std::io::Write;
@@ -25,9 +25,9 @@ impl Model for Held {
 }
 
 /// Writes all of the bytes. A write that fails, or takes none of them, is a fault.
-fn write_out<W: Write>(writer: &mut W, bytes: &[u8]) -> Result<(), StreamFault>
+fn write_out<W: Write>(writer: &mut W, bytes: &[u8]) -> Result<(), RunFault>
     ensures ok { OnOk result (Appends (W.contents writer.old) (W.contents writer.new) bytes.now) }
-    ensures err { IfErr result (λ e. (e ≡ StreamFault.Write)
+    ensures err { IfErr result (λ e. (e ≡ RunFault.Write)
         × WentOut (W.contents writer.old) (W.contents writer.new) bytes.now) }
 {
     let mut at = 0;
@@ -36,10 +36,10 @@ fn write_out<W: Write>(writer: &mut W, bytes: &[u8]) -> Result<(), StreamFault>
             break;
         }
         let Ok(count) = writer.write(&bytes[at..]) else {
-            return Err(StreamFault::Write);
+            return Err(RunFault::Write);
         };
         if count == 0 {
-            return Err(StreamFault::Write);
+            return Err(RunFault::Write);
         }
         at += count;
     }
@@ -64,10 +64,10 @@ impl Held {
     }
 
     /// Writes what is held back.
-    fn send<W: Write>(&mut self, writer: &mut W) -> Result<(), StreamFault>
+    fn send<W: Write>(&mut self, writer: &mut W) -> Result<(), RunFault>
         ensures ok { OnOk result ((self.new ≡ [])
             × Appends (W.contents writer.old) (W.contents writer.new) self.old) }
-        ensures err { IfErr result (λ e. (e ≡ StreamFault.Write)
+        ensures err { IfErr result (λ e. (e ≡ RunFault.Write)
             × WentOut (W.contents writer.old) (W.contents writer.new) self.old) }
     {
         write_out(writer, self.bytes.as_slice())?;
@@ -76,11 +76,11 @@ impl Held {
     }
 
     /// Writes what is held back, where there is no room for so many bytes more.
-    fn make_room<W: Write>(&mut self, writer: &mut W, count: usize) -> Result<(), StreamFault>
+    fn make_room<W: Write>(&mut self, writer: &mut W, count: usize) -> Result<(), RunFault>
         requires { count ≤ 1024 }
         ensures ok { OnOk result ((length self.new + count ≤ 16384)
             × Puts (W.contents writer.old) (W.contents writer.new) self.old self.new []) }
-        ensures err { IfErr result (λ e. (e ≡ StreamFault.Write)
+        ensures err { IfErr result (λ e. (e ≡ RunFault.Write)
             × WentOut (W.contents writer.old) (W.contents writer.new) self.old) }
     {
         if self.bytes.remaining_capacity() < count {
@@ -90,10 +90,10 @@ impl Held {
     }
 
     /// Adds a text, after writing what is held where there is no room for it.
-    fn put<W: Write>(&mut self, writer: &mut W, text: &Text) -> Result<(), StreamFault>
+    fn put<W: Write>(&mut self, writer: &mut W, text: &Text) -> Result<(), RunFault>
         ensures ok { OnOk result
             (Puts (W.contents writer.old) (W.contents writer.new) self.old self.new text.now) }
-        ensures err { IfErr result (λ e. (e ≡ StreamFault.Write)
+        ensures err { IfErr result (λ e. (e ≡ RunFault.Write)
             × WentOut (W.contents writer.old) (W.contents writer.new) (self.old ++ text.now)) }
     {
         let bytes = text.as_slice();
@@ -103,15 +103,15 @@ impl Held {
     }
 
     /// Writes what is held, and has the writer pass on what it holds back itself.
-    fn finish<W: Write>(&mut self, writer: &mut W) -> Result<(), StreamFault>
+    fn finish<W: Write>(&mut self, writer: &mut W) -> Result<(), RunFault>
         ensures ok { OnOk result (Appends (W.contents writer.old) (W.contents writer.new) self.old) }
-        ensures err { IfErr result (λ e. (e ≡ StreamFault.Write)
+        ensures err { IfErr result (λ e. (e ≡ RunFault.Write)
             × WentOut (W.contents writer.old) (W.contents writer.new) self.old) }
     {
         self.send(writer)?;
         match writer.flush() {
             Ok(_) => Ok(()),
-            Err(_) => Err(StreamFault::Write),
+            Err(_) => Err(RunFault::Write),
         }
     }
 }
@@ -163,14 +163,14 @@ impl Output {
     }
 
     /// Writes what is held back, and has the writer pass on what it holds back itself.
-    pub fn finish<W: Write>(&mut self, writer: &mut W) -> Result<(), StreamFault>
+    pub fn finish<W: Write>(&mut self, writer: &mut W) -> Result<(), RunFault>
         ensures ok { OnOk result ((start : Option (List ℕ)) (told : List ℕ)
             → HasTold start (W.contents writer.old) self.old.0 self.old.1 told → Appends start (W.contents writer.new) told) }
-        ensures err { IfErr result (λ e. (e ≡ StreamFault.Write) × ((start : Option (List ℕ)) (told : List ℕ)
+        ensures err { IfErr result (λ e. (e ≡ RunFault.Write) × ((start : Option (List ℕ)) (told : List ℕ)
             → HasTold start (W.contents writer.old) self.old.0 self.old.1 told → WentOut start (W.contents writer.new) told)) }
     {
         if self.failed {
-            return Err(StreamFault::Write);
+            return Err(RunFault::Write);
         }
         self.held.finish(writer)
     }

@@ -81,6 +81,18 @@ fn reads_a_line(rt: HostRuntime) -> Result<(), Fail> {
 }
 
 #[test]
+fn answers_the_end_again(rt: HostRuntime) -> Result<(), Fail> {
+    let mut reader = b"one\ntwo".as_slice();
+    let mut source = Source::new();
+    let mut line = Line::new();
+    for ending in [Some(Ending::Whole), Some(Ending::Cut), None, None] {
+        let read = next_line(&mut source, &mut line, &mut reader);
+        assert_eq!(rt; read, Ok(ending));
+    }
+    Ok(())
+}
+
+#[test]
 fn tells_a_text(rt: HostRuntime) -> Result<(), Fail> {
     let told = b"7 00000bad 80000000 00000001\n".as_slice();
     for calls in 0..told.len() + 1 {
