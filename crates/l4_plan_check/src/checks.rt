@@ -5,7 +5,7 @@ ghost use Rattle.l4_plan_check.specs.declared.faults.Fault.{Fault as AFault};
 
 use crate::faults::{Fault, Proved};
 use crate::items::{first_bad, first_gap};
-use crate::pages::{first_outside, first_pair};
+use crate::pages::page_fault;
 use l4_fpage::SPACE_LOG;
 use l4_msg::{Item, MAX_ITEMS, Region};
 
@@ -52,11 +52,8 @@ pub fn check(region: &Region, items: &[Item], pages: &[u32]) -> Result<Proved, F
     if items.len() > MAX_ITEMS || pages.len() != items.len() {
         return Err(Fault::Count);
     }
-    if let Some(i) = first_outside(region, pages) {
-        return Err(Fault::Page(i));
-    }
-    if let Some(i) = first_pair(region, pages) {
-        return Err(Fault::Pair(i));
+    if let Some(fault) = page_fault(region, pages) {
+        return Err(fault);
     }
     Ok(Proved)
 }
@@ -79,11 +76,8 @@ pub fn check_too_long(region: &Region, pages: &[u32]) -> Result<Proved, Fault>
     if pages.len() != TOO_MANY {
         return Err(Fault::Count);
     }
-    if let Some(i) = first_outside(region, pages) {
-        return Err(Fault::Page(i));
+    match page_fault(region, pages) {
+        Some(fault) => Err(fault),
+        None => Ok(Proved),
     }
-    if let Some(i) = first_pair(region, pages) {
-        return Err(Fault::Pair(i));
-    }
-    Ok(Proved)
 }

@@ -1,7 +1,9 @@
 ghost use Rattle.std.specs.Prelude.{◌≡◌, ℕ, ◌+◌, ◌-◌, ◌*◌, ◌^◌, ◌<◌, ◌≤◌, ◌↔◌, IsTrue, MatchOption, length, slice_index};
 ghost use Rattle.l4_msg.specs.Regions.{InSpace, ShareBlock};
 ghost use Rattle.l4_plan_check.specs.Claims.{IsInside, AreInside, IsFirstOutside, HasPair, IsFirstPair};
+ghost use Rattle.l4_plan_check.specs.Faults.{HasNoPageFault, IsPageFault};
 
+use crate::faults::Fault;
 use l4_fpage::Block;
 use l4_msg::Region;
 
@@ -14,7 +16,7 @@ fn is_inside(region: &Region, page: u32) -> bool
 }
 
 /// The place of the first page outside the region.
-pub fn first_outside(region: &Region, pages: &[u32]) -> Option<usize>
+fn first_outside(region: &Region, pages: &[u32]) -> Option<usize>
     requires { InSpace region.now }
     ensures { MatchOption result (AreInside region.now pages.now) (IsFirstOutside region.now pages.now) }
 {
@@ -60,7 +62,7 @@ fn has_pair(region: &Region, pages: &[u32], i: usize) -> bool
 }
 
 /// The first page that shares an allowed block with an earlier one.
-pub fn first_pair(region: &Region, pages: &[u32]) -> Option<usize>
+fn first_pair(region: &Region, pages: &[u32]) -> Option<usize>
     requires space { InSpace region.now }
     requires inside { AreInside region.now pages.now }
     ensures { MatchOption result ((i : ℕ) → i < length pages.now → HasPair region.now pages.now i → ⊥) (IsFirstPair region.now pages.now) }
@@ -69,6 +71,20 @@ pub fn first_pair(region: &Region, pages: &[u32]) -> Option<usize>
         if has_pair(region, pages, i) {
             return Some(i);
         }
+    }
+    None
+}
+
+/// The pages' own fault: the first page outside the region, else the first that shares an allowed block with an earlier one.
+pub fn page_fault(region: &Region, pages: &[u32]) -> Option<Fault>
+    requires { InSpace region.now }
+    ensures { MatchOption result (HasNoPageFault region.now pages.now) (IsPageFault region.now pages.now) }
+{
+    if let Some(i) = first_outside(region, pages) {
+        return Some(Fault::Page(i));
+    }
+    if let Some(i) = first_pair(region, pages) {
+        return Some(Fault::Pair(i));
     }
     None
 }
