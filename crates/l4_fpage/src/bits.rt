@@ -61,6 +61,22 @@ impl Model for Rights {
 }
 
 impl Rights {
+    /// To read.
+    pub const R: Rights = Rights { set: RightBits(4) };
+
+    /// To write.
+    pub const W: Rights = Rights { set: RightBits(2) };
+
+    /// To execute.
+    pub const X: Rights = Rights { set: RightBits(1) };
+
+    /// The three rights, each alone: to read, to write and to execute.
+    pub fn each() -> [Rights; 3]
+        ensures { result ≡ set_of_bits 4 ∷ set_of_bits 2 ∷ set_of_bits 1 ∷ [] }
+    {
+        [Rights::R, Rights::W, Rights::X]
+    }
+
     /// The rights that the low three bits name: read is 4, write 2, execute 1. The other bits mean
     /// nothing.
     pub fn of_bits(bits: u8) -> Rights

@@ -104,6 +104,9 @@ fn sets_of_rights(rt: HostRuntime) {
     assert_eq!(rt; Rights::all().difference(execute), read_write);
     assert!(rt; Rights::all().contains(execute));
     assert!(rt; !execute.contains(read_write));
+    assert_eq!(rt; Rights::each().len(), 3);
+    assert_eq!(rt; Rights::R.union(Rights::W), read_write);
+    assert_eq!(rt; Rights::X, execute);
     let block = Block::new(16, 0);
     assert_eq!(rt;
         block.map(|pages| Fpage::of_block(pages, Rights::all()).word()),

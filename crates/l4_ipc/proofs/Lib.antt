@@ -8,3 +8,4 @@ pub mod SoundKept
 pub mod Running
 pub mod Work
 pub mod Waiting
+pub mod Unmaps

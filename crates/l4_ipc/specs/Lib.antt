@@ -8,3 +8,4 @@ pub mod Kept
 pub mod Delivering
 pub mod Reading
 pub mod Following
+pub mod Constructors

@@ -137,7 +137,7 @@ fn create(
     if begin_space(forest, call, space).is_err() {
         return Err(Refused::Lower(Lower::NoMemory));
     }
-    threads.create(call.id, space, call.pager);
+    let _ = threads.create(number, call.id, call.space, call.pager);
     Ok(controlled(threads, number))
 }
 

@@ -3,6 +3,7 @@
 
 mod acting;
 mod calls;
+mod constructors;
 mod deleting;
 mod delivering;
 mod faulting;
@@ -13,9 +14,15 @@ mod sent;
 mod starting;
 mod steps;
 
+pub use arrayvec::ArrayVec;
 pub use calls::{Call, Control, Create, FaultCall, IpcCall, SetPager, UnmapCall};
+pub use constructors::Timeout;
 pub use kernel::Kernel;
-pub use l4_threads::{IpcReply, Reply};
+pub use l4_fpage::{BadFpage, Block, Extent, Fpage, Rights};
+pub use l4_mapdb::{Mapping, NoMemory, Place};
+pub use l4_msg::{Acceptor, Item, ItemFault, MAX_ITEMS, MAX_WORDS, Message, MsgFault, Tag};
+pub use l4_threads::{IpcReply, Reply, ThreadFault, ThreadId};
+pub use l4_unmap::UnmapFault;
 pub use next::Next;
 pub use sent::Sent;
 pub use steps::{Answer, Lower, Outcome, Refused, Step};

@@ -4,6 +4,7 @@ ghost use Rattle.l4_msg.specs.Messages.{MessageFails, IsWhole};
 ghost use Rattle.l4_ipc.specs.Start.{is_timeout};
 
 use crate::calls::IpcCall;
+use crate::constructors::ZERO_TIMEOUT;
 use crate::sent::Sent;
 use crate::steps::{Lower, Refused};
 use arrayvec::ArrayVec;
@@ -11,14 +12,11 @@ use l4_fpage::Fpage;
 use l4_msg::{Acceptor, Item, Message, MsgFault, Tag};
 use l4_threads::Later;
 
-/// The half of a timeouts word that is a timeout of zero; the half 0 is never.
-const ZERO: u32 = 0x400;
-
 /// Whether a timeout is never or zero.
 fn is_timeout(timeout: u32) -> bool
     ensures { result ≡ is_timeout timeout }
 {
-    timeout == 0 || timeout == ZERO
+    timeout == 0 || timeout == ZERO_TIMEOUT
 }
 
 /// A copy of a few words.
@@ -71,7 +69,7 @@ impl IpcCall {
     pub(crate) fn sends_at_once(&self) -> bool
         ensures { result ≡ (send_timeout self.now == 0x400) }
     {
-        self.send_timeout() == ZERO
+        self.send_timeout() == ZERO_TIMEOUT
     }
 
     /// Whether the timeout of a phase that the call has is neither never nor zero.
@@ -152,7 +150,7 @@ impl IpcCall {
         Some(Later {
             from: self.from,
             window,
-            expires: self.receive_timeout() == ZERO,
+            expires: self.receive_timeout() == ZERO_TIMEOUT,
         })
     }
 }

@@ -3,9 +3,9 @@ ghost use Rattle.std.specs.Prelude.{◌≤◌, length};
 use crate::reading::copied;
 use crate::{
     Call, Control, Create, FaultCall, IpcCall, Kernel, Lower, Outcome, Refused, SetPager, Step,
-    UnmapCall,
+    Timeout, UnmapCall,
 };
-use l4_fpage::Rights;
+use l4_fpage::{Fpage, Rights};
 use l4_mapdb::{Mapping, Place};
 use l4_msg::MsgFault;
 use l4_threads::{Reply, ThreadFault, ThreadId};
@@ -138,6 +138,63 @@ fn replied(
             && reply.words.as_slice() == words,
         _ => false,
     }
+}
+
+#[test]
+fn usual_ipcs(rt: HostRuntime) {
+    let window = Fpage::Complete(Rights::of_bits(0));
+    assert_eq!(rt;
+        Step::Start(2, Call::send(THIRD, copied(&MAPS), Timeout::Zero)),
+        ipc(2, THIRD, NOBODY, 0x400_0000, 0, &MAPS)
+    );
+    assert_eq!(rt;
+        Step::Start(3, Call::receive(ANYBODY, window, Timeout::Zero)),
+        ipc(3, NOBODY, ANYBODY, 0x400, COMPLETE, &[])
+    );
+    let never = Timeout::Never;
+    assert_eq!(rt;
+        Step::Start(
+            2,
+            Call::call(THIRD, copied(&MAPS), window, never, Timeout::Zero)
+        ),
+        ipc(2, THIRD, THIRD, 0x400, COMPLETE, &MAPS)
+    );
+    assert_eq!(rt;
+        Step::Start(
+            2,
+            Call::reply_and_wait(THIRD, copied(&MAPS), window, Timeout::Zero, never)
+        ),
+        ipc(2, THIRD, ANYBODY, 0x400_0000, COMPLETE, &MAPS)
+    );
+}
+
+#[test]
+fn other_usual_calls(rt: HostRuntime) {
+    assert_eq!(rt;
+        Step::Start(3, Call::fault(0x8000, 0x1234, Rights::W)),
+        fault(3, 0x8000, 2)
+    );
+    assert_eq!(rt;
+        Call::unmap(false, &[Fpage::Complete(Rights::R), Fpage::Nil]).map(|call| Step::Start(
+            3, call
+        )),
+        Some(unmap(3, 1, &[0x14, 0]))
+    );
+    assert_eq!(rt;
+        Call::unmap(true, &[Fpage::Nil]).map(|call| Step::Start(3, call)),
+        Some(unmap(3, 0x40, &[0]))
+    );
+    assert_eq!(rt; Call::unmap(true, &[]), None);
+    assert_eq!(rt; Call::unmap(true, &[Fpage::Nil; 65]), None);
+    assert_eq!(rt;
+        Step::Start(2, Call::create(THIRD, ROOT, NOBODY)),
+        create(2, THIRD, ROOT)
+    );
+    assert_eq!(rt;
+        Step::Start(2, Call::set_pager(THIRD, ROOT)),
+        set_pager(2, THIRD, ROOT)
+    );
+    assert_eq!(rt; Step::Start(2, Call::delete(THIRD)), delete(2, THIRD));
 }
 
 #[test]

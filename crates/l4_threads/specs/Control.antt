@@ -15,7 +15,7 @@ use Rattle.l4_threads.specs.declared.Source.TheVariants.{Anyone, Thread as One}
 use Rattle.l4_threads.specs.declared.State.{State}
 use Rattle.l4_threads.specs.declared.State.TheVariants.{Running, Sending as Sends, Receiving as Receives}
 use Rattle.l4_threads.specs.declared.Thread.{Thread}
-use Rattle.l4_threads.specs.Threads.{Threads, thread_at, state_of, space_of, named, number_of, failed, sends, is_running}
+use Rattle.l4_threads.specs.Threads.{Threads, thread_at, state_of, space_of, named, number_of, version_of, failed, sends, is_running}
 
 -- the caller is in the root space, which is space 1
 abbrev pub is_privileged : Threads → ℕ → Bool
@@ -25,6 +25,13 @@ is_privileged t caller = option_map_or (λ space. space == 1) (space_of t caller
 -- version are 0, which mark a local id (L4 X.2 manual, ThreadId)
 abbrev pub is_bad_id : ThreadId → Bool
 is_bad_id id = (id.0 == 0) || ((id.0 == 0xffff_ffff) || ((number_of id == 0) || (id.0 % 2 ^ 6 == 0)))
+
+-- the id has this number and this version, and a thread can have it (L4 X.2 manual, ThreadId: global thread ids)
+pub record IsGlobalId (number version : ℕ) (id : ThreadId) : Type 0 where
+  pub has_number : number_of id ≡ number
+  pub has_version : version_of id ≡ version
+  pub one_word : id.0 < 2 ^ 32
+  pub good : is_bad_id id ≡ false
 
 -- `space` is the new thread's own id, which asks for a new space
 abbrev pub asks_new : ThreadId → ThreadId → Bool

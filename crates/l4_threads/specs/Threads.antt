@@ -1,5 +1,5 @@
 -- The threads as one value: who there is, what each does, and who stands before whom in the queue of senders.
-use Rattle.std.specs.Prelude.{◌≡◌, ◌≢◌, ℕ, ◌/◌, ◌^◌, ◌<◌, ◌≤◌, ◌⊎◌, ◌==◌, ◌&&◌, not, Bool, true, false, if◌then◌else◌, List, [], map, filter_map, Option, Some, None, IsTrue, option_and_then, refl}
+use Rattle.std.specs.Prelude.{◌≡◌, ◌≢◌, ℕ, ◌/◌, ◌%◌, ◌^◌, ◌<◌, ◌≤◌, ◌⊎◌, ◌==◌, ◌&&◌, not, Bool, true, false, if◌then◌else◌, List, [], map, filter_map, Option, Some, None, IsTrue, option_and_then, refl}
 use Rattle.std.specs.Option.{option_map_or, option_map}
 use Rattle.std.specs.Ordering.{nat_cmp, ordering_then}
 use Rattle.std.specs.declared.cmp.Ordering.{Ordering}
@@ -53,6 +53,10 @@ anythread = record { 0 = 0xffff_ffff }
 -- the thread number in an id: its upper 18 bits (L4 X.2 manual, ThreadId: global thread ids)
 abbrev pub number_of : ThreadId → ℕ
 number_of id = id.0 / 2 ^ 14
+
+-- the version in an id: its lower 14 bits (L4 X.2 manual, ThreadId: global thread ids)
+abbrev pub version_of : ThreadId → ℕ
+version_of id = id.0 % 2 ^ 14
 
 -- the number of the thread that the id names: its whole word is equal, so its version too
 abbrev pub named : Threads → ThreadId → Option ℕ

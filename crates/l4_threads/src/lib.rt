@@ -9,6 +9,12 @@ use l4_fpage::Fpage;
 use l4_msg::Item;
 pub use table::Threads;
 
+/// The bits of a thread number.
+const NUMBER_BITS: u32 = 18;
+
+/// The bits of an id's version.
+const VERSION_BITS: u32 = 14;
+
 /// A thread's global id, one word: the thread number in bits 31..14, the version below (L4 X.2 manual, ThreadId).
 #[derive(Clone, Copy, Debug, PartialEq, Eq)]
 pub struct ThreadId(pub u32);
@@ -154,16 +160,37 @@ impl Default for Thread {
 }
 
 impl ThreadId {
-    ghost use Rattle.std.specs.Prelude.{◌≡◌, ◌<◌, ◌^◌};
-    ghost use Rattle.l4_threads.specs.Threads.{nilthread, anythread, number_of};
-    ghost use Rattle.l4_threads.specs.Control.{is_bad_id};
+    ghost use Rattle.std.specs.Prelude.{◌≡◌, ◌<◌, ◌^◌, MatchOption};
+    ghost use Rattle.l4_threads.specs.Threads.{nilthread, anythread, number_of, version_of};
+    ghost use Rattle.l4_threads.specs.Control.{is_bad_id, IsGlobalId};
+    ghost use Rattle.l4_threads.specs.declared.ThreadId.{ThreadId as AnId};
+
+    /// The global id of this thread number and version. None where no thread can have one: the number is 0 or 2^18 or more, the
+    /// version has only zeros in its lower six bits or is 2^14 or more, or the two make anythread.
+    pub fn global(number: u32, version: u32) -> Option<ThreadId>
+        ensures { MatchOption result ((id : AnId) → ¬ (IsGlobalId number version id)) (IsGlobalId number version) }
+    {
+        if number >= 1 << NUMBER_BITS || version >= 1 << VERSION_BITS {
+            return None;
+        }
+        let id = ThreadId(number * (1 << VERSION_BITS) + version);
+        if id.is_bad() { None } else { Some(id) }
+    }
 
     /// The thread number, below 2^18.
     pub fn number(self) -> u32
         ensures value { result ≡ number_of self }
         ensures small { result < 2 ^ 18 }
     {
-        self.0 >> 14
+        self.0 >> VERSION_BITS
+    }
+
+    /// The version, below 2^14.
+    pub fn version(self) -> u32
+        ensures value { result ≡ version_of self }
+        ensures small { result < 2 ^ 14 }
+    {
+        self.0 % (1 << VERSION_BITS)
     }
 
     /// The id that names no thread.

@@ -319,8 +319,8 @@ impl Threads {
         Ok(own)
     }
 
-    /// A new thread, which runs at once. Where its space is the next new one, that number is used.
-    pub fn create(&mut self, id: ThreadId, space: u64, pager: ThreadId)
+    /// Puts a new thread into the table, which runs. Where its space is the next new one, that number is used.
+    fn add(&mut self, id: ThreadId, space: u64, pager: ThreadId)
         requires { CanCreate self.old id space }
         ensures { self.new ≡ created self.old id space pager }
     {
@@ -336,6 +336,29 @@ impl Threads {
         if space == self.next_space {
             self.next_space += 1;
         }
+    }
+
+    /// Makes a thread, which runs at once, and answers its space: that of the thread that `space` names, or a new one where
+    /// `space` is `id` itself (L4 X.2 manual, ThreadControl). The pager isn't tested.
+    ///
+    /// The refusals are those of `test_create`, in its order, and change nothing.
+    pub fn create(
+        &mut self,
+        caller: u32,
+        id: ThreadId,
+        space: ThreadId,
+        pager: ThreadId,
+    ) -> Result<u64, ThreadFault>
+        ensures test { result ≡ create_test self.old caller id space }
+        ensures ok { IfOk result (λ own. self.new ≡ created self.old id own pager) }
+        ensures err { OnErr result (self.new ≡ self.old) }
+    {
+        let own = match self.test_create(caller, id, space) {
+            Ok(own) => own,
+            Err(fault) => return Err(fault),
+        };
+        self.add(id, own, pager);
+        Ok(own)
     }
 
     /// Gives the thread that `id` names another pager (L4 X.2 manual, ThreadControl), and answers its number.

@@ -31,9 +31,7 @@ fn wait(from: Source, expires: bool) -> Receiving {
 
 /// Creates the thread of this id in a space of its own.
 fn grow(threads: &mut Threads, id: ThreadId) -> Result<u64, ThreadFault> {
-    let space = threads.test_create(2, id, id)?;
-    threads.create(id, space, ROOT);
-    Ok(space)
+    threads.create(2, id, id, ROOT)
 }
 
 /// Lets a running thread send.
@@ -79,6 +77,23 @@ fn the_start(rt: HostRuntime) {
 }
 
 #[test]
+fn ids_of_numbers_and_versions(rt: HostRuntime) {
+    assert_eq!(rt; ThreadId::global(3, 1), Some(ThreadId(0xc001)));
+    assert_eq!(rt; ThreadId::global(0x3ffff, 1), Some(ThreadId(0xffff_c001)));
+    for (number, version) in [
+        (0, 1),
+        (3, 0x40),
+        (3, 0x4001),
+        (0x40000, 1),
+        (0x3ffff, 0x3fff),
+    ] {
+        assert_eq!(rt; ThreadId::global(number, version), None);
+    }
+    assert_eq!(rt; ThreadId(0xc041).number(), 3);
+    assert_eq!(rt; ThreadId(0xc041).version(), 65);
+}
+
+#[test]
 fn a_new_thread(rt: HostRuntime) -> Result<(), Fail> {
     let mut threads = Threads::boot();
     assert_eq!(rt;
@@ -95,6 +110,11 @@ fn a_new_thread(rt: HostRuntime) -> Result<(), Fail> {
         Err(ThreadFault::Unknown)
     );
     assert_eq!(rt; threads.test_create(2, THIRD, ROOT), Ok(1));
+    assert_eq!(rt;
+        threads.create(1, THIRD, ROOT, ROOT),
+        Err(ThreadFault::NoPrivilege)
+    );
+    assert!(rt; threads.thread(3).is_none());
     assert_eq!(rt; grow(&mut threads, THIRD)?, 2);
     assert_eq!(rt; threads.space_of(3), Some(2));
     assert_eq!(rt; grow(&mut threads, ThreadId(0x10001))?, 3);

@@ -4,7 +4,7 @@ use Rattle.l4_threads.proofs.TableLemmas.{differ}
 use Rattle.l4_threads.proofs.ViewLemmas.{thread_at_seen}
 use Rattle.l4_threads.proofs.BootLemmas.{grown_table}
 use Rattle.l4_threads.proofs.ControlLemmas.{len_seen, next_space_seen, seen_grown}
-use Rattle.l4_threads.proofs.table.Threads.create.Goals as goal
+use Rattle.l4_threads.proofs.table.Threads.add.Goals as goal
 
 pub push-requires : goal.push-requires
 push-requires c = (lit< tt, subst (λ (k : ℕ). k < 64) (len_seen c.self.inside.threads.items c.self.inside.queue.items c.self.inside.next_space c.args.self.now c.self.invariant c.self.view_is) c.requires.room)
