@@ -6,6 +6,7 @@ use Rattle.std.specs.Int.Count.{count_trailing_zeros}
 use Rattle.std.specs.List.{All}
 use Rattle.l4_msg.specs.Regions.{InSpace, moved}
 use Rattle.l4_msg.specs.declared.regions.Region.{Region}
+use Rattle.l4_fpage.proofs.Powers.{trailing_aligned, aligned_trailing}
 use Rattle.l4_plan.proofs.Steps.{largest_is}
 use Rattle.l4_plan.specs.Largest.{IsLargest, AreStarts}
 
@@ -31,7 +32,11 @@ power_of n some =
 pub largest_exists : (r : Region) (page : ℕ) → InSpace r → r.source ≤ page → page < r.source + r.count → (log : ℕ) × IsLargest r page log
 largest_exists r page space from below =
     let w = power_of (r.source + r.count - page) (omega arith) in
-    (min (min (count_trailing_zeros 32 page) (count_trailing_zeros 32 (moved r page))) w.0, largest_is r page _ w.0 space from below refl w.1.within w.1.most)
+    let n = min (count_trailing_zeros 32 page) (count_trailing_zeros 32 (moved r page)) in (
+      min n w.0,
+      largest_is r page _ n w.0 space from below refl (λ k le. trailing_aligned 32 page k (omega (arith, le))) (λ k le. trailing_aligned 32 (moved r page) k (omega (arith, le)))
+      (λ k low one two. omega (arith, aligned_trailing 32 page k low one, aligned_trailing 32 (moved r page) k low two)) w.1.within w.1.most,
+    )
 
 pub one_largest : (r : Region) (page j k : ℕ) → IsLargest r page j → IsLargest r page k → j ≡ k
 one_largest r page j k a b = omega (arith, a.greatest k b.allowed, b.greatest j a.allowed)
