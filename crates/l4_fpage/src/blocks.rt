@@ -7,6 +7,9 @@ pub const PAGE_LOG: u8 = 12;
 /// The binary logarithm of the pages of a space: 2^20 pages, numbered from 0.
 pub const SPACE_LOG: u8 = 20;
 
+/// The pages of a space: 1,048,576.
+pub const SPACE_PAGES: u32 = 1 << SPACE_LOG;
+
 /// A block of pages: 2^log of them, `log` from 0 to 20, the first page a multiple of 2^log, all of
 /// them below 2^20 (this profile's own).
 #[derive(Clone, Copy, PartialEq, Eq, Debug)]

@@ -1,5 +1,5 @@
 -- The end of a space: which places go, and what is shown afterwards.
-use Rattle.std.proofs.Common.{◌≡◌, ◌≢◌, ℕ, ◌+◌, ◌≤◌, ◌==◌, true, false, cond, length, Option, Some, None, IsTrue, unwrap_or, refl, sym, ap, ◌∙◌, ◌↔◌, subst, inl, inr, option_and_then, arith}
+use Rattle.std.proofs.Common.{◌≡◌, ◌≢◌, ℕ, ◌+◌, ◌≤◌, ◌==◌, true, false, cond, length, Option, Some, None, IsTrue, refl, sym, ap, ◌∙◌, ◌↔◌, subst, inl, inr, option_and_then, arith}
 use Rattle.std.specs.FinMap.{find}
 use Rattle.std.specs.FinSet as set
 use Rattle.std.proofs.lemmas.Bool.Decides.{nat_tests}
@@ -24,6 +24,7 @@ use Rattle.l4_mapdb.proofs.Slots.{Slots, shown_under, under_shown, later_under, 
 use Rattle.l4_mapdb.proofs.Planned.{Passed, passed_first, passed_none, passed_some, passed_all}
 use Rattle.l4_mapdb.proofs.Stored.{Names, key_in}
 use Rattle.l4_mapdb.proofs.Kept.{shown_sheet}
+use Rattle.l4_mapdb.proofs.Unique.{same_value}
 
 -- the walk up the parents
 
@@ -98,9 +99,6 @@ module _ (space : ℕ) (old : Sheet) where
 
     pub ended_all : length old.slots ≤ key → (k : ℕ) → EndsSlot Goes (slot_at old.slots k) (slot_at cur.slots k)
     ended_all le = passed_all (EndsSlot Goes) old.slots key cur.slots so_far.passed refl le
-
-same_value : {X : Type 0} {x y : X} → Some x ≡ Some y → x ≡ y
-same_value {x = x} e = ap (λ o. unwrap_or o x) e
 
 module _ (space : ℕ) (old mid new : Sheet) (once_old : RecordedOnce old.slots) (once_mid : RecordedOnce mid.slots) (once_new : RecordedOnce new.slots)
     (forest : IsForest (of_sheet old))

@@ -1,5 +1,5 @@
 -- The first mappings are a forest, and a forest stays one where a space begins or ends.
-use Rattle.std.proofs.Common.{◌≡◌, ◌≢◌, ℕ, ◌<◌, ◌≤◌, ◌&&◌, ◌||◌, not, Bool, true, false, Option, Some, None, refl, sym, ap, ◌∙◌, inl, inr, option_and_then, unwrap_or, arith}
+use Rattle.std.proofs.Common.{◌≡◌, ◌≢◌, ℕ, ◌<◌, ◌≤◌, ◌&&◌, ◌||◌, not, Bool, true, false, Option, Some, None, refl, sym, ap, ◌∙◌, inl, inr, option_and_then, arith}
 use Rattle.std.specs.Ordering.{nat_cmp, eq_by_cmp}
 use Rattle.std.specs.Cmp.{nat_cmp_total}
 use Rattle.std.specs.FinMap.{nat_cmp-IsAntisymmetric}
@@ -11,9 +11,7 @@ use Rattle.l4_mapdb.specs.Mappings.{Mappings, shown, parent_of, child, further, 
 use Rattle.l4_mapdb.specs.Losing.{EndsSpace, GoesWithSpace}
 use Rattle.l4_mapdb.specs.Boot.{IsFirst}
 use Rattle.l4_mapdb.proofs.EntriesLemmas.{is_equal}
-
-same_value : {X : Type 0} {x y : X} → Some x ≡ Some y → x ≡ y
-same_value {x = x} e = ap (λ o. unwrap_or o x) e
+use Rattle.l4_mapdb.proofs.Unique.{same_value}
 
 or_right : (a b : Bool) → b ≡ true → (a || b) ≡ true
 or_right true b h = refl

@@ -1,30 +1,27 @@
 -- A forest stays a forest where places lose rights, and with them all that they passed on.
-use Rattle.std.proofs.Common.{◌≡◌, ◌≢◌, ℕ, ◌<◌, ◌^◌, Bool, true, false, Option, Some, None, IsTrue, refl, sym, ap, ◌∙◌, ◌↔◌, subst, inl, inr, ◌⊎◌, option_and_then, unwrap_or}
+use Rattle.std.proofs.Common.{◌≡◌, ◌≢◌, ℕ, ◌<◌, ◌^◌, Bool, true, false, Option, Some, None, IsTrue, refl, sym, ap, ◌∙◌, ◌↔◌, subst, inl, inr, ◌⊎◌, option_and_then}
 use Rattle.std.specs.FinSet as set
 use Rattle.l4_fpage.specs.Rights.{RightsSet, Right, Read, Write, Execute, has, no_rights}
 use Rattle.l4_mapdb.specs.declared.Place.{Place}
 use Rattle.l4_mapdb.specs.declared.Mapping.{Mapping}
 use Rattle.l4_mapdb.specs.Mappings.{Mappings, shown, parent_of, child, further, Descends, IsOrDescends, IsRoot, IsForest, ParentHolds}
-use Rattle.l4_mapdb.proofs.Unique.{same_rights}
+use Rattle.l4_mapdb.proofs.Unique.{same_value, same_rights}
 use Rattle.l4_mapdb.specs.Losing.{IsLeft, LosesRights, RevokedAt, Revokes}
-
-same_value : {X : Type 0} {x y : X} → Some x ≡ Some y → x ≡ y
-same_value {x = x} e = ap (λ o. unwrap_or o x) e
 
 -- what follows from a decision follows, where it is a contradiction
 pub decide : (P : Type 0) → (P ⊎ ¬ P → ⊥) → ⊥
 decide P f = f (inr (λ p. f (inl p)))
 
-left : {L : Type 0} → L ⊎ ¬ L → Bool → Bool
+pub left : {L : Type 0} → L ⊎ ¬ L → Bool → Bool
 left (inl lost) b = false
 left (inr kept) b = b
 
-left_is : {L : Type 0} (d : L ⊎ ¬ L) (b : Bool) → IsTrue (left d b) ↔ (IsTrue b × ¬ L)
+pub left_is : {L : Type 0} (d : L ⊎ ¬ L) (b : Bool) → IsTrue (left d b) ↔ (IsTrue b × ¬ L)
 unfolding left
 left_is (inl lost) b = (λ h. absurd (let k : false ≡ true = h in cc), λ h. absurd (h.1 lost))
 left_is (inr kept) b = (λ h. (h, kept), λ h. h.0)
 
-no_right : (k : Right) → ¬ (IsTrue (has no_rights k))
+pub no_right : (k : Right) → ¬ (IsTrue (has no_rights k))
 no_right Read h = let e : false ≡ true = h in cc
 no_right Write h = let e : false ≡ true = h in cc
 no_right Execute h = let e : false ≡ true = h in cc

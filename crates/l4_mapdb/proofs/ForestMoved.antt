@@ -1,5 +1,5 @@
 -- A delivery that is not entangled leaves a forest.
-use Rattle.std.proofs.Common.{◌≡◌, ℕ, ◌<◌, ◌^◌, Option, Some, None, IsTrue, is_some, refl, sym, ap, ◌∙◌, subst, inl, inr, ◌⊎◌, option_and_then, unwrap_or}
+use Rattle.std.proofs.Common.{◌≡◌, ℕ, ◌<◌, ◌^◌, Option, Some, None, IsTrue, is_some, refl, sym, ap, ◌∙◌, subst, inl, inr, ◌⊎◌, option_and_then}
 use Rattle.std.specs.FinSet as set
 use Rattle.l4_fpage.specs.Rights.{RightsSet, Right, has, Within}
 use Rattle.l4_mapdb.specs.declared.Place.{Place}
@@ -9,9 +9,7 @@ use Rattle.l4_mapdb.specs.Transfer.{PageMove, IsGranted, IsEntangled, IsGone, St
 use Rattle.l4_mapdb.proofs.EntriesLemmas.{decided}
 use Rattle.l4_mapdb.proofs.Single.{KnownMoves, one_target, one_grant, one_place}
 use Rattle.l4_mapdb.proofs.ForestKept.{decide, IsLoose, LooseParent, forest_kept}
-
-same_value : {X : Type 0} {x y : X} → Some x ≡ Some y → x ≡ y
-same_value {x = x} e = ap (λ o. unwrap_or o x) e
+use Rattle.l4_mapdb.proofs.Unique.{same_value}
 
 module _ (Used : PageMove → Type 0) (old mid : Mappings) (known : KnownMoves Used old) (forest : IsForest old)
     (free : ¬ (IsEntangled Used old)) (moved : Moved Used old mid) where

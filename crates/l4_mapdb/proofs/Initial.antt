@@ -1,5 +1,5 @@
 -- Sigma0's places at the start, record by record.
-use Rattle.std.proofs.Common.{◌≡◌, ◌≢◌, ℕ, ◌+◌, Option, Some, None, [], refl, sym, ap, ◌∙◌, subst, unwrap_or, arith, inl, inr, ◌⊎◌, ◌==◌, true, false}
+use Rattle.std.proofs.Common.{◌≡◌, ◌≢◌, ℕ, ◌+◌, Option, Some, None, [], refl, sym, ap, ◌∙◌, subst, arith, inl, inr, ◌⊎◌, ◌==◌, true, false}
 use Rattle.std.specs.FinMap.{find}
 use Rattle.std.proofs.lemmas.Bool.Decides.{nat_tests}
 use Rattle.l4_fpage.specs.Rights.{RightsSet, all_rights}
@@ -10,9 +10,7 @@ use Rattle.l4_mapdb.specs.Mappings.{place_cmp}
 use Rattle.l4_mapdb.specs.Sheets.{slot_at, HasRecord, RecordedOnce, IsWhole, now_in, Adds}
 use Rattle.l4_mapdb.specs.Planning.{ShowsOwn}
 use Rattle.l4_mapdb.proofs.Slots.{Slots, ShowsUnder, shown_under, under_shown}
-
-same_value : {X : Type 0} {x y : X} → Some x ≡ Some y → x ≡ y
-same_value {x = x} e = ap (λ o. unwrap_or o x) e
+use Rattle.l4_mapdb.proofs.Unique.{same_value}
 
 abbrev pub own_place : ℕ → Place
 own_place frame = record { space = 0; page = frame }

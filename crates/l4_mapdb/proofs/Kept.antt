@@ -1,5 +1,5 @@
 -- The mappings that the records of a forest show, and what becomes of them.
-use Rattle.std.proofs.Common.{◌≡◌, ℕ, ◌≤◌, Bool, true, false, Option, Some, None, MatchOption, OnOk, OnErr, IsTrue, is_some, refl, sym, ap, ◌∙◌, ◌↔◌, subst, unwrap_or, inl, inr}
+use Rattle.std.proofs.Common.{◌≡◌, ℕ, ◌≤◌, Bool, true, false, Option, Some, None, MatchOption, OnOk, OnErr, IsTrue, is_some, refl, sym, ap, ◌∙◌, ◌↔◌, subst, inl, inr}
 use Rattle.std.specs.declared.result.Result.{Result}
 use Rattle.std.specs.declared.result.Result.TheVariants.{Ok, Err}
 use Rattle.std.specs.FinMap.{find, get-from_entries}
@@ -20,14 +20,11 @@ use Rattle.l4_mapdb.specs.Planning.{ShowsOwn, IsRootKey, NoRootKey, IsCutMapping
 use Rattle.l4_mapdb.specs.Forest.{of_sheet, IsKept}
 use Rattle.l4_mapdb.proofs.Places.{places_total, same_mappings}
 use Rattle.l4_mapdb.proofs.Chains.{chain_along}
-use Rattle.l4_mapdb.proofs.Unique.{same_rights}
+use Rattle.l4_mapdb.proofs.Unique.{same_value, same_rights}
 use Rattle.l4_mapdb.proofs.Revoking.{has-without}
 use Rattle.l4_mapdb.proofs.ForestEnds.{begins_keeps, first_forest}
 use Rattle.l4_mapdb.proofs.Rising.{parent_is}
 use Rattle.l4_mapdb.proofs.Slots.{ShowsUnder, shown_under, under_shown, later_under, under_later, settled_shown}
-
-same_value : {X : Type 0} {x y : X} → Some x ≡ Some y → x ≡ y
-same_value {x = x} e = ap (λ o. unwrap_or o x) e
 
 -- what the records show, the mappings show
 pub shown_sheet : (sheet : Sheet) → IsShownBy (of_sheet sheet) (now_in sheet.slots)

@@ -1,6 +1,7 @@
 pub mod Places
 pub mod Unique
 pub mod Nothing
+pub mod Absent
 pub mod EntriesLemmas
 pub mod Chains
 pub mod Filtered

@@ -1,5 +1,5 @@
 -- Where no move is used nothing changes, and where nothing is lost neither.
-use Rattle.std.proofs.Common.{◌≡◌, ℕ, ◌<◌, ◌≤◌, ◌+◌, not, length, Bool, true, false, ◌&&◌, List, Option, Some, None, IsTrue, refl, sym, ap, ◌∙◌, ◌↔◌, subst, slice_get, unwrap_or, inl, inr, arith}
+use Rattle.std.proofs.Common.{◌≡◌, ℕ, ◌<◌, ◌≤◌, ◌+◌, not, length, Bool, true, false, ◌&&◌, List, Option, Some, None, IsTrue, refl, sym, ap, ◌∙◌, ◌↔◌, subst, slice_get, inl, inr, arith}
 use Rattle.std.proofs.lemmas.Bool.{cases_lt}
 use Rattle.std.proofs.lemmas.Option.{slice_get_within}
 use Rattle.l4_fpage.specs.Rights.{RightsSet, Right, has, no_rights, is_none, common}
@@ -9,10 +9,7 @@ use Rattle.l4_mapdb.specs.declared.ItemMove.{ItemMove}
 use Rattle.l4_mapdb.specs.Mappings.{Mappings, shown, IsForest}
 use Rattle.l4_mapdb.specs.Losing.{IsLeft, LosesRights}
 use Rattle.l4_mapdb.specs.Transfer.{PageMove, IsUsed, IsEntangled, ParentLater, Becomes, IsCut, Transfers}
-use Rattle.l4_mapdb.proofs.Unique.{same_rights}
-
-same_value : {X : Type 0} {x y : X} → Some x ≡ Some y → x ≡ y
-same_value {x = x} e = ap (λ o. unwrap_or o x) e
+use Rattle.l4_mapdb.proofs.Unique.{same_value, same_rights}
 
 -- what is left of a mapping that loses nothing is that mapping
 left_same : (Lost : Right → Type 0) (before m : Mapping) → ((k : Right) → ¬ (Lost k)) → IsLeft Lost before m → before ≡ m

@@ -1,5 +1,5 @@
 -- The definitions determine the new mappings.
-use Rattle.std.proofs.Common.{◌≡◌, Bool, true, false, Some, refl, sym, ◌∙◌, ◌↔◌, IsTrue, subst}
+use Rattle.std.proofs.Common.{◌≡◌, Bool, true, false, Some, refl, sym, ap, ◌∙◌, ◌↔◌, IsTrue, subst, unwrap_or}
 use Rattle.l4_fpage.specs.Rights.{RightsSet, Right, has, Read, Write, Execute}
 use Rattle.l4_mapdb.specs.declared.Place.{Place}
 use Rattle.l4_mapdb.specs.declared.Mapping.{Mapping}
@@ -7,6 +7,10 @@ use Rattle.l4_mapdb.specs.Mappings.{Mappings, shown}
 use Rattle.l4_mapdb.specs.Losing.{IsLeft, LosesRights}
 use Rattle.l4_mapdb.specs.Transfer.{PageMove, Moved, Transfers, Becomes, IsCut}
 use Rattle.l4_mapdb.proofs.Places.{same_option, same_mappings}
+
+-- what two values hold that are one is one
+pub same_value : {X : Type 0} {x y : X} → Some x ≡ Some y → x ≡ y
+same_value {x = x} e = ap (λ o. unwrap_or o x) e
 
 same_bool : (a b : Bool) → (IsTrue a → IsTrue b) → (IsTrue b → IsTrue a) → a ≡ b
 same_bool true true f g = refl
@@ -22,29 +26,8 @@ same_rights a b h =
     let x : a.x ≡ b.x = same_bool _ _ (h Execute).0 (h Execute).1 in
     λ i. record { r = r i; w = w i; x = x i }
 
--- what is left is one mapping
-left_unique : (Lost : Right → Type 0) (old a b : Mapping) → IsLeft Lost old a → IsLeft Lost old b → a ≡ b
-left_unique Lost old a b f g =
-    let frames : a.frame ≡ b.frame = f.frame ∙ sym g.frame in
-    let parents : a.parent ≡ b.parent = f.parent ∙ sym g.parent in
-    let rights : a.rights ≡ b.rights =
-    same_rights a.rights b.rights (λ k. (λ h. (g.rights k).1 ((f.rights k).0 h), λ h. (f.rights k).1 ((g.rights k).0 h))) in
-    λ i. record { frame = frames i; rights = rights i; parent = parents i }
-
 pub loses_unique : (Lost : Place → Right → Type 0) (old a b : Mappings) → LosesRights Lost old a → LosesRights Lost old b → a ≡ b
 loses_unique Lost old a b f g =
     same_mappings a b (f.spaces ∙ sym g.spaces)
     (λ p. same_option (λ m. (before : Mapping) × (shown old p ≡ Some before) × IsLeft (Lost p) before m)
     (shown a p) (shown b p) (f.places p) (g.places p))
-
-pub moved_unique : (Used : PageMove → Type 0) (old a b : Mappings) → Moved Used old a → Moved Used old b → a ≡ b
-moved_unique Used old a b f g =
-    same_mappings a b (f.spaces ∙ sym g.spaces)
-    (λ p. same_option (Becomes Used old p) (shown a p) (shown b p) (f.places p) (g.places p))
-
--- there is one state after a transfer
-pub transfers_unique : (Used : PageMove → Type 0) (old a b : Mappings) → Transfers Used old a → Transfers Used old b → a ≡ b
-transfers_unique Used old a b f g =
-    let same : f.middle ≡ g.middle = moved_unique Used old f.middle g.middle f.moved g.moved in
-    loses_unique (IsCut Used g.middle) g.middle a b
-    (subst (λ (m : Mappings). LosesRights (IsCut Used m) m a) same f.cut) g.cut

@@ -2,7 +2,7 @@
 //! which page it was mapped (L4 X.2 manual, IPC: map and grant items).
 #![tactic(auto)]
 
-ghost use Rattle.std.specs.Prelude.{◌≡◌, ◌↔◌, ◌≢◌, ◌≤◌, ◌∷◌, [], IsTrue, IsOk, OnOk, OnErr, IfOk, IfErr, MatchOption, Some};
+ghost use Rattle.std.specs.Prelude.{◌≡◌, ◌↔◌, ◌≢◌, ◌≤◌, ◌∷◌, [], IsTrue, IsOk, OnOk, OnErr, IfOk, IfErr, MatchOption, Some, None};
 ghost use Rattle.std.specs.FinSet as set;
 
 mod building;
@@ -21,6 +21,9 @@ pub use l4_spaces::NoMemory;
 use std::alloc::Global;
 use std::marker::Model;
 use store::Store;
+
+/// The greatest number of frames (this profile's own).
+pub const MAX_FRAMES: u32 = 4096;
 
 /// A page of a space.
 #[derive(Clone, Copy, Debug, PartialEq, Eq)]
@@ -130,6 +133,7 @@ impl Forest {
         ensures ok { OnOk result (self.new ≡ record self.old { spaces = set.insert self.old.spaces space }) }
         ensures err { OnErr result (self.new ≡ self.old) }
         ensures succeeds { IsTrue (set.contains self.old.spaces space) → IsOk result }
+        ensures there { IsTrue (set.contains self.old.spaces space) → self.new ≡ self.old }
     {
         self.store.add_space(space)
     }
@@ -201,7 +205,8 @@ impl Forest {
     /// where that is asked. A place goes with its last right. Nothing changes if the page is not
     /// present.
     pub fn revoke(&mut self, from: Place, rights: Rights, with_self: bool)
-        ensures { Revokes from rights with_self self.old self.new }
+        ensures revokes { Revokes from rights with_self self.old self.new }
+        ensures absent { shown self.old from ≡ None → self.new ≡ self.old }
     {
         losing::cut(&mut self.store, from, rights, with_self);
         self.store.settle();

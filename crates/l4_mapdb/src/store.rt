@@ -62,6 +62,7 @@ impl Store {
         ensures ok { OnOk result (self.new ≡ record self.old { spaces = set.insert self.old.spaces space }) }
         ensures err { OnErr result (self.new ≡ self.old) }
         ensures succeeds { IsTrue (set.contains self.old.spaces space) → IsOk result }
+        ensures there { IsTrue (set.contains self.old.spaces space) → self.new ≡ self.old }
         ensures once { RecordedOnce self.new.slots }
     {
         self.pages.add(space)

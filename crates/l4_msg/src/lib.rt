@@ -12,11 +12,11 @@ mod words;
 
 pub use acceptors::Acceptor;
 pub use items::{Item, ItemFault, Move};
-pub use messages::{MAX_UNTYPED, MAX_WORDS, Message, MsgFault};
+pub use messages::{MAX_UNTYPED, MAX_WORDS, Message, MsgFault, copied};
 pub use moves::item_moves;
 pub use regions::Region;
 pub use tags::Tag;
-pub use words::MAX_ITEMS;
+pub use words::{MAX_ITEMS, TOO_MANY};
 
 #[cfg(test)]
 mod tests;

@@ -44,14 +44,12 @@ pub enum MsgFault {
 }
 
 /// A copy of a few words.
-fn copied(words: &[u32]) -> ArrayVec<u32, MAX_UNTYPED>
-    requires { length words.now ≤ 63 }
+pub fn copied<const N: usize>(words: &[u32]) -> ArrayVec<u32, N>
+    requires { length words.now ≤ N }
     ensures { result.items ≡ words.now }
 {
     let mut copy = ArrayVec::new();
-    for word in words {
-        copy.push(*word);
-    }
+    let _ = copy.try_extend_from_slice(words);
     copy
 }
 

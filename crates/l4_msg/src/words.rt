@@ -9,6 +9,10 @@ use arrayvec::ArrayVec;
 /// The items of a message, at most: two words each, in the registers after the tag.
 pub const MAX_ITEMS: usize = 31;
 
+/// How many pages, no two in one allowed block, show that a region needs more items than a message holds: one more
+/// (this profile's own).
+pub const TOO_MANY: usize = MAX_ITEMS + 1;
+
 /// The words of those items.
 pub const MAX_TYPED: usize = 2 * MAX_ITEMS;
 

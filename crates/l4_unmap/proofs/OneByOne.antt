@@ -11,7 +11,8 @@ use Rattle.l4_fpage.specs.declared.fpages.Fpage.TheVariants.{Nil}
 use Rattle.l4_mapdb.specs.Mappings.{Mappings, IsForest}
 use Rattle.l4_unmap.specs.Unmap.{UnmapReads, LosesTo, Unmaps}
 use Rattle.l4_unmap.specs.Taking.{GoesWith, Takes, BlockNames}
-use Rattle.l4_unmap.proofs.Together.{loses_both, loses_none, loses_along}
+use Rattle.l4_mapdb.proofs.Nothing.{loses_none}
+use Rattle.l4_unmap.proofs.Together.{loses_both, loses_along}
 use Rattle.l4_unmap.proofs.Under.{under_kept, under_was}
 use Rattle.l4_unmap.proofs.UnmapKeeps.{unmaps_keep}
 
@@ -26,7 +27,7 @@ only_one fpage other there = elim (Contains-push_cases [] fpage other there) [
 pub takes_none : (space : ℕ) (own : Bool) (fpage : Fpage) (s : Mappings) → IsForest s → ((page : ℕ) → ¬ (HoldsPage fpage page)) → Unmaps space own (fpage ∷ []) s s
 takes_none space own fpage s forest none =
     loses_none (LosesTo s space own (fpage ∷ [])) s forest
-    (λ q k l. none l.3.0 (subst (λ (f : Fpage). HoldsPage f l.3.0) (sym (only_one fpage l.0 l.1)) l.3.1))
+    (λ q m at k l. none l.3.0 (subst (λ (f : Fpage). HoldsPage f l.3.0) (sym (only_one fpage l.0 l.1)) l.3.1))
 
 -- an fpage takes what its block takes
 pub takes_block : (space : ℕ) (own : Bool) (fpage : Fpage) (first log : ℕ) (rights : RightsSet) (old new : Mappings)
@@ -74,7 +75,7 @@ takes_more space own fpages fpage old mid new forest first second =
 
 -- no fpage takes nothing
 pub first_taken : (space : ℕ) (own : Bool) (fpages : List Fpage) (s : Mappings) → IsForest s → Unmaps space own (take 0 fpages) s s
-first_taken space own fpages s forest = loses_none (LosesTo s space own (take 0 fpages)) s forest (λ q k l. absurd (omega (arith, l.1.1)))
+first_taken space own fpages s forest = loses_none (LosesTo s space own (take 0 fpages)) s forest (λ q m at k l. absurd (omega (arith, l.1.1)))
 
 -- the fpage of one more register is taken
 pub more_taken : (space : ℕ) (own : Bool) (control : ℕ) (words : List ℕ) (fpages : List Fpage) (i : ℕ) (old mid new : Mappings) → IsForest old

@@ -8,7 +8,8 @@ use Rattle.l4_mapdb.specs.Mappings.{Mappings, shown, IsForest}
 use Rattle.l4_mapdb.specs.Losing.{RevokedAt, Revokes}
 use Rattle.l4_mapdb.specs.Places.{NonePresentFrom, IsNextPresent}
 use Rattle.l4_unmap.specs.Taking.{IsUnder, GoesWith, Takes, BlockNames}
-use Rattle.l4_unmap.proofs.Together.{loses_along, loses_none}
+use Rattle.l4_mapdb.proofs.Nothing.{loses_none}
+use Rattle.l4_unmap.proofs.Together.{loses_along}
 use Rattle.l4_unmap.proofs.Under.{page_of, takes_keep, takes_both}
 
 -- the block's pages before this one
@@ -31,7 +32,7 @@ takes_one space one rights own old new revoked =
 pub none_passed : (first log space : ℕ) (rights : RightsSet) (own : Bool) (s : Mappings) → IsForest s → Takes (PassedNames first log rights first) space own s s
 none_passed first log space rights own s forest =
     loses_none (GoesWith (PassedNames first log rights first) space own s) s forest
-    (λ q k l. let from : first ≤ l.0 = l.1.0.0.from in let below : l.0 < first = l.1.1 in omega (arith, from, below))
+    (λ q m at k l. let from : first ≤ l.0 = l.1.0.0.from in let below : l.0 < first = l.1.1 in omega (arith, from, below))
 
 -- the next page that is there is taken
 pub one_more : (first log space : ℕ) (rights : RightsSet) (own : Bool) (from next : ℕ) (old mid new : Mappings) → IsForest old
@@ -58,7 +59,7 @@ all_passed : (first log space : ℕ) (rights : RightsSet) (own : Bool) (from : �
     → Takes (BlockNames first log rights) space own old new
 all_passed first log space rights own from old new forest takes none =
     takes_both (PassedNames first log rights from) (λ _ _. ⊥) (BlockNames first log rights) space own old new new forest takes
-    (loses_none (GoesWith (λ _ _. ⊥) space own new) new (takes_keep (PassedNames first log rights from) space own old new forest takes) (λ q k l. l.1))
+    (loses_none (GoesWith (λ _ _. ⊥) space own new) new (takes_keep (PassedNames first log rights from) space own old new forest takes) (λ q m at k l. l.1))
     (λ page k n. n.0) (λ page k n. absurd n)
     (λ page m at k n.
     elim (cases_lt page from) [

@@ -5,25 +5,8 @@ use Rattle.l4_mapdb.specs.declared.Place.{Place}
 use Rattle.l4_mapdb.specs.declared.Mapping.{Mapping}
 use Rattle.l4_mapdb.specs.Mappings.{Mappings, shown, IsForest}
 use Rattle.l4_mapdb.specs.Losing.{IsLeft, LosesRights}
-use Rattle.l4_mapdb.proofs.ForestKept.{decide}
-use Rattle.l4_mapdb.proofs.Unique.{same_rights}
-
-same_value : {X : Type 0} {x y : X} → Some x ≡ Some y → x ≡ y
-same_value {x = x} e = ap (λ o. unwrap_or o x) e
-
-left : {L : Type 0} → L ⊎ ¬ L → Bool → Bool
-left (inl lost) b = false
-left (inr kept) b = b
-
-left_is : {L : Type 0} (d : L ⊎ ¬ L) (b : Bool) → IsTrue (left d b) ↔ (IsTrue b × ¬ L)
-unfolding left
-left_is (inl lost) b = (λ h. absurd (let k : false ≡ true = h in cc), λ h. absurd (h.1 lost))
-left_is (inr kept) b = (λ h. (h, kept), λ h. h.0)
-
-no_right : (k : Right) → ¬ (IsTrue (has no_rights k))
-no_right Read h = let e : false ≡ true = h in cc
-no_right Write h = let e : false ≡ true = h in cc
-no_right Execute h = let e : false ≡ true = h in cc
+use Rattle.l4_mapdb.proofs.ForestKept.{decide, left, left_is, no_right}
+use Rattle.l4_mapdb.proofs.Unique.{same_value, same_rights}
 
 -- a place that keeps a right is there
 not_absent : (Lost : Place → Right → Type 0) (old new : Mappings) → LosesRights Lost old new → (q : Place) (b : Mapping) → shown old q ≡ Some b
@@ -84,20 +67,6 @@ module _ (First Second Both : Place → Right → Type 0) (old mid new : Mapping
       ] refl,
     );
   }
-
--- where nothing is lost nothing changes
-pub loses_none : (Lost : Place → Right → Type 0) (s : Mappings) → IsForest s → ((q : Place) (k : Right) → ¬ (Lost q k)) → LosesRights Lost s s
-loses_none Lost s forest none = record {
-  spaces = refl;
-  places = λ q m. (
-    λ at. (m, at, record { frame = refl; parent = refl; rights = λ k. (λ h. (h, none q k), λ h. h.0); some_right = forest.some_right q m at }),
-    λ h.
-        let l = h.2 in
-        let rights : h.0.rights ≡ m.rights = same_rights h.0.rights m.rights (λ k. (λ t. (l.rights k).1 (t, none q k), λ t. ((l.rights k).0 t).0)) in
-        let same : h.0 ≡ m = λ i. record { frame = sym l.frame i; rights = rights i; parent = sym l.parent i } in
-        h.1 ∙ ap (λ (x : Mapping). Some x) same,
-  );
-}
 
 -- losing the same rights is the same loss
 pub loses_along : (Lost Other : Place → Right → Type 0) (old new : Mappings) → ((q : Place) (k : Right) → Lost q k → Other q k) → ((q : Place) (k : Right) → Other q k → Lost q k)

@@ -23,5 +23,5 @@ loop-page-preserved c = record {
   begun = omega (arith, c.in-Some.ensures.from, c.loop-page.invariant.begun);
   takes =
       one_more c.args.block.first c.args.block.log c.args.space c.args.rights c.args.own c.loop-page.from c.in-Some.page c.args.forest.now c.loop-page.forest c.revoke.new.self
-      c.requires c.loop-page.invariant.takes c.loop-page.invariant.begun c.in-Some.ensures (omega (arith, c.if-page-end.false)) c.revoke.ensures;
+      c.requires c.loop-page.invariant.takes c.loop-page.invariant.begun c.in-Some.ensures (omega (arith, c.if-page-end.false)) c.revoke.ensures.revokes;
 }

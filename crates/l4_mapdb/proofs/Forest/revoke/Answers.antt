@@ -6,6 +6,7 @@ use Rattle.l4_mapdb.proofs.Slots.{settled_whole}
 use Rattle.l4_mapdb.proofs.Rising.{shown_acyclic}
 use Rattle.l4_mapdb.proofs.ForestKept.{revokes_keeps}
 use Rattle.l4_mapdb.proofs.Kept.{shown_sheet, revoked}
+use Rattle.l4_mapdb.proofs.Absent.{revoked_absent}
 use Rattle.l4_mapdb.proofs.Forest.revoke.Goals as goal
 
 revokes : (c : goal.After-settle) → Revokes c.args.from c.args.rights c.args.with_self (of_sheet c.self.inside.store) (of_sheet c.settle.new.self)
@@ -23,5 +24,8 @@ invariant_of-self c = record {
   forest = revokes_keeps c.args.from c.args.rights c.args.with_self (of_sheet c.self.inside.store) (of_sheet c.settle.new.self) c.self.invariant.forest (revokes c);
 }
 
-pub returns : goal.returns
-returns c = rw (← c.self.view_is) (revokes c)
+pub returns-clause-revokes : goal.returns-clause-revokes
+returns-clause-revokes c = rw (← c.self.view_is) (revokes c)
+
+pub returns-clause-absent : goal.returns-clause-absent
+returns-clause-absent c = rw (← c.self.view_is) (λ absent. revoked_absent c.args.from c.args.rights c.args.with_self (of_sheet c.self.inside.store) (of_sheet c.settle.new.self) c.self.invariant.forest absent (revokes c))
