@@ -8,15 +8,16 @@ use Rattle.std.specs.Ordering.{nat_cmp}
 use Rattle.l4_fpage.specs.Rights.{RightsSet, Right, has}
 use Rattle.l4_mapdb.specs.declared.Place.{Place}
 use Rattle.l4_mapdb.specs.declared.Mapping.{Mapping}
+use Rattle.l4_mapdb.specs.declared.losing.Pages.{Pages}
 use Rattle.l4_mapdb.specs.declared.store.Node.{Node}
-use Rattle.l4_mapdb.specs.Mappings.{place_cmp, Mappings, shown, parent_of, IsPresent, IsRoot}
-use Rattle.l4_mapdb.specs.Losing.{RevokedAt, Revokes}
+use Rattle.l4_mapdb.specs.Mappings.{place_cmp, Mappings, shown, parent_of, IsPresent, IsRoot, Chain, Descends}
+use Rattle.l4_mapdb.specs.Losing.{LosesRights}
 use Rattle.l4_mapdb.specs.Boot.{IsFirst}
 use Rattle.l4_mapdb.specs.Places.{NonePresentFrom, IsNextPresent}
 use Rattle.l4_mapdb.specs.Shown.{IsShownBy}
 use Rattle.l4_mapdb.specs.Entries.{parent_in, IsCutEntry, CoveredIn}
 use Rattle.l4_mapdb.specs.Sheets.{Sheet, slot_at, StandsUnder, HasRecord, RecordedOnce, IsWhole, now_in, settled, NoPageFrom, IsPageFrom}
-use Rattle.l4_mapdb.specs.Planning.{ShowsOwn, IsRootKey, NoRootKey, IsCutMapping, CutsSlot}
+use Rattle.l4_mapdb.specs.Planning.{RevokedIn, ShowsOwn, IsRootKey, NoRootKey, IsCutMapping, CutsSlot}
 use Rattle.l4_mapdb.specs.Forest.{of_sheet, IsKept}
 use Rattle.l4_mapdb.proofs.Places.{places_total, same_mappings}
 use Rattle.l4_mapdb.proofs.Chains.{chain_along}
@@ -99,30 +100,34 @@ kept_begun E (Ok _) old new space begun same kept =
     subst (λ (s : Sheet). IsKept (record { store = s })) (sym begun) (record { once = kept.once; whole = kept.whole; forest = begins_keeps (of_sheet old) space kept.forest })
 kept_begun E (Err _) old new space begun same kept = subst (λ (s : Sheet). IsKept (record { store = s })) (sym same) kept
 
-module _ (from : Place) (rights : RightsSet) (with_self : Bool) (old mid new : Sheet)
+module _ (pages : Pages) (rights : RightsSet) (with_self : Bool) (old mid new : Sheet)
     (once_old : RecordedOnce old.slots) (once_mid : RecordedOnce mid.slots) (once_new : RecordedOnce new.slots)
-    (cuts : (key : ℕ) → CutsSlot (CoveredIn (now_in old.slots) from with_self) rights (slot_at old.slots key) (slot_at mid.slots key))
+    (cuts : (key : ℕ) → CutsSlot (CoveredIn (now_in old.slots) pages with_self) rights (slot_at old.slots key) (slot_at mid.slots key))
     (settles : (key : ℕ) → slot_at new.slots key ≡ settled (slot_at mid.slots key)) (spaces : new.spaces ≡ old.spaces) where
   abbrev Covered : Place → Type 0
-  Covered = CoveredIn (now_in old.slots) from with_self
+  Covered = CoveredIn (now_in old.slots) pages with_self
 
   abbrev Lost : Place → Right → Type 0
-  Lost = RevokedAt (of_sheet old) from rights with_self
+  Lost = RevokedIn (of_sheet old) pages rights with_self
+
+  along : {low high : Place} → Chain (parent_in (now_in old.slots)) low high → Descends (of_sheet old) low high
+  along = chain_along (parent_in (now_in old.slots)) (parent_of (of_sheet old)) (λ p. sym (parent_is (of_sheet old) (now_in old.slots) (shown_sheet old) p))
+
+  back : {low high : Place} → Descends (of_sheet old) low high → Chain (parent_in (now_in old.slots)) low high
+  back = chain_along (parent_of (of_sheet old)) (parent_in (now_in old.slots)) (parent_is (of_sheet old) (now_in old.slots) (shown_sheet old))
 
   -- the rights that are left are those that the place hasn't lost
   rights_left : (q : Place) (before after : Mapping) → IsCutEntry Covered rights (q, before) (q, after) → (k : Right) → IsTrue (has after.rights k) ↔ (IsTrue (has before.rights k) × ¬ (Lost q k))
   rights_left q before after cut k =
-      let along = chain_along (parent_in (now_in old.slots)) (parent_of (of_sheet old)) (λ p. sym (parent_is (of_sheet old) (now_in old.slots) (shown_sheet old) p)) in
-      let back = chain_along (parent_of (of_sheet old)) (parent_in (now_in old.slots)) (parent_is (of_sheet old) (now_in old.slots) (shown_sheet old)) in
       elim cut.rights_are [
         | inl c ↦
             let w = has-without before.rights rights k in (
               λ h. let both = w.0 (subst (λ (r : RightsSet). IsTrue (has r k)) c.1 h) in (both.0, λ lost. both.1 lost.0),
               λ h. subst (λ (r : RightsSet). IsTrue (has r k)) (sym c.1)
-                  (w.1 (h.0, λ named. h.1 (named, elim c.0 [ inl s ↦ inl s | inr d ↦ inr (along d) ]))),
+                  (w.1 (h.0, λ named. h.1 (named, elim c.0 [ inl s ↦ inl s | inr d ↦ inr (d.0, (d.1.0, along d.1.1)) ]))),
             )
         | inr n ↦ (
-          λ h. (subst (λ (r : RightsSet). IsTrue (has r k)) n.1 h, λ lost. n.0 (elim lost.1 [ inl s ↦ inl s | inr d ↦ inr (back d) ])),
+          λ h. (subst (λ (r : RightsSet). IsTrue (has r k)) n.1 h, λ lost. n.0 (elim lost.1 [ inl s ↦ inl s | inr d ↦ inr (d.0, (d.1.0, back d.1.1)) ])),
           λ h. subst (λ (r : RightsSet). IsTrue (has r k)) (sym n.1) h.0,
         )
       ]
@@ -156,7 +161,7 @@ module _ (from : Place) (rights : RightsSet) (with_self : Bool) (old mid new : S
       (record was { later = cut.0 }, cut.1, refl, planned)
 
   -- so the rights are revoked
-  pub revoked : Revokes from rights with_self (of_sheet old) (of_sheet new)
+  pub revoked : LosesRights Lost (of_sheet old) (of_sheet new)
   revoked = record {
     spaces = spaces;
     places = λ q m. (

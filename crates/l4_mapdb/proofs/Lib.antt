@@ -4,6 +4,7 @@ pub mod Nothing
 pub mod Absent
 pub mod EntriesLemmas
 pub mod Chains
+pub mod Leading
 pub mod Filtered
 pub mod Revoking
 pub mod ForestKept
@@ -18,6 +19,7 @@ pub mod Climbing
 pub mod Middle
 pub mod Planned
 pub mod Kept
+pub mod Ranges
 pub mod Ended
 pub mod Cuts
 pub mod Initial

@@ -6,14 +6,14 @@ use Rattle.std.specs.FinMap.{find}
 use Rattle.std.proofs.lemmas.Bool.Decides.{nat_tests}
 use Rattle.std.proofs.lemmas.List.{get_or_past}
 use Rattle.l4_spaces.specs.Tables as tables
-use Rattle.l4_spaces.specs.Tables.{Tables, NonePresentFrom, IsNextPresent}
+use Rattle.l4_spaces.specs.Tables.{Tables, NonePresentFrom, IsNextPresent, NonePresentIn, IsNextIn}
 use Rattle.l4_spaces.proofs.Below.{places_total, tie, untie, apart, decided}
 use Rattle.l4_fpage.specs.Rights.{is_none}
 use Rattle.l4_mapdb.specs.declared.Place.{Place}
 use Rattle.l4_mapdb.specs.declared.Mapping.{Mapping}
 use Rattle.l4_mapdb.specs.declared.store.Node.{Node}
 use Rattle.l4_mapdb.specs.Mappings.{place_cmp}
-use Rattle.l4_mapdb.specs.Sheets.{slot_at, StandsUnder, RecordedOnce, now_in, later_in, settled, shown_only, NoPageFrom, IsPageFrom}
+use Rattle.l4_mapdb.specs.Sheets.{slot_at, StandsUnder, RecordedOnce, now_in, later_in, settled, shown_only, NoPageFrom, IsPageFrom, NoPageIn, IsPageIn}
 use Rattle.l4_mapdb.proofs.Slots.{Slots, slot_within, node_shown, node_later}
 
 abbrev pub Pages : Type 0
@@ -212,6 +212,19 @@ next_named slots t space page (Some next) names h =
     let k = some_key (tables.key_of t space next) h.present in record {
       recorded = (k.0, (names (record { space = space; page = next }) k.0).0 k.1);
       from = h.from;
+      least = λ key n at same le. h.least n.place.page le (ap (λ s. is_some (tables.key_of t s n.place.page)) (sym same) ∙ named_present slots t names key n at);
+    }
+
+pub next_in_named : (slots : Slots) (t : Tables) (space page end : ℕ) (r : Option ℕ) → Names slots t.pages
+    → MatchOption r (NonePresentIn t space page end) (IsNextIn t space page end)
+    → MatchOption r (NoPageIn slots space page end) (IsPageIn slots space page end)
+next_in_named slots t space page end None names h = λ key n at same le lt.
+    h n.place.page le lt (ap (λ s. is_some (tables.key_of t s n.place.page)) (sym same) ∙ named_present slots t names key n at)
+next_in_named slots t space page end (Some next) names h =
+    let k = some_key (tables.key_of t space next) h.present in record {
+      recorded = (k.0, (names (record { space = space; page = next }) k.0).0 k.1);
+      from = h.from;
+      before = h.before;
       least = λ key n at same le. h.least n.place.page le (ap (λ s. is_some (tables.key_of t s n.place.page)) (sym same) ∙ named_present slots t names key n at);
     }
 

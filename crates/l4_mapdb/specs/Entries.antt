@@ -1,10 +1,11 @@
 -- Places with what they show as a list, and what an item and a loss of rights make of one of them. (this profile's own)
-use Rattle.std.specs.Prelude.{◌≡◌, ℕ, None, ◌⊎◌, Bool, not, ◌==◌, ◌&&◌, nat_le, nat_lt, ◌+◌, ◌-◌, ◌^◌, IsTrue, if◌then◌else◌, List, Option, Some, option_and_then}
+use Rattle.std.specs.Prelude.{◌≡◌, ℕ, ◌≤◌, None, ◌⊎◌, Bool, not, ◌==◌, ◌&&◌, nat_le, nat_lt, ◌+◌, ◌-◌, ◌^◌, IsTrue, if◌then◌else◌, List, Option, Some, option_and_then}
 use Rattle.l4_fpage.specs.Rights.{RightsSet, without, is_none, common}
 use Rattle.std.specs.FinMap.{find}
 use Rattle.l4_mapdb.specs.declared.Place.{Place}
 use Rattle.l4_mapdb.specs.declared.Mapping.{Mapping}
 use Rattle.l4_mapdb.specs.declared.ItemMove.{ItemMove}
+use Rattle.l4_mapdb.specs.declared.losing.Pages.{Pages}
 use Rattle.l4_mapdb.specs.Mappings.{place_cmp, Chain}
 
 abbrev pub Entries : Type 0
@@ -27,9 +28,17 @@ pub record IsCutEntry (Covered : Place → Type 0) (rights : RightsSet) (old new
       (Covered old.0 × (new.1.rights ≡ without old.1.rights rights))
       ⊎ (¬ (Covered old.0) × (new.1.rights ≡ old.1.rights))
 
--- the place descends from the other, or is the other and that one is meant too
-abbrev pub CoveredIn : Entries → Place → Bool → Place → Type 0
-CoveredIn es from with_self place = (IsTrue with_self × (place ≡ from)) ⊎ Chain (parent_in es) place from
+-- the place is one of these pages
+abbrev pub IsAmong : Pages → Place → Type 0
+IsAmong pages place = (place.space ≡ pages.space) × ((pages.first ≤ place.page) × (place.page ≤ pages.last))
+
+-- a chain of parents leads from the place to one of these pages
+abbrev pub LeadsInto : Entries → Pages → Place → Type 0
+LeadsInto es pages place = (own : Place) × (IsAmong pages own × Chain (parent_in es) place own)
+
+-- the place descends from one of these pages, or is one of them and they are meant too
+abbrev pub CoveredIn : Entries → Pages → Bool → Place → Type 0
+CoveredIn es pages with_self place = (IsTrue with_self × IsAmong pages place) ⊎ LeadsInto es pages place
 
 -- the item moves the entry: it is of the sender's space and in the item's block, and shares a right with it
 abbrev pub moves_it : ℕ → ItemMove → Place × Mapping → Bool

@@ -1,6 +1,7 @@
 -- Rights that places lose, and places that go with their last right or with their space. (L4 X.2 manual, Unmap; that a place goes with its last right, and the end of a space, are this profile's own)
 use Rattle.std.specs.Prelude.{◌≡◌, ℕ, ◌↔◌, Bool, Some, IsTrue, ◌⊎◌}
 use Rattle.std.specs.FinSet as set
+use Rattle.l4_fpage.specs.Pages.{InBlock}
 use Rattle.l4_fpage.specs.Rights.{RightsSet, Right, has, no_rights}
 use Rattle.l4_mapdb.specs.declared.Place.{Place}
 use Rattle.l4_mapdb.specs.declared.Mapping.{Mapping}
@@ -27,6 +28,14 @@ RevokedAt old from rights with_self place right =
 
 abbrev pub Revokes : Place → RightsSet → Bool → Mappings → Mappings → Type 0
 Revokes from rights with_self old new = LosesRights (RevokedAt old from rights with_self) old new
+
+-- what a revocation of any page of the block would take
+abbrev pub RevokedInBlock : Mappings → ℕ → ℕ → ℕ → RightsSet → Bool → Place → Right → Type 0
+RevokedInBlock old space first log rights with_self place right =
+    (page : ℕ) × InBlock first log page × RevokedAt old (record { space = space; page = page }) rights with_self place right
+
+abbrev pub RevokesBlock : ℕ → ℕ → ℕ → RightsSet → Bool → Mappings → Mappings → Type 0
+RevokesBlock space first log rights with_self old new = LosesRights (RevokedInBlock old space first log rights with_self) old new
 
 -- the place is one of the space's or descends from one
 abbrev pub GoesWithSpace : Mappings → ℕ → Place → Type 0

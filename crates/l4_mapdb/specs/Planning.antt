@@ -1,14 +1,15 @@
 -- What the code says of the records while a message is delivered, rights are lost or a space ends. (this profile's own)
-use Rattle.std.specs.Prelude.{◌≡◌, ℕ, ◌<◌, ◌⊎◌, ◌↔◌, List, Option, Some, None, IsTrue, MatchOption}
+use Rattle.std.specs.Prelude.{◌≡◌, ℕ, ◌<◌, ◌⊎◌, ◌↔◌, List, Option, Some, None, IsTrue, MatchOption, Bool}
 use Rattle.std.specs.FinMap.{find}
 use Rattle.std.specs.FinSet as set
 use Rattle.l4_fpage.specs.Rights.{RightsSet, Right, has, all_rights}
 use Rattle.l4_mapdb.specs.declared.Place.{Place}
 use Rattle.l4_mapdb.specs.declared.Mapping.{Mapping}
 use Rattle.l4_mapdb.specs.declared.ItemMove.{ItemMove}
+use Rattle.l4_mapdb.specs.declared.losing.Pages.{Pages}
 use Rattle.l4_mapdb.specs.declared.store.Node.{Node}
-use Rattle.l4_mapdb.specs.Mappings.{place_cmp, Mappings, Chain, IsForest}
-use Rattle.l4_mapdb.specs.Entries.{Entries, parent_in, IsCutEntry}
+use Rattle.l4_mapdb.specs.Mappings.{place_cmp, Mappings, Chain, Descends, IsForest}
+use Rattle.l4_mapdb.specs.Entries.{Entries, parent_in, IsAmong, IsCutEntry}
 use Rattle.l4_mapdb.specs.Transfer.{PageMove, IsUsed, IsEntangled, Becomes, NeedsPlace}
 use Rattle.l4_mapdb.specs.Shown.{IsShownBy}
 use Rattle.l4_mapdb.specs.Sheets.{slot_at, StandsUnder, HasRecord, now_in}
@@ -76,6 +77,11 @@ IsCutMapping Covered rights place (Some m) new = (later : Mapping) × (new ≡ S
 abbrev pub CutsSlot : (Place → Type 0) → RightsSet → Option Node → Option Node → Type 0
 CutsSlot Covered rights None new = new ≡ None
 CutsSlot Covered rights (Some n) new = (later : Option Mapping) × (new ≡ Some (record n { later = later })) × IsCutMapping Covered rights n.place n.shows later
+
+-- the rights go from all that descends from these pages, and from the pages too where they are meant
+abbrev pub RevokedIn : Mappings → Pages → RightsSet → Bool → Place → Right → Type 0
+RevokedIn old pages rights with_self place right =
+    IsTrue (has rights right) × ((IsTrue with_self × IsAmong pages place) ⊎ ((own : Place) × (IsAmong pages own × Descends old place own)))
 
 -- the place is of the space or descends from a place of it
 abbrev pub GoesIn : Entries → ℕ → Place → Type 0

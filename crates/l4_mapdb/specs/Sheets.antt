@@ -1,5 +1,5 @@
 -- What a contract sees of the records of places: what stands under each key (this profile's own).
-use Rattle.std.specs.Prelude.{◌≡◌, ◌≢◌, ℕ, ◌≤◌, List, Option, Some, None, option_and_then, option_map, slice_index_or, filter_map, if◌then◌else◌, is_some, refl}
+use Rattle.std.specs.Prelude.{◌≡◌, ◌≢◌, ℕ, ◌<◌, ◌≤◌, List, Option, Some, None, option_and_then, option_map, slice_index_or, filter_map, if◌then◌else◌, is_some, refl}
 use Rattle.std.specs.Ordering.{nat_cmp}
 use Rattle.std.specs.Coded.{Coded, code_by, coded×, coded_ℕ, coded_list, coded_option}
 use Rattle.std.specs.FinSet as set
@@ -83,4 +83,15 @@ NoPageFrom slots space page = (key : ℕ) (n : Node) → slot_at slots key ≡ S
 pub record IsPageFrom (slots : List (Option Node)) (space page next : ℕ) : Type 0 where
   pub recorded : HasRecord slots (record { space = space; page = next })
   pub from : page ≤ next
+  pub least : (key : ℕ) (n : Node) → slot_at slots key ≡ Some n → n.place.space ≡ space → page ≤ n.place.page → next ≤ n.place.page
+
+-- no page of the space from this one on and below the end has a record
+abbrev pub NoPageIn : List (Option Node) → ℕ → ℕ → ℕ → Type 0
+NoPageIn slots space page end = (key : ℕ) (n : Node) → slot_at slots key ≡ Some n → n.place.space ≡ space → page ≤ n.place.page → n.place.page < end → ⊥
+
+-- the least page of the space with a record that is not below this one, and it is below the end
+pub record IsPageIn (slots : List (Option Node)) (space page end next : ℕ) : Type 0 where
+  pub recorded : HasRecord slots (record { space = space; page = next })
+  pub from : page ≤ next
+  pub before : next < end
   pub least : (key : ℕ) (n : Node) → slot_at slots key ≡ Some n → n.place.space ≡ space → page ≤ n.place.page → next ≤ n.place.page

@@ -18,6 +18,7 @@ mod tests;
 use l4_fpage::{Block, Rights};
 use l4_msg::Move;
 pub use l4_spaces::NoMemory;
+use losing::Pages;
 use std::alloc::Global;
 use std::marker::Model;
 use store::Store;
@@ -113,7 +114,8 @@ impl Forest {
     ghost use Rattle.l4_mapdb.specs.Places.{NonePresentFrom, IsNextPresent};
     ghost use Rattle.l4_mapdb.specs.Transfer.{IsUsed, IsEntangled, TargetsPresent, Delivers};
     ghost use Rattle.l4_mapdb.specs.Causes.{HasCause};
-    ghost use Rattle.l4_mapdb.specs.Losing.{Revokes, EndsSpace};
+    ghost use Rattle.l4_mapdb.specs.Losing.{LosesRights, Revokes, RevokesBlock, EndsSpace};
+    ghost use Rattle.l4_mapdb.specs.Planning.{RevokedIn};
 
     /// The mappings at the start: space 0 shows each frame below `frames` at the page of its number
     /// with all rights, and there is no other space. `frames` is from 1 to 4,096.
@@ -208,7 +210,38 @@ impl Forest {
         ensures revokes { Revokes from rights with_self self.old self.new }
         ensures absent { shown self.old from ≡ None → self.new ≡ self.old }
     {
-        losing::cut(&mut self.store, from, rights, with_self);
+        self.law_forest();
+        let pages = Pages {
+            space: from.space,
+            first: from.page,
+            last: from.page,
+        };
+        self.revoke_pages(&pages, rights, with_self);
+    }
+
+    /// Takes the rights from all that descends from a page of the block in the space, and from these pages too
+    /// where that is asked. A place goes with its last right. Nothing changes if no page of the block is present.
+    pub fn revoke_block(&mut self, space: u64, block: Block, rights: Rights, with_self: bool)
+        ensures { RevokesBlock space block.first block.log rights with_self self.old self.new }
+    {
+        self.law_forest();
+        let end = block.first + (1 << block.log);
+        let Some(_) = self.store.next_in(space, block.first, end) else {
+            return;
+        };
+        let pages = Pages {
+            space,
+            first: block.first,
+            last: end - 1,
+        };
+        self.revoke_pages(&pages, rights, with_self);
+    }
+
+    /// Takes the rights from all that descends from these pages, and from the pages too where they are meant.
+    fn revoke_pages(&mut self, pages: &Pages, rights: Rights, with_self: bool)
+        ensures { LosesRights (RevokedIn self.old pages.now rights with_self) self.old self.new }
+    {
+        losing::cut(&mut self.store, pages, rights, with_self);
         self.store.settle();
     }
 

@@ -6,7 +6,7 @@ ghost use Rattle.std.specs.FinSet as set;
 ghost use Rattle.l4_spaces.specs.Tables.{IsPage};
 ghost use Rattle.l4_mapdb.specs.Mappings.{place_cmp};
 ghost use Rattle.l4_mapdb.specs.Entries.{parent_in};
-ghost use Rattle.l4_mapdb.specs.Sheets.{slot_at, StandsUnder, HasRecord, RecordedOnce, IsWhole, now_in, later_in, Adds, Plans, settled, shown_only, NoPageFrom, IsPageFrom};
+ghost use Rattle.l4_mapdb.specs.Sheets.{slot_at, StandsUnder, HasRecord, RecordedOnce, IsWhole, now_in, later_in, Adds, Plans, settled, shown_only, NoPageFrom, IsPageFrom, NoPageIn, IsPageIn};
 
 use crate::{Mapping, NoMemory, Place};
 use l4_spaces::Spaces;
@@ -148,6 +148,13 @@ impl Store {
         ensures { MatchOption result (NoPageFrom self.now.slots space page) (IsPageFrom self.now.slots space page) }
     {
         self.pages.next_present(space, page)
+    }
+
+    /// The least page of the space with a record that is not below `page`, if it is below `end`.
+    pub fn next_in(&self, space: u64, page: u32, end: u32) -> Option<u32>
+        ensures { MatchOption result (NoPageIn self.now.slots space page end) (IsPageIn self.now.slots space page end) }
+    {
+        self.pages.next_in(space, page, end)
     }
 
     /// Adds a record that shows this for the place, unless it has one.

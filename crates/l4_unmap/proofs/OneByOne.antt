@@ -12,7 +12,8 @@ use Rattle.l4_mapdb.specs.Mappings.{Mappings, IsForest}
 use Rattle.l4_unmap.specs.Unmap.{UnmapReads, LosesTo, Unmaps}
 use Rattle.l4_unmap.specs.Taking.{GoesWith, Takes, BlockNames}
 use Rattle.l4_mapdb.proofs.Nothing.{loses_none}
-use Rattle.l4_unmap.proofs.Together.{loses_both, loses_along}
+use Rattle.l4_mapdb.proofs.Ranges.{loses_along}
+use Rattle.l4_unmap.proofs.Together.{loses_both}
 use Rattle.l4_unmap.proofs.Under.{under_kept, under_was}
 use Rattle.l4_unmap.proofs.UnmapKeeps.{unmaps_keep}
 

@@ -50,29 +50,3 @@ module _ (Lost : Place → Right → Type 0) (old new : Mappings) (loses : Loses
   pub under_was : (space : ℕ) (own : Bool) (page : ℕ) (q : Place) → IsUnder new space own page q → IsUnder old space own page q
   under_was space own page q (inl self) = inl self
   under_was space own page q (inr chain) = inr (chain_was chain)
-
--- a forest stays one
-pub takes_keep : (Named : ℕ → Right → Type 0) (space : ℕ) (own : Bool) (old new : Mappings) → IsForest old → Takes Named space own old new → IsForest new
-takes_keep Named space own old new forest takes =
-    forest_kept (GoesWith Named space own old) old new
-    (λ low high k up lost. (lost.0, lost.1, under_down old space own lost.0 low high up lost.2))
-    (forest_loose (GoesWith Named space own old) old forest) takes
-
--- two takings are one, which names what the one or the other names of each page that is there between them
-pub takes_both : (First Second Both : ℕ → Right → Type 0) (space : ℕ) (own : Bool) (old mid new : Mappings) → IsForest old
-    → Takes First space own old mid → Takes Second space own mid new
-    → ((page : ℕ) (k : Right) → First page k → Both page k)
-    → ((page : ℕ) (k : Right) → Second page k → Both page k)
-    → ((page : ℕ) (m : Mapping) → shown mid (page_of space page) ≡ Some m → (k : Right) → Both page k → First page k ⊎ Second page k)
-    → Takes Both space own old new
-takes_both First Second Both space own old mid new forest first second from_first from_second from_both =
-    let kept : IsForest mid = takes_keep First space own old mid forest first in
-    loses_both (GoesWith First space own old) (GoesWith Second space own mid) (GoesWith Both space own old) old mid new first second
-    (λ q k l. (l.0, from_first l.0 k l.1, l.2))
-    (λ q m at k l. (l.0, from_second l.0 k l.1, under_was (GoesWith First space own old) old mid first kept space own l.0 q l.2))
-    (λ q m at k l.
-    let w = under_kept (GoesWith First space own old) old mid first kept space own l.0 q l.2 m at in
-    elim (from_both l.0 w.1.0 w.1.1 k l.1) [
-      | inl x ↦ inl (l.0, x, l.2)
-      | inr x ↦ inr (l.0, x, w.0)
-    ])

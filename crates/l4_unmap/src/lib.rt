@@ -5,13 +5,12 @@ ghost use Rattle.std.specs.Prelude.{◌≡◌, ◌<◌, ◌≤◌, ◌∷◌, []
 ghost use Rattle.l4_mapdb.specs.Mappings.{IsForest};
 ghost use Rattle.l4_fpage.specs.Fpages.{ReadsAs};
 ghost use Rattle.l4_unmap.specs.Unmap.{fpage_count, with_own, UnmapReads, UnmapFails, Unmaps};
-ghost use Rattle.l4_unmap.specs.Taking.{Takes, BlockNames};
 
 #[cfg(test)]
 mod tests;
 
-use l4_fpage::{Block, Fpage, Rights};
-use l4_mapdb::{Forest, Place};
+use l4_fpage::Fpage;
+use l4_mapdb::Forest;
 
 /// Why an Unmap is refused.
 #[derive(Clone, Copy, Debug, PartialEq, Eq)]
@@ -98,25 +97,6 @@ fn unmap_word(forest: &mut Forest, space: u64, own: bool, word: u32)
         return;
     };
     if let Some(block) = fpage.pages() {
-        revoke_block(forest, space, own, block, fpage.rights());
-    }
-}
-
-/// Takes the rights from all that descends from the block's pages of the space, and from these too where they are meant.
-fn revoke_block(forest: &mut Forest, space: u64, own: bool, block: Block, rights: Rights)
-    requires { IsForest forest.old }
-    ensures { Takes (BlockNames block.first block.log rights) space own forest.old forest.new }
-{
-    let end = block.first + (1 << block.log);
-    let mut from = block.first;
-    loop {
-        let Some(page) = forest.next_present(space, from) else {
-            return;
-        };
-        if page >= end {
-            return;
-        }
-        forest.revoke(Place { space, page }, rights, own);
-        from = page + 1;
+        forest.revoke_block(space, block, fpage.rights(), own);
     }
 }
