@@ -1,7 +1,6 @@
 -- The machine's steps. From one state a step may give an answer, or a refusal, and go on to another state.
 -- (L4 X.2 manual: IPC, ThreadControl, Unmap; the step as one atomic event is this profile's own.)
 use Rattle.std.specs.Prelude.{◌≡◌, ◌≢◌, ℕ, ◌⊎◌, Bool, true, false, if◌then◌else◌, List, [], ◌∷◌, ◌++◌, drop, slice_index, ◌↔◌, Contains, IsTrue, Some, Result, Ok, Err}
-use Rattle.std.specs.Option.{option_map}
 use Rattle.std.specs.List.Sorted.{IsStrictlyIncreasing}
 use Rattle.std.specs.FinSet as set
 use Rattle.l4_fpage.specs.declared.fpages.Fpage.{Fpage}
@@ -15,8 +14,8 @@ use Rattle.l4_threads.specs.declared.Reply.TheVariants.{Ipc as IpcReply, Answere
 use Rattle.l4_threads.specs.declared.State.{State}
 use Rattle.l4_threads.specs.declared.State.TheVariants.{Running, Sending as IsSender, Receiving as IsReceiver}
 use Rattle.l4_threads.specs.declared.Thread.{Thread}
-use Rattle.l4_threads.specs.Threads.{Threads, thread_at, state_of, space_of, runs, is_running, failed, end_call}
-use Rattle.l4_threads.specs.Control.{create_test, created, asks_new, set_pager_test, with_pager, delete_test, Deletes}
+use Rattle.l4_threads.specs.Threads.{Threads, thread_at, state_of, runs, is_running, failed, end_call}
+use Rattle.l4_threads.specs.Control.{create_test, created, asks_new, set_pager_test, with_pager, delete_test, Deletes, waits, IsEndedBy, HasEnded}
 use Rattle.l4_threads.specs.Enabled.{IsFirstSender, CanExpire, IsNextTransfer, IsNextExpiry}
 use Rattle.l4_ipc.specs.declared.calls.Call.{Call}
 use Rattle.l4_ipc.specs.declared.calls.Call.TheVariants.{Ipc, Fault, Unmap, Control as Controls}
@@ -40,23 +39,14 @@ use Rattle.l4_ipc.specs.Moving.{Moves}
 
 -- the thread waits
 abbrev pub Waits : Machine → ℕ → Type 0
-Waits m n = option_map is_running (state_of m.threads n) ≡ Some false
-
--- the other thread's call ended as this one was deleted: it waited for that one, or is that one
-abbrev pub IsEndedBy : Machine → Machine → ℕ → ℕ → Type 0
-IsEndedBy old new victim n =
-    ((n ≡ victim) × Waits old n) ⊎ ((n ≢ victim) × Waits old n × (option_map is_running (state_of new.threads n) ≡ Some true))
+Waits m n = waits m.threads n
 
 -- the ended calls of a Delete: the caller, then the others by rising number
 pub record IsDeleteList (caller victim : ℕ) (old new : Machine) (ended : List ℕ) : Type 0 where
   pub others : List ℕ
   pub list : ended ≡ caller ∷ others
   pub rising : IsStrictlyIncreasing others
-  pub each : (n : ℕ) → Contains others n ↔ IsEndedBy old new victim n
-
--- the space has no thread left
-abbrev pub HasEnded : Threads → ℕ → Type 0
-HasEnded t space = (n : ℕ) → space_of t n ≢ Some space
+  pub each : (n : ℕ) → Contains others n ↔ IsEndedBy old.threads new.threads victim n
 
 -- the thread is deleted, and its space ends with its last thread
 pub record DeletesThread (caller victim space : ℕ) (old new : Machine) : Type 0 where

@@ -16,7 +16,7 @@ use crate::calls::{Call, Control, Create, FaultCall, IpcCall, SetPager, UnmapCal
 use crate::deleting::delete;
 use crate::delivering::{deliver, is_done, meet, receiver_reply, sender_next};
 use crate::faulting::fault_next;
-use crate::starting::{enter, failed, ipc_next};
+use crate::starting::{enter, ipc_next};
 use crate::steps::{Answer, Lower, Outcome, Refused};
 use arrayvec::ArrayVec;
 use l4_mapdb::{Forest, NoMemory};
@@ -226,9 +226,9 @@ fn expiry(state: &State) -> Reply
     ensures { result ≡ expiry state.now }
 {
     match state {
-        State::Running(_) => failed(false, 0),
-        State::Sending(sending) => failed(sending.fault, 2),
-        State::Receiving(receiving) => failed(receiving.fault, 3),
+        State::Running(_) => Reply::failed(false, 0),
+        State::Sending(sending) => Reply::failed(sending.fault, 2),
+        State::Receiving(receiving) => Reply::failed(receiving.fault, 3),
     }
 }
 

@@ -9,13 +9,12 @@ ghost use Rattle.l4_ipc.specs.Delivering.{IsListed, outcome_of};
 ghost use Rattle.l4_ipc.specs.Steps.{Meets, received, receiver_reply, sender_next, is_done};
 
 use crate::next::Next;
-use crate::reading::copied;
-use crate::starting::{failed, going_on};
+use crate::starting::going_on;
 use crate::steps::Outcome;
 use arrayvec::ArrayVec;
 use l4_fpage::{Block, Fpage, Rights};
 use l4_mapdb::{Cause, Forest, ItemMove};
-use l4_msg::{Item, MAX_ITEMS, Move, item_moves};
+use l4_msg::{Item, MAX_ITEMS, Move, copied, item_moves};
 use l4_threads::{IpcReply, Receiving, Reply, Sending, State, Thread, Threads};
 
 /// The two threads of an enabled transfer, and what each does.
@@ -84,7 +83,7 @@ pub fn receiver_reply(done: bool, from: &Thread, sends: &Sending, takes: &Receiv
     if done {
         received(from, sends, takes)
     } else {
-        failed(takes.fault, 9)
+        Reply::failed(takes.fault, 9)
     }
 }
 
@@ -95,7 +94,7 @@ pub fn sender_next(done: bool, threads: &Threads, sends: &Sending) -> Next
     if done {
         going_on(threads, sends.then, sends.fault)
     } else {
-        Next::Ends(failed(sends.fault, 8))
+        Next::Ends(Reply::failed(sends.fault, 8))
     }
 }
 

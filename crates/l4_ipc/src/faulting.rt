@@ -6,9 +6,9 @@ ghost use Rattle.l4_ipc.specs.Start.{has_page, fault_words, fault_next};
 
 use crate::calls::FaultCall;
 use crate::next::Next;
-use crate::starting::{failed, partner};
+use crate::starting::partner;
 use arrayvec::ArrayVec;
-use l4_fpage::{Fpage, Rights};
+use l4_fpage::{Fpage, PAGE_LOG, Rights};
 use l4_mapdb::Forest;
 use l4_threads::{Later, Reply, Sending, ThreadId, Threads};
 
@@ -29,7 +29,7 @@ fn rights_at(forest: &Forest, space: u64, page: u32) -> Rights
 fn has_page(forest: &Forest, space: u64, call: &FaultCall) -> bool
     ensures { result ≡ has_page forest.now space call.now }
 {
-    let rights = rights_at(forest, space, call.address >> 12);
+    let rights = rights_at(forest, space, call.address >> PAGE_LOG);
     rights.contains(call.access) && !rights.is_empty()
 }
 
@@ -78,6 +78,6 @@ pub fn fault_next(
             }),
             fault: true,
         }),
-        None => Next::Ends(failed(true, 4)),
+        None => Next::Ends(Reply::failed(true, 4)),
     }
 }

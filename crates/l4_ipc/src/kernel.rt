@@ -5,16 +5,10 @@ ghost use Rattle.l4_mapdb.specs.declared.Place.{Place};
 
 use crate::acting::{expire, start, transfer};
 use crate::steps::{Answer, Lower, Refused, Step};
-use l4_mapdb::{Forest, Mapping, NoMemory};
-use l4_threads::{Reply, State, Threads};
+use l4_mapdb::{Forest, MAX_FRAMES, Mapping, NoMemory};
+use l4_threads::{ROOT_SPACE, Reply, State, Threads};
 use std::alloc::Global;
 use std::marker::Model;
-
-/// The greatest number of frames.
-const MAX_FRAMES: u32 = 4096;
-
-/// The space of root.
-const ROOT_SPACE: u64 = 1;
 
 /// The kernel: its threads and the mappings of their spaces.
 #[derive(Drop)]

@@ -9,7 +9,7 @@ use crate::sent::Sent;
 use crate::steps::{Lower, Refused};
 use arrayvec::ArrayVec;
 use l4_fpage::Fpage;
-use l4_msg::{Acceptor, Item, Message, MsgFault, Tag};
+use l4_msg::{Acceptor, Item, Message, MsgFault, Tag, copied};
 use l4_threads::Later;
 
 /// Whether a timeout is never or zero.
@@ -17,18 +17,6 @@ fn is_timeout(timeout: u32) -> bool
     ensures { result ≡ is_timeout timeout }
 {
     timeout == 0 || timeout == ZERO_TIMEOUT
-}
-
-/// A copy of a few words.
-pub fn copied(words: &[u32]) -> ArrayVec<u32, 64>
-    requires { length words.now ≤ 64 }
-    ensures { result.items ≡ words.now }
-{
-    let mut copy = ArrayVec::new();
-    for word in words {
-        copy.push(*word);
-    }
-    copy
 }
 
 impl IpcCall {

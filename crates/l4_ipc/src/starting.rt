@@ -1,6 +1,5 @@
 //! What a thread does next as a call starts or goes on.
 ghost use Rattle.std.specs.Prelude.{◌≡◌, ◌<◌, ◌≤◌, length};
-ghost use Rattle.l4_threads.specs.Threads.{failed};
 ghost use Rattle.l4_ipc.specs.Start.{receiving, going_on, partner, ipc_next, enters, ended_by, CanEnter};
 
 use crate::calls::IpcCall;
@@ -9,24 +8,6 @@ use crate::sent::Sent;
 use arrayvec::ArrayVec;
 use l4_fpage::Fpage;
 use l4_threads::{IpcReply, Later, Receiving, Reply, Sending, Source, ThreadId, Threads};
-
-/// The tag of the reply of an Ipc that failed.
-const ERROR_TAG: u32 = 0x8000;
-
-/// What a call that failed with this ErrorCode replies.
-pub fn failed(fault: bool, code: u32) -> Reply
-    ensures { result ≡ failed fault code }
-{
-    if fault {
-        return Reply::FaultFailed(code);
-    }
-    Reply::Ipc(IpcReply {
-        tag: ERROR_TAG,
-        error: code,
-        from: ThreadId::nil(),
-        words: ArrayVec::new(),
-    })
-}
 
 /// What a thread does as its receive phase begins.
 fn receiving(threads: &Threads, later: Later, fault: bool) -> Next
@@ -37,7 +18,7 @@ fn receiving(threads: &Threads, later: Later, fault: bool) -> Next
     } else {
         match threads.named(later.from) {
             Some(number) => Source::Thread(number),
-            None => return Next::Ends(failed(fault, 5)),
+            None => return Next::Ends(Reply::failed(fault, 5)),
         }
     };
     Next::Receives(Receiving {
@@ -94,7 +75,7 @@ pub fn ipc_next(threads: &Threads, number: u32, call: &IpcCall, sent: Sent, wind
             then: later,
             fault: false,
         }),
-        None => Next::Ends(failed(false, 4)),
+        None => Next::Ends(Reply::failed(false, 4)),
     }
 }
 

@@ -4,8 +4,9 @@
 mod planner;
 mod plans;
 
+pub use l4_msg::TOO_MANY;
 pub use planner::plan;
-pub use plans::{Plan, PlanRefusal, TOO_MANY};
+pub use plans::{Plan, PlanRefusal};
 
 #[cfg(test)]
 mod tests;

@@ -6,13 +6,10 @@ ghost use Rattle.l4_msg.specs.Regions.{IsEmpty, InSpace, IsOutOfSpace, HasNoRigh
 ghost use Rattle.l4_plan.specs.Refusals.{IfTooLong};
 ghost use Rattle.l4_plan.specs.Largest.{IsLargest, AreStarts};
 
-use crate::plans::{Plan, PlanRefusal, TOO_MANY};
+use crate::plans::{Plan, PlanRefusal};
 use arrayvec::ArrayVec;
-use l4_fpage::{Block, Fpage, PAGE_LOG, SPACE_LOG};
-use l4_msg::{Item, Region};
-
-/// The pages of a space.
-const SPACE_PAGES: u32 = 1 << SPACE_LOG;
+use l4_fpage::{Block, Fpage, PAGE_LOG, SPACE_PAGES};
+use l4_msg::{Item, Region, TOO_MANY};
 
 /// The log of the largest power of two, up to 2^32, that divides both pages.
 #[tactic(auto, using(l4_fpage::proofs::Powers::trailing_aligned, l4_fpage::proofs::Powers::aligned_trailing))]

@@ -2,11 +2,8 @@ ghost use Rattle.std.specs.Prelude.{◌≡◌, []};
 ghost use Rattle.l4_msg.specs.Messages.{CanBeWritten};
 
 use arrayvec::ArrayVec;
-use l4_msg::{Item, MAX_ITEMS, Message};
+use l4_msg::{Item, MAX_ITEMS, Message, TOO_MANY};
 use std::marker::Model;
-
-/// How many pages show that a plan is too long, each needing an item of its own: one more than the items of a message.
-pub const TOO_MANY: usize = MAX_ITEMS + 1;
 
 /// Map items that together move exactly a region, 1 to 31 of them, in rising order of source. With each goes its
 /// first source page; no allowed block holds two of these pages, so no list of map items that moves the region is

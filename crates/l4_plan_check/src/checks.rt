@@ -6,14 +6,8 @@ ghost use Rattle.l4_plan_check.specs.declared.faults.Fault.{Fault as AFault};
 use crate::faults::{Fault, Proved};
 use crate::items::{first_bad, first_gap};
 use crate::pages::page_fault;
-use l4_fpage::SPACE_LOG;
-use l4_msg::{Item, MAX_ITEMS, Region};
-
-/// The pages of a space.
-const SPACE_PAGES: u32 = 1 << SPACE_LOG;
-
-/// How many pages show that a plan is too long: one more than the items of a message.
-const TOO_MANY: usize = MAX_ITEMS + 1;
+use l4_fpage::SPACE_PAGES;
+use l4_msg::{Item, MAX_ITEMS, Region, TOO_MANY};
 
 /// Whether the region has a page, all its pages are in the space, and it has rights.
 fn is_sound(region: &Region) -> bool

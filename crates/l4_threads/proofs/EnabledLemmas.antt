@@ -63,13 +63,6 @@ offer_target (Some (Sends x)) (Some (Running reply)) s r h = absurd (false≢tru
 offer_target (Some (Sends x)) (Some (Sends y)) s r h = absurd (false≢true h)
 offer_target (Some (Sends x)) (Some (Receives y)) s r h = ap (λ n. Some n) (same_of x.to r (and_true (x.to == r) (takes_from y.«from» s) h).0)
 
--- nobody offers to a thread that sends
-no_offer_to_sender : (a : Option State) (x : Sending) (s r : ℕ) → offers_to a (Some (Sends x)) s r ≡ true → ⊥
-no_offer_to_sender None x s r h = false≢true h
-no_offer_to_sender (Some (Running reply)) x s r h = false≢true h
-no_offer_to_sender (Some (Sends y)) x s r h = false≢true h
-no_offer_to_sender (Some (Receives y)) x s r h = false≢true h
-
 pub taker_offers : (t : Threads) (s r : ℕ) → taker t s ≡ Some r → Offers t s r
 taker_offers t s r h =
     elim (target_of (state_of t s)) as (λ o. option_and_then (λ n. if offers_to (state_of t s) (state_of t n) s n then Some n else None) o ≡ Some r → Offers t s r) [
@@ -149,42 +142,6 @@ module _ (t : Threads) (holds : IsConsistent t) where
     test_same (Some n) t = ap (λ x. Some x) (same_of n s t)
 
 -- WHO CAN EXPIRE
-
-pub expires_sending : (t : Threads) (n : ℕ) (x : Sending) → state_of t n ≡ Some (Sends x) → CanExpire t n ↔ (IsTrue x.expires × ¬ (IsFirstSender t x.to n))
-expires_sending t n x at = (
-  λ can.
-      let k : ◌≡◌ {A = Option State} (Some can.state) (Some (Sends x)) = sym can.at ∙ at in
-      let v : can.state ≡ Sends x = cc in
-      (ap expires (sym v) ∙ can.zero, can.sends_none x.to),
-  λ h. record {
-    state = Sends x;
-    at = at;
-    zero = h.0;
-    sends_none = λ other first.
-        let k : ◌≡◌ {A = Option ℕ} (Some x.to) (Some other) = sym (ap target_of at) ∙ offer_target (state_of t n) (state_of t other) n other first.offers in
-        let v : other ≡ x.to = cc in
-        h.1 (subst (λ r. IsFirstSender t r n) v first);
-    receives_none = λ other first. no_offer_to_sender (state_of t other) x other n (ap (λ o. offers_to (state_of t other) o other n) (sym at) ∙ first.offers);
-  },
-)
-
-pub expires_receiving : (t : Threads) (n : ℕ) (x : Receiving) → state_of t n ≡ Some (Receives x) → CanExpire t n ↔ (IsTrue x.expires × ((s : ℕ) → ¬ (IsFirstSender t n s)))
-expires_receiving t n x at = (
-  λ can.
-      let k : ◌≡◌ {A = Option State} (Some can.state) (Some (Receives x)) = sym can.at ∙ at in
-      let v : can.state ≡ Receives x = cc in
-      (ap expires (sym v) ∙ can.zero, can.receives_none),
-  λ h. record {
-    state = Receives x;
-    at = at;
-    zero = h.0;
-    sends_none = λ other first. false≢true (ap (λ o. offers_to o (state_of t other) n other) (sym at) ∙ first.offers);
-    receives_none = h.1;
-  },
-)
-
-pub never_expires : (t : Threads) (n : ℕ) → option_map_or expires (state_of t n) false ≡ false → ¬ (CanExpire t n)
-never_expires t n h can = false≢true (sym h ∙ ap (λ o. option_map_or expires o false) can.at ∙ can.zero)
 
 -- the least so far, of the entries before a place, that can expire
 abbrev pub LeastSoFar : Threads → Entries → ℕ → Option ℕ → Type 0

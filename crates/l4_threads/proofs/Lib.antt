@@ -5,5 +5,4 @@ pub mod ViewLemmas
 pub mod EnabledLemmas
 pub mod BootLemmas
 pub mod ControlLemmas
-pub mod StepLemmas
 pub mod DeleteLemmas

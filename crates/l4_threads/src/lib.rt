@@ -7,7 +7,7 @@ mod table;
 use arrayvec::ArrayVec;
 use l4_fpage::Fpage;
 use l4_msg::Item;
-pub use table::Threads;
+pub use table::{ROOT_SPACE, Threads};
 
 /// The bits of a thread number.
 const NUMBER_BITS: u32 = 18;

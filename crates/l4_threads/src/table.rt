@@ -13,7 +13,7 @@ use arrayvec::ArrayVec;
 use std::marker::Model;
 
 /// The number of the root space.
-const ROOT_SPACE: u64 = 1;
+pub const ROOT_SPACE: u64 = 1;
 
 /// The greatest number of a space.
 const LAST_SPACE: u64 = u64::MAX - 1;
