@@ -7,26 +7,25 @@
 ghost use Rattle.std.specs.Prelude.{◌≤◌};
 
 use l4_msg::Region;
-use l4_plan_lines::{check_lines, plan_lines};
-use l4_shell::{OptionFault, Options, RunFault, options, run};
-use std::alloc::AllocError;
-use std::io::ErrorKind;
+use l4_options::{NO_MEMORY, Options, STREAM_FAILED, command_words, failed, misread, show};
+use l4_shell::{RunFault, check_lines, options, plan_lines, run};
+use std::io;
 use std::process::ExitCode;
 use std::rt::Env;
-use std::{env, io};
 
 const NOT_PROVED: u8 = 1;
 
-const NOT_UNDERSTOOD: u8 = 2;
-
-const STREAM_FAILED: u8 = 3;
-
-const NO_MEMORY: u8 = 4;
-
-/// Says on standard error what went wrong, and answers the status to end with.
-fn failed(rt: &impl Eprint, text: &str, status: u8) -> u8 {
-    let _ = rt.eprintln(text);
-    status
+/// Says on standard error why a run stopped, and answers the status to end with.
+fn stopped(rt: &impl Eprint, fault: RunFault) -> u8 {
+    match fault {
+        RunFault::Read => failed(rt, "error: a read of standard input failed", STREAM_FAILED),
+        RunFault::Write => failed(
+            rt,
+            "error: a write to standard output failed",
+            STREAM_FAILED,
+        ),
+        RunFault::Memory => failed(rt, "error: out of memory", NO_MEMORY),
+    }
 }
 
 /// Answers the script on standard input.
@@ -36,13 +35,7 @@ fn answer_script<R: AllocGlobal + Input + Print + Eprint>(rt: &R, frames: u32) -
 {
     match run(rt.alloc(), frames, &mut rt.reader(), &mut io::writer(rt)) {
         Ok(_) => 0,
-        Err(RunFault::Read) => failed(rt, "error: a read of standard input failed", STREAM_FAILED),
-        Err(RunFault::Write) => failed(
-            rt,
-            "error: a write to standard output failed",
-            STREAM_FAILED,
-        ),
-        Err(RunFault::Memory) => failed(rt, "error: out of memory", NO_MEMORY),
+        Err(fault) => stopped(rt, fault),
     }
 }
 
@@ -51,13 +44,7 @@ fn judged(rt: &impl Eprint, outcome: Result<bool, RunFault>) -> u8 {
     match outcome {
         Ok(true) => 0,
         Ok(false) => NOT_PROVED,
-        Err(RunFault::Read) => failed(rt, "error: a read of standard input failed", STREAM_FAILED),
-        Err(RunFault::Write) => failed(
-            rt,
-            "error: a write to standard output failed",
-            STREAM_FAILED,
-        ),
-        Err(RunFault::Memory) => failed(rt, "error: out of memory", NO_MEMORY),
+        Err(fault) => stopped(rt, fault),
     }
 }
 
@@ -80,28 +67,16 @@ fn obey<R: AllocGlobal + Input + Print + Eprint>(rt: &R, words: &[String]) -> u8
         Ok(Options::Run { frames }) => answer_script(rt, frames),
         Ok(Options::Plan { region }) => plan(rt, &region),
         Ok(Options::Check { region }) => check(rt, &region),
-        Ok(Options::Show(text)) => match rt.print(&text) {
-            Ok(_) => 0,
-            Err(_) => STREAM_FAILED,
-        },
-        Err(OptionFault::Memory) => failed(rt, "error: out of memory", NO_MEMORY),
-        Err(fault) => {
-            let _ = rt.eprintln(&fault);
-            NOT_UNDERSTOOD
-        }
+        Ok(Options::Show(text)) => show(rt, text.as_str()),
+        Err(fault) => misread(rt, &fault),
     }
 }
 
 /// Does what the command line asks for, and answers the status to end with.
 fn status<R: AllocGlobal + Env + Input + Print + Eprint>(rt: &R) -> u8 {
-    let words: Result<Vec<String>, AllocError> = match env::args(rt) {
-        Ok(args) => args.collect(rt.alloc()),
-        Err(error) if error.kind() == ErrorKind::OutOfMemory => Err(AllocError),
-        Err(_) => return failed(rt, "error: a word is not UTF-8", NOT_UNDERSTOOD),
-    };
-    match words {
+    match command_words(rt) {
         Ok(words) => obey(rt, words.as_slice()),
-        Err(_) => failed(rt, "error: out of memory", NO_MEMORY),
+        Err(status) => status,
     }
 }
 

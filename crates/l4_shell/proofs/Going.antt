@@ -8,7 +8,7 @@ use Rattle.l4_ipc.specs.declared.steps.Step.{Step}
 use Rattle.l4_ipc.specs.declared.steps.Step.TheVariants.{Start}
 use Rattle.l4_ipc.specs.declared.steps.Refused.{Refused}
 use Rattle.l4_ipc.specs.declared.steps.Answer.{Answer}
-use Rattle.l4_shell.specs.Answers.{refused_text, kernel_refusal}
+use Rattle.l4_answers.specs.Refusals.{refused_text, kernel_refusal}
 use Rattle.l4_ipc.specs.declared.calls.Call.{Call}
 use Rattle.l4_ipc.specs.Machine.{Machine}
 use Rattle.l4_ipc.specs.Steps.{Steps, IsNext, IsIdle}

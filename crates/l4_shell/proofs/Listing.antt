@@ -9,11 +9,11 @@ use Rattle.std.specs.List.{flat_map, AllPairs}
 use Rattle.l4_mapdb.specs.Mappings.{IsPresent}
 use Rattle.l4_mapdb.specs.Places.{NonePresentFrom, IsNextPresent}
 use Rattle.l4_ipc.specs.Machine.{Machine}
-use Rattle.l4_shell.specs.Answers.{shown_text}
+use Rattle.l4_answers.specs.Pages.{shown_text}
 use Rattle.l4_text.specs.Streams.{Tells}
 use Rattle.l4_threads.specs.Threads.{space_of}
 use Rattle.std.specs.Prelude.{MatchOption}
-use Rattle.l4_shell.specs.Answers.{refused_text, kernel_refusal}
+use Rattle.l4_answers.specs.Refusals.{refused_text, kernel_refusal}
 use Rattle.l4_ipc.specs.declared.steps.Refused.TheVariants.{UnknownThread}
 use Rattle.l4_shell.specs.declared.requests.Request.{Request}
 use Rattle.l4_shell.specs.declared.requests.Request.TheVariants.{TellParent}

@@ -1,7 +1,6 @@
-pub mod Answers
 pub mod Commands
 pub mod Lines
-pub mod Options
+pub mod Refusals
 pub mod Requests
 pub mod Scripts
 pub mod Sessions

@@ -20,7 +20,10 @@ use Rattle.l4_shell.specs.declared.commands.Command.{Command}
 use Rattle.l4_shell.specs.declared.commands.ScriptFault.{ScriptFault}
 use Rattle.l4_shell.specs.declared.requests.Request.{Request}
 use Rattle.l4_shell.specs.declared.requests.Request.TheVariants.{Enter, ListPages, TellParent}
-use Rattle.l4_shell.specs.Answers.{transfer_text, expire_text, reply_text, waits_text, page_text, shown_text, parent_text, kernel_refusal, script_refusal, refused_text}
+use Rattle.l4_answers.specs.Replies.{transfer_text, expire_text, reply_text, waits_text}
+use Rattle.l4_answers.specs.Pages.{page_text, shown_text, parent_text}
+use Rattle.l4_answers.specs.Refusals.{kernel_refusal, refused_text}
+use Rattle.l4_shell.specs.Refusals.{script_refusal}
 use Rattle.l4_shell.specs.Lines.{ScriptLine}
 use Rattle.l4_text.specs.Streams.{Tells}
 use Rattle.l4_shell.specs.Requests.{request_of, asked_of}

@@ -6,12 +6,13 @@ ghost use Rattle.l4_text.specs.Tokens.{tokens_of};
 ghost use Rattle.l4_shell.specs.Requests.{is_comment, is_empty, asked_at};
 ghost use Rattle.l4_shell.specs.Sessions.{step_line, ended_text, step_text, is_among, waiting_text, GoesOn, Enters, place_text, ListsBelow, Shows, parent_answer, CarriesOut, AnswersLine};
 
-use crate::answers::{
-    expire_text, page_text, parent_text, reply_text, shown_text, transfer_text, waits_text,
-};
 use crate::commands::{Command, ScriptFault, read_command};
-use crate::refusals::{refused_code, refused_text, script_code};
+use crate::refusals::script_code;
 use crate::requests::{Request, request_of};
+use l4_answers::{
+    expire_text, page_text, parent_text, refused_code, refused_text, reply_text, shown_text,
+    transfer_text, waits_text,
+};
 use l4_ipc::{Answer, Call, Kernel, Outcome, Refused, Step};
 use l4_text::{Ending, Output, next_token};
 use std::io::Write;

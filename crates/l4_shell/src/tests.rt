@@ -1,6 +1,6 @@
 use crate::commands::{Command, read_command};
 use crate::requests::{Request, request_of};
-use crate::{OptionFault, Options, RunFault, options, run};
+use crate::{RunFault, run};
 use l4_ipc::{Call, Control};
 use std::alloc::Global;
 use std::io;
@@ -387,36 +387,5 @@ fn a_failing_write_leaves_a_beginning(rt: HostRuntime) -> Result<(), Fail> {
             "at {calls}"
         );
     }
-    Ok(())
-}
-
-#[test]
-fn reads_the_command_line(rt: HostRuntime) -> Result<(), Fail> {
-    for (word, frames) in [("1", 1), ("4096", 4096), ("007", 7)] {
-        let words = ["l4", "run", "--frames", word];
-        let Ok(Options::Run { frames: got }) = options(rt.alloc(), words.as_slice()) else {
-            return Err("not understood".into());
-        };
-        assert_eq!(rt; got, frames);
-    }
-    let words = ["l4", "run"];
-    assert!(rt;
-        matches!(
-            options(rt.alloc(), words.as_slice()),
-            Ok(Options::Run { frames: 256 })
-        )
-    );
-    for word in ["0", "4097", "+5", "0x10", ""] {
-        let words = ["l4", "run", "--frames", word];
-        assert!(rt;
-            matches!(
-                options(rt.alloc(), words.as_slice()),
-                Err(OptionFault::Frames(_))
-            ),
-            "{word}"
-        );
-    }
-    let words = ["l4", "--help"];
-    assert!(rt; matches!(options(rt.alloc(), words.as_slice()), Ok(Options::Show(_))));
     Ok(())
 }

@@ -1,9 +1,9 @@
 //! The texts of answers.
 ghost use Rattle.std.specs.Prelude.{◌≤◌, ◌+◌, length};
 
+use l4_answers::{add_code, add_place, letters, refused_code};
 use l4_ipc::{Outcome, Refused, Step};
 use l4_mapdb::Mapping;
-use l4_shell::{add_code, add_place, letters, refused_code};
 use l4_text::Text;
 use l4_threads::{IpcReply, Reply};
 

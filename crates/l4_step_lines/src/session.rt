@@ -4,8 +4,8 @@ use crate::answers::{
 };
 use crate::requests::{Request, read_request};
 use crate::running::Fault;
+use l4_answers::shown_text;
 use l4_ipc::{Kernel, Step};
-use l4_shell::shown_text;
 use l4_text::{Output, next_token};
 use std::io::Write;
 

@@ -4,25 +4,14 @@
 //! 4 for want of memory at the start.
 #![tactic(auto)]
 
-use l4_shell::OptionFault;
-use l4_step_lines::{Fault, Options, options, run};
-use std::alloc::AllocError;
-use std::io::ErrorKind;
+use l4_options::{
+    NO_MEMORY, NOT_UNDERSTOOD, STREAM_FAILED, StepOptions, command_words, misread, show,
+    step_options,
+};
+use l4_step_lines::{Fault, run};
+use std::io;
 use std::process::ExitCode;
 use std::rt::Env;
-use std::{env, io};
-
-const NOT_UNDERSTOOD: u8 = 2;
-
-const STREAM_FAILED: u8 = 3;
-
-const NO_MEMORY: u8 = 4;
-
-/// Says on standard error what went wrong, and answers the status to end with.
-fn failed(rt: &impl Eprint, text: &str, status: u8) -> u8 {
-    let _ = rt.eprintln(text);
-    status
-}
 
 /// The status to end with after a fault.
 fn fault_status(fault: &Fault) -> u8 {
@@ -46,30 +35,18 @@ fn answer_list<R: AllocGlobal + Input + Print + Eprint>(rt: &R, frames: u32) -> 
 
 /// Does what these words ask for.
 fn obey<R: AllocGlobal + Input + Print + Eprint>(rt: &R, words: &[String]) -> u8 {
-    match options(rt.alloc(), words) {
-        Ok(Options::Run { frames }) => answer_list(rt, frames),
-        Ok(Options::Show(text)) => match rt.print(&text) {
-            Ok(_) => 0,
-            Err(_) => STREAM_FAILED,
-        },
-        Err(OptionFault::Memory) => failed(rt, "error: out of memory", NO_MEMORY),
-        Err(fault) => {
-            let _ = rt.eprintln(&fault);
-            NOT_UNDERSTOOD
-        }
+    match step_options(rt.alloc(), words) {
+        Ok(StepOptions::Run { frames }) => answer_list(rt, frames),
+        Ok(StepOptions::Show(text)) => show(rt, text.as_str()),
+        Err(fault) => misread(rt, &fault),
     }
 }
 
 /// Does what the command line asks for, and answers the status to end with.
 fn status<R: AllocGlobal + Env + Input + Print + Eprint>(rt: &R) -> u8 {
-    let words: Result<Vec<String>, AllocError> = match env::args(rt) {
-        Ok(args) => args.collect(rt.alloc()),
-        Err(error) if error.kind() == ErrorKind::OutOfMemory => Err(AllocError),
-        Err(_) => return failed(rt, "error: a word is not UTF-8", NOT_UNDERSTOOD),
-    };
-    match words {
+    match command_words(rt) {
         Ok(words) => obey(rt, words.as_slice()),
-        Err(_) => failed(rt, "error: out of memory", NO_MEMORY),
+        Err(status) => status,
     }
 }
 

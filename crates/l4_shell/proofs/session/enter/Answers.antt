@@ -1,5 +1,5 @@
 use Rattle.std.proofs.Common.{◌∙◌, ap}
-use Rattle.l4_shell.specs.Answers.{refused_text}
+use Rattle.l4_answers.specs.Refusals.{refused_text}
 use Rattle.l4_shell.proofs.Going.{enters_on, enters_not}
 use Rattle.l4_shell.proofs.session.enter.Goals as goal
 

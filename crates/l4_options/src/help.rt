@@ -1,40 +1,4 @@
-//! What a command line asks for.
-use l4_msg::Region;
-use thiserror::Error;
-
-/// What the command line asks for.
-#[derive(Debug, Drop)]
-pub enum Options {
-    /// To answer a script over a machine with this many frames, 1 to 4,096.
-    Run { frames: u32 },
-    /// To print the shortest plan of this region, or why there is none.
-    Plan { region: Region },
-    /// To check the plan on standard input against this region.
-    Check { region: Region },
-    /// To print this text: the usage, or the version.
-    Show(String),
-}
-
-/// Why a command line is not understood.
-#[derive(Debug, Drop, Error)]
-pub enum OptionFault {
-    /// There was no memory to read it.
-    #[error("error: out of memory")]
-    Memory,
-    /// A word that is not known, or one too many or too few.
-    #[error("{0}")]
-    Words(String),
-    /// What stands for the number of frames is none from 1 to 4,096 in decimal digits.
-    #[error("error: invalid value '{0}' for '--frames <N>': it is no decimal number from 1 to 4096")]
-    Frames(String),
-    /// What stands for a page or a count is no number up to 4,294,967,295 in decimal digits.
-    #[error("error: invalid value '{0}': it is no decimal number up to 4294967295")]
-    Number(String),
-    /// What stands for rights is not r, w and x in turn, each of them or `-` or `_` in its place.
-    #[error("error: invalid value '{0}': it is not r, w and x in turn, each of them or _ in its place")]
-    Rights(String),
-}
-
+//! The help of `l4`.
 pub(crate) const ABOUT: &str = "An L4 X.2 kernel core in user space.";
 
 pub(crate) const PLAN: &str = "\

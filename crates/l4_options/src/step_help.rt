@@ -1,13 +1,4 @@
-//! What a command line asks for.
-/// What the command line asks for.
-#[derive(Debug, Drop)]
-pub enum Options {
-    /// To answer a list of steps over a machine with this many frames, 1 to 4,096.
-    Run { frames: u32 },
-    /// To print this text: the usage, or the version.
-    Show(String),
-}
-
+//! The help of `l4_steps`.
 pub(crate) const ABOUT: &str =
     "Does steps of an L4 X.2 kernel core in any order, and prints each answer.";
 

@@ -1,0 +1,78 @@
+//! The texts of pages, of their rights and of their parents.
+ghost use Rattle.std.specs.Prelude.{◌≡◌, ◌≤◌, ◌+◌, ◌++◌, length};
+ghost use Rattle.l4_answers.specs.Pages.{rights_text, page_text, shown_text, place_or_none, parent_text};
+
+use l4_fpage::Rights;
+use l4_mapdb::{Mapping, Place};
+use l4_text::Text;
+
+/// The letters of the rights, and dashes in the place of those that are not there.
+pub fn letters(rights: Rights) -> [u8; 3]
+    ensures { result ≡ rights_text rights }
+{
+    let bits = rights.bits();
+    [
+        if bits & 4 != 0 { b'r' } else { b'-' },
+        if bits & 2 != 0 { b'w' } else { b'-' },
+        if bits & 1 != 0 { b'x' } else { b'-' },
+    ]
+}
+
+/// `page P frame F RIGHTS`
+pub fn page_text(page: u32, mapping: &Mapping) -> Text
+    ensures { result ≡ page_text page mapping.now }
+{
+    let mut text = Text::new();
+    text.add(b"page ");
+    text.add_number(u64::from(page));
+    text.add(b" frame ");
+    text.add_number(u64::from(mapping.frame));
+    text.push(b' ');
+    let letters = letters(mapping.rights);
+    text.add(letters.as_slice());
+    text.push(b'\n');
+    text
+}
+
+/// `shown K`
+pub fn shown_text(count: u32) -> Text
+    ensures { result ≡ shown_text count }
+{
+    let mut text = Text::new();
+    text.add(b"shown ");
+    text.add_number(u64::from(count));
+    text.push(b'\n');
+    text
+}
+
+/// Adds a place's space and page, or `none`.
+pub fn add_place(text: &mut Text, place: Option<Place>)
+    requires { length text.old + 41 ≤ 1024 }
+    ensures value { text.new ≡ text.old ++ place_or_none place }
+    ensures len { length text.new ≤ length text.old + 41 }
+{
+    match place {
+        Some(place) => {
+            text.add_number(place.space);
+            text.push(b' ');
+            text.add_number(u64::from(place.page));
+        }
+        None => text.add(b"none"),
+    }
+}
+
+/// `parent SPACE PAGE`, `parent none` or `absent`, of what a page shows.
+pub fn parent_text(mapping: Option<Mapping>) -> Text
+    ensures { result ≡ parent_text mapping }
+{
+    let mut text = Text::new();
+    let Some(mapping) = mapping else {
+        text.add(b"absent");
+        text.push(b'\n');
+        return text;
+    };
+    text.add(b"parent ");
+    add_place(&mut text, mapping.parent);
+    text.push(b'\n');
+    text
+}

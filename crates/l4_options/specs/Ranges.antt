@@ -1,0 +1,22 @@
+-- The numbers of frames that a command line can ask for (this profile's own).
+use Rattle.std.specs.Prelude.{ℕ, ◌≤◌}
+use Rattle.l4_options.specs.declared.requests.Options.{Options}
+use Rattle.l4_options.specs.declared.requests.Options.TheVariants.{Run, Plan, Check, Show}
+use Rattle.l4_options.specs.declared.requests.StepOptions.{StepOptions}
+use Rattle.l4_options.specs.declared.requests.StepOptions.TheVariants.{Run as RunSteps, Show as ShowText}
+
+-- a machine can have so many frames
+abbrev pub IsFrameCount : ℕ → Type 0
+IsFrameCount n = (1 ≤ n) × (n ≤ 4096)
+
+-- the number of frames that the command line of l4 asks for is one that a machine can have
+abbrev pub IsInRange : Options → Type 0
+IsInRange (Run frames) = IsFrameCount frames
+IsInRange (Plan region) = Unit {0}
+IsInRange (Check region) = Unit {0}
+IsInRange (Show text) = Unit {0}
+
+-- the same of the command line of l4_steps
+abbrev pub AreStepsInRange : StepOptions → Type 0
+AreStepsInRange (RunSteps frames) = IsFrameCount frames
+AreStepsInRange (ShowText text) = Unit {0}

@@ -1,0 +1,106 @@
+//! Reads the command line of `l4`.
+ghost use Rattle.std.specs.Prelude.{IfOk};
+ghost use Rattle.l4_options.specs.Ranges.{IsInRange};
+
+use crate::help::{ABOUT, CHECK, PLAN, SCRIPT};
+use crate::requests::{OptionFault, Options};
+use crate::values::{frames_of, frames_option, help_text, region_of};
+use clap::{Arg, ArgAction, ArgMatches, Command, Error};
+use std::alloc::{AllocError, Global};
+use std::convert::AsStr;
+
+/// An argument of a region.
+fn region_word<'a>(alloc: Global, id: &'a str, name: &'a str, help: &'a str) -> Arg<'a> {
+    Arg::new(alloc, id)
+        .value_name(name)
+        .help(help)
+        .required(true)
+        .action(ArgAction::Set)
+}
+
+/// A command that takes a region.
+fn of_region<'a>(
+    alloc: Global,
+    name: &'a str,
+    about: &'a str,
+    more: &'a str,
+) -> Result<Command<'a>, AllocError> {
+    Command::new(alloc, name)
+        .about(about)
+        .after_help(more)
+        .arg(region_word(alloc, "source", "SOURCE", "The first page of the region"))?
+        .arg(region_word(alloc, "target", "TARGET", "The page that it goes to"))?
+        .arg(region_word(alloc, "count", "COUNT", "The number of its pages"))?
+        .arg(region_word(
+            alloc,
+            "rights",
+            "RIGHTS",
+            "Its rights: r, w and x in turn, or _ for each",
+        ))
+}
+
+/// The commands and options that are known.
+fn known<'a>(alloc: Global) -> Result<Command<'a>, AllocError> {
+    let run = Command::new(alloc, "run")
+        .about("Answers a script of kernel calls")
+        .after_help(SCRIPT)
+        .arg(frames_option(alloc))?;
+    Command::new(alloc, "l4")
+        .about(ABOUT)
+        .version("0.1.0")
+        .after_help(SCRIPT)
+        .subcommand_required(true)
+        .subcommand(run)?
+        .subcommand(of_region(alloc, "plan", "Plans the delegation of a region", PLAN)?)?
+        .subcommand(of_region(alloc, "check", "Checks a plan", CHECK)?)
+}
+
+/// What a parse that gave no matches means.
+fn without_matches(alloc: Global, error: &Error) -> Result<Options, OptionFault>
+    ensures { IfOk result IsInRange }
+{
+    match help_text(alloc, error) {
+        Ok(text) => Ok(Options::Show(text)),
+        Err(fault) => Err(fault),
+    }
+}
+
+/// What the matches of `run` ask for.
+fn run_options(alloc: Global, matches: &ArgMatches<'_>) -> Result<Options, OptionFault>
+    ensures { IfOk result IsInRange }
+{
+    match frames_of(alloc, matches) {
+        Ok(frames) => Ok(Options::Run { frames }),
+        Err(fault) => Err(fault),
+    }
+}
+
+/// Reads the words of the command line, the program's name first:
+/// `l4 run [--frames N]`, `l4 plan SOURCE TARGET COUNT RIGHTS`, `l4 check` with the same words, `--help`,
+/// `help` or `--version`. N is 256 where it is left out.
+///
+/// `Memory` comes only where an allocation was refused. Every other fault names the word that is
+/// not understood.
+pub fn options<'a, S: AsStr>(alloc: Global, words: &'a [S]) -> Result<Options, OptionFault>
+    ensures { IfOk result IsInRange }
+{
+    let Ok(command) = known(alloc) else {
+        return Err(OptionFault::Memory);
+    };
+    let matches = match command.try_get_matches_from(words) {
+        Ok(matches) => matches,
+        Err(error) => return without_matches(alloc, &error),
+    };
+    match matches.subcommand() {
+        Some(("plan", plan)) => match region_of(alloc, plan) {
+            Ok(region) => Ok(Options::Plan { region }),
+            Err(fault) => Err(fault),
+        },
+        Some(("check", check)) => match region_of(alloc, check) {
+            Ok(region) => Ok(Options::Check { region }),
+            Err(fault) => Err(fault),
+        },
+        Some((_, run)) => run_options(alloc, run),
+        None => Err(OptionFault::Memory),
+    }
+}

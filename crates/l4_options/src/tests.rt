@@ -1,0 +1,82 @@
+use crate::{OptionFault, Options, StepOptions, options, step_options};
+use l4_fpage::Rights;
+use l4_msg::Region;
+use std::test::Fail;
+
+#[test]
+fn reads_frames(rt: HostRuntime) -> Result<(), Fail> {
+    for (word, frames) in [("1", 1), ("4096", 4096), ("007", 7)] {
+        let words = ["l4", "run", "--frames", word];
+        let Ok(Options::Run { frames: got }) = options(rt.alloc(), words.as_slice()) else {
+            return Err("not understood".into());
+        };
+        assert_eq!(rt; got, frames);
+        let words = ["l4_steps", "--frames", word];
+        let Ok(StepOptions::Run { frames: got }) = step_options(rt.alloc(), words.as_slice()) else {
+            return Err("not understood".into());
+        };
+        assert_eq!(rt; got, frames);
+    }
+    let words = ["l4", "run"];
+    assert!(rt;
+        matches!(
+            options(rt.alloc(), words.as_slice()),
+            Ok(Options::Run { frames: 256 })
+        )
+    );
+    for word in ["0", "4097", "+5", "0x10", ""] {
+        let words = ["l4", "run", "--frames", word];
+        assert!(rt;
+            matches!(
+                options(rt.alloc(), words.as_slice()),
+                Err(OptionFault::Frames(_))
+            ),
+            "{word}"
+        );
+    }
+    Ok(())
+}
+
+#[test]
+fn reads_regions(rt: HostRuntime) -> Result<(), Fail> {
+    let words = ["l4", "plan", "4", "12", "4294967295", "r_-"];
+    let Ok(Options::Plan { region }) = options(rt.alloc(), words.as_slice()) else {
+        return Err("not understood".into());
+    };
+    let owed = Region {
+        source: 4,
+        target: 12,
+        count: 4_294_967_295,
+        rights: Rights::of_bits(4),
+    };
+    assert_eq!(rt; region, owed);
+    let words = ["l4", "check", "0", "0", "4294967296", "rwx"];
+    assert!(rt;
+        matches!(
+            options(rt.alloc(), words.as_slice()),
+            Err(OptionFault::Number(_))
+        )
+    );
+    let words = ["l4", "check", "0", "0", "1", "rxw"];
+    assert!(rt;
+        matches!(
+            options(rt.alloc(), words.as_slice()),
+            Err(OptionFault::Rights(_))
+        )
+    );
+    Ok(())
+}
+
+#[test]
+fn shows_help(rt: HostRuntime) -> Result<(), Fail> {
+    let words = ["l4", "--help"];
+    assert!(rt; matches!(options(rt.alloc(), words.as_slice()), Ok(Options::Show(_))));
+    let words = ["l4_steps", "--help"];
+    assert!(rt;
+        matches!(
+            step_options(rt.alloc(), words.as_slice()),
+            Ok(StepOptions::Show(_))
+        )
+    );
+    Ok(())
+}

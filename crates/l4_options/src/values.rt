@@ -1,0 +1,136 @@
+//! Values on a command line: numbers, rights, regions, and the option `--frames`.
+ghost use Rattle.std.specs.Prelude.{IfOk, IfSome};
+ghost use Rattle.l4_options.specs.Ranges.{IsFrameCount};
+
+use crate::requests::OptionFault;
+use clap::error::ErrorKind;
+use clap::{Arg, ArgAction, ArgMatches, Error};
+use l4_fpage::Rights;
+use l4_msg::Region;
+use std::alloc::Global;
+
+/// The frames of a machine where none are asked for.
+const DEFAULT_FRAMES: u32 = 256;
+
+/// The most frames of a machine.
+const MOST_FRAMES: u32 = 4_096;
+
+/// The option `--frames`.
+pub(crate) fn frames_option<'a>(alloc: Global) -> Arg<'a> {
+    Arg::new(alloc, "frames")
+        .long("frames")
+        .value_name("N")
+        .help("The frames of the machine, from 1 to 4096 [default: 256]")
+        .action(ArgAction::Set)
+}
+
+/// A number in decimal digits, up to 4,294,967,295.
+fn number_in(text: &[u8]) -> Option<u32> {
+    if text.is_empty() {
+        return None;
+    }
+    let mut value = 0u64;
+    for byte in text {
+        if !byte.is_ascii_digit() {
+            return None;
+        }
+        value = value
+            .saturating_mul(10)
+            .saturating_add(u64::from(*byte - b'0'));
+    }
+    u32::try_from(value).ok()
+}
+
+/// A number of frames: decimal digits, from 1 to 4,096.
+fn frames_in(text: &[u8]) -> Option<u32>
+    ensures { IfSome result IsFrameCount }
+{
+    let value = number_in(text)?;
+    if value >= 1 && value <= MOST_FRAMES {
+        Some(value)
+    } else {
+        None
+    }
+}
+
+/// Whether the byte gives a right or leaves it out.
+fn right_in(byte: u8, right: u8) -> Option<bool> {
+    match byte {
+        b'-' | b'_' => Some(false),
+        _ if byte == right => Some(true),
+        _ => None,
+    }
+}
+
+/// Rights: r, w and x in turn, each of them or `-` or `_` in its place.
+fn rights_in(text: &[u8]) -> Option<Rights> {
+    let [r, w, x] = text else {
+        return None;
+    };
+    let r = right_in(*r, b'r')?;
+    let w = right_in(*w, b'w')?;
+    let x = right_in(*x, b'x')?;
+    Some(Rights::of_bits(4 * u8::from(r) + 2 * u8::from(w) + u8::from(x)))
+}
+
+/// The usage or the version, where a parse gave it in place of matches.
+pub(crate) fn help_text(alloc: Global, error: &Error) -> Result<String, OptionFault> {
+    let Ok(text) = error.to_string(alloc) else {
+        return Err(OptionFault::Memory);
+    };
+    match error.kind() {
+        ErrorKind::DisplayHelp | ErrorKind::DisplayVersion => Ok(text),
+        ErrorKind::OutOfMemory => Err(OptionFault::Memory),
+        _ => Err(OptionFault::Words(text)),
+    }
+}
+
+/// The number that stands for a part of a region.
+fn number_of(alloc: Global, matches: &ArgMatches<'_>, id: &str) -> Result<u32, OptionFault> {
+    let word = matches.get_str(id).unwrap_or("");
+    match number_in(word.as_bytes()) {
+        Some(number) => Ok(number),
+        None => match String::from_str(alloc, word) {
+            Ok(text) => Err(OptionFault::Number(text)),
+            Err(_) => Err(OptionFault::Memory),
+        },
+    }
+}
+
+/// The rights of a region.
+fn rights_of(alloc: Global, matches: &ArgMatches<'_>) -> Result<Rights, OptionFault> {
+    let word = matches.get_str("rights").unwrap_or("");
+    match rights_in(word.as_bytes()) {
+        Some(rights) => Ok(rights),
+        None => match String::from_str(alloc, word) {
+            Ok(text) => Err(OptionFault::Rights(text)),
+            Err(_) => Err(OptionFault::Memory),
+        },
+    }
+}
+
+/// The region that the matches name.
+pub(crate) fn region_of(alloc: Global, matches: &ArgMatches<'_>) -> Result<Region, OptionFault> {
+    Ok(Region {
+        source: number_of(alloc, matches, "source")?,
+        target: number_of(alloc, matches, "target")?,
+        count: number_of(alloc, matches, "count")?,
+        rights: rights_of(alloc, matches)?,
+    })
+}
+
+/// The number of frames that the matches name: 256 where the option is left out.
+pub(crate) fn frames_of(alloc: Global, matches: &ArgMatches<'_>) -> Result<u32, OptionFault>
+    ensures { IfOk result IsFrameCount }
+{
+    let Some(word) = matches.get_str("frames") else {
+        return Ok(DEFAULT_FRAMES);
+    };
+    if let Some(frames) = frames_in(word.as_bytes()) {
+        return Ok(frames);
+    }
+    match String::from_str(alloc, word) {
+        Ok(text) => Err(OptionFault::Frames(text)),
+        Err(_) => Err(OptionFault::Memory),
+    }
+}

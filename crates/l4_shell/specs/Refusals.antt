@@ -1,0 +1,12 @@
+-- The codes of what a script's line is refused for before it reaches the kernel (this profile's own).
+use Rattle.std.specs.Prelude.{codes}
+use Rattle.l4_answers.specs.Refusals.{Refusal, plainly}
+use Rattle.l4_shell.specs.declared.commands.ScriptFault.{ScriptFault}
+use Rattle.l4_shell.specs.declared.commands.ScriptFault.TheVariants.{UnknownCommand, BadTokens, LineTooLong, CutLine}
+
+-- the code of a line that can't be read
+abbrev pub script_refusal : ScriptFault → Refusal
+script_refusal UnknownCommand = plainly (codes "S1")
+script_refusal BadTokens = plainly (codes "S2")
+script_refusal LineTooLong = plainly (codes "S3")
+script_refusal CutLine = plainly (codes "S4")
