@@ -7,26 +7,13 @@
 ghost use Rattle.std.specs.Prelude.{◌≤◌};
 
 use l4_msg::Region;
-use l4_options::{NO_MEMORY, Options, STREAM_FAILED, command_words, failed, misread, show};
+use l4_options::{Options, command_words, misread, show, stopped};
 use l4_shell::{RunFault, check_lines, options, plan_lines, run};
 use std::io;
 use std::process::ExitCode;
 use std::rt::Env;
 
 const NOT_PROVED: u8 = 1;
-
-/// Says on standard error why a run stopped, and answers the status to end with.
-fn stopped(rt: &impl Eprint, fault: RunFault) -> u8 {
-    match fault {
-        RunFault::Read => failed(rt, "error: a read of standard input failed", STREAM_FAILED),
-        RunFault::Write => failed(
-            rt,
-            "error: a write to standard output failed",
-            STREAM_FAILED,
-        ),
-        RunFault::Memory => failed(rt, "error: out of memory", NO_MEMORY),
-    }
-}
 
 /// Answers the script on standard input.
 fn answer_script<R: AllocGlobal + Input + Print + Eprint>(rt: &R, frames: u32) -> u8

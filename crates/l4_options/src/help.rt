@@ -4,12 +4,13 @@ pub(crate) const ABOUT: &str = "An L4 X.2 kernel core in user space.";
 pub(crate) const PLAN: &str = "\
 The region is COUNT pages from page SOURCE on, which go to the pages from TARGET
 on with these rights. A plan is the shortest list of map items that moves just
-the region; each item has a page that shows why no list is shorter.
+the region. Each item has a page with it, and no map item that stays within the
+region could move two of these pages: so no list is shorter.
 
   tag WORD                   the message tag
   item WORD WORD page P      a map item, and its page
   too-long                   every list has more than 31 items: 32 lines page P
-  refused N1                 the count is 0 (N2: beyond the space; N3: no rights)
+  refused CODE               N1, N2 or N3: see l4 --help
 
 Exit status: 0 for a plan, 1 if there is none, 2 if the command line is not
 understood, 3 if a write failed.";
@@ -20,8 +21,9 @@ the region, and is no list shorter?
 
   proved K                   a plan of K items, and no list of map items is shorter
   proved too-long            every list has more than 31 items
-  fault CODE                 what is wrong with the plan, with a number
-  line L refused CODE        line L is spelled wrong
+  fault CODE                 what is wrong with the plan, with a number (C1 to C6:
+                             see l4 --help)
+  line L refused CODE        line L can't be read (S2 to S4)
 
 Exit status: 0 if it is proved, 1 if not, 2 if the command line is not
 understood, 3 if a read or a write failed.";
@@ -40,6 +42,11 @@ are skipped.
                          receives nothing); WINDOW is the word of an fpage: 0
                          takes no message with pages, 0x10 takes pages anywhere
   send N TO WORD..       N sends these words, the tag first, to a thread
+  delegate N TO SOURCE TARGET COUNT RIGHTS
+                         N sends the COUNT pages from page SOURCE of its space on
+                         to the pages from TARGET on of a thread's, with RIGHTS (as
+                         r-x) or what its own pages have of them: it sends the map
+                         items that l4 plan prints, as send does
   ipc N TO FROM TIMEOUTS WINDOW WORD..
                          N sends these words, unless TO is nil, and then
                          receives, unless FROM is nil; TIMEOUTS has the send
@@ -61,14 +68,57 @@ page i; thread 2 is root. Numbers are decimal, or hexadecimal after 0x.
   N unmap ok                       an unmap of N ended
   N control ok                     root's call ended (N is 2)
   N gone                           N was deleted while its call went on
-  transfer S R done                a message went from S to R (no-window,
-                                   entangled, no-memory: it didn't)
+  transfer S R done                a message went from S to R. With another word
+                                   in the last place it didn't: no-window (R takes
+                                   no pages), entangled (its items contradict each
+                                   other) or no-memory
   expire N                         a wait of N with a timeout of zero ended
   N waits                          the call goes on until a later line ends it
   page P frame F RIGHTS            a page that show lists; then shown K, how many
   parent SPACE PAGE                the page's parent (parent none: it has none;
                                    absent: it isn't present)
   line L refused CODE              the line changed nothing
+
+The codes, each with the number that it carries; l4 plan, l4 check and l4_steps
+print them too:
+
+  M1         the tag counts more than 63 words after it
+  M2         the tag counts an odd number of words for the items
+  M3 ITEM    this item, from 0, has an unknown kind or is no fpage
+  M4 ITEM    this item, from 0, is a string or CtrlXfer item: left out here
+  M5         a flag of the tag is set
+  M6         the receive window is no fpage
+  M7         there is no tag, or there are fewer words than it counts
+  H1         the caller isn't in root's space
+  H2         no thread can have this id
+  H3         there is a thread of this number
+  H4         no thread has this id
+  H5         there are 64 threads, or no number is left for a space
+  H6         sigma0, root and the caller itself can't be deleted
+  U1 WORD    this word of an unmap, from 0, is no fpage
+  U2         an unmap has fewer words than its control word says
+  K1         nobody waits so: this transfer or expiry can't be done now
+  K2         there is no thread of this number
+  K3         the thread's last call goes on
+  K4         a timeout is neither never nor zero
+  K6         a machine has 1 to 4096 frames
+  N1         the region has no page
+  N2         the region goes beyond the 1048576 pages of a space
+  N3         the region has no rights
+  N4         no 31 map items, as many as a message holds, move just the region
+  C1 ITEM    this item of a plan, from 0, is none of the region's: a grant, other
+             rights, or a page that goes elsewhere
+  C2 PAGE    no item moves this page
+  C3 PLACE   the page at this place, from 0, isn't one of the region's
+  C4 PLACE   one map item could move the page at this place, from 0, together
+             with an earlier one, so the pages don't show that no list is shorter
+  C5         more than 31 items, or not one page an item; or not 32 pages
+  C6         the region is refused by N1, N2 or N3
+  S1         there is no such command
+  S2         too few tokens, too many, or one that can't be read
+  S3         the line has more than 4096 bytes
+  S4         the input ends before the line does
+  NoMemory   there was no memory for it
 
 Exit status: 0 at the end of the script, 2 if the command line is not
 understood, 3 if a read or a write failed, 4 if there is no memory.";

@@ -10,9 +10,7 @@ mod step_help;
 mod values;
 
 pub use commands::options;
-pub use programs::{
-    NO_MEMORY, NOT_UNDERSTOOD, STREAM_FAILED, command_words, failed, misread, show,
-};
+pub use programs::{NOT_UNDERSTOOD, command_words, misread, show, stopped};
 pub use requests::{OptionFault, Options, StepOptions};
 pub use step_commands::step_options;
 

@@ -1,7 +1,9 @@
 //! What the programs share: the words of the command line, and the statuses to end with.
-ghost use Rattle.std.specs.Prelude.{◌≡◌};
+ghost use Rattle.std.specs.Prelude.{◌≡◌, ◌⊎◌, IfErr};
+ghost use Rattle.l4_options.specs.Statuses.{run_status, option_status};
 
 use crate::requests::OptionFault;
+use l4_text::RunFault;
 use std::alloc::AllocError;
 use std::env;
 use std::io::ErrorKind;
@@ -11,31 +13,53 @@ use std::rt::Env;
 pub const NOT_UNDERSTOOD: u8 = 2;
 
 /// The exit status where a read or a write failed.
-pub const STREAM_FAILED: u8 = 3;
+const STREAM_FAILED: u8 = 3;
 
 /// The exit status for want of memory at the start.
-pub const NO_MEMORY: u8 = 4;
+const NO_MEMORY: u8 = 4;
 
 /// Says on standard error what went wrong, and answers the status to end with.
-pub fn failed(rt: &impl Eprint, text: &str, status: u8) -> u8
+fn failed(rt: &impl Eprint, text: &str, status: u8) -> u8
     ensures { result ≡ status }
 {
     let _ = rt.eprintln(text);
     status
 }
 
+/// Says on standard error why a run stopped, and answers the status to end with: 4 for want of memory, else 3.
+pub fn stopped(rt: &impl Eprint, fault: RunFault) -> u8
+    ensures { result ≡ run_status fault }
+{
+    match fault {
+        RunFault::Read => failed(rt, "error: a read of standard input failed", STREAM_FAILED),
+        RunFault::Write => failed(
+            rt,
+            "error: a write to standard output failed",
+            STREAM_FAILED,
+        ),
+        RunFault::Memory => failed(rt, "error: out of memory", NO_MEMORY),
+    }
+}
+
 /// Says on standard error why the command line is not understood, and answers the status to end with: 4 for
 /// want of memory, 2 for any other fault.
-pub fn misread(rt: &impl Eprint, fault: &OptionFault) -> u8 {
+pub fn misread(rt: &impl Eprint, fault: &OptionFault) -> u8
+    ensures { result ≡ option_status fault.now }
+{
     let _ = rt.eprintln(fault);
     match fault {
         OptionFault::Memory => NO_MEMORY,
-        _ => NOT_UNDERSTOOD,
+        OptionFault::Words(_)
+        | OptionFault::Frames(_)
+        | OptionFault::Number(_)
+        | OptionFault::Rights(_) => NOT_UNDERSTOOD,
     }
 }
 
 /// Prints the usage or the version, and answers the status to end with: 3 where the write failed.
-pub fn show(rt: &impl Print, text: &str) -> u8 {
+pub fn show(rt: &impl Print, text: &str) -> u8
+    ensures { (result ≡ 0) ⊎ (result ≡ 3) }
+{
     match rt.print(text) {
         Ok(_) => 0,
         Err(_) => STREAM_FAILED,
@@ -44,11 +68,16 @@ pub fn show(rt: &impl Print, text: &str) -> u8 {
 
 /// The words of the command line, the program's name first. Where there are none to be had it says why on
 /// standard error, and answers the status to end with: 2 where a word is not UTF-8, 4 for want of memory.
-pub fn command_words<R: AllocGlobal + Env + Eprint>(rt: &R) -> Result<Vec<String>, u8> {
+pub fn command_words<R: AllocGlobal + Env + Eprint>(rt: &R) -> Result<Vec<String>, u8>
+    ensures { IfErr result (λ status. (status ≡ 2) ⊎ (status ≡ 4)) }
+{
     let words: Result<Vec<String>, AllocError> = match env::args(rt) {
         Ok(args) => args.collect(rt.alloc()),
         Err(error) if error.kind() == ErrorKind::OutOfMemory => Err(AllocError),
         Err(_) => return Err(failed(rt, "error: a word is not UTF-8", NOT_UNDERSTOOD)),
     };
-    words.map_err(|_| failed(rt, "error: out of memory", NO_MEMORY))
+    match words {
+        Ok(words) => Ok(words),
+        Err(_) => Err(failed(rt, "error: out of memory", NO_MEMORY)),
+    }
 }

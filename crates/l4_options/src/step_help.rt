@@ -28,7 +28,7 @@ is the sum of r (4), w (2) and x (1).
   N REPLY                    in it follows: N ipc TAG ERROR FROM WORD.., N hit,
                              N answered, N failed CODE, N unmapped, N controlled
                              or N gone
-  refused CODE               the step changed nothing
+  refused CODE               the step changed nothing (l4 --help has the codes)
 
 Exit status: 0 at the end of the list, 2 if the command line or a line is not
 understood, 3 if a read or a write failed, 4 if there is no memory.";

@@ -16,7 +16,7 @@ use Rattle.l4_text.specs.Streams.{Tells}
 use Rattle.l4_ipc.specs.Following.{Done, AreNext}
 use Rattle.l4_shell.specs.Sessions.{done_text, step_text, is_among, ended_in, waiting_text, GoesOn, Enters}
 use Rattle.std.specs.List.{flat_map}
-use Rattle.l4_text.proofs.Telling.{tells_none, tells_more, tells_is}
+use Rattle.l4_text.proofs.Telling.{tells_more, tells_is}
 
 -- one step after those that were done
 next_more : (old between new : Machine) (steps : List Done) (step : Step) (answer : Answer) → AreNext old steps between → IsNext between step → Steps between step (Ok answer) new
@@ -32,15 +32,6 @@ pub record Going (old : Machine) (thread : ℕ) (ended : List ℕ) (m : Machine)
   pub next : AreNext old steps m
   pub has_is : has ≡ is_among thread (ended ++ ended_in steps)
   pub tells : Tells written now before after (flat_map done_text steps)
-
-pub going_none : (old : Machine) (thread : ℕ) (ended : List ℕ) (has : Bool) (a : Option (List ℕ)) (s : List ℕ × Bool) → has ≡ is_among thread ended
-    → Going old thread ended old has a a s s
-going_none old thread ended has a s is = record {
-  steps = [];
-  next = refl;
-  has_is = is ∙ ap (is_among thread) (sym (append-nil ended));
-  tells = tells_none a s;
-}
 
 pub going_more : (old : Machine) (thread : ℕ) (ended : List ℕ) (m : Machine) (has : Bool) (written a b : Option (List ℕ)) (before s t : List ℕ × Bool)
     (new : Machine) (step : Step) (answer : Answer) (has' : Bool) → Going old thread ended m has written a before s → IsNext m step → Steps m step (Ok answer) new

@@ -1,4 +1,5 @@
-pub mod Numerals
+pub mod MessageWords
 pub mod Going
 pub mod Listing
 pub mod Scripting
+pub mod Delegating

@@ -18,7 +18,7 @@ use Rattle.l4_ipc.specs.declared.steps.Refused.TheVariants.{UnknownThread}
 use Rattle.l4_shell.specs.declared.requests.Request.{Request}
 use Rattle.l4_shell.specs.declared.requests.Request.TheVariants.{TellParent}
 use Rattle.l4_shell.specs.Sessions.{place_in, place_text, ListsBelow, ListsPages, Shows, parent_answer, CarriesOut}
-use Rattle.l4_text.proofs.Telling.{tells_none, tells_more, tells_is}
+use Rattle.l4_text.proofs.Telling.{tells_more, tells_is}
 
 below_or : (a b : ℕ) → (a < b) ⊎ (b ≤ a)
 below_or a b =
@@ -35,16 +35,6 @@ pub record Listed (m : Machine) (space first end «from» shown : ℕ) (written 
   pub number : shown ≡ length pages
   pub few : first + shown ≤ «from»
   pub tells : Tells written now before after (flat_map (place_text m space) pages)
-
-pub listed_none : (m : Machine) (space first end : ℕ) (a : Option (List ℕ)) (s : List ℕ × Bool) → Listed m space first end first 0 a a s s
-listed_none m space first end a s = record {
-  pages = [];
-  rising = λ i j d lt short. absurd (omega arith);
-  each = λ page. (λ h. absurd (let k = h.1 in omega arith), λ h. absurd (let k = h.0 in let l = h.1 in omega arith));
-  number = refl;
-  few = omega arith;
-  tells = tells_none a s;
-}
 
 pub listed_more : (m : Machine) (space first end «from» shown : ℕ) (written a b : Option (List ℕ)) (before s t : List ℕ × Bool) (page : ℕ)
     → Listed m space first end «from» shown written a before s → IsNextPresent m.mappings space «from» page → page < end → Tells a b s t (place_text m space page)

@@ -45,9 +45,6 @@ cut_line : (bytes : List ℕ) → NoNewline bytes → 0 < length bytes → lines
 cut_line [] h some = absurd (omega arith)
 cut_line (b ∷ bytes) h some = one_line bytes h.1 b h.0
 
-whole_of : List ScriptLine → List ScriptLine
-whole_of lines = filter (λ line. line.whole) lines
-
 -- of bytes without a newline no line is whole
 none_whole : (bytes : List ℕ) → NoNewline bytes → filter (λ line. line.whole) (lines_of bytes) ≡ []
 none_whole [] h = refl

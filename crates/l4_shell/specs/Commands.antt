@@ -1,12 +1,14 @@
 -- What the tokens of a line ask for (this profile's own).
-use Rattle.std.specs.Prelude.{ℕ, ◌^◌, Bool, List, [], ◌∷◌, length, nat_le, Option, Some, None, Result, Err, option_and_then, ok_or, if◌then◌else◌, codes}
+use Rattle.std.specs.Prelude.{ℕ, ◌^◌, ◌==◌, Bool, true, false, List, [], ◌∷◌, length, nat_le, slice_index, Option, Some, None, Result, Err, option_and_then, ok_or, if◌then◌else◌, codes}
 use Rattle.std.specs.Str.{bytes_eq}
+use Rattle.l4_fpage.specs.Rights.{RightsSet}
+use Rattle.l4_msg.specs.declared.regions.Region.{Region}
 use Rattle.l4_shell.specs.declared.partners.Partner.{Partner}
 use Rattle.l4_shell.specs.declared.partners.Partner.TheVariants.{Nil, Any, Thread as One}
 use Rattle.l4_shell.specs.declared.partners.NewSpace.{NewSpace}
 use Rattle.l4_shell.specs.declared.partners.NewSpace.TheVariants.{New, Of}
 use Rattle.l4_shell.specs.declared.commands.Command.{Command}
-use Rattle.l4_shell.specs.declared.commands.Command.TheVariants.{Thread, SetPager, Delete, Receive, Send, Ipc, Unmap, Show, Parent}
+use Rattle.l4_shell.specs.declared.commands.Command.TheVariants.{Thread, SetPager, Delete, Receive, Send, Ipc, Delegate, Unmap, Show, Parent}
 use Rattle.l4_shell.specs.declared.commands.ScriptFault.{ScriptFault}
 use Rattle.l4_shell.specs.declared.commands.ScriptFault.TheVariants.{UnknownCommand, BadTokens}
 use Rattle.l4_text.specs.Numbers.{below, number_of}
@@ -34,6 +36,18 @@ partner_of token = if is_word (codes "any") token then Some Any else nil_or_thre
 -- new, or a thread's number
 unfoldable pub new_space_of : List ℕ → Option NewSpace
 new_space_of token = if is_word (codes "new") token then Some New else (thread_of token >>= λ n. Some (Of n))
+
+-- a right's letter, or a dash in its place
+abbrev pub right_of : ℕ → ℕ → Option Bool
+right_of letter byte = if byte == letter then Some true else (if byte == 45 then Some false else None)
+
+-- r, w and x in turn, each of them or a dash in its place
+unfoldable pub rights_of : List ℕ → Option RightsSet
+rights_of token = if length token == 3 then (do
+  r ← right_of 114 (slice_index token 0)
+  w ← right_of 119 (slice_index token 1)
+  x ← right_of 120 (slice_index token 2)
+  Some (record { r = r; w = w; x = x })) else None
 
 -- one token and no more
 abbrev pub one_of : List (List ℕ) → Option (List ℕ)
@@ -125,6 +139,27 @@ send_asked (number ∷ to ∷ tokens) = do
   words ← words_of tokens
   Some (Send n partner words)
 
+-- SOURCE TARGET COUNT RIGHTS
+abbrev pub region_of : List (List ℕ) → Option Region
+region_of [] = None
+region_of (source ∷ tokens) = do
+  three ← three_of tokens
+  s ← number_of source
+  t ← number_of three.0
+  c ← number_of three.1.0
+  rights ← rights_of three.1.1
+  Some (record { source = s; target = t; count = c; rights = rights })
+
+-- N TO SOURCE TARGET COUNT RIGHTS
+abbrev pub delegate_asked : List (List ℕ) → Option Command
+delegate_asked [] = None
+delegate_asked (number ∷ []) = None
+delegate_asked (number ∷ to ∷ tokens) = do
+  n ← thread_of number
+  partner ← partner_of to
+  region ← region_of tokens
+  Some (Delegate n partner region)
+
 -- N TO FROM TIMEOUTS WINDOW WORD..
 abbrev pub ipc_asked : List (List ℕ) → Option Command
 ipc_asked [] = None
@@ -161,7 +196,8 @@ command_of (name ∷ tokens) =
     else (if is_word (codes "recv") name then ok_or (receive_asked tokens) BadTokens
     else (if is_word (codes "send") name then ok_or (send_asked tokens) BadTokens
     else (if is_word (codes "ipc") name then ok_or (ipc_asked tokens) BadTokens
+    else (if is_word (codes "delegate") name then ok_or (delegate_asked tokens) BadTokens
     else (if is_word (codes "unmap") name then ok_or (unmap_asked tokens) BadTokens
     else (if is_word (codes "show") name then ok_or (show_asked tokens) BadTokens
     else (if is_word (codes "parent") name then ok_or (parent_asked tokens) BadTokens
-    else Err UnknownCommand))))))))
+    else Err UnknownCommand)))))))))

@@ -1,4 +1,5 @@
 pub mod Commands
+pub mod Delegations
 pub mod Lines
 pub mod Refusals
 pub mod Requests

@@ -1,6 +1,8 @@
 -- The codes of what a script's line is refused for before it reaches the kernel (this profile's own).
 use Rattle.std.specs.Prelude.{codes}
 use Rattle.l4_answers.specs.Refusals.{Refusal, plainly}
+use Rattle.l4_plan.specs.declared.plans.PlanRefusal.{PlanRefusal}
+use Rattle.l4_plan.specs.declared.plans.PlanRefusal.TheVariants.{Empty, OutOfSpace, NoRights, TooLong}
 use Rattle.l4_shell.specs.declared.commands.ScriptFault.{ScriptFault}
 use Rattle.l4_shell.specs.declared.commands.ScriptFault.TheVariants.{UnknownCommand, BadTokens, LineTooLong, CutLine}
 
@@ -10,3 +12,10 @@ script_refusal UnknownCommand = plainly (codes "S1")
 script_refusal BadTokens = plainly (codes "S2")
 script_refusal LineTooLong = plainly (codes "S3")
 script_refusal CutLine = plainly (codes "S4")
+
+-- the code of a delegation without a plan; of one that is too long no pages are told
+abbrev pub plan_refusal : PlanRefusal → Refusal
+plan_refusal Empty = plainly (codes "N1")
+plan_refusal OutOfSpace = plainly (codes "N2")
+plan_refusal NoRights = plainly (codes "N3")
+plan_refusal (TooLong pages) = plainly (codes "N4")

@@ -10,9 +10,9 @@ use Rattle.l4_shell.specs.declared.partners.Partner.TheVariants.{Nil, Any, Threa
 use Rattle.l4_shell.specs.declared.partners.NewSpace.{NewSpace}
 use Rattle.l4_shell.specs.declared.partners.NewSpace.TheVariants.{New, Of}
 use Rattle.l4_shell.specs.declared.commands.Command.{Command}
-use Rattle.l4_shell.specs.declared.commands.Command.TheVariants.{Thread, SetPager, Delete, Receive, Send, Ipc, Unmap, Show, Parent}
+use Rattle.l4_shell.specs.declared.commands.Command.TheVariants.{Thread, SetPager, Delete, Receive, Send, Ipc, Delegate, Unmap, Show, Parent}
 use Rattle.l4_shell.specs.declared.requests.Request.{Request}
-use Rattle.l4_shell.specs.declared.requests.Request.TheVariants.{Enter, ListPages, TellParent}
+use Rattle.l4_shell.specs.declared.requests.Request.TheVariants.{Enter, SendPlan, ListPages, TellParent}
 use Rattle.l4_shell.specs.declared.commands.ScriptFault.{ScriptFault}
 use Rattle.l4_shell.specs.declared.commands.ScriptFault.TheVariants.{LineTooLong, CutLine}
 use Rattle.l4_text.specs.declared.lines.Ending.{Ending}
@@ -75,6 +75,7 @@ request_of (Delete number) = Enter 2 (delete_call number)
 request_of (Receive number partner window) = Enter number (receive_call partner window)
 request_of (Send number partner words) = Enter number (send_call partner words)
 request_of (Ipc number to «from» timeouts window words) = Enter number (ipc_call to «from» timeouts window words)
+request_of (Delegate number partner region) = SendPlan number partner region
 request_of (Unmap number control words) = Enter number (unmap_call control words)
 request_of (Show number first count) = ListPages number first count
 request_of (Parent number page) = TellParent number page

@@ -19,14 +19,18 @@ use Rattle.l4_ipc.specs.Following.{Done, AreNext}
 use Rattle.l4_shell.specs.declared.commands.Command.{Command}
 use Rattle.l4_shell.specs.declared.commands.ScriptFault.{ScriptFault}
 use Rattle.l4_shell.specs.declared.requests.Request.{Request}
-use Rattle.l4_shell.specs.declared.requests.Request.TheVariants.{Enter, ListPages, TellParent}
+use Rattle.l4_shell.specs.declared.requests.Request.TheVariants.{Enter, SendPlan, ListPages, TellParent}
 use Rattle.l4_answers.specs.Replies.{transfer_text, expire_text, reply_text, waits_text}
 use Rattle.l4_answers.specs.Pages.{page_text, shown_text, parent_text}
 use Rattle.l4_answers.specs.Refusals.{kernel_refusal, refused_text}
-use Rattle.l4_shell.specs.Refusals.{script_refusal}
+use Rattle.l4_shell.specs.Refusals.{script_refusal, plan_refusal}
 use Rattle.l4_shell.specs.Lines.{ScriptLine}
 use Rattle.l4_text.specs.Streams.{Tells}
-use Rattle.l4_shell.specs.Requests.{request_of, asked_of}
+use Rattle.l4_shell.specs.Requests.{request_of, asked_of, send_call}
+use Rattle.l4_shell.specs.Delegations.{ArePlanWords, HasNoPlan}
+use Rattle.l4_shell.specs.declared.partners.Partner.{Partner}
+use Rattle.l4_msg.specs.declared.regions.Region.{Region}
+use Rattle.l4_plan.specs.declared.plans.PlanRefusal.{PlanRefusal}
 
 -- STEPS
 
@@ -87,6 +91,19 @@ pub record Refuses (old : Machine) (line thread : ℕ) (call : Call) (text : Lis
 abbrev pub Enters : Machine → ℕ → ℕ → Call → List ℕ → Machine → Type 0
 Enters old line thread call text new = Follows old thread call text new ⊎ Refuses old line thread call text new
 
+-- DELEGATIONS
+
+-- the message of the region's shortest plan is sent
+abbrev pub SendsPlan : Machine → ℕ → ℕ → Partner → Region → List ℕ → Machine → Type 0
+SendsPlan old line thread to r text new = (words : List ℕ) × ArePlanWords r words × Enters old line thread (send_call to words) text new
+
+-- the region has no plan, and the text is the refusal; whether the call would be refused is not looked at
+abbrev pub RefusesPlan : Machine → ℕ → Region → List ℕ → Machine → Type 0
+RefusesPlan old line r text new = (refusal : PlanRefusal) × HasNoPlan r refusal × (text ≡ refused_text line (plan_refusal refusal)) × (new ≡ old)
+
+abbrev pub Delegates : Machine → ℕ → ℕ → Partner → Region → List ℕ → Machine → Type 0
+Delegates old line thread to r text new = SendsPlan old line thread to r text new ⊎ RefusesPlan old line r text new
+
 -- PAGES
 
 abbrev pub place_in : ℕ → ℕ → Place
@@ -131,6 +148,7 @@ parent_answer m line thread page =
 -- a line's request was carried out, and the text is what was told of it
 abbrev pub CarriesOut : Machine → ℕ → Request → List ℕ → Machine → Type 0
 CarriesOut old line (Enter thread call) text new = Enters old line thread call text new
+CarriesOut old line (SendPlan thread to region) text new = Delegates old line thread to region text new
 CarriesOut old line (ListPages thread first count) text new = Shows old line thread first count text × (new ≡ old)
 CarriesOut old line (TellParent thread page) text new = (text ≡ parent_answer old line thread page) × (new ≡ old)
 

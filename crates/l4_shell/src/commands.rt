@@ -1,11 +1,13 @@
 //! What a script line asks for.
-ghost use Rattle.std.specs.Prelude.{◌≡◌};
-ghost use Rattle.std.specs.Prelude.{◌+◌, ◌≤◌, [], length, option_map};
+ghost use Rattle.std.specs.Prelude.{◌≡◌, [], length};
 ghost use Rattle.l4_text.specs.Tokens.{tokens_of};
-ghost use Rattle.l4_shell.specs.Commands.{one_of, two_of, three_of, thread_asked, set_pager_asked, delete_asked, receive_asked, show_asked, parent_asked, send_asked, ipc_asked, unmap_asked, words_of, command_of};
+ghost use Rattle.l4_shell.specs.Commands.{thread_asked, set_pager_asked, delete_asked, receive_asked, show_asked, parent_asked, send_asked, delegate_asked, ipc_asked, unmap_asked, words_of, command_of};
 
 use crate::partners::{NewSpace, Partner, any_or_thread, new_space, nil_or_thread, thread_number};
+use crate::regions::region;
+use crate::tokens::{one, three, two};
 use arrayvec::ArrayVec;
+use l4_msg::Region;
 use l4_text::{next_token, number};
 use std::marker::Model;
 
@@ -49,6 +51,13 @@ impl Words {
         }
     }
 
+    /// The words of these registers.
+    pub(crate) fn of_registers(words: ArrayVec<u32, 64>) -> Words
+        ensures { result ≡ words.items }
+    {
+        Words { words }
+    }
+
     /// The words themselves.
     pub(crate) fn into_registers(self) -> ArrayVec<u32, 64>
         ensures { result.items ≡ self }
@@ -86,6 +95,12 @@ pub(crate) enum Command {
         number: u32,
         to: Partner,
         words: Words,
+    },
+    /// A thread sends the message of the region's plan.
+    Delegate {
+        number: u32,
+        to: Partner,
+        region: Region,
     },
     /// A thread sends these words, the tag first, and then receives with this window.
     Ipc {
@@ -125,6 +140,8 @@ const RECV: &[u8] = b"recv";
 
 const SEND: &[u8] = b"send";
 
+const DELEGATE: &[u8] = b"delegate";
+
 const IPC: &[u8] = b"ipc";
 
 const UNMAP: &[u8] = b"unmap";
@@ -132,42 +149,6 @@ const UNMAP: &[u8] = b"unmap";
 const SHOW: &[u8] = b"show";
 
 const PARENT: &[u8] = b"parent";
-
-/// The token of a line of exactly one.
-fn one(line: &[u8]) -> Option<&[u8]>
-    ensures { option_map (λ p. p.now) result ≡ one_of (tokens_of line.now) }
-{
-    let (first, rest) = next_token(line)?;
-    match next_token(rest) {
-        None => Some(first),
-        Some(_) => None,
-    }
-}
-
-/// The tokens of a line of exactly two.
-fn two(line: &[u8]) -> Option<(&[u8], &[u8])>
-    ensures { option_map (λ p. (p.0.now, p.1.now)) result ≡ two_of (tokens_of line.now) }
-{
-    let (first, rest) = next_token(line)?;
-    let (second, rest) = next_token(rest)?;
-    match next_token(rest) {
-        None => Some((first, second)),
-        Some(_) => None,
-    }
-}
-
-/// The tokens of a line of exactly three.
-fn three(line: &[u8]) -> Option<(&[u8], (&[u8], &[u8]))>
-    ensures { option_map (λ p. (p.0.now, (p.1.0.now, p.1.1.now))) result ≡ three_of (tokens_of line.now) }
-{
-    let (first, rest) = next_token(line)?;
-    let (second, rest) = next_token(rest)?;
-    let (third, rest) = next_token(rest)?;
-    match next_token(rest) {
-        None => Some((first, (second, third))),
-        Some(_) => None,
-    }
-}
 
 /// `N SPACE PAGER`
 #[tactic(auto, unfolding(crate::specs::Commands::thread_asked))]
@@ -276,6 +257,19 @@ fn send(line: &[u8]) -> Option<Command>
     })
 }
 
+/// `N TO SOURCE TARGET COUNT RIGHTS`
+fn delegate(line: &[u8]) -> Option<Command>
+    ensures { result ≡ delegate_asked (tokens_of line.now) }
+{
+    let (number_token, rest) = next_token(line)?;
+    let (to, rest) = next_token(rest)?;
+    Some(Command::Delegate {
+        number: thread_number(number_token)?,
+        to: any_or_thread(to)?,
+        region: region(rest)?,
+    })
+}
+
 /// `N TO FROM TIMEOUTS WINDOW WORD..`
 fn ipc(line: &[u8]) -> Option<Command>
     ensures { result ≡ ipc_asked (tokens_of line.now) }
@@ -333,6 +327,9 @@ pub(crate) fn read_command(line: &[u8]) -> Result<Command, ScriptFault>
     }
     if name == IPC {
         return ipc(rest).ok_or(ScriptFault::BadTokens);
+    }
+    if name == DELEGATE {
+        return delegate(rest).ok_or(ScriptFault::BadTokens);
     }
     if name == UNMAP {
         return unmap(rest).ok_or(ScriptFault::BadTokens);

@@ -2,11 +2,14 @@
 #![tactic(auto)]
 
 mod commands;
+mod delegations;
 mod partners;
 mod refusals;
+mod regions;
 mod requests;
 mod running;
 mod session;
+mod tokens;
 
 pub use l4_options::options;
 pub use l4_plan_lines::{check_lines, plan_lines};

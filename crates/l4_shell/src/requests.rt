@@ -5,6 +5,7 @@ ghost use Rattle.l4_shell.specs.Requests.{script_id, partner_id, space_id, creat
 use crate::commands::{Command, Words};
 use crate::partners::{NewSpace, Partner};
 use l4_ipc::{Call, Control, Create, IpcCall, SetPager, UnmapCall};
+use l4_msg::Region;
 use l4_threads::ThreadId;
 
 /// The thread that creates and deletes threads, and names their pagers.
@@ -15,6 +16,8 @@ const ROOT: u32 = 2;
 pub(crate) enum Request {
     /// The thread enters the call.
     Enter(u32, Call),
+    /// The thread sends the message of the region's plan.
+    SendPlan(u32, Partner, Region),
     /// The present pages of the thread's space are listed, among so many from a first on.
     ListPages(u32, u32, u32),
     /// The parent of a page of the thread's space is told.
@@ -98,7 +101,7 @@ fn receive_call(from: Partner, window: u32) -> Call
 }
 
 /// A send phase alone, without timeout.
-fn send_call(to: Partner, words: Words) -> Call
+pub(crate) fn send_call(to: Partner, words: Words) -> Call
     ensures { result ≡ send_call to words }
 {
     ipc_call(to, Partner::Nil, 0, 0, words)
@@ -132,6 +135,7 @@ pub(crate) fn request_of(command: Command) -> Request
             window,
         } => Request::Enter(number, receive_call(from, window)),
         Command::Send { number, to, words } => Request::Enter(number, send_call(to, words)),
+        Command::Delegate { number, to, region } => Request::SendPlan(number, to, region),
         Command::Ipc {
             number,
             to,

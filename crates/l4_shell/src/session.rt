@@ -4,16 +4,19 @@ ghost use Rattle.l4_ipc.specs.Steps.{Steps, IsNext, IsIdle};
 ghost use Rattle.l4_text.specs.Streams.{Tells};
 ghost use Rattle.l4_text.specs.Tokens.{tokens_of};
 ghost use Rattle.l4_shell.specs.Requests.{is_comment, is_empty, asked_at};
-ghost use Rattle.l4_shell.specs.Sessions.{step_line, ended_text, step_text, is_among, waiting_text, GoesOn, Enters, place_text, ListsBelow, Shows, parent_answer, CarriesOut, AnswersLine};
+ghost use Rattle.l4_shell.specs.Sessions.{step_line, ended_text, step_text, is_among, waiting_text, GoesOn, Enters, place_text, ListsBelow, Shows, parent_answer, Delegates, CarriesOut, AnswersLine};
 
 use crate::commands::{Command, ScriptFault, read_command};
-use crate::refusals::script_code;
-use crate::requests::{Request, request_of};
+use crate::delegations::plan_words;
+use crate::partners::Partner;
+use crate::refusals::{plan_code, script_code};
+use crate::requests::{Request, request_of, send_call};
 use l4_answers::{
     expire_text, page_text, parent_text, refused_code, refused_text, reply_text, shown_text,
     transfer_text, waits_text,
 };
 use l4_ipc::{Answer, Call, Kernel, Outcome, Refused, Step};
+use l4_msg::Region;
 use l4_text::{Ending, Output, next_token};
 use std::io::Write;
 
@@ -160,6 +163,24 @@ fn enter<W: Write>(
     }
 }
 
+/// Sends the message of a region's plan. Where there is none, tells why and does nothing.
+fn delegate<W: Write>(
+    kernel: &mut Kernel,
+    line: u64,
+    delegation: (u32, Partner, Region),
+    out: &mut Output,
+    writer: &mut W,
+)
+    ensures { (text : List ℕ) × Delegates kernel.old line delegation.0 delegation.1 delegation.2 text kernel.new
+        × Tells (W.contents writer.old) (W.contents writer.new) out.old out.new text }
+{
+    let (thread, to, region) = delegation;
+    match plan_words(&region) {
+        Ok(words) => enter(kernel, line, thread, send_call(to, words), out, writer),
+        Err(refusal) => out.put(writer, &refused_text(line, &plan_code(&refusal))),
+    }
+}
+
 /// Tells what a page shows, if it is present.
 fn tell_page<W: Write>(kernel: &Kernel, space: u64, page: u32, out: &mut Output, writer: &mut W)
     ensures { Tells (W.contents writer.old) (W.contents writer.new) out.old out.new
@@ -251,6 +272,9 @@ fn carry_out<W: Write>(
 {
     match request {
         Request::Enter(thread, call) => enter(kernel, line, thread, call, out, writer),
+        Request::SendPlan(thread, to, region) => {
+            delegate(kernel, line, (thread, to, region), out, writer)
+        }
         Request::ListPages(thread, first, count) => {
             show(kernel, line, thread, (first, count), out, writer)
         }

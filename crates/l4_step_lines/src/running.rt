@@ -1,23 +1,18 @@
 //! Lists of steps from a reader to a writer.
 use crate::session::answer_line;
 use l4_ipc::Kernel;
-use l4_text::{Ending, Line, Output, Source, next_line};
+use l4_text::{Ending, Line, Output, RunFault, Source, next_line};
 use std::alloc::Global;
 use std::io::{Read, Write};
 use thiserror::Error;
 
-/// Why a run stopped before the end of its list. All lines before a fault have been answered, but for `Write` and `Memory`.
+/// Why a run stopped before the end of its list. All lines before a fault have been answered, unless a write failed
+/// or there was no memory.
 #[derive(Debug, Drop, Error)]
 pub enum Fault {
-    /// A read failed, or the list had not ended after 16,777,216 reads.
-    #[error("error: a read of standard input failed")]
-    Read,
-    /// A write failed, or took no byte.
-    #[error("error: a write to standard output failed")]
-    Write,
-    /// There was no memory for a kernel. Nothing was read or written.
-    #[error("error: out of memory")]
-    Memory,
+    /// A read or a write failed, or there was no memory for a kernel.
+    #[error("error: the run stopped")]
+    Stopped(RunFault),
     /// The input ends within the line of this number.
     #[error("error: line {0} has no newline at its end")]
     Cut(u64),
@@ -40,7 +35,7 @@ fn answer_all<R: Read, W: Write>(
     let mut line = Line::new();
     for number in 1..u64::MAX {
         let Ok(next) = next_line(&mut source, &mut line, reader) else {
-            return Err(Fault::Read);
+            return Err(Fault::Stopped(RunFault::Read));
         };
         match next {
             None => return Ok(()),
@@ -49,14 +44,14 @@ fn answer_all<R: Read, W: Write>(
             Some(Ending::Whole) => answer_line(kernel, number, line.as_slice(), out, writer)?,
         }
         if out.has_failed() {
-            return Err(Fault::Write);
+            return Err(Fault::Stopped(RunFault::Write));
         }
     }
-    Err(Fault::Read)
+    Err(Fault::Stopped(RunFault::Read))
 }
 
 /// Answers the list that the reader gives, line by line, over a kernel of its own with this many frames, 1 to 4,096; with any other
-/// number there is no kernel, and that is `Memory`.
+/// number there is no kernel, and that is want of memory.
 ///
 /// A read asks for 4,096 bytes, and there are at most 16,777,216 reads. An error of any kind is a fault, and so is a write that takes no
 /// byte. What was answered goes out after a fault too.
@@ -67,12 +62,12 @@ pub fn run<R: Read, W: Write>(
     writer: &mut W,
 ) -> Result<(), Fault> {
     let Ok(mut kernel) = Kernel::boot(alloc, frames) else {
-        return Err(Fault::Memory);
+        return Err(Fault::Stopped(RunFault::Memory));
     };
     let mut out = Output::new();
     let answered = answer_all(&mut kernel, reader, &mut out, writer);
     match out.finish(writer) {
         Ok(()) => answered,
-        Err(_) => Err(Fault::Write),
+        Err(_) => Err(Fault::Stopped(RunFault::Write)),
     }
 }

@@ -4,6 +4,7 @@ use arrayvec::ArrayVec;
 use l4_fpage::Rights;
 use l4_ipc::{Outcome, Step};
 use l4_mapdb::{Mapping, Place};
+use l4_text::RunFault;
 use l4_threads::{IpcReply, Reply, ThreadId};
 use std::io;
 use std::io::Read;
@@ -49,7 +50,10 @@ fn a_failing_read_loses_no_answer(rt: HostRuntime) -> Result<(), Fail> {
         let mut reader = Drip { bytes: LIST, calls };
         let mut written = Vec::new(rt.alloc());
         let result = run(rt.alloc(), 256, &mut reader, &mut written);
-        assert!(rt; matches!(result, Err(Fault::Read)), "at {calls}");
+        assert!(rt;
+            matches!(result, Err(Fault::Stopped(RunFault::Read))),
+            "at {calls}"
+        );
         assert!(rt;
             Some(&written.as_slice()) == ANSWERS.get(lines),
             "at {calls}"

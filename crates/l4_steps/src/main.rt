@@ -5,30 +5,21 @@
 #![tactic(auto)]
 
 use l4_options::{
-    NO_MEMORY, NOT_UNDERSTOOD, STREAM_FAILED, StepOptions, command_words, misread, show,
-    step_options,
+    NOT_UNDERSTOOD, StepOptions, command_words, misread, show, step_options, stopped,
 };
 use l4_step_lines::{Fault, run};
 use std::io;
 use std::process::ExitCode;
 use std::rt::Env;
 
-/// The status to end with after a fault.
-fn fault_status(fault: &Fault) -> u8 {
-    match fault {
-        Fault::Read | Fault::Write => STREAM_FAILED,
-        Fault::Memory => NO_MEMORY,
-        Fault::Cut(_) | Fault::Long(_) | Fault::Unread(_) => NOT_UNDERSTOOD,
-    }
-}
-
 /// Answers the list of steps on standard input.
 fn answer_list<R: AllocGlobal + Input + Print + Eprint>(rt: &R, frames: u32) -> u8 {
     match run(rt.alloc(), frames, &mut rt.reader(), &mut io::writer(rt)) {
         Ok(()) => 0,
+        Err(Fault::Stopped(fault)) => stopped(rt, fault),
         Err(fault) => {
             let _ = rt.eprintln(&fault);
-            fault_status(&fault)
+            NOT_UNDERSTOOD
         }
     }
 }

@@ -1,5 +1,5 @@
 use Rattle.std.proofs.Common.{◌∙◌, sym, ap, arith, length}
-use Rattle.l4_shell.proofs.Numerals.{words_whole, words_many, words_bad}
+use Rattle.l4_shell.proofs.MessageWords.{words_whole, words_many, words_bad}
 use Rattle.l4_shell.proofs.commands.read_words.Goals as goal
 
 pub returns-in-None : goal.returns-in-None

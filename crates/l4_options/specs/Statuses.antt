@@ -1,0 +1,20 @@
+-- The exit statuses of the programs (this profile's own).
+use Rattle.std.specs.Prelude.{ℕ}
+use Rattle.l4_text.specs.declared.faults.RunFault.{RunFault}
+use Rattle.l4_text.specs.declared.faults.RunFault.TheVariants.{Read, Write, Memory}
+use Rattle.l4_options.specs.declared.requests.OptionFault.{OptionFault}
+use Rattle.l4_options.specs.declared.requests.OptionFault.TheVariants.{Memory as NoMemory, Words, Frames, Number, Rights}
+
+-- after a run that stopped: 3 where a stream failed, 4 for want of memory
+abbrev pub run_status : RunFault → ℕ
+run_status Read = 3
+run_status Write = 3
+run_status Memory = 4
+
+-- after a command line that isn't understood: 2, but 4 for want of memory
+abbrev pub option_status : OptionFault → ℕ
+option_status NoMemory = 4
+option_status (Words text) = 2
+option_status (Frames text) = 2
+option_status (Number text) = 2
+option_status (Rights text) = 2

@@ -1,0 +1,54 @@
+//! The regions that tokens name.
+ghost use Rattle.std.specs.Prelude.{◌≡◌};
+ghost use Rattle.l4_text.specs.Tokens.{tokens_of};
+ghost use Rattle.l4_shell.specs.Commands.{right_of, rights_of, region_of};
+
+use crate::tokens::three;
+use l4_fpage::Rights;
+use l4_msg::Region;
+use l4_text::{next_token, number};
+
+/// Whether a byte is a right's letter. None where it is neither that nor a dash.
+fn right(letter: u8, byte: u8) -> Option<bool>
+    ensures { result ≡ right_of letter byte }
+{
+    if byte == letter {
+        return Some(true);
+    }
+    if byte == b'-' { Some(false) } else { None }
+}
+
+/// The rights among read, write and execute.
+fn rights_with(read: bool, write: bool, execute: bool) -> Rights
+    ensures { result ≡ record { r = read; w = write; x = execute } }
+{
+    Rights::of_bits(4 * u8::from(read) + 2 * u8::from(write) + u8::from(execute))
+}
+
+/// r, w and x in turn, each of them or a dash in its place.
+#[tactic(auto, unfolding(crate::specs::Commands::rights_of))]
+fn rights(token: &[u8]) -> Option<Rights>
+    ensures { result ≡ rights_of token.now }
+{
+    if token.len() != 3 {
+        return None;
+    }
+    let read = right(b'r', token[0])?;
+    let write = right(b'w', token[1])?;
+    let execute = right(b'x', token[2])?;
+    Some(rights_with(read, write, execute))
+}
+
+/// `SOURCE TARGET COUNT RIGHTS`
+pub(crate) fn region(line: &[u8]) -> Option<Region>
+    ensures { result ≡ region_of (tokens_of line.now) }
+{
+    let (source, rest) = next_token(line)?;
+    let (target, (count, rights_token)) = three(rest)?;
+    Some(Region {
+        source: number(source)?,
+        target: number(target)?,
+        count: number(count)?,
+        rights: rights(rights_token)?,
+    })
+}
