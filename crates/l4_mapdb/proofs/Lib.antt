@@ -15,6 +15,7 @@ pub mod UsedMoves
 pub mod ForestEnds
 pub mod Slots
 pub mod Stored
+pub mod Replaced
 pub mod Climbing
 pub mod Middle
 pub mod Planned

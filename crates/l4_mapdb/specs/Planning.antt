@@ -1,5 +1,5 @@
 -- What the code says of the records while a message is delivered, rights are lost or a space ends. (this profile's own)
-use Rattle.std.specs.Prelude.{◌≡◌, ℕ, ◌<◌, ◌⊎◌, ◌↔◌, List, Option, Some, None, IsTrue, MatchOption, Bool}
+use Rattle.std.specs.Prelude.{◌≡◌, ℕ, ◌<◌, ◌⊎◌, ◌↔◌, List, Option, Some, None, IsTrue, MatchOption, Bool, slice_get}
 use Rattle.std.specs.FinMap.{find}
 use Rattle.std.specs.FinSet as set
 use Rattle.l4_fpage.specs.Rights.{RightsSet, Right, has, all_rights}
@@ -8,7 +8,7 @@ use Rattle.l4_mapdb.specs.declared.Mapping.{Mapping}
 use Rattle.l4_mapdb.specs.declared.ItemMove.{ItemMove}
 use Rattle.l4_mapdb.specs.declared.losing.Pages.{Pages}
 use Rattle.l4_mapdb.specs.declared.store.Node.{Node}
-use Rattle.l4_mapdb.specs.Mappings.{place_cmp, Mappings, Chain, Descends, IsForest}
+use Rattle.l4_mapdb.specs.Mappings.{place_cmp, Mappings, Chain, Descends, IsPresent, IsForest}
 use Rattle.l4_mapdb.specs.Entries.{Entries, parent_in, IsAmong, IsCutEntry}
 use Rattle.l4_mapdb.specs.Transfer.{PageMove, IsUsed, IsEntangled, Becomes, NeedsPlace}
 use Rattle.l4_mapdb.specs.Shown.{IsShownBy}
@@ -48,6 +48,19 @@ HasTargets from to items old new = (s : Mappings) → IsShownBy s (now_in old) �
 -- a used move has a target that is not present
 abbrev pub LacksPlace : ℕ → ℕ → List ItemMove → List (Option Node) → Type 0
 LacksPlace from to items slots = (s : Mappings) → IsShownBy s (now_in slots) → NeedsPlace (IsUsed s from to items) s
+
+-- no used move of the item has a present target
+abbrev pub ReplacesNoneBy : ℕ → ℕ → List ItemMove → List (Option Node) → ℕ → Type 0
+ReplacesNoneBy from to items slots item =
+    (s : Mappings) → IsShownBy s (now_in slots) → (move : PageMove) → IsUsed s from to items move → move.item ≡ item → ¬ (IsPresent s move.target)
+
+-- no used move has a present target
+abbrev pub ReplacesNone : ℕ → ℕ → List ItemMove → List (Option Node) → Type 0
+ReplacesNone from to items slots = (s : Mappings) → IsShownBy s (now_in slots) → (move : PageMove) → IsUsed s from to items move → ¬ (IsPresent s move.target)
+
+-- no item grants its pages
+abbrev pub GrantsNone : List ItemMove → Type 0
+GrantsNone items = (i : ℕ) (by : ItemMove) → slice_get items i ≡ Some by → ¬ (IsTrue by.grant)
 
 -- the record is to show what its place becomes, if that is anything
 abbrev pub LaterAt : ℕ → ℕ → List ItemMove → List (Option Node) → Option Node → Option Node → Type 0

@@ -11,6 +11,7 @@ ghost use Rattle.l4_mapdb.specs.Sheets.{slot_at, now_in, later_in, RecordedOnce,
 ghost use Rattle.l4_mapdb.specs.Planning.{Grows, TargetOf, HasTargets, LacksPlace, LaterAt, LosesMapping, LosesLater, CanTransfer, IsReady};
 
 use crate::moving::{later, lost, move_out};
+use crate::replacing::{grants_any, replaces_any};
 use crate::store::{Node, Store};
 use crate::{ItemMove, Mapping, NoMemory, Place};
 
@@ -100,9 +101,10 @@ fn plan(places: &mut Store, from: u64, to: u64, items: &[ItemMove])
     ensures spaces { places.new.spaces ≡ places.old.spaces }
     ensures once { RecordedOnce places.new.slots }
 {
+    let replaces = replaces_any(places, from, to, items);
     for key in 0..places.bound() {
         if let Some(node) = places.at(key) {
-            let becomes = later(places, from, to, items, node.place);
+            let becomes = later(places, from, to, items, replaces, node.place);
             places.plan(key, becomes);
         }
     }
@@ -133,6 +135,9 @@ fn cut_lost(places: &mut Store, from: u64, to: u64, items: &[ItemMove])
     ensures spaces { places.new.spaces ≡ places.old.spaces }
     ensures once { RecordedOnce places.new.slots }
 {
+    if !grants_any(items) {
+        return;
+    }
     for key in 0..places.bound() {
         if let Some(node) = places.at(key) {
             let mapping = after_cut(places, from, to, items, &node);

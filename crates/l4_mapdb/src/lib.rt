@@ -10,6 +10,7 @@ mod ending;
 mod lists;
 mod losing;
 mod moving;
+mod replacing;
 mod store;
 mod tangles;
 #[cfg(test)]

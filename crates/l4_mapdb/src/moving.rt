@@ -7,6 +7,7 @@ ghost use Rattle.l4_mapdb.specs.Transfer.{PageMove, IsUsed, IsGranted, IsGone, I
 ghost use Rattle.l4_mapdb.specs.Entries.{IsAcyclic};
 ghost use Rattle.l4_mapdb.specs.Sheets.{now_in, later_in};
 ghost use Rattle.l4_mapdb.specs.Shown.{IsShownBy, IsClimbedBy, LosesAt, page_move};
+ghost use Rattle.l4_mapdb.specs.Planning.{ReplacesNone};
 
 use crate::lists::child;
 use crate::store::Store;
@@ -186,6 +187,24 @@ pub(crate) fn is_gone(places: &Store, from: u64, to: u64, items: &[ItemMove], pl
     false
 }
 
+/// The same, where it is known whether any used move has a present target at all: where none has, no parent is followed.
+fn is_replaced(
+    places: &Store,
+    from: u64,
+    to: u64,
+    items: &[ItemMove],
+    replaces: bool,
+    place: Place,
+) -> bool
+    requires { ¬ (IsTrue replaces) → ReplacesNone from to items.now places.now.slots }
+    ensures { (s : Mappings) → IsShownBy s (now_in places.now.slots) → IsForest s → IsTrue result ↔ IsGone (IsUsed s from to items.now) s place }
+{
+    if replaces {
+        return is_gone(places, from, to, items, place);
+    }
+    false
+}
+
 /// What the target of the used move shows.
 fn arrived(places: &Store, from: u64, to: u64, items: &[ItemMove], used: &UsedMove) -> Mapping
     ensures { (s : Mappings) → IsShownBy s (now_in places.now.slots) → IsUsed s from to items.now (page_move used.now) → Becomes (IsUsed s from to items.now) s used.now.target result }
@@ -205,14 +224,17 @@ fn arrived(places: &Store, from: u64, to: u64, items: &[ItemMove], used: &UsedMo
     }
 }
 
-/// What the place shows once the used moves are done and before granted places' descendants are cut.
+/// What the place shows once the used moves are done and before granted places' descendants are cut. It is known whether any used
+/// move has a present target.
 pub(crate) fn later(
     places: &Store,
     from: u64,
     to: u64,
     items: &[ItemMove],
+    replaces: bool,
     place: Place,
 ) -> Option<Mapping>
+    requires { ¬ (IsTrue replaces) → ReplacesNone from to items.now places.now.slots }
     ensures { (s : Mappings) → IsShownBy s (now_in places.now.slots) → IsForest s → MatchOption result
         ((m : Mapping) → ¬ (Becomes (IsUsed s from to items.now) s place m))
         (Becomes (IsUsed s from to items.now) s place) }
@@ -226,7 +248,7 @@ pub(crate) fn later(
     if let Some(_) = granted_out(places, from, to, items, place) {
         return None;
     }
-    if is_gone(places, from, to, items, place) {
+    if is_replaced(places, from, to, items, replaces, place) {
         return None;
     }
     Some(Mapping {

@@ -1,11 +1,19 @@
-use Rattle.std.proofs.Common.{◌+◌, sym, subst, arith}
-use Rattle.l4_mapdb.specs.Sheets.{Sheet}
+use Rattle.std.proofs.Common.{◌+◌, ◌∙◌, sym, subst, arith}
+use Rattle.l4_mapdb.specs.Sheets.{Sheet, slot_at}
+use Rattle.std.proofs.lemmas.Bool.{false≢true}
+use Rattle.l4_mapdb.specs.Transfer.{IsUsed, IsCut}
+use Rattle.l4_mapdb.proofs.Replaced.{loses_nothing, no_cut}
 use Rattle.l4_mapdb.proofs.Planned.{CutSoFar, cut_first, cut_none, cut_some, cut_all, cut_acyclic}
 use Rattle.l4_mapdb.proofs.building.cut_lost.Goals.{in-Some, in_default}
 use Rattle.l4_mapdb.proofs.building.cut_lost.Goals as goal
 
 pub loop-key-init : goal.loop-key-init
 loop-key-init c = cut_first c.args.from c.args.to c.args.items.now c.args.places.now c.requires.once
+
+pub returns-then-not-grants_any-clause-loses : goal.returns-then-not-grants_any-clause-loses
+returns-then-not-grants_any-clause-loses c = λ s middle is climbed free key.
+    loses_nothing (IsCut (IsUsed s c.args.from c.args.to c.args.items.now) middle) (no_cut s middle c.args.from c.args.to c.args.items.now (c.grants_any.ensures (λ h. false≢true (sym c.if-not-grants_any.true ∙ h))))
+    (slot_at c.args.places.now.slots key)
 
 pub after_cut-mapping-requires : goal.after_cut-mapping-requires
 after_cut-mapping-requires c = record {

@@ -1,4 +1,4 @@
-use Rattle.std.proofs.Common.{◌+◌, sym, subst, arith}
+use Rattle.std.proofs.Common.{◌+◌, ◌∙◌, sym, subst, arith}
 use Rattle.l4_mapdb.specs.Sheets.{Sheet}
 use Rattle.l4_mapdb.proofs.Planned.{PlannedSoFar, planned_first, planned_none, planned_some, planned_all}
 use Rattle.l4_mapdb.proofs.building.plan.Goals.{in-Some, in_default}
@@ -6,6 +6,10 @@ use Rattle.l4_mapdb.proofs.building.plan.Goals as goal
 
 pub loop-key-init : goal.loop-key-init
 loop-key-init c = planned_first c.args.from c.args.to c.args.items.now c.args.places.now c.requires.once
+
+pub later-becomes-requires : goal.later-becomes-requires
+later-becomes-requires c = λ none s by_list.
+    c.replaces_any-replaces.ensures none s (λ q. by_list q ∙ c.loop-key.invariant.shows q)
 
 pub loop-key-preserved : goal.loop-key-preserved
 loop-key-preserved c = elim c.match-at.branch [

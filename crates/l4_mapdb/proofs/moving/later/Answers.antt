@@ -14,11 +14,11 @@ returns-in-Some-granted_out c = λ s by_list forest.
     let h = c.in-Some-granted_out.ensures s by_list in
     granted_goes (IsUsed s c.args.from c.args.to c.args.items.now) s c.args.place (c.in_default.ensures s by_list) (record { move = page_move c.in-Some-granted_out.field-0; used = h.0; grant = h.1; source = h.2 })
 
-pub returns-then-is_gone : goal.returns-then-is_gone
-returns-then-is_gone c = λ s by_list forest.
-    gone_goes (IsUsed s c.args.from c.args.to c.args.items.now) s c.args.place (c.in_default.ensures s by_list) ((c.is_gone.ensures s by_list forest).0 c.if-is_gone.true)
+pub returns-then-is_replaced : goal.returns-then-is_replaced
+returns-then-is_replaced c = λ s by_list forest.
+    gone_goes (IsUsed s c.args.from c.args.to c.args.items.now) s c.args.place (c.in_default.ensures s by_list) ((c.is_replaced.ensures s by_list forest).0 c.if-is_replaced.true)
 
 pub returns : goal.returns
 returns c = λ s by_list forest.
     stays (IsUsed s c.args.from c.args.to c.args.items.now) s c.args.place c.in-Some-shown.mapping _ (by_list c.args.place ∙ sym c.shown.ensures ∙ c.in-Some-shown.is)
-    (λ g. false≢true (sym c.if-is_gone.false ∙ (c.is_gone.ensures s by_list forest).1 g)) (c.in_default-granted_out.ensures s by_list) refl refl (c.renamed.ensures s by_list)
+    (λ g. false≢true (sym c.if-is_replaced.false ∙ (c.is_replaced.ensures s by_list forest).1 g)) (c.in_default-granted_out.ensures s by_list) refl refl (c.renamed.ensures s by_list)
