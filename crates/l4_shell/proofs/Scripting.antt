@@ -22,7 +22,7 @@ use Rattle.l4_text.specs.declared.faults.RunFault.{RunFault}
 use Rattle.l4_text.specs.declared.faults.RunFault.TheVariants.{Read, Write, Memory}
 use Rattle.l4_text.proofs.LineSteps.{consumes_more, consumes_same, empty_list}
 use Rattle.l4_text.proofs.Gone.{appends_same}
-use Rattle.l4_text.proofs.Telling.{tells_none, tells_more}
+use Rattle.l4_text.proofs.Telling.{tells_none, tells_more, tells_is}
 
 -- LINES OF BYTES
 
@@ -154,8 +154,27 @@ answered_more m last next old mid new now after kept number written out out' bef
       few = l.few;
     }
 
+-- what was held back went out
+pub answered_sent : (m last : Machine) (old new : Option (List ℕ)) (now : List ℕ × ℕ) (number : ℕ) (written out out' : Option (List ℕ)) (before s t : List ℕ × Bool)
+    → Answered m old new now number last written out before s → Tells out out' s t [] → Answered m old new now number last written out' before t
+answered_sent m last old new now number written out out' before s t a sent = record {
+  read = a.read;
+  done = a.done;
+  «from» = a.from;
+  same = a.same;
+  lines = a.lines;
+  front = a.front;
+  number_is = a.number_is;
+  whole = a.whole;
+  text = a.text;
+  answers = a.answers;
+  tells = tells_is written out' before t (a.text ++ []) a.text (append-nil a.text) (tells_more written out out' before s t a.text [] a.tells sent);
+  bound = a.bound;
+  few = a.few;
+}
+
 -- the lines so far, as lines of what was read
-beginning_of : (m last : Machine) (old new : Option (List ℕ)) (now : List ℕ × ℕ) (number : ℕ) (written out : Option (List ℕ)) (before after : List ℕ × Bool)
+pub beginning_of : (m last : Machine) (old new : Option (List ℕ)) (now : List ℕ × ℕ) (number : ℕ) (written out : Option (List ℕ)) (before after : List ℕ × Bool)
     → Answered m old new now number last written out before after → TellsBeginning m old new written out before after
 beginning_of m last old new now number written out before after a = record {
   read = a.read;
@@ -267,13 +286,6 @@ after_line Cut m last next old mid new now after kept number written out out' be
       end = g.1;
       number = omega (arith, a.number_is, ap length all, length-append a.lines (line ∷ []));
     }
-
--- writing failed in the line
-pub answered_write : (ending : Ending) (m next : Machine) (old new : Option (List ℕ)) (after : List ℕ × ℕ) (number : ℕ) (written out : Option (List ℕ)) (before t : List ℕ × Bool)
-    → AfterLine ending m old new after number next written out before t → TellsBeginning m old new written out before t
-answered_write Whole m next old new after number written out before t a = beginning_of m next old new after (number + 1) written out before t a
-answered_write Long m next old new after number written out before t a = beginning_of m next old new after (number + 1) written out before t a
-answered_write Cut m next old new after number written out before t a = a.some
 
 -- the line was cut
 pub answered_cut : (ending : Ending) (m next : Machine) (old new : Option (List ℕ)) (after : List ℕ × ℕ) (number : ℕ) (written out : Option (List ℕ)) (before t : List ℕ × Bool)

@@ -21,6 +21,10 @@ fn answer_all<R: Read, W: Write>(
     let mut source = Source::new();
     let mut line = Line::new();
     for number in 1..u64::MAX {
+        out.send_before_read(&source, writer);
+        if out.has_failed() {
+            return Err(RunFault::Write);
+        }
         let next = match next_line(&mut source, &mut line, reader) {
             Ok(next) => next,
             Err(_) => return Err(RunFault::Read),
@@ -29,9 +33,6 @@ fn answer_all<R: Read, W: Write>(
             return Ok(number - 1);
         };
         answer_line(kernel, number, ending, line.as_slice(), out, writer);
-        if out.has_failed() {
-            return Err(RunFault::Write);
-        }
         if ending == Ending::Cut {
             return Ok(number);
         }
@@ -41,7 +42,7 @@ fn answer_all<R: Read, W: Write>(
 
 /// Answers the script that the reader gives, line by line, over a kernel of its own with this many
 /// frames, 1 to 4,096. Answers the number of lines: empty ones, comments and refused ones too, and a
-/// last one that no newline ends.
+/// last one that no newline ends. A line's answers go out before the read that asks for the next.
 ///
 /// A read asks for 4,096 bytes, and there are at most 16,777,216 reads: where the script has not
 /// ended by then, that is `Read`. An error of any kind is a fault, and so is a write that takes no

@@ -34,6 +34,10 @@ fn answer_all<R: Read, W: Write>(
     let mut source = Source::new();
     let mut line = Line::new();
     for number in 1..u64::MAX {
+        out.send_before_read(&source, writer);
+        if out.has_failed() {
+            return Err(Fault::Stopped(RunFault::Write));
+        }
         let Ok(next) = next_line(&mut source, &mut line, reader) else {
             return Err(Fault::Stopped(RunFault::Read));
         };
@@ -43,15 +47,12 @@ fn answer_all<R: Read, W: Write>(
             Some(Ending::Long) => return Err(Fault::Long(number)),
             Some(Ending::Whole) => answer_line(kernel, number, line.as_slice(), out, writer)?,
         }
-        if out.has_failed() {
-            return Err(Fault::Stopped(RunFault::Write));
-        }
     }
     Err(Fault::Stopped(RunFault::Read))
 }
 
 /// Answers the list that the reader gives, line by line, over a kernel of its own with this many frames, 1 to 4,096; with any other
-/// number there is no kernel, and that is want of memory.
+/// number there is no kernel, and that is want of memory. A line's answers go out before the read that asks for the next.
 ///
 /// A read asks for 4,096 bytes, and there are at most 16,777,216 reads. An error of any kind is a fault, and so is a write that takes no
 /// byte. What was answered goes out after a fault too.

@@ -3,4 +3,5 @@ pub mod Gone
 pub mod LineSteps
 pub mod Parts
 pub mod Rows
+pub mod Spelled
 pub mod Telling

@@ -5,6 +5,7 @@ use Rattle.std.specs.Io.KnownBytes.{Consumes, Keeps}
 use Rattle.std.proofs.lemmas.List.{append-nil, length-take-le, take-append-le, take_all, drop-drop, drop-take}
 use Rattle.std.proofs.Math.Seq.{take-append-add}
 use Rattle.std.proofs.lemmas.List.Sums.{split_at_first, passes_at_first}
+use Rattle.std.proofs.lemmas.Bool.{false≢true}
 use Rattle.std.proofs.lemmas.Bool.Decides.{nat_tests}
 use mathlib.Core.List.{append_assoc}
 use Rattle.l4_text.specs.Lines.{is_newline, NoNewline, kept_of, Takes, TakesLine, TakesRest, GivesLine, left_of}
@@ -51,6 +52,19 @@ newline_at xs n is lt =
     let ten : get_or xs (position_or_len is_newline xs) 0 ≡ 10 = grind (arith, nat_tests) in
     subst (λ (m : ℕ). xs ≡ take m xs ++ (10 ∷ drop (m + 1) xs)) (sym is)
     (split_at_first is_newline xs 0 lt' ∙ ap (λ b. take k xs ++ (b ∷ drop (k + 1) xs)) ten)
+
+pub newline_inside : (xs ys : List ℕ) → NoNewline (xs ++ (10 ∷ ys)) → ⊥
+newline_inside [] ys h = false≢true (sym h.0)
+newline_inside (x ∷ xs) ys h = newline_inside xs ys h.1
+
+-- a newline is there
+pub some_newline : (xs : List ℕ) (n : ℕ) → n ≡ position_or_len is_newline xs → n < length xs → NoNewline xs → ⊥
+some_newline xs n is lt h = newline_inside (take n xs) (drop (n + 1) xs) (subst (λ (t : List ℕ). NoNewline t) (newline_at xs n is lt) h)
+
+-- none is there
+pub no_newline : (xs : List ℕ) (n : ℕ) → n ≡ position_or_len is_newline xs → length xs ≤ n → NoNewline xs
+no_newline xs n is le =
+    subst (λ (t : List ℕ). NoNewline t) (take_all (position_or_len is_newline xs) xs (omega (arith, is))) (plain_front xs)
 
 -- the part of a line that was taken so far
 pub record SoFar (old new : Option (List ℕ)) (before now : List ℕ × ℕ) (kept : List ℕ × Bool) (turn : ℕ) : Type 0 where

@@ -42,6 +42,14 @@ is_hex (a ∷ b ∷ bytes) = (a == 48) && (b == 120)
 abbrev pub below : ℕ → Option ℕ → Option ℕ
 below bound number = option_and_then (λ n. if nat_lt n bound then Some n else None) number
 
+-- a number below 2^32 in decimal
+unfoldable pub decimal_number_of : List ℕ → Option ℕ
+decimal_number_of text = below (2 ^ 32) (decimal_of text)
+
+-- a word in hexadecimal
+unfoldable pub word_of : List ℕ → Option ℕ
+word_of text = below (2 ^ 32) (hex_of text)
+
 -- a number: decimal, or hexadecimal after 0x, below 2^32
 unfoldable pub number_of : List ℕ → Option ℕ
 number_of text = below (2 ^ 32) (if is_hex text then hex_of (drop 2 text) else decimal_of text)

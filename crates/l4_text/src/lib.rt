@@ -10,7 +10,7 @@ mod tokens;
 
 pub use faults::RunFault;
 pub use lines::{Ending, Line, Source, next_line};
-pub use numbers::number;
+pub use numbers::{decimal_number, number, word};
 pub use output::Output;
 pub use texts::Text;
 pub use tokens::next_token;

@@ -1,7 +1,7 @@
 //! Lines of a stream, of which no more than one is kept.
-ghost use Rattle.std.specs.Prelude.{◌≡◌, ◌+◌, ◌-◌, ◌*◌, ◌<◌, ◌≤◌, [], ◌++◌, drop, length, ◌==◌, if◌then◌else◌, ℕ, List};
+ghost use Rattle.std.specs.Prelude.{◌≡◌, ◌+◌, ◌-◌, ◌*◌, ◌<◌, ◌≤◌, [], ◌++◌, drop, length, ◌==◌, if◌then◌else◌, ℕ, List, MatchBool};
 ghost use Rattle.std.specs.List.{position, position_or_len};
-ghost use Rattle.l4_text.specs.Lines.{is_newline, GivesLine, Filled};
+ghost use Rattle.l4_text.specs.Lines.{is_newline, NoNewline, GivesLine, Filled};
 
 use crate::faults::RunFault;
 use arrayvec::ArrayVec;
@@ -67,6 +67,17 @@ impl Source {
         ensures { result.now ≡ self.now.0 }
     {
         &self.chunk[self.start..self.end]
+    }
+
+    /// Whether a whole line was read and not taken, so that the next line needs no read.
+    pub fn has_line(&self) -> bool
+        ensures { MatchBool result (NoNewline self.now.0 → ⊥) (NoNewline self.now.0) }
+    {
+        let pending = self.pending();
+        if line_len(pending) < pending.len() {
+            return true;
+        }
+        false
     }
 
     /// Takes this many of them.

@@ -1,5 +1,5 @@
-ghost use Rattle.std.specs.Prelude.{◌≡◌};
-ghost use Rattle.l4_text.specs.Numbers.{digit_of, hex_digit_of, decimal_of, hex_of, number_of};
+ghost use Rattle.std.specs.Prelude.{◌≡◌, ◌^◌, Some};
+ghost use Rattle.l4_text.specs.Numbers.{digit_of, hex_digit_of, decimal_of, hex_of, below, decimal_number_of, word_of, number_of};
 
 /// The value of a decimal digit.
 fn digit(byte: u8) -> Option<u8>
@@ -55,6 +55,35 @@ fn hexadecimal(text: &[u8]) -> Option<u64>
     Some(value)
 }
 
+/// The number, where it is below 2^32.
+fn small(value: u64) -> Option<u32>
+    ensures { result ≡ below (2 ^ 32) (Some value) }
+{
+    if value < 0x1_0000_0000 {
+        Some(value as u32)
+    } else {
+        None
+    }
+}
+
+/// The number below 2^32 that one to ten decimal digits spell.
+#[tactic(auto, unfolding(crate::specs::Numbers::decimal_number_of))]
+pub fn decimal_number(text: &[u8]) -> Option<u32>
+    ensures { result ≡ decimal_number_of text.now }
+{
+    let value = decimal(text)?;
+    small(value)
+}
+
+/// The word that one to eight hexadecimal digits of either case spell.
+#[tactic(auto, unfolding(crate::specs::Numbers::word_of))]
+pub fn word(text: &[u8]) -> Option<u32>
+    ensures { result ≡ word_of text.now }
+{
+    let value = hexadecimal(text)?;
+    small(value)
+}
+
 /// A number: one to ten decimal digits, or `0x` and one to eight hexadecimal digits of either case, below
 /// 2^32.
 #[tactic(auto, unfolding(crate::specs::Numbers::number_of))]
@@ -66,9 +95,5 @@ pub fn number(text: &[u8]) -> Option<u32>
     } else {
         decimal(text)?
     };
-    if value < 0x1_0000_0000 {
-        Some(value as u32)
-    } else {
-        None
-    }
+    small(value)
 }

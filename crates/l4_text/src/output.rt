@@ -1,10 +1,11 @@
 //! What was answered and has not yet gone out.
-ghost use Rattle.std.specs.Prelude.{◌≡◌, ◌≤◌, ◌+◌, [], ◌++◌, length, OnOk, IfErr};
+ghost use Rattle.std.specs.Prelude.{◌≡◌, ◌≤◌, ◌+◌, ◌==◌, [], ◌++◌, length, OnOk, IfErr};
 ghost use Rattle.std.specs.Io.KnownBytes.{Appends};
 ghost use Rattle.std.specs.Prelude.{ℕ, List, Option, false};
-ghost use Rattle.l4_text.specs.Streams.{WentOut, Puts, HasTold, Tells};
+ghost use Rattle.l4_text.specs.Streams.{WentOut, Puts, HasTold, Tells, IsOutBeforeRead};
 
 use crate::faults::RunFault;
+use crate::lines::Source;
 use crate::texts::Text;
 use arrayvec::ArrayVec;
 use std::io::Write;
@@ -53,6 +54,12 @@ impl Held {
         Held {
             bytes: ArrayVec::new(),
         }
+    }
+
+    fn is_empty(&self) -> bool
+        ensures { result ≡ (length self.now == 0) }
+    {
+        self.bytes.is_empty()
     }
 
     /// Holds these bytes back too.
@@ -104,7 +111,8 @@ impl Held {
 
     /// Writes what is held, and has the writer pass on what it holds back itself.
     fn finish<W: Write>(&mut self, writer: &mut W) -> Result<(), RunFault>
-        ensures ok { OnOk result (Appends (W.contents writer.old) (W.contents writer.new) self.old) }
+        ensures ok { OnOk result ((self.new ≡ [])
+            × Appends (W.contents writer.old) (W.contents writer.new) self.old) }
         ensures err { IfErr result (λ e. (e ≡ RunFault.Write)
             × WentOut (W.contents writer.old) (W.contents writer.new) self.old) }
     {
@@ -159,6 +167,28 @@ impl Output {
         match self.held.put(writer, text) {
             Ok(()) => {}
             Err(_) => self.failed = true,
+        }
+    }
+
+    /// Lets what is held back go out before the next line is taken, where the source has no whole line and so has to
+    /// read: whoever gives the lines has all answers to those before it. Large inputs still go out in large pieces, one a
+    /// read.
+    pub fn send_before_read<W: Write>(&mut self, source: &Source, writer: &mut W)
+        ensures told { Tells (W.contents writer.old) (W.contents writer.new) self.old self.new [] }
+        ensures sent { IsOutBeforeRead source.now.0 self.new }
+    {
+        if self.failed {
+            return;
+        }
+        if source.has_line() {
+            return;
+        }
+        if self.held.is_empty() {
+            return;
+        }
+        match self.held.finish(writer) {
+            Ok(()) => {}
+            Err(_fault) => self.failed = true,
         }
     }
 
