@@ -15,6 +15,7 @@ use Rattle.l4_plan.proofs.Greedy.{NoneCrosses, none_crosses_start, none_crosses_
 use Rattle.l4_plan.proofs.Steps.{item_moves_is}
 use Rattle.l4_msg.specs.Regions.{IsAllowed, IsCertificate, IsPlan, ShareBlock, StartsAt}
 use Rattle.l4_plan.specs.Largest.{IsLargest, AreStarts}
+use Rattle.l4_plan.specs.Plan.{BeginsAt}
 
 -- largest allowed blocks begin at these pages, one after another, from a to b
 abbrev pub Walk : Region → ℕ → List ℕ → ℕ → Type 0
@@ -35,6 +36,17 @@ starts_of_walk r a (p ∷ ps) b w = (w.0, λ log best. subst (λ (k : ℕ). AreS
 pub starts_with_end : (r : Region) (a : ℕ) (ps : List ℕ) (b : ℕ) → Walk r a ps b → AreStarts r a (ps ++ b ∷ [])
 starts_with_end r a [] b w = (sym w, λ log best. tt)
 starts_with_end r a (p ∷ ps) b w = (w.0, λ log best. subst (λ (k : ℕ). AreStarts r (p + 2 ^ k) (ps ++ b ∷ [])) (one_largest r p w.1.0 log w.1.1 best) (starts_with_end r (p + 2 ^ w.1.0) ps b w.1.2))
+
+-- a walk that goes on has a page
+pub some_pages : (r : Region) (a : ℕ) (ps : List ℕ) (b : ℕ) → Walk r a ps b → a < b → 0 < length ps
+some_pages r a [] b w lt = absurd (omega (arith, w, lt))
+some_pages r a (p ∷ ps) b w lt = omega arith
+
+pub begin_there : (r : Region) (ps : List ℕ) (items : List Item) → AllZip (StartsAt r) ps items → AllZip BeginsAt ps items
+begin_there r [] [] h = tt
+begin_there r [] (i ∷ is) h = absurd h
+begin_there r (p ∷ ps) [] h = absurd h
+begin_there r (p ∷ ps) (i ∷ is) h = ((h.0.log, h.0.bytes), begin_there r ps is h.1)
 
 -- the items move the pages below this one, and their first pages are a certificate with it
 pub record Progress (r : Region) (page : ℕ) (items : List Item) (pages : List ℕ) : Type 0 where

@@ -49,6 +49,7 @@ fn item_of_block(region: &Region, page: u32, log: u8) -> Item
 /// Takes the largest allowed block at the first page, then at the page after it, and so on to the end: a plan,
 /// or the first 32 pages of a list of more than 31 items.
 fn split(region: &Region) -> Result<Plan, ArrayVec<u32, TOO_MANY>>
+    requires some { 0 < region.now.count }
     requires space { InSpace region.now }
     ensures plan { IfOk result (λ p. IsPlan region.now p.items p.pages) }
     ensures largest { MatchResult result (λ p. AreStarts region.now region.now.source p.pages) (λ pages. AreStarts region.now region.now.source pages.items) }

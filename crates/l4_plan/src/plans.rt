@@ -1,4 +1,5 @@
-ghost use Rattle.std.specs.Prelude.{◌≡◌, []};
+ghost use Rattle.std.specs.Prelude.{◌≡◌, ◌<◌, ◌≤◌, [], length};
+ghost use Rattle.std.specs.List.{AllPairs};
 ghost use Rattle.l4_msg.specs.Messages.{CanBeWritten};
 
 use arrayvec::ArrayVec;
@@ -40,16 +41,29 @@ impl Model for Plan {
 }
 
 impl Plan {
-    /// The items, in rising order of source.
+    ghost use Rattle.l4_plan.specs.Plan.{FitsMessage};
+
+    /// What holds of a plan at all times. It does nothing.
+    pub fn law_kept(&self)
+        ensures { FitsMessage self.now.items self.now.pages }
+    {
+        let _ = &self.items;
+    }
+
+    /// The items, 1 to 31 of them, in rising order of source.
     pub fn items(&self) -> &[Item]
-        ensures { result.now ≡ self.now.items }
+        ensures value { result.now ≡ self.now.items }
+        ensures some { 0 < length result.now }
+        ensures few { length result.now ≤ 31 }
     {
         self.items.as_slice()
     }
 
     /// The first source page of each item, in the items' order, as page numbers.
     pub fn pages(&self) -> &[u32]
-        ensures { result.now ≡ self.now.pages }
+        ensures value { result.now ≡ self.now.pages }
+        ensures one_each { length result.now ≡ length self.now.items }
+        ensures rising { AllPairs ◌<◌ result.now }
     {
         self.pages.as_slice()
     }

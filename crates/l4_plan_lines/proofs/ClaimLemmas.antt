@@ -2,7 +2,7 @@
 use Rattle.std.proofs.Common.{◌≡◌, ℕ, ◌+◌, ◌<◌, ◌≤◌, ap, ◌∙◌, sym, refl, arith, List, [], ◌∷◌, ◌++◌, length, get_or, Option, Some, None, length-append, ◌⊎◌, inl, inr}
 use Rattle.std.specs.List.{AllZip}
 use Rattle.l4_msg.specs.declared.items.Item.{Item}
-use Rattle.l4_plan_lines.specs.Spelling.{long_line}
+use Rattle.l4_plan_lines.specs.Lines.{long_line}
 use Rattle.l4_plan_lines.specs.Claims.{IsTagLine, IsPageLine, IsItemLine, AreItemLines, IsClaim, IsBeginning}
 use Rattle.l4_plan_lines.specs.declared.claims.Head.{Head}
 use Rattle.l4_plan_lines.specs.declared.claims.Head.TheVariants.{Plan, TooLong}

@@ -35,7 +35,7 @@ largest_exists r page space from below =
     let n = min (count_trailing_zeros 32 page) (count_trailing_zeros 32 (moved r page)) in (
       min n w.0,
       largest_is r page _ n w.0 space from below refl (λ k le. trailing_aligned 32 page k (omega (arith, le))) (λ k le. trailing_aligned 32 (moved r page) k (omega (arith, le)))
-      (λ k low one two. omega (arith, aligned_trailing 32 page k low one, aligned_trailing 32 (moved r page) k low two)) w.1.within w.1.most,
+          (λ k low one two. omega (arith, aligned_trailing 32 page k low one, aligned_trailing 32 (moved r page) k low two)) w.1.within w.1.most,
     )
 
 pub one_largest : (r : Region) (page j k : ℕ) → IsLargest r page j → IsLargest r page k → j ≡ k

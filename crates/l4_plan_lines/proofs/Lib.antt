@@ -1,6 +1,5 @@
 pub mod ClaimLemmas
-pub mod InputLemmas
-pub mod KnownBytes
+pub mod FoundLemmas
 pub mod LargestBlocks
 pub mod PlanTexts
 pub mod SameAnswers
@@ -9,4 +8,3 @@ pub mod SameInputs
 pub mod SameLines
 pub mod SamePlans
 pub mod TextSteps
-pub mod Texts

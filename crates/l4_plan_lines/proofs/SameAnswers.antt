@@ -19,8 +19,8 @@ use Rattle.l4_plan_lines.specs.declared.answers.Answer.TheVariants.{Refused, Fau
 use Rattle.l4_plan_lines.specs.declared.claims.Claim.{Claim}
 use Rattle.l4_plan_lines.specs.declared.claims.Head.{Head}
 use Rattle.l4_plan_lines.specs.declared.claims.Head.TheVariants.{Plan, TooLong}
-use Rattle.l4_plan_lines.specs.declared.input.LineFault.TheVariants.{BadTokens}
-use Rattle.l4_plan_lines.specs.declared.input.WrongLine.{WrongLine}
+use Rattle.l4_plan_lines.specs.declared.found.LineFault.TheVariants.{BadTokens}
+use Rattle.l4_plan_lines.specs.declared.found.WrongLine.{WrongLine}
 
 -- ---- one first fault
 

@@ -1,40 +1,37 @@
 -- An input is one list of lines, and has one first wrong line.
-use Rattle.std.proofs.Common.{◌≡◌, ℕ, suc, ◌+◌, ◌<◌, ◌≤◌, ◌⊎◌, inl, inr, refl, sym, ap, ◌∙◌, subst, arith, List, [], ◌∷◌, ◌++◌, length, get_or, append_assoc}
+use Rattle.std.proofs.Common.{◌≡◌, ◌==◌, false, ℕ, suc, ◌+◌, ◌<◌, ◌≤◌, ◌⊎◌, inl, inr, refl, sym, ap, ◌∙◌, subst, arith, List, [], ◌∷◌, ◌++◌, length, get_or, append_assoc}
+use Rattle.std.proofs.lemmas.Bool.{false≢true}
 use Rattle.std.specs.List.{All, flat_map}
+use Rattle.l4_text.proofs.LineSteps.{newline_inside}
+use Rattle.l4_text.specs.Lines.{NoNewline}
 use Rattle.l4_plan_lines.proofs.SameClaims.{begins_before, lines_short}
 use Rattle.l4_plan_lines.specs.Claims.{IsBeginning}
-use Rattle.l4_plan_lines.specs.Inputs.{HasNoNewline, Splits, IsLine, IsWrongWhole, IsFirstWrong, IsRefused}
-use Rattle.l4_plan_lines.specs.Spelling.{ended}
-use Rattle.l4_plan_lines.specs.declared.input.LineFault.{LineFault}
-use Rattle.l4_plan_lines.specs.declared.input.LineFault.TheVariants.{BadTokens, LineTooLong, CutLine}
-use Rattle.l4_plan_lines.specs.declared.input.WrongLine.{WrongLine}
+use Rattle.l4_plan_lines.specs.Inputs.{Splits, IsLine, IsWrongWhole, IsFirstWrong, IsRefused}
+use Rattle.l4_plan_lines.specs.Lines.{ended}
+use Rattle.l4_plan_lines.specs.declared.found.LineFault.{LineFault}
+use Rattle.l4_plan_lines.specs.declared.found.LineFault.TheVariants.{BadTokens, LineTooLong, CutLine}
+use Rattle.l4_plan_lines.specs.declared.found.WrongLine.{WrongLine}
 
 -- ---- the lines of an input
 
-newline_at : (x b : List ℕ) → get_or (x ++ 10 ∷ b) (length x) 0 ≡ 10
-newline_at [] b = refl
-newline_at (c ∷ cs) b = newline_at cs b
+has_newline : (rest x b : List ℕ) → NoNewline rest → rest ≡ x ++ 10 ∷ b → ⊥
+has_newline rest x b none e = newline_inside x b (subst (λ (t : List ℕ). NoNewline t) e none)
 
-newline_in : (x b : List ℕ) → length x < length (x ++ 10 ∷ b)
-newline_in [] b = omega arith
-newline_in (c ∷ cs) b = omega (arith, newline_in cs b)
-
-has_newline : (rest x b : List ℕ) → HasNoNewline rest → rest ≡ x ++ 10 ∷ b → ⊥
-has_newline rest x b none e =
-    none (length x) 0 (omega (arith, newline_in x b, ap length e)) (ap (λ (l : List ℕ). get_or l (length x) 0) e ∙ newline_at x b)
+is_newline : (b : ℕ) → (b == 10) ≡ false → b ≡ 10 → ⊥
+is_newline b other e = false≢true (sym other ∙ ap (λ (n : ℕ). n == 10) e)
 
 record SameSplit (x y a b : List ℕ) : Type 0 where
   line : x ≡ y
   others : a ≡ b
 
-same_split : (x y a b : List ℕ) → HasNoNewline x → HasNoNewline y → x ++ 10 ∷ a ≡ y ++ 10 ∷ b → SameSplit x y a b
+same_split : (x y a b : List ℕ) → NoNewline x → NoNewline y → x ++ 10 ∷ a ≡ y ++ 10 ∷ b → SameSplit x y a b
 same_split [] [] a b hx hy e = record { line = refl; others = cc }
-same_split [] (d ∷ ds) a b hx hy e = let f : 10 ≡ d = ap (λ (l : List ℕ). get_or l 0 0) e in absurd (hy 0 0 (omega arith) (sym f))
-same_split (c ∷ cs) [] a b hx hy e = let f : c ≡ 10 = ap (λ (l : List ℕ). get_or l 0 0) e in absurd (hx 0 0 (omega arith) f)
+same_split [] (d ∷ ds) a b hx hy e = let f : 10 ≡ d = ap (λ (l : List ℕ). get_or l 0 0) e in absurd (is_newline d hy.0 (sym f))
+same_split (c ∷ cs) [] a b hx hy e = let f : c ≡ 10 = ap (λ (l : List ℕ). get_or l 0 0) e in absurd (is_newline c hx.0 f)
 same_split (c ∷ cs) (d ∷ ds) a b hx hy e =
     let h : c ≡ d = cc in
     let t : cs ++ 10 ∷ a ≡ ds ++ 10 ∷ b = cc in
-    let m = same_split cs ds a b (λ k d lt. hx (suc k) d (omega arith)) (λ k d lt. hy (suc k) d (omega arith)) t in
+    let m = same_split cs ds a b hx.1 hy.1 t in
     record { line = λ i. h i ∷ m.line i; others = m.others }
 
 first_line : (x f rest : List ℕ) → ((x ++ 10 ∷ []) ++ f) ++ rest ≡ x ++ 10 ∷ (f ++ rest)
@@ -44,7 +41,7 @@ pub record OneSplit (xs ys : List (List ℕ)) (r s : List ℕ) : Type 0 where
   pub lines : xs ≡ ys
   pub rest : r ≡ s
 
-same_lines : (xs ys : List (List ℕ)) (r s : List ℕ) → All HasNoNewline xs → All HasNoNewline ys → HasNoNewline r → HasNoNewline s → flat_map ended xs ++ r ≡ flat_map ended ys ++ s → OneSplit xs ys r s
+same_lines : (xs ys : List (List ℕ)) (r s : List ℕ) → All NoNewline xs → All NoNewline ys → NoNewline r → NoNewline s → flat_map ended xs ++ r ≡ flat_map ended ys ++ s → OneSplit xs ys r s
 same_lines [] [] r s hx hy hr hs e = record { lines = refl; rest = e }
 same_lines [] (y ∷ ys) r s hx hy hr hs e = absurd (has_newline r y (flat_map ended ys ++ s) hr (e ∙ first_line y (flat_map ended ys) s))
 same_lines (x ∷ xs) [] r s hx hy hr hs e = absurd (has_newline s x (flat_map ended xs ++ r) hs (sym e ∙ first_line x (flat_map ended xs) r))

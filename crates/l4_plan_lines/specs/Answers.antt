@@ -1,7 +1,7 @@
 -- What is answered to an input about a region, and how that is spelled (own).
 use Rattle.std.specs.Prelude.{◌≡◌, ℕ, ◌*◌, ◌≤◌, ◌⊎◌, Bool, true, false, List, ◌++◌, length, Option, Some, codes}
 use Rattle.std.specs.Io.KnownBytes.{Consumes, IsAtEnd}
-use Rattle.l4_plan_lines.specs.Spelling.{ended}
+use Rattle.l4_plan_lines.specs.Lines.{ended}
 use Rattle.std.specs.Fmt.{decimal}
 use Rattle.l4_msg.specs.declared.regions.Region.{Region}
 use Rattle.l4_plan_check.specs.declared.faults.Fault.{Fault}
@@ -12,9 +12,9 @@ use Rattle.l4_plan_lines.specs.declared.answers.Answer.{Answer}
 use Rattle.l4_plan_lines.specs.declared.answers.Answer.TheVariants.{Refused, Faulty, ProvedPlan, ProvedTooLong}
 use Rattle.l4_plan_lines.specs.declared.claims.Claim.{Claim}
 use Rattle.l4_plan_lines.specs.declared.claims.Head.TheVariants.{Plan, TooLong}
-use Rattle.l4_plan_lines.specs.declared.input.WrongLine.{WrongLine}
-use Rattle.l4_plan_lines.specs.declared.input.LineFault.{LineFault}
-use Rattle.l4_plan_lines.specs.declared.input.LineFault.TheVariants.{BadTokens, LineTooLong, CutLine}
+use Rattle.l4_plan_lines.specs.declared.found.WrongLine.{WrongLine}
+use Rattle.l4_plan_lines.specs.declared.found.LineFault.{LineFault}
+use Rattle.l4_plan_lines.specs.declared.found.LineFault.TheVariants.{BadTokens, LineTooLong, CutLine}
 
 -- a message with so many map items, label 0 and no untyped words has this tag; of more items than a message holds
 -- any tag passes (L4 X.2 manual, IPC: message tag)

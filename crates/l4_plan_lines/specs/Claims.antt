@@ -4,7 +4,7 @@ use Rattle.std.specs.List.{AllZip}
 use Rattle.l4_msg.specs.Moves.{IsMap}
 use Rattle.l4_msg.specs.Words.{ItemReads}
 use Rattle.l4_msg.specs.declared.items.Item.{Item}
-use Rattle.l4_plan_lines.specs.Spelling.{tag_line, page_line, item_line, long_line}
+use Rattle.l4_plan_lines.specs.Lines.{tag_line, page_line, item_line, long_line}
 use Rattle.l4_plan_lines.specs.declared.claims.Claim.{Claim}
 use Rattle.l4_plan_lines.specs.declared.claims.Head.{Head}
 use Rattle.l4_plan_lines.specs.declared.claims.Head.TheVariants.{Plan, TooLong}

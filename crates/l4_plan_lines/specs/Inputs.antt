@@ -1,23 +1,23 @@
 -- An input in lines, and its first wrong line (own).
-use Rattle.std.specs.Prelude.{◌≡◌, ◌≢◌, ℕ, ◌+◌, ◌<◌, ◌≤◌, ◌⊎◌, List, [], ◌∷◌, ◌++◌, length, Option, MatchOption, MatchBool}
-use Rattle.std.specs.Io.KnownBytes.{Consumes}
+use Rattle.std.specs.Prelude.{◌≡◌, ℕ, ◌+◌, ◌<◌, ◌≤◌, ◌⊎◌, List, [], ◌∷◌, ◌++◌, length, Option, MatchOption}
+use Rattle.std.specs.Io.KnownBytes.{Consumes, IsAtEnd}
+use Rattle.l4_text.specs.Lines.{NoNewline}
+use Rattle.l4_text.specs.declared.lines.Ending.{Ending}
+use Rattle.l4_text.specs.declared.lines.Ending.TheVariants.{Whole, Long, Cut}
 use Rattle.std.specs.List.{All, flat_map}
-use Rattle.l4_plan_lines.specs.Spelling.{ended}
+use Rattle.l4_plan_lines.specs.Lines.{ended}
 use Rattle.l4_plan_lines.specs.Claims.{IsClaim, IsBeginning}
 use Rattle.l4_plan_lines.specs.declared.claims.Claim.{Claim}
-use Rattle.l4_plan_lines.specs.declared.input.Input.{Input}
-use Rattle.l4_plan_lines.specs.declared.input.WrongLine.{WrongLine}
-use Rattle.l4_plan_lines.specs.declared.input.LineFault.{LineFault}
-use Rattle.l4_plan_lines.specs.declared.input.LineFault.TheVariants.{BadTokens, LineTooLong, CutLine}
-
-abbrev pub HasNoNewline : List ℕ → Type 0
-HasNoNewline bytes = All (λ b. b ≢ 10) bytes
+use Rattle.l4_plan_lines.specs.declared.found.Found.{Found}
+use Rattle.l4_plan_lines.specs.declared.found.WrongLine.{WrongLine}
+use Rattle.l4_plan_lines.specs.declared.found.LineFault.{LineFault}
+use Rattle.l4_plan_lines.specs.declared.found.LineFault.TheVariants.{BadTokens, LineTooLong, CutLine}
 
 -- the input is these lines, each with its newline, and a rest without one
 pub record Splits (input : List ℕ) (lines : List (List ℕ)) (rest : List ℕ) : Type 0 where
   pub text : input ≡ flat_map ended lines ++ rest
-  pub whole : All HasNoNewline lines
-  pub cut : HasNoNewline rest
+  pub whole : All NoNewline lines
+  pub cut : NoNewline rest
 
 -- the line with this number, from 1, where those before it are a claim so far
 pub record IsLine (lines : List (List ℕ)) (number : ℕ) : Type 0 where
@@ -54,22 +54,39 @@ pub record IsWhole (input : List ℕ) (claim : Claim) : Type 0 where
   pub some : 0 < length lines
   pub claimed : IsClaim lines claim.head claim.items.items claim.pages.items
 
--- ---- what is kept of the input so far
+-- ---- what is found in the lines so far
 
--- no line was wrong yet
-pub record IsGoing (s : Input) (lines : List (List ℕ)) (rest : List ℕ) : Type 0 where
-  pub claimed : IsClaim lines s.claim.head s.claim.items.items s.claim.pages.items
-  pub held : MatchBool s.is_too_long (4096 < length rest) (s.line.items ≡ rest)
+-- these whole lines are the claim so far, or the first wrong one of them is known
+abbrev pub Reflects : Found → List (List ℕ) → Type 0
+Reflects s lines = MatchOption s.wrong (IsClaim lines s.claim.head s.claim.items.items s.claim.pages.items) (λ w. IsWrongWhole lines w.number w.fault)
 
--- the input so far is as this says
-pub record Reflects (s : Input) (input : List ℕ) : Type 0 where
+-- the input ends with these lines and this rest: they are the claim, or the first wrong line is known
+abbrev pub Stops : Found → List (List ℕ) → List ℕ → Type 0
+Stops s lines rest =
+    MatchOption s.wrong (IsClaim lines s.claim.head s.claim.items.items s.claim.pages.items × (rest ≡ [])) (λ w. IsFirstWrong lines rest w.number w.fault)
+
+-- the bytes of a line that ended like this, of which these are kept
+abbrev pub EndsSo : Ending → List ℕ → List ℕ → Type 0
+EndsSo Whole kept bytes = (length bytes ≤ 4096) × (kept ≡ bytes)
+EndsSo Long kept bytes = 4096 < length bytes
+EndsSo Cut kept bytes = 0 < length bytes
+
+-- after a line: one that is cut is the last
+abbrev pub TakesOne : Ending → Found → List (List ℕ) → List ℕ → Type 0
+TakesOne Whole s lines bytes = Reflects s (lines ++ bytes ∷ [])
+TakesOne Long s lines bytes = Reflects s (lines ++ bytes ∷ [])
+TakesOne Cut s lines bytes = Stops s lines bytes
+
+-- the whole input is as this says
+pub record HasEnded (s : Found) (input : List ℕ) : Type 0 where
   pub lines : List (List ℕ)
   pub rest : List ℕ
   pub splits : Splits input lines rest
-  pub state : MatchOption s.wrong (IsGoing s lines rest) (λ w. IsWrongWhole lines w.number w.fault)
+  pub state : Stops s lines rest
 
--- the reader gave these bytes, and the input reflects them
-pub record HasRead (before after : Option (List ℕ)) (s : Input) : Type 0 where
+-- the reader gave these bytes, to its end, and they are as this says
+pub record HasRead (before after : Option (List ℕ)) (s : Found) : Type 0 where
   pub bytes : List ℕ
   pub read : Consumes before after bytes
-  pub reflects : Reflects s bytes
+  pub end : IsAtEnd after
+  pub ended : HasEnded s bytes

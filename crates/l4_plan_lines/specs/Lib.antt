@@ -1,6 +1,5 @@
 pub mod Answers
 pub mod Claims
 pub mod Inputs
+pub mod Lines
 pub mod Plans
-pub mod Spelling
-pub mod Writing

@@ -6,7 +6,7 @@ use Rattle.l4_msg.specs.Words.{items_words}
 use Rattle.l4_msg.specs.declared.regions.Region.{Region}
 use Rattle.l4_plan.specs.Plan.{Listing}
 use Rattle.l4_plan.specs.Largest.{AreStarts}
-use Rattle.l4_plan_lines.specs.Spelling.{ended, tag_line, item_line, page_line, long_line}
+use Rattle.l4_plan_lines.specs.Lines.{ended, tag_line, item_line, page_line, long_line}
 
 -- two words and a page a line
 abbrev pub item_texts : List ℕ → List ℕ → List ℕ

@@ -1,14 +1,14 @@
 ghost use Rattle.std.specs.Prelude.{◌≡◌, ◌+◌, ◌≤◌, ◌<◌, ◌^◌, ◌↔◌, ◌++◌, ℕ, List, length, IsTrue, Some, codes};
 ghost use Rattle.std.specs.Fmt.{decimal};
-ghost use Rattle.l4_plan_lines.specs.Spelling.{ended};
-ghost use Rattle.l4_plan_lines.specs.Inputs.{Reflects, IsWhole};
+ghost use Rattle.l4_plan_lines.specs.Lines.{ended};
+ghost use Rattle.l4_plan_lines.specs.Inputs.{HasEnded, IsWhole};
 ghost use Rattle.l4_plan_lines.specs.Answers.{IsAnswer, IsTagOf, answer_line, wrong_line, wrong_code, fault_line, is_proved};
 
 use crate::claims::{Claim, Head};
-use crate::input::{Input, LineFault, WrongLine};
-use crate::spelling::{Text, push_bytes, push_number};
+use crate::found::{Found, LineFault, WrongLine};
 use l4_msg::{MAX_ITEMS, Region};
 use l4_plan_check::{Fault, check, check_too_long};
+use l4_text::Text;
 
 /// What is answered to an input.
 #[derive(Clone, Copy, PartialEq, Eq, Debug)]
@@ -60,10 +60,10 @@ fn answer_claim(region: &Region, head: Head, claim: &Claim) -> Answer
 }
 
 /// The answer to an input about a region.
-pub fn answer_input(region: &Region, input: Input) -> Answer
-    ensures { (text : List ℕ) → Reflects input text → IsAnswer region.now text result }
+pub fn answer_input(region: &Region, found: Found) -> Answer
+    ensures { (text : List ℕ) → HasEnded found text → IsAnswer region.now text result }
 {
-    match input.finish() {
+    match found.finish() {
         Ok((head, claim)) => answer_claim(region, head, &claim),
         Err(wrong) => Answer::Refused(wrong),
     }
@@ -83,58 +83,58 @@ fn fault_words(fault: LineFault) -> &'static [u8]
 
 /// Puts some words and a number after them at the end of the text.
 fn push_numbered(text: &mut Text, words: &[u8], number: u64)
-    requires room { length text.old.items ≤ 100 }
+    requires room { length text.old ≤ 100 }
     requires few { length words.now ≤ 10 }
-    ensures text { text.new.items ≡ text.old.items ++ (words.now ++ decimal number) }
-    ensures len { length text.new.items ≤ length text.old.items + 30 }
+    ensures text { text.new ≡ text.old ++ (words.now ++ decimal number) }
+    ensures len { length text.new ≤ length text.old + 30 }
 {
-    push_bytes(text, words);
-    push_number(text, number);
+    text.add(words);
+    text.add_number(number);
 }
 
 /// Puts the line of a wrong line at the end of the text, without its newline.
 fn push_wrong(text: &mut Text, wrong: WrongLine)
-    requires { length text.old.items ≤ 100 }
-    ensures text { text.new.items ≡ text.old.items ++ wrong_line wrong }
-    ensures len { length text.new.items ≤ length text.old.items + 50 }
+    requires { length text.old ≤ 100 }
+    ensures text { text.new ≡ text.old ++ wrong_line wrong }
+    ensures len { length text.new ≤ length text.old + 50 }
 {
     push_numbered(text, b"line ", u64::from(wrong.number));
-    push_bytes(text, fault_words(wrong.fault));
+    text.add(fault_words(wrong.fault));
 }
 
 /// Puts the line of a fault at the end of the text, without its newline.
 fn push_fault(text: &mut Text, fault: Fault)
-    requires { length text.old.items ≤ 100 }
-    ensures text { text.new.items ≡ text.old.items ++ fault_line fault }
-    ensures len { length text.new.items ≤ length text.old.items + 50 }
+    requires { length text.old ≤ 100 }
+    ensures text { text.new ≡ text.old ++ fault_line fault }
+    ensures len { length text.new ≤ length text.old + 50 }
 {
     match fault {
         Fault::Item(i) => push_numbered(text, b"fault C1 ", i as u64),
         Fault::Gap(page) => push_numbered(text, b"fault C2 ", u64::from(page)),
         Fault::Page(i) => push_numbered(text, b"fault C3 ", i as u64),
         Fault::Pair(i) => push_numbered(text, b"fault C4 ", i as u64),
-        Fault::Count => push_bytes(text, b"fault C5"),
-        Fault::Region => push_bytes(text, b"fault C6"),
+        Fault::Count => text.add(b"fault C5"),
+        Fault::Region => text.add(b"fault C6"),
     }
 }
 
 /// Puts the line of an answer at the end of the text, without its newline.
 fn push_answer(text: &mut Text, answer: Answer)
-    requires { length text.old.items ≤ 100 }
-    ensures text { text.new.items ≡ text.old.items ++ answer_line answer }
-    ensures len { length text.new.items ≤ length text.old.items + 50 }
+    requires { length text.old ≤ 100 }
+    ensures text { text.new ≡ text.old ++ answer_line answer }
+    ensures len { length text.new ≤ length text.old + 50 }
 {
     match answer {
         Answer::Refused(wrong) => push_wrong(text, wrong),
         Answer::Faulty(fault) => push_fault(text, fault),
         Answer::ProvedPlan(items) => push_numbered(text, b"proved ", items as u64),
-        Answer::ProvedTooLong => push_bytes(text, b"proved too-long"),
+        Answer::ProvedTooLong => text.add(b"proved too-long"),
     }
 }
 
 /// The line of an answer.
 pub fn answer_text(answer: Answer) -> Text
-    ensures { result.items ≡ ended (answer_line answer) }
+    ensures { result ≡ ended (answer_line answer) }
 {
     let mut text = Text::new();
     push_answer(&mut text, answer);

@@ -1,44 +1,34 @@
-ghost use Rattle.std.specs.Prelude.{◌≡◌, ◌++◌, ℕ, List, IfOk, IfErr, Err, Bool};
-ghost use Rattle.std.specs.Io.KnownBytes.{Appends, Keeps, IsAtEnd};
-ghost use Rattle.l4_plan_lines.specs.Inputs.{Reflects, HasRead};
+ghost use Rattle.std.specs.Prelude.{◌≡◌, ℕ, List, IfOk, IfErr, Err, Bool};
+ghost use Rattle.std.specs.Io.KnownBytes.{Appends, Keeps};
+ghost use Rattle.l4_plan_lines.specs.Inputs.{HasRead};
 ghost use Rattle.l4_plan_lines.specs.Answers.{Answered};
-ghost use Rattle.l4_plan_lines.specs.Writing.{WroteBeginning};
+ghost use Rattle.l4_text.specs.Streams.{WentOut};
 
 use crate::answers::{answer_input, answer_text};
-use crate::input::Input;
-use crate::writing::write_whole;
+use crate::found::Found;
 use l4_msg::Region;
-use l4_text::RunFault;
+use l4_text::{Ending, Line, Output, RunFault, Source, next_line};
 use std::io::{Read, Write};
 
-/// The most reads of an input.
-const MAX_READS: u32 = 1 << 24;
-
-/// The most bytes of a read.
-const READ_BYTES: usize = 4096;
-
-/// Takes bytes that were read.
-fn take_all(input: &mut Input, bytes: &[u8])
-    ensures { (before : List ℕ) → Reflects input.old before → Reflects input.new (before ++ bytes.now) }
-{
-    for byte in bytes {
-        input.take(*byte);
-    }
-}
-
-/// Reads the input to its end.
-fn read_input<R: Read>(reader: &mut R) -> Result<Input, RunFault>
+/// Reads the lines of the input, to its end.
+fn read_lines<R: Read>(reader: &mut R) -> Result<Found, RunFault>
     ensures ok { IfOk result (HasRead (R.remaining reader.old) (R.remaining reader.new)) }
-    ensures end { IfOk result (λ _. IsAtEnd (R.remaining reader.new)) }
     ensures err { IfErr result (λ e. e ≡ RunFault.Read) }
 {
-    let mut input = Input::new();
-    let mut buffer = [0; READ_BYTES];
-    for _ in 0..MAX_READS {
-        match reader.read(&mut buffer) {
-            Ok(0) => return Ok(input),
-            Ok(count) => take_all(&mut input, &buffer[..count]),
-            Err(_) => return Err(RunFault::Read),
+    let mut found = Found::new();
+    let mut source = Source::new();
+    let mut line = Line::new();
+    for turn in 0..u64::MAX {
+        let next = match next_line(&mut source, &mut line, reader) {
+            Ok(next) => next,
+            Err(fault) => return Err(fault),
+        };
+        let Some(ending) = next else {
+            return Ok(found);
+        };
+        found.take(ending, line.as_slice());
+        if ending == Ending::Cut {
+            return Ok(found);
         }
     }
     Err(RunFault::Read)
@@ -58,15 +48,17 @@ pub fn check_lines<R: Read, W: Write>(
     ensures read { result ≡ Err RunFault.Read → Keeps (W.contents writer.old) (W.contents writer.new) }
     ensures write { result ≡ Err RunFault.Write → (proved : Bool) × (text : List ℕ)
         × Answered region.now (R.remaining reader.old) (R.remaining reader.new) proved text
-        × WroteBeginning (W.contents writer.old) (W.contents writer.new) text }
+        × WentOut (W.contents writer.old) (W.contents writer.new) text }
     ensures memory { result ≡ Err RunFault.Memory → ⊥ }
 {
-    let input = match read_input(reader) {
-        Ok(input) => input,
-        Err(fault) => return Err(fault),
+    let found = match read_lines(reader) {
+        Ok(found) => found,
+        Err(unread) => return Err(unread),
     };
-    let answer = answer_input(region, input);
-    match write_whole(writer, answer_text(answer).as_slice()) {
+    let answer = answer_input(region, found);
+    let mut out = Output::new();
+    out.put(writer, &answer_text(answer));
+    match out.finish(writer) {
         Ok(()) => Ok(answer.is_proved()),
         Err(fault) => Err(fault),
     }

@@ -4,12 +4,11 @@
 mod answers;
 mod checking;
 mod claims;
-mod input;
+mod found;
 mod laws;
+mod lines;
 mod planning;
 mod reading;
-mod spelling;
-mod writing;
 
 pub use checking::check_lines;
 pub use l4_text::RunFault;

@@ -1,78 +1,93 @@
-ghost use Rattle.std.specs.Prelude.{◌≡◌, ◌+◌, ◌*◌, ◌≤◌, ℕ, List, Bool, length, IfOk, IfErr, codes};
+ghost use Rattle.std.specs.Prelude.{◌≡◌, ◌+◌, ◌*◌, ◌≤◌, ℕ, List, Bool, length, IfOk, IfErr};
 ghost use Rattle.std.specs.Io.KnownBytes.{Appends};
-ghost use Rattle.l4_plan_lines.specs.Spelling.{ended, long_line, page_line};
-ghost use Rattle.l4_plan_lines.specs.Plans.{IsPlanText, message_text, plan_text as text_of_plan, too_long_text as text_of_pages};
-ghost use Rattle.l4_plan_lines.specs.Writing.{WroteBeginning};
+ghost use Rattle.l4_text.specs.Streams.{Tells, WentOut};
+ghost use Rattle.l4_plan_lines.specs.Lines.{ended};
+ghost use Rattle.l4_plan_lines.specs.Plans.{IsPlanText, message_text, plan_text, too_long_text};
 
-use crate::spelling::{Text, push_bytes, push_item_line, push_page_line, push_tag_line};
-use crate::writing::write_whole;
+use crate::lines::{item_text, page_text, tag_text};
 use l4_msg::Region;
 use l4_plan::{Plan, PlanRefusal, plan};
-use l4_text::RunFault;
+use l4_text::{Output, RunFault, Text};
 use std::io::Write;
 
-/// The lines of a message's words, with a page for each item.
-fn message_lines(words: &[u32], pages: &[u32]) -> Text
-    requires count { length words.now ≡ 1 + 2 * length pages.now }
-    requires few { length pages.now ≤ 31 }
-    ensures { result.items ≡ message_text words.now pages.now }
+/// Tells some bytes.
+fn tell<W: Write>(bytes: &[u8], out: &mut Output, writer: &mut W)
+    requires { length bytes.now ≤ 100 }
+    ensures { Tells (W.contents writer.old) (W.contents writer.new) out.old out.new bytes.now }
 {
     let mut text = Text::new();
-    push_tag_line(&mut text, words[0]);
+    text.add(bytes);
+    out.put(writer, &text);
+}
+
+/// Tells a line and its newline.
+fn tell_line<W: Write>(line: &Text, out: &mut Output, writer: &mut W)
+    requires { length line.now ≤ 100 }
+    ensures { Tells (W.contents writer.old) (W.contents writer.new) out.old out.new (ended line.now) }
+{
+    let mut text = Text::new();
+    text.add(line.as_slice());
     text.push(b'\n');
+    out.put(writer, &text);
+}
+
+/// Tells the lines of a message's words, with a page for each item.
+fn tell_message<W: Write>(words: &[u32], pages: &[u32], out: &mut Output, writer: &mut W)
+    requires { length words.now ≡ 1 + 2 * length pages.now }
+    ensures { Tells (W.contents writer.old) (W.contents writer.new) out.old out.new (message_text words.now pages.now) }
+{
+    tell_line(&tag_text(words[0]), out, writer);
     let mut rest = &words[1..];
     for page in pages {
-        push_item_line(&mut text, rest[0], rest[1], *page);
-        text.push(b'\n');
+        tell_line(&item_text(rest[0], rest[1], *page), out, writer);
         rest = &rest[2..];
     }
-    text
 }
 
-/// The lines of a plan: the tag and the items of its message, and the page of each item.
-fn plan_text(plan: &Plan) -> Text
-    requires one_each { length plan.now.pages ≡ length plan.now.items }
-    requires few { length plan.now.items ≤ 31 }
-    ensures { result.items ≡ text_of_plan plan.now }
+/// Tells the lines of a plan: the tag and the items of its message, and the page of each item.
+fn tell_items<W: Write>(plan: &Plan, out: &mut Output, writer: &mut W)
+    ensures { Tells (W.contents writer.old) (W.contents writer.new) out.old out.new (plan_text plan.now) }
 {
     let words = plan.message().write();
-    message_lines(words.as_slice(), plan.pages())
+    tell_message(words.as_slice(), plan.pages(), out, writer);
 }
 
-/// The lines of a plan that is too long, with the pages that show it.
-fn too_long_text(pages: &[u32]) -> Text
-    requires { length pages.now ≤ 32 }
-    ensures { result.items ≡ text_of_pages pages.now }
+/// Tells the lines of a plan that is too long, with the pages that show it.
+fn tell_pages<W: Write>(pages: &[u32], out: &mut Output, writer: &mut W)
+    ensures { Tells (W.contents writer.old) (W.contents writer.new) out.old out.new (too_long_text pages.now) }
 {
-    let mut text = Text::new();
-    push_bytes(&mut text, b"too-long\n");
+    tell(b"too-long\n", out, writer);
     for page in pages {
-        push_page_line(&mut text, *page);
-        text.push(b'\n');
+        tell_line(&page_text(*page), out, writer);
     }
-    text
 }
 
-/// A text of some bytes.
-fn text_of(bytes: &[u8]) -> Text
-    requires { length bytes.now ≤ 100 }
-    ensures { result.items ≡ bytes.now }
-{
-    let mut text = Text::new();
-    push_bytes(&mut text, bytes);
-    text
-}
-
-/// The text of the plan of a region, and whether there is one.
-fn planned(region: &Region) -> (Text, bool)
-    ensures { IsPlanText region.now result.1 result.0.items }
+/// Tells the text of the plan of a region, and answers whether there is one.
+fn tell_plan<W: Write>(region: &Region, out: &mut Output, writer: &mut W) -> bool
+    ensures { (text : List ℕ) × IsPlanText region.now result text
+        × Tells (W.contents writer.old) (W.contents writer.new) out.old out.new text }
 {
     match plan(region) {
-        Ok(plan) => (plan_text(&plan), true),
-        Err(PlanRefusal::TooLong(pages)) => (too_long_text(pages.as_slice()), false),
-        Err(PlanRefusal::Empty) => (text_of(b"refused N1\n"), false),
-        Err(PlanRefusal::OutOfSpace) => (text_of(b"refused N2\n"), false),
-        Err(PlanRefusal::NoRights) => (text_of(b"refused N3\n"), false),
+        Ok(plan) => {
+            tell_items(&plan, out, writer);
+            true
+        }
+        Err(PlanRefusal::TooLong(pages)) => {
+            tell_pages(pages.as_slice(), out, writer);
+            false
+        }
+        Err(PlanRefusal::Empty) => {
+            tell(b"refused N1\n", out, writer);
+            false
+        }
+        Err(PlanRefusal::OutOfSpace) => {
+            tell(b"refused N2\n", out, writer);
+            false
+        }
+        Err(PlanRefusal::NoRights) => {
+            tell(b"refused N3\n", out, writer);
+            false
+        }
     }
 }
 
@@ -83,10 +98,11 @@ pub fn plan_lines<W: Write>(region: &Region, writer: &mut W) -> Result<bool, Run
         × Appends (W.contents writer.old) (W.contents writer.new) text) }
     ensures fault { IfErr result (λ e. e ≡ RunFault.Write) }
     ensures err { IfErr result (λ _. (is_plan : Bool) × (text : List ℕ) × IsPlanText region.now is_plan text
-        × WroteBeginning (W.contents writer.old) (W.contents writer.new) text) }
+        × WentOut (W.contents writer.old) (W.contents writer.new) text) }
 {
-    let (text, is_plan) = planned(region);
-    match write_whole(writer, text.as_slice()) {
+    let mut out = Output::new();
+    let is_plan = tell_plan(region, &mut out, writer);
+    match out.finish(writer) {
         Ok(()) => Ok(is_plan),
         Err(fault) => Err(fault),
     }

@@ -1,50 +1,26 @@
-ghost use Rattle.std.specs.Prelude.{◌≡◌, ℕ, ◌^◌, ◌<◌, ◌≤◌, ◌+◌, ◌*◌, false, length, IfSome, Some, MatchOption};
-ghost use Rattle.std.specs.Fmt.{decimal, digit_glyph};
+ghost use Rattle.std.specs.Prelude.{◌≡◌, ℕ, ◌^◌, ◌<◌, IfSome, Some, MatchOption};
+ghost use Rattle.std.specs.Fmt.{decimal};
+ghost use Rattle.l4_text.specs.Texts.{word_text};
 ghost use Rattle.l4_msg.specs.declared.items.Item.{Item as AnItem};
-ghost use Rattle.l4_plan_lines.specs.Spelling.{hex_word, tag_line, page_line, item_line};
+ghost use Rattle.l4_plan_lines.specs.Lines.{tag_line, page_line, item_line};
 ghost use Rattle.l4_plan_lines.specs.Claims.{IsItemLine};
 
-use crate::spelling::{Text, push_item_line, push_page_line, push_tag_line};
+use crate::lines::{item_text, page_text, tag_text};
 use l4_msg::Item;
-
-/// The value of a lower-case hexadecimal digit, 0 for any other byte.
-fn hex_value(digit: u8) -> u32
-    ensures below { result < 16 }
-    ensures value { (n : ℕ) → n < 16 → digit ≡ digit_glyph false n → result ≡ n }
-{
-    match digit {
-        b'0'..=b'9' => u32::from(digit - b'0'),
-        b'a'..=b'f' => u32::from(digit - b'a') + 10,
-        _ => 0,
-    }
-}
+use l4_text::{decimal_number, word};
 
 /// The word that eight digits spell, if they do.
 fn word_of(digits: &[u8]) -> u32
-    requires { length digits.now ≡ 8 }
-    ensures { (word : ℕ) → word < 2 ^ 32 → digits.now ≡ hex_word word → result ≡ word }
+    ensures { (w : ℕ) → w < 2 ^ 32 → digits.now ≡ word_text w → result ≡ w }
 {
-    hex_value(digits[0]) * 0x1000_0000
-        + hex_value(digits[1]) * 0x0100_0000
-        + hex_value(digits[2]) * 0x0010_0000
-        + hex_value(digits[3]) * 0x0001_0000
-        + hex_value(digits[4]) * 0x1000
-        + hex_value(digits[5]) * 0x100
-        + hex_value(digits[6]) * 0x10
-        + hex_value(digits[7])
+    word(digits).unwrap_or(0)
 }
 
 /// The number that these digits spell, if they do.
 fn number_of(digits: &[u8]) -> Option<u32>
     ensures { (n : ℕ) → n < 2 ^ 32 → digits.now ≡ decimal n → result ≡ Some n }
 {
-    let Ok(text) = str::from_utf8(digits) else {
-        return None;
-    };
-    match text.parse::<u32>() {
-        Ok(number) => Some(number),
-        Err(_) => None,
-    }
+    decimal_number(digits)
 }
 
 /// The word of a tag line.
@@ -56,8 +32,7 @@ pub fn tag_of_line(line: &[u8]) -> Option<u32>
         return None;
     }
     let tag = word_of(&line[4..]);
-    let mut spelled = Text::new();
-    push_tag_line(&mut spelled, tag);
+    let spelled = tag_text(tag);
     if spelled.as_slice() == line {
         return Some(tag);
     }
@@ -75,8 +50,7 @@ pub fn page_of_line(line: &[u8]) -> Option<u32>
     let Some(page) = number_of(&line[5..]) else {
         return None;
     };
-    let mut spelled = Text::new();
-    push_page_line(&mut spelled, page);
+    let spelled = page_text(page);
     if spelled.as_slice() == line {
         return Some(page);
     }
@@ -97,8 +71,7 @@ fn words_of_line(line: &[u8]) -> Option<(u32, u32, u32)>
     let Some(page) = number_of(&line[28..]) else {
         return None;
     };
-    let mut spelled = Text::new();
-    push_item_line(&mut spelled, first, second, page);
+    let spelled = item_text(first, second, page);
     if spelled.as_slice() == line {
         return Some((first, second, page));
     }

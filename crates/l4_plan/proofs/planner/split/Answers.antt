@@ -1,7 +1,7 @@
 use Rattle.std.proofs.Common.{◌≡◌, ◌*◌, ◌%◌, ◌^◌, arith}
 use Rattle.std.proofs.lemmas.Nat.{one_shl}
 use Rattle.std.proofs.lemmas.Grind.{common_steps}
-use Rattle.l4_plan.proofs.Progress.{progress_step, progress_end, certificate_push, starts_with_end, starts_of_walk}
+use Rattle.l4_plan.proofs.Progress.{progress_step, progress_end, certificate_push, starts_with_end, starts_of_walk, some_pages, begin_there}
 use Rattle.l4_plan.proofs.planner.split.Goals as goal
 
 pub returns-then-is_full-clause-too_long : goal.returns-then-is_full-clause-too_long
@@ -32,7 +32,10 @@ returns-clause-largest c = starts_of_walk c.args.region.now c.args.region.now.so
 
 pub invariant_of-result : goal.invariant_of-result
 invariant_of-result c = record {
-  one_each = c.loop-page.invariant.same;
+  some = omega (arith, c.loop-page.invariant.same, some_pages c.args.region.now c.args.region.now.source c.loop-page.pages.items c.loop-page.page c.loop-page.invariant.progress.walk (omega (arith, c.requires.some, c.loop-page-test.false, c.loop-page.invariant.end)));
   few = c.loop-page.invariant.room;
+  one_each = c.loop-page.invariant.same;
+  begins = begin_there c.args.region.now c.loop-page.pages.items c.loop-page.items.items c.loop-page.invariant.progress.starts;
+  rising = c.loop-page.invariant.progress.rising;
   whole = c.loop-page.invariant.progress.whole;
 }

@@ -1,5 +1,5 @@
 use Rattle.l4_msg.specs.Words.{ItemReads}
-use Rattle.l4_plan_lines.proofs.Texts.{same_words}
+use Rattle.l4_plan_lines.proofs.SameLines.{same_words}
 use Rattle.l4_plan_lines.proofs.reading.item_of_line.Goals as goal
 
 pub returns-in_default : goal.returns-in_default

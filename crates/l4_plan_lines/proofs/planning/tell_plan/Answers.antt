@@ -1,0 +1,51 @@
+use Rattle.std.proofs.Common.{codes, rules, refl, inl, inr, ap, subst, Err}
+use Rattle.l4_msg.specs.Regions.{IsSound}
+use Rattle.l4_text.proofs.Telling.{tells_is}
+use Rattle.l4_plan.specs.Refusals.{IfTooLong}
+use Rattle.l4_plan.specs.declared.plans.PlanRefusal.{PlanRefusal}
+use Rattle.l4_plan_lines.proofs.TextSteps.{long_of}
+use Rattle.l4_plan_lines.specs.Lines.{ended}
+use Rattle.l4_plan_lines.specs.Plans.{plan_text, too_long_text, IsTooLong}
+use Rattle.l4_plan_lines.proofs.planning.tell_plan.Goals as goal
+
+pub returns-in-Ok : goal.returns-in-Ok
+returns-in-Ok g c =
+    let sound : IsSound c.args.region.now = search rules in (
+      plan_text c.in-Ok.plan,
+      (
+        c.in-Ok.plan,
+        record {
+          sound = sound;
+          plan = c.in-Ok.ensures.planned;
+          one_each = c.in-Ok.ensures.one_each;
+          few = c.in-Ok.ensures.few;
+          starts = c.in-Ok.ensures.largest;
+          shortest = c.in-Ok.ensures.shortest;
+        },
+        refl,
+      ),
+      c.tell_items.ensures,
+    )
+
+pub returns-in-Err-TooLong : goal.returns-in-Err-TooLong
+returns-in-Err-TooLong g c =
+    let r = c.args.region.now in
+    let pages = c.in-Err-TooLong.pages.items in
+    let all = long_of c.args.region.now c.in-Err-TooLong.field-0 c.in-Err-TooLong.ensures.too_long c.in-Err-TooLong.ensures.first_32 c.in-Err-TooLong.ensures.none_short in
+    let long : IsTooLong r pages = subst (λ (x : PlanRefusal). IfTooLong x (IsTooLong c.args.region.now)) c.in-Err-TooLong.field-0-is all in
+    (too_long_text pages, inr (inr (inr (pages, long, refl))), tells_is _ _ _ _ _ _ (ap too_long_text c.as_slice.ensures.value) c.tell_pages.ensures)
+
+pub returns-in-Err-Empty : goal.returns-in-Err-Empty
+returns-in-Err-Empty g c =
+    let h = c.in-Err-Empty.ensures.empty.0 (λ i. Err (c.in-Err-Empty.field-0-is i)) in
+    (ended (codes "refused N1"), inl (h, refl), c.tell.ensures)
+
+pub returns-in-Err-OutOfSpace : goal.returns-in-Err-OutOfSpace
+returns-in-Err-OutOfSpace g c =
+    let h = c.in-Err-OutOfSpace.ensures.out_of_space.0 (λ i. Err (c.in-Err-OutOfSpace.field-0-is i)) in
+    (ended (codes "refused N2"), inr (inl (h.0, h.1, refl)), c.tell-in-Err-OutOfSpace.ensures)
+
+pub returns-in-Err-NoRights : goal.returns-in-Err-NoRights
+returns-in-Err-NoRights g c =
+    let h = c.in-Err-NoRights.ensures.no_rights.0 (λ i. Err (c.in-Err-NoRights.field-0-is i)) in
+    (ended (codes "refused N3"), inr (inr (inl (h.0, h.1, h.2, refl))), c.tell-in-Err-NoRights.ensures)

@@ -1,0 +1,101 @@
+ghost use Rattle.std.specs.Prelude.{◌≡◌, [], ℕ, List, IfOk, IfErr, None, Some};
+ghost use Rattle.l4_plan_lines.specs.Inputs.{Reflects, EndsSo, TakesOne, HasEnded, IsRefused, IsWhole};
+
+use crate::claims::{Claim, Head};
+use l4_text::Ending;
+
+/// What is wrong with a line.
+#[derive(Clone, Copy, PartialEq, Eq, Debug)]
+pub enum LineFault {
+    /// S2: the line is spelled wrong, or may not stand here.
+    BadTokens,
+    /// S3: the line has more than 4,096 bytes before its newline.
+    LineTooLong,
+    /// S4: the input ends before the line's newline.
+    CutLine,
+}
+
+/// A wrong line: its number, from 1, and what is wrong with it.
+#[derive(Clone, Copy, PartialEq, Eq, Debug)]
+pub struct WrongLine {
+    pub number: u32,
+    pub fault: LineFault,
+}
+
+/// What is found in the lines so far: what they say, and the first wrong one.
+#[derive(Drop)]
+pub struct Found {
+    pub claim: Claim,
+    pub wrong: Option<WrongLine>,
+}
+
+impl Found {
+    /// Nothing, in no lines.
+    pub fn new() -> Found
+        ensures { Reflects result [] }
+    {
+        Found {
+            claim: Claim::new(),
+            wrong: None,
+        }
+    }
+
+    /// Takes the next line, which ended like this. Of a line over 4,096 bytes these are the first.
+    pub fn take(&mut self, ending: Ending, line: &[u8])
+        ensures { (lines : List (List ℕ)) (bytes : List ℕ) → EndsSo ending line.now bytes → Reflects self.old lines → TakesOne ending self.new lines bytes }
+    {
+        match self.wrong {
+            Some(_) => {}
+            None => self.take_next(ending, line),
+        }
+    }
+
+    /// Takes the next line, where no line was wrong.
+    fn take_next(&mut self, ending: Ending, line: &[u8])
+        requires { self.old.wrong ≡ None }
+        ensures { (lines : List (List ℕ)) (bytes : List ℕ) → EndsSo ending line.now bytes → Reflects self.old lines → TakesOne ending self.new lines bytes }
+    {
+        let number = self.claim.lines() + 1;
+        match ending {
+            Ending::Cut => {
+                self.wrong = Some(WrongLine {
+                    number,
+                    fault: LineFault::CutLine,
+                });
+            }
+            Ending::Long => {
+                self.wrong = Some(WrongLine {
+                    number,
+                    fault: LineFault::LineTooLong,
+                });
+            }
+            Ending::Whole => {
+                if self.claim.add(line) {
+                    return;
+                }
+                self.wrong = Some(WrongLine {
+                    number,
+                    fault: LineFault::BadTokens,
+                });
+            }
+        }
+    }
+
+    /// The claim of the whole input with its head, or the first wrong line.
+    pub fn finish(self) -> Result<(Head, Claim), WrongLine>
+        ensures ok { IfOk result (λ found. (input : List ℕ) → HasEnded self input → IsWhole input found.1) }
+        ensures head { IfOk result (λ found. found.1.head ≡ Some found.0) }
+        ensures err { IfErr result (λ wrong. (input : List ℕ) → HasEnded self input → IsRefused input wrong) }
+    {
+        if let Some(wrong) = self.wrong {
+            return Err(wrong);
+        }
+        match self.claim.head {
+            Some(head) => Ok((head, self.claim)),
+            None => Err(WrongLine {
+                number: 1,
+                fault: LineFault::BadTokens,
+            }),
+        }
+    }
+}
