@@ -20,7 +20,9 @@ pub use constructors::Timeout;
 pub use kernel::Kernel;
 pub use l4_fpage::{BadFpage, Block, Extent, Fpage, Rights, SPACE_PAGES};
 pub use l4_mapdb::{MAX_FRAMES, Mapping, NoMemory, Place};
-pub use l4_msg::{Acceptor, Item, ItemFault, MAX_ITEMS, MAX_WORDS, Message, MsgFault, Tag};
+pub use l4_msg::{
+    Acceptor, Item, ItemFault, MAX_ITEMS, MAX_UNTYPED, MAX_WORDS, Message, MsgFault, Tag,
+};
 pub use l4_threads::{IpcReply, Reply, ThreadFault, ThreadId};
 pub use l4_unmap::UnmapFault;
 pub use next::Next;

@@ -97,7 +97,7 @@ impl Item {
 
     /// The two words of the item; `more`, its lowest bit, says that another item follows. The send
     /// base is a multiple of 1,024 bytes.
-    pub fn words(&self, more: bool) -> (u32, u32)
+    pub(crate) fn words(&self, more: bool) -> (u32, u32)
         requires { base_of self.now % 1024 ≡ 0 }
         ensures value { result ≡ item_words self.now more }
         ensures reads { ItemReads result.0 result.1 self.now }

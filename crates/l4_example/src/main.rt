@@ -1,0 +1,127 @@
+//! How the kernel is embedded: sigma0 hands pages to one thread, which delegates a range of them to another and takes it back.
+#![tactic(auto)]
+
+use l4_ipc::{
+    ArrayVec, Block, Call, Fpage, Kernel, MAX_WORDS, Refused, Rights, Step, ThreadId, Timeout,
+};
+use l4_msg::Region;
+use l4_plan::{Plan, plan};
+use l4_plan_check::{Proved, check};
+use std::io;
+use std::process::ExitCode;
+
+/// The page frames of the machine.
+const FRAMES: u32 = 64;
+
+/// The number of root, which may create threads.
+const ROOT: u32 = 2;
+
+/// A thread of the example.
+#[derive(Clone, Copy)]
+struct Party {
+    number: u32,
+    id: ThreadId,
+}
+
+const SIGMA0: Party = Party {
+    number: 1,
+    id: ThreadId(0x4001),
+};
+
+/// Why the example ended early.
+#[derive(Debug, Drop)]
+enum Stop {
+    Refused(Refused),
+    NoId,
+    NoPlan,
+    NotProved,
+    NothingEnabled,
+    Output(io::Error),
+}
+
+/// Does one step.
+fn step(kernel: &mut Kernel, step: &Step) -> Result<(), Stop> {
+    match kernel.step(step) {
+        Ok(_) => Ok(()),
+        Err(refused) => Err(Stop::Refused(refused)),
+    }
+}
+
+/// Makes the thread of this number, in a space of its own.
+fn create(kernel: &mut Kernel, number: u32) -> Result<Party, Stop> {
+    let id = ThreadId::global(number, 1).ok_or(Stop::NoId)?;
+    step(kernel, &Step::Start(ROOT, Call::create(id, id, SIGMA0.id)))?;
+    Ok(Party { number, id })
+}
+
+/// The message registers that send a plan's items.
+fn words_of(plan: &Plan) -> ArrayVec<u32, MAX_WORDS> {
+    plan.message().write()
+}
+
+/// Lets a thread hand a region of its pages to another, by the shortest message that does it.
+fn delegate(kernel: &mut Kernel, from: &Party, to: &Party, region: &Region) -> Result<(), Stop> {
+    let Ok(plan) = plan(region) else {
+        return Err(Stop::NoPlan);
+    };
+    let Ok(Proved) = check(region, plan.items(), plan.pages()) else {
+        return Err(Stop::NotProved);
+    };
+    let window = Fpage::Complete(Rights::all());
+    let receive = Call::receive(from.id, window, Timeout::Never);
+    step(kernel, &Step::Start(to.number, receive))?;
+    let send = Call::send(to.id, words_of(&plan), Timeout::Never);
+    step(kernel, &Step::Start(from.number, send))?;
+    let transfer = kernel.enabled().ok_or(Stop::NothingEnabled)?;
+    step(kernel, &transfer)
+}
+
+/// Prints what the space of a thread shows.
+fn show(rt: &impl Print, kernel: &Kernel, party: &Party) -> io::Result<()> {
+    println!(rt; "thread {}", party.number)?;
+    let Some(space) = kernel.space_of(party.number) else {
+        return Ok(());
+    };
+    for page in 0..FRAMES {
+        if let Some(mapping) = kernel.mapping(space, page) {
+            let rights = mapping.rights.bits();
+            println!(rt; "  page {page} frame {} rights {rights}", mapping.frame)?;
+        }
+    }
+    Ok(())
+}
+
+/// Delegates and takes back, and prints what the two spaces show after each.
+fn tell<R: AllocGlobal + Print>(rt: &R) -> Result<(), Stop> {
+    let mut kernel = Kernel::boot(rt.alloc(), FRAMES).map_err(Stop::Refused)?;
+    let first = create(&mut kernel, 3)?;
+    let second = create(&mut kernel, 4)?;
+    let pages = Region {
+        source: 16,
+        target: 16,
+        count: 8,
+        rights: Rights::R.union(Rights::W),
+    };
+    delegate(&mut kernel, &SIGMA0, &first, &pages)?;
+    let range = Region {
+        source: 17,
+        target: 33,
+        count: 6,
+        rights: Rights::R,
+    };
+    delegate(&mut kernel, &first, &second, &range)?;
+    show(rt, &kernel, &first).map_err(Stop::Output)?;
+    show(rt, &kernel, &second).map_err(Stop::Output)?;
+    let block = Block::new(16, 3).ok_or(Stop::NoPlan)?;
+    let unmap = Call::unmap(false, &[Fpage::of_block(block, Rights::all())]).ok_or(Stop::NoPlan)?;
+    step(&mut kernel, &Step::Start(first.number, unmap))?;
+    show(rt, &kernel, &first).map_err(Stop::Output)?;
+    show(rt, &kernel, &second).map_err(Stop::Output)
+}
+
+fn main(rt: HostRuntime) -> ExitCode {
+    match tell(&rt) {
+        Ok(()) => ExitCode::from(0),
+        Err(_) => ExitCode::from(1),
+    }
+}
