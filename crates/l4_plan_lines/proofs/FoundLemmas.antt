@@ -1,5 +1,5 @@
 -- What is found in lines, one after another.
-use Rattle.std.proofs.Common.{◌≡◌, ℕ, ◌+◌, ◌<◌, ◌≤◌, ap, ◌∙◌, sym, refl, arith, subst, nat_lt, Bool, true, false, List, [], ◌∷◌, ◌++◌, length, length-take, take, Option, Some, None, Ok, Err, MatchOption, append_assoc, inl, inr}
+use Rattle.std.proofs.Common.{◌≡◌, ℕ, ◌+◌, ◌<◌, ◌≤◌, ap, ◌∙◌, sym, refl, arith, subst, nat_lt, Bool, true, false, List, [], ◌∷◌, ◌++◌, length, length-take, take, Option, Some, None, Ok, MatchOption, append_assoc, inr}
 use Rattle.std.proofs.lemmas.Bool.{false≢true}
 use Rattle.std.proofs.lemmas.Bool.Decides.{nat_tests}
 use Rattle.std.proofs.lemmas.List.{append-nil, take_all}
@@ -8,13 +8,13 @@ use Rattle.std.specs.Io.KnownBytes.{Consumes}
 use Rattle.std.specs.List.{All, flat_map}
 use denote.Enum.Bare.{sameb}
 use Rattle.l4_text.proofs.LineSteps.{consumes_more, consumes_same, empty_list}
-use Rattle.l4_text.specs.Lines.{NoNewline, kept_of, TakesLine, TakesRest, GivesLine}
+use Rattle.l4_text.specs.Lines.{NoNewline, TakesLine, TakesRest, GivesLine}
 use Rattle.l4_text.specs.contracts.lines.Ending.{the_type}
 use Rattle.l4_text.specs.declared.lines.Ending.{Ending}
 use Rattle.l4_text.specs.declared.lines.Ending.TheVariants.{Whole, Long, Cut}
 use Rattle.l4_plan_lines.specs.Lines.{ended}
 use Rattle.l4_plan_lines.specs.Claims.{IsClaim, IsBeginning, SaysMore, SaysAll}
-use Rattle.l4_plan_lines.specs.Inputs.{Splits, IsLine, IsWrongWhole, IsFirstWrong, Reflects, Stops, EndsSo, TakesOne, HasEnded, HasRead}
+use Rattle.l4_plan_lines.specs.Inputs.{IsLine, IsWrongWhole, IsFirstWrong, Reflects, Stops, EndsSo, TakesOne, HasRead}
 use Rattle.l4_plan_lines.specs.declared.found.Found.{Found}
 use Rattle.l4_plan_lines.specs.declared.found.WrongLine.{WrongLine}
 use Rattle.l4_plan_lines.specs.declared.found.LineFault.{LineFault}
