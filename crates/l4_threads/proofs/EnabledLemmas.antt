@@ -1,5 +1,5 @@
 -- Which transfers and expiries are enabled, as the queue in its order tells.
-use Rattle.std.proofs.Common.{◌≡◌, ℕ, ◌+◌, ◌<◌, ◌≤◌, ◌==◌, Bool, true, false, cond, ◌↔◌, if◌then◌else◌, List, length, drop, get_or, Option, Some, None, is_some, MatchOption, nat_eq, nat_lt, slice_get, refl, sym, ap, ◌∙◌, subst, arith, inl, inr, eq-eqb, IsTrue, option_and_then}
+use Rattle.std.proofs.Common.{◌≡◌, ℕ, zero, suc, ◌+◌, ◌<◌, ◌≤◌, ◌==◌, ◌||◌, Bool, true, false, cond, [], ◌∷◌, ◌↔◌, if◌then◌else◌, List, length, drop, get_or, Option, Some, None, is_some, MatchOption, nat_eq, nat_lt, slice_get, refl, sym, ap, ◌∙◌, subst, arith, inl, inr, eq-eqb, IsTrue, option_and_then}
 use Rattle.std.specs.Option.{option_map_or, option_eq}
 use Rattle.std.specs.List.{find}
 use Rattle.std.specs.FinSet as set
@@ -11,14 +11,14 @@ use Rattle.l4_threads.specs.declared.Sending.{Sending}
 use Rattle.l4_threads.specs.declared.Receiving.{Receiving}
 use Rattle.l4_threads.specs.Threads.{Threads, state_of, sends, is_sending, Before, IsConsistent}
 use Rattle.l4_threads.specs.Enabled.{takes_from, offers_to, Offers, target_of, taker, IsFirstSender, IsNextTransfer, expires, CanExpire, IsNextExpiry}
-use Rattle.l4_threads.specs.Entries.{Entries, found, is_in, IsOnce, precedes, IsTable}
+use Rattle.l4_threads.specs.Entries.{Entries, found, is_in, IsOnce, precedes, IsTable, is_receiving, any_state}
 use Rattle.l4_threads.specs.Queue.{threads_of}
 use Rattle.std.proofs.lemmas.Option.{slice_get_within}
 use Rattle.std.proofs.lemmas.Bool.Decides.{nat_tests}
 use Rattle.l4_threads.specs.declared.Thread.{Thread}
 use Rattle.l4_threads.proofs.TableLemmas.{same_or, same_of, found_at}
 use Rattle.l4_threads.proofs.QueueLemmas.{and_true, first_passes, first_is_first, none_passes}
-use Rattle.l4_threads.proofs.ViewLemmas.{sends_seen, order_seen, found_some}
+use Rattle.l4_threads.proofs.ViewLemmas.{sends_seen, order_seen, found_some, found_seen}
 
 -- the list is the queue of these threads
 pub record IsQueueOf (t : Threads) (queue : List ℕ) : Type 0 where
@@ -142,6 +142,52 @@ module _ (t : Threads) (holds : IsConsistent t) where
     test_same (Some n) t = ap (λ x. Some x) (same_of n s t)
 
 -- WHO CAN EXPIRE
+
+pub never_expires : (t : Threads) (n : ℕ) → option_map_or expires (state_of t n) false ≡ false → ¬ (CanExpire t n)
+never_expires t n h can = false≢true (sym h ∙ ap (λ o. option_map_or expires o false) can.at ∙ can.zero)
+
+-- where no thread of the table is in such a state, no number's is
+
+or_true : (a b : Bool) → b ≡ true → (a || b) ≡ true
+or_true true b h = refl
+or_true false b h = h
+
+any_at : (such : State → Bool) (es : Entries) (i : ℕ) (e : ℕ × Thread) → slice_get es i ≡ Some e → such e.1.state ≡ true → any_state such es ≡ true
+any_at such [] i e at h = absurd (let k : ◌≡◌ {A = Option (ℕ × Thread)} None (Some e) = at in cc)
+any_at such (x ∷ xs) zero e at h =
+    let both : ◌≡◌ {A = Option (ℕ × Thread)} (Some x) (Some e) = at in
+    let v : x ≡ e = cc in
+    ap (λ (b : Bool). b || any_state such xs) (ap (λ (y : ℕ × Thread). such y.1.state) v ∙ h)
+any_at such (x ∷ xs) (suc i) e at h = or_true (such x.1.state) (any_state such xs) (any_at such xs i e at h)
+
+pub none_such : (such : State → Bool) (es : Entries) (queue : List ℕ) (next : ℕ) (t : Threads) → threads_of es queue next ≡ t → any_state such es ≡ false
+    → (n : ℕ) → option_map_or such (state_of t n) false ≡ false
+none_such such es queue next t is none n = elim (option_map_or such (state_of t n) false) as (λ b. option_map_or such (state_of t n) false ≡ b → b ≡ false) [
+  | true ↦ λ h.
+      let f = found_seen es queue next t is such n h in
+      let at = found_at es n f.0 f.1 in
+      absurd (false≢true (sym none ∙ any_at such es at.0 (n, f.0) at.1 f.2))
+  | false ↦ λ _. refl
+] refl
+
+-- an offer is to a thread that receives
+offer_receives : (a b : Option State) (s r : ℕ) → offers_to a b s r ≡ true → option_map_or is_receiving b false ≡ true
+offer_receives a (Some (Receives y)) s r h = refl
+offer_receives None None s r h = absurd (false≢true h)
+offer_receives None (Some (Running y)) s r h = absurd (false≢true h)
+offer_receives None (Some (Sends y)) s r h = absurd (false≢true h)
+offer_receives (Some (Running x)) None s r h = absurd (false≢true h)
+offer_receives (Some (Running x)) (Some (Running y)) s r h = absurd (false≢true h)
+offer_receives (Some (Running x)) (Some (Sends y)) s r h = absurd (false≢true h)
+offer_receives (Some (Receives x)) None s r h = absurd (false≢true h)
+offer_receives (Some (Receives x)) (Some (Running y)) s r h = absurd (false≢true h)
+offer_receives (Some (Receives x)) (Some (Sends y)) s r h = absurd (false≢true h)
+offer_receives (Some (Sends x)) None s r h = absurd (false≢true h)
+offer_receives (Some (Sends x)) (Some (Running y)) s r h = absurd (false≢true h)
+offer_receives (Some (Sends x)) (Some (Sends y)) s r h = absurd (false≢true h)
+
+pub none_first : (t : Threads) → ((n : ℕ) → option_map_or is_receiving (state_of t n) false ≡ false) → (s r : ℕ) → ¬ (IsFirstSender t r s)
+none_first t none s r first = false≢true (sym (none r) ∙ offer_receives (state_of t s) (state_of t r) s r first.offers)
 
 -- the least so far, of the entries before a place, that can expire
 abbrev pub LeastSoFar : Threads → Entries → ℕ → Option ℕ → Type 0

@@ -1,5 +1,5 @@
 -- The lists that the tables of threads keep: the threads with their numbers, and the queue of senders. (this profile's own)
-use Rattle.std.specs.Prelude.{◌≡◌, ◌≢◌, ℕ, ◌<◌, ◌≤◌, ◌^◌, length, ◌==◌, ◌&&◌, ◌||◌, Bool, false, not, nat_lt, filter, if◌then◌else◌, List, [], ◌∷◌, ◌++◌, map, Option, Some, slice_get}
+use Rattle.std.specs.Prelude.{◌≡◌, ◌≢◌, ℕ, ◌<◌, ◌≤◌, ◌^◌, length, ◌==◌, ◌&&◌, ◌||◌, Bool, false, true, not, nat_lt, filter, if◌then◌else◌, List, [], ◌∷◌, ◌++◌, map, Option, Some, slice_get}
 use Rattle.std.specs.List.{list_any}
 use Rattle.std.specs.Option.{option_map_or, option_map}
 use Rattle.std.specs.Ordering.{nat_cmp}
@@ -9,6 +9,7 @@ use Rattle.l4_threads.specs.Control.{freed, frees}
 use Rattle.l4_threads.specs.declared.Thread.{Thread}
 use Rattle.l4_threads.specs.declared.ThreadId.{ThreadId}
 use Rattle.l4_threads.specs.declared.State.{State}
+use Rattle.l4_threads.specs.declared.State.TheVariants.{Running, Sending as Sends, Receiving as Receives}
 
 -- the threads with their numbers, in the order of their creation
 abbrev pub Entries : Type 0
@@ -84,6 +85,16 @@ has_space es space = list_any (λ e. e.1.space == space) es
 -- whether the table has a sending thread of this number
 abbrev pub sends_in : Entries → ℕ → Bool
 sends_in es n = option_map_or is_sending (option_map (λ thread. thread.state) (found es n)) false
+
+-- the state waits for a message
+abbrev pub is_receiving : State → Bool
+is_receiving (Running reply) = false
+is_receiving (Sends s) = false
+is_receiving (Receives r) = true
+
+-- whether a thread of the table is in such a state
+abbrev pub any_state : (State → Bool) → Entries → Bool
+any_state such es = list_any (λ e. such e.1.state) es
 
 -- each number stands once in the table and in the queue, the queue holds just the senders, each thread's id has
 -- its number, there are at most 64, and each space lies below the next one

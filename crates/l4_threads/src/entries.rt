@@ -2,7 +2,8 @@
 ghost use Rattle.std.specs.Prelude.{◌≡◌, ◌≢◌, ◌==◌, not, filter, nat_lt, if◌then◌else◌, MatchOption, IfSome, Some, None, length, insert, ◌+◌, ◌<◌, ◌≤◌, []};
 ghost use Rattle.arrayvec.specs.ArrayVec.{array_vec_len};
 ghost use Rattle.std.specs.Option.{option_map_or};
-ghost use Rattle.l4_threads.specs.Entries.{found, IsAt, changed_in, in_state, in_pager, freed_in, without_in, ends_with, ended_in, rising_with, has_space, sends_in};
+ghost use Rattle.l4_threads.specs.Entries.{found, IsAt, changed_in, in_state, in_pager, freed_in, without_in, ends_with, ended_in, rising_with, has_space, sends_in, is_receiving, any_state};
+ghost use Rattle.l4_threads.specs.Enabled.{expires};
 
 use crate::{State, Thread, ThreadId};
 use arrayvec::ArrayVec;
@@ -142,4 +143,18 @@ pub fn is_inhabited(entries: &[(u32, Thread)], space: u64) -> bool
     ensures { result ≡ has_space entries.now space }
 {
     entries.iter().any(|entry| entry.1.space == space)
+}
+
+/// Whether a thread waits for a message.
+pub fn any_receives(entries: &[(u32, Thread)]) -> bool
+    ensures { result ≡ any_state is_receiving entries.now }
+{
+    entries.iter().any(|entry| entry.1.state.is_receiving())
+}
+
+/// Whether a thread waits with a timeout of zero.
+pub fn any_expires(entries: &[(u32, Thread)]) -> bool
+    ensures { result ≡ any_state expires entries.now }
+{
+    entries.iter().any(|entry| entry.1.state.expires())
 }

@@ -235,6 +235,8 @@ impl State {
     ghost use Rattle.std.specs.Prelude.{MatchOption, Some, None};
     ghost use Rattle.l4_threads.specs.Threads.{is_running, is_sending};
     ghost use Rattle.l4_threads.specs.Control.{frees, freed_reply};
+    ghost use Rattle.l4_threads.specs.Enabled.{expires};
+    ghost use Rattle.l4_threads.specs.Entries.{is_receiving};
 
     /// Whether the thread waits for nobody.
     pub fn is_running(&self) -> bool
@@ -248,6 +250,24 @@ impl State {
         ensures { result ≡ is_sending self.now }
     {
         matches!(self, State::Sending(_))
+    }
+
+    /// Whether the thread waits for a message.
+    pub(crate) fn is_receiving(&self) -> bool
+        ensures { result ≡ is_receiving self.now }
+    {
+        matches!(self, State::Receiving(_))
+    }
+
+    /// Whether the thread waits with a timeout of zero.
+    pub(crate) fn expires(&self) -> bool
+        ensures { result ≡ expires self.now }
+    {
+        match self {
+            State::Running(_) => false,
+            State::Sending(sending) => sending.expires,
+            State::Receiving(receiving) => receiving.expires,
+        }
     }
 
     /// Whether the state ends with the thread of this number: it sends to it, or receives from it by name.

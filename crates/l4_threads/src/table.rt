@@ -5,8 +5,8 @@ ghost use Rattle.std.specs.FinSet as set;
 ghost use Rattle.std.specs.List.Sorted.{IsStrictlyIncreasing};
 
 use crate::entries::{
-    ended_by, free_all, is_inhabited, keep_senders, leave, lesser, position, put_pager, put_state,
-    remove_thread,
+    any_expires, any_receives, ended_by, free_all, is_inhabited, keep_senders, leave, lesser,
+    position, put_pager, put_state, remove_thread,
 };
 use crate::{Deleted, Receiving, Reply, Sending, State, Thread, ThreadFault, ThreadId};
 use arrayvec::ArrayVec;
@@ -177,6 +177,9 @@ impl Threads {
     pub fn next_transfer(&self) -> Option<(u32, u32)>
         ensures { MatchOption result ((s r : ℕ) → ¬ (IsFirstSender self.now r s)) (IsNextTransfer self.now) }
     {
+        if !any_receives(self.threads.as_slice()) {
+            return None;
+        }
         for sender in self.queue.as_slice() {
             if let Some(receiver) = self.taker(*sender) {
                 return Some((*sender, receiver));
@@ -204,6 +207,9 @@ impl Threads {
     pub fn next_expiry(&self) -> Option<u32>
         ensures { MatchOption result ((n : ℕ) → ¬ (CanExpire self.now n)) (IsNextExpiry self.now) }
     {
+        if !any_expires(self.threads.as_slice()) {
+            return None;
+        }
         let mut least = None;
         for entry in self.threads.as_slice() {
             if self.can_expire(entry.0) {

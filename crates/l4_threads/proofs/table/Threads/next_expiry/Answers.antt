@@ -1,11 +1,18 @@
 use Rattle.std.proofs.Common.{◌≡◌, ℕ, Some, refl, sym, ap, ◌∙◌, subst, length}
 use Rattle.std.proofs.lemmas.Option.{slice_get_read}
 use Rattle.std.proofs.lemmas.Bool.{false≢true}
-use Rattle.l4_threads.specs.Entries.{Entries}
+use Rattle.l4_threads.specs.Entries.{Entries, any_state}
+use Rattle.l4_threads.specs.Enabled.{expires}
 use Rattle.l4_threads.specs.Queue.{threads_of}
-use Rattle.l4_threads.proofs.EnabledLemmas.{LeastSoFar, least_skips, least_takes, least_of_all}
+use Rattle.l4_threads.proofs.EnabledLemmas.{LeastSoFar, least_skips, least_takes, least_of_all, never_expires, none_such}
 use Rattle.l4_threads.proofs.table.Threads.next_expiry.Goals as goal
 use Rattle.l4_threads.proofs.table.Threads.next_expiry.Goals.{then-can_expire, else-can_expire}
+
+pub returns-then-not-any_expires : goal.returns-then-not-any_expires
+returns-then-not-any_expires c = λ n.
+    never_expires c.args.self.now n
+    (none_such expires c.self.inside.threads.items c.self.inside.queue.items c.self.inside.next_space c.args.self.now c.self.view_is
+    (ap (any_state expires) (sym c.as_slice.ensures.value) ∙ sym c.any_expires.ensures ∙ c.if-not-any_expires.true) n)
 
 pub loop-entry-preserved : goal.loop-entry-preserved
 loop-entry-preserved c =

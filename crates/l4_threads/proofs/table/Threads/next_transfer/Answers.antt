@@ -1,7 +1,14 @@
-use Rattle.std.proofs.Common.{sym, ap, subst, is_some}
+use Rattle.std.proofs.Common.{sym, ap, ◌∙◌, subst, is_some}
 use Rattle.l4_threads.specs.Enabled.{taker}
-use Rattle.l4_threads.proofs.EnabledLemmas.{IsQueueOf, queue_of, find_here, find_further, find_end, next_transfer_is, no_transfer}
+use Rattle.l4_threads.specs.Entries.{is_receiving, any_state}
+use Rattle.l4_threads.proofs.EnabledLemmas.{IsQueueOf, queue_of, find_here, find_further, find_end, next_transfer_is, no_transfer, none_such, none_first}
 use Rattle.l4_threads.proofs.table.Threads.next_transfer.Goals as goal
+
+pub returns-then-not-any_receives : goal.returns-then-not-any_receives
+returns-then-not-any_receives c =
+    none_first c.args.self.now
+    (none_such is_receiving c.self.inside.threads.items c.self.inside.queue.items c.self.inside.next_space c.args.self.now c.self.view_is
+    (ap (any_state is_receiving) (sym c.as_slice.ensures.value) ∙ sym c.any_receives.ensures ∙ c.if-not-any_receives.true))
 
 pub returns-in-Some : goal.returns-in-Some
 returns-in-Some c =
