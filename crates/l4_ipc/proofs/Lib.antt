@@ -9,3 +9,12 @@ pub mod Running
 pub mod Work
 pub mod Waiting
 pub mod Unmaps
+pub mod OneState
+pub mod Tracing
+pub mod Lasting
+pub mod Provenances
+pub mod Descending
+pub mod Flushing
+pub mod Delegating
+pub mod OneChain
+pub mod Examples

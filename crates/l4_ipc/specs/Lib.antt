@@ -9,3 +9,6 @@ pub mod Delivering
 pub mod Reading
 pub mod Following
 pub mod Constructors
+pub mod Events
+pub mod Provenance
+pub mod Delegation

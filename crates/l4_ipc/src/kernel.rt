@@ -1,5 +1,6 @@
 //! The kernel.
-ghost use Rattle.std.specs.Prelude.{◌≡◌, ◌<◌, ◌≤◌, ◌⊎◌, ℕ, IsTrue, IfOk, OnErr, MatchOption, MatchResult};
+ghost use Rattle.std.specs.Prelude.{◌≡◌, ◌<◌, ◌≤◌, ◌⊎◌, ℕ, List, IsTrue, IfOk, OnErr, MatchOption, MatchResult};
+ghost use Rattle.std.specs.List.{All};
 ghost use Rattle.std.specs.Option.{option_copied};
 ghost use Rattle.l4_mapdb.specs.declared.Place.{Place};
 
@@ -40,6 +41,9 @@ impl Kernel {
     ghost use Rattle.l4_ipc.specs.Machine.{IsBoot};
     ghost use Rattle.l4_ipc.specs.Steps.{IsNext, IsIdle, Steps};
     ghost use Rattle.l4_ipc.specs.Runs.{Run};
+    ghost use Rattle.l4_ipc.specs.Events.{Event, IsTrace, IsOnlyTrace};
+    ghost use Rattle.l4_ipc.specs.Provenance.{HaveProvenance, NoneThroughFlushed};
+    ghost use Rattle.l4_ipc.specs.Delegation.{DeliversDelegations};
     ghost use Rattle.l4_ipc.specs.Reading.{reply_of};
     ghost use Rattle.l4_ipc.specs.declared.steps.Refused.TheVariants.{BadFrames, Lower as IsLower};
     ghost use Rattle.l4_ipc.specs.declared.steps.Lower.TheVariants.{NoMemory as WantOfMemory};
@@ -110,10 +114,18 @@ impl Kernel {
     pub fn run(&mut self, steps: &[Step]) -> Result<Vec<Result<Answer, Refused>>, NoMemory>
         ensures ok { IfOk result (λ answers. Run self.old steps.now answers.items self.new) }
         ensures err { OnErr result (self.new ≡ self.old) }
+        ensures traced { IfOk result (λ answers. (events : List Event) × IsOnlyTrace self.old steps.now answers.items events self.new) }
+        ensures provenance { IfOk result (λ answers. (frames : ℕ) (events : List Event) → IsBoot frames self.old → IsTrace self.old steps.now answers.items events self.new
+            → HaveProvenance self.old.mappings events self.new.mappings) }
+        ensures flushed { IfOk result (λ answers. (frames : ℕ) (events : List Event) → IsBoot frames self.old → IsTrace self.old steps.now answers.items events self.new
+            → NoneThroughFlushed self.old.mappings events self.new.mappings) }
+        ensures delegations { IfOk result (λ answers. (events : List Event) → IsTrace self.old steps.now answers.items events self.new → All DeliversDelegations events) }
     {
         let mut answers = Vec::with_capacity(self.alloc, steps.len())?;
+        self.law_forest();
         for step in steps {
             let answer = self.step(step);
+            self.law_forest();
             let _ = answers.push(answer);
         }
         Ok(answers)

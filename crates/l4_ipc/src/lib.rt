@@ -8,6 +8,7 @@ mod deleting;
 mod delivering;
 mod faulting;
 mod kernel;
+mod laws;
 mod next;
 mod reading;
 mod sent;
@@ -25,6 +26,7 @@ pub use l4_msg::{
 };
 pub use l4_threads::{IpcReply, Reply, ThreadFault, ThreadId};
 pub use l4_unmap::UnmapFault;
+pub use laws::an_answer_leads_to_one_state;
 pub use next::Next;
 pub use sent::Sent;
 pub use steps::{Answer, Lower, Outcome, Refused, Step};

@@ -2,7 +2,7 @@ ghost use Rattle.std.specs.Prelude.{◌≤◌, length};
 
 use crate::reading::copied;
 use crate::{
-    Call, Control, Create, FaultCall, IpcCall, Kernel, Lower, Outcome, Refused, SetPager, Step,
+    Answer, Call, Control, Create, FaultCall, IpcCall, Kernel, Lower, Outcome, Refused, SetPager, Step,
     Timeout, UnmapCall,
 };
 use l4_fpage::{Fpage, Rights};
@@ -32,6 +32,9 @@ const COMPLETE: u32 = 0x10;
 
 /// The message that maps page 16 with all rights, to page 32 in a window of all pages.
 const MAPS: [u32; 3] = [0x80, 0x2_0008, 0x1_00c7];
+
+/// The message that delegates pages 4 to 15 with all rights, to pages 12 to 23 in a window of all pages, by as few items as can be.
+const DELEGATES: [u32; 5] = [0x100, 0xc009, 0x40e7, 0x1_0008, 0x80f7];
 
 /// An Ipc.
 fn ipc(
@@ -251,6 +254,86 @@ fn maps_a_page_of_sigma0(rt: HostRuntime) -> Result<(), Fail> {
     assert!(rt; replied(&kernel, 3, 0x80, 0, SIGMA0, &[0x2_0008, 0x1_00c7]));
     assert!(rt; replied(&kernel, 1, 0, 0, NOBODY, &[]));
     assert!(rt; matches!(kernel.reply(2), Some(Reply::Controlled)));
+    Ok(())
+}
+
+/// What came of a step that was not refused.
+fn outcome(answer: &Result<Answer, Refused>) -> Option<Outcome> {
+    match answer {
+        Ok(done) => Some(done.outcome),
+        Err(_) => None,
+    }
+}
+
+#[test]
+fn delegates_what_is_there_at_the_transfer(rt: HostRuntime) -> Result<(), Fail> {
+    let mut kernel = Kernel::boot(rt.alloc(), 256)?;
+    let steps = [
+        create(2, THIRD, THIRD),
+        create(2, FOURTH, FOURTH),
+        receive(3, SIGMA0, COMPLETE),
+        send(1, THIRD, &[0x80, 0x8, 0x107]),
+        Step::Transfer(1, 3),
+        send(3, FOURTH, &DELEGATES),
+        unmap(1, 0, &[0x50c7]),
+        receive(4, ANYBODY, COMPLETE),
+        Step::Transfer(3, 4),
+        unmap(3, 0, &[0x60c2]),
+        Step::Transfer(3, 4),
+    ];
+    let wanted = [
+        Some(Outcome::Started),
+        Some(Outcome::Started),
+        Some(Outcome::Started),
+        Some(Outcome::Started),
+        Some(Outcome::Done),
+        Some(Outcome::Started),
+        Some(Outcome::Started),
+        Some(Outcome::Started),
+        Some(Outcome::Done),
+        Some(Outcome::Started),
+        None,
+    ];
+    let answers = kernel.run(&steps)?;
+    assert_eq!(rt; answers.len(), 11);
+    for (answer, want) in answers.iter().zip(wanted) {
+        assert_eq!(rt; outcome(answer), want);
+    }
+    for page in 4..16 {
+        let shown = match page {
+            5 => None,
+            6 => mapped(6, 5, 2, 6),
+            _ => mapped(page, 7, 2, page),
+        };
+        assert_eq!(rt; kernel.mapping(3, page + 8), shown);
+    }
+    assert_eq!(rt; kernel.next_page(3, 0), Some(12));
+    assert_eq!(rt; kernel.next_page(3, 24), None);
+    assert_eq!(rt; kernel.mapping(2, 4), mapped(4, 7, 0, 4));
+    assert_eq!(rt; kernel.mapping(2, 5), None);
+    Ok(())
+}
+
+#[test]
+fn a_page_and_its_way_from_sigma0(rt: HostRuntime) -> Result<(), Fail> {
+    let mut kernel = with_page(rt.alloc())?;
+    let steps = [
+        receive(4, THIRD, COMPLETE),
+        send(3, FOURTH, &[0x80, 0x9008, 0x50c6]),
+        Step::Transfer(3, 4),
+        receive(5, FOURTH, COMPLETE),
+        send(4, FIFTH, &[0x80, 0x700a, 0x90c5]),
+        Step::Transfer(4, 5),
+    ];
+    for answer in kernel.run(&steps)?.iter() {
+        assert!(rt; answer.is_ok());
+    }
+    assert_eq!(rt; kernel.mapping(4, 7), mapped(5, 4, 2, 5));
+    assert_eq!(rt; kernel.next_page(3, 0), None);
+    assert_eq!(rt; kernel.run(&[unmap(3, 0x40, &[0x50c7])])?.len(), 1);
+    assert_eq!(rt; kernel.next_page(4, 0), None);
+    assert_eq!(rt; kernel.next_page(2, 0), None);
+    assert_eq!(rt; kernel.next_page(0, 5), Some(5));
     Ok(())
 }
 

@@ -1,0 +1,13 @@
+//! What holds of the machine's steps.
+ghost use Rattle.std.specs.Prelude.{◌≡◌, Result};
+ghost use Rattle.l4_ipc.specs.declared.steps.Step.{Step as AStep};
+ghost use Rattle.l4_ipc.specs.declared.steps.Answer.{Answer as AnAnswer};
+ghost use Rattle.l4_ipc.specs.declared.steps.Refused.{Refused as ARefusal};
+ghost use Rattle.l4_ipc.specs.Machine.{Machine};
+ghost use Rattle.l4_ipc.specs.Steps.{Steps};
+
+/// From one state a step and its answer lead to one state: where a step may go on in two ways, as memory is found or not, its answer
+/// tells which.
+pub fn an_answer_leads_to_one_state()
+    ensures { (old : Machine) (step : AStep) (answer : Result AnAnswer ARefusal) (a b : Machine) → Steps old step answer a → Steps old step answer b → a ≡ b }
+{}
