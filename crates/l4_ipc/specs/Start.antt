@@ -7,7 +7,8 @@ use Rattle.l4_fpage.specs.declared.fpages.Fpage.{Fpage}
 use Rattle.l4_fpage.specs.declared.fpages.Fpage.TheVariants.{Nil, Complete}
 use Rattle.l4_msg.specs.Tags.{untyped_of, typed_of}
 use Rattle.l4_msg.specs.Words.{WindowReads, IsBadWindow}
-use Rattle.l4_msg.specs.Messages.{MessageReads, MessageFails, tag_of}
+use Rattle.l4_msg.specs.Messages.{MessageReads, MessageFails, tag_of, message_words}
+use Rattle.l4_msg.specs.Protocols.{fault_message}
 use Rattle.l4_msg.specs.declared.messages.Message.{Message}
 use Rattle.l4_msg.specs.declared.messages.MsgFault.{MsgFault}
 use Rattle.l4_msg.specs.declared.messages.MsgFault.TheVariants.{BadWindow}
@@ -148,12 +149,9 @@ has_page s space call = holds (rights_at s (record { space = space; page = call.
   holds : RightsSet → Bool
   holds rights = is_none (without call.access rights) && not (is_none rights)
 
-abbrev bit : Bool → ℕ → ℕ
-bit b value = if b then value else 0
-
--- the fault message: label -2 in twelve bits and the access, then the address and the instruction pointer
+-- the words that tell the fault to the pager: those of the message of a page fault
 abbrev pub fault_words : FaultCall → List ℕ
-fault_words call = (0xffe0_0002 + bit call.access.r 0x4_0000 + bit call.access.w 0x2_0000 + bit call.access.x 0x1_0000) ∷ call.address ∷ call.ip ∷ []
+fault_words call = message_words (fault_message (record { address = call.address; ip = call.ip; access = call.access }))
 
 -- a fault starts: it is a hit, or it is sent to the pager, from which it then receives
 abbrev pub fault_next : Threads → Mappings → ℕ → ℕ → ThreadId → FaultCall → Next

@@ -1,6 +1,5 @@
 //! What a thread does as it faults at a page.
-ghost use Rattle.std.specs.Prelude.{◌≡◌, ◌+◌, ◌*◌, ◌^◌};
-ghost use Rattle.l4_fpage.specs.Rights.{bits_of};
+ghost use Rattle.std.specs.Prelude.{◌≡◌};
 ghost use Rattle.l4_mapdb.specs.Mappings.{rights_at};
 ghost use Rattle.l4_ipc.specs.Start.{has_page, fault_words, fault_next};
 
@@ -10,10 +9,8 @@ use crate::starting::partner;
 use arrayvec::ArrayVec;
 use l4_fpage::{Fpage, PAGE_LOG, Rights};
 use l4_mapdb::Forest;
+use l4_msg::{MAX_WORDS, PageFault};
 use l4_threads::{Later, Reply, Sending, ThreadId, Threads};
-
-/// The tag of a fault message without the access: label -2 in twelve bits, and two words.
-const FAULT_TAG: u32 = 0xffe0_0002;
 
 /// The rights of a page, none where it is not present.
 fn rights_at(forest: &Forest, space: u64, page: u32) -> Rights
@@ -33,22 +30,16 @@ fn has_page(forest: &Forest, space: u64, call: &FaultCall) -> bool
     rights.contains(call.access) && !rights.is_empty()
 }
 
-/// The tag of a fault message: the access stands in bits 18 to 16.
-fn fault_tag(access: Rights) -> u32
-    ensures { result ≡ 0xffe0_0002 + bits_of access * 2 ^ 16 }
-{
-    FAULT_TAG + (u32::from(access.bits()) << 16)
-}
-
-/// The message of a fault: the tag, the address and the instruction pointer.
-fn fault_words(call: &FaultCall) -> ArrayVec<u32, 64>
+/// The words of the message that tells a fault.
+fn fault_words(call: &FaultCall) -> ArrayVec<u32, MAX_WORDS>
     ensures { result.items ≡ fault_words call.now }
 {
-    let mut words = ArrayVec::new();
-    words.push(fault_tag(call.access));
-    words.push(call.address);
-    words.push(call.ip);
-    words
+    let fault = PageFault {
+        address: call.address,
+        ip: call.ip,
+        access: call.access,
+    };
+    fault.message().write()
 }
 
 /// What a thread does as it faults: its call is a hit where the page is there, and else it sends to its pager and then waits for it.

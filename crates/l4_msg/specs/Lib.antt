@@ -1,5 +1,6 @@
 pub mod Messages
 pub mod Moves
+pub mod Protocols
 pub mod Regions
 pub mod Tags
 pub mod Words

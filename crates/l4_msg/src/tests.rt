@@ -1,4 +1,7 @@
-use crate::{Acceptor, Item, ItemFault, Message, MsgFault, Tag, item_moves};
+use crate::{
+    Acceptor, FrameRequest, Item, ItemFault, Message, MsgFault, PageFault, Tag, item_moves,
+    map_answer,
+};
 use l4_fpage::{Fpage, Rights};
 use std::test::Fail;
 
@@ -178,4 +181,31 @@ fn writes_what_it_read(rt: HostRuntime) -> Result<(), Fail> {
         assert_eq!(rt; Message::read(words.as_slice()), Ok(message));
     }
     Ok(())
+}
+
+#[test]
+fn faults_and_requests(rt: HostRuntime) {
+    let fault = PageFault {
+        address: 0x5678,
+        ip: 0x40_0100,
+        access: Rights::of_bits(4),
+    };
+    assert_eq!(rt;
+        fault.message().write().as_slice(),
+        [0xffe4_0002, 0x5678, 0x40_0100].as_slice()
+    );
+    assert_eq!(rt; PageFault::read(&fault.message()), Some(fault));
+    assert_eq!(rt; FrameRequest::read(&fault.message()), None);
+    let request = FrameRequest {
+        fpage: Acceptor::read(0x50c0).unwrap_or(Fpage::Nil),
+        attributes: 0,
+    };
+    if let Ok(message) = Message::read(&[0xffa0_0002, 0x50c7, 0]) {
+        assert_eq!(rt; FrameRequest::read(&message), Some(request));
+        assert_eq!(rt; PageFault::read(&message), None);
+    }
+    assert_eq!(rt;
+        map_answer(0, Fpage::Nil).write().as_slice(),
+        [0x80, 8, 0].as_slice()
+    );
 }

@@ -1,0 +1,112 @@
+-- Entries that meet, and the entry for a page.
+use Rattle.std.proofs.Common.{◌≡◌, ℕ, zero, suc, ◌+◌, ◌-◌, ◌^◌, ◌<◌, ◌≤◌, ◌⊎◌, ◌&&◌, Bool, true, false, cond, nat_le, nat_lt, List, [], ◌∷◌, ◌++◌, Option, Some, None, length, drop, get_or, inl, inr, refl, sym, ap, ◌∙◌, subst, arith, IsTrue}
+use Rattle.std.proofs.lemmas.Bool.Decides.{nat_tests}
+use Rattle.std.proofs.lemmas.List.{at_drop_more, at_drop_all, get_or_default}
+use Rattle.std.specs.List.{find, All, AllPairs}
+use Rattle.std.proofs.lemmas.List.Elements.{All-push}
+use Rattle.std.proofs.lemmas.List.Quantifiers.{all_pairs_push}
+use Rattle.l4_fpage.specs.Rights.{RightsSet}
+use Rattle.l4_pager.specs.declared.regions.Entry.{Entry}
+use Rattle.l4_pager.specs.Regions.{IsBad, is_for, Meet, serves, entry_for, IsTable, AddFails, CanAdd}
+
+pub for_page : (e : Entry) (page : ℕ) → e.first ≤ page → page < e.first + e.count → is_for e page ≡ true
+for_page e page from below = grind (arith, nat_tests, from, below)
+
+pub from_for : (e : Entry) (page : ℕ) → is_for e page ≡ true → e.first ≤ page
+from_for e page h = grind (arith, nat_tests, h)
+
+pub below_for : (e : Entry) (page : ℕ) → is_for e page ≡ true → page < e.first + e.count
+below_for e page h = grind (arith, nat_tests, h)
+
+none_or_some : (n : ℕ) → (n ≡ 0) ⊎ (0 < n)
+none_or_some zero = inl refl
+none_or_some (suc n) = inr (omega arith)
+
+le_or : (a b : ℕ) → (a ≤ b) ⊎ (b < a)
+le_or zero b = inl (omega arith)
+le_or (suc a) zero = inr (omega arith)
+le_or (suc a) (suc b) = elim (le_or a b) [ inl h ↦ inl (omega (arith, h)) | inr h ↦ inr (omega (arith, h)) ]
+
+pub has_page : (e : Entry) → ¬ IsBad e → 0 < e.count
+has_page e good = elim (none_or_some e.count) [ inl h ↦ absurd (good (inl h)) | inr h ↦ h ]
+
+pub meets : (a b : Entry) → ¬ IsBad a → ¬ IsBad b → a.first < b.first + b.count → b.first < a.first + a.count → Meet a b
+meets a b ga gb one two =
+    let sa : 0 < a.count = has_page a ga in
+    let sb : 0 < b.count = has_page b gb in
+    elim (le_or a.first b.first) [
+      | inl h ↦ (b.first, for_page a b.first h two, for_page b b.first (omega arith) (omega (arith, sb)))
+      | inr h ↦ (a.first, for_page a a.first (omega arith) (omega (arith, sa)), for_page b a.first (omega (arith, h)) one)
+    ]
+
+pub met : (a b : Entry) → Meet a b → b.first < a.first + a.count
+met a b h = omega (arith, from_for b h.0 h.2, below_for a h.0 h.1)
+
+pub true_lt : (a b : ℕ) → a < b → nat_lt a b ≡ true
+true_lt a b h = grind (arith, nat_tests, h)
+
+pub lt_true : (a b : ℕ) → nat_lt a b ≡ true → a < b
+lt_true a b h = grind (arith, nat_tests, h)
+
+pub find_here : (p : Entry → Bool) (xs : List Entry) (i : ℕ) (d : Entry) → i < length xs → find p xs ≡ find p (drop i xs) → p (get_or xs i d) ≡ true → find p xs ≡ Some (get_or xs i d)
+find_here p xs i d lt so_far passes =
+    so_far ∙ at_drop_more (find p) xs i d lt ∙ ap (λ b. cond b (Some (get_or xs i d)) (find p (drop (i + 1) xs))) passes
+
+pub find_further : (p : Entry → Bool) (xs : List Entry) (i : ℕ) (d : Entry) → i < length xs → find p xs ≡ find p (drop i xs) → p (get_or xs i d) ≡ false → find p xs ≡ find p (drop (i + 1) xs)
+find_further p xs i d lt so_far fails =
+    so_far ∙ at_drop_more (find p) xs i d lt ∙ ap (λ b. cond b (Some (get_or xs i d)) (find p (drop (i + 1) xs))) fails
+
+pub find_end : (p : Entry → Bool) (xs : List Entry) (i : ℕ) → length xs ≤ i → find p xs ≡ find p (drop i xs) → find p xs ≡ None
+find_end p xs i le so_far = so_far ∙ at_drop_all (find p) xs i le
+
+pub find_passes : (p : Entry → Bool) (P : Entry → Type 0) (xs : List Entry) (e : Entry) → All P xs → find p xs ≡ Some e → (p e ≡ true) × P e
+find_passes p P [] e all h = absurd (cc)
+find_passes p P (x ∷ xs) e all h =
+    elim (p x) as (λ b. p x ≡ b → cond b (Some x) (find p xs) ≡ Some e → (p e ≡ true) × P e) [
+      | true ↦ λ t is. let v : x ≡ e = cc in (subst (λ (y : Entry). p y ≡ true) v t, subst P v (all 0 x (omega arith)))
+      | false ↦ λ t is. find_passes p P xs e (λ k d lt. all (suc k) d (omega arith)) is
+    ] refl h
+
+left : (a b : Bool) → a && b ≡ true → a ≡ true
+left true b h = refl
+left false b h = h
+
+-- the entry for a page holds it, and its source pages lie in the space
+pub entry_holds : (es : List Entry) (page : ℕ) (access : RightsSet) (e : Entry) → All (λ a. ¬ IsBad a) es → entry_for es page access ≡ Some e → (e.first ≤ page) × (page < e.first + e.count) × (e.source + e.count ≤ 2 ^ 20)
+entry_holds es page access e good h =
+    let found : (serves page access e ≡ true) × (¬ IsBad e) = find_passes (serves page access) (λ a. ¬ IsBad a) es e good h in
+    let held : is_for e page ≡ true = left _ _ found.0 in (
+      from_for e page held,
+      below_for e page held,
+      elim (le_or (e.source + e.count) (2 ^ 20)) [ inl le ↦ le | inr gt ↦ absurd (found.1 (inr (inr (inl gt)))) ],
+    )
+
+pub full : (es now : List Entry) (e : Entry) → es ≡ now → ¬ IsBad e → All (λ other. ¬ Meet e other) es → 64 ≤ length es → (¬ IsBad e) × All (λ other. ¬ Meet e other) now × (64 ≤ length now)
+full es now e is good apart len = subst (λ (t : List Entry). (¬ IsBad e) × All (λ other. ¬ Meet e other) t × (64 ≤ length t)) is (good, apart, len)
+
+pub can : (es now : List Entry) (e : Entry) → es ≡ now → ¬ IsBad e → All (λ other. ¬ Meet e other) es → length es < 64 → CanAdd now e
+can es now e is good apart len = subst (λ (t : List Entry). CanAdd t e) is (record { good = good; apart = apart; room = len })
+
+pub entry_inside : (es now : List Entry) → now ≡ es → (page : ℕ) (access : RightsSet) (e : Entry) → All (λ a. ¬ IsBad a) es → Some e ≡ entry_for now page access → (e.first ≤ page) × (page < e.first + e.count) × (e.source + e.count ≤ 2 ^ 20)
+entry_inside es now is page access e good h = entry_holds now page access e (subst (λ (t : List Entry). All (λ a. ¬ IsBad a) t) (sym is) good) (sym h)
+
+-- one more entry that doesn't meet
+pub apart_more : (e item : Entry) (es : List Entry) (i : ℕ) → i < length es → item ≡ get_or es i item → ¬ Meet e item → ((k : ℕ) (d : Entry) → k < i → Meet e (get_or es k d) → ⊥) → (k : ℕ) (d : Entry) → k < i + 1 → Meet e (get_or es k d) → ⊥
+apart_more e item es i lt is apart before k d lt_k m =
+    elim (le_or i k) [
+      | inl h ↦
+          let same : k ≡ i = omega (arith, h, lt_k) in
+          apart (subst (λ (x : Entry). Meet e x) (ap (λ n. get_or es n d) same ∙ get_or_default es i d item lt ∙ sym is) m)
+      | inr h ↦ before k d h m
+    ]
+
+turned : (a b : Entry) → Meet a b → Meet b a
+turned a b h = (h.0, h.2, h.1)
+
+pub added : (es now : List Entry) → now ≡ es → (e : Entry) → IsTable es → ¬ IsBad e → All (λ other. ¬ Meet e other) now → IsTable (es ++ e ∷ [])
+added es now is e table good apart =
+    let free : All (λ other. ¬ Meet e other) es = subst (λ (t : List Entry). All (λ other. ¬ Meet e other) t) is apart in
+    record {
+      good = All-push (λ a. ¬ IsBad a) es e table.good good;
+      apart = all_pairs_push (λ a b. ¬ Meet a b) es e table.apart (λ k d lt m. free k d lt (turned (get_or es k d) e m));
+    }

@@ -1,0 +1,66 @@
+-- What a served pager enters: it answers the last message, waits for the next one, and so on (this profile's own).
+use Rattle.std.specs.Prelude.{◌≡◌, ℕ, ◌+◌, ◌≤◌, ◌⊎◌, Bool, true, false, List, [], ◌∷◌, ◌++◌, length, if◌then◌else◌}
+use Rattle.l4_msg.specs.Messages.{MessageReads, message_words}
+use Rattle.l4_msg.specs.declared.messages.Message.{Message}
+use Rattle.l4_threads.specs.declared.ThreadId.{ThreadId}
+use Rattle.l4_threads.specs.declared.Reply.{Reply}
+use Rattle.l4_threads.specs.declared.Reply.TheVariants.{Ipc as IpcReply, Hit, Answered, FaultFailed, Unmapped, Controlled, Gone}
+use Rattle.l4_threads.specs.Threads.{nilthread, anythread}
+use Rattle.l4_ipc.specs.declared.calls.Call.{Call}
+use Rattle.l4_ipc.specs.declared.calls.Call.TheVariants.{Ipc}
+use Rattle.l4_pager.specs.declared.regions.Entry.{Entry}
+use Rattle.l4_pager.specs.Regions.{Answers}
+
+-- the call that waits for anybody's message, with a nil window and no timeout
+abbrev pub waiting : Call
+waiting = Ipc (record { to = nilthread; «from» = anythread; timeouts = 0; acceptor = 0; words = record { items = [] } })
+
+-- the timeouts of an answer: zero for the send phase, since who asked waits for it, and never for the receive phase
+abbrev pub at_once : ℕ
+at_once = 0x0400_0000
+
+-- the call that sends the words to somebody who waits for them, and then waits for anybody's message
+abbrev pub sending : ThreadId → List ℕ → Call
+sending to words = Ipc (record { to = to; «from» = anythread; timeouts = at_once; acceptor = 0; words = record { items = words } })
+
+-- A reply brings this message of this sender: it is one of an Ipc, and its tag and words are read as the message. A failed Ipc brings
+-- none, since its tag has a flag.
+abbrev pub Brings : Reply → ThreadId → Message → Type 0
+Brings (IpcReply r) sender m = (sender ≡ r.«from») × MessageReads (r.tag ∷ r.words.items) m
+Brings Hit sender m = ⊥
+Brings Answered sender m = ⊥
+Brings (FaultFailed code) sender m = ⊥
+Brings Unmapped sender m = ⊥
+Brings Controlled sender m = ⊥
+Brings Gone sender m = ⊥
+
+-- the call answers the reply's message by the table
+pub record IsAnswer (es : List Entry) (reply : Reply) (call : Call) : Type 0 where
+  pub sender : ThreadId
+  pub message : Message
+  pub brings : Brings reply sender message
+  pub answer : Message
+  pub answers : Answers es message answer
+  pub is : call ≡ sending sender (message_words answer)
+
+-- what is entered after a reply, and whether it is an answer: an answer where the reply brings a message, and else a call that waits
+abbrev pub Follows : List Entry → Reply → Call → Bool → Type 0
+Follows es reply call true = IsAnswer es reply call
+Follows es reply call false = ((sender : ThreadId) (m : Message) → ¬ Brings reply sender m) × (call ≡ waiting)
+
+-- what is entered after a reply, one call after another, with so many answers
+abbrev pub Turns : List Entry → Reply → List (Call × Reply) → ℕ → Type 0
+Turns es reply [] answers = answers ≡ 0
+Turns es reply (pair ∷ pairs) answers =
+    (is_answer : Bool) × (later : ℕ) × Follows es reply pair.0 is_answer × Turns es pair.1 pairs later × (answers ≡ (if is_answer then 1 else 0) + later)
+
+-- all that is entered, with so many answers: first a call that waits
+abbrev pub Serves : List Entry → List (Call × Reply) → ℕ → Type 0
+Serves es [] answers = answers ≡ 0
+Serves es (pair ∷ pairs) answers = (pair.0 ≡ waiting) × Turns es pair.1 pairs answers
+
+-- the call is the one that comes after what was entered
+abbrev pub ComesNext : List Entry → List (Call × Reply) → Call → Type 0
+ComesNext es [] call = call ≡ waiting
+ComesNext es (pair ∷ []) call = (is_answer : Bool) × Follows es pair.1 call is_answer
+ComesNext es (pair ∷ (next ∷ pairs)) call = ComesNext es (next ∷ pairs) call

@@ -1,0 +1,211 @@
+//! The regions of a pager.
+ghost use Rattle.std.specs.Prelude.{◌≡◌, ◌⊎◌, ◌<◌, ◌++◌, ◌∷◌, [], ◌↔◌, List, MatchOption, MatchResult, IsTrue, Some, None, true, false};
+ghost use Rattle.std.specs.List.{All, Any};
+
+use arrayvec::ArrayVec;
+use l4_fpage::{Block, Fpage, PAGE_LOG, Rights, SPACE_LOG};
+use l4_msg::{Message, PageFault, map_answer};
+use std::marker::Model;
+
+/// The entries of a pager's table, at most (this profile's own).
+pub const MAX_REGIONS: usize = 64;
+
+/// A region: pages of those whom a pager serves, the pages of the pager's own space that it gives for them, and the rights that it
+/// gives (this profile's own).
+#[derive(Clone, Copy, PartialEq, Eq, Debug)]
+pub struct Entry {
+    /// The first page, from 0 to 2^20 - 1.
+    pub first: u32,
+    /// The source page of the first page, from 0 to 2^20 - 1; those of the next pages follow.
+    pub source: u32,
+    /// How many pages; at least 1.
+    pub count: u32,
+    /// The rights that are given; at least one. An access that asks for more isn't answered.
+    pub rights: Rights,
+}
+
+/// Why an entry isn't added, or a page isn't found.
+#[derive(Clone, Copy, PartialEq, Eq, Debug)]
+pub enum PagerRefusal {
+    /// P1: a page of it is one of another entry. Source pages may be shared.
+    Overlap,
+    /// P2: no entry is for the page with this access.
+    NoRegion,
+    /// P3: the table has `MAX_REGIONS` entries.
+    Full,
+    /// P4: it has no page, a page or source page beyond the space, or no right.
+    BadRegion,
+}
+
+impl Default for Entry {
+    ghost use Rattle.l4_fpage.specs.Rights.{no_rights};
+
+    ghost is_default = { λ e. e ≡ record { first = 0; source = 0; count = 0; rights = no_rights } };
+
+    /// An entry without a page.
+    fn default() -> Entry {
+        Entry {
+            first: 0,
+            source: 0,
+            count: 0,
+            rights: Rights::of_bits(0),
+        }
+    }
+}
+
+impl Entry {
+    ghost use Rattle.l4_pager.specs.Regions.{IsBad, is_for, Meet};
+
+    /// Whether the entry has no page, a page or source page beyond the space, or no right.
+    pub fn is_bad(&self) -> bool
+        ensures { IsTrue result ↔ IsBad self.now }
+    {
+        if self.count == 0 {
+            return true;
+        }
+        if u64::from(self.first) + u64::from(self.count) > 1 << SPACE_LOG {
+            return true;
+        }
+        if u64::from(self.source) + u64::from(self.count) > 1 << SPACE_LOG {
+            return true;
+        }
+        self.rights.is_empty()
+    }
+
+    /// Whether a page is one of both entries. Both lie in the space.
+    fn meets(&self, other: &Entry) -> bool
+        requires good { ¬ IsBad self.now }
+        requires other { ¬ IsBad other.now }
+        ensures { IsTrue result ↔ Meet self.now other.now }
+    {
+        self.first < other.first + other.count && other.first < self.first + self.count
+    }
+}
+
+ghost use Rattle.l4_pager.specs.Regions.{IsBad, Meet};
+
+/// Whether a page of the entry is one of another. None of them is bad.
+fn meets_one(entries: &[Entry], entry: &Entry) -> bool
+    requires good { All (λ e. ¬ IsBad e) entries.now }
+    requires entry { ¬ IsBad entry.now }
+    ensures some { result ≡ true → Any (Meet entry.now) entries.now }
+    ensures none { result ≡ false → All (λ other. ¬ Meet entry.now other) entries.now }
+{
+    for other in entries {
+        if entry.meets(other) {
+            return true;
+        }
+    }
+    false
+}
+
+ghost use Rattle.l4_pager.specs.Regions.{entry_for};
+
+/// The entry for a page whose rights hold the access.
+fn entry_for(entries: &[Entry], page: u32, access: Rights) -> Option<Entry>
+    ensures { result ≡ entry_for entries.now page access }
+{
+    for entry in entries {
+        if page >= entry.first
+            && page - entry.first < entry.count
+            && entry.rights.contains(access)
+        {
+            return Some(*entry);
+        }
+    }
+    None
+}
+
+/// A pager's table of at most `MAX_REGIONS` regions, no page of which is one of two.
+#[derive(Drop)]
+pub struct RegionPager {
+    entries: ArrayVec<Entry, MAX_REGIONS>,
+}
+
+impl Model for RegionPager {
+    ghost use Rattle.std.specs.Prelude.{List};
+    ghost use Rattle.l4_pager.specs.declared.regions.Entry.{Entry as AnEntry};
+    ghost use Rattle.l4_pager.specs.Regions.{IsTable};
+
+    ghost Value = { List AnEntry };
+
+    ghost view = { λ p. p.entries.items };
+
+    ghost invariant = { λ p. IsTable p.entries.items };
+}
+
+impl RegionPager {
+    ghost use Rattle.l4_msg.specs.Messages.{CanBeWritten};
+    ghost use Rattle.l4_pager.specs.Regions.{AddFails, CanAdd, IsTable, source_of, Answers};
+    ghost use Rattle.l4_pager.specs.declared.regions.PagerRefusal.{PagerRefusal as ARefusal};
+    ghost use Rattle.l4_pager.specs.declared.regions.PagerRefusal.TheVariants.{NoRegion};
+
+    /// A table without an entry.
+    pub fn new() -> RegionPager
+        ensures { result ≡ [] }
+    {
+        RegionPager {
+            entries: ArrayVec::new(),
+        }
+    }
+
+    /// A law of every table: no entry is bad, and no page is one of two entries.
+    pub fn law_table(&self)
+        ensures { IsTable self.now }
+    {
+        let _entries = &self.entries;
+    }
+
+    /// Adds an entry at the end. The refusals come in this order: `BadRegion` (P4), `Overlap` (P1), `Full` (P3). A refused entry
+    /// changes nothing.
+    pub fn add(&mut self, entry: Entry) -> Result<(), PagerRefusal>
+        ensures { MatchResult result
+            (λ _. CanAdd self.old entry × (self.new ≡ self.old ++ entry ∷ []))
+            (λ refusal. AddFails self.old entry refusal × (self.new ≡ self.old)) }
+    {
+        if entry.is_bad() {
+            return Err(PagerRefusal::BadRegion);
+        }
+        if meets_one(self.entries.as_slice(), &entry) {
+            return Err(PagerRefusal::Overlap);
+        }
+        if self.entries.len() >= MAX_REGIONS {
+            return Err(PagerRefusal::Full);
+        }
+        self.entries.push(entry);
+        Ok(())
+    }
+
+    /// The source page of a page, from the entry that holds it, if the entry's rights hold the access; else `NoRegion` (P2). An
+    /// access without a right is held by every entry.
+    pub fn find(&self, page: u32, access: Rights) -> Result<u32, PagerRefusal>
+        ensures { MatchResult result
+            (λ source. MatchOption (entry_for self.now page access) ⊥ (λ e. source ≡ source_of e page))
+            (λ refusal. (entry_for self.now page access ≡ None) × (refusal ≡ NoRegion)) }
+    {
+        match entry_for(self.entries.as_slice(), page, access) {
+            Some(entry) => Ok(entry.source + (page - entry.first)),
+            None => Err(PagerRefusal::NoRegion),
+        }
+    }
+
+    /// The answer to a message: to a fault's one map item, its send base the fault's page and its fpage the source page of 4 KiB with
+    /// the entry's rights; a nil map item where `find` refuses the page, and to any other message.
+    pub fn answer(&self, message: &Message) -> Message
+        ensures answers { Answers self.now message.now result }
+        ensures writable { CanBeWritten result }
+    {
+        let Some(fault) = PageFault::read(message) else {
+            return map_answer(0, Fpage::Nil);
+        };
+        let page = fault.address >> PAGE_LOG;
+        let Some(entry) = entry_for(self.entries.as_slice(), page, fault.access) else {
+            return map_answer(0, Fpage::Nil);
+        };
+        let source = Block {
+            first: entry.source + (page - entry.first),
+            log: 0,
+        };
+        map_answer(page << PAGE_LOG, Fpage::of_block(source, entry.rights))
+    }
+}

@@ -1,0 +1,120 @@
+//! Gates, and the loop that serves a pager through one.
+ghost use Rattle.std.specs.Prelude.{◌≡◌, ℕ, ◌+◌, ◌≤◌, Bool, List, [], ◌∷◌, ◌++◌, length, IfOk, IfErr, MatchOption, MatchResult};
+ghost use Rattle.l4_threads.specs.declared.ThreadId.{ThreadId as AnId};
+ghost use Rattle.l4_threads.specs.declared.Reply.{Reply as AReply};
+ghost use Rattle.l4_msg.specs.declared.messages.Message.{Message as AMessage};
+ghost use Rattle.l4_ipc.specs.declared.calls.Call.{Call as ACall};
+ghost use Rattle.l4_pager.specs.declared.serving.GateFault.{GateFault as AFault};
+ghost use Rattle.l4_pager.specs.Serving.{Brings, Follows, Serves, ComesNext, waiting, sending};
+
+use crate::regions::RegionPager;
+use arrayvec::ArrayVec;
+use l4_ipc::{Call, IpcCall, Reply};
+use l4_msg::{MAX_WORDS, Message};
+use l4_threads::ThreadId;
+
+/// A tag and the words of a reply, at most.
+const REPLY_WORDS: usize = MAX_WORDS + 1;
+
+/// The timeouts of an answer: zero for the send phase, and never for the receive phase.
+const AT_ONCE: u32 = 0x0400_0000;
+
+/// Why a gate didn't enter a call.
+#[derive(Clone, Copy, PartialEq, Eq, Debug)]
+pub struct GateFault {
+    /// The number of the refusal: 1 to 5 for L1 to L5, so 2 for want of memory.
+    pub code: u8,
+}
+
+/// What enters calls of one thread into a kernel, and takes their replies. A gate that waits holds what it waits by.
+pub trait Gate {
+    /// The calls that were entered, with their replies.
+    ghost pairs: { Self → List (ACall × AReply) };
+
+    /// That the gate refuses a call with this fault, and how it is left.
+    ghost refuses: { Self → ACall → AFault → Self → Type 0 };
+
+    /// Enters a call and takes its reply. After a `GateFault` nothing was entered: room for the pair is made before all else.
+    fn enter(&mut self, call: Call) -> Result<Reply, GateFault>
+        ensures { MatchResult result
+            (λ reply. pairs self.new ≡ pairs self.old ++ (call, reply) ∷ [])
+            (λ fault. (pairs self.new ≡ pairs self.old) × refuses self.old call fault self.new) };
+}
+
+/// The sender and the message that a reply brings.
+fn brought(reply: &Reply) -> Option<(ThreadId, Message)>
+    ensures { MatchOption result ((sender : AnId) (m : AMessage) → ¬ Brings reply.now sender m) (λ p. Brings reply.now p.0 p.1) }
+{
+    match reply {
+        Reply::Ipc(ipc) => {
+            let mut words: ArrayVec<u32, REPLY_WORDS> = ArrayVec::new();
+            words.push(ipc.tag);
+            let _ = words.try_extend_from_slice(ipc.words.as_slice());
+            match Message::read(words.as_slice()) {
+                Ok(message) => Some((ipc.from, message)),
+                Err(_) => None,
+            }
+        }
+        Reply::Hit => None,
+        Reply::Answered => None,
+        Reply::FaultFailed(_) => None,
+        Reply::Unmapped => None,
+        Reply::Controlled => None,
+        Reply::Gone => None,
+    }
+}
+
+/// The call that waits for anybody's message.
+fn wait() -> Call
+    ensures { result ≡ waiting }
+{
+    Call::Ipc(IpcCall {
+        to: ThreadId::nil(),
+        from: ThreadId::any(),
+        timeouts: 0,
+        acceptor: 0,
+        words: ArrayVec::new(),
+    })
+}
+
+/// What is entered after a reply, and whether it is an answer.
+fn next_call(regions: &RegionPager, reply: &Reply) -> (Call, bool)
+    ensures { Follows regions.now reply.now result.0 result.1 }
+{
+    let Some((sender, message)) = brought(reply) else {
+        return (wait(), false);
+    };
+    let answer = regions.answer(&message);
+    let call = Call::Ipc(IpcCall {
+        to: sender,
+        from: ThreadId::any(),
+        timeouts: AT_ONCE,
+        acceptor: 0,
+        words: answer.write(),
+    });
+    (call, true)
+}
+
+/// Serves a pager through a gate: first receives from anybody with a nil window, and then, turn by turn, answers the message that the
+/// last reply brought and waits again, or only waits again where it brought none, which counts as a turn too. A reply brings a message
+/// where it is one of an Ipc that did not fail, and its tag and words are a message. The result is the number of answers that were
+/// entered in `turns` turns, or the gate's first fault, at which it stops.
+pub fn serve<G: Gate>(gate: &mut G, regions: &RegionPager, turns: u32) -> Result<u32, GateFault>
+    ensures ok { IfOk result (λ answers. (entered : List (ACall × AReply)) × (G.pairs gate.new ≡ G.pairs gate.old ++ entered) × (length entered ≡ 1 + turns) × Serves regions.now entered answers) }
+    ensures err { IfErr result (λ fault. (before : G) × (call : ACall) × G.refuses before call fault gate.new × ((entered : List (ACall × AReply)) × (answers : ℕ) × (G.pairs gate.new ≡ G.pairs gate.old ++ entered) × (length entered ≤ turns) × Serves regions.now entered answers × ComesNext regions.now entered call)) }
+{
+    let mut reply = match gate.enter(wait()) {
+        Ok(reply) => reply,
+        Err(fault) => return Err(fault),
+    };
+    let mut answers = 0u32;
+    for _ in 0..turns {
+        let (call, is_answer) = next_call(regions, &reply);
+        match gate.enter(call) {
+            Ok(next) => reply = next,
+            Err(fault) => return Err(fault),
+        }
+        answers += u32::from(is_answer);
+    }
+    Ok(answers)
+}

@@ -1,0 +1,66 @@
+-- sigma0's table of frames, and its answers (L4 X.2 manual, sigma0 protocol; what is granted is this profile's own).
+use Rattle.std.specs.Prelude.{◌≡◌, ℕ, ◌+◌, ◌-◌, ◌*◌, ◌/◌, ◌^◌, ◌<◌, ◌≤◌, ◌⊎◌, Bool, ◌&&◌, nat_le, nat_lt, if◌then◌else◌, List, [], ◌∷◌, Option, Some, None, MatchOption, refl}
+use Rattle.std.specs.Ordering.{nat_cmp}
+use Rattle.std.specs.Coded.{Coded, code_by, coded×, coded_ℕ}
+use Rattle.std.specs.FinMap as fin
+use Rattle.l4_fpage.specs.Fpages.{bytes_of}
+use Rattle.l4_fpage.specs.Rights.{all_rights}
+use Rattle.l4_fpage.specs.Pages.{InBlock}
+use Rattle.l4_fpage.specs.declared.fpages.Fpage.{Fpage}
+use Rattle.l4_msg.specs.declared.messages.Message.{Message}
+use Rattle.l4_msg.specs.declared.protocols.PageFault.{PageFault}
+use Rattle.l4_msg.specs.Protocols.{FaultReads, RequestReads, nothing, GivesPages}
+
+-- the frames of a machine, at most
+abbrev pub max_frames : ℕ
+max_frames = 4096
+
+-- the number of frames, and the spaces that own some of them, by frame
+pub record Owners : Type 0 where
+  pub frames : ℕ
+  pub owner : fin.FinMap nat_cmp ℕ
+
+-- a table of owners is stored as the number and the map
+abbrev pub owners_code : Coded Owners
+owners_code =
+    code_by (ℕ × fin.FinMap nat_cmp ℕ) (coded× coded_ℕ (fin.code coded_ℕ coded_ℕ))
+    (λ t. (t.frames, t.owner)) (λ p. record { frames = p.0; owner = p.1 }) (λ _. refl)
+
+-- the space that owns the frame, if one does
+abbrev pub owner_of : Owners → ℕ → Option ℕ
+owner_of t frame = fin.get t.owner frame
+
+-- the fpage's whole pages are 2 ^ log pages from the first on
+abbrev pub NamesPages : Fpage → ℕ → ℕ → Type 0
+NamesPages fpage first log = MatchOption (bytes_of fpage) ⊥ (λ b. (12 ≤ b.log) × (first ≡ b.base / 4096) × (log ≡ b.log - 12))
+
+-- The message asks for 2 ^ log frames from the first on: a fault for its page, a request without attributes for the pages of its
+-- fpage. The frame of a page is the one of its number.
+abbrev pub Wants : Message → ℕ → ℕ → Type 0
+Wants m first log =
+    ((fault : PageFault) × FaultReads m fault × (first ≡ fault.address / 4096) × (log ≡ 0))
+    ⊎ ((fpage : Fpage) × RequestReads m (record { fpage = fpage; attributes = 0 }) × NamesPages fpage first log)
+
+-- there is such a frame, and it is free or the space's
+abbrev pub MayHave : Owners → ℕ → ℕ → Type 0
+MayHave t space frame = (frame < t.frames) × MatchOption (owner_of t frame) (Unit {0}) (λ owner. owner ≡ space)
+
+-- each of these frames is there, and free or the space's
+abbrev pub MayHaveAll : Owners → ℕ → ℕ → ℕ → Type 0
+MayHaveAll t space first log = (frame : ℕ) → InBlock first log frame → MayHave t space frame
+
+-- the frame is one of the 2 ^ log from the first on
+abbrev pub is_in : ℕ → ℕ → ℕ → Bool
+is_in first log frame = nat_le first frame && nat_lt frame (first + 2 ^ log)
+
+-- these frames are the space's, and the others are whose they were
+pub record Gives (old : Owners) (space first log : ℕ) (new : Owners) : Type 0 where
+  pub frames : new.frames ≡ old.frames
+  pub owner : (frame : ℕ) → owner_of new frame ≡ (if is_in first log frame then Some space else owner_of old frame)
+
+-- What sigma0 answers a message from a space: it gives the frames that are wanted, with all rights, where the space may have all
+-- of them; and else it gives nothing, and no frame gets an owner.
+abbrev pub Answers : Owners → ℕ → Message → Message → Owners → Type 0
+Answers old space m answer new =
+    ((first : ℕ) × (log : ℕ) × Wants m first log × MayHaveAll old space first log × GivesPages first first log all_rights answer × Gives old space first log new)
+    ⊎ (((first log : ℕ) → Wants m first log → ¬ MayHaveAll old space first log) × (answer ≡ nothing) × (new ≡ old))

@@ -1,0 +1,9 @@
+//! sigma0, the first pager: it owns the frames at first, and gives each to one space (L4 X.2 manual, sigma0 protocol).
+#![tactic(auto)]
+
+mod owners;
+
+pub use owners::{MAX_FRAMES, Sigma0};
+
+#[cfg(test)]
+mod tests;

@@ -1,0 +1,129 @@
+//! The owners of frames.
+ghost use Rattle.std.specs.Prelude.{◌≡◌, ℕ, ◌+◌, ◌^◌, ◌<◌, ◌≤◌, ◌↔◌, MatchOption, IsTrue, length};
+
+use l4_fpage::{Block, Fpage, PAGE_LOG, Rights};
+use l4_msg::{FrameRequest, Message, PageFault, map_answer};
+use std::marker::Model;
+
+/// The frames of a machine, at most (this profile's own).
+pub const MAX_FRAMES: usize = 4096;
+
+/// sigma0's table: which space owns which frame. A frame that is given to a space is that space's for good (L4 X.2 manual, sigma0
+/// protocol; what is granted is this profile's own).
+#[derive(Drop)]
+pub struct Sigma0 {
+    frames: u32,
+    owners: [Option<u64>; MAX_FRAMES],
+}
+
+impl Model for Sigma0 {
+    ghost use Rattle.std.specs.Prelude.{◌≤◌};
+    ghost use Rattle.l4_sigma0.specs.Owners.{Owners, owners_code, max_frames};
+    ghost use Rattle.l4_sigma0.specs.Tables.{map_of};
+
+    ghost Value = { Owners };
+
+    ghost coded = { owners_code };
+
+    ghost view = { λ s. record { frames = s.frames; owner = map_of s.owners } };
+
+    ghost invariant = { λ s. s.frames ≤ max_frames };
+}
+
+ghost use Rattle.l4_sigma0.specs.Owners.{Wants};
+
+/// The frames that a message asks for.
+fn wanted(message: &Message) -> Option<Block>
+    ensures wants { MatchOption result ((first log : ℕ) → ¬ Wants message.now first log) (λ block. Wants message.now block.first block.log) }
+    ensures only { (first log : ℕ) → Wants message.now first log → MatchOption result ⊥ (λ block. (block.first ≡ first) × (block.log ≡ log)) }
+{
+    if let Some(fault) = PageFault::read(message) {
+        return Some(Block {
+            first: fault.address >> PAGE_LOG,
+            log: 0,
+        });
+    }
+    match FrameRequest::read(message) {
+        Some(request) => {
+            if request.attributes != 0 {
+                return None;
+            }
+            request.fpage.pages()
+        }
+        None => None,
+    }
+}
+
+ghost use Rattle.l4_sigma0.specs.Tables.{AreFree, IsFilled};
+
+/// Whether each of these frames is free or the space's.
+fn are_free(owners: &[Option<u64>], space: u64, first: usize, end: usize) -> bool
+    requires { end ≤ length owners.now }
+    ensures { IsTrue result ↔ AreFree owners.now space first end }
+{
+    for frame in first..end {
+        if let Some(owner) = owners[frame] {
+            if owner != space {
+                return false;
+            }
+        }
+    }
+    true
+}
+
+/// Gives these frames to the space.
+fn fill(owners: &mut [Option<u64>], space: u64, first: usize, end: usize)
+    requires within { end ≤ length owners.old }
+    requires order { first ≤ end }
+    ensures { IsFilled owners.old space first end owners.new }
+{
+    for frame in first..end {
+        owners[frame] = Some(space);
+    }
+}
+
+impl Sigma0 {
+    ghost use Rattle.std.specs.FinMap as fin;
+    ghost use Rattle.l4_sigma0.specs.Owners.{Answers, max_frames};
+
+    /// The table of the frames 0 to `frames` - 1, of which none has an owner. `frames` is at most `MAX_FRAMES`.
+    pub fn new(frames: u32) -> Sigma0
+        requires { frames ≤ max_frames }
+        ensures { result ≡ record { frames = frames; owner = fin.empty } }
+    {
+        Sigma0 {
+            frames,
+            owners: [None; MAX_FRAMES],
+        }
+    }
+
+    /// The answer to a message from a space. A request without attributes asks for the frames of its fpage's pages, and a fault
+    /// message for the frame of its page; the frame of a page has the page's number. Where there are all of these, and each is free
+    /// or the space's, they become the space's, whether or not the answer reaches it, and the answer is one map item of them with all
+    /// rights, its send base that of the fpage. Anything else is answered by a nil map item, and changes nothing. A sender that is
+    /// gone counts as space 2^64 - 1.
+    pub fn answer(&mut self, from_space: u64, message: &Message) -> Message
+        ensures { Answers self.old from_space message.now result self.new }
+    {
+        let Some(block) = wanted(message) else {
+            return map_answer(0, Fpage::Nil);
+        };
+        let end = block.first + (1 << block.log);
+        if end > self.frames {
+            return map_answer(0, Fpage::Nil);
+        }
+        if !are_free(&self.owners, from_space, block.first as usize, end as usize) {
+            return map_answer(0, Fpage::Nil);
+        }
+        fill(
+            &mut self.owners,
+            from_space,
+            block.first as usize,
+            end as usize,
+        );
+        map_answer(
+            block.first << PAGE_LOG,
+            Fpage::of_block(block, Rights::all()),
+        )
+    }
+}
