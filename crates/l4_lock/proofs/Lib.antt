@@ -1,0 +1,10 @@
+pub mod Boards
+pub mod Replies
+pub mod Right
+pub mod Going
+pub mod Books
+pub mod Started
+pub mod Openings
+pub mod Taking
+pub mod Booting
+pub mod Back

@@ -1,0 +1,205 @@
+-- A reply is taken from the lock, and a call is entered: what the lock keeps.
+use Rattle.std.proofs.Common.{◌≡◌, ◌≢◌, ℕ, suc, zero, ◌+◌, ◌<◌, ◌≤◌, ◌⊎◌, inl, inr, Bool, true, false, List, [], ◌∷◌, ◌++◌, length, get_or, Option, Some, None, Result, Ok, Err, IfSome, IfNone, MatchOption, IsTrue, slice_get, slice_set, Contains, refl, sym, ap, ◌∙◌, subst, arith}
+use Rattle.std.specs.Option.{option_map, option_map_or, option_and_then}
+use Rattle.std.proofs.lemmas.Bool.{false≢true}
+use Rattle.std.proofs.lemmas.Option.{slice_get_within, get_or_from_slice_get}
+use Rattle.std.proofs.lemmas.List.{length-append}
+use Rattle.atomic_table.specs.Seated.{TableId}
+use Rattle.l4_threads.specs.declared.Reply.{Reply}
+use Rattle.l4_ipc.specs.declared.calls.Call.{Call}
+use Rattle.l4_ipc.specs.declared.steps.Refused.{Refused}
+use Rattle.l4_ipc.specs.declared.steps.Step.TheVariants.{Start}
+use Rattle.l4_ipc.specs.Machine.{Machine}
+use Rattle.l4_ipc.specs.Steps.{Steps, IsIdle}
+use Rattle.l4_lock.specs.declared.entries.Entry.{Entry}
+use Rattle.l4_lock.specs.declared.entries.Receipt.{Receipt}
+use Rattle.l4_lock.specs.declared.entries.Ended.{Ended}
+use Rattle.l4_lock.specs.declared.entries.Pending.{Pending}
+use Rattle.l4_lock.specs.declared.refusals.LockRefusal.{LockRefusal}
+use Rattle.l4_lock.specs.declared.refusals.LockRefusal.TheVariants.{NoMemory, Kernel as ByKernel}
+use Rattle.l4_lock.specs.Receipts.{Proves}
+use Rattle.l4_lock.specs.Books.{SeatState, seat_state, Book, book, book_at, reply_waits, has_ended, plain, receipts_at, numbers, IsOnce, receipt_of, HasNotEnded, IsPending, IsRight, AreRight, Settles}
+use Rattle.l4_lock.specs.Locked.{Lock, lock, IsKept, Begins, Enters, Gains, EndsAtOnce, IsLeft, Takes, Refuses, start_entry}
+use Rattle.l4_lock.proofs.Right.{pend}
+use Rattle.l4_lock.proofs.Started.{own_at, set_own, set_other, plain_at, same_book, get_there, read_all, right_settled, settled_right, set_same, at_number}
+
+pub finished : (frames : ℕ) (es : List Entry) (m : Machine) (books : List Book) (board : TableId) (published place : ℕ) (x y : Book) (before after : SeatState) (own : Call → Call) (r : Option Reply)
+    → IsKept (lock frames m es books board published) → place < length books → x ≡ get_or books place x
+    → IfSome r (λ reply. Settles x y before after own reply) → IfNone r ((y ≡ x) × (after ≡ before) × (option_map_or has_ended x.pending false ≡ false))
+    → IsKept (lock frames m es (slice_set books place y) board published)
+finished frames es m books board published place x y before after own None k lt read some none =
+    let there = get_there books place lt in
+    let here : y ≡ there.0 = none.0 ∙ read ∙ get_or_from_slice_get books place there.0 x there.1 in
+    record {
+      right = subst (λ (l : List Book). AreRight frames es m l) (sym (ap (slice_set books place) here ∙ set_same books place there.0 there.1)) k.right;
+      idle = k.idle;
+      few = k.few;
+      shown = k.shown;
+    }
+finished frames es m books board published place x y before after own (Some reply) k lt read s none =
+    let there = get_there books place lt in
+    let here : x ≡ there.0 = read ∙ get_or_from_slice_get books place there.0 x there.1 in
+    record {
+      right = (settled_right frames es m books place x y s.pending s.ended k.right (there.1 ∙ ap (λ (b : Book). Some b) (sym here)) s.pending_is s.ended_is s.book_is).1;
+      idle = k.idle;
+      few = k.few;
+      shown = k.shown;
+    }
+
+pub taken : (frames : ℕ) (es : List Entry) (m : Machine) (books : List Book) (board : TableId) (published place : ℕ) (x y : Book) (before after : SeatState) (own : Call → Call) (r : Option Reply)
+    → IsKept (lock frames m es books board published) → place < length books → book_at books before.number ≡ slice_get books place → x ≡ get_or books place x
+    → IfSome r (λ reply. Settles x y before after own reply)
+    → IfSome r (λ reply. Takes (lock frames m es books board published) (lock frames m es (slice_set books place y) board published) before after own reply)
+taken frames es m books board published place x y before after own None k lt at read some = some
+taken frames es m books board published place x y before after own (Some reply) k lt at read s =
+    let there = get_there books place lt in
+    let here : x ≡ there.0 = read ∙ get_or_from_slice_get books place there.0 x there.1 in
+    let placed : slice_get books place ≡ Some x = there.1 ∙ ap (λ (b : Book). Some b) (sym here) in
+    let numbered : x.number ≡ before.number = at_number books before.number x (at ∙ placed) in
+    record {
+      book = x;
+      at = at ∙ placed;
+      later = y;
+      settles = s;
+      proves = subst (λ (n : ℕ). Proves frames es n (receipt_of s.pending s.ended)) numbered
+          (settled_right frames es m books place x y s.pending s.ended k.right placed s.pending_is s.ended_is s.book_is).0;
+      settled = subst (λ (j : ℕ). book_at (slice_set books place y) j ≡ Some y) numbered (set_own books place x y placed (ap (λ (b : Book). b.number) s.book_is) k.right.apart);
+      others = λ j ne. set_other books place x y j placed (ap (λ (b : Book). b.number) s.book_is) (λ e. ne (e ∙ numbered));
+      same = (refl, refl, refl, refl);
+    }
+
+pub not_taken : (frames : ℕ) (es : List Entry) (m : Machine) (books : List Book) (board : TableId) (published place : ℕ) (x y : Book) (before after : SeatState) (r : Option Reply)
+    → place < length books → book_at books before.number ≡ slice_get books place → x ≡ get_or books place x
+    → IfNone r ((y ≡ x) × (after ≡ before) × (option_map_or has_ended x.pending false ≡ false))
+    → IfNone r ((lock frames m es (slice_set books place y) board published ≡ lock frames m es books board published) × (after ≡ before) × ((before.waiting ≡ 0) ⊎ (reply_waits books before.number ≡ false)))
+not_taken frames es m books board published place x y before after (Some reply) lt at read none = none
+not_taken frames es m books board published place x y before after None lt at read none =
+    let there = get_there books place lt in
+    let here : x ≡ there.0 = read ∙ get_or_from_slice_get books place there.0 x there.1 in
+    let placed : slice_get books place ≡ Some x = there.1 ∙ ap (λ (b : Book). Some b) (sym here) in (
+      ap (λ (l : List Book). lock frames m es l board published) (ap (slice_set books place) (none.0 ∙ here) ∙ set_same books place there.0 there.1),
+      none.1,
+      inr (ap (λ (o : Option Book). option_map_or has_ended (option_and_then (λ (b : Book). b.pending) o) false) (at ∙ placed) ∙ none.2),
+    )
+
+-- ENTER
+
+pub begun_kept : (frames : ℕ) (es es' : List Entry) (m new : Machine) (books later : List Book) (board board' : TableId) (published published' n place : ℕ) (call : Call)
+    → IsKept (lock frames m es books board published) → length es ≤ 999871 → Begins n call m new es es' books later place → published' ≡ length es' → IsKept (lock frames new es' later board' published')
+begun_kept frames es es' m new books later board board' published published' n place call k few b shown = record {
+  right = b.right frames k.right;
+  idle = b.idle;
+  few = (let e = ap (λ (l : List Entry). length l) b.history in let rest = b.few in omega (arith, e, rest, few, length-append es (start_entry n call b.answer ∷ b.rest)));
+  shown = shown;
+}
+
+-- one book may settle its call; those of other numbers are as they were, but for what is known of the ends of their calls
+others_kept : (es es' : List Entry) (m new : Machine) (books later : List Book) (n place : ℕ) (call : Call) (y : Book) → Begins n call m new es es' books later place → y.number ≡ n
+    → (j : ℕ) → j ≢ n → option_map plain (book_at (slice_set later place y) j) ≡ option_map plain (book_at books j)
+others_kept es es' m new books later n place call y b same j ne =
+    let opened : Book = record b.former { pending = Some (record { call = call; start = length es; ended = None }) } in
+    ap (option_map plain) (set_other later place b.book y j b.at (same ∙ sym b.number) (λ e. ne (e ∙ b.number)))
+    ∙ plain_at later j ∙ ap (λ (l : List Book). book_at l j) b.same ∙ sym (plain_at (slice_set books place opened) j)
+    ∙ ap (option_map plain) (set_other books place b.former opened j b.former_at refl (λ e. ne (e ∙ b.former_number)))
+
+pub enters : (frames : ℕ) (es es' : List Entry) (m new : Machine) (books later : List Book) (board board' : TableId) (published published' n k place : ℕ) (call : Call) (y : Book)
+    → Begins n call m new es es' books later place → n ≡ k → board' ≡ board → y.number ≡ n → Enters (lock frames m es books board published) (lock frames new es' (slice_set later place y) board' published') k call
+enters frames es es' m new books later board board' published published' n k place call y b same same_board numbered =
+    subst (λ (j : ℕ). Enters (lock frames m es books board published) (lock frames new es' (slice_set later place y) board' published') j call) same (record {
+      answer = b.answer;
+      started = b.started;
+      starts = b.starts;
+      rest = b.rest;
+      goes = b.goes;
+      few = (let few = b.few in omega (arith, few));
+      history = b.history;
+      same = (refl, same_board);
+      others = others_kept es es' m new books later n place call y b numbered;
+    })
+
+-- the number of the book that is left at the place
+pub numbered : (es es' : List Entry) (m new : Machine) (books later : List Book) (n place : ℕ) (call : Call) (x : Book) → Begins n call m new es es' books later place → x ≡ get_or later place x → x.number ≡ n
+numbered es es' m new books later n place call x b read = ap (λ (z : Book). z.number) (read ∙ get_or_from_slice_get later place b.book x b.at) ∙ b.number
+
+-- what was kept of the number
+former_kept : (es es' : List Entry) (m new : Machine) (books later : List Book) (n place : ℕ) (call : Call) → (b : Begins n call m new es es' books later place) → IsOnce (numbers books)
+    → receipts_at books n ≡ Some b.former.receipts
+former_kept es es' m new books later n place call b once =
+    subst (λ (j : ℕ). receipts_at books j ≡ Some b.former.receipts) b.former_number (ap (option_map (λ (z : Book). z.receipts)) (own_at books place b.former b.former_at once))
+
+same_call : (p q : Pending) → ◌≡◌ {A = Option Pending} (Some p) (Some q) → p ≡ q
+same_call p q e = cc
+
+pub ends_at_once : (frames : ℕ) (es es' : List Entry) (m new : Machine) (books later : List Book) (board board' : TableId) (published published' n place : ℕ) (call : Call) (x y : Book) (before between after : SeatState) (reply : Reply)
+    → Begins n call m new es es' books later place → AreRight frames es' new later → IsOnce (numbers books) → n ≡ before.number → x ≡ get_or later place x → between ≡ record before { waiting = before.waiting + 1 }
+    → Settles x y between after (λ c. c) reply
+    → EndsAtOnce (lock frames m es books board published) (lock frames new es' (slice_set later place y) board' published') before after call reply
+ends_at_once frames es es' m new books later board board' published published' n place call x y before between after reply b right once same read more s =
+    let here : x ≡ b.book = read ∙ get_or_from_slice_get later place b.book x b.at in
+    let its : s.pending ≡ b.pending = same_call s.pending b.pending (sym s.pending_is ∙ ap (λ (z : Book). z.pending) here ∙ b.pending_is) in
+    let numbered : x.number ≡ before.number = ap (λ (z : Book). z.number) here ∙ b.number ∙ same in
+    let settled : book_at (slice_set later place y) before.number ≡ Some y =
+    subst (λ (j : ℕ). book_at (slice_set later place y) j ≡ Some y) numbered (set_own later place x y (b.at ∙ ap (λ (z : Book). Some z) (sym here)) (ap (λ (z : Book). z.number) s.book_is) right.apart) in
+    let had : receipts_at books before.number ≡ Some b.former.receipts =
+    subst (λ (j : ℕ). receipts_at books j ≡ Some b.former.receipts) same (former_kept es es' m new books later n place call b once) in
+    record {
+      kept = ap (option_map (λ (z : Book). z.receipts)) settled ∙ ap (λ (rs : List Receipt). Some rs) (ap (λ (z : Book). z.receipts) s.book_is ∙ ap (λ (z : Book). z.receipts ++ receipt_of s.pending s.ended ∷ []) here ∙ ap (λ (rs : List Receipt). rs ++ receipt_of s.pending s.ended ∷ []) b.receipts)
+          ∙ sym (ap (option_map (λ (rs : List Receipt). rs ++ receipt_of s.pending s.ended ∷ [])) had);
+      taken = ap (option_and_then (λ (z : Book). z.pending)) settled ∙ ap (λ (z : Book). z.pending) s.book_is;
+      receipt = receipt_of s.pending s.ended;
+      enters = ap (λ (p : Pending). p.call) its ∙ b.pending_call;
+      start = ap (λ (p : Pending). p.start) its ∙ b.pending_start;
+      answers = sym s.answers;
+      gains = record {
+        number = s.number ∙ ap (λ (p : SeatState). p.number) more;
+        waiting = (let w = s.waiting in let v = ap (λ (p : SeatState). p.waiting) more in omega (arith, w, v));
+        receipts = s.receipts ∙ ap (λ (p : SeatState). p.receipts ++ receipt_of s.pending s.ended ∷ []) more;
+        proves = subst (λ (j : ℕ). Proves frames es' j (receipt_of s.pending s.ended)) numbered
+            (right_settled frames es' new x s.pending s.ended (subst (IsRight frames es' new) (sym here) (read_all (IsRight frames es' new) later place b.book b.at right.each)) s.pending_is s.ended_is).0;
+      };
+    }
+
+not_yet : (frames : ℕ) (es : List Entry) (m : Machine) (k : ℕ) (call : Call) (start : ℕ) (o : Option Ended) → IsPending frames es m k (pend call start o) → has_ended (pend call start o) ≡ false → HasNotEnded es m k start
+not_yet frames es m k call start None p e = p.ended
+not_yet frames es m k call start (Some f) p e = absurd (false≢true (sym e))
+
+pub is_left : (frames : ℕ) (es es' : List Entry) (m new : Machine) (books later : List Book) (board board' : TableId) (published published' n place : ℕ) (call : Call) (x y : Book) (before between after : SeatState)
+    → Begins n call m new es es' books later place → AreRight frames es' new later → IsOnce (numbers books) → n ≡ before.number → x ≡ get_or later place x → between ≡ record before { waiting = before.waiting + 1 }
+    → y ≡ x → after ≡ between → option_map_or has_ended x.pending false ≡ false
+    → IsLeft (lock frames m es books board published) (lock frames new es' (slice_set later place y) board' published') before after
+is_left frames es es' m new books later board board' published published' n place call x y before between after b right once same read more still left none =
+    let here : x ≡ b.book = read ∙ get_or_from_slice_get later place b.book x b.at in
+    let its : IsRight frames es' new b.book = read_all (IsRight frames es' new) later place b.book b.at right.each in
+    let pending : IsPending frames es' new b.book.number b.pending = subst (λ (o : Option Pending). MatchOption o (Unit {0}) (IsPending frames es' new b.book.number)) b.pending_is its.pending in
+    let waits : has_ended b.pending ≡ false = sym (ap (λ (z : Book). option_map_or has_ended z.pending false) here ∙ ap (λ (o : Option Pending). option_map_or has_ended o false) b.pending_is) ∙ none in
+    let not_ended = not_yet frames es' new b.book.number b.pending.call b.pending.start b.pending.ended pending waits in
+    let numbered : b.book.number ≡ before.number = b.number ∙ same in
+    let settled : book_at (slice_set later place y) before.number ≡ Some y =
+    subst (λ (j : ℕ). book_at (slice_set later place y) j ≡ Some y) numbered (set_own later place b.book y b.at (ap (λ (z : Book). z.number) (still ∙ here)) right.apart) in
+    let had : receipts_at books before.number ≡ Some b.former.receipts =
+    subst (λ (j : ℕ). receipts_at books j ≡ Some b.former.receipts) same (former_kept es es' m new books later n place call b once) in
+    record {
+      kept = ap (option_map (λ (z : Book). z.receipts)) settled ∙ ap (λ (rs : List Receipt). Some rs) (ap (λ (z : Book). z.receipts) (still ∙ here) ∙ b.receipts) ∙ sym had;
+      seat = left ∙ more;
+      not_ended = λ k entry after' at among.
+          not_ended.not_ended k entry (let s = b.pending_start in omega (arith, after', s)) at (subst (λ (j : ℕ). Contains entry.answer.ended.items j) (sym numbered) among);
+    }
+
+pub seat_back : (before between after : SeatState) → between ≡ record before { waiting = before.waiting + 1 } → between ≡ record after { waiting = after.waiting + 1 } → after ≡ before
+seat_back before between after more less =
+    let e : record after { waiting = after.waiting + 1 } ≡ record before { waiting = before.waiting + 1 } = sym less ∙ more in
+    let w : after.waiting ≡ before.waiting = (let v = ap (λ (p : SeatState). p.waiting) e in omega (arith, v)) in
+    λ i. seat_state (ap (λ (p : SeatState). p.number) e i) (w i) (ap (λ (p : SeatState). p.receipts) e i)
+
+pub refuses : (frames : ℕ) (es : List Entry) (m : Machine) (books : List Book) (board : TableId) (published n : ℕ) (call : Call) (e : LockRefusal) → reply_waits books n ≡ false → length es ≤ 999871 → book_at books n ≢ None
+    → ((e ≡ NoMemory) ⊎ ((r : Refused) × (e ≡ ByKernel r) × Steps m (Start n call) (Err r) m)) → Refuses (lock frames m es books board published) n call e
+refuses frames es m books board published n call e waits few there why =
+    let l : Lock = lock frames m es books board published in
+    let none : ¬ (IsTrue (reply_waits books n)) = λ h. false≢true (sym waits ∙ h) in
+    elim why [
+      | inl is ↦ subst (Refuses l n call) (sym is) (none, few)
+      | inr k ↦ subst (Refuses l n call) (sym k.1) (none, few, inr (there, k.2))
+    ]
+
+pub some_there : (o : Option Book) (b : Book) → o ≡ Some b → o ≢ None
+some_there o b is none = let k : ◌≡◌ {A = Option Book} None (Some b) = sym none ∙ is in cc

@@ -1,0 +1,155 @@
+-- What the lock keeps of each seat that it gave, and what a seat keeps itself. (this profile's own)
+use Rattle.std.specs.Prelude.{◌≡◌, ◌≢◌, ℕ, ◌+◌, ◌<◌, ◌≤◌, nat_eq, Bool, true, false, if◌then◌else◌, List, [], ◌∷◌, ◌++◌, length, map, Option, Some, None, MatchOption, slice_get, Contains}
+use Rattle.std.specs.Option.{option_map, option_map_or, option_and_then}
+use Rattle.std.specs.List.{All, AllPairs, list_any}
+use Rattle.l4_threads.specs.declared.Reply.{Reply}
+use Rattle.l4_threads.specs.declared.Reply.TheVariants.{Gone}
+use Rattle.l4_ipc.specs.declared.calls.Call.{Call}
+use Rattle.l4_ipc.specs.declared.steps.Step.{Step}
+use Rattle.l4_ipc.specs.declared.steps.Step.TheVariants.{Start, Transfer, Expire}
+use Rattle.l4_ipc.specs.Machine.{Machine}
+use Rattle.l4_ipc.specs.Reading.{reply_of}
+use Rattle.l4_ipc.specs.Steps.{Waits, IsIdle}
+use Rattle.l4_lock.specs.declared.entries.Entry.{Entry}
+use Rattle.l4_lock.specs.declared.entries.Receipt.{Receipt}
+use Rattle.l4_lock.specs.declared.entries.Ended.{Ended}
+use Rattle.l4_lock.specs.declared.entries.Pending.{Pending}
+use Rattle.l4_lock.specs.History.{Replays}
+use Rattle.l4_lock.specs.Receipts.{Proves, StartsCall}
+
+-- what a seat keeps: its number, how many of its calls were left waiting and not taken yet, and its receipts
+pub record SeatState : Type 0 where
+  pub number : ℕ
+  pub waiting : ℕ
+  pub receipts : List Receipt
+
+abbrev pub seat_state : ℕ → ℕ → List Receipt → SeatState
+seat_state number waiting receipts = record { number = number; waiting = waiting; receipts = receipts }
+
+-- the calls that it started: each has its receipt or was left waiting
+abbrev pub starts : SeatState → ℕ
+starts p = length p.receipts + p.waiting
+
+-- what the lock keeps for a number whose seat it gave: the call that isn't taken yet, and a copy of each receipt
+pub record Book : Type 0 where
+  pub number : ℕ
+  pub pending : Option Pending
+  pub receipts : List Receipt
+
+abbrev pub book : ℕ → Option Pending → List Receipt → Book
+book number pending receipts = record { number = number; pending = pending; receipts = receipts }
+
+abbrev pub pending_count : Option Pending → ℕ
+pending_count None = 0
+pending_count (Some o) = 1
+
+-- the calls that were begun for a number
+abbrev pub started_by : Book → ℕ
+started_by b = length b.receipts + pending_count b.pending
+
+-- the reply of the thread's last call, right after a step that ended it
+abbrev pub reply_in : Machine → ℕ → Reply
+reply_in m n = option_map_or (λ reply. reply) (reply_of m.threads n) Gone
+
+abbrev pub is_among : ℕ → List ℕ → Bool
+is_among n numbers = list_any (λ k. nat_eq k n) numbers
+
+-- a pending call after a step at this place, in which these calls ended
+abbrev pub noted_call : Machine → List ℕ → ℕ → ℕ → Pending → Pending
+noted_call m ended place number o =
+    option_map_or (λ e. o) o.ended
+    (if is_among number ended then record o { ended = Some (record { entry = place; reply = reply_in m number }) } else o)
+
+abbrev pub noted : Machine → List ℕ → ℕ → Book → Book
+noted m ended place b = record b { pending = option_map (noted_call m ended place b.number) b.pending }
+
+-- the book without what is known of the end of its pending call
+abbrev pub unended : Pending → Pending
+unended o = record o { ended = None }
+
+abbrev pub plain : Book → Book
+plain b = record b { pending = option_map unended b.pending }
+
+-- the call isn't taken yet and has ended
+abbrev pub has_ended : Pending → Bool
+has_ended p = option_map_or (λ e. true) p.ended false
+
+-- the receipt of an ended call
+abbrev pub receipt_of : Pending → Ended → Receipt
+receipt_of o e = record { call = o.call; start = o.start; end = e.entry; reply = e.reply }
+
+-- how many calls of the thread the history starts
+abbrev pub one_if : ℕ → Step → ℕ
+one_if n (Start k call) = if nat_eq k n then 1 else 0
+one_if n (Transfer s r) = 0
+one_if n (Expire k) = 0
+
+abbrev pub starts_of : ℕ → List Entry → ℕ
+starts_of n [] = 0
+starts_of n (e ∷ es) = one_if n e.step + starts_of n es
+
+-- the call has not ended: its thread waits, and no entry since its start ended it
+pub record HasNotEnded (history : List Entry) (m : Machine) (n start : ℕ) : Type 0 where
+  pub waits : Waits m n
+  pub not_ended : (k : ℕ) (entry : Entry) → start ≤ k → slice_get history k ≡ Some entry → ¬ (Contains entry.answer.ended.items n)
+
+-- the call that isn't taken yet is the last one that the thread started; where it has ended, its receipt is right
+pub record IsPending (frames : ℕ) (history : List Entry) (m : Machine) (n : ℕ) (o : Pending) : Type 0 where
+  pub first : Entry
+  pub start : slice_get history o.start ≡ Some first
+  pub call : first.step ≡ Start n o.call
+  pub no_other : (k : ℕ) (entry : Entry) → o.start < k → slice_get history k ≡ Some entry → ¬ (StartsCall n entry.step)
+  pub ended : MatchOption o.ended (HasNotEnded history m n o.start) (λ e. Proves frames history n (receipt_of o e))
+
+-- what a book says is right
+pub record IsRight (frames : ℕ) (history : List Entry) (m : Machine) (b : Book) : Type 0 where
+  pub count : starts_of b.number history ≡ length b.receipts + pending_count b.pending
+  pub receipts : All (Proves frames history b.number) b.receipts
+  pub rising : AllPairs (λ r s. r.start < s.start) b.receipts
+  pub pending : MatchOption b.pending (Unit {0}) (IsPending frames history m b.number)
+  pub later : MatchOption b.pending (Unit {0}) (λ o. All (λ r. r.start < o.start) b.receipts)
+
+-- the book of a number
+abbrev pub book_at : List Book → ℕ → Option Book
+book_at [] n = None
+book_at (b ∷ bs) n = if nat_eq b.number n then Some b else book_at bs n
+
+-- the call of the number that isn't taken yet, and its receipts
+abbrev pub pending_at : List Book → ℕ → Option Pending
+pending_at books n = option_and_then (λ (b : Book). b.pending) (book_at books n)
+
+abbrev pub receipts_at : List Book → ℕ → Option (List Receipt)
+receipts_at books n = option_map (λ (b : Book). b.receipts) (book_at books n)
+
+-- an ended call of the number hasn't been taken
+abbrev pub reply_waits : List Book → ℕ → Bool
+reply_waits books n = option_map_or has_ended (option_and_then (λ (b : Book). b.pending) (book_at books n)) false
+
+-- the numbers whose seats were given
+abbrev pub numbers : List Book → List ℕ
+numbers books = map (λ b. b.number) books
+
+-- no number stands twice
+abbrev pub IsOnce : List ℕ → Type 0
+IsOnce [] = Unit {0}
+IsOnce (n ∷ ns) = (is_among n ns ≡ false) × IsOnce ns
+
+-- The history is legal, the machine is its replay, each book is right, each number has one book, and only numbers with a book have
+-- started calls.
+pub record AreRight (frames : ℕ) (history : List Entry) (m : Machine) (books : List Book) : Type 0 where
+  pub replays : Replays frames history m
+  pub each : All (IsRight frames history m) books
+  pub apart : IsOnce (numbers books)
+  pub others : (n : ℕ) → is_among n (numbers books) ≡ false → starts_of n history ≡ 0
+
+-- The book's call has ended and is taken: the seat gains its receipt, in which the seat's own account of the call stands, and answers the reply.
+pub record Settles (old new : Book) (before after : SeatState) (own : Call → Call) (reply : Reply) : Type 0 where
+  pub pending : Pending
+  pub pending_is : old.pending ≡ Some pending
+  pub ended : Ended
+  pub ended_is : pending.ended ≡ Some ended
+  pub answers : reply ≡ ended.reply
+  pub book_is : new ≡ book old.number None (old.receipts ++ receipt_of pending ended ∷ [])
+  pub number : after.number ≡ before.number
+  pub waiting : before.waiting ≡ after.waiting + 1
+  pub receipts : after.receipts ≡ before.receipts ++ record (receipt_of pending ended) { call = own pending.call } ∷ []

@@ -1,0 +1,127 @@
+-- How the seats that come back agree with the seats that were given. (this profile's own)
+use Rattle.std.specs.Prelude.{◌≡◌, ℕ, ◌+◌, ◌<◌, ◌≤◌, ◌⊎◌, Bool, true, false, if◌then◌else◌, nat_le, List, length, Option, Some, None, MatchOption, slice_get}
+use Rattle.std.specs.Option.{option_map_or}
+use Rattle.std.specs.List.{All, AllPairs}
+use Rattle.l4_lock.specs.declared.entries.Entry.{Entry}
+use Rattle.l4_lock.specs.declared.entries.Receipt.{Receipt}
+use Rattle.l4_lock.specs.declared.closing.Mismatch.{Mismatch}
+use Rattle.l4_lock.specs.declared.closing.Mismatch.TheVariants.{Missing, Foreign, Receipt as WrongReceipt}
+use Rattle.l4_lock.specs.Receipts.{Proves}
+use Rattle.l4_lock.specs.Books.{SeatState, starts, Book, starts_of}
+use Rattle.l4_lock.specs.Locked.{Lock}
+
+-- one of the first so many books, or seats, has this number
+pub record HasBook (books : List Book) (before n : ℕ) : Type 0 where
+  pub at : ℕ
+  pub early : at < before
+  pub book : Book
+  pub there : slice_get books at ≡ Some book
+  pub number : book.number ≡ n
+
+pub record HasSeat (seats : List SeatState) (before n : ℕ) : Type 0 where
+  pub at : ℕ
+  pub early : at < before
+  pub seat : SeatState
+  pub there : slice_get seats at ≡ Some seat
+  pub number : seat.number ≡ n
+
+-- this number's seat was given, or came back
+abbrev pub IsGiven : List Book → ℕ → Type 0
+IsGiven books n = HasBook books (length books) n
+
+abbrev pub IsBack : List SeatState → ℕ → Type 0
+IsBack seats n = HasSeat seats (length seats) n
+
+-- this number's seat came back twice
+pub record IsTwice (seats : List SeatState) (n : ℕ) : Type 0 where
+  pub at : ℕ
+  pub second : SeatState
+  pub there : slice_get seats at ≡ Some second
+  pub number : second.number ≡ n
+  pub first : HasSeat seats at n
+
+-- the seat has as many starts as this, and the receipts that the lock kept
+abbrev pub Agrees : (Book → ℕ) → Book → SeatState → Type 0
+Agrees counts b p = (counts b ≡ starts p) × (b.receipts ≡ p.receipts)
+
+-- each book of the seat's number agrees with it
+abbrev pub AllAgree : (Book → ℕ) → List Book → SeatState → Type 0
+AllAgree counts books p = (k : ℕ) (b : Book) → slice_get books k ≡ Some b → b.number ≡ p.number → Agrees counts b p
+
+-- X1: the number's seat was given and didn't come back
+abbrev pub IsMissing : List Book → List SeatState → ℕ → Type 0
+IsMissing books seats n = IsGiven books n × ¬ (IsBack seats n)
+
+-- X2: a seat of the number came back that wasn't given, or a second one
+abbrev pub IsForeign : List Book → List SeatState → ℕ → Type 0
+IsForeign books seats n = (IsBack seats n × ¬ (IsGiven books n)) ⊎ IsTwice seats n
+
+-- X3: a seat came back that doesn't agree with what was kept for its number
+pub record IsWrong (counts : Book → ℕ) (books : List Book) (seats : List SeatState) (n : ℕ) : Type 0 where
+  pub at : ℕ
+  pub seat : SeatState
+  pub there : slice_get seats at ≡ Some seat
+  pub number : seat.number ≡ n
+  pub place : ℕ
+  pub book : Book
+  pub given : slice_get books place ≡ Some book
+  pub same : book.number ≡ n
+  pub differs : ¬ (Agrees counts book seat)
+
+-- the least number of this kind, or none is
+abbrev pub Least : (ℕ → Type 0) → Option ℕ → Type 0
+Least P None = (n : ℕ) → ¬ (P n)
+Least P (Some n) = P n × ((k : ℕ) → k < n → ¬ (P k))
+
+-- the first mismatch: missing ones before foreign ones before wrong ones, of each kind the least number
+abbrev pub Mismatches : (Book → ℕ) → List Book → List SeatState → Mismatch → Type 0
+Mismatches counts books seats (Missing n) = Least (IsMissing books seats) (Some n)
+Mismatches counts books seats (Foreign n) = Least (IsMissing books seats) None × Least (IsForeign books seats) (Some n)
+Mismatches counts books seats (WrongReceipt n) =
+    Least (IsMissing books seats) None × Least (IsForeign books seats) None × Least (IsWrong counts books seats) (Some n)
+
+-- Just the seats that were given came back, each once, and each agrees with what was kept for its number.
+pub record AreBack (counts : Book → ℕ) (books : List Book) (seats : List SeatState) : Type 0 where
+  pub back : (n : ℕ) → IsGiven books n → IsBack seats n
+  pub given : (n : ℕ) → IsBack seats n → IsGiven books n
+  pub once : (n : ℕ) → ¬ (IsTwice seats n)
+  pub agree : (k : ℕ) (p : SeatState) → slice_get seats k ≡ Some p → AllAgree counts books p
+
+-- as many starts as the history has
+abbrev pub by_history : List Entry → Book → ℕ
+by_history history b = starts_of b.number history
+
+-- What is true of a seat that came back: the history has as many starts of its number as it counted, each of its receipts is right
+-- about the history, and the starts of its receipts rise.
+pub record IsShown (l : Lock) (p : SeatState) : Type 0 where
+  pub count : starts_of p.number l.history ≡ starts p
+  pub receipts : All (Proves l.frames l.history p.number) p.receipts
+  pub rising : AllPairs (λ r s. r.start < s.start) p.receipts
+
+-- what is known where the lock is closed
+pub record Closes (l : Lock) (seats : List SeatState) : Type 0 where
+  pub back : AreBack (by_history l.history) l.books seats
+  pub shown : (k : ℕ) (p : SeatState) → slice_get seats k ≡ Some p → IsShown l p
+
+-- the number that is kept after one more
+abbrev pub keep : Option ℕ → ℕ → Bool → Option ℕ
+keep found n bad = if bad then Some (option_map_or (λ m. if nat_le m n then m else n) found n) else found
+
+-- What is known once the first books, or seats, were looked at: each of them is fine, or the least number of those that aren't is kept.
+abbrev pub SoFarMissing : List Book → List SeatState → ℕ → Option ℕ → Type 0
+SoFarMissing books seats i None = (k : ℕ) (b : Book) → k < i → slice_get books k ≡ Some b → IsBack seats b.number
+SoFarMissing books seats i (Some n) =
+    IsMissing books seats n × ((k : ℕ) (b : Book) → k < i → slice_get books k ≡ Some b → b.number < n → IsBack seats b.number)
+
+abbrev pub IsFine : List Book → List SeatState → ℕ → SeatState → Type 0
+IsFine books seats k p = IsGiven books p.number × ¬ (HasSeat seats k p.number)
+
+abbrev pub SoFarForeign : List Book → List SeatState → ℕ → Option ℕ → Type 0
+SoFarForeign books seats i None = (k : ℕ) (p : SeatState) → k < i → slice_get seats k ≡ Some p → IsFine books seats k p
+SoFarForeign books seats i (Some n) =
+    IsForeign books seats n × ((k : ℕ) (p : SeatState) → k < i → slice_get seats k ≡ Some p → p.number < n → IsFine books seats k p)
+
+abbrev pub SoFarWrong : (Book → ℕ) → List Book → List SeatState → ℕ → Option ℕ → Type 0
+SoFarWrong counts books seats i None = (k : ℕ) (p : SeatState) → k < i → slice_get seats k ≡ Some p → AllAgree counts books p
+SoFarWrong counts books seats i (Some n) =
+    IsWrong counts books seats n × ((k : ℕ) (p : SeatState) → k < i → slice_get seats k ≡ Some p → p.number < n → AllAgree counts books p)

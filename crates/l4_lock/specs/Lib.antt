@@ -1,0 +1,9 @@
+pub mod Sizes
+pub mod Board
+pub mod History
+pub mod Receipts
+pub mod Books
+pub mod Locked
+pub mod Shared
+pub mod Closing
+pub mod Lists

@@ -1,0 +1,20 @@
+-- A history as a list of entries, and the receipts of a seat as a list. (this profile's own)
+use Rattle.std.specs.Prelude.{ℕ, List}
+use Rattle.l4_lock.specs.declared.entries.Entry.{Entry}
+use Rattle.l4_lock.specs.declared.entries.Receipt.{Receipt}
+
+-- what a contract sees of a history: its entries, and for how many there is room
+pub record EntryList : Type 0 where
+  pub entries : List Entry
+  pub room : ℕ
+
+abbrev pub entry_list : List Entry → ℕ → EntryList
+entry_list entries room = record { entries = entries; room = room }
+
+-- what a contract sees of the receipts of a seat: they themselves, and for how many there is room
+pub record ReceiptList : Type 0 where
+  pub items : List Receipt
+  pub room : ℕ
+
+abbrev pub receipt_list : List Receipt → ℕ → ReceiptList
+receipt_list items room = record { items = items; room = room }

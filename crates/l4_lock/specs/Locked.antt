@@ -1,0 +1,166 @@
+-- The locked kernel as one value, and what its calls do. (this profile's own)
+use Rattle.std.specs.Prelude.{◌≡◌, ◌≢◌, ℕ, ◌+◌, ◌<◌, ◌≤◌, ◌⊎◌, nat_eq, Bool, true, false, if◌then◌else◌, List, [], ◌∷◌, ◌++◌, length, map, Option, Some, None, MatchOption, IfSome, IsTrue, slice_get, slice_set, Result, Ok, Err, Contains, refl}
+use Rattle.std.specs.Option.{option_map, option_map_or, option_and_then}
+use Rattle.std.specs.Coded.{Coded, code_by, coded×, coded_ℕ, coded_list}
+use Rattle.atomic_table.specs.Seated.{TableId, table_id_coded}
+use Rattle.l4_threads.specs.declared.Reply.{Reply}
+use Rattle.l4_threads.specs.declared.Thread.{Thread}
+use Rattle.l4_ipc.specs.declared.calls.Call.{Call}
+use Rattle.l4_ipc.specs.declared.steps.Answer.{Answer}
+use Rattle.l4_ipc.specs.declared.steps.Refused.{Refused}
+use Rattle.l4_ipc.specs.declared.steps.Refused.TheVariants.{UnknownThread, BadFrames, Lower}
+use Rattle.l4_ipc.specs.declared.steps.Lower.TheVariants.{NoMemory as LowerNoMemory}
+use Rattle.l4_ipc.specs.declared.steps.Step.{Step}
+use Rattle.l4_ipc.specs.declared.steps.Step.TheVariants.{Start}
+use Rattle.l4_ipc.specs.Machine.{Machine, machine_code}
+use Rattle.l4_ipc.specs.Steps.{Steps, IsIdle}
+use Rattle.l4_lock.specs.declared.entries.Entry.{Entry}
+use Rattle.l4_lock.specs.declared.entries.Receipt.{Receipt}
+use Rattle.l4_lock.specs.declared.entries.Pending.{Pending}
+use Rattle.l4_lock.specs.declared.entries.Ended.{Ended}
+use Rattle.l4_lock.specs.declared.refusals.Entered.{Entered}
+use Rattle.l4_lock.specs.declared.refusals.Entered.TheVariants.{Done, Waiting}
+use Rattle.l4_lock.specs.declared.refusals.LockRefusal.{LockRefusal}
+use Rattle.l4_lock.specs.declared.refusals.LockRefusal.TheVariants.{ReplyWaiting, HistoryFull, NoMemory, SeatTaken, Kernel as ByKernel}
+use Rattle.l4_lock.specs.Sizes.{max_entries, max_steps, last_start, max_threads}
+use Rattle.l4_lock.specs.History.{GoesOn, last_seat}
+use Rattle.l4_lock.specs.Receipts.{Proves}
+use Rattle.l4_lock.specs.Books.{SeatState, Book, book, receipt_of, plain, book_at, receipts_at, pending_at, reply_waits, HasNotEnded, Settles, AreRight}
+
+-- what a contract sees of the locked kernel
+pub record Lock : Type 0 where
+  pub frames : ℕ
+  pub kernel : Machine
+  pub history : List Entry
+  pub books : List Book
+  pub board : TableId
+  pub published : ℕ
+
+abbrev pub lock : ℕ → Machine → List Entry → List Book → TableId → ℕ → Lock
+lock frames kernel history books board published =
+    record { frames = frames; kernel = kernel; history = history; books = books; board = board; published = published }
+
+abbrev pub lock_code : Coded Thread → Coded Entry → Coded Book → Coded Lock
+lock_code thread entry book =
+    code_by (ℕ × (Machine × (List Entry × (List Book × (TableId × ℕ)))))
+    (coded× coded_ℕ (coded× (machine_code thread) (coded× (coded_list entry) (coded× (coded_list book) (coded× table_id_coded coded_ℕ)))))
+    (λ l. (l.frames, (l.kernel, (l.history, (l.books, (l.board, l.published))))))
+    (λ p. lock p.0 p.1.0 p.1.1.0 p.1.1.1.0 p.1.1.1.1.0 p.1.1.1.1.1) (λ _. refl)
+
+-- The history is legal, the kernel is its replay from boot, no step is enabled, each receipt that was given is right, and the
+-- publisher has shown the length of the history.
+pub record IsKept (l : Lock) : Type 0 where
+  pub right : AreRight l.frames l.history l.kernel l.books
+  pub idle : IsIdle l.kernel
+  pub few : length l.history ≤ max_entries
+  pub shown : l.published ≡ length l.history
+
+-- steps of one seat that come next, until there is none, and what the books are then
+pub record Went (seat : ℕ) (old new : Machine) (before after : List Entry) (books later : List Book) : Type 0 where
+  pub rest : List Entry
+  pub goes : GoesOn old seat rest new
+  pub longer : after ≡ before ++ rest
+  pub few : length rest ≤ max_threads
+  pub same : map plain later ≡ map plain books
+  pub right : (frames : ℕ) → last_seat None before ≡ Some seat → AreRight frames before old books → AreRight frames after new later
+
+-- the entry of a call's start
+abbrev pub start_entry : ℕ → Call → Answer → Entry
+start_entry n call answer = record { seat = n; step = Start n call; answer = answer }
+
+-- The call was entered: the history goes on by its start and by the steps that come next, at most 128, until there is none. What is kept of
+-- other numbers stays, but for what is known of the ends of their calls.
+pub record Enters (old new : Lock) (n : ℕ) (call : Call) : Type 0 where
+  pub answer : Answer
+  pub started : Machine
+  pub starts : Steps old.kernel (Start n call) (Ok answer) started
+  pub rest : List Entry
+  pub goes : GoesOn started n rest new.kernel
+  pub few : length rest ≤ max_steps
+  pub history : new.history ≡ old.history ++ start_entry n call answer ∷ rest
+  pub same : (new.frames ≡ old.frames) × (new.board ≡ old.board)
+  pub others : (m : ℕ) → m ≢ n → option_map plain (book_at new.books m) ≡ option_map plain (book_at old.books m)
+
+-- the seat gained this receipt, which is right about the history
+pub record Gains (l : Lock) (before after : SeatState) (receipt : Receipt) : Type 0 where
+  pub number : after.number ≡ before.number
+  pub waiting : after.waiting ≡ before.waiting
+  pub receipts : after.receipts ≡ before.receipts ++ receipt ∷ []
+  pub proves : Proves l.frames l.history before.number receipt
+
+-- the call that was entered has ended with this reply
+pub record EndsAtOnce (old new : Lock) (before after : SeatState) (call : Call) (reply : Reply) : Type 0 where
+  pub receipt : Receipt
+  pub enters : receipt.call ≡ call
+  pub start : receipt.start ≡ length old.history
+  pub answers : receipt.reply ≡ reply
+  pub gains : Gains new before after receipt
+  pub kept : receipts_at new.books before.number ≡ option_map (λ rs. rs ++ receipt ∷ []) (receipts_at old.books before.number)
+  pub taken : pending_at new.books before.number ≡ None
+
+-- the call that was entered has not ended
+pub record IsLeft (old new : Lock) (before after : SeatState) : Type 0 where
+  pub seat : after ≡ record before { waiting = before.waiting + 1 }
+  pub not_ended : (k : ℕ) (entry : Entry) → length old.history ≤ k → slice_get new.history k ≡ Some entry → ¬ (Contains entry.answer.ended.items before.number)
+  pub kept : receipts_at new.books before.number ≡ receipts_at old.books before.number
+
+-- why no locked kernel is made: the number of frames is out of range, or a growth was refused
+abbrev pub RefusesBoot : ℕ → LockRefusal → Type 0
+RefusesBoot frames e =
+    (e ≡ NoMemory) ⊎ (e ≡ ByKernel (Lower LowerNoMemory)) ⊎ (((frames ≡ 0) ⊎ (4096 < frames)) × (e ≡ ByKernel BadFrames))
+
+-- why a call is not entered: the first of these that applies
+abbrev pub Refuses : Lock → ℕ → Call → LockRefusal → Type 0
+Refuses l n call ReplyWaiting = IsTrue (reply_waits l.books n)
+Refuses l n call HistoryFull = ¬ (IsTrue (reply_waits l.books n)) × (last_start < length l.history)
+Refuses l n call NoMemory = ¬ (IsTrue (reply_waits l.books n)) × (length l.history ≤ last_start)
+Refuses l n call SeatTaken = ⊥
+Refuses l n call (ByKernel e) =
+    ¬ (IsTrue (reply_waits l.books n)) × (length l.history ≤ last_start)
+    × (((book_at l.books n ≡ None) × (e ≡ UnknownThread)) ⊎ ((book_at l.books n ≢ None) × Steps l.kernel (Start n call) (Err e) l.kernel))
+
+-- what `enter` answers of a call that was entered
+abbrev pub Tells : Lock → Lock → SeatState → SeatState → Call → Entered → Type 0
+Tells old new before after call (Done reply) = EndsAtOnce old new before after call reply
+Tells old new before after call Waiting = IsLeft old new before after
+
+-- the book at this place is the number's, and its call that isn't taken yet has not ended
+abbrev pub IsReady : List Book → ℕ → ℕ → List Entry → Machine → Type 0
+IsReady books place n history m =
+    (b : Book) × (slice_get books place ≡ Some b) × (b.number ≡ n) × ((p : Pending) → b.pending ≡ Some p → HasNotEnded history m n p.start)
+
+-- A call was begun: its start and the steps that come next stand at the end of the history, and its book knows of it.
+pub record Begins (n : ℕ) (call : Call) (old new : Machine) (before after : List Entry) (books later : List Book) (place : ℕ) : Type 0 where
+  pub answer : Answer
+  pub started : Machine
+  pub starts : Steps old (Start n call) (Ok answer) started
+  pub rest : List Entry
+  pub goes : GoesOn started n rest new
+  pub few : length rest ≤ max_threads
+  pub history : after ≡ before ++ start_entry n call answer ∷ rest
+  pub idle : IsIdle new
+  pub right : (frames : ℕ) → AreRight frames before old books → AreRight frames after new later
+  pub former : Book
+  pub former_at : slice_get books place ≡ Some former
+  pub former_number : former.number ≡ n
+  pub same : map plain later ≡ map plain (slice_set books place (record former { pending = Some (record { call = call; start = length before; ended = None }) }))
+  pub book : Book
+  pub receipts : book.receipts ≡ former.receipts
+  pub at : slice_get later place ≡ Some book
+  pub number : book.number ≡ n
+  pub pending : Pending
+  pub pending_is : book.pending ≡ Some pending
+  pub pending_call : pending.call ≡ call
+  pub pending_start : pending.start ≡ length before
+
+-- A call that was left waiting has ended since, and is taken: the seat gains its receipt, in which the seat's own account of the call stands.
+-- It is taken once, and what is kept of other numbers stays.
+pub record Takes (old new : Lock) (before after : SeatState) (own : Call → Call) (reply : Reply) : Type 0 where
+  pub book : Book
+  pub at : book_at old.books before.number ≡ Some book
+  pub later : Book
+  pub settles : Settles book later before after own reply
+  pub proves : Proves old.frames old.history before.number (receipt_of settles.pending settles.ended)
+  pub settled : book_at new.books before.number ≡ Some later
+  pub others : (m : ℕ) → m ≢ before.number → book_at new.books m ≡ book_at old.books m
+  pub same : (new.frames ≡ old.frames) × (new.kernel ≡ old.kernel) × (new.history ≡ old.history) × (new.board ≡ old.board)

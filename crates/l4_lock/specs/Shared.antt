@@ -1,0 +1,27 @@
+-- What a seat gains by a call through the shared lock. (this profile's own)
+use Rattle.std.specs.Prelude.{◌≡◌, ℕ, List, [], ◌∷◌, ◌++◌, drop, map}
+use Rattle.l4_threads.specs.declared.Reply.{Reply}
+use Rattle.l4_ipc.specs.declared.calls.Call.{Call}
+use Rattle.l4_lock.specs.declared.entries.Receipt.{Receipt}
+use Rattle.l4_lock.specs.Books.{SeatState}
+
+-- the seat gained one receipt, with the call that it was given and the reply that it was answered
+pub record IsAnswered (before after : SeatState) (call : Call) (reply : Reply) : Type 0 where
+  pub receipt : Receipt
+  pub number : after.number ≡ before.number
+  pub waiting : after.waiting ≡ before.waiting
+  pub receipts : after.receipts ≡ before.receipts ++ receipt ∷ []
+  pub gives : receipt.call ≡ call
+  pub answers : receipt.reply ≡ reply
+
+-- what a contract sees of a gate: its seat, and how many receipts the seat had when the gate began
+pub record GateState : Type 0 where
+  pub first : ℕ
+  pub seat : SeatState
+
+abbrev pub gate_state : ℕ → SeatState → GateState
+gate_state first seat = record { first = first; seat = seat }
+
+-- the calls and replies of a gate: those of the receipts that its seat gained in it, in order
+abbrev pub pairs_of : GateState → List (Call × Reply)
+pairs_of g = map (λ r. (r.call, r.reply)) (drop g.first g.seat.receipts)

@@ -1,0 +1,197 @@
+//! The board: one word that shows the length of the history to whoever watches it.
+ghost use Rattle.std.specs.Prelude.{◌≡◌, ◌+◌, ◌≤◌, ℕ, false, true, [], IfOk, vec_len};
+ghost use Rattle.std.specs.List.{All};
+ghost use Rattle.l4_lock.specs.Board.{IsNewWatch, watching, publishing};
+
+use atomic_table::{Play, Seat, Table, TableRule};
+use std::alloc::{AllocError, Global};
+use std::marker::Model;
+use std::sync::Arc;
+
+/// What a seat at the board knows: whether it is the publisher's, how often it has looked, and the number that it has seen.
+/// No value of it is made.
+pub struct View {
+    pub publishes: bool,
+    pub looks: u64,
+    pub seen: u64,
+}
+
+/// The rule of the board: the word is the number that the publisher showed last, and nobody has seen a greater one.
+pub struct BoardRule;
+
+impl TableRule<(), View, ()> for BoardRule {
+    ghost use Rattle.l4_lock.specs.Board.{IsBoard, view};
+    ghost use Rattle.std.specs.Prelude.{true};
+
+    ghost holds = { λ _ s. IsBoard s };
+
+    ghost first = { λ _. view true 0 0 };
+}
+
+/// The step by which a new watch enters.
+struct Begin;
+
+impl Play<(), View> for Begin {
+    ghost use Rattle.l4_lock.specs.Board.{Begins};
+
+    ghost then = { Begins };
+}
+
+/// The step that stores the word.
+struct Publish;
+
+impl Play<(), View> for Publish {
+    ghost use Rattle.l4_lock.specs.Board.{Publishes};
+
+    ghost then = { Publishes };
+}
+
+/// The step that loads the word.
+struct Look;
+
+impl Play<(), View> for Look {
+    ghost use Rattle.l4_lock.specs.Board.{Looks};
+
+    ghost then = { Looks };
+}
+
+/// The board. Whoever has it can look, by a watch of it. Contracts see which board it is.
+#[derive(Drop)]
+pub struct Board {
+    table: Arc<Table<(), View, (), BoardRule, Global>>,
+}
+
+impl Model for Board {
+    ghost use Rattle.std.specs.Prelude.{◌≡◌};
+    ghost use Rattle.std.specs.Arc.{arc_value};
+    ghost use Rattle.atomic_table.specs.Seated.{TableId, table_id_coded};
+
+    ghost Value = { TableId };
+
+    ghost coded = { table_id_coded };
+
+    ghost view = { λ b. (arc_value b.table).shared.table_id };
+
+    ghost invariant = { λ b. (arc_value b.table).shared.table_id.words ≡ 1 };
+}
+
+/// A place at a board from which to look. Contracts see its board, how often it has looked, and the number that it saw last.
+#[derive(Drop)]
+pub struct Watch {
+    seat: Seat<(), View>,
+}
+
+impl Model for Watch {
+    ghost use Rattle.std.specs.Prelude.{◌≡◌, false};
+    ghost use Rattle.l4_lock.specs.Board.{Watching, watching, watching_code};
+
+    ghost Value = { Watching };
+
+    ghost coded = { watching_code };
+
+    ghost view = { λ w. watching w.seat.table_id w.seat.me.0.looks w.seat.me.0.seen };
+
+    ghost invariant = { λ w. w.seat.me.0.publishes ≡ false };
+}
+
+/// The one place at a board from which to publish. Contracts see its board and the number that it showed last.
+#[derive(Drop)]
+pub(crate) struct Publisher {
+    board: Board,
+    seat: Seat<(), View>,
+}
+
+impl Model for Publisher {
+    ghost use Rattle.std.specs.Prelude.{◌≡◌, true, []};
+    ghost use Rattle.l4_lock.specs.Board.{Publishing, publishing, publishing_code};
+
+    ghost Value = { Publishing };
+
+    ghost coded = { publishing_code };
+
+    ghost view = { λ p. publishing p.seat.table_id p.seat.me.0.seen };
+
+    ghost invariant = { λ p. (p.seat.table_id ≡ p.board) × (p.seat.id ≡ 0) × (p.seat.me.0.publishes ≡ true) × (p.seat.me.1 ≡ []) };
+}
+
+impl Board {
+    /// What the board's word is now: the length of the history when it was last published. It is not below what this watch has seen,
+    /// and is what the watch has seen from then on. It waits for nobody and takes no memory.
+    ///
+    /// The watch is of this board, as those are that came with it.
+    pub fn look(&self, watch: &mut Watch) -> u64
+        requires { watch.old.board ≡ self.now }
+        ensures rises { watch.old.seen ≤ result }
+        ensures watch { watch.new ≡ watching self.now (watch.old.looks + 1) result }
+    {
+        self.table.shared.load::<Look>(&mut watch.seat, 0)
+    }
+
+    /// Another handle of the board.
+    pub fn again(&self) -> Result<Board, AllocError>
+        ensures { IfOk result (λ b. b ≡ self.now) }
+    {
+        let table = Arc::try_clone(&self.table)?;
+        Ok(Board { table })
+    }
+
+    /// A new watch, which has looked at nothing.
+    pub fn watch(&self) -> Watch
+        ensures { IsNewWatch self.now result }
+    {
+        let (_, seat) = self.table.shared.load_new_seat::<Begin>(0);
+        Watch { seat }
+    }
+
+    /// As many new watches.
+    pub(crate) fn watches(&self, alloc: Global, count: usize) -> Result<Vec<Watch>, AllocError>
+        ensures { IfOk result (λ v. (vec_len v ≡ count) × All (IsNewWatch self.now) v.items) }
+    {
+        let mut watches = Vec::with_capacity(alloc, count)?;
+        for i in 0..count {
+            prove!(i < count);
+            watches.push_reserved(self.watch());
+        }
+        Ok(watches)
+    }
+}
+
+impl Publisher {
+    /// A new board, whose word is 0.
+    pub fn new(alloc: Global) -> Result<Publisher, AllocError>
+        ensures { IfOk result (λ p. p.shown ≡ 0) }
+    {
+        let (table, seat) = Table::<(), View, (), BoardRule, Global>::of_words(alloc, &[0], &())?;
+        let table = Arc::new(alloc, table)?;
+        Ok(Publisher {
+            board: Board { table },
+            seat,
+        })
+    }
+
+    /// The board.
+    pub fn board(&self) -> Result<Board, AllocError>
+        ensures { IfOk result (λ b. b ≡ self.now.board) }
+    {
+        self.board.again()
+    }
+
+    /// Shows a number that is not below the last one.
+    pub fn publish(&mut self, number: u64)
+        requires { self.old.shown ≤ number }
+        ensures { self.new ≡ publishing self.old.board number }
+    {
+        let Publisher { board, seat } = self;
+        show(board, seat, number);
+    }
+}
+
+/// Stores a number by the publisher's seat.
+fn show(board: &Board, seat: &mut Seat<(), View>, number: u64)
+    requires table { seat.old.table_id ≡ board.now }
+    requires publishes { (seat.old.id ≡ 0) × (seat.old.me.0.publishes ≡ true) × (seat.old.me.0.seen ≤ number) }
+    ensures place { (seat.new.table_id ≡ seat.old.table_id) × (seat.new.id ≡ seat.old.id) }
+    ensures view { (seat.new.me.0.publishes ≡ true) × (seat.new.me.0.seen ≡ number) × (seat.new.me.1 ≡ seat.old.me.1) }
+{
+    board.table.shared.store::<Publish>(seat, 0, number);
+}

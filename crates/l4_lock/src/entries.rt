@@ -1,0 +1,42 @@
+//! Entries of the history, and receipts of calls.
+
+use l4_ipc::{Answer, Call, Reply, Step};
+
+/// One step of the history.
+#[derive(Clone, Debug, PartialEq, Eq, Drop)]
+pub struct Entry {
+    /// The number of the seat whose call this step starts, or follows.
+    pub seat: u32,
+    /// The step.
+    pub step: Step,
+    /// What it did, and whose calls ended in it.
+    pub answer: Answer,
+}
+
+/// A seat's evidence of one call that has ended. Places count entries of the history, from 0 on.
+#[derive(Clone, Debug, PartialEq, Eq, Drop)]
+pub struct Receipt {
+    /// The call.
+    pub call: Call,
+    /// The place of the entry that started it.
+    pub start: usize,
+    /// The place of the entry that ended it.
+    pub end: usize,
+    /// Its reply.
+    pub reply: Reply,
+}
+
+/// How a call has ended that isn't taken yet.
+#[derive(Drop)]
+pub struct Ended {
+    pub entry: usize,
+    pub reply: Reply,
+}
+
+/// A call that isn't taken yet.
+#[derive(Drop)]
+pub struct Pending {
+    pub call: Call,
+    pub start: usize,
+    pub ended: Option<Ended>,
+}

@@ -1,0 +1,24 @@
+//! The locked kernel: a kernel with its history, the seats that enter calls, and the board that shows how far it has come.
+#![tactic(auto)]
+
+mod board;
+mod closing;
+mod copies;
+mod entries;
+mod history;
+mod locked;
+mod receipts;
+mod refusals;
+mod seats;
+mod shared;
+mod steps;
+
+pub use board::{Board, Watch};
+pub use closing::{Mismatch, Unclosed};
+pub use entries::{Entry, Receipt};
+pub use history::{Entries, History};
+pub use locked::{Locked, MAX_ENTRIES, MAX_STEPS};
+pub use receipts::{Receipts, ReceiptsFrom};
+pub use refusals::{Entered, LockRefusal};
+pub use seats::Seat;
+pub use shared::{KernelLock, LockGate};

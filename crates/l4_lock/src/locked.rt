@@ -1,0 +1,235 @@
+//! The locked kernel.
+ghost use Rattle.std.specs.Prelude.{◌≡◌, ◌≢◌, ◌⊎◌, ◌+◌, ◌≤◌, ℕ, [], ◌∷◌, ◌++◌, None, IfOk, IfErr, IfSome, IfNone, false, MatchResult, length, vec_len, ◌<◌};
+ghost use Rattle.l4_ipc.specs.Machine.{IsBoot};
+ghost use Rattle.l4_lock.specs.Books.{seat_state, book, book_at, reply_waits};
+ghost use Rattle.l4_lock.specs.Closing.{Closes, Mismatches, by_history};
+ghost use Rattle.l4_lock.specs.Locked.{IsKept, RefusesBoot, Enters, Tells, Refuses, Takes};
+ghost use Rattle.l4_lock.specs.declared.refusals.LockRefusal.TheVariants.{SeatTaken, NoMemory as WantOfMemory};
+ghost use Rattle.l4_lock.specs.Board.{IsNewWatch};
+ghost use Rattle.std.specs.List.{All};
+
+use crate::board::{Board, Publisher, Watch};
+use crate::closing::{Unclosed, first_mismatch};
+use crate::history::History;
+use crate::refusals::{Entered, LockRefusal};
+use crate::seats::{Account, Seat, finish, finish_for};
+use crate::steps::{begin, position, reply_waits};
+use l4_ipc::{Call, Kernel, Refused, Reply};
+use std::alloc::Global;
+use std::marker::Model;
+
+/// The greatest number of entries of a history.
+pub const MAX_ENTRIES: usize = 1_000_000;
+
+/// The greatest number of steps that follow the start of a call.
+pub const MAX_STEPS: usize = 128;
+
+/// The entries of a call: its start and the steps that follow it.
+const CALL_ENTRIES: usize = MAX_STEPS + 1;
+
+/// The greatest number of entries with which another call is entered.
+const LAST_START: usize = MAX_ENTRIES - CALL_ENTRIES;
+
+/// A kernel with the history of its steps, which is legal and leads from boot to where the kernel is. No step is enabled.
+#[derive(Drop)]
+pub struct Locked {
+    frames: u32,
+    kernel: Kernel,
+    history: History,
+    accounts: Vec<Account>,
+    publisher: Publisher,
+    alloc: Global,
+}
+
+impl Model for Locked {
+    ghost use Rattle.l4_threads.specs.contracts.Thread as thread;
+    ghost use Rattle.l4_lock.specs.contracts.entries.Entry as entry;
+    ghost use Rattle.l4_lock.specs.contracts.seats.Account as account;
+    ghost use Rattle.l4_lock.specs.Locked.{Lock, lock, lock_code, IsKept};
+
+    ghost Value = { Lock };
+
+    ghost coded = { lock_code thread.the_row.coded entry.the_row.coded account.the_row.coded };
+
+    ghost view = { λ a. lock a.frames a.kernel a.history.entries a.accounts.items a.publisher.board a.publisher.shown };
+
+    ghost invariant = { λ a. IsKept (lock a.frames a.kernel a.history.entries a.accounts.items a.publisher.board a.publisher.shown) };
+}
+
+impl Locked {
+    ghost use Rattle.std.specs.Prelude.{Some};
+
+    /// A kernel as it boots, with 1 to 4,096 frames and an empty history, its board, whose word is 0, and watches of it.
+    ///
+    /// `Kernel(BadFrames)` (L5) comes for any other number, and else `NoMemory` (L2), or `Kernel` with it, where a growth was refused.
+    pub fn new(
+        alloc: Global,
+        frames: u32,
+        watches: usize,
+    ) -> Result<(Locked, Board, Vec<Watch>), LockRefusal>
+        ensures { MatchResult result
+            (λ r. (r.0.frames ≡ frames) × IsBoot frames r.0.kernel × (r.0.history ≡ []) × (r.0.books ≡ []) × (r.1 ≡ r.0.board)
+            × (vec_len r.2 ≡ watches) × All (IsNewWatch r.0.board) r.2.items)
+            (RefusesBoot frames) }
+    {
+        let kernel = match Kernel::boot(alloc, frames) {
+            Ok(kernel) => kernel,
+            Err(refused) => return Err(LockRefusal::Kernel(refused)),
+        };
+        let Ok(publisher) = Publisher::new(alloc) else {
+            return Err(LockRefusal::NoMemory);
+        };
+        let Ok(board) = publisher.board() else {
+            return Err(LockRefusal::NoMemory);
+        };
+        let Ok(watches) = board.watches(alloc, watches) else {
+            return Err(LockRefusal::NoMemory);
+        };
+        let locked = Locked {
+            frames,
+            kernel,
+            history: History::new(alloc),
+            accounts: Vec::new(alloc),
+            publisher,
+            alloc,
+        };
+        Ok((locked, board, watches))
+    }
+
+    /// The kernel.
+    pub fn kernel(&self) -> &Kernel
+        ensures { result.now ≡ self.now.kernel }
+    {
+        &self.kernel
+    }
+
+    /// The history.
+    pub fn history(&self) -> &History
+        ensures { result.now.entries ≡ self.now.history }
+    {
+        &self.history
+    }
+
+    /// What holds of the locked kernel at all times. It does nothing.
+    pub fn law_kept(&self)
+        ensures { IsKept self.now }
+    {
+        let _ = &self.frames;
+    }
+
+    /// The seat of a number, once.
+    ///
+    /// Refusals in this order: `SeatTaken` (L4), `NoMemory` (L2). After either nothing has changed.
+    pub fn seat(&mut self, number: u32) -> Result<Seat, LockRefusal>
+        ensures { MatchResult result
+            (λ s. (s ≡ seat_state number 0 []) × (book_at self.old.books number ≡ None)
+            × (self.new ≡ record self.old { books = self.old.books ++ book number None [] ∷ [] }))
+            (λ e. (self.new ≡ self.old)
+            × (((e ≡ SeatTaken) × (book_at self.old.books number ≢ None)) ⊎ ((e ≡ WantOfMemory) × (book_at self.old.books number ≡ None)))) }
+    {
+        if position(self.accounts.as_slice(), number).is_some() {
+            return Err(LockRefusal::SeatTaken);
+        }
+        if self.accounts.reserve(1).is_err() {
+            return Err(LockRefusal::NoMemory);
+        }
+        let account = Account::new(self.alloc, number);
+        self.accounts.push_reserved(account);
+        Ok(Seat::new(self.alloc, number))
+    }
+
+    /// Enters a call of the seat's thread: its start is appended to the history, and then the steps that come next until there is
+    /// none, at most 128.
+    ///
+    /// Refusals in this order: `ReplyWaiting` (L3), `HistoryFull` (L1), `NoMemory` (L2), `Kernel` (L5), which is `UnknownThread` for
+    /// a number whose seat was not given here. After any of them nothing has changed.
+    pub fn enter(&mut self, seat: &mut Seat, call: Call) -> Result<Entered, LockRefusal>
+        ensures ok { IfOk result (λ e. Enters self.old self.new seat.old.number call × Tells self.old self.new seat.old seat.new call e) }
+        ensures err { IfErr result (λ e. Refuses self.old seat.old.number call e × (self.new ≡ self.old) × (seat.new ≡ seat.old)) }
+    {
+        let number = seat.number();
+        if reply_waits(self.accounts.as_slice(), number) {
+            return Err(LockRefusal::ReplyWaiting);
+        }
+        if self.history.len() > LAST_START {
+            return Err(LockRefusal::HistoryFull);
+        }
+        if self.history.reserve(CALL_ENTRIES).is_err() {
+            return Err(LockRefusal::NoMemory);
+        }
+        let Some(at) = position(self.accounts.as_slice(), number) else {
+            return Err(LockRefusal::Kernel(Refused::UnknownThread));
+        };
+        if seat.wait_more().is_err() {
+            return Err(LockRefusal::NoMemory);
+        }
+        if let Err(refusal) = begin(
+            &mut self.kernel,
+            &mut self.history,
+            &mut self.accounts,
+            at,
+            number,
+            call,
+        ) {
+            seat.wait_less();
+            return Err(refusal);
+        }
+        self.publisher.publish(self.history.len() as u64);
+        if let Some(reply) = finish(&mut self.accounts[at], seat) {
+            return Ok(Entered::Done(reply));
+        }
+        Ok(Entered::Waiting)
+    }
+
+    /// The reply of a call that was left waiting and has ended since.
+    pub fn take(&mut self, seat: &mut Seat) -> Option<Reply>
+        ensures some { IfSome result (λ reply. Takes self.old self.new seat.old seat.new (λ call. call) reply) }
+        ensures none { IfNone result ((self.new ≡ self.old) × (seat.new ≡ seat.old)
+            × ((seat.old.waiting ≡ 0) ⊎ (reply_waits self.old.books seat.old.number ≡ false))) }
+    {
+        if seat.waiting() == 0 {
+            return None;
+        }
+        let Some(at) = position(self.accounts.as_slice(), seat.number()) else {
+            return None;
+        };
+        finish(&mut self.accounts[at], seat)
+    }
+
+    /// The same, where the seat's receipt has the call that its holder knows of.
+    pub(crate) fn take_for(&mut self, seat: &mut Seat, call: &Call) -> Option<Reply>
+        ensures some { IfSome result (λ reply. Takes self.old self.new seat.old seat.new (λ _. call.now) reply) }
+        ensures none { IfNone result ((self.new ≡ self.old) × (seat.new ≡ seat.old)) }
+    {
+        if seat.waiting() == 0 {
+            return None;
+        }
+        let Some(at) = position(self.accounts.as_slice(), seat.number()) else {
+            return None;
+        };
+        finish_for(&mut self.accounts[at], seat, call)
+    }
+
+    /// Hands out the history and the kernel, where just the seats that were given come back and agree with what was kept of them.
+    pub fn close(self, seats: Vec<Seat>) -> Result<(History, Kernel), Unclosed>
+        ensures ok { IfOk result (λ r. (r.0.entries ≡ self.history) × (r.1 ≡ self.kernel) × Closes self seats.items) }
+        ensures err { IfErr result (λ u. (u.locked ≡ self) × (u.seats.items ≡ seats.items) × Mismatches (by_history self.history) self.books seats.items u.mismatch) }
+    {
+        if let Some(mismatch) = first_mismatch(self.accounts.as_slice(), seats.as_slice()) {
+            return Err(Unclosed {
+                mismatch,
+                locked: self,
+                seats,
+            });
+        }
+        let Locked {
+            frames: _,
+            kernel,
+            history,
+            accounts: _,
+            publisher: _,
+            alloc: _,
+        } = self;
+        Ok((history, kernel))
+    }
+}

@@ -1,0 +1,304 @@
+//! Seats, and what the lock keeps of each.
+ghost use Rattle.std.specs.Prelude.{◌≡◌, ◌≢◌, ◌+◌, ◌≤◌, ℕ, Some, None, [], ◌∷◌, ◌++◌, IfSome, IfNone, MatchOption, MatchResult, is_some, false};
+ghost use Rattle.std.specs.Option.{option_map_or};
+ghost use Rattle.l4_lock.specs.Books.{SeatState, seat_state, starts, Book, book, pending_count, started_by, noted, noted_call, reply_in, receipt_of, has_ended, Settles};
+
+use crate::copies::{copy_call, copy_receipt, copy_reply};
+use crate::entries::{Ended, Pending, Receipt};
+use crate::receipts::Receipts;
+use l4_ipc::{Call, Kernel, Reply};
+use std::alloc::{AllocError, Global};
+use std::marker::Model;
+
+/// The right to enter calls of one thread. It keeps a receipt of each call that has ended.
+#[derive(Drop)]
+pub struct Seat {
+    number: u32,
+    waiting: usize,
+    receipts: Receipts,
+}
+
+impl Model for Seat {
+    ghost use Rattle.std.specs.Prelude.{◌+◌, ◌<◌, ◌≤◌, ◌^◌, length};
+    ghost use Rattle.l4_lock.specs.Books.{SeatState, seat_state};
+
+    ghost Value = { SeatState };
+
+    ghost view = { λ s. seat_state s.number s.waiting s.receipts.items };
+
+    ghost invariant = { λ s. (length s.receipts.items + s.waiting ≤ s.receipts.room) × (s.receipts.room < 2 ^ 63) };
+}
+
+impl Seat {
+    /// A seat that has entered nothing.
+    pub(crate) fn new(alloc: Global, number: u32) -> Seat
+        ensures { result ≡ seat_state number 0 [] }
+    {
+        Seat {
+            number,
+            waiting: 0,
+            receipts: Receipts::new(alloc),
+        }
+    }
+
+    /// The number of its thread.
+    pub fn number(&self) -> u32
+        ensures { result ≡ self.now.number }
+    {
+        self.number
+    }
+
+    /// How many calls it has started.
+    pub fn starts(&self) -> usize
+        ensures { result ≡ starts self.now }
+    {
+        self.receipts.len() + self.waiting
+    }
+
+    /// How many of its calls were left waiting and not taken yet.
+    pub fn waiting(&self) -> usize
+        ensures { result ≡ self.now.waiting }
+    {
+        self.waiting
+    }
+
+    /// The receipts of its ended calls.
+    pub fn receipts(&self) -> &Receipts
+        ensures { result.now.items ≡ self.now.receipts }
+    {
+        &self.receipts
+    }
+
+    /// One call more is left waiting, and there is room for its receipt.
+    pub(crate) fn wait_more(&mut self) -> Result<(), AllocError>
+        ensures { MatchResult result (λ _. self.new ≡ record self.old { waiting = self.old.waiting + 1 }) (λ _. self.new ≡ self.old) }
+    {
+        let room = self.waiting + 1;
+        self.receipts.reserve(room)?;
+        self.waiting = room;
+        Ok(())
+    }
+
+    /// One call fewer is left waiting.
+    pub(crate) fn wait_less(&mut self)
+        requires { self.old.waiting ≢ 0 }
+        ensures { self.old ≡ record self.new { waiting = self.new.waiting + 1 } }
+    {
+        self.waiting -= 1;
+    }
+
+    /// A call that was left waiting has its receipt.
+    pub(crate) fn receive(&mut self, receipt: Receipt)
+        requires { self.old.waiting ≢ 0 }
+        ensures receipts { self.new.receipts ≡ self.old.receipts ++ receipt ∷ [] }
+        ensures waiting { (self.old.waiting ≡ self.new.waiting + 1) × (self.new.number ≡ self.old.number) }
+    {
+        self.waiting -= 1;
+        self.receipts.push(receipt);
+    }
+}
+
+/// The reply of a thread's last ended call, Gone where the thread is there no longer.
+fn last_reply(kernel: &Kernel, number: u32) -> Reply
+    ensures { result ≡ reply_in kernel.now number }
+{
+    match kernel.reply(number) {
+        Some(reply) => copy_reply(reply),
+        None => Reply::Gone,
+    }
+}
+
+/// Notes at a pending call that these calls ended in the entry of this place.
+fn note_call(pending: &mut Pending, kernel: &Kernel, ended: &[u32], place: usize, number: u32)
+    ensures { pending.new ≡ noted_call kernel.now ended.now place number pending.old }
+{
+    if pending.ended.is_none() && ended.contains(&number) {
+        pending.ended = Some(Ended {
+            entry: place,
+            reply: last_reply(kernel, number),
+        });
+    }
+}
+
+/// What the lock keeps of a number whose seat it gave.
+#[derive(Drop)]
+pub(crate) struct Account {
+    number: u32,
+    pending: Option<Pending>,
+    receipts: Receipts,
+}
+
+impl Model for Account {
+    ghost use Rattle.std.specs.Prelude.{◌+◌, ◌<◌, ◌≤◌, ◌^◌, length};
+    ghost use Rattle.l4_lock.specs.Books.{Book, book, pending_count};
+
+    ghost Value = { Book };
+
+    ghost view = { λ a. book a.number a.pending a.receipts.items };
+
+    ghost invariant = { λ a. (length a.receipts.items + pending_count a.pending ≤ a.receipts.room) × (a.receipts.room < 2 ^ 63) };
+}
+
+impl Account {
+    ghost use Rattle.l4_lock.specs.declared.entries.Pending.{Pending as APending};
+
+    /// The account of a number whose seat was just given.
+    pub fn new(alloc: Global, number: u32) -> Account
+        ensures { result ≡ book number None [] }
+    {
+        Account {
+            number,
+            pending: None,
+            receipts: Receipts::new(alloc),
+        }
+    }
+
+    /// The number.
+    pub fn number(&self) -> u32
+        ensures { result ≡ self.now.number }
+    {
+        self.number
+    }
+
+    /// How many calls were begun.
+    pub fn starts(&self) -> usize
+        ensures { result ≡ started_by self.now }
+    {
+        if self.pending.is_some() {
+            self.receipts.len() + 1
+        } else {
+            self.receipts.len()
+        }
+    }
+
+    /// The receipts that were given.
+    pub fn receipts(&self) -> &Receipts
+        ensures { result.now.items ≡ self.now.receipts }
+    {
+        &self.receipts
+    }
+
+    /// Whether a call isn't taken yet.
+    pub fn is_pending(&self) -> bool
+        ensures { result ≡ is_some self.now.pending }
+    {
+        self.pending.is_some()
+    }
+
+    /// Whether a call that isn't taken yet has ended.
+    pub fn has_reply(&self) -> bool
+        ensures { result ≡ option_map_or has_ended self.now.pending false }
+    {
+        match &self.pending {
+            Some(pending) => pending.ended.is_some(),
+            None => false,
+        }
+    }
+
+    /// Begins a call, and makes room for its receipt.
+    pub fn begin(&mut self, call: Call, start: usize) -> Result<(), AllocError>
+        requires { self.old.pending ≡ None }
+        ensures { MatchResult result
+            (λ _. self.new ≡ record self.old { pending = Some (record { call = call; start = start; ended = None }) })
+            (λ _. self.new ≡ self.old) }
+    {
+        self.receipts.reserve(1)?;
+        self.pending = Some(Pending {
+            call,
+            start,
+            ended: None,
+        });
+        Ok(())
+    }
+
+    /// Takes an opened call back.
+    pub fn cancel(&mut self)
+        ensures { self.new ≡ record self.old { pending = None } }
+    {
+        self.pending = None;
+    }
+
+    /// Notes that these calls ended in the entry of this place.
+    pub fn note(&mut self, kernel: &Kernel, ended: &[u32], place: usize)
+        ensures { self.new ≡ noted kernel.now ended.now place self.old }
+    {
+        if let Some(pending) = &mut self.pending {
+            note_call(pending, kernel, ended, place, self.number);
+        }
+    }
+
+    /// The receipt of the pending call, if it has ended. The account keeps a copy.
+    pub fn settle(&mut self) -> Option<Receipt>
+        ensures none { result ≡ None → self.new ≡ self.old }
+        ensures receipt { MatchOption result
+            (option_map_or has_ended self.old.pending false ≡ false)
+            (λ r. (o : APending) × (e : _) × (self.old.pending ≡ Some o) × (o.ended ≡ Some e) × (r ≡ receipt_of o e)
+            × (self.new ≡ book self.old.number None (self.old.receipts ++ r ∷ []))) }
+    {
+        let Some(Pending { call, start, ended }) = self.pending.take() else {
+            return None;
+        };
+        match ended {
+            Some(Ended { entry, reply }) => {
+                let receipt = Receipt {
+                    call,
+                    start,
+                    end: entry,
+                    reply,
+                };
+                let copy = copy_receipt(&receipt);
+                self.receipts.push(receipt);
+                Some(copy)
+            }
+            None => {
+                self.pending = Some(Pending {
+                    call,
+                    start,
+                    ended: None,
+                });
+                None
+            }
+        }
+    }
+}
+
+/// Takes the account's call, if it has ended: the seat gains its receipt.
+pub(crate) fn finish(account: &mut Account, seat: &mut Seat) -> Option<Reply>
+    requires { seat.old.waiting ≢ 0 }
+    ensures some { IfSome result (λ reply. Settles account.old account.new seat.old seat.new (λ call. call) reply) }
+    ensures none { IfNone result ((account.new ≡ account.old) × (seat.new ≡ seat.old) × (option_map_or has_ended account.old.pending false ≡ false)) }
+{
+    let Some(receipt) = account.settle() else {
+        return None;
+    };
+    let reply = copy_reply(&receipt.reply);
+    seat.receive(receipt);
+    Some(reply)
+}
+
+/// The same, where the seat's receipt has the call that the seat knows of.
+pub(crate) fn finish_for(account: &mut Account, seat: &mut Seat, call: &Call) -> Option<Reply>
+    requires { seat.old.waiting ≢ 0 }
+    ensures some { IfSome result (λ reply. Settles account.old account.new seat.old seat.new (λ _. call.now) reply) }
+    ensures none { IfNone result ((account.new ≡ account.old) × (seat.new ≡ seat.old) × (option_map_or has_ended account.old.pending false ≡ false)) }
+{
+    let Some(
+        Receipt {
+            call: _,
+            start,
+            end,
+            reply,
+        },
+    ) = account.settle()
+    else {
+        return None;
+    };
+    let answer = copy_reply(&reply);
+    seat.receive(Receipt {
+        call: copy_call(call),
+        start,
+        end,
+        reply,
+    });
+    Some(answer)
+}

@@ -1,0 +1,174 @@
+//! The locked kernel under a lock that threads share.
+ghost use Rattle.std.specs.Prelude.{◌≡◌, ◌⊎◌, ◌+◌, ◌≤◌, ℕ, List, [], ◌∷◌, ◌++◌, drop, length, vec_len, map, IfOk, OnErr, MatchResult};
+ghost use Rattle.l4_lock.specs.Board.{IsNewWatch};
+ghost use Rattle.std.specs.List.{All};
+ghost use Rattle.l4_lock.specs.Books.{seat_state};
+ghost use Rattle.l4_lock.specs.Locked.{IsKept, RefusesBoot};
+ghost use Rattle.l4_lock.specs.declared.refusals.LockRefusal.TheVariants.{SeatTaken, NoMemory as WantOfMemory};
+ghost use Rattle.l4_lock.specs.Shared.{IsAnswered, gate_state, pairs_of};
+
+use crate::board::{Board, Watch};
+use crate::copies::copy_call;
+use crate::locked::Locked;
+use crate::refusals::{Entered, LockRefusal};
+use crate::seats::Seat;
+use l4_ipc::{Call, Reply};
+use std::alloc::Global;
+use std::marker::Model;
+use std::sync::{Condvar, Mutex, Wait};
+
+/// A locked kernel that threads share, and its board. Contracts see which board it is: of what stands under the lock they know what the
+/// type `Locked` keeps.
+#[derive(Drop)]
+pub struct KernelLock {
+    locked: Mutex<Locked>,
+    ended: Condvar,
+    board: Board,
+}
+
+impl Model for KernelLock {
+    ghost use Rattle.atomic_table.specs.Seated.{TableId, table_id_coded};
+
+    ghost Value = { TableId };
+
+    ghost coded = { table_id_coded };
+
+    ghost view = { λ l. l.board };
+}
+
+impl KernelLock {
+    /// A kernel as it boots, with 1 to 4,096 frames, and watches of its board.
+    ///
+    /// `Kernel(BadFrames)` (L5) comes for any other number, and else `NoMemory` (L2), or `Kernel` with it, where a growth was refused.
+    pub fn new(
+        alloc: Global,
+        frames: u32,
+        watches: usize,
+    ) -> Result<(KernelLock, Vec<Watch>), LockRefusal>
+        ensures { MatchResult result (λ r. (vec_len r.1 ≡ watches) × All (IsNewWatch r.0) r.1.items) (RefusesBoot frames) }
+    {
+        match Locked::new(alloc, frames, watches) {
+            Ok((locked, board, watches)) => Ok((
+                KernelLock {
+                    locked: Mutex::new(locked),
+                    ended: Condvar::new(),
+                    board,
+                },
+                watches,
+            )),
+            Err(refusal) => Err(refusal),
+        }
+    }
+
+    /// The board.
+    pub fn board(&self) -> &Board
+        ensures { result.now ≡ self.now }
+    {
+        &self.board
+    }
+
+    /// The seat of a number, once.
+    ///
+    /// Refusals in this order: `SeatTaken` (L4), `NoMemory` (L2).
+    pub fn seat<R: Wait>(&self, rt: &R, number: u32) -> Result<Seat, LockRefusal>
+        ensures { MatchResult result (λ s. s ≡ seat_state number 0 []) (λ e. (e ≡ SeatTaken) ⊎ (e ≡ WantOfMemory)) }
+    {
+        self.locked.lock(rt).seat(number)
+    }
+
+    /// Enters a call, and waits until it has ended; the lock is free meanwhile. The seat gains a receipt with this call and the reply.
+    ///
+    /// Refusals are those of `Locked::enter`, in its order. After any of them the seat is as before.
+    pub fn call<R: Wait>(&self, rt: &R, seat: &mut Seat, call: Call) -> Result<Reply, LockRefusal>
+        ensures ok { IfOk result (λ reply. IsAnswered seat.old seat.new call reply) }
+        ensures err { OnErr result (seat.new ≡ seat.old) }
+    {
+        let own = copy_call(&call);
+        let mut guard = self.locked.lock(rt);
+        let entered = match guard.enter(seat, call) {
+            Ok(entered) => entered,
+            Err(refusal) => return Err(refusal),
+        };
+        self.ended.notify_all();
+        if let Entered::Done(reply) = entered {
+            return Ok(reply);
+        }
+        for _ in rt.forever() {
+            if let Some(reply) = guard.take_for(seat, &own) {
+                return Ok(reply);
+            }
+            guard = self.ended.wait(rt, guard);
+        }
+        unreachable!()
+    }
+
+    /// A gate that enters calls of the seat.
+    pub fn gate<'a, R: Wait>(&'a self, rt: &'a R, seat: Seat) -> LockGate<'a, R>
+        ensures { result ≡ gate_state (length seat.receipts) seat }
+    {
+        let first = seat.receipts().len();
+        LockGate {
+            lock: self,
+            rt,
+            first,
+            seat,
+        }
+    }
+
+    /// The locked kernel again, with what holds of it at all times. It waits for nobody.
+    pub fn unlock(self) -> Locked
+        ensures { IsKept result }
+    {
+        let KernelLock {
+            locked,
+            ended: _,
+            board: _,
+        } = self;
+        let locked = locked.into_inner();
+        locked.law_kept();
+        locked
+    }
+}
+
+/// A gate of a lock, with the seat whose calls it enters. Contracts see the seat, and how many receipts it had when the gate began.
+pub struct LockGate<'a, R: Wait> {
+    lock: &'a KernelLock,
+    rt: &'a R,
+    first: usize,
+    seat: Seat,
+}
+
+impl<'a, R: Wait> Model for LockGate<'a, R> {
+    ghost use Rattle.std.specs.Prelude.{◌≤◌, length};
+    ghost use Rattle.l4_lock.specs.Shared.{GateState, gate_state};
+
+    ghost Value = { GateState };
+
+    ghost view = { λ g. gate_state g.first g.seat };
+
+    ghost invariant = { λ g. g.first ≤ length g.seat.receipts };
+}
+
+impl<'a, R: Wait> LockGate<'a, R> {
+    /// Enters a call, and waits until it has ended. What the gate has done are the receipts that its seat gained.
+    pub fn enter(&mut self, call: Call) -> Result<Reply, LockRefusal>
+        ensures { MatchResult result
+            (λ reply. pairs_of self.new ≡ pairs_of self.old ++ (call, reply) ∷ [])
+            (λ _. self.new ≡ self.old) }
+    {
+        self.lock.call(self.rt, &mut self.seat, call)
+    }
+
+    /// The seat.
+    pub fn into_seat(self) -> Seat
+        ensures { result ≡ self.entry.seat }
+    {
+        let LockGate {
+            lock: _,
+            rt: _,
+            first: _,
+            seat,
+        } = self;
+        seat
+    }
+}

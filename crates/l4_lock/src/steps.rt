@@ -1,0 +1,129 @@
+//! Steps of the kernel with their entries.
+ghost use Rattle.std.specs.Prelude.{◌≡◌, ◌≢◌, ◌⊎◌, ◌+◌, ◌<◌, ◌≤◌, ◌++◌, ◌∷◌, [], ℕ, Ok, Err, None, IfOk, IfErr, OnErr, map, length, MatchOption, slice_get};
+ghost use Rattle.l4_ipc.specs.Steps.{Steps, IsNext, IsIdle};
+ghost use Rattle.l4_lock.specs.Books.{noted, book_at, reply_waits};
+ghost use Rattle.l4_lock.specs.Locked.{Went, Begins, IsReady};
+ghost use Rattle.l4_lock.specs.Sizes.{max_steps, max_threads};
+ghost use Rattle.l4_ipc.specs.declared.steps.Refused.{Refused as ARefused};
+ghost use Rattle.l4_ipc.specs.declared.steps.Step.TheVariants.{Start};
+ghost use Rattle.l4_lock.specs.declared.refusals.LockRefusal.TheVariants.{NoMemory, Kernel as ByKernel};
+
+use crate::copies::copy_call;
+use crate::entries::Entry;
+use crate::history::History;
+use crate::refusals::LockRefusal;
+use crate::seats::Account;
+use l4_ipc::{Answer, Call, Kernel, Refused, Step};
+
+/// Where the account of a number stands.
+pub fn position(accounts: &[Account], number: u32) -> Option<usize>
+    ensures { MatchOption result (book_at accounts.now number ≡ None)
+        (λ at. (at < length accounts.now) × (book_at accounts.now number ≡ slice_get accounts.now at)) }
+{
+    for (i, account) in accounts.iter().enumerate() {
+        if account.number() == number {
+            return Some(i);
+        }
+    }
+    None
+}
+
+/// Whether an ended call of this number hasn't been taken.
+pub fn reply_waits(accounts: &[Account], number: u32) -> bool
+    ensures { result ≡ reply_waits accounts.now number }
+{
+    match position(accounts, number) {
+        Some(at) => accounts[at].has_reply(),
+        None => false,
+    }
+}
+
+/// Does the step that comes next. None where there is none.
+fn go_on(kernel: &mut Kernel) -> Option<(Step, Answer)>
+    ensures next { MatchOption result (IsIdle kernel.old) (λ d. IsNext kernel.old d.0
+        × Steps kernel.old d.0 (Ok d.1) kernel.new) }
+    ensures still { result ≡ None → kernel.new ≡ kernel.old }
+{
+    let Some(step) = kernel.enabled() else {
+        return None;
+    };
+    let Ok(answer) = kernel.step(&step) else {
+        return None;
+    };
+    Some((step, answer))
+}
+
+/// Notes at each account that these calls ended in the entry of this place.
+fn note_all(accounts: &mut Vec<Account>, kernel: &Kernel, ended: &[u32], place: usize)
+    ensures { accounts.new.items ≡ map (noted kernel.now ended.now place) accounts.old.items }
+{
+    for i in 0..accounts.len() {
+        accounts[i].note(kernel, ended, place);
+    }
+}
+
+/// Appends a step that was done.
+pub fn append(
+    kernel: &Kernel,
+    history: &mut History,
+    accounts: &mut Vec<Account>,
+    seat: u32,
+    step: Step,
+    answer: Answer,
+)
+    requires { length history.old.entries < history.old.room }
+    ensures history { history.new.entries ≡ history.old.entries ++ record { seat = seat; step = step; answer = answer } ∷ [] }
+    ensures room { (length history.new.entries ≡ length history.old.entries + 1) × (history.new.room ≡ history.old.room) }
+    ensures accounts { accounts.new.items ≡ map (noted kernel.now answer.ended.items (length history.old.entries)) accounts.old.items }
+{
+    note_all(accounts, kernel, answer.ended.as_slice(), history.len());
+    history.push(Entry { seat, step, answer });
+}
+
+/// Does the steps that come next, until there is none.
+pub fn follow(kernel: &mut Kernel, history: &mut History, accounts: &mut Vec<Account>, seat: u32)
+    requires { length history.old.entries + max_threads ≤ history.old.room }
+    ensures went { Went seat kernel.old kernel.new history.old.entries history.new.entries accounts.old.items accounts.new.items }
+    ensures idle { IsIdle kernel.new }
+{
+    kernel.law_consistent();
+    while let Some((step, answer)) = go_on(kernel) {
+        append(kernel, history, accounts, seat, step, answer);
+    }
+}
+
+/// Begins a call, and does the steps that come next until there is none. After a refusal nothing has changed.
+pub fn begin(
+    kernel: &mut Kernel,
+    history: &mut History,
+    accounts: &mut Vec<Account>,
+    at: usize,
+    number: u32,
+    call: Call,
+) -> Result<(), LockRefusal>
+    requires room { length history.old.entries + max_steps + 1 ≤ history.old.room }
+    requires at { at < length accounts.old.items }
+    requires book { IsReady accounts.old.items at number history.old.entries kernel.old }
+    ensures ok { IfOk result (λ _. Begins number call kernel.old kernel.new history.old.entries history.new.entries accounts.old.items accounts.new.items at) }
+    ensures same { OnErr result ((kernel.new ≡ kernel.old) × (history.new.entries ≡ history.old.entries) × (accounts.new.items ≡ accounts.old.items)) }
+    ensures err { IfErr result (λ e. (e ≡ NoMemory) ⊎ ((r : ARefused) × (e ≡ ByKernel r) × Steps kernel.old (Start number call) (Err r) kernel.old)) }
+{
+    if accounts[at].is_pending() {
+        return Err(LockRefusal::Kernel(Refused::Busy));
+    }
+    if accounts[at].begin(copy_call(&call), history.len()).is_err() {
+        return Err(LockRefusal::NoMemory);
+    }
+    let step = Step::Start(number, call);
+    match kernel.step(&step) {
+        Ok(answer) => {
+            append(kernel, history, accounts, number, step, answer);
+            follow(kernel, history, accounts, number);
+            Ok(())
+        }
+        Err(refused) => {
+            accounts[at].cancel();
+            Err(LockRefusal::Kernel(refused))
+        }
+    }
+}
