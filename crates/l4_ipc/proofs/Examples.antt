@@ -169,11 +169,14 @@ spared h =
       there = (refl, refl);
       stands = All-nil (λ event. LeavesAlone event (page_of 0 5));
       further = [];
-      on = inl (record {
-        before = ap is_some there;
-        after = ap is_some there;
-        not_written = λ link b. absurd (let k : Start 1 (Unmap (record { control = 0x40; words = record { items = 0x50c7 ∷ [] } })) ≡ Transfer b.delivery.sender b.delivery.receiver = b.delivery.step in cc);
-      }, (refl, refl));
+      on = inl (
+        record {
+          before = ap is_some there;
+          after = ap is_some there;
+          not_written = λ link b. absurd (let k : Start 1 (Unmap (record { control = 0x40; words = record { items = 0x50c7 ∷ [] } })) ≡ Transfer b.delivery.sender b.delivery.receiver = b.delivery.step in cc);
+        },
+        (refl, refl),
+      );
     })
 
 -- if it is gone, nothing has

@@ -2,8 +2,8 @@ ghost use Rattle.std.specs.Prelude.{◌≤◌, length};
 
 use crate::reading::copied;
 use crate::{
-    Answer, Call, Control, Create, FaultCall, IpcCall, Kernel, Lower, Outcome, Refused, SetPager, Step,
-    Timeout, UnmapCall,
+    Answer, Call, Control, Create, FaultCall, IpcCall, Kernel, Lower, Outcome, Refused, SetPager,
+    Step, Timeout, UnmapCall,
 };
 use l4_fpage::{Fpage, Rights};
 use l4_mapdb::{Mapping, Place};
