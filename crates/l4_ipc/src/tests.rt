@@ -1,13 +1,12 @@
 ghost use Rattle.std.specs.Prelude.{◌≤◌, length};
 
-use crate::reading::copied;
 use crate::{
     Answer, Call, Control, Create, FaultCall, IpcCall, Kernel, Lower, Outcome, Refused, SetPager,
     Step, Timeout, UnmapCall,
 };
 use l4_fpage::{Fpage, Rights};
 use l4_mapdb::{Mapping, Place};
-use l4_msg::MsgFault;
+use l4_msg::{MsgFault, copied};
 use l4_threads::{Reply, ThreadFault, ThreadId};
 use l4_unmap::UnmapFault;
 use std::alloc::Global;

@@ -37,10 +37,18 @@ fn reads_frames(rt: HostRuntime) -> Result<(), Fail> {
     Ok(())
 }
 
+/// A plan of just this region is asked.
+fn is_planned(asked: &Options, owed: &Region) -> bool {
+    match asked {
+        Options::Plan { region } => region == owed,
+        _ => false,
+    }
+}
+
 #[test]
 fn reads_regions(rt: HostRuntime) -> Result<(), Fail> {
     let words = ["l4", "plan", "4", "12", "4294967295", "r_-"];
-    let Ok(Options::Plan { region }) = options(rt.alloc(), words.as_slice()) else {
+    let Ok(asked) = options(rt.alloc(), words.as_slice()) else {
         return Err("not understood".into());
     };
     let owed = Region {
@@ -49,7 +57,7 @@ fn reads_regions(rt: HostRuntime) -> Result<(), Fail> {
         count: 4_294_967_295,
         rights: Rights::of_bits(4),
     };
-    assert_eq!(rt; region, owed);
+    assert!(rt; is_planned(&asked, &owed));
     let words = ["l4", "check", "0", "0", "4294967296", "rwx"];
     assert!(rt;
         matches!(
