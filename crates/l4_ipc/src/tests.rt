@@ -142,30 +142,45 @@ fn replied(
     }
 }
 
+/// The complete window.
+fn complete() -> Fpage {
+    Fpage::Complete(Rights::of_bits(0))
+}
+
 #[test]
-fn usual_ipcs(rt: HostRuntime) {
-    let window = Fpage::Complete(Rights::of_bits(0));
+fn usual_send(rt: HostRuntime) {
+    let sends = Call::send(THIRD, copied(&MAPS), Timeout::Zero);
     assert_eq!(rt;
-        Step::Start(2, Call::send(THIRD, copied(&MAPS), Timeout::Zero)),
+        Step::Start(2, sends),
         ipc(2, THIRD, NOBODY, 0x400_0000, 0, &MAPS)
     );
+}
+
+#[test]
+fn usual_receive(rt: HostRuntime) {
+    let receives = Call::receive(ANYBODY, complete(), Timeout::Zero);
     assert_eq!(rt;
-        Step::Start(3, Call::receive(ANYBODY, window, Timeout::Zero)),
+        Step::Start(3, receives),
         ipc(3, NOBODY, ANYBODY, 0x400, COMPLETE, &[])
     );
-    let never = Timeout::Never;
+}
+
+#[test]
+fn usual_call(rt: HostRuntime) {
+    let words = copied(&MAPS);
+    let calls = Call::call(THIRD, words, complete(), Timeout::Never, Timeout::Zero);
     assert_eq!(rt;
-        Step::Start(
-            2,
-            Call::call(THIRD, copied(&MAPS), window, never, Timeout::Zero)
-        ),
+        Step::Start(2, calls),
         ipc(2, THIRD, THIRD, 0x400, COMPLETE, &MAPS)
     );
+}
+
+#[test]
+fn usual_reply_and_wait(rt: HostRuntime) {
+    let words = copied(&MAPS);
+    let replies = Call::reply_and_wait(THIRD, words, complete(), Timeout::Zero, Timeout::Never);
     assert_eq!(rt;
-        Step::Start(
-            2,
-            Call::reply_and_wait(THIRD, copied(&MAPS), window, Timeout::Zero, never)
-        ),
+        Step::Start(2, replies),
         ipc(2, THIRD, ANYBODY, 0x400_0000, COMPLETE, &MAPS)
     );
 }
