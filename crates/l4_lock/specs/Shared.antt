@@ -3,7 +3,10 @@ use Rattle.std.specs.Prelude.{◌≡◌, ℕ, List, [], ◌∷◌, ◌++◌, dro
 use Rattle.l4_threads.specs.declared.Reply.{Reply}
 use Rattle.l4_ipc.specs.declared.calls.Call.{Call}
 use Rattle.l4_lock.specs.declared.entries.Receipt.{Receipt}
+use Rattle.l4_pager.specs.declared.serving.GateFault.{GateFault}
 use Rattle.l4_lock.specs.Books.{SeatState}
+use Rattle.l4_lock.specs.declared.refusals.LockRefusal.{LockRefusal}
+use Rattle.l4_lock.specs.declared.refusals.LockRefusal.TheVariants.{HistoryFull, NoMemory, ReplyWaiting, SeatTaken, Kernel as ByKernel}
 
 -- the seat gained one receipt, with the call that it was given and the reply that it was answered
 pub record IsAnswered (before after : SeatState) (call : Call) (reply : Reply) : Type 0 where
@@ -25,3 +28,15 @@ gate_state first seat = record { first = first; seat = seat }
 -- the calls and replies of a gate: those of the receipts that its seat gained in it, in order
 abbrev pub pairs_of : GateState → List (Call × Reply)
 pairs_of g = map (λ r. (r.call, r.reply)) (drop g.first g.seat.receipts)
+
+-- the number of a refusal's code
+abbrev pub refusal_number : LockRefusal → ℕ
+refusal_number HistoryFull = 1
+refusal_number NoMemory = 2
+refusal_number ReplyWaiting = 3
+refusal_number SeatTaken = 4
+refusal_number (ByKernel e) = 5
+
+-- a gate's fault has the number of a refusal, and leaves the gate as it was
+abbrev pub GateRefuses : GateState → GateFault → GateState → Type 0
+GateRefuses before fault after = (after ≡ before) × ((refusal : LockRefusal) × (fault.code ≡ refusal_number refusal))

@@ -13,6 +13,7 @@ use crate::locked::Locked;
 use crate::refusals::{Entered, LockRefusal};
 use crate::seats::Seat;
 use l4_ipc::{Call, Reply};
+use l4_pager::{Gate, GateFault};
 use std::alloc::Global;
 use std::marker::Model;
 use std::sync::{Condvar, Mutex, Wait};
@@ -150,15 +151,6 @@ impl<'a, R: Wait> Model for LockGate<'a, R> {
 }
 
 impl<'a, R: Wait> LockGate<'a, R> {
-    /// Enters a call, and waits until it has ended. What the gate has done are the receipts that its seat gained.
-    pub fn enter(&mut self, call: Call) -> Result<Reply, LockRefusal>
-        ensures { MatchResult result
-            (λ reply. pairs_of self.new ≡ pairs_of self.old ++ (call, reply) ∷ [])
-            (λ _. self.new ≡ self.old) }
-    {
-        self.lock.call(self.rt, &mut self.seat, call)
-    }
-
     /// The seat.
     pub fn into_seat(self) -> Seat
         ensures { result ≡ self.entry.seat }
@@ -170,5 +162,24 @@ impl<'a, R: Wait> LockGate<'a, R> {
             seat,
         } = self;
         seat
+    }
+}
+
+/// What the gate has done are the receipts that its seat gained.
+impl<'a, R: Wait> Gate for LockGate<'a, R> {
+    ghost use Rattle.std.specs.Prelude.{◌≡◌};
+    ghost use Rattle.l4_lock.specs.Shared.{pairs_of, GateRefuses};
+
+    ghost pairs = { λ g. pairs_of g };
+
+    ghost refuses = { λ before call fault after. GateRefuses before fault after };
+
+    fn enter(&mut self, call: Call) -> Result<Reply, GateFault> {
+        match self.lock.call(self.rt, &mut self.seat, call) {
+            Ok(reply) => Ok(reply),
+            Err(refusal) => Err(GateFault {
+                code: refusal.number(),
+            }),
+        }
     }
 }
