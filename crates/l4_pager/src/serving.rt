@@ -4,6 +4,7 @@ ghost use Rattle.l4_threads.specs.declared.ThreadId.{ThreadId as AnId};
 ghost use Rattle.l4_threads.specs.declared.Reply.{Reply as AReply};
 ghost use Rattle.l4_msg.specs.declared.messages.Message.{Message as AMessage};
 ghost use Rattle.l4_ipc.specs.declared.calls.Call.{Call as ACall};
+ghost use Rattle.l4_msg.specs.Messages.{CanBeWritten, message_words};
 ghost use Rattle.l4_pager.specs.declared.serving.GateFault.{GateFault as AFault};
 ghost use Rattle.l4_pager.specs.Serving.{Brings, Follows, Serves, ComesNext, waiting, sending};
 
@@ -41,8 +42,8 @@ pub trait Gate {
             (λ fault. (pairs self.new ≡ pairs self.old) × refuses self.old call fault self.new) };
 }
 
-/// The sender and the message that a reply brings.
-fn brought(reply: &Reply) -> Option<(ThreadId, Message)>
+/// The sender and the message that a reply brings. None where it is no reply of an Ipc, or one of an Ipc that failed.
+pub fn brought(reply: &Reply) -> Option<(ThreadId, Message)>
     ensures { MatchOption result ((sender : AnId) (m : AMessage) → ¬ Brings reply.now sender m) (λ p. Brings reply.now p.0 p.1) }
 {
     match reply {
@@ -64,8 +65,8 @@ fn brought(reply: &Reply) -> Option<(ThreadId, Message)>
     }
 }
 
-/// The call that waits for anybody's message.
-fn wait() -> Call
+/// The call that waits for anybody's message, with a nil window and no timeout.
+pub fn wait() -> Call
     ensures { result ≡ waiting }
 {
     Call::Ipc(IpcCall {
@@ -77,6 +78,20 @@ fn wait() -> Call
     })
 }
 
+/// The call that sends an answer to who waits for it, and then waits for anybody's message.
+pub fn answering(sender: ThreadId, answer: &Message) -> Call
+    requires { CanBeWritten answer.now }
+    ensures { result ≡ sending sender (message_words answer.now) }
+{
+    Call::Ipc(IpcCall {
+        to: sender,
+        from: ThreadId::any(),
+        timeouts: AT_ONCE,
+        acceptor: 0,
+        words: answer.write(),
+    })
+}
+
 /// What is entered after a reply, and whether it is an answer.
 fn next_call(regions: &RegionPager, reply: &Reply) -> (Call, bool)
     ensures { Follows regions.now reply.now result.0 result.1 }
@@ -84,15 +99,7 @@ fn next_call(regions: &RegionPager, reply: &Reply) -> (Call, bool)
     let Some((sender, message)) = brought(reply) else {
         return (wait(), false);
     };
-    let answer = regions.answer(&message);
-    let call = Call::Ipc(IpcCall {
-        to: sender,
-        from: ThreadId::any(),
-        timeouts: AT_ONCE,
-        acceptor: 0,
-        words: answer.write(),
-    });
-    (call, true)
+    (answering(sender, &regions.answer(&message)), true)
 }
 
 /// Serves a pager through a gate: first receives from anybody with a nil window, and then, turn by turn, answers the message that the

@@ -84,6 +84,7 @@ fn fill(owners: &mut [Option<u64>], space: u64, first: usize, end: usize)
 
 impl Sigma0 {
     ghost use Rattle.std.specs.FinMap as fin;
+    ghost use Rattle.l4_msg.specs.Messages.{CanBeWritten};
     ghost use Rattle.l4_sigma0.specs.Owners.{Answers, max_frames};
 
     /// The table of the frames 0 to `frames` - 1, of which none has an owner. `frames` is at most `MAX_FRAMES`.
@@ -103,7 +104,8 @@ impl Sigma0 {
     /// rights, its send base that of the fpage. Anything else is answered by a nil map item, and changes nothing. A sender that is
     /// gone counts as space 2^64 - 1.
     pub fn answer(&mut self, from_space: u64, message: &Message) -> Message
-        ensures { Answers self.old from_space message.now result self.new }
+        ensures answers { Answers self.old from_space message.now result self.new }
+        ensures writable { CanBeWritten result }
     {
         let Some(block) = wanted(message) else {
             return map_answer(0, Fpage::Nil);
