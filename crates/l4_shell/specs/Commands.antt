@@ -8,7 +8,7 @@ use Rattle.l4_shell.specs.declared.partners.Partner.TheVariants.{Nil, Any, Threa
 use Rattle.l4_shell.specs.declared.partners.NewSpace.{NewSpace}
 use Rattle.l4_shell.specs.declared.partners.NewSpace.TheVariants.{New, Of}
 use Rattle.l4_shell.specs.declared.commands.Command.{Command}
-use Rattle.l4_shell.specs.declared.commands.Command.TheVariants.{Thread, SetPager, Delete, Receive, Send, Ipc, Delegate, Unmap, Show, Parent}
+use Rattle.l4_shell.specs.declared.commands.Command.TheVariants.{Thread, SetPager, Delete, Receive, Send, Ipc, Fault, Delegate, Unmap, Show, Parent}
 use Rattle.l4_shell.specs.declared.commands.ScriptFault.{ScriptFault}
 use Rattle.l4_shell.specs.declared.commands.ScriptFault.TheVariants.{UnknownCommand, BadTokens}
 use Rattle.l4_text.specs.Numbers.{below, number_of}
@@ -186,6 +186,21 @@ unmap_asked (number ∷ control ∷ tokens) = do
   words ← words_of tokens
   Some (Unmap n c words)
 
+-- N ADDRESS IP RIGHTS
+abbrev pub fault_asked : List (List ℕ) → Option Command
+fault_asked [] = None
+fault_asked (number ∷ tokens) = do
+  three ← three_of tokens
+  n ← thread_of number
+  address ← number_of three.0
+  ip ← number_of three.1.0
+  access ← rights_of three.1.1
+  Some (Fault n (record { address = address; ip = ip; access = access }))
+
+-- the commands of page faults
+abbrev pub fault_command_of : List ℕ → List (List ℕ) → Result Command ScriptFault
+fault_command_of name tokens = if is_word (codes "fault") name then ok_or (fault_asked tokens) BadTokens else Err UnknownCommand
+
 -- what the tokens of a line that has some ask for, or why they can't be read
 unfoldable pub command_of : List (List ℕ) → Result Command ScriptFault
 command_of [] = Err UnknownCommand
@@ -200,4 +215,4 @@ command_of (name ∷ tokens) =
     else (if is_word (codes "unmap") name then ok_or (unmap_asked tokens) BadTokens
     else (if is_word (codes "show") name then ok_or (show_asked tokens) BadTokens
     else (if is_word (codes "parent") name then ok_or (parent_asked tokens) BadTokens
-    else Err UnknownCommand)))))))))
+    else fault_command_of name tokens)))))))))

@@ -3,14 +3,14 @@ use Rattle.std.specs.Prelude.{ℕ, ◌+◌, ◌*◌, ◌%◌, ◌^◌, ◌==◌,
 use Rattle.l4_threads.specs.declared.ThreadId.{ThreadId}
 use Rattle.l4_threads.specs.Threads.{nilthread, anythread}
 use Rattle.l4_ipc.specs.declared.calls.Call.{Call}
-use Rattle.l4_ipc.specs.declared.calls.Call.TheVariants.{Ipc as Exchanges, Unmap as Unmaps, Control as Controls}
+use Rattle.l4_ipc.specs.declared.calls.Call.TheVariants.{Ipc as Exchanges, Fault as Faults, Unmap as Unmaps, Control as Controls}
 use Rattle.l4_ipc.specs.declared.calls.Control.TheVariants.{Create, SetPager as ChangePager, Delete as End}
 use Rattle.l4_shell.specs.declared.partners.Partner.{Partner}
 use Rattle.l4_shell.specs.declared.partners.Partner.TheVariants.{Nil, Any, Thread as One}
 use Rattle.l4_shell.specs.declared.partners.NewSpace.{NewSpace}
 use Rattle.l4_shell.specs.declared.partners.NewSpace.TheVariants.{New, Of}
 use Rattle.l4_shell.specs.declared.commands.Command.{Command}
-use Rattle.l4_shell.specs.declared.commands.Command.TheVariants.{Thread, SetPager, Delete, Receive, Send, Ipc, Delegate, Unmap, Show, Parent}
+use Rattle.l4_shell.specs.declared.commands.Command.TheVariants.{Thread, SetPager, Delete, Receive, Send, Ipc, Fault, Delegate, Unmap, Show, Parent}
 use Rattle.l4_shell.specs.declared.requests.Request.{Request}
 use Rattle.l4_shell.specs.declared.requests.Request.TheVariants.{Enter, SendPlan, ListPages, TellParent}
 use Rattle.l4_shell.specs.declared.commands.ScriptFault.{ScriptFault}
@@ -75,6 +75,7 @@ request_of (Delete number) = Enter 2 (delete_call number)
 request_of (Receive number partner window) = Enter number (receive_call partner window)
 request_of (Send number partner words) = Enter number (send_call partner words)
 request_of (Ipc number to «from» timeouts window words) = Enter number (ipc_call to «from» timeouts window words)
+request_of (Fault number fault) = Enter number (Faults fault)
 request_of (Delegate number partner region) = SendPlan number partner region
 request_of (Unmap number control words) = Enter number (unmap_call control words)
 request_of (Show number first count) = ListPages number first count

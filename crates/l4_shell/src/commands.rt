@@ -1,12 +1,13 @@
 //! What a script line asks for.
 ghost use Rattle.std.specs.Prelude.{◌≡◌, [], length};
 ghost use Rattle.l4_text.specs.Tokens.{tokens_of};
-ghost use Rattle.l4_shell.specs.Commands.{thread_asked, set_pager_asked, delete_asked, receive_asked, show_asked, parent_asked, send_asked, delegate_asked, ipc_asked, unmap_asked, words_of, command_of};
+ghost use Rattle.l4_shell.specs.Commands.{thread_asked, set_pager_asked, delete_asked, receive_asked, show_asked, parent_asked, send_asked, delegate_asked, ipc_asked, unmap_asked, fault_asked, fault_command_of, words_of, command_of};
 
 use crate::partners::{NewSpace, Partner, any_or_thread, new_space, nil_or_thread, thread_number};
-use crate::regions::region;
+use crate::regions::{region, rights};
 use crate::tokens::{one, three, two};
 use arrayvec::ArrayVec;
+use l4_ipc::FaultCall;
 use l4_msg::Region;
 use l4_text::{next_token, number};
 use std::marker::Model;
@@ -111,6 +112,8 @@ pub(crate) enum Command {
         window: u32,
         words: Words,
     },
+    /// A thread raises a page fault.
+    Fault(u32, FaultCall),
     /// A thread revokes rights: the control word, and the message registers.
     Unmap {
         number: u32,
@@ -143,6 +146,8 @@ const SEND: &[u8] = b"send";
 const DELEGATE: &[u8] = b"delegate";
 
 const IPC: &[u8] = b"ipc";
+
+const FAULT: &[u8] = b"fault";
 
 const UNMAP: &[u8] = b"unmap";
 
@@ -302,6 +307,32 @@ fn unmap(line: &[u8]) -> Option<Command>
     })
 }
 
+/// `N ADDRESS IP RIGHTS`
+fn fault(line: &[u8]) -> Option<Command>
+    ensures { result ≡ fault_asked (tokens_of line.now) }
+{
+    let (number_token, rest) = next_token(line)?;
+    let (address, (ip, access)) = three(rest)?;
+    Some(Command::Fault(
+        thread_number(number_token)?,
+        FaultCall {
+            address: number(address)?,
+            ip: number(ip)?,
+            access: rights(access)?,
+        },
+    ))
+}
+
+/// A command of page faults, by its name and the tokens after it.
+fn fault_command(name: &[u8], rest: &[u8]) -> Result<Command, ScriptFault>
+    ensures { result ≡ fault_command_of name.now (tokens_of rest.now) }
+{
+    if name == FAULT {
+        return fault(rest).ok_or(ScriptFault::BadTokens);
+    }
+    Err(ScriptFault::UnknownCommand)
+}
+
 /// What the tokens of a line ask for.
 #[tactic(auto, unfolding(crate::specs::Commands::command_of))]
 pub(crate) fn read_command(line: &[u8]) -> Result<Command, ScriptFault>
@@ -340,5 +371,5 @@ pub(crate) fn read_command(line: &[u8]) -> Result<Command, ScriptFault>
     if name == PARENT {
         return parent(rest).ok_or(ScriptFault::BadTokens);
     }
-    Err(ScriptFault::UnknownCommand)
+    fault_command(name, rest)
 }

@@ -27,7 +27,7 @@ fn rights_with(read: bool, write: bool, execute: bool) -> Rights
 
 /// r, w and x in turn, each of them or a dash in its place.
 #[tactic(auto, unfolding(crate::specs::Commands::rights_of))]
-fn rights(token: &[u8]) -> Option<Rights>
+pub(crate) fn rights(token: &[u8]) -> Option<Rights>
     ensures { result ≡ rights_of token.now }
 {
     if token.len() != 3 {

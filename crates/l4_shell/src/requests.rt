@@ -135,6 +135,7 @@ pub(crate) fn request_of(command: Command) -> Request
             window,
         } => Request::Enter(number, receive_call(from, window)),
         Command::Send { number, to, words } => Request::Enter(number, send_call(to, words)),
+        Command::Fault(number, fault) => Request::Enter(number, Call::Fault(fault)),
         Command::Delegate { number, to, region } => Request::SendPlan(number, to, region),
         Command::Ipc {
             number,

@@ -179,6 +179,23 @@ fn does_ipcs(rt: HostRuntime) -> Result<(), Fail> {
 }
 
 #[test]
+fn raises_faults(rt: HostRuntime) -> Result<(), Fail> {
+    let rows: [(&[u8], &[u8]); 4] = [
+        (b"fault 7 0x5000 0 r--\n", b"line 1 refused K2\n"),
+        (b"fault 1 0x5000 0 rwx\n", b"1 fault hit\n"),
+        (
+            b"thread 3 new nil\nfault 3 0x5000 0 r--\n",
+            b"2 control ok\n3 fault failed 4\n",
+        ),
+        (
+            b"recv 1 any 0\nfault 2 0x5678 0x400100 -w-\n",
+            b"1 waits\ntransfer 2 1 done\n1 ipc ffe20002 0 2 00005678 00400100\n2 waits\n",
+        ),
+    ];
+    check_answers(&rt, rt.alloc(), rows.as_slice())
+}
+
+#[test]
 fn names_the_callers(rt: HostRuntime) -> Result<(), Fail> {
     let rows: [(&[u8], &[u8]); 5] = [
         (b"unmap 7 0\n", b"line 1 refused K2\n"),
@@ -201,7 +218,7 @@ fn names_the_callers(rt: HostRuntime) -> Result<(), Fail> {
 
 #[test]
 fn refuses_wrong_tokens(rt: HostRuntime) -> Result<(), Fail> {
-    let lines: [&[u8]; 33] = [
+    let lines: [&[u8]; 39] = [
         b"ipc\n",
         b"ipc 1\n",
         b"ipc 1 nil nil 0\n",
@@ -235,6 +252,12 @@ fn refuses_wrong_tokens(rt: HostRuntime) -> Result<(), Fail> {
         b"delete new\n",
         b"delete 262144\n",
         b"delete 4294967296\n",
+        b"fault\n",
+        b"fault 1 0 0\n",
+        b"fault 1 0 0 r-- 0\n",
+        b"fault nil 0 0 r--\n",
+        b"fault 1 0 nil r--\n",
+        b"fault 1 0 0 rw\n",
     ];
     for line in lines {
         let mut script = line;
