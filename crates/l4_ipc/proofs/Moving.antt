@@ -15,7 +15,7 @@ use Rattle.l4_mapdb.specs.Mappings.{Mappings}
 use Rattle.l4_mapdb.specs.Transfer.{PageMove, IsUsed, IsEntangled, Delivers}
 use Rattle.l4_mapdb.proofs.Along.{transfers_along, entangled_along}
 use Rattle.l4_ipc.specs.declared.steps.Outcome.TheVariants.{Done}
-use Rattle.l4_ipc.specs.Delivering.{IsListed, outcome_of}
+use Rattle.l4_ipc.specs.Inside.Delivering.{IsListed, outcome_of}
 use Rattle.l4_ipc.specs.Moving.{IsUsedBy, LacksWindow, Moves}
 
 -- one more item, and what it moves

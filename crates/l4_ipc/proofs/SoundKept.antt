@@ -43,7 +43,7 @@ use Rattle.l4_ipc.specs.declared.steps.Step.TheVariants.{Start, Transfer, Expire
 use Rattle.l4_ipc.specs.Machine.{Machine, machine}
 use Rattle.l4_ipc.specs.Start.{has_send, IsSent, ipc_next, going_on, later_of, partner, send_timeout, has_page, fault_words, fault_next, enters}
 use Rattle.l4_ipc.specs.Moving.{Moves}
-use Rattle.l4_ipc.specs.Sound.{IsOfWords, AreSound, IsSound}
+use Rattle.l4_ipc.specs.Inside.Sound.{IsOfWords, AreSound, IsSound}
 use Rattle.l4_ipc.specs.Steps.{receiver_reply, sender_next, is_done, expiry, with_space, Steps}
 use Rattle.l4_ipc.proofs.Items.{items_of_words}
 use Rattle.l4_ipc.proofs.Deletes.{differs, left_at}

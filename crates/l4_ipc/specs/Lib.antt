@@ -3,12 +3,10 @@ pub mod Start
 pub mod Moving
 pub mod Steps
 pub mod Runs
-pub mod Sound
-pub mod Kept
-pub mod Delivering
 pub mod Reading
 pub mod Following
 pub mod Constructors
 pub mod Events
 pub mod Provenance
 pub mod Delegation
+pub mod Inside

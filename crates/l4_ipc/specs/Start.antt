@@ -1,6 +1,6 @@
 -- How a call starts: each refusal in its order, and what the caller does next.
 -- (L4 X.2 manual: Ipc, Unmap, ThreadControl and the page fault protocol; the timeouts, the fault label and the ErrorCodes are this profile's own.)
-use Rattle.std.specs.Prelude.{◌≡◌, ℕ, ◌+◌, ◌/◌, ◌%◌, ◌^◌, ◌==◌, ◌&&◌, ◌||◌, not, ◌⊎◌, Bool, true, false, if◌then◌else◌, List, [], ◌∷◌, take, Option, Some, None, option_and_then, MatchOption, IsSome, IsTrue, Err}
+use Rattle.std.specs.Prelude.{◌≡◌, ℕ, ◌+◌, ◌/◌, ◌%◌, ◌^◌, ◌==◌, ◌&&◌, ◌||◌, not, ◌⊎◌, Bool, true, false, if◌then◌else◌, List, [], ◌∷◌, take, Option, Some, None, option_and_then, MatchOption, Err}
 use Rattle.std.specs.Option.{option_map_or}
 use Rattle.l4_fpage.specs.Rights.{RightsSet, is_none, without, all_rights}
 use Rattle.l4_fpage.specs.declared.fpages.Fpage.{Fpage}
@@ -21,7 +21,7 @@ use Rattle.l4_threads.specs.declared.Source.TheVariants.{Anyone, Thread as One}
 use Rattle.l4_threads.specs.declared.Later.{Later}
 use Rattle.l4_threads.specs.declared.Reply.{Reply}
 use Rattle.l4_threads.specs.declared.Reply.TheVariants.{Ipc as IpcReply, Hit}
-use Rattle.l4_threads.specs.Threads.{Threads, state_of, runs, may_receive, named, nilthread, is_running, failed, start_send, start_receive, end_call}
+use Rattle.l4_threads.specs.Threads.{Threads, state_of, named, nilthread, is_running, failed, start_send, start_receive, end_call}
 use Rattle.l4_threads.specs.Control.{create_test, set_pager_test, delete_test}
 use Rattle.l4_ipc.specs.declared.calls.Call.{Call}
 use Rattle.l4_ipc.specs.declared.calls.Call.TheVariants.{Ipc, Fault, Unmap, Control as Controls}
@@ -165,12 +165,6 @@ abbrev pub enters : Threads → ℕ → Next → Threads
 enters t n (Ends reply) = end_call t n reply
 enters t n (Sends s) = start_send t n s
 enters t n (Receives r) = start_receive t n r
-
--- the thread can do this next: it is there; to send it runs, and to receive it doesn't receive yet
-abbrev pub CanEnter : Threads → ℕ → Next → Type 0
-CanEnter t n (Ends reply) = IsSome (state_of t n)
-CanEnter t n (Sends s) = IsTrue (runs t n)
-CanEnter t n (Receives r) = IsTrue (may_receive t n)
 
 -- the list of the thread if its call ends with this
 abbrev pub ended_by : ℕ → Next → List ℕ

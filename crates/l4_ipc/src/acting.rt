@@ -5,7 +5,7 @@ ghost use Rattle.l4_threads.specs.Threads.{state_of, runs, end_call};
 ghost use Rattle.l4_threads.specs.declared.Reply.TheVariants.{Controlled};
 ghost use Rattle.l4_ipc.specs.Machine.{machine};
 ghost use Rattle.l4_threads.specs.Control.{asks_new};
-ghost use Rattle.l4_ipc.specs.Sound.{HaveSpaces};
+ghost use Rattle.l4_ipc.specs.Inside.Sound.{HaveSpaces};
 ghost use Rattle.l4_ipc.specs.Steps.{expiry, with_space, Steps};
 ghost use Rattle.l4_ipc.specs.declared.steps.Step.TheVariants.{Start, Transfer as Transfers, Expire as Expires};
 ghost use Rattle.l4_ipc.specs.declared.steps.Outcome.TheVariants.{Started};
@@ -20,11 +20,11 @@ use crate::starting::{enter, ipc_next};
 use crate::steps::{Answer, Lower, Outcome, Refused};
 use arrayvec::ArrayVec;
 use l4_mapdb::{Forest, NoMemory};
-use l4_threads::{Reply, State, Threads};
+use l4_threads::{MAX_THREADS, Reply, State, Threads};
 use l4_unmap::unmap;
 
 /// A list of one thread.
-fn only(number: u32) -> ArrayVec<u32, 64>
+fn only(number: u32) -> ArrayVec<u32, MAX_THREADS>
     ensures { result.items ≡ number ∷ [] }
 {
     let mut list = ArrayVec::new();

@@ -1,5 +1,6 @@
 use arrayvec::ArrayVec;
 use l4_fpage::Rights;
+use l4_msg::MAX_WORDS;
 use l4_threads::ThreadId;
 
 /// An Ipc: a send phase unless `to` is nilthread, and then a receive phase unless `from` is nilthread (L4 X.2 manual, Ipc).
@@ -14,7 +15,7 @@ pub struct IpcCall {
     /// The receive window, as an acceptor word.
     pub acceptor: u32,
     /// The message registers from MR0, the tag, on; those beyond the message are ignored.
-    pub words: ArrayVec<u32, 64>,
+    pub words: ArrayVec<u32, MAX_WORDS>,
 }
 
 /// A page fault of the caller (L4 X.2 manual, page fault protocol).
@@ -34,7 +35,7 @@ pub struct UnmapCall {
     /// Bit 6 is f, which means the caller's own pages too, and bits 5 to 0 are k.
     pub control: u32,
     /// The message registers; MR0 to MRk are fpages with the rights to revoke.
-    pub words: ArrayVec<u32, 64>,
+    pub words: ArrayVec<u32, MAX_WORDS>,
 }
 
 /// A new thread, which runs at once.

@@ -11,7 +11,7 @@ ghost use Rattle.l4_ipc.specs.declared.calls.Control.TheVariants.{Delete as Dele
 use crate::steps::{Answer, Lower, Outcome, Refused};
 use arrayvec::ArrayVec;
 use l4_mapdb::Forest;
-use l4_threads::{Reply, ThreadId, Threads};
+use l4_threads::{MAX_THREADS, Reply, ThreadId, Threads};
 
 /// Ends the space of a deleted thread, where it was the last one there.
 fn end_space(forest: &mut Forest, space: Option<u64>)
@@ -23,7 +23,7 @@ fn end_space(forest: &mut Forest, space: Option<u64>)
 }
 
 /// The caller, and then the others.
-fn caller_first(number: u32, others: ArrayVec<u32, 64>) -> ArrayVec<u32, 64>
+fn caller_first(number: u32, others: ArrayVec<u32, MAX_THREADS>) -> ArrayVec<u32, MAX_THREADS>
     requires { length others.items < 64 }
     ensures { result.items ≡ number ∷ others.items }
 {

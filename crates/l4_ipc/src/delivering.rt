@@ -5,7 +5,7 @@ ghost use Rattle.std.specs.FinSet as set;
 ghost use Rattle.l4_fpage.specs.declared.fpages.Fpage.TheVariants.{Nil as NilFpage};
 ghost use Rattle.l4_threads.specs.Enabled.{IsFirstSender};
 ghost use Rattle.l4_ipc.specs.Moving.{Moves};
-ghost use Rattle.l4_ipc.specs.Delivering.{IsListed, outcome_of};
+ghost use Rattle.l4_ipc.specs.Inside.Delivering.{IsListed, outcome_of};
 ghost use Rattle.l4_ipc.specs.Steps.{Meets, received, receiver_reply, sender_next, is_done};
 
 use crate::next::Next;

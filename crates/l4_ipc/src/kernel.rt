@@ -27,7 +27,7 @@ impl Model for Kernel {
 
     ghost coded = { machine_code thread.the_row.coded };
 
-    ghost use Rattle.l4_ipc.specs.Kept.{seen, IsKept};
+    ghost use Rattle.l4_ipc.specs.Inside.Kept.{seen, IsKept};
 
     ghost view = { seen };
 

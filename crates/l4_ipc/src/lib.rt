@@ -24,7 +24,7 @@ pub use l4_mapdb::{MAX_FRAMES, Mapping, NoMemory, Place};
 pub use l4_msg::{
     Acceptor, Item, ItemFault, MAX_ITEMS, MAX_UNTYPED, MAX_WORDS, Message, MsgFault, Tag,
 };
-pub use l4_threads::{IpcReply, Reply, ThreadFault, ThreadId};
+pub use l4_threads::{IpcReply, MAX_THREADS, Reply, ThreadFault, ThreadId};
 pub use l4_unmap::UnmapFault;
 pub use laws::an_answer_leads_to_one_state;
 pub use next::Next;

@@ -9,7 +9,7 @@ use crate::sent::Sent;
 use crate::steps::{Lower, Refused};
 use arrayvec::ArrayVec;
 use l4_fpage::Fpage;
-use l4_msg::{Acceptor, Item, Message, MsgFault, Tag, copied};
+use l4_msg::{Acceptor, Item, MAX_WORDS, Message, MsgFault, Tag, copied};
 use l4_threads::Later;
 
 /// Whether a timeout is never or zero.
@@ -69,7 +69,7 @@ impl IpcCall {
     }
 
     /// The registers of the message that the words begin with.
-    fn counted_words(&self) -> ArrayVec<u32, 64>
+    fn counted_words(&self) -> ArrayVec<u32, MAX_WORDS>
         requires { IsWhole self.now.words.items }
         ensures { result.items ≡ counted_words self.now.words.items }
     {

@@ -1,13 +1,16 @@
 //! What a thread does next as a call starts or goes on.
 ghost use Rattle.std.specs.Prelude.{◌≡◌, ◌<◌, ◌≤◌, length};
-ghost use Rattle.l4_ipc.specs.Start.{receiving, going_on, partner, ipc_next, enters, ended_by, CanEnter};
+ghost use Rattle.l4_ipc.specs.Start.{receiving, going_on, partner, ipc_next, enters, ended_by};
+ghost use Rattle.l4_ipc.specs.Inside.Entering.{CanEnter};
 
 use crate::calls::IpcCall;
 use crate::next::Next;
 use crate::sent::Sent;
 use arrayvec::ArrayVec;
 use l4_fpage::Fpage;
-use l4_threads::{IpcReply, Later, Receiving, Reply, Sending, Source, ThreadId, Threads};
+use l4_threads::{
+    IpcReply, Later, MAX_THREADS, Receiving, Reply, Sending, Source, ThreadId, Threads,
+};
 
 /// What a thread does as its receive phase begins.
 fn receiving(threads: &Threads, later: Later, fault: bool) -> Next
@@ -80,7 +83,7 @@ pub fn ipc_next(threads: &Threads, number: u32, call: &IpcCall, sent: Sent, wind
 }
 
 /// The thread does this next. The list holds the thread if its call ended.
-pub fn enter(threads: &mut Threads, number: u32, next: Next) -> ArrayVec<u32, 64>
+pub fn enter(threads: &mut Threads, number: u32, next: Next) -> ArrayVec<u32, MAX_THREADS>
     requires { CanEnter threads.old number next }
     ensures threads { threads.new ≡ enters threads.old number next }
     ensures ended { result.items ≡ ended_by number next }

@@ -1,7 +1,7 @@
 use crate::calls::Call;
 use arrayvec::ArrayVec;
 use l4_msg::MsgFault;
-use l4_threads::ThreadFault;
+use l4_threads::{MAX_THREADS, ThreadFault};
 use l4_unmap::UnmapFault;
 
 /// One atomic step of the kernel; threads go by their numbers.
@@ -39,7 +39,7 @@ pub struct Answer {
     pub outcome: Outcome,
     /// The numbers of the threads whose calls ended: of a Transfer the sender and then the receiver; of a Delete the caller and
     /// then the others by rising number.
-    pub ended: ArrayVec<u32, 64>,
+    pub ended: ArrayVec<u32, MAX_THREADS>,
 }
 
 /// A refusal that comes from below the kernel's steps.

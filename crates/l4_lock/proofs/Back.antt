@@ -8,11 +8,13 @@ use Rattle.std.proofs.lemmas.List.{same_lists}
 use Rattle.std.proofs.lemmas.List.Elements.{All-get_or}
 use Rattle.l4_lock.specs.declared.closing.Mismatch.{Mismatch}
 use Rattle.l4_lock.specs.declared.closing.Mismatch.TheVariants.{Missing, Foreign, Receipt as WrongReceipt}
-use Rattle.l4_lock.specs.Books.{SeatState, starts, Book, started_by, starts_of, IsRight}
+use Rattle.l4_lock.specs.Books.{SeatState, starts, Book, starts_of, IsRight}
+use Rattle.l4_lock.specs.Inside.Noting.{started_by}
 use Rattle.l4_lock.specs.Receipts.{Proves}
 use Rattle.l4_lock.specs.declared.entries.Receipt.{Receipt}
 use Rattle.l4_lock.specs.Locked.{Lock, IsKept}
-use Rattle.l4_lock.specs.Closing.{HasBook, HasSeat, IsGiven, IsBack, IsTwice, Agrees, AllAgree, IsMissing, IsForeign, IsWrong, IsFine, Least, Mismatches, AreBack, by_history, IsShown, Closes, keep, SoFarMissing, SoFarForeign, SoFarWrong}
+use Rattle.l4_lock.specs.Closing.{HasBook, HasSeat, IsGiven, IsBack, IsTwice, Agrees, AllAgree, IsMissing, IsForeign, IsWrong, Least, Mismatches, AreBack, by_history, IsShown, Closes}
+use Rattle.l4_lock.specs.Inside.Closing.{IsFine, keep, SoFarMissing, SoFarForeign, SoFarWrong}
 
 -- an earlier place, or this one
 last_or : (k i : ℕ) → k < i + 1 → (k < i) ⊎ (k ≡ i)

@@ -8,9 +8,11 @@ use Rattle.l4_ipc.specs.declared.steps.Step.{Step}
 use Rattle.l4_ipc.specs.Machine.{Machine}
 use Rattle.l4_ipc.specs.Steps.{Steps, IsNext, IsIdle}
 use Rattle.l4_lock.specs.declared.entries.Entry.{Entry}
-use Rattle.l4_lock.specs.History.{last_seat, GoesOn}
-use Rattle.l4_lock.specs.Books.{Book, noted, plain, AreRight}
-use Rattle.l4_lock.specs.Locked.{Went}
+use Rattle.l4_lock.specs.Inside.Entering.{last_seat}
+use Rattle.l4_lock.specs.History.{GoesOn}
+use Rattle.l4_lock.specs.Books.{Book, plain, AreRight}
+use Rattle.l4_lock.specs.Inside.Noting.{noted}
+use Rattle.l4_lock.specs.Inside.Entering.{Went}
 use Rattle.l4_ipc.proofs.Work.{work, work_few, fewer}
 use Rattle.l4_lock.proofs.Right.{last_is, plain_noted, next_right}
 

@@ -13,7 +13,7 @@ use Rattle.l4_ipc.specs.Reading.{last_reply, reply_of}
 use Rattle.l4_ipc.specs.Steps.{Steps}
 use Rattle.l4_ipc.proofs.Waiting.{IsOver, over}
 use Rattle.l4_lock.specs.Receipts.{Says, Replied}
-use Rattle.l4_lock.specs.Books.{reply_in}
+use Rattle.l4_lock.specs.Inside.Noting.{reply_in}
 
 says : (o : Option State) → IsOver o → Says o (option_map_or (λ (reply : Reply). reply) (option_and_then last_reply o) Gone)
 says None h = refl

@@ -20,9 +20,11 @@ use Rattle.l4_lock.specs.declared.entries.Entry.{Entry}
 use Rattle.l4_lock.specs.declared.entries.Receipt.{Receipt}
 use Rattle.l4_lock.specs.declared.entries.Ended.{Ended}
 use Rattle.l4_lock.specs.declared.entries.Pending.{Pending}
-use Rattle.l4_lock.specs.History.{IsSeated, last_seat, Follows, Replays, GoesOn}
+use Rattle.l4_lock.specs.History.{IsSeated, Follows, Replays, GoesOn}
+use Rattle.l4_lock.specs.Inside.Entering.{last_seat}
 use Rattle.l4_lock.specs.Receipts.{Proves, StartsCall, Replied}
-use Rattle.l4_lock.specs.Books.{Book, book, pending_count, reply_in, is_among, noted_call, noted, unended, plain, receipt_of, one_if, starts_of, HasNotEnded, IsPending, IsRight, numbers, IsOnce, AreRight}
+use Rattle.l4_lock.specs.Books.{Book, book, pending_count, is_among, unended, plain, receipt_of, one_if, starts_of, HasNotEnded, IsPending, IsRight, numbers, IsOnce, AreRight}
+use Rattle.l4_lock.specs.Inside.Noting.{reply_in, noted_call, noted}
 use Rattle.l4_ipc.proofs.Waiting.{still_waits, starts_waiting}
 use Rattle.l4_lock.proofs.Replies.{ended_replied}
 

@@ -18,10 +18,13 @@ use Rattle.l4_lock.specs.declared.entries.Entry.{Entry}
 use Rattle.l4_lock.specs.declared.entries.Receipt.{Receipt}
 use Rattle.l4_lock.specs.declared.entries.Ended.{Ended}
 use Rattle.l4_lock.specs.declared.entries.Pending.{Pending}
-use Rattle.l4_lock.specs.History.{Replays, last_seat}
+use Rattle.l4_lock.specs.History.{Replays}
+use Rattle.l4_lock.specs.Inside.Entering.{last_seat}
 use Rattle.l4_lock.specs.Receipts.{Proves, StartsCall}
-use Rattle.l4_lock.specs.Books.{Book, book, book_at, reply_waits, has_ended, numbers, IsOnce, is_among, noted, unended, plain, pending_count, receipt_of, one_if, starts_of, HasNotEnded, IsPending, IsRight, AreRight}
-use Rattle.l4_lock.specs.Locked.{start_entry, Went, Begins, IsReady}
+use Rattle.l4_lock.specs.Books.{Book, book, book_at, reply_waits, has_ended, numbers, IsOnce, is_among, unended, plain, pending_count, receipt_of, one_if, starts_of, HasNotEnded, IsPending, IsRight, AreRight}
+use Rattle.l4_lock.specs.Inside.Noting.{noted}
+use Rattle.l4_lock.specs.Locked.{start_entry}
+use Rattle.l4_lock.specs.Inside.Entering.{Went, Begins, IsReady}
 use Rattle.l4_lock.proofs.Right.{pend, starts_append, none_starts, replays_more, last_is, right_next, right_start, numbers_noted, numbers_set, number_among, plain_noted}
 
 pub same_book : (x b : Book) → ◌≡◌ {A = Option Book} (Some x) (Some b) → x ≡ b

@@ -19,7 +19,8 @@ use Rattle.l4_lock.specs.declared.refusals.LockRefusal.{LockRefusal}
 use Rattle.l4_lock.specs.declared.refusals.LockRefusal.TheVariants.{NoMemory, Kernel as ByKernel}
 use Rattle.l4_lock.specs.Receipts.{Proves}
 use Rattle.l4_lock.specs.Books.{SeatState, seat_state, Book, book, book_at, reply_waits, has_ended, plain, receipts_at, numbers, IsOnce, receipt_of, HasNotEnded, IsPending, IsRight, AreRight, Settles}
-use Rattle.l4_lock.specs.Locked.{Lock, lock, IsKept, Begins, Enters, Gains, EndsAtOnce, IsLeft, Takes, Refuses, start_entry}
+use Rattle.l4_lock.specs.Locked.{Lock, lock, IsKept, Enters, Gains, EndsAtOnce, IsLeft, Takes, Refuses, start_entry}
+use Rattle.l4_lock.specs.Inside.Entering.{Begins}
 use Rattle.l4_lock.proofs.Right.{pend}
 use Rattle.l4_lock.proofs.Started.{own_at, set_own, set_other, plain_at, same_book, get_there, read_all, right_settled, settled_right, set_same, at_number}
 

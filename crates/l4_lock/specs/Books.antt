@@ -1,15 +1,13 @@
 -- What the lock keeps of each seat that it gave, and what a seat keeps itself. (this profile's own)
-use Rattle.std.specs.Prelude.{◌≡◌, ◌≢◌, ℕ, ◌+◌, ◌<◌, ◌≤◌, nat_eq, Bool, true, false, if◌then◌else◌, List, [], ◌∷◌, ◌++◌, length, map, Option, Some, None, MatchOption, slice_get, Contains}
+use Rattle.std.specs.Prelude.{◌≡◌, ℕ, ◌+◌, ◌<◌, ◌≤◌, nat_eq, Bool, true, false, if◌then◌else◌, List, [], ◌∷◌, ◌++◌, length, map, Option, Some, None, MatchOption, slice_get, Contains}
 use Rattle.std.specs.Option.{option_map, option_map_or, option_and_then}
 use Rattle.std.specs.List.{All, AllPairs, list_any}
 use Rattle.l4_threads.specs.declared.Reply.{Reply}
-use Rattle.l4_threads.specs.declared.Reply.TheVariants.{Gone}
 use Rattle.l4_ipc.specs.declared.calls.Call.{Call}
 use Rattle.l4_ipc.specs.declared.steps.Step.{Step}
 use Rattle.l4_ipc.specs.declared.steps.Step.TheVariants.{Start, Transfer, Expire}
 use Rattle.l4_ipc.specs.Machine.{Machine}
-use Rattle.l4_ipc.specs.Reading.{reply_of}
-use Rattle.l4_ipc.specs.Steps.{Waits, IsIdle}
+use Rattle.l4_ipc.specs.Steps.{Waits}
 use Rattle.l4_lock.specs.declared.entries.Entry.{Entry}
 use Rattle.l4_lock.specs.declared.entries.Receipt.{Receipt}
 use Rattle.l4_lock.specs.declared.entries.Ended.{Ended}
@@ -43,25 +41,8 @@ abbrev pub pending_count : Option Pending → ℕ
 pending_count None = 0
 pending_count (Some o) = 1
 
--- the calls that were begun for a number
-abbrev pub started_by : Book → ℕ
-started_by b = length b.receipts + pending_count b.pending
-
--- the reply of the thread's last call, right after a step that ended it
-abbrev pub reply_in : Machine → ℕ → Reply
-reply_in m n = option_map_or (λ reply. reply) (reply_of m.threads n) Gone
-
 abbrev pub is_among : ℕ → List ℕ → Bool
 is_among n numbers = list_any (λ k. nat_eq k n) numbers
-
--- a pending call after a step at this place, in which these calls ended
-abbrev pub noted_call : Machine → List ℕ → ℕ → ℕ → Pending → Pending
-noted_call m ended place number o =
-    option_map_or (λ e. o) o.ended
-    (if is_among number ended then record o { ended = Some (record { entry = place; reply = reply_in m number }) } else o)
-
-abbrev pub noted : Machine → List ℕ → ℕ → Book → Book
-noted m ended place b = record b { pending = option_map (noted_call m ended place b.number) b.pending }
 
 -- the book without what is known of the end of its pending call
 abbrev pub unended : Pending → Pending

@@ -1,9 +1,7 @@
 -- How the seats that come back agree with the seats that were given. (this profile's own)
-use Rattle.std.specs.Prelude.{◌≡◌, ℕ, ◌+◌, ◌<◌, ◌≤◌, ◌⊎◌, Bool, true, false, if◌then◌else◌, nat_le, List, length, Option, Some, None, MatchOption, slice_get}
-use Rattle.std.specs.Option.{option_map_or}
+use Rattle.std.specs.Prelude.{◌≡◌, ℕ, ◌<◌, ◌⊎◌, List, length, Option, Some, None, slice_get}
 use Rattle.std.specs.List.{All, AllPairs}
 use Rattle.l4_lock.specs.declared.entries.Entry.{Entry}
-use Rattle.l4_lock.specs.declared.entries.Receipt.{Receipt}
 use Rattle.l4_lock.specs.declared.closing.Mismatch.{Mismatch}
 use Rattle.l4_lock.specs.declared.closing.Mismatch.TheVariants.{Missing, Foreign, Receipt as WrongReceipt}
 use Rattle.l4_lock.specs.Receipts.{Proves}
@@ -102,26 +100,3 @@ pub record IsShown (l : Lock) (p : SeatState) : Type 0 where
 pub record Closes (l : Lock) (seats : List SeatState) : Type 0 where
   pub back : AreBack (by_history l.history) l.books seats
   pub shown : (k : ℕ) (p : SeatState) → slice_get seats k ≡ Some p → IsShown l p
-
--- the number that is kept after one more
-abbrev pub keep : Option ℕ → ℕ → Bool → Option ℕ
-keep found n bad = if bad then Some (option_map_or (λ m. if nat_le m n then m else n) found n) else found
-
--- What is known once the first books, or seats, were looked at: each of them is fine, or the least number of those that aren't is kept.
-abbrev pub SoFarMissing : List Book → List SeatState → ℕ → Option ℕ → Type 0
-SoFarMissing books seats i None = (k : ℕ) (b : Book) → k < i → slice_get books k ≡ Some b → IsBack seats b.number
-SoFarMissing books seats i (Some n) =
-    IsMissing books seats n × ((k : ℕ) (b : Book) → k < i → slice_get books k ≡ Some b → b.number < n → IsBack seats b.number)
-
-abbrev pub IsFine : List Book → List SeatState → ℕ → SeatState → Type 0
-IsFine books seats k p = IsGiven books p.number × ¬ (HasSeat seats k p.number)
-
-abbrev pub SoFarForeign : List Book → List SeatState → ℕ → Option ℕ → Type 0
-SoFarForeign books seats i None = (k : ℕ) (p : SeatState) → k < i → slice_get seats k ≡ Some p → IsFine books seats k p
-SoFarForeign books seats i (Some n) =
-    IsForeign books seats n × ((k : ℕ) (p : SeatState) → k < i → slice_get seats k ≡ Some p → p.number < n → IsFine books seats k p)
-
-abbrev pub SoFarWrong : (Book → ℕ) → List Book → List SeatState → ℕ → Option ℕ → Type 0
-SoFarWrong counts books seats i None = (k : ℕ) (p : SeatState) → k < i → slice_get seats k ≡ Some p → AllAgree counts books p
-SoFarWrong counts books seats i (Some n) =
-    IsWrong counts books seats n × ((k : ℕ) (p : SeatState) → k < i → slice_get seats k ≡ Some p → p.number < n → AllAgree counts books p)

@@ -7,3 +7,4 @@ pub mod Locked
 pub mod Shared
 pub mod Closing
 pub mod Lists
+pub mod Inside

@@ -1,31 +1,27 @@
 -- The locked kernel as one value, and what its calls do. (this profile's own)
-use Rattle.std.specs.Prelude.{◌≡◌, ◌≢◌, ℕ, ◌+◌, ◌<◌, ◌≤◌, ◌⊎◌, nat_eq, Bool, true, false, if◌then◌else◌, List, [], ◌∷◌, ◌++◌, length, map, Option, Some, None, MatchOption, IfSome, IsTrue, slice_get, slice_set, Result, Ok, Err, Contains, refl}
-use Rattle.std.specs.Option.{option_map, option_map_or, option_and_then}
+use Rattle.std.specs.Prelude.{◌≡◌, ◌≢◌, ℕ, ◌+◌, ◌<◌, ◌≤◌, ◌⊎◌, List, [], ◌∷◌, ◌++◌, length, Some, None, IsTrue, slice_get, Ok, Err, Contains, refl}
+use Rattle.std.specs.Option.{option_map}
 use Rattle.std.specs.Coded.{Coded, code_by, coded×, coded_ℕ, coded_list}
 use Rattle.atomic_table.specs.Seated.{TableId, table_id_coded}
 use Rattle.l4_threads.specs.declared.Reply.{Reply}
 use Rattle.l4_threads.specs.declared.Thread.{Thread}
 use Rattle.l4_ipc.specs.declared.calls.Call.{Call}
 use Rattle.l4_ipc.specs.declared.steps.Answer.{Answer}
-use Rattle.l4_ipc.specs.declared.steps.Refused.{Refused}
 use Rattle.l4_ipc.specs.declared.steps.Refused.TheVariants.{UnknownThread, BadFrames, Lower}
 use Rattle.l4_ipc.specs.declared.steps.Lower.TheVariants.{NoMemory as LowerNoMemory}
-use Rattle.l4_ipc.specs.declared.steps.Step.{Step}
 use Rattle.l4_ipc.specs.declared.steps.Step.TheVariants.{Start}
 use Rattle.l4_ipc.specs.Machine.{Machine, machine_code}
 use Rattle.l4_ipc.specs.Steps.{Steps, IsIdle}
 use Rattle.l4_lock.specs.declared.entries.Entry.{Entry}
 use Rattle.l4_lock.specs.declared.entries.Receipt.{Receipt}
-use Rattle.l4_lock.specs.declared.entries.Pending.{Pending}
-use Rattle.l4_lock.specs.declared.entries.Ended.{Ended}
 use Rattle.l4_lock.specs.declared.refusals.Entered.{Entered}
 use Rattle.l4_lock.specs.declared.refusals.Entered.TheVariants.{Done, Waiting}
 use Rattle.l4_lock.specs.declared.refusals.LockRefusal.{LockRefusal}
 use Rattle.l4_lock.specs.declared.refusals.LockRefusal.TheVariants.{ReplyWaiting, HistoryFull, NoMemory, SeatTaken, Kernel as ByKernel}
-use Rattle.l4_lock.specs.Sizes.{max_entries, max_steps, last_start, max_threads}
-use Rattle.l4_lock.specs.History.{GoesOn, last_seat}
+use Rattle.l4_lock.specs.Sizes.{max_entries, max_steps, last_start}
+use Rattle.l4_lock.specs.History.{GoesOn}
 use Rattle.l4_lock.specs.Receipts.{Proves}
-use Rattle.l4_lock.specs.Books.{SeatState, Book, book, receipt_of, plain, book_at, receipts_at, pending_at, reply_waits, HasNotEnded, Settles, AreRight}
+use Rattle.l4_lock.specs.Books.{SeatState, Book, book, receipt_of, plain, book_at, receipts_at, pending_at, reply_waits, Settles, AreRight}
 
 -- what a contract sees of the locked kernel
 pub record Lock : Type 0 where
@@ -54,15 +50,6 @@ pub record IsKept (l : Lock) : Type 0 where
   pub idle : IsIdle l.kernel
   pub few : length l.history ≤ max_entries
   pub shown : l.published ≡ length l.history
-
--- steps of one seat that come next, until there is none, and what the books are then
-pub record Went (seat : ℕ) (old new : Machine) (before after : List Entry) (books later : List Book) : Type 0 where
-  pub rest : List Entry
-  pub goes : GoesOn old seat rest new
-  pub longer : after ≡ before ++ rest
-  pub few : length rest ≤ max_threads
-  pub same : map plain later ≡ map plain books
-  pub right : (frames : ℕ) → last_seat None before ≡ Some seat → AreRight frames before old books → AreRight frames after new later
 
 -- the entry of a call's start
 abbrev pub start_entry : ℕ → Call → Answer → Entry
@@ -123,35 +110,6 @@ Refuses l n call (ByKernel e) =
 abbrev pub Tells : Lock → Lock → SeatState → SeatState → Call → Entered → Type 0
 Tells old new before after call (Done reply) = EndsAtOnce old new before after call reply
 Tells old new before after call Waiting = IsLeft old new before after
-
--- the book at this place is the number's, and its call that isn't taken yet has not ended
-abbrev pub IsReady : List Book → ℕ → ℕ → List Entry → Machine → Type 0
-IsReady books place n history m =
-    (b : Book) × (slice_get books place ≡ Some b) × (b.number ≡ n) × ((p : Pending) → b.pending ≡ Some p → HasNotEnded history m n p.start)
-
--- A call was begun: its start and the steps that come next stand at the end of the history, and its book knows of it.
-pub record Begins (n : ℕ) (call : Call) (old new : Machine) (before after : List Entry) (books later : List Book) (place : ℕ) : Type 0 where
-  pub answer : Answer
-  pub started : Machine
-  pub starts : Steps old (Start n call) (Ok answer) started
-  pub rest : List Entry
-  pub goes : GoesOn started n rest new
-  pub few : length rest ≤ max_threads
-  pub history : after ≡ before ++ start_entry n call answer ∷ rest
-  pub idle : IsIdle new
-  pub right : (frames : ℕ) → AreRight frames before old books → AreRight frames after new later
-  pub former : Book
-  pub former_at : slice_get books place ≡ Some former
-  pub former_number : former.number ≡ n
-  pub same : map plain later ≡ map plain (slice_set books place (record former { pending = Some (record { call = call; start = length before; ended = None }) }))
-  pub book : Book
-  pub receipts : book.receipts ≡ former.receipts
-  pub at : slice_get later place ≡ Some book
-  pub number : book.number ≡ n
-  pub pending : Pending
-  pub pending_is : book.pending ≡ Some pending
-  pub pending_call : pending.call ≡ call
-  pub pending_start : pending.start ≡ length before
 
 -- A call that was left waiting has ended since, and is taken: the seat gains its receipt, in which the seat's own account of the call stands.
 -- It is taken once, and what is kept of other numbers stays.

@@ -1,7 +1,8 @@
 //! The board: one word that shows the length of the history to whoever watches it.
 ghost use Rattle.std.specs.Prelude.{◌≡◌, ◌+◌, ◌≤◌, ℕ, false, true, [], IfOk, vec_len};
 ghost use Rattle.std.specs.List.{All};
-ghost use Rattle.l4_lock.specs.Board.{IsNewWatch, watching, publishing};
+ghost use Rattle.l4_lock.specs.Board.{IsNewWatch, watching};
+ghost use Rattle.l4_lock.specs.Inside.Board.{publishing};
 
 use atomic_table::{Play, Seat, Table, TableRule};
 use std::alloc::{AllocError, Global};
@@ -20,7 +21,7 @@ pub struct View {
 pub struct BoardRule;
 
 impl TableRule<(), View, ()> for BoardRule {
-    ghost use Rattle.l4_lock.specs.Board.{IsBoard, view};
+    ghost use Rattle.l4_lock.specs.Inside.Board.{IsBoard, view};
     ghost use Rattle.std.specs.Prelude.{true};
 
     ghost holds = { λ _ s. IsBoard s };
@@ -32,7 +33,7 @@ impl TableRule<(), View, ()> for BoardRule {
 struct Begin;
 
 impl Play<(), View> for Begin {
-    ghost use Rattle.l4_lock.specs.Board.{Begins};
+    ghost use Rattle.l4_lock.specs.Inside.Board.{Begins};
 
     ghost then = { Begins };
 }
@@ -41,7 +42,7 @@ impl Play<(), View> for Begin {
 struct Publish;
 
 impl Play<(), View> for Publish {
-    ghost use Rattle.l4_lock.specs.Board.{Publishes};
+    ghost use Rattle.l4_lock.specs.Inside.Board.{Publishes};
 
     ghost then = { Publishes };
 }
@@ -50,7 +51,7 @@ impl Play<(), View> for Publish {
 struct Look;
 
 impl Play<(), View> for Look {
-    ghost use Rattle.l4_lock.specs.Board.{Looks};
+    ghost use Rattle.l4_lock.specs.Inside.Board.{Looks};
 
     ghost then = { Looks };
 }
@@ -103,7 +104,7 @@ pub(crate) struct Publisher {
 
 impl Model for Publisher {
     ghost use Rattle.std.specs.Prelude.{◌≡◌, true, []};
-    ghost use Rattle.l4_lock.specs.Board.{Publishing, publishing, publishing_code};
+    ghost use Rattle.l4_lock.specs.Inside.Board.{Publishing, publishing, publishing_code};
 
     ghost Value = { Publishing };
 

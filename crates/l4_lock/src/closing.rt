@@ -1,7 +1,9 @@
 //! Whether the seats that come back are those that were given.
 ghost use Rattle.std.specs.Prelude.{◌≡◌, ◌≢◌, ◌⊎◌, ◌≤◌, ◌+◌, ◌<◌, ℕ, List, true, false, length, MatchOption, slice_get, Some, None};
-ghost use Rattle.l4_lock.specs.Books.{SeatState, Book, started_by};
-ghost use Rattle.l4_lock.specs.Closing.{HasBook, HasSeat, IsGiven, IsBack, Agrees, AllAgree, keep, SoFarMissing, SoFarForeign, SoFarWrong, AreBack, Mismatches};
+ghost use Rattle.l4_lock.specs.Books.{SeatState, Book};
+ghost use Rattle.l4_lock.specs.Inside.Noting.{started_by};
+ghost use Rattle.l4_lock.specs.Closing.{HasBook, HasSeat, IsGiven, IsBack, Agrees, AllAgree, AreBack, Mismatches};
+ghost use Rattle.l4_lock.specs.Inside.Closing.{keep, SoFarMissing, SoFarForeign, SoFarWrong};
 
 use crate::locked::Locked;
 use crate::seats::{Account, Seat};

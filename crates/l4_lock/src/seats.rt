@@ -1,7 +1,8 @@
 //! Seats, and what the lock keeps of each.
 ghost use Rattle.std.specs.Prelude.{◌≡◌, ◌≢◌, ◌+◌, ◌≤◌, ℕ, Some, None, [], ◌∷◌, ◌++◌, IfSome, IfNone, MatchOption, MatchResult, is_some, false};
 ghost use Rattle.std.specs.Option.{option_map_or};
-ghost use Rattle.l4_lock.specs.Books.{SeatState, seat_state, starts, Book, book, pending_count, started_by, noted, noted_call, reply_in, receipt_of, has_ended, Settles};
+ghost use Rattle.l4_lock.specs.Books.{SeatState, seat_state, starts, Book, book, pending_count, receipt_of, has_ended, Settles};
+ghost use Rattle.l4_lock.specs.Inside.Noting.{started_by, noted, noted_call, reply_in};
 
 use crate::copies::{copy_call, copy_receipt, copy_reply};
 use crate::entries::{Ended, Pending, Receipt};

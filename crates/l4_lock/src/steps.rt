@@ -1,8 +1,9 @@
 //! Steps of the kernel with their entries.
 ghost use Rattle.std.specs.Prelude.{◌≡◌, ◌≢◌, ◌⊎◌, ◌+◌, ◌<◌, ◌≤◌, ◌++◌, ◌∷◌, [], ℕ, Ok, Err, None, IfOk, IfErr, OnErr, map, length, MatchOption, slice_get};
 ghost use Rattle.l4_ipc.specs.Steps.{Steps, IsNext, IsIdle};
-ghost use Rattle.l4_lock.specs.Books.{noted, book_at, reply_waits};
-ghost use Rattle.l4_lock.specs.Locked.{Went, Begins, IsReady};
+ghost use Rattle.l4_lock.specs.Inside.Noting.{noted};
+ghost use Rattle.l4_lock.specs.Books.{book_at, reply_waits};
+ghost use Rattle.l4_lock.specs.Inside.Entering.{Went, Begins, IsReady};
 ghost use Rattle.l4_lock.specs.Sizes.{max_steps, max_threads};
 ghost use Rattle.l4_ipc.specs.declared.steps.Refused.{Refused as ARefused};
 ghost use Rattle.l4_ipc.specs.declared.steps.Step.TheVariants.{Start};

@@ -4,8 +4,8 @@ use Rattle.std.proofs.lemmas.Bool.Decides.{nat_tests}
 use Rattle.l4_mapdb.specs.declared.Place.{Place}
 use Rattle.l4_mapdb.specs.declared.Mapping.{Mapping}
 use Rattle.l4_mapdb.specs.Mappings.{Mappings, shown, parent_of, Chain, child, further, IsForest}
-use Rattle.l4_mapdb.specs.Entries.{Entries}
-use Rattle.l4_mapdb.specs.Covering.{same_place}
+use Rattle.l4_mapdb.specs.Inside.Entries.{Entries}
+use Rattle.l4_mapdb.specs.Inside.Covering.{same_place}
 use Rattle.l4_mapdb.proofs.EntriesLemmas.{eq_true, chain_up, no_chain}
 use Rattle.std.proofs.lemmas.List.Sums.{length-filter, count_by-le-length}
 

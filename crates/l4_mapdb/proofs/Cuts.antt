@@ -9,9 +9,9 @@ use Rattle.l4_mapdb.specs.declared.Mapping.{Mapping}
 use Rattle.l4_mapdb.specs.declared.losing.Pages.{Pages}
 use Rattle.l4_mapdb.specs.declared.store.Node.{Node}
 use Rattle.l4_mapdb.specs.Mappings.{place_cmp}
-use Rattle.l4_mapdb.specs.Entries.{IsAcyclic, parent_in, CoveredIn, IsCutEntry}
-use Rattle.l4_mapdb.specs.Sheets.{slot_at, RecordedOnce, now_in, Plans}
-use Rattle.l4_mapdb.specs.Planning.{IsCutMapping, CutsSlot}
+use Rattle.l4_mapdb.specs.Inside.Entries.{IsAcyclic, parent_in, CoveredIn, IsCutEntry}
+use Rattle.l4_mapdb.specs.Inside.Sheets.{slot_at, RecordedOnce, now_in, Plans}
+use Rattle.l4_mapdb.specs.Inside.Records.{IsCutMapping, CutsSlot}
 use Rattle.l4_mapdb.proofs.EntriesLemmas.{decided}
 use Rattle.l4_mapdb.proofs.Chains.{chain_along}
 use Rattle.l4_mapdb.proofs.Slots.{Slots, plans_shown, slot_within}

@@ -6,10 +6,10 @@ use Rattle.l4_mapdb.specs.declared.Place.{Place}
 use Rattle.l4_mapdb.specs.declared.ItemMove.{ItemMove}
 use Rattle.l4_mapdb.specs.Mappings.{place_cmp, Mappings, IsForest}
 use Rattle.l4_mapdb.specs.Transfer.{IsUsed, IsEntangled, Transfers, NeedsPlace, Delivers}
-use Rattle.l4_mapdb.specs.Shown.{IsShownBy}
-use Rattle.l4_mapdb.specs.Sheets.{Sheet, RecordedOnce, IsWhole, now_in}
-use Rattle.l4_mapdb.specs.Planning.{LacksPlace, IsReady, CanTransfer}
-use Rattle.l4_mapdb.specs.Forest.{of_sheet, IsKept}
+use Rattle.l4_mapdb.specs.Inside.Shown.{IsShownBy}
+use Rattle.l4_mapdb.specs.Inside.Sheets.{Sheet, RecordedOnce, IsWhole, now_in}
+use Rattle.l4_mapdb.specs.Inside.Records.{LacksPlace, IsReady, CanTransfer}
+use Rattle.l4_mapdb.specs.Inside.Forest.{of_sheet, IsKept}
 use Rattle.l4_mapdb.proofs.Middle.{ready_of}
 use Rattle.l4_mapdb.proofs.UsedMoves.{delivers_keep}
 use Rattle.l4_mapdb.proofs.Kept.{shown_sheet, same_sheets}

@@ -10,10 +10,10 @@ use Rattle.l4_mapdb.specs.declared.Mapping.{Mapping}
 use Rattle.l4_mapdb.specs.declared.store.Node.{Node}
 use Rattle.l4_mapdb.specs.Mappings.{place_cmp, Mappings, shown, parent_of, Descends, child, further, IsForest}
 use Rattle.l4_mapdb.specs.Losing.{EndsSpace, GoesWithSpace}
-use Rattle.l4_mapdb.specs.Entries.{Entries, IsAcyclic, parent_in}
-use Rattle.l4_mapdb.specs.Sheets.{Sheet, slot_at, StandsUnder, RecordedOnce, IsWhole, now_in, Plans, settled, NoPageFrom}
-use Rattle.l4_mapdb.specs.Planning.{GoesIn, EndsSlot}
-use Rattle.l4_mapdb.specs.Forest.{of_sheet, IsKept}
+use Rattle.l4_mapdb.specs.Inside.Entries.{Entries, IsAcyclic, parent_in}
+use Rattle.l4_mapdb.specs.Inside.Sheets.{Sheet, slot_at, StandsUnder, RecordedOnce, IsWhole, now_in, Plans, settled, NoPageFrom}
+use Rattle.l4_mapdb.specs.Inside.Records.{GoesIn, EndsSlot}
+use Rattle.l4_mapdb.specs.Inside.Forest.{of_sheet, IsKept}
 use Rattle.l4_mapdb.proofs.Places.{same_option, same_mappings}
 use Rattle.l4_mapdb.proofs.EntriesLemmas.{chain_up, no_chain, decided}
 use Rattle.l4_mapdb.proofs.Chains.{chain_along}

@@ -9,7 +9,7 @@ use Rattle.std.proofs.lemmas.Bool.Decides.{nat_tests}
 use Rattle.l4_mapdb.specs.declared.Place.{Place}
 use Rattle.l4_mapdb.specs.declared.Mapping.{Mapping}
 use Rattle.l4_mapdb.specs.Mappings.{place_cmp, Chain, child, further}
-use Rattle.l4_mapdb.specs.Entries.{Entries}
+use Rattle.l4_mapdb.specs.Inside.Entries.{Entries}
 use Rattle.l4_mapdb.proofs.Places.{places_total, exact_places}
 
 pub tie : (p q : Place) → p ≡ q → eq_by_cmp place_cmp p q ≡ true

@@ -8,7 +8,7 @@ use Rattle.l4_mapdb.specs.declared.losing.Pages.{Pages}
 use Rattle.l4_mapdb.specs.Mappings.{Mappings, shown, parent_of, child, further, Descends, IsOrDescends, IsRoot, IsForest, ParentHolds}
 use Rattle.l4_mapdb.proofs.Unique.{same_value, same_rights}
 use Rattle.l4_mapdb.specs.Losing.{IsLeft, LosesRights}
-use Rattle.l4_mapdb.specs.Planning.{RevokedIn}
+use Rattle.l4_mapdb.specs.Inside.Records.{RevokedIn}
 
 -- what follows from a decision follows, where it is a contradiction
 pub decide : (P : Type 0) → (P ⊎ ¬ P → ⊥) → ⊥

@@ -7,8 +7,8 @@ use Rattle.l4_mapdb.specs.declared.Place.{Place}
 use Rattle.l4_mapdb.specs.declared.Mapping.{Mapping}
 use Rattle.l4_mapdb.specs.declared.store.Node.{Node}
 use Rattle.l4_mapdb.specs.Mappings.{place_cmp}
-use Rattle.l4_mapdb.specs.Sheets.{slot_at, HasRecord, RecordedOnce, IsWhole, now_in, Adds}
-use Rattle.l4_mapdb.specs.Planning.{ShowsOwn}
+use Rattle.l4_mapdb.specs.Inside.Sheets.{slot_at, HasRecord, RecordedOnce, IsWhole, now_in, Adds}
+use Rattle.l4_mapdb.specs.Inside.Records.{ShowsOwn}
 use Rattle.l4_mapdb.proofs.Slots.{Slots, ShowsUnder, shown_under, under_shown}
 use Rattle.l4_mapdb.proofs.Unique.{same_value}
 

@@ -14,11 +14,11 @@ use Rattle.l4_mapdb.specs.Mappings.{place_cmp, Mappings, shown, parent_of, IsPre
 use Rattle.l4_mapdb.specs.Losing.{LosesRights}
 use Rattle.l4_mapdb.specs.Boot.{IsFirst}
 use Rattle.l4_mapdb.specs.Places.{NonePresentFrom, IsNextPresent}
-use Rattle.l4_mapdb.specs.Shown.{IsShownBy}
-use Rattle.l4_mapdb.specs.Entries.{parent_in, IsCutEntry, CoveredIn}
-use Rattle.l4_mapdb.specs.Sheets.{Sheet, slot_at, StandsUnder, HasRecord, RecordedOnce, IsWhole, now_in, settled, NoPageFrom, IsPageFrom}
-use Rattle.l4_mapdb.specs.Planning.{RevokedIn, ShowsOwn, IsRootKey, NoRootKey, IsCutMapping, CutsSlot}
-use Rattle.l4_mapdb.specs.Forest.{of_sheet, IsKept}
+use Rattle.l4_mapdb.specs.Inside.Shown.{IsShownBy}
+use Rattle.l4_mapdb.specs.Inside.Entries.{parent_in, IsCutEntry, CoveredIn}
+use Rattle.l4_mapdb.specs.Inside.Sheets.{Sheet, slot_at, StandsUnder, HasRecord, RecordedOnce, IsWhole, now_in, settled, NoPageFrom, IsPageFrom}
+use Rattle.l4_mapdb.specs.Inside.Records.{RevokedIn, ShowsOwn, IsRootKey, NoRootKey, IsCutMapping, CutsSlot}
+use Rattle.l4_mapdb.specs.Inside.Forest.{of_sheet, IsKept}
 use Rattle.l4_mapdb.proofs.Places.{places_total, same_mappings}
 use Rattle.l4_mapdb.proofs.Chains.{chain_along}
 use Rattle.l4_mapdb.proofs.Unique.{same_value, same_rights}

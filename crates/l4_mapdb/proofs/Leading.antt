@@ -3,7 +3,7 @@ use Rattle.std.proofs.Common.{◌≡◌, Option, Some, None, subst, ◌↔◌, i
 use Rattle.l4_mapdb.specs.declared.Place.{Place}
 use Rattle.l4_mapdb.specs.declared.losing.Pages.{Pages}
 use Rattle.l4_mapdb.specs.Mappings.{further}
-use Rattle.l4_mapdb.specs.Entries.{Entries, parent_in, IsAmong, LeadsInto}
+use Rattle.l4_mapdb.specs.Inside.Entries.{Entries, parent_in, IsAmong, LeadsInto}
 use Rattle.l4_mapdb.proofs.EntriesLemmas.{chain_up, no_chain}
 
 -- the parent is none of the pages, so the question is passed on to it

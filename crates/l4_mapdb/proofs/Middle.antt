@@ -9,10 +9,10 @@ use Rattle.l4_mapdb.specs.declared.Place.{Place}
 use Rattle.l4_mapdb.specs.declared.Mapping.{Mapping}
 use Rattle.l4_mapdb.specs.declared.ItemMove.{ItemMove}
 use Rattle.l4_mapdb.specs.Mappings.{Mappings, parent_of, Chain, IsForest}
-use Rattle.l4_mapdb.specs.Entries.{Entries}
+use Rattle.l4_mapdb.specs.Inside.Entries.{Entries}
 use Rattle.l4_mapdb.specs.Transfer.{IsUsed, IsEntangled}
-use Rattle.l4_mapdb.specs.Shown.{IsShownBy, IsClimbedBy}
-use Rattle.l4_mapdb.specs.Planning.{IsReady}
+use Rattle.l4_mapdb.specs.Inside.Shown.{IsShownBy, IsClimbedBy}
+use Rattle.l4_mapdb.specs.Inside.Records.{IsReady}
 use Rattle.l4_mapdb.proofs.Places.{places_total}
 use Rattle.l4_mapdb.proofs.EntriesLemmas.{no_chain}
 use Rattle.l4_mapdb.proofs.ForestKept.{IsLoose}

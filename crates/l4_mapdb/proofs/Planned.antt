@@ -12,14 +12,14 @@ use Rattle.l4_mapdb.specs.declared.Mapping.{Mapping}
 use Rattle.l4_mapdb.specs.declared.ItemMove.{ItemMove}
 use Rattle.l4_mapdb.specs.declared.store.Node.{Node}
 use Rattle.l4_mapdb.specs.Mappings.{place_cmp, Mappings, parent_of, IsForest}
-use Rattle.l4_mapdb.specs.Entries.{IsAcyclic, parent_in}
+use Rattle.l4_mapdb.specs.Inside.Entries.{IsAcyclic, parent_in}
 use Rattle.l4_mapdb.specs.Losing.{IsLeft, LosesRights}
 use Rattle.l4_mapdb.specs.Transfer.{PageMove, IsUsed, IsEntangled, Becomes, Moved, IsCut, Transfers}
-use Rattle.l4_mapdb.specs.Shown.{IsShownBy, IsClimbedBy}
-use Rattle.l4_mapdb.specs.Sheets.{Sheet, slot_at, StandsUnder, HasRecord, RecordedOnce, now_in, later_in, Adds, Plans, settled, shown_only}
-use Rattle.l4_mapdb.specs.Planning.{Grows, TargetOf, HasTargets, LacksPlace, LaterAt, LosesMapping, LosesLater, IsReady, CanTransfer}
+use Rattle.l4_mapdb.specs.Inside.Shown.{IsShownBy, IsClimbedBy}
+use Rattle.l4_mapdb.specs.Inside.Sheets.{Sheet, slot_at, StandsUnder, HasRecord, RecordedOnce, now_in, later_in, Adds, Plans, settled, shown_only}
+use Rattle.l4_mapdb.specs.Inside.Records.{Grows, TargetOf, HasTargets, LacksPlace, LaterAt, LosesMapping, LosesLater, IsReady, CanTransfer}
 use Rattle.l4_mapdb.proofs.EntriesLemmas.{decided, eq_true}
-use Rattle.l4_mapdb.specs.Covering.{same_place}
+use Rattle.l4_mapdb.specs.Inside.Covering.{same_place}
 use Rattle.l4_mapdb.proofs.Climbing.{same_true}
 use Rattle.l4_mapdb.proofs.Chains.{chain_along}
 use Rattle.l4_mapdb.proofs.Places.{same_option}

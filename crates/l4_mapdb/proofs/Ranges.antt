@@ -7,10 +7,10 @@ use Rattle.l4_mapdb.specs.declared.Mapping.{Mapping}
 use Rattle.l4_mapdb.specs.declared.losing.Pages.{Pages}
 use Rattle.l4_mapdb.specs.Mappings.{Mappings, shown, Descends, child, further, IsForest}
 use Rattle.l4_mapdb.specs.Losing.{IsLeft, LosesRights, RevokedAt, Revokes, RevokedInBlock, RevokesBlock}
-use Rattle.l4_mapdb.specs.Entries.{IsAmong}
-use Rattle.l4_mapdb.specs.Sheets.{Sheet, NoPageIn}
-use Rattle.l4_mapdb.specs.Forest.{of_sheet, IsKept}
-use Rattle.l4_mapdb.specs.Planning.{RevokedIn}
+use Rattle.l4_mapdb.specs.Inside.Entries.{IsAmong}
+use Rattle.l4_mapdb.specs.Inside.Sheets.{Sheet, NoPageIn}
+use Rattle.l4_mapdb.specs.Inside.Forest.{of_sheet, IsKept}
+use Rattle.l4_mapdb.specs.Inside.Records.{RevokedIn}
 use Rattle.l4_mapdb.proofs.Climbing.{shows_parent}
 use Rattle.l4_mapdb.proofs.Kept.{shown_stands}
 use Rattle.l4_mapdb.proofs.Nothing.{loses_none}

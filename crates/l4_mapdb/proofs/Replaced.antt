@@ -9,9 +9,9 @@ use Rattle.l4_mapdb.specs.declared.ItemMove.{ItemMove}
 use Rattle.l4_mapdb.specs.declared.store.Node.{Node}
 use Rattle.l4_mapdb.specs.Mappings.{Mappings, IsPresent}
 use Rattle.l4_mapdb.specs.Transfer.{PageMove, IsUsed, IsCut}
-use Rattle.l4_mapdb.specs.Shown.{IsShownBy}
-use Rattle.l4_mapdb.specs.Sheets.{now_in, NoPageIn, IsPageIn}
-use Rattle.l4_mapdb.specs.Planning.{ReplacesNoneBy, ReplacesNone, GrantsNone, LosesMapping, LosesLater}
+use Rattle.l4_mapdb.specs.Inside.Shown.{IsShownBy}
+use Rattle.l4_mapdb.specs.Inside.Sheets.{now_in, NoPageIn, IsPageIn}
+use Rattle.l4_mapdb.specs.Inside.Records.{ReplacesNoneBy, ReplacesNone, GrantsNone, LosesMapping, LosesLater}
 use Rattle.l4_mapdb.proofs.Slots.{Slots, shown_under}
 use Rattle.l4_mapdb.proofs.Unique.{same_value}
 

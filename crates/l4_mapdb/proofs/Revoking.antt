@@ -6,7 +6,7 @@ use Rattle.std.specs.FinSet as set
 use Rattle.l4_fpage.specs.Rights.{RightsSet, Right, has, Read, Write, Execute, without, no_rights, is_none}
 use Rattle.l4_mapdb.specs.declared.Place.{Place}
 use Rattle.l4_mapdb.specs.Mappings.{place_cmp, Mappings, shown}
-use Rattle.l4_mapdb.specs.Entries.{Entries}
+use Rattle.l4_mapdb.specs.Inside.Entries.{Entries}
 use Rattle.l4_mapdb.proofs.Places.{places_total}
 
 and_not : (a b : Bool) → IsTrue (a && not b) ↔ (IsTrue a × ¬ (IsTrue b))

@@ -8,9 +8,9 @@ use Rattle.l4_mapdb.specs.declared.Place.{Place}
 use Rattle.l4_mapdb.specs.declared.Mapping.{Mapping}
 use Rattle.l4_mapdb.specs.declared.ItemMove.{ItemMove}
 use Rattle.l4_mapdb.specs.Mappings.{place_cmp, Mappings, shown, parent_of, Chain, child, further, IsForest}
-use Rattle.l4_mapdb.specs.Entries.{Entries, IsAcyclic, parent_in}
-use Rattle.l4_mapdb.specs.Covering.{same_place}
-use Rattle.l4_mapdb.specs.Shown.{IsShownBy, IsClimbedBy, LosesAt}
+use Rattle.l4_mapdb.specs.Inside.Entries.{Entries, IsAcyclic, parent_in}
+use Rattle.l4_mapdb.specs.Inside.Covering.{same_place}
+use Rattle.l4_mapdb.specs.Inside.Shown.{IsShownBy, IsClimbedBy, LosesAt}
 use Rattle.l4_mapdb.specs.Transfer.{PageMove, IsUsed, IsGone, IsCut, SharesTarget}
 use Rattle.l4_mapdb.proofs.EntriesLemmas.{found_at, chain_up, no_chain, decided}
 use Rattle.l4_mapdb.proofs.Chains.{chain_along}

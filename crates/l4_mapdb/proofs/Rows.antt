@@ -6,7 +6,7 @@ use Rattle.l4_mapdb.specs.declared.Place.{Place}
 use Rattle.l4_mapdb.specs.declared.Mapping.{Mapping}
 use Rattle.l4_mapdb.specs.declared.ItemMove.{ItemMove}
 use Rattle.l4_mapdb.specs.Mappings.{Mappings, shown, child}
-use Rattle.l4_mapdb.specs.Entries.{Entries}
+use Rattle.l4_mapdb.specs.Inside.Entries.{Entries}
 use Rattle.l4_mapdb.specs.Transfer.{PageMove, IsUsed, IsEntangled, Becomes}
 use Rattle.l4_mapdb.proofs.Revoking.{of_lists, shown_in}
 

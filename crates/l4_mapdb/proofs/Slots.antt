@@ -10,9 +10,9 @@ use Rattle.l4_mapdb.specs.declared.Place.{Place}
 use Rattle.l4_mapdb.specs.declared.Mapping.{Mapping}
 use Rattle.l4_mapdb.specs.declared.store.Node.{Node}
 use Rattle.l4_mapdb.specs.Mappings.{place_cmp}
-use Rattle.l4_mapdb.specs.Entries.{Entries}
-use Rattle.l4_mapdb.specs.Sheets.{slot_at, StandsUnder, RecordedOnce, IsWhole, now_in, later_in, Plans, settled, shown_only}
-use Rattle.l4_mapdb.specs.Planning.{Grows}
+use Rattle.l4_mapdb.specs.Inside.Entries.{Entries}
+use Rattle.l4_mapdb.specs.Inside.Sheets.{slot_at, StandsUnder, RecordedOnce, IsWhole, now_in, later_in, Plans, settled, shown_only}
+use Rattle.l4_mapdb.specs.Inside.Records.{Grows}
 use Rattle.l4_mapdb.proofs.Places.{same_option}
 use Rattle.l4_mapdb.proofs.EntriesLemmas.{tie, untie, decided}
 use Rattle.l4_mapdb.proofs.Revoking.{none_is}

@@ -8,8 +8,8 @@ use Rattle.l4_mapdb.specs.declared.Mapping.{Mapping}
 use Rattle.l4_mapdb.specs.declared.ItemMove.{ItemMove}
 use Rattle.l4_mapdb.specs.declared.moving.UsedMove.{UsedMove}
 use Rattle.l4_mapdb.specs.Mappings.{place_cmp, Mappings, shown}
-use Rattle.l4_mapdb.specs.Entries.{Entries, moves_it, child_entry, child_of}
-use Rattle.l4_mapdb.specs.Shown.{IsShownBy, page_move}
+use Rattle.l4_mapdb.specs.Inside.Entries.{Entries, moves_it, child_entry, child_of}
+use Rattle.l4_mapdb.specs.Inside.Shown.{IsShownBy, page_move}
 use Rattle.l4_mapdb.specs.Transfer.{PageMove, IsUsed, IsGranted, IsGone, Stays, StandsAt, ParentLater, Becomes}
 use Rattle.l4_mapdb.proofs.Revoking.{none_is}
 use Rattle.l4_mapdb.proofs.Adding.{tested, tests, child_none, child_some}

@@ -13,7 +13,7 @@ use Rattle.l4_mapdb.specs.declared.Place.{Place}
 use Rattle.l4_mapdb.specs.declared.Mapping.{Mapping}
 use Rattle.l4_mapdb.specs.declared.store.Node.{Node}
 use Rattle.l4_mapdb.specs.Mappings.{place_cmp}
-use Rattle.l4_mapdb.specs.Sheets.{slot_at, StandsUnder, RecordedOnce, now_in, later_in, settled, shown_only, NoPageFrom, IsPageFrom, NoPageIn, IsPageIn}
+use Rattle.l4_mapdb.specs.Inside.Sheets.{slot_at, StandsUnder, RecordedOnce, now_in, later_in, settled, shown_only, NoPageFrom, IsPageFrom, NoPageIn, IsPageIn}
 use Rattle.l4_mapdb.proofs.Slots.{Slots, slot_within, node_shown, node_later}
 
 abbrev pub Pages : Type 0

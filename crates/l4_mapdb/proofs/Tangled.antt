@@ -6,11 +6,11 @@ use Rattle.l4_mapdb.specs.declared.ItemMove.{ItemMove}
 use Rattle.l4_mapdb.specs.declared.moving.UsedMove.{UsedMove}
 use Rattle.l4_mapdb.specs.declared.store.Node.{Node}
 use Rattle.l4_mapdb.specs.Mappings.{Mappings}
-use Rattle.l4_mapdb.specs.Entries.{Entries}
-use Rattle.l4_mapdb.specs.Sheets.{now_in}
-use Rattle.l4_mapdb.specs.Shown.{IsShownBy, page_move}
+use Rattle.l4_mapdb.specs.Inside.Entries.{Entries}
+use Rattle.l4_mapdb.specs.Inside.Sheets.{now_in}
+use Rattle.l4_mapdb.specs.Inside.Shown.{IsShownBy, page_move}
 use Rattle.l4_mapdb.specs.Transfer.{PageMove, IsUsed, IsEntangled}
-use Rattle.l4_mapdb.specs.Tangles.{FillsToo, MovesToo, Tangles, ItemTangles, PlaceTangles, KeyTangles}
+use Rattle.l4_mapdb.specs.Inside.Tangles.{FillsToo, MovesToo, Tangles, ItemTangles, PlaceTangles, KeyTangles}
 use Rattle.l4_mapdb.proofs.Slots.{slot_within, shown_under}
 use Rattle.l4_mapdb.proofs.UsedMoves.{same_source}
 

@@ -2,13 +2,6 @@ pub mod Mappings
 pub mod Losing
 pub mod Transfer
 pub mod Places
-pub mod Entries
-pub mod Tangles
-pub mod Covering
 pub mod Boot
-pub mod Forest
-pub mod Shown
-pub mod Planning
-pub mod Sheets
-pub mod Stores
 pub mod Causes
+pub mod Inside

@@ -5,10 +5,10 @@ ghost use Rattle.std.specs.FinMap.{find};
 ghost use Rattle.std.specs.FinSet as set;
 ghost use Rattle.l4_mapdb.specs.Mappings.{Mappings, place_cmp};
 ghost use Rattle.l4_mapdb.specs.Transfer.{PageMove, IsUsed, IsCut, IsEntangled, Transfers};
-ghost use Rattle.l4_mapdb.specs.Entries.{IsAcyclic};
-ghost use Rattle.l4_mapdb.specs.Shown.{IsShownBy, IsClimbedBy};
-ghost use Rattle.l4_mapdb.specs.Sheets.{slot_at, now_in, later_in, RecordedOnce, IsWhole};
-ghost use Rattle.l4_mapdb.specs.Planning.{Grows, TargetOf, HasTargets, LacksPlace, LaterAt, LosesMapping, LosesLater, CanTransfer, IsReady};
+ghost use Rattle.l4_mapdb.specs.Inside.Entries.{IsAcyclic};
+ghost use Rattle.l4_mapdb.specs.Inside.Shown.{IsShownBy, IsClimbedBy};
+ghost use Rattle.l4_mapdb.specs.Inside.Sheets.{slot_at, now_in, later_in, RecordedOnce, IsWhole};
+ghost use Rattle.l4_mapdb.specs.Inside.Records.{Grows, TargetOf, HasTargets, LacksPlace, LaterAt, LosesMapping, LosesLater, CanTransfer, IsReady};
 
 use crate::moving::{later, lost, move_out};
 use crate::replacing::{grants_any, replaces_any};

@@ -1,9 +1,9 @@
 //! The end of a space.
 
 ghost use Rattle.std.specs.Prelude.{◌≡◌, ◌↔◌, ℕ, IsTrue};
-ghost use Rattle.l4_mapdb.specs.Entries.{IsAcyclic};
-ghost use Rattle.l4_mapdb.specs.Sheets.{slot_at, now_in, RecordedOnce};
-ghost use Rattle.l4_mapdb.specs.Planning.{GoesIn, EndsSlot};
+ghost use Rattle.l4_mapdb.specs.Inside.Entries.{IsAcyclic};
+ghost use Rattle.l4_mapdb.specs.Inside.Sheets.{slot_at, now_in, RecordedOnce};
+ghost use Rattle.l4_mapdb.specs.Inside.Records.{GoesIn, EndsSlot};
 
 use crate::store::{Node, Store};
 use crate::{Mapping, Place};

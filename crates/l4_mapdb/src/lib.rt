@@ -7,7 +7,6 @@ ghost use Rattle.std.specs.FinSet as set;
 
 mod building;
 mod ending;
-mod lists;
 mod losing;
 mod moving;
 mod replacing;
@@ -15,6 +14,7 @@ mod store;
 mod tangles;
 #[cfg(test)]
 mod tests;
+mod trees;
 
 use l4_fpage::{Block, Rights};
 use l4_msg::Move;
@@ -102,7 +102,7 @@ impl Model for Forest {
 
     ghost coded = { mappings_code };
 
-    ghost use Rattle.l4_mapdb.specs.Forest.{seen, IsKept};
+    ghost use Rattle.l4_mapdb.specs.Inside.Forest.{seen, IsKept};
 
     ghost view = { seen };
 
@@ -116,7 +116,7 @@ impl Forest {
     ghost use Rattle.l4_mapdb.specs.Transfer.{IsUsed, IsEntangled, TargetsPresent, Delivers};
     ghost use Rattle.l4_mapdb.specs.Causes.{HasCause};
     ghost use Rattle.l4_mapdb.specs.Losing.{LosesRights, Revokes, RevokesBlock, EndsSpace};
-    ghost use Rattle.l4_mapdb.specs.Planning.{RevokedIn};
+    ghost use Rattle.l4_mapdb.specs.Inside.Records.{RevokedIn};
 
     /// The mappings at the start: space 0 shows each frame below `frames` at the page of its number
     /// with all rights, and there is no other space. `frames` is from 1 to 4,096.
@@ -127,7 +127,7 @@ impl Forest {
     {
         let mut store = Store::new(alloc);
         store.add_space(0)?;
-        lists::own_places(&mut store, frames)?;
+        trees::own_places(&mut store, frames)?;
         Ok(Forest { store })
     }
 
@@ -260,6 +260,6 @@ impl Forest {
     pub fn root(&self, frame: u32) -> Option<Place>
         ensures { MatchOption result ((place : Place) → ¬ (IsRoot self.now frame place)) (IsRoot self.now frame) }
     {
-        lists::root_in(&self.store, frame)
+        trees::root_in(&self.store, frame)
     }
 }

@@ -2,9 +2,9 @@
 
 ghost use Rattle.std.specs.Prelude.{◌≡◌, ◌↔◌, ℕ, IsTrue};
 ghost use Rattle.l4_fpage.specs.Rights.{without};
-ghost use Rattle.l4_mapdb.specs.Entries.{IsAcyclic, IsAmong, LeadsInto, CoveredIn};
-ghost use Rattle.l4_mapdb.specs.Sheets.{slot_at, now_in, RecordedOnce};
-ghost use Rattle.l4_mapdb.specs.Planning.{CutsSlot, IsCutMapping};
+ghost use Rattle.l4_mapdb.specs.Inside.Entries.{IsAcyclic, IsAmong, LeadsInto, CoveredIn};
+ghost use Rattle.l4_mapdb.specs.Inside.Sheets.{slot_at, now_in, RecordedOnce};
+ghost use Rattle.l4_mapdb.specs.Inside.Records.{CutsSlot, IsCutMapping};
 
 use crate::store::{Node, Store};
 use crate::{Mapping, Place};

@@ -4,13 +4,13 @@ ghost use Rattle.std.specs.Prelude.{◌≡◌, ◌≢◌, ◌↔◌, ◌<◌, le
 ghost use Rattle.l4_fpage.specs.Rights.{Right, has};
 ghost use Rattle.l4_mapdb.specs.Mappings.{Mappings, IsForest};
 ghost use Rattle.l4_mapdb.specs.Transfer.{PageMove, IsUsed, IsGranted, IsGone, IsCut, IsEntangled, SharesTarget, ParentLater, Becomes};
-ghost use Rattle.l4_mapdb.specs.Entries.{IsAcyclic};
-ghost use Rattle.l4_mapdb.specs.Sheets.{now_in, later_in};
-ghost use Rattle.l4_mapdb.specs.Shown.{IsShownBy, IsClimbedBy, LosesAt, page_move};
-ghost use Rattle.l4_mapdb.specs.Planning.{ReplacesNone};
+ghost use Rattle.l4_mapdb.specs.Inside.Entries.{IsAcyclic};
+ghost use Rattle.l4_mapdb.specs.Inside.Sheets.{now_in, later_in};
+ghost use Rattle.l4_mapdb.specs.Inside.Shown.{IsShownBy, IsClimbedBy, LosesAt, page_move};
+ghost use Rattle.l4_mapdb.specs.Inside.Records.{ReplacesNone};
 
-use crate::lists::child;
 use crate::store::Store;
+use crate::trees::child;
 use crate::{ItemMove, Mapping, Place};
 use l4_fpage::Rights;
 

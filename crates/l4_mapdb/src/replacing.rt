@@ -3,9 +3,9 @@
 ghost use Rattle.std.specs.Prelude.{◌≡◌, ◌<◌, ◌≤◌, ◌+◌, ◌^◌, ℕ, length, IsTrue};
 ghost use Rattle.l4_mapdb.specs.Mappings.{Mappings, IsPresent};
 ghost use Rattle.l4_mapdb.specs.Transfer.{PageMove, IsUsed};
-ghost use Rattle.l4_mapdb.specs.Sheets.{now_in};
-ghost use Rattle.l4_mapdb.specs.Shown.{IsShownBy};
-ghost use Rattle.l4_mapdb.specs.Planning.{ReplacesNone, ReplacesNoneBy, GrantsNone};
+ghost use Rattle.l4_mapdb.specs.Inside.Sheets.{now_in};
+ghost use Rattle.l4_mapdb.specs.Inside.Shown.{IsShownBy};
+ghost use Rattle.l4_mapdb.specs.Inside.Records.{ReplacesNone, ReplacesNoneBy, GrantsNone};
 
 use crate::moving::move_out;
 use crate::store::Store;

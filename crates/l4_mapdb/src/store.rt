@@ -5,8 +5,8 @@ ghost use Rattle.std.specs.FinMap.{find};
 ghost use Rattle.std.specs.FinSet as set;
 ghost use Rattle.l4_spaces.specs.Tables.{IsPage};
 ghost use Rattle.l4_mapdb.specs.Mappings.{place_cmp};
-ghost use Rattle.l4_mapdb.specs.Entries.{parent_in};
-ghost use Rattle.l4_mapdb.specs.Sheets.{slot_at, StandsUnder, HasRecord, RecordedOnce, IsWhole, now_in, later_in, Adds, Plans, settled, shown_only, NoPageFrom, IsPageFrom, NoPageIn, IsPageIn};
+ghost use Rattle.l4_mapdb.specs.Inside.Entries.{parent_in};
+ghost use Rattle.l4_mapdb.specs.Inside.Sheets.{slot_at, StandsUnder, HasRecord, RecordedOnce, IsWhole, now_in, later_in, Adds, Plans, settled, shown_only, NoPageFrom, IsPageFrom, NoPageIn, IsPageIn};
 
 use crate::{Mapping, NoMemory, Place};
 use l4_spaces::Spaces;
@@ -32,13 +32,13 @@ pub(crate) struct Store {
 }
 
 impl Model for Store {
-    ghost use Rattle.l4_mapdb.specs.Sheets.{Sheet, sheet_code};
+    ghost use Rattle.l4_mapdb.specs.Inside.Sheets.{Sheet, sheet_code};
 
     ghost Value = { Sheet };
 
     ghost coded = { sheet_code };
 
-    ghost use Rattle.l4_mapdb.specs.Stores.{seen, IsIndexed};
+    ghost use Rattle.l4_mapdb.specs.Inside.Stores.{seen, IsIndexed};
 
     ghost view = { seen };
 

@@ -3,9 +3,9 @@
 ghost use Rattle.std.specs.Prelude.{◌≡◌, ◌≢◌, ◌↔◌, ◌<◌, length, IsTrue, MatchOption};
 ghost use Rattle.l4_mapdb.specs.Mappings.{Mappings, IsForest};
 ghost use Rattle.l4_mapdb.specs.Transfer.{PageMove, IsUsed, IsEntangled};
-ghost use Rattle.l4_mapdb.specs.Sheets.{now_in};
-ghost use Rattle.l4_mapdb.specs.Shown.{IsShownBy, page_move};
-ghost use Rattle.l4_mapdb.specs.Tangles.{FillsToo, MovesToo, Tangles, ItemTangles, PlaceTangles, KeyTangles};
+ghost use Rattle.l4_mapdb.specs.Inside.Sheets.{now_in};
+ghost use Rattle.l4_mapdb.specs.Inside.Shown.{IsShownBy, page_move};
+ghost use Rattle.l4_mapdb.specs.Inside.Tangles.{FillsToo, MovesToo, Tangles, ItemTangles, PlaceTangles, KeyTangles};
 
 use crate::moving::{UsedMove, is_gone, move_into, move_out};
 use crate::store::Store;

@@ -8,7 +8,8 @@ use Rattle.l4_msg.specs.Moves.{IsMap, RegionMoves, fpage_of}
 use Rattle.l4_msg.specs.Regions.{IsSound, IsPlan, IsCertificate, StartsAt, moved}
 use Rattle.l4_msg.specs.declared.items.Item.{Item}
 use Rattle.l4_msg.specs.declared.regions.Region.{Region}
-use Rattle.l4_plan_check.specs.Claims.{IsGoodItem, HasNoGap, IsInside, HasPair}
+use Rattle.l4_plan_check.specs.Claims.{IsGoodItem, IsInside, HasPair}
+use Rattle.l4_plan_check.specs.Inside.Pages.{HasNoGap}
 use Rattle.l4_plan_check.specs.Faults.{Holds, LongHolds}
 use Rattle.l4_plan_check.specs.declared.faults.Fault.{Fault as AFault}
 use Rattle.l4_plan_check.proofs.Claims.{Passed, none_of, long_none_of, rank_below}

@@ -23,10 +23,6 @@ pub record IsFirstBad (r : Region) (items : List Item) (i : ℕ) : Type 0 where
 abbrev pub IsMoved : List Item → ℕ → Type 0
 IsMoved items page = (target : ℕ) × Any (λ item. ItemMoves item complete page target) items
 
--- each source page of the region is moved
-abbrev pub HasNoGap : Region → List Item → Type 0
-HasNoGap r items = (page : ℕ) → r.source ≤ page → page < r.source + r.count → IsMoved items page
-
 -- the least source page that no item moves
 pub record IsLeastGap (r : Region) (items : List Item) (page : ℕ) : Type 0 where
   pub from : r.source ≤ page
@@ -38,10 +34,6 @@ pub record IsLeastGap (r : Region) (items : List Item) (page : ℕ) : Type 0 whe
 pub record IsInside (r : Region) (page : ℕ) : Type 0 where
   pub from : r.source ≤ page
   pub below : page < r.source + r.count
-
--- each page of the list is a source page of the region
-abbrev pub AreInside : Region → List ℕ → Type 0
-AreInside r pages = (k : ℕ) → k < length pages → IsInside r (slice_index pages k)
 
 -- the page at i is the first outside the source range
 pub record IsFirstOutside (r : Region) (pages : List ℕ) (i : ℕ) : Type 0 where

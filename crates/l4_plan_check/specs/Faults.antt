@@ -3,7 +3,7 @@ use Rattle.std.specs.Prelude.{◌≢◌, ℕ, ◌<◌, List, length, ◌⊎◌}
 use Rattle.l4_msg.specs.Regions.{IsSound}
 use Rattle.l4_msg.specs.declared.items.Item.{Item}
 use Rattle.l4_msg.specs.declared.regions.Region.{Region}
-use Rattle.l4_plan_check.specs.Claims.{IsFirstBad, IsLeastGap, AreInside, IsFirstOutside, HasPair, IsFirstPair}
+use Rattle.l4_plan_check.specs.Claims.{IsFirstBad, IsLeastGap, IsFirstOutside, IsFirstPair}
 use Rattle.l4_plan_check.specs.declared.faults.Fault.{Fault as AFault}
 use Rattle.l4_plan_check.specs.declared.faults.Fault.TheVariants.{Region as InRegion, Item as InItem, Gap, Count, Page, Pair}
 
@@ -43,16 +43,3 @@ LongHolds r pages (Pair i) = IsFirstPair r pages i
 pub record IsFirstLongFault (r : Region) (pages : List ℕ) (fault : AFault) : Type 0 where
   pub holds : LongHolds r pages fault
   pub earlier : (other : AFault) → rank other < rank fault → LongHolds r pages other → ⊥
-
--- all pages lie in the source range, and no allowed block holds two
-abbrev pub HasNoPageFault : Region → List ℕ → Type 0
-HasNoPageFault r pages = AreInside r pages × ((i : ℕ) → i < length pages → HasPair r pages i → ⊥)
-
--- the fault is the first of those that concern the pages alone
-abbrev pub IsPageFault : Region → List ℕ → AFault → Type 0
-IsPageFault r pages InRegion = ⊥
-IsPageFault r pages (InItem i) = ⊥
-IsPageFault r pages (Gap page) = ⊥
-IsPageFault r pages Count = ⊥
-IsPageFault r pages (Page i) = IsFirstOutside r pages i
-IsPageFault r pages (Pair i) = AreInside r pages × IsFirstPair r pages i

@@ -1,7 +1,8 @@
 ghost use Rattle.std.specs.Prelude.{◌≡◌, ℕ, ◌+◌, ◌-◌, ◌*◌, ◌^◌, ◌<◌, ◌≤◌, ◌↔◌, IsTrue, MatchOption, length, slice_index};
 ghost use Rattle.l4_msg.specs.Regions.{InSpace, ShareBlock};
-ghost use Rattle.l4_plan_check.specs.Claims.{IsInside, AreInside, IsFirstOutside, HasPair, IsFirstPair};
-ghost use Rattle.l4_plan_check.specs.Faults.{HasNoPageFault, IsPageFault};
+ghost use Rattle.l4_plan_check.specs.Claims.{IsInside, IsFirstOutside, HasPair, IsFirstPair};
+ghost use Rattle.l4_plan_check.specs.Inside.Pages.{AreInside};
+ghost use Rattle.l4_plan_check.specs.Inside.Pages.{HasNoPageFault, IsPageFault};
 
 use crate::faults::Fault;
 use l4_fpage::Block;

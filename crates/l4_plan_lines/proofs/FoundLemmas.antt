@@ -13,8 +13,10 @@ use Rattle.l4_text.specs.contracts.lines.Ending.{the_type}
 use Rattle.l4_text.specs.declared.lines.Ending.{Ending}
 use Rattle.l4_text.specs.declared.lines.Ending.TheVariants.{Whole, Long, Cut}
 use Rattle.l4_plan_lines.specs.Lines.{ended}
-use Rattle.l4_plan_lines.specs.Claims.{IsClaim, IsBeginning, SaysMore, SaysAll}
-use Rattle.l4_plan_lines.specs.Inputs.{IsLine, IsWrongWhole, IsFirstWrong, Reflects, Stops, EndsSo, TakesOne, HasRead}
+use Rattle.l4_plan_lines.specs.Claims.{IsClaim, IsBeginning}
+use Rattle.l4_plan_lines.specs.Inside.Claims.{SaysMore, SaysAll}
+use Rattle.l4_plan_lines.specs.Inputs.{IsLine, IsWrongWhole, IsFirstWrong}
+use Rattle.l4_plan_lines.specs.Inside.Inputs.{Reflects, Stops, EndsSo, TakesOne, HasRead}
 use Rattle.l4_plan_lines.specs.declared.found.Found.{Found}
 use Rattle.l4_plan_lines.specs.declared.found.WrongLine.{WrongLine}
 use Rattle.l4_plan_lines.specs.declared.found.LineFault.{LineFault}

@@ -1,11 +1,10 @@
 -- What lines claim of a region: that items are its plan, or that each plan is too long (own).
-use Rattle.std.specs.Prelude.{◌≡◌, ℕ, ◌^◌, ◌<◌, ◌≤◌, List, [], ◌∷◌, ◌++◌, length, Option, Some, None}
+use Rattle.std.specs.Prelude.{◌≡◌, ℕ, ◌^◌, ◌<◌, ◌≤◌, List, [], ◌∷◌, length, Option, Some, None}
 use Rattle.std.specs.List.{AllZip}
 use Rattle.l4_msg.specs.Moves.{IsMap}
 use Rattle.l4_msg.specs.Words.{ItemReads}
 use Rattle.l4_msg.specs.declared.items.Item.{Item}
 use Rattle.l4_plan_lines.specs.Lines.{tag_line, page_line, item_line, long_line}
-use Rattle.l4_plan_lines.specs.declared.claims.Claim.{Claim}
 use Rattle.l4_plan_lines.specs.declared.claims.Head.{Head}
 use Rattle.l4_plan_lines.specs.declared.claims.Head.TheVariants.{Plan, TooLong}
 
@@ -43,14 +42,3 @@ IsClaim (line ∷ lines) (Some TooLong) items pages = (line ≡ long_line) × (i
 -- the lines are a claim, whole or so far
 abbrev pub IsBeginning : List (List ℕ) → Type 0
 IsBeginning lines = (head : Option Head) × (items : List Item) × (pages : List ℕ) × IsClaim lines head items pages
-
--- a claim of lines becomes one of the line after them, too
-abbrev pub SaysMore : Claim → Claim → List ℕ → Type 0
-SaysMore old new line =
-    (lines : List (List ℕ)) → IsClaim lines old.head old.items.items old.pages.items
-    → IsClaim (lines ++ line ∷ []) new.head new.items.items new.pages.items
-
--- with this line after them the lines of a claim are none
-abbrev pub SaysAll : Claim → List ℕ → Type 0
-SaysAll old line =
-    (lines : List (List ℕ)) → IsClaim lines old.head old.items.items old.pages.items → IsBeginning (lines ++ line ∷ []) → ⊥

@@ -3,3 +3,4 @@ pub mod Claims
 pub mod Inputs
 pub mod Lines
 pub mod Plans
+pub mod Inside

@@ -1,7 +1,8 @@
 ghost use Rattle.std.specs.Prelude.{◌≡◌, ◌+◌, ◌≤◌, ◌<◌, ◌^◌, ◌↔◌, ◌++◌, ℕ, List, length, IsTrue, Some, codes};
 ghost use Rattle.std.specs.Fmt.{decimal};
 ghost use Rattle.l4_plan_lines.specs.Lines.{ended};
-ghost use Rattle.l4_plan_lines.specs.Inputs.{HasEnded, IsWhole};
+ghost use Rattle.l4_plan_lines.specs.Inside.Inputs.{HasEnded};
+ghost use Rattle.l4_plan_lines.specs.Inputs.{IsWhole};
 ghost use Rattle.l4_plan_lines.specs.Answers.{IsAnswer, IsTagOf, answer_line, wrong_line, wrong_code, fault_line, is_proved};
 
 use crate::claims::{Claim, Head};

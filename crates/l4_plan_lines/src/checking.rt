@@ -1,6 +1,6 @@
 ghost use Rattle.std.specs.Prelude.{◌≡◌, ℕ, List, IfOk, IfErr, Err, Bool};
 ghost use Rattle.std.specs.Io.KnownBytes.{Appends, Keeps};
-ghost use Rattle.l4_plan_lines.specs.Inputs.{HasRead};
+ghost use Rattle.l4_plan_lines.specs.Inside.Inputs.{HasRead};
 ghost use Rattle.l4_plan_lines.specs.Answers.{Answered};
 ghost use Rattle.l4_text.specs.Streams.{WentOut};
 

@@ -25,7 +25,8 @@ pub struct Claim {
 }
 
 impl Claim {
-    ghost use Rattle.l4_plan_lines.specs.Claims.{IsClaim, SaysMore, SaysAll};
+    ghost use Rattle.l4_plan_lines.specs.Claims.{IsClaim};
+    ghost use Rattle.l4_plan_lines.specs.Inside.Claims.{SaysMore, SaysAll};
 
     /// What no line says.
     pub fn new() -> Claim

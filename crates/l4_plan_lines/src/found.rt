@@ -1,5 +1,6 @@
 ghost use Rattle.std.specs.Prelude.{◌≡◌, [], ℕ, List, IfOk, IfErr, None, Some};
-ghost use Rattle.l4_plan_lines.specs.Inputs.{Reflects, EndsSo, TakesOne, HasEnded, IsRefused, IsWhole};
+ghost use Rattle.l4_plan_lines.specs.Inside.Inputs.{Reflects, EndsSo, TakesOne, HasEnded};
+ghost use Rattle.l4_plan_lines.specs.Inputs.{IsRefused, IsWhole};
 
 use crate::claims::{Claim, Head};
 use l4_text::Ending;

@@ -14,7 +14,8 @@ use Rattle.l4_shell.specs.Lines.{ScriptLine, in_front, lines_of}
 use Rattle.l4_shell.specs.Requests.{asked_at, asked_of}
 use Rattle.l4_text.specs.Streams.{WentOut, HasTold, Tells}
 use Rattle.l4_shell.specs.Sessions.{AnswersLine, AnswersLines}
-use Rattle.l4_shell.specs.Scripts.{Runs, TellsBeginning, TellsAll, TellsWhole, TellsScript}
+use Rattle.l4_shell.specs.Scripts.{Runs}
+use Rattle.l4_shell.specs.Inside.Scripts.{TellsBeginning, TellsAll, TellsWhole, TellsScript}
 use Rattle.l4_text.specs.declared.lines.Ending.{Ending}
 use Rattle.l4_text.specs.declared.lines.Ending.TheVariants.{Whole, Long, Cut}
 use Rattle.l4_text.specs.contracts.lines.Ending.{the_type}

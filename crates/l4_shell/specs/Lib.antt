@@ -5,3 +5,4 @@ pub mod Refusals
 pub mod Requests
 pub mod Scripts
 pub mod Sessions
+pub mod Inside

@@ -1,11 +1,10 @@
 -- A script from its first line to its last.
-use Rattle.std.specs.Prelude.{ℕ, ◌≡◌, ◌⊎◌, Bool, true, List, ◌++◌, length, filter, Option, Result, Ok, Err}
+use Rattle.std.specs.Prelude.{ℕ, ◌≡◌, ◌⊎◌, true, List, ◌++◌, length, filter, Option, Result, Ok, Err}
 use Rattle.std.specs.List.{All}
 use Rattle.std.specs.Io.KnownBytes.{Consumes, Appends, IsAtEnd}
 use Rattle.l4_shell.specs.Lines.{ScriptLine, lines_of}
-use Rattle.l4_text.specs.Streams.{WentOut, Tells}
-use Rattle.l4_shell.specs.Sessions.{AnswersLines, IsScriptText}
-use Rattle.l4_ipc.specs.Machine.{Machine}
+use Rattle.l4_text.specs.Streams.{WentOut}
+use Rattle.l4_shell.specs.Sessions.{IsScriptText}
 use Rattle.l4_text.specs.declared.faults.RunFault.{RunFault}
 use Rattle.l4_text.specs.declared.faults.RunFault.TheVariants.{Read, Write, Memory}
 
@@ -46,41 +45,3 @@ Runs frames old new written now (Ok count) = AnswersAll frames old new written n
 Runs frames old new written now (Err Read) = AnswersWhole frames old new written now
 Runs frames old new written now (Err Write) = AnswersBeginning frames old new written now
 Runs frames old new written now (Err Memory) = (new ≡ old) × (now ≡ written)
-
--- BEFORE WHAT IS HELD BACK GOES OUT
-
--- the answers to lines, the first of the script among them, were told
-pub record TellsLines (m : Machine) (lines : List ScriptLine) (written now : Option (List ℕ)) (before after : List ℕ × Bool) : Type 0 where
-  pub text : List ℕ
-  pub last : Machine
-  pub answers : AnswersLines m 1 lines text last
-  pub tells : Tells written now before after text
-
--- the answers to the first lines that were read were told, each of them whole unless the input has ended
-pub record TellsBeginning (m : Machine) (old new written now : Option (List ℕ)) (before after : List ℕ × Bool) : Type 0 where
-  pub read : List ℕ
-  pub from : Consumes old new read
-  pub lines : List ScriptLine
-  pub later : List ScriptLine
-  pub parts : lines_of read ≡ lines ++ later
-  pub sure : All (λ line. line.whole ≡ true) lines ⊎ IsAtEnd new
-  pub told : TellsLines m lines written now before after
-
--- all lines were answered
-pub record TellsAll (m : Machine) (old new written now : Option (List ℕ)) (before after : List ℕ × Bool) (count : ℕ) : Type 0 where
-  pub some : TellsBeginning m old new written now before after
-  pub all : some.lines ≡ lines_of some.read
-  pub end : IsAtEnd new
-  pub number : count ≡ length (lines_of some.read)
-
--- all whole lines were answered
-pub record TellsWhole (m : Machine) (old new written now : Option (List ℕ)) (before after : List ℕ × Bool) : Type 0 where
-  pub some : TellsBeginning m old new written now before after
-  pub whole : some.lines ≡ filter (λ line. line.whole) (lines_of some.read)
-
--- the lines of a script were answered, to its end or to a fault
-abbrev pub TellsScript : Machine → Option (List ℕ) → Option (List ℕ) → Option (List ℕ) → Option (List ℕ) → List ℕ × Bool → List ℕ × Bool → Result ℕ RunFault → Type 0
-TellsScript m old new written now before after (Ok count) = TellsAll m old new written now before after count
-TellsScript m old new written now before after (Err Read) = TellsWhole m old new written now before after
-TellsScript m old new written now before after (Err Write) = TellsBeginning m old new written now before after
-TellsScript m old new written now before after (Err Memory) = ⊥

@@ -1,6 +1,7 @@
 //! Scripts from a reader to a writer.
 ghost use Rattle.std.specs.Prelude.{◌≡◌, ◌≤◌};
-ghost use Rattle.l4_shell.specs.Scripts.{Runs, TellsScript};
+ghost use Rattle.l4_shell.specs.Scripts.{Runs};
+ghost use Rattle.l4_shell.specs.Inside.Scripts.{TellsScript};
 
 use crate::session::answer_line;
 use l4_ipc::Kernel;

@@ -12,7 +12,7 @@ use Rattle.l4_msg.specs.declared.items.Item.TheVariants.{Map}
 use Rattle.l4_msg.specs.declared.messages.Message.{Message}
 use Rattle.l4_msg.specs.Protocols.{nothing, one_item, GivesPages}
 use Rattle.l4_sigma0.specs.Owners.{Owners, owner_of, is_in, Wants, MayHave, MayHaveAll, Gives, Answers}
-use Rattle.l4_sigma0.specs.Tables.{entries_from, map_of, owner_in, AreFree, IsFilled}
+use Rattle.l4_sigma0.specs.Inside.Tables.{entries_from, map_of, owner_in, AreFree, IsFilled}
 
 differ : (a b : ℕ) → a ≢ b → (a == b) ≡ false
 differ a b ne = elim (eqb_tells a b) [ inl h ↦ absurd (ne h.1) | inr h ↦ h.0 ]

@@ -1,2 +1,2 @@
 pub mod Owners
-pub mod Tables
+pub mod Inside

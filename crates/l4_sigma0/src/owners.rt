@@ -19,7 +19,7 @@ pub struct Sigma0 {
 impl Model for Sigma0 {
     ghost use Rattle.std.specs.Prelude.{◌≤◌};
     ghost use Rattle.l4_sigma0.specs.Owners.{Owners, owners_code, max_frames};
-    ghost use Rattle.l4_sigma0.specs.Tables.{map_of};
+    ghost use Rattle.l4_sigma0.specs.Inside.Tables.{map_of};
 
     ghost Value = { Owners };
 
@@ -54,7 +54,7 @@ fn wanted(message: &Message) -> Option<Block>
     }
 }
 
-ghost use Rattle.l4_sigma0.specs.Tables.{AreFree, IsFilled};
+ghost use Rattle.l4_sigma0.specs.Inside.Tables.{AreFree, IsFilled};
 
 /// Whether each of these frames is free or the space's.
 fn are_free(owners: &[Option<u64>], space: u64, first: usize, end: usize) -> bool

@@ -12,8 +12,8 @@ use Rattle.std.proofs.lemmas.Bool.Decides.{nat_tests}
 use Rattle.std.proofs.lemmas.List.{get_or_past}
 use Rattle.std.proofs.lemmas.List.Sums.{sum_by-cons}
 use Rattle.l4_spaces.specs.Tables.{Tables, place_cmp, key_of, table_pages, space_tables, HasRoom, KeepsRoom, KeepsOthersRoom, Empties, IsPresent, NonePresentFrom, IsNextPresent, NonePresentIn, IsNextIn}
-use Rattle.l4_spaces.specs.Two.{Rows, row, entry, is_made, IsReady, AreWhole, AreMade, NoneIn, IsFirstIn}
-use Rattle.l4_spaces.specs.Inside.{Space, Live, numbers, has, tables_of, StandsAt, key_at, is_there, shown, IsLaid}
+use Rattle.l4_spaces.specs.Inside.Two.{Rows, row, entry, is_made, IsReady, AreWhole, AreMade, NoneIn, IsFirstIn}
+use Rattle.l4_spaces.specs.Inside.Seen.{Space, Live, numbers, has, tables_of, StandsAt, key_at, is_there, shown, IsLaid}
 use Rattle.l4_spaces.proofs.Below.{places_total, exact_places, tie, untie, apart, is_equal, or_second, not_both, decided}
 use Rattle.l4_spaces.proofs.Finding.{eq_yes, eq_no, eq_of, ne_of, stands_tables, stands_number, stands_has, no_tables_of, written_here, written_other, written_numbers}
 use Rattle.l4_spaces.proofs.Listing.{key_shown, there_shown, has_shown, pages_are, same_shown, past_entry, past_made}

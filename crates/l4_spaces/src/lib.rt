@@ -5,8 +5,8 @@ ghost use Rattle.std.specs.Prelude.{◌≡◌, ◌≢◌, ◌∷◌, [], ◌<◌
 ghost use Rattle.std.specs.FinMap as map;
 ghost use Rattle.std.specs.FinSet as set;
 ghost use Rattle.l4_spaces.specs.Tables.{space_tables};
-ghost use Rattle.l4_spaces.specs.Inside.{has, StandsAt};
-ghost use Rattle.l4_spaces.specs.Two.{row};
+ghost use Rattle.l4_spaces.specs.Inside.Seen.{has, StandsAt};
+ghost use Rattle.l4_spaces.specs.Inside.Two.{row};
 
 mod tables;
 #[cfg(test)]
@@ -57,7 +57,7 @@ impl Model for Spaces {
 
     ghost coded = { tables_code };
 
-    ghost use Rattle.l4_spaces.specs.Inside.{seen, IsKept};
+    ghost use Rattle.l4_spaces.specs.Inside.Seen.{seen, IsKept};
 
     ghost view = { seen };
 

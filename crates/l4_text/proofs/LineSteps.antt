@@ -8,7 +8,8 @@ use Rattle.std.proofs.lemmas.List.Sums.{split_at_first, passes_at_first}
 use Rattle.std.proofs.lemmas.Bool.{false≢true}
 use Rattle.std.proofs.lemmas.Bool.Decides.{nat_tests}
 use mathlib.Core.List.{append_assoc}
-use Rattle.l4_text.specs.Lines.{is_newline, NoNewline, kept_of, Takes, TakesLine, TakesRest, GivesLine, left_of}
+use Rattle.l4_text.specs.Inside.Reading.{is_newline}
+use Rattle.l4_text.specs.Lines.{NoNewline, kept_of, Takes, TakesLine, TakesRest, GivesLine, left_of}
 use Rattle.l4_text.specs.declared.lines.Ending.{Ending}
 use Rattle.l4_text.specs.declared.lines.Ending.TheVariants.{Whole, Long}
 

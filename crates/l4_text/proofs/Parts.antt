@@ -4,7 +4,8 @@ use Rattle.std.specs.List.{slice_split, onto_first, position, position_or_len}
 use Rattle.std.proofs.lemmas.List.Sums.{prefix_len-le-length}
 use Rattle.std.proofs.lemmas.Bool.Decides.{nat_tests}
 use Rattle.std.proofs.lemmas.List.{take_rest}
-use Rattle.l4_text.specs.Tokens.{tokens_of, is_space, is_no_space, has_bytes}
+use Rattle.l4_text.specs.Tokens.{tokens_of, is_space, has_bytes}
+use Rattle.l4_text.specs.Inside.Reading.{is_no_space}
 
 -- the place of the first that passes, or the length, is `position` with the length in place of None
 pub position_or : (p : ℕ → Bool) (xs : List ℕ) → unwrap_or (position p xs) (length xs) ≡ position_or_len p xs

@@ -3,7 +3,8 @@ use Rattle.std.proofs.Common.{◌≡◌, refl, ℕ, Bool, false, List, [], ◌++
 use Rattle.std.proofs.lemmas.List.{append-nil}
 use mathlib.Core.List.{append_assoc}
 use Rattle.std.specs.Io.KnownBytes.{Appends}
-use Rattle.l4_text.specs.Streams.{WentOut, Puts, HasTold, Tells}
+use Rattle.l4_text.specs.Streams.{WentOut, HasTold, Tells}
+use Rattle.l4_text.specs.Inside.Reading.{Puts}
 use Rattle.l4_text.proofs.Gone.{appends_more, appends_same}
 
 pub tells_none : (a : Option (List ℕ)) (s : List ℕ × Bool) → Tells a a s s []

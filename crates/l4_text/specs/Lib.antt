@@ -3,3 +3,4 @@ pub mod Numbers
 pub mod Streams
 pub mod Texts
 pub mod Tokens
+pub mod Inside

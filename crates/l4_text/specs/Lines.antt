@@ -6,9 +6,6 @@ use Rattle.l4_text.specs.declared.faults.RunFault.TheVariants.{Read}
 use Rattle.l4_text.specs.declared.lines.Ending.{Ending}
 use Rattle.l4_text.specs.declared.lines.Ending.TheVariants.{Whole, Long, Cut}
 
-abbrev pub is_newline : ℕ → Bool
-is_newline byte = byte == 10
-
 -- no byte is a newline
 abbrev pub NoNewline : List ℕ → Type 0
 NoNewline [] = Unit {0}
@@ -27,12 +24,6 @@ pub record Takes (old new : Option (List ℕ)) (before after taken : List ℕ) :
 -- how much a stream can still give, which bounds the lines
 abbrev pub left_of : List ℕ × ℕ → ℕ
 left_of source = (16777216 - source.1) * 4097 + length source.0
-
--- a read put new bytes in the place of those that were there
-pub record Filled (old new : Option (List ℕ)) (before after : List ℕ × ℕ) (result : Result Bool RunFault) : Type 0 where
-  pub more : result ≡ Ok true → Consumes old new after.0 × (0 < length after.0) × (length after.0 ≤ 4096) × (after.1 ≡ before.1 + 1) × (after.1 ≤ 16777216)
-  pub none : result ≡ Ok false → Consumes old new [] × IsAtEnd new × (after.0 ≡ [])
-  pub fault : (e : RunFault) → result ≡ Err e → (e ≡ Read) × Consumes old new [] × (before.0 ≡ [] → after.0 ≡ [])
 
 -- a line that a newline ends
 pub record TakesLine (old new : Option (List ℕ)) (before after : List ℕ × ℕ) (kept : List ℕ × Bool) : Type 0 where

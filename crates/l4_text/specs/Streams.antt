@@ -10,12 +10,6 @@ pub record WentOut (old new : Option (List ℕ)) (owed : List ℕ) : Type 0 wher
   pub whole : owed ≡ front ++ rest
   pub out : Appends old new front
 
--- what went out, and then what is held back, is what was held back before, and then the text
-pub record Puts (old new : Option (List ℕ)) (held held' text : List ℕ) : Type 0 where
-  pub front : List ℕ
-  pub whole : held ++ text ≡ front ++ held'
-  pub out : Appends old new front
-
 -- the text was told: it went out but for what is held back; after a failed write a beginning of it went out
 abbrev pub HasTold : Option (List ℕ) → Option (List ℕ) → List ℕ → Bool → List ℕ → Type 0
 HasTold old new held false text = (front : List ℕ) × (text ≡ front ++ held) × Appends old new front

@@ -1,12 +1,9 @@
 -- The tokens of a line (this profile's own).
-use Rattle.std.specs.Prelude.{ℕ, ◌==◌, Bool, true, false, not, List, [], ◌∷◌, filter}
+use Rattle.std.specs.Prelude.{ℕ, ◌==◌, Bool, true, false, List, [], ◌∷◌, filter}
 use Rattle.std.specs.List.{slice_split}
 
 abbrev pub is_space : ℕ → Bool
 is_space byte = byte == 32
-
-abbrev pub is_no_space : ℕ → Bool
-is_no_space byte = not (byte == 32)
 
 abbrev pub has_bytes : List ℕ → Bool
 has_bytes [] = false

@@ -1,7 +1,8 @@
 //! Lines of a stream, of which no more than one is kept.
 ghost use Rattle.std.specs.Prelude.{◌≡◌, ◌+◌, ◌-◌, ◌*◌, ◌<◌, ◌≤◌, [], ◌++◌, drop, length, ◌==◌, if◌then◌else◌, ℕ, List, MatchBool};
 ghost use Rattle.std.specs.List.{position, position_or_len};
-ghost use Rattle.l4_text.specs.Lines.{is_newline, NoNewline, GivesLine, Filled};
+ghost use Rattle.l4_text.specs.Inside.Reading.{is_newline, Filled};
+ghost use Rattle.l4_text.specs.Lines.{NoNewline, GivesLine};
 
 use crate::faults::RunFault;
 use arrayvec::ArrayVec;

@@ -2,7 +2,8 @@
 ghost use Rattle.std.specs.Prelude.{◌≡◌, ◌≤◌, ◌+◌, ◌==◌, [], ◌++◌, length, OnOk, IfErr};
 ghost use Rattle.std.specs.Io.KnownBytes.{Appends};
 ghost use Rattle.std.specs.Prelude.{ℕ, List, Option, false};
-ghost use Rattle.l4_text.specs.Streams.{WentOut, Puts, HasTold, Tells, IsOutBeforeRead};
+ghost use Rattle.l4_text.specs.Streams.{WentOut, HasTold, Tells, IsOutBeforeRead};
+ghost use Rattle.l4_text.specs.Inside.Reading.{Puts};
 
 use crate::faults::RunFault;
 use crate::lines::Source;

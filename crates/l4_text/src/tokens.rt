@@ -1,6 +1,7 @@
 ghost use Rattle.std.specs.Prelude.{◌≡◌, ◌∷◌, [], ◌≤◌, length, MatchOption};
 ghost use Rattle.std.specs.List.{position, position_or_len};
-ghost use Rattle.l4_text.specs.Tokens.{tokens_of, is_space, is_no_space};
+ghost use Rattle.l4_text.specs.Tokens.{tokens_of, is_space};
+ghost use Rattle.l4_text.specs.Inside.Reading.{is_no_space};
 
 /// Where the first byte stands that is no space.
 fn first_other(line: &[u8]) -> Option<usize>

@@ -10,8 +10,9 @@ use Rattle.l4_threads.specs.declared.Thread.{Thread}
 use Rattle.l4_threads.specs.declared.ThreadId.{ThreadId}
 use Rattle.l4_threads.specs.declared.State.TheVariants.{Running}
 use Rattle.l4_threads.specs.Threads.{number_of, nilthread, is_sending, first_threads}
-use Rattle.l4_threads.specs.Entries.{Entries, found, is_in, IsOnce, sends_in, IsTable}
-use Rattle.l4_threads.specs.Queue.{threads_of}
+use Rattle.l4_threads.specs.Inside.Entries.{Entries, found, sends_in, IsTable}
+use Rattle.l4_threads.specs.Queue.{is_in, IsOnce}
+use Rattle.l4_threads.specs.Inside.Kept.{threads_of}
 use Rattle.l4_threads.proofs.TableLemmas.{same_or, differ, found_here, found_further}
 use Rattle.l4_threads.proofs.QueueLemmas.{once-push}
 

@@ -8,8 +8,8 @@ use Rattle.l4_threads.specs.declared.Thread.{Thread}
 use Rattle.l4_threads.specs.declared.ThreadId.{ThreadId}
 use Rattle.l4_threads.specs.Threads.{Threads, thread_at, space_of, named, number_of, IsConsistent}
 use Rattle.l4_threads.specs.Control.{asks_new, space_for, is_full, CanCreate, created}
-use Rattle.l4_threads.specs.Entries.{Entries, found, IsTable}
-use Rattle.l4_threads.specs.Queue.{threads_of}
+use Rattle.l4_threads.specs.Inside.Entries.{Entries, found, IsTable}
+use Rattle.l4_threads.specs.Inside.Kept.{threads_of}
 use Rattle.l4_threads.proofs.TableLemmas.{map-length}
 use Rattle.l4_threads.proofs.BootLemmas.{new_thread, map-grown}
 

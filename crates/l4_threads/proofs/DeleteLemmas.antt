@@ -13,9 +13,11 @@ use Rattle.l4_threads.specs.declared.Reply.{Reply}
 use Rattle.l4_threads.specs.declared.State.{State}
 use Rattle.l4_threads.specs.declared.State.TheVariants.{Running, Sending as Sends, Receiving as Receives}
 use Rattle.l4_threads.specs.Threads.{Threads, thread_at, state_of, space_of, number_of, is_sending, is_running, failed}
-use Rattle.l4_threads.specs.Control.{frees, freed, freed_reply, waits_for, without_partner, ends_at, Deletes, waits, IsEndedBy, IsEndedList, HasEnded}
-use Rattle.l4_threads.specs.Entries.{Entries, found, in_state, IsAt, is_in, IsOnce, precedes, sends_in, freed_in, without_in, ends_with, rising_with, ended_in, has_space, IsTable}
-use Rattle.l4_threads.specs.Queue.{threads_of}
+use Rattle.l4_threads.specs.Inside.Ending.{frees, freed_reply, ends_at}
+use Rattle.l4_threads.specs.Control.{freed, waits_for, without_partner, Deletes, waits, IsEndedBy, IsEndedList, HasEnded}
+use Rattle.l4_threads.specs.Inside.Entries.{Entries, found, in_state, IsAt, precedes, sends_in, freed_in, without_in, ends_with, rising_with, ended_in, has_space, IsTable}
+use Rattle.l4_threads.specs.Queue.{is_in, IsOnce}
+use Rattle.l4_threads.specs.Inside.Kept.{threads_of}
 use Rattle.l4_threads.proofs.TableLemmas.{same_or, differ, same_of, found_here, found_further, found_absent, found_first, refill_same}
 use Rattle.l4_threads.proofs.QueueLemmas.{and_true, or_true, or_left, or_right, both_true, is_in_head, left_by, once-left_by}
 use Rattle.l4_threads.proofs.ViewLemmas.{thread_at-threads_of, contains-pairs_of, thread_at_seen, sends-threads_of, order_seen}

@@ -10,9 +10,11 @@ use Rattle.l4_threads.specs.declared.State.TheVariants.{Running, Sending as Send
 use Rattle.l4_threads.specs.declared.Sending.{Sending}
 use Rattle.l4_threads.specs.declared.Receiving.{Receiving}
 use Rattle.l4_threads.specs.Threads.{Threads, state_of, sends, is_sending, Before, IsConsistent}
-use Rattle.l4_threads.specs.Enabled.{takes_from, offers_to, Offers, target_of, taker, IsFirstSender, IsNextTransfer, expires, CanExpire, IsNextExpiry}
-use Rattle.l4_threads.specs.Entries.{Entries, found, is_in, IsOnce, precedes, IsTable, is_receiving, any_state}
-use Rattle.l4_threads.specs.Queue.{threads_of}
+use Rattle.l4_threads.specs.Enabled.{takes_from, offers_to, Offers, IsFirstSender, IsNextTransfer, expires, CanExpire, IsNextExpiry}
+use Rattle.l4_threads.specs.Inside.Taker.{target_of, taker}
+use Rattle.l4_threads.specs.Inside.Entries.{Entries, found, precedes, IsTable, is_receiving, any_state}
+use Rattle.l4_threads.specs.Queue.{is_in, IsOnce}
+use Rattle.l4_threads.specs.Inside.Kept.{threads_of}
 use Rattle.std.proofs.lemmas.Option.{slice_get_within}
 use Rattle.std.proofs.lemmas.Bool.Decides.{nat_tests}
 use Rattle.l4_threads.specs.declared.Thread.{Thread}

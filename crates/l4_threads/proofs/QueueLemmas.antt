@@ -2,7 +2,8 @@
 use Rattle.std.proofs.Common.{◌≡◌, ◌≢◌, ℕ, suc, ◌<◌, ◌≤◌, length, ◌==◌, Bool, true, false, cond, not, ◌||◌, ◌&&◌, List, [], ◌∷◌, ◌++◌, filter, Option, Some, None, refl, sym, ap, ◌∙◌, subst, arith, inl, inr, ◌⊎◌, eq-eqb}
 use Rattle.std.specs.List.{find}
 use Rattle.std.proofs.lemmas.Bool.{false≢true}
-use Rattle.l4_threads.specs.Entries.{is_in, IsOnce, precedes}
+use Rattle.l4_threads.specs.Queue.{is_in, IsOnce}
+use Rattle.l4_threads.specs.Inside.Entries.{precedes}
 use Rattle.l4_threads.proofs.TableLemmas.{same_or, differ, same_of}
 
 pub and_true : (a b : Bool) → (a && b) ≡ true → (a ≡ true) × (b ≡ true)

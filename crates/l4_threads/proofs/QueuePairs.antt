@@ -7,7 +7,7 @@ use Rattle.std.proofs.lemmas.Cmp.{on_total, then_total}
 use Rattle.std.proofs.lemmas.Map.Lookups.{CmpEqualImpliesEq, exact_pairs, exact_unsigned}
 use Rattle.std.specs.FinSet as set
 use Rattle.l4_threads.specs.Threads.{pair_cmp}
-use Rattle.l4_threads.specs.Entries.{pairs_of}
+use Rattle.l4_threads.specs.Queue.{pairs_of}
 
 pub pairs_total : IsTotalOrder pair_cmp
 pairs_total = then_total (on_total (λ p. p.0) nat_cmp_total) (on_total (λ p. p.1) nat_cmp_total)

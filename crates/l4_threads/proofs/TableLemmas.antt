@@ -11,7 +11,8 @@ use Rattle.std.specs.List.{refill}
 use Rattle.std.proofs.lemmas.Grind.{common_steps}
 use Rattle.std.proofs.lemmas.Option.{get_or_from_slice_get}
 use Rattle.l4_threads.specs.declared.Thread.{Thread}
-use Rattle.l4_threads.specs.Entries.{Entries, found, IsAt, changed_in, is_in, IsOnce}
+use Rattle.l4_threads.specs.Inside.Entries.{Entries, found, IsAt, changed_in}
+use Rattle.l4_threads.specs.Queue.{is_in, IsOnce}
 
 -- two numbers are equal, or they aren't
 pub same_or : (a b : ℕ) → (a ≡ b) ⊎ (a ≢ b)

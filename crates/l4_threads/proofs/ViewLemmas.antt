@@ -18,8 +18,9 @@ use Rattle.l4_threads.specs.declared.Sending.{Sending}
 use Rattle.l4_threads.specs.declared.ThreadId.{ThreadId}
 use Rattle.l4_threads.specs.Control.{with_pager}
 use Rattle.l4_threads.specs.Threads.{Threads, pair_cmp, thread_at, state_of, named, number_of, is_sending, is_running, sends, runs, senders, with_state, out_of_queue, start_send, IsConsistent}
-use Rattle.l4_threads.specs.Entries.{Entries, found, changed_in, in_state, in_pager, pairs_of, is_in, IsOnce, precedes, sends_in, IsTable}
-use Rattle.l4_threads.specs.Queue.{threads_of}
+use Rattle.l4_threads.specs.Inside.Entries.{Entries, found, changed_in, in_state, in_pager, precedes, sends_in, IsTable}
+use Rattle.l4_threads.specs.Queue.{pairs_of, is_in, IsOnce}
+use Rattle.l4_threads.specs.Inside.Kept.{threads_of}
 use Rattle.l4_threads.proofs.TableLemmas.{same_or, differ, same_of, found_here, found_further, found_absent, found-changed_in, found-changed_in_other, numbers-changed_in, length-changed_in, map-changed_in, map-length}
 use Rattle.l4_threads.proofs.QueueLemmas.{is_in-push, left_by, is_in-left_by, once-push, once-left_by, precedes_in, precedes_irreflexive, precedes_transitive, precedes_total, precedes-left_by, once_fits, or_true}
 use Rattle.l4_threads.proofs.QueuePairs.{pairs_total, exact_number_pairs, any_append, pairs_push}

@@ -1,8 +1,6 @@
 -- Creating, changing and deleting threads: each refusal in its order, and the effect. A profile of
 -- L4 X.2 manual, ThreadControl: the caller must be in the root space.
 use Rattle.std.specs.List.Sorted.{IsStrictlyIncreasing}
-use Rattle.l4_threads.specs.declared.Reply.{Reply}
-use Rattle.l4_threads.specs.declared.Reply.TheVariants.{Gone}
 use Rattle.std.specs.Prelude.{◌≡◌, ◌≢◌, ◌⊎◌, ◌↔◌, List, Contains, true, ℕ, ◌+◌, ◌-◌, ◌%◌, ◌^◌, ◌<◌, ◌≤◌, ◌==◌, ◌&&◌, ◌||◌, not, nat_lt, nat_le, Bool, false, if◌then◌else◌, Option, Some, None, is_some, option_and_then, Result, Ok, Err}
 use Rattle.std.specs.Option.{option_map_or, option_map}
 use Rattle.std.specs.FinMap as fin
@@ -88,18 +86,6 @@ abbrev pub waits_for : ℕ → Source → Bool
 waits_for n Anyone = false
 waits_for n (One from) = from == n
 
--- the state ends once the thread n is gone: it sends to n, or receives from n by name
-abbrev pub frees : ℕ → State → Bool
-frees n (Running reply) = false
-frees n (Sends s) = s.to == n
-frees n (Receives r) = waits_for n r.«from»
-
--- what a call replies whose partner is gone (L4 X.2 manual, IPC: ErrorCode, non-existing partner)
-abbrev pub freed_reply : State → Reply
-freed_reply (Running reply) = Gone
-freed_reply (Sends s) = failed s.fault 4
-freed_reply (Receives r) = failed r.fault 5
-
 -- the state once the thread n is gone: a call that waits for n by name has failed
 abbrev pub without_partner : ℕ → State → State
 without_partner n (Running reply) = Running reply
@@ -115,10 +101,6 @@ pub record Deletes (n : ℕ) (old new : Threads) : Type 0 where
   pub threads : (other : ℕ) → thread_at new other ≡ (if other == n then None else option_map (freed n) (thread_at old other))
   pub queue : (a b : ℕ) → set.contains new.before (a, b) ≡ (set.contains old.before (a, b) && (sends new a && sends new b))
   pub next_space : new.next_space ≡ old.next_space
-
--- whether the thread's call ends with the victim
-abbrev pub ends_at : Threads → ℕ → ℕ → Bool
-ends_at t victim n = option_map_or (λ state. not (is_running state) && ((n == victim) || frees victim state)) (state_of t n) false
 
 -- the thread is waiting
 abbrev pub waits : Threads → ℕ → Type 0

@@ -1,5 +1,5 @@
 -- Which transfers and which expiries are enabled (this profile's own steps of the manual's IPC).
-use Rattle.std.specs.Prelude.{◌≡◌, ℕ, ◌≤◌, ◌==◌, ◌&&◌, Bool, true, false, if◌then◌else◌, Option, Some, None, IsTrue, option_and_then}
+use Rattle.std.specs.Prelude.{◌≡◌, ℕ, ◌≤◌, ◌==◌, ◌&&◌, Bool, true, false, Option, Some, IsTrue}
 use Rattle.l4_threads.specs.declared.Source.{Source}
 use Rattle.l4_threads.specs.declared.Source.TheVariants.{Anyone, Thread as One}
 use Rattle.l4_threads.specs.declared.State.{State}
@@ -18,15 +18,6 @@ offers_to a b sender receiver = false
 
 abbrev pub Offers : Threads → ℕ → ℕ → Type 0
 Offers t sender receiver = IsTrue (offers_to (state_of t sender) (state_of t receiver) sender receiver)
-
--- whom the state sends to
-abbrev pub target_of : Option State → Option ℕ
-target_of (Some (Sends s)) = Some s.to
-target_of state = None
-
--- the thread that the sender sends to, where that one takes its message
-abbrev pub taker : Threads → ℕ → Option ℕ
-taker t sender = option_and_then (λ receiver. if offers_to (state_of t sender) (state_of t receiver) sender receiver then Some receiver else None) (target_of (state_of t sender))
 
 -- of all that offer to the receiver it stands first in the queue: the transfer is enabled
 pub record IsFirstSender (t : Threads) (receiver sender : ℕ) : Type 0 where

@@ -1,5 +1,5 @@
 pub mod Threads
 pub mod Enabled
 pub mod Control
-pub mod Entries
 pub mod Queue
+pub mod Inside

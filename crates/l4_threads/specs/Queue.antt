@@ -1,17 +1,17 @@
--- What the tables of threads keep, and what a contract sees of them. (this profile's own)
-use Rattle.std.specs.Prelude.{ℕ, List}
-use Rattle.std.specs.FinMap as fin
-use Rattle.std.specs.FinSet as set
-use Rattle.l4_threads.specs.declared.table.Threads.TheInside.{Inside}
-use Rattle.l4_threads.specs.Threads.{Threads as Seen}
-use Rattle.l4_threads.specs.Entries.{Entries, pairs_of, IsTable}
+-- The queue of senders as a list of numbers. (this profile's own)
+use Rattle.std.specs.Prelude.{◌≡◌, ℕ, ◌==◌, Bool, false, List, [], ◌∷◌, ◌++◌, map}
+use Rattle.std.specs.List.{list_any}
 
--- the threads of a table, a queue and the next space
-abbrev pub threads_of : Entries → List ℕ → ℕ → Seen
-threads_of es queue next = record { threads = fin.from_entries es; before = set.from_list (pairs_of queue); next_space = next }
+-- the pairs of a list: each item with each later one
+abbrev pub pairs_of : List ℕ → List (ℕ × ℕ)
+pairs_of [] = []
+pairs_of (a ∷ rest) = map (λ b. (a, b)) rest ++ pairs_of rest
 
-abbrev pub seen : Inside → Seen
-seen a = threads_of a.threads.items a.queue.items a.next_space
+-- whether the number is in the list
+abbrev pub is_in : List ℕ → ℕ → Bool
+is_in queue n = list_any (λ m. n == m) queue
 
-abbrev pub IsKept : Inside → Type 0
-IsKept a = IsTable a.threads.items a.queue.items a.next_space
+-- no number stands twice in the list
+abbrev pub IsOnce : List ℕ → Type 0
+IsOnce [] = Unit {0}
+IsOnce (a ∷ rest) = (is_in rest a ≡ false) × IsOnce rest

@@ -2,10 +2,10 @@
 ghost use Rattle.std.specs.Prelude.{◌≡◌, ◌≢◌, ◌==◌, not, filter, nat_lt, if◌then◌else◌, MatchOption, IfSome, Some, None, length, insert, ◌+◌, ◌<◌, ◌≤◌, []};
 ghost use Rattle.arrayvec.specs.ArrayVec.{array_vec_len};
 ghost use Rattle.std.specs.Option.{option_map_or};
-ghost use Rattle.l4_threads.specs.Entries.{found, IsAt, changed_in, in_state, in_pager, freed_in, without_in, ends_with, ended_in, rising_with, has_space, sends_in, is_receiving, any_state};
+ghost use Rattle.l4_threads.specs.Inside.Entries.{found, IsAt, changed_in, in_state, in_pager, freed_in, without_in, ends_with, ended_in, rising_with, has_space, sends_in, is_receiving, any_state};
 ghost use Rattle.l4_threads.specs.Enabled.{expires};
 
-use crate::{State, Thread, ThreadId};
+use crate::{MAX_THREADS, State, Thread, ThreadId};
 use arrayvec::ArrayVec;
 
 /// Where the thread of this number stands.
@@ -22,7 +22,7 @@ pub fn position(entries: &[(u32, Thread)], number: u32) -> Option<usize>
 }
 
 /// Gives the thread of this number another state.
-pub fn put_state(entries: &mut ArrayVec<(u32, Thread), 64>, number: u32, state: State)
+pub fn put_state(entries: &mut ArrayVec<(u32, Thread), MAX_THREADS>, number: u32, state: State)
     requires { found entries.old.items number ≢ None }
     ensures { entries.new.items ≡ changed_in entries.old.items number (in_state state) }
 {
@@ -32,7 +32,7 @@ pub fn put_state(entries: &mut ArrayVec<(u32, Thread), 64>, number: u32, state: 
 }
 
 /// Gives the thread of this number another pager.
-pub fn put_pager(entries: &mut ArrayVec<(u32, Thread), 64>, number: u32, pager: ThreadId)
+pub fn put_pager(entries: &mut ArrayVec<(u32, Thread), MAX_THREADS>, number: u32, pager: ThreadId)
     requires { found entries.old.items number ≢ None }
     ensures { entries.new.items ≡ changed_in entries.old.items number (in_pager pager) }
 {
@@ -42,7 +42,7 @@ pub fn put_pager(entries: &mut ArrayVec<(u32, Thread), 64>, number: u32, pager: 
 }
 
 /// Takes the number out of the queue.
-pub fn leave(queue: &mut ArrayVec<u32, 64>, number: u32)
+pub fn leave(queue: &mut ArrayVec<u32, MAX_THREADS>, number: u32)
     ensures { queue.new.items ≡ filter (λ m. not (m == number)) queue.old.items }
 {
     queue.retain(|m| *m != number);
@@ -72,7 +72,7 @@ fn place_in_order(list: &[u32], number: u32) -> usize
 }
 
 /// Puts the number where it belongs in a rising list.
-fn insert_rising(list: &mut ArrayVec<u32, 64>, number: u32)
+fn insert_rising(list: &mut ArrayVec<u32, MAX_THREADS>, number: u32)
     requires { array_vec_len list.old < 64 }
     ensures items { list.new.items ≡ rising_with list.old.items number }
     ensures len { array_vec_len list.new ≡ array_vec_len list.old + 1 }
@@ -89,7 +89,7 @@ fn ends_with(entry: &(u32, Thread), victim: u32) -> bool
 }
 
 /// The numbers of the threads whose calls end with the victim, rising.
-pub fn ended_by(entries: &[(u32, Thread)], victim: u32) -> ArrayVec<u32, 64>
+pub fn ended_by(entries: &[(u32, Thread)], victim: u32) -> ArrayVec<u32, MAX_THREADS>
     requires { length entries.now ≤ 64 }
     ensures { result.items ≡ ended_in entries.now victim [] }
 {
@@ -115,7 +115,7 @@ pub fn free_all(entries: &mut [(u32, Thread)], victim: u32)
 }
 
 /// Takes the thread of this number out of the table.
-pub fn remove_thread(entries: &mut ArrayVec<(u32, Thread), 64>, number: u32)
+pub fn remove_thread(entries: &mut ArrayVec<(u32, Thread), MAX_THREADS>, number: u32)
     ensures { entries.new.items ≡ without_in entries.old.items number }
 {
     entries.retain(|entry| entry.0 != number);
@@ -132,7 +132,7 @@ fn is_sender(entries: &[(u32, Thread)], number: u32) -> bool
 }
 
 /// Keeps in the queue those that send.
-pub fn keep_senders(queue: &mut ArrayVec<u32, 64>, entries: &[(u32, Thread)])
+pub fn keep_senders(queue: &mut ArrayVec<u32, MAX_THREADS>, entries: &[(u32, Thread)])
     ensures { queue.new.items ≡ filter (sends_in entries.now) queue.old.items }
 {
     queue.retain(|m| is_sender(entries, *m));

@@ -6,8 +6,11 @@ mod table;
 
 use arrayvec::ArrayVec;
 use l4_fpage::Fpage;
-use l4_msg::Item;
+use l4_msg::{Item, MAX_ITEMS, MAX_WORDS};
 pub use table::{ROOT_SPACE, Threads};
+
+/// The greatest number of threads (this profile's own).
+pub const MAX_THREADS: usize = 64;
 
 /// The bits of a thread number.
 const NUMBER_BITS: u32 = 18;
@@ -29,7 +32,7 @@ pub struct IpcReply {
     /// Who sent the message, or nilthread.
     pub from: ThreadId,
     /// The words of the message after its tag.
-    pub words: ArrayVec<u32, 64>,
+    pub words: ArrayVec<u32, MAX_WORDS>,
 }
 
 /// How a call ended.
@@ -83,9 +86,9 @@ pub struct Later {
 #[derive(Drop)]
 pub struct Sending {
     /// The message registers from the tag on, as they were given.
-    pub words: ArrayVec<u32, 64>,
+    pub words: ArrayVec<u32, MAX_WORDS>,
     /// The items that the words hold.
-    pub items: ArrayVec<Item, 31>,
+    pub items: ArrayVec<Item, MAX_ITEMS>,
     /// The partner's number.
     pub to: u32,
     /// The timeout is zero; else it is never.
@@ -138,7 +141,7 @@ pub struct Deleted {
     pub number: u32,
     /// The numbers of the threads whose calls ended with it, rising: those that waited for it, and the thread
     /// itself where it was waiting.
-    pub ended: ArrayVec<u32, 64>,
+    pub ended: ArrayVec<u32, MAX_THREADS>,
     /// The thread's space, where it was the last thread there.
     pub space: Option<u64>,
 }
@@ -234,9 +237,9 @@ impl State {
     ghost use Rattle.std.specs.Prelude.{◌≡◌};
     ghost use Rattle.std.specs.Prelude.{MatchOption, Some, None};
     ghost use Rattle.l4_threads.specs.Threads.{is_running, is_sending};
-    ghost use Rattle.l4_threads.specs.Control.{frees, freed_reply};
+    ghost use Rattle.l4_threads.specs.Inside.Ending.{frees, freed_reply};
     ghost use Rattle.l4_threads.specs.Enabled.{expires};
-    ghost use Rattle.l4_threads.specs.Entries.{is_receiving};
+    ghost use Rattle.l4_threads.specs.Inside.Entries.{is_receiving};
 
     /// Whether the thread waits for nobody.
     pub fn is_running(&self) -> bool

@@ -8,7 +8,9 @@ use crate::entries::{
     any_expires, any_receives, ended_by, free_all, is_inhabited, keep_senders, leave, lesser,
     position, put_pager, put_state, remove_thread,
 };
-use crate::{Deleted, Receiving, Reply, Sending, State, Thread, ThreadFault, ThreadId};
+use crate::{
+    Deleted, MAX_THREADS, Receiving, Reply, Sending, State, Thread, ThreadFault, ThreadId,
+};
 use arrayvec::ArrayVec;
 use std::marker::Model;
 
@@ -21,8 +23,8 @@ const LAST_SPACE: u64 = u64::MAX - 1;
 /// At most 64 threads, and the queue of those that are sending.
 #[derive(Drop)]
 pub struct Threads {
-    threads: ArrayVec<(u32, Thread), 64>,
-    queue: ArrayVec<u32, 64>,
+    threads: ArrayVec<(u32, Thread), MAX_THREADS>,
+    queue: ArrayVec<u32, MAX_THREADS>,
     next_space: u64,
 }
 
@@ -35,7 +37,7 @@ impl Model for Threads {
 
     ghost coded = { threads_code thread.the_row.coded };
 
-    ghost use Rattle.l4_threads.specs.Queue.{seen, IsKept};
+    ghost use Rattle.l4_threads.specs.Inside.Kept.{seen, IsKept};
 
     ghost view = { seen };
 
@@ -44,9 +46,11 @@ impl Model for Threads {
 
 impl Threads {
     ghost use Rattle.l4_threads.specs.Threads.{thread_at, state_of, space_of, pager_of, named, number_of, runs, sends, may_receive, with_state, start_send, start_receive, end_call, first_threads, IsConsistent, Before};
-    ghost use Rattle.l4_threads.specs.Enabled.{offers_to, taker, Offers, IsFirstSender, IsNextTransfer, CanExpire, IsNextExpiry};
-    ghost use Rattle.l4_threads.specs.Control.{is_privileged, space_for, is_full, create_test, CanCreate, created, set_pager_test, with_pager, delete_test, Deletes, ends_at, IsEndedList, HasEnded, TellsEnd};
-    ghost use Rattle.l4_threads.specs.Entries.{pairs_of, IsOnce, is_in};
+    ghost use Rattle.l4_threads.specs.Enabled.{offers_to, Offers, IsFirstSender, IsNextTransfer, CanExpire, IsNextExpiry};
+    ghost use Rattle.l4_threads.specs.Inside.Taker.{taker};
+    ghost use Rattle.l4_threads.specs.Control.{is_privileged, space_for, is_full, create_test, CanCreate, created, set_pager_test, with_pager, delete_test, Deletes, IsEndedList, HasEnded, TellsEnd};
+    ghost use Rattle.l4_threads.specs.Inside.Ending.{ends_at};
+    ghost use Rattle.l4_threads.specs.Queue.{pairs_of, IsOnce, is_in};
 
     /// The threads of the start: thread 1, sigma0, in space 0 and without a pager, and thread 2, root, in space 1
     /// with pager sigma0. Both run, and the next new space is 2.
@@ -408,7 +412,7 @@ impl Threads {
     }
 
     /// The numbers of the threads whose calls end with this one, rising.
-    fn ended_with(&self, number: u32) -> ArrayVec<u32, 64>
+    fn ended_with(&self, number: u32) -> ArrayVec<u32, MAX_THREADS>
         ensures rising { IsStrictlyIncreasing result.items }
         ensures each { (n : ℕ) → is_in result.items n ≡ ends_at self.now number n }
     {

@@ -10,7 +10,7 @@ use Rattle.l4_fpage.specs.declared.fpages.Fpage.{Fpage}
 use Rattle.l4_fpage.specs.declared.fpages.Fpage.TheVariants.{Nil}
 use Rattle.l4_mapdb.specs.Mappings.{Mappings, IsForest}
 use Rattle.l4_unmap.specs.Unmap.{UnmapReads, LosesTo, Unmaps}
-use Rattle.l4_unmap.specs.Taking.{GoesWith, Takes, BlockNames}
+use Rattle.l4_unmap.specs.Inside.Taking.{GoesWith, Takes, BlockNames}
 use Rattle.l4_mapdb.proofs.Nothing.{loses_none}
 use Rattle.l4_mapdb.proofs.Ranges.{loses_along}
 use Rattle.l4_unmap.proofs.Together.{loses_both}

@@ -7,7 +7,7 @@ use Rattle.l4_mapdb.specs.Mappings.{Mappings, shown, parent_of, child, further, 
 use Rattle.l4_mapdb.specs.Losing.{LosesRights}
 use Rattle.l4_mapdb.proofs.Climbing.{shows_parent}
 use Rattle.l4_mapdb.proofs.ForestKept.{forest_kept, forest_loose}
-use Rattle.l4_unmap.specs.Taking.{IsUnder, GoesWith, Takes}
+use Rattle.l4_unmap.specs.Inside.Taking.{IsUnder, GoesWith, Takes}
 use Rattle.l4_unmap.proofs.Together.{loses_both}
 
 -- the page of the space

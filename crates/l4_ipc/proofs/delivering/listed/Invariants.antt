@@ -1,6 +1,6 @@
 use Rattle.std.proofs.Common.{take}
 use Rattle.std.specs.List.{AllZip}
-use Rattle.l4_ipc.specs.Delivering.{IsListed}
+use Rattle.l4_ipc.specs.Inside.Delivering.{IsListed}
 use Rattle.l4_ipc.proofs.delivering.listed.Given as goal
 
 abbrev pub invariant-loop-item : goal.invariant-loop-item

@@ -1,4 +1,4 @@
-use Rattle.l4_lock.specs.Books.{started_by}
+use Rattle.l4_lock.specs.Inside.Noting.{started_by}
 use Rattle.l4_lock.proofs.Back.{least_missing, least_foreign, least_wrong, are_back}
 use Rattle.std.proofs.Common.{Some, None}
 use Rattle.l4_lock.proofs.closing.first_mismatch.Goals as goal

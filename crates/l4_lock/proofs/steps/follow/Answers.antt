@@ -1,6 +1,6 @@
 use Rattle.std.proofs.Common.{refl, sym, subst, arith, vec_len, vec_capacity}
 use Rattle.l4_ipc.specs.Machine.{Machine}
-use Rattle.l4_lock.specs.Locked.{Went}
+use Rattle.l4_lock.specs.Inside.Entering.{Went}
 use Rattle.l4_lock.proofs.Going.{going_first, going_more, going_done}
 use Rattle.l4_ipc.proofs.Work.{fewer}
 use Rattle.l4_lock.proofs.steps.follow.Goals as goal

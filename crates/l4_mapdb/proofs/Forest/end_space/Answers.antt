@@ -1,7 +1,7 @@
 use Rattle.std.proofs.Common.{◌∙◌}
 use Rattle.l4_mapdb.specs.Losing.{EndsSpace}
-use Rattle.l4_mapdb.specs.Sheets.{now_in}
-use Rattle.l4_mapdb.specs.Forest.{of_sheet}
+use Rattle.l4_mapdb.specs.Inside.Sheets.{now_in}
+use Rattle.l4_mapdb.specs.Inside.Forest.{of_sheet}
 use Rattle.l4_mapdb.proofs.Rising.{shown_acyclic}
 use Rattle.l4_mapdb.proofs.Kept.{shown_sheet}
 use Rattle.l4_mapdb.proofs.Ended.{none_left, ended, kept_ended, ended_absent}

@@ -1,7 +1,7 @@
 use Rattle.std.proofs.Common.{◌↔◌, subst, IsTrue}
 use Rattle.l4_mapdb.specs.Mappings.{Mappings}
 use Rattle.l4_mapdb.specs.Transfer.{IsUsed, IsEntangled}
-use Rattle.l4_mapdb.specs.Forest.{of_sheet}
+use Rattle.l4_mapdb.specs.Inside.Forest.{of_sheet}
 use Rattle.l4_mapdb.proofs.Kept.{shown_sheet}
 use Rattle.l4_mapdb.proofs.Forest.is_entangled.Goals as goal
 

@@ -1,8 +1,8 @@
 use Rattle.std.proofs.Common.{◌∙◌}
 use Rattle.l4_mapdb.specs.Losing.{LosesRights}
-use Rattle.l4_mapdb.specs.Planning.{RevokedIn}
-use Rattle.l4_mapdb.specs.Sheets.{now_in}
-use Rattle.l4_mapdb.specs.Forest.{of_sheet}
+use Rattle.l4_mapdb.specs.Inside.Records.{RevokedIn}
+use Rattle.l4_mapdb.specs.Inside.Sheets.{now_in}
+use Rattle.l4_mapdb.specs.Inside.Forest.{of_sheet}
 use Rattle.l4_mapdb.proofs.Slots.{settled_whole}
 use Rattle.l4_mapdb.proofs.Rising.{shown_acyclic}
 use Rattle.l4_mapdb.proofs.ForestKept.{revokes_keeps}

@@ -1,6 +1,6 @@
 use Rattle.std.proofs.Common.{◌∙◌, arith}
 use Rattle.std.proofs.lemmas.Result.{err_from_is_err_and}
-use Rattle.l4_mapdb.specs.Planning.{LacksPlace}
+use Rattle.l4_mapdb.specs.Inside.Records.{LacksPlace}
 use Rattle.l4_mapdb.proofs.Slots.{grows_more}
 use Rattle.l4_mapdb.proofs.Planned.{targets_more, lacks_before, all_keys}
 use Rattle.l4_mapdb.proofs.building.add_item.Goals as goal

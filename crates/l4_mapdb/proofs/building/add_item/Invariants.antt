@@ -1,6 +1,6 @@
 use Rattle.std.proofs.Common.{◌≡◌, ◌<◌, ℕ}
-use Rattle.l4_mapdb.specs.Sheets.{RecordedOnce}
-use Rattle.l4_mapdb.specs.Planning.{Grows, TargetOf}
+use Rattle.l4_mapdb.specs.Inside.Sheets.{RecordedOnce}
+use Rattle.l4_mapdb.specs.Inside.Records.{Grows, TargetOf}
 use Rattle.l4_mapdb.proofs.building.add_item.Given as goal
 
 -- the targets of the item's used moves out of the places of the keys below this one have records

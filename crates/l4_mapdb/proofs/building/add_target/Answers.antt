@@ -1,7 +1,7 @@
 use Rattle.std.proofs.Common.{sym, subst, inl, inr}
 use Rattle.std.proofs.lemmas.Result.{on_ok_weaker, on_err_weaker}
-use Rattle.l4_mapdb.specs.Sheets.{Sheet, HasRecord}
-use Rattle.l4_mapdb.specs.Shown.{page_move}
+use Rattle.l4_mapdb.specs.Inside.Sheets.{Sheet, HasRecord}
+use Rattle.l4_mapdb.specs.Inside.Shown.{page_move}
 use Rattle.l4_mapdb.proofs.Planned.{target_none, target_has, target_lacks, target_there, target_page, has_added}
 use Rattle.l4_mapdb.proofs.building.add_target.Goals as goal
 

@@ -1,5 +1,5 @@
 use Rattle.std.proofs.Common.{◌+◌, ◌∙◌, sym, subst, arith}
-use Rattle.l4_mapdb.specs.Sheets.{Sheet, slot_at}
+use Rattle.l4_mapdb.specs.Inside.Sheets.{Sheet, slot_at}
 use Rattle.std.proofs.lemmas.Bool.{false≢true}
 use Rattle.l4_mapdb.specs.Transfer.{IsUsed, IsCut}
 use Rattle.l4_mapdb.proofs.Replaced.{loses_nothing, no_cut}

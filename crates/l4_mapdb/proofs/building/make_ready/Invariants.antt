@@ -1,6 +1,6 @@
 use Rattle.std.proofs.Common.{◌≡◌, ◌<◌, ℕ}
-use Rattle.l4_mapdb.specs.Sheets.{RecordedOnce}
-use Rattle.l4_mapdb.specs.Planning.{Grows, TargetOf}
+use Rattle.l4_mapdb.specs.Inside.Sheets.{RecordedOnce}
+use Rattle.l4_mapdb.specs.Inside.Records.{Grows, TargetOf}
 use Rattle.l4_mapdb.proofs.building.make_ready.Given as goal
 
 -- the targets of the used moves of the items below this one have records

@@ -1,5 +1,5 @@
 use Rattle.std.proofs.Common.{◌+◌, ◌∙◌, sym, subst, arith}
-use Rattle.l4_mapdb.specs.Sheets.{Sheet}
+use Rattle.l4_mapdb.specs.Inside.Sheets.{Sheet}
 use Rattle.l4_mapdb.proofs.Planned.{PlannedSoFar, planned_first, planned_none, planned_some, planned_all}
 use Rattle.l4_mapdb.proofs.building.plan.Goals.{in-Some, in_default}
 use Rattle.l4_mapdb.proofs.building.plan.Goals as goal

@@ -1,5 +1,5 @@
 use Rattle.std.proofs.Common.{◌+◌, sym, subst, arith}
-use Rattle.l4_mapdb.specs.Sheets.{Sheet}
+use Rattle.l4_mapdb.specs.Inside.Sheets.{Sheet}
 use Rattle.l4_mapdb.proofs.Ended.{EndedSoFar, ended_first, ended_none, ended_some, ended_all, ended_acyclic}
 use Rattle.l4_mapdb.proofs.ending.clear.Goals.{in-Some, in_default}
 use Rattle.l4_mapdb.proofs.ending.clear.Goals as goal

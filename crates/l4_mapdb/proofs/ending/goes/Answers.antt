@@ -1,5 +1,5 @@
 use Rattle.std.proofs.Common.{◌∙◌, sym, arith}
-use Rattle.l4_mapdb.specs.Sheets.{now_in}
+use Rattle.l4_mapdb.specs.Inside.Sheets.{now_in}
 use Rattle.l4_mapdb.proofs.Ended.{goes_up, goes_last}
 use Rattle.l4_mapdb.proofs.Rising.{climbed_first, climbed_more, climbed_all}
 use Rattle.l4_mapdb.proofs.Slots.{shown_fit}

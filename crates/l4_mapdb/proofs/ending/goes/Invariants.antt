@@ -1,6 +1,6 @@
 use Rattle.std.proofs.Common.{◌↔◌}
-use Rattle.l4_mapdb.specs.Sheets.{now_in}
-use Rattle.l4_mapdb.specs.Planning.{GoesIn}
+use Rattle.l4_mapdb.specs.Inside.Sheets.{now_in}
+use Rattle.l4_mapdb.specs.Inside.Records.{GoesIn}
 use Rattle.l4_mapdb.proofs.Rising.{Climbed}
 use Rattle.l4_mapdb.proofs.ending.goes.Given as goal
 

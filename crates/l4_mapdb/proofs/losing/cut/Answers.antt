@@ -1,5 +1,5 @@
 use Rattle.std.proofs.Common.{◌≡◌, ◌+◌, ◌∙◌, sym, subst}
-use Rattle.l4_mapdb.specs.Sheets.{Sheet}
+use Rattle.l4_mapdb.specs.Inside.Sheets.{Sheet}
 use Rattle.l4_mapdb.proofs.Cuts.{CutSoFar, same_acyclic, cut_vacant, cut_planned, cut_all}
 use Rattle.l4_mapdb.proofs.losing.cut.Goals.{in-Some, in_default}
 use Rattle.l4_mapdb.proofs.losing.cut.Goals as goal

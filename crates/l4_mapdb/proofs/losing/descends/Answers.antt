@@ -2,7 +2,7 @@ use Rattle.std.proofs.Common.{◌∙◌, sym, ap, arith, option_and_then}
 use Rattle.std.proofs.lemmas.Bool.{false≢true}
 use Rattle.l4_mapdb.specs.declared.Mapping.{Mapping}
 use Rattle.l4_mapdb.specs.Mappings.{child}
-use Rattle.l4_mapdb.specs.Sheets.{now_in}
+use Rattle.l4_mapdb.specs.Inside.Sheets.{now_in}
 use Rattle.l4_mapdb.proofs.Leading.{passes_into, leads_nowhere}
 use Rattle.l4_mapdb.proofs.Rising.{climbed_first, climbed_more, climbed_all, answer_no, answer_yes}
 use Rattle.l4_mapdb.proofs.Slots.{shown_fit}

@@ -1,6 +1,6 @@
 use Rattle.std.proofs.Common.{◌↔◌}
-use Rattle.l4_mapdb.specs.Entries.{LeadsInto}
-use Rattle.l4_mapdb.specs.Sheets.{now_in}
+use Rattle.l4_mapdb.specs.Inside.Entries.{LeadsInto}
+use Rattle.l4_mapdb.specs.Inside.Sheets.{now_in}
 use Rattle.l4_mapdb.proofs.Rising.{Climbed}
 use Rattle.l4_mapdb.proofs.losing.descends.Given as goal
 

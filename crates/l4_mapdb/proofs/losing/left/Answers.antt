@@ -1,5 +1,5 @@
-use Rattle.l4_mapdb.specs.Entries.{CoveredIn}
-use Rattle.l4_mapdb.specs.Sheets.{now_in}
+use Rattle.l4_mapdb.specs.Inside.Entries.{CoveredIn}
+use Rattle.l4_mapdb.specs.Inside.Sheets.{now_in}
 use Rattle.l4_mapdb.proofs.Cuts.{cut_some}
 use Rattle.l4_mapdb.proofs.losing.left.Goals as goal
 

@@ -1,6 +1,6 @@
 use Rattle.std.proofs.Common.{ap, ◌∙◌}
 use Rattle.l4_mapdb.specs.declared.ItemMove.{ItemMove}
-use Rattle.l4_mapdb.specs.Sheets.{now_in}
+use Rattle.l4_mapdb.specs.Inside.Sheets.{now_in}
 use Rattle.l4_mapdb.proofs.Clashing.{read_there}
 use Rattle.l4_mapdb.proofs.Sources.{granting}
 use Rattle.l4_mapdb.proofs.moving.grant_out.Goals as goal

@@ -1,8 +1,8 @@
 use Rattle.std.proofs.Common.{◌≢◌, ◌<◌, IsTrue}
 use Rattle.l4_mapdb.specs.Mappings.{Mappings}
 use Rattle.l4_mapdb.specs.Transfer.{PageMove, IsUsed}
-use Rattle.l4_mapdb.specs.Shown.{IsShownBy}
-use Rattle.l4_mapdb.specs.Sheets.{now_in}
+use Rattle.l4_mapdb.specs.Inside.Shown.{IsShownBy}
+use Rattle.l4_mapdb.specs.Inside.Sheets.{now_in}
 use Rattle.l4_mapdb.proofs.moving.granted_out.Given as goal
 
 -- no item below this one grants the place

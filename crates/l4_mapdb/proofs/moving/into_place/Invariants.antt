@@ -1,8 +1,8 @@
 use Rattle.std.proofs.Common.{◌≢◌, ◌<◌}
 use Rattle.l4_mapdb.specs.Mappings.{Mappings}
 use Rattle.l4_mapdb.specs.Transfer.{PageMove, IsUsed}
-use Rattle.l4_mapdb.specs.Shown.{IsShownBy}
-use Rattle.l4_mapdb.specs.Sheets.{now_in}
+use Rattle.l4_mapdb.specs.Inside.Shown.{IsShownBy}
+use Rattle.l4_mapdb.specs.Inside.Sheets.{now_in}
 use Rattle.l4_mapdb.proofs.moving.into_place.Given as goal
 
 -- no item below this one moves a page into the place

@@ -1,7 +1,7 @@
 use Rattle.std.proofs.Common.{◌∙◌, sym, Some, arith}
 use Rattle.l4_mapdb.specs.Transfer.{IsUsed}
-use Rattle.l4_mapdb.specs.Shown.{page_move}
-use Rattle.l4_mapdb.specs.Sheets.{now_in}
+use Rattle.l4_mapdb.specs.Inside.Shown.{page_move}
+use Rattle.l4_mapdb.specs.Inside.Sheets.{now_in}
 use Rattle.l4_mapdb.proofs.Rising.{climbed_first, climbed_more, climbed_all, answer_no, answer_yes, gone_here, gone_absent, gone_top, gone_up, parent_found, shown_acyclic}
 use Rattle.l4_mapdb.proofs.Slots.{shown_fit}
 use Rattle.l4_mapdb.proofs.moving.is_gone.Goals as goal

@@ -1,8 +1,8 @@
 use Rattle.std.proofs.Common.{◌↔◌}
 use Rattle.l4_mapdb.specs.Mappings.{Mappings, IsForest}
 use Rattle.l4_mapdb.specs.Transfer.{IsUsed, IsGone}
-use Rattle.l4_mapdb.specs.Shown.{IsShownBy}
-use Rattle.l4_mapdb.specs.Sheets.{now_in}
+use Rattle.l4_mapdb.specs.Inside.Shown.{IsShownBy}
+use Rattle.l4_mapdb.specs.Inside.Sheets.{now_in}
 use Rattle.l4_mapdb.proofs.Rising.{Climbed}
 use Rattle.l4_mapdb.proofs.moving.is_gone.Given as goal
 

@@ -1,7 +1,7 @@
 use Rattle.std.proofs.Common.{◌∙◌, sym, refl}
 use Rattle.std.proofs.lemmas.Bool.{false≢true}
 use Rattle.l4_mapdb.specs.Transfer.{IsUsed}
-use Rattle.l4_mapdb.specs.Shown.{page_move}
+use Rattle.l4_mapdb.specs.Inside.Shown.{page_move}
 use Rattle.l4_mapdb.proofs.Sources.{none_stays, granted_goes, gone_goes, stays}
 use Rattle.l4_mapdb.proofs.moving.later.Goals as goal
 

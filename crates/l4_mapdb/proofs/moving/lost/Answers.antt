@@ -1,7 +1,7 @@
 use Rattle.std.proofs.Common.{◌∙◌, sym, ap, option_and_then, arith}
 use Rattle.l4_mapdb.specs.declared.Mapping.{Mapping}
 use Rattle.l4_mapdb.specs.Transfer.{IsUsed}
-use Rattle.l4_mapdb.specs.Sheets.{later_in}
+use Rattle.l4_mapdb.specs.Inside.Sheets.{later_in}
 use Rattle.l4_mapdb.proofs.Rising.{climbed_first, climbed_more, climbed_all, collected_first, collected_more, collected_all}
 use Rattle.l4_mapdb.proofs.Slots.{later_fit}
 use Rattle.l4_mapdb.proofs.moving.lost.Goals as goal

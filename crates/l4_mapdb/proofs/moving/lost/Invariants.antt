@@ -1,8 +1,8 @@
 use Rattle.l4_mapdb.specs.Mappings.{Mappings}
-use Rattle.l4_mapdb.specs.Entries.{IsAcyclic}
+use Rattle.l4_mapdb.specs.Inside.Entries.{IsAcyclic}
 use Rattle.l4_mapdb.specs.Transfer.{IsUsed, SharesTarget}
-use Rattle.l4_mapdb.specs.Shown.{IsShownBy, IsClimbedBy}
-use Rattle.l4_mapdb.specs.Sheets.{now_in, later_in}
+use Rattle.l4_mapdb.specs.Inside.Shown.{IsShownBy, IsClimbedBy}
+use Rattle.l4_mapdb.specs.Inside.Sheets.{now_in, later_in}
 use Rattle.l4_mapdb.proofs.Rising.{Climbed, Collected}
 use Rattle.l4_mapdb.proofs.moving.lost.Given as goal
 

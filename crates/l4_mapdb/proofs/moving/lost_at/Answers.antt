@@ -1,4 +1,4 @@
-use Rattle.l4_mapdb.specs.Shown.{page_move}
+use Rattle.l4_mapdb.specs.Inside.Shown.{page_move}
 use Rattle.l4_mapdb.proofs.Rising.{none_lost, map_lost, grant_lost}
 use Rattle.l4_mapdb.proofs.moving.lost_at.Goals as goal
 

@@ -1,6 +1,6 @@
 use Rattle.std.proofs.Common.{arith}
 use Rattle.std.proofs.lemmas.Bool.Decides.{nat_tests}
-use Rattle.l4_mapdb.specs.Sheets.{now_in}
+use Rattle.l4_mapdb.specs.Inside.Sheets.{now_in}
 use Rattle.l4_mapdb.proofs.Clashing.{read_there}
 use Rattle.l4_mapdb.proofs.Sources.{into_of}
 use Rattle.l4_mapdb.proofs.moving.move_into.Goals as goal

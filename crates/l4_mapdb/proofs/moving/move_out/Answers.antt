@@ -1,5 +1,5 @@
 use Rattle.std.proofs.Common.{◌∙◌, sym, refl}
-use Rattle.l4_mapdb.specs.Sheets.{now_in}
+use Rattle.l4_mapdb.specs.Inside.Sheets.{now_in}
 use Rattle.l4_mapdb.proofs.Clashing.{read_there}
 use Rattle.l4_mapdb.proofs.Sources.{not_moved, out_of}
 use Rattle.l4_mapdb.proofs.moving.move_out.Goals as goal

@@ -1,6 +1,6 @@
 use Rattle.std.proofs.Common.{refl, inl, inr}
 use Rattle.l4_mapdb.specs.Transfer.{IsUsed}
-use Rattle.l4_mapdb.specs.Shown.{page_move}
+use Rattle.l4_mapdb.specs.Inside.Shown.{page_move}
 use Rattle.l4_mapdb.proofs.Sources.{later_to}
 use Rattle.l4_mapdb.proofs.moving.renamed.Goals as goal
 

@@ -2,7 +2,7 @@ use Rattle.std.proofs.Common.{◌≡◌, ◌∙◌, sym, ap, is_some, true}
 use Rattle.l4_mapdb.specs.declared.Place.{Place}
 use Rattle.l4_mapdb.specs.Transfer.{PageMove}
 use Rattle.l4_mapdb.specs.Mappings.{shown}
-use Rattle.l4_mapdb.specs.Shown.{page_move}
+use Rattle.l4_mapdb.specs.Inside.Shown.{page_move}
 use Rattle.l4_mapdb.proofs.UsedMoves.{same_source}
 use Rattle.l4_mapdb.proofs.replacing.page_replaces.Goals as goal
 

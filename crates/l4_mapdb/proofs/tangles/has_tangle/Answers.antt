@@ -1,5 +1,5 @@
 use Rattle.std.proofs.Common.{arith}
-use Rattle.l4_mapdb.specs.Sheets.{now_in}
+use Rattle.l4_mapdb.specs.Inside.Sheets.{now_in}
 use Rattle.l4_mapdb.proofs.Rising.{so, not_so}
 use Rattle.l4_mapdb.proofs.Tangled.{entangles, no_tangle}
 use Rattle.l4_mapdb.proofs.tangles.has_tangle.Goals as goal

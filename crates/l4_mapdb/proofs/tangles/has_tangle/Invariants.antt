@@ -1,9 +1,9 @@
 use Rattle.std.proofs.Common.{ℕ, ◌<◌}
 use Rattle.l4_mapdb.specs.Mappings.{Mappings, IsForest}
 use Rattle.l4_mapdb.specs.Transfer.{IsUsed}
-use Rattle.l4_mapdb.specs.Sheets.{now_in}
-use Rattle.l4_mapdb.specs.Shown.{IsShownBy}
-use Rattle.l4_mapdb.specs.Tangles.{KeyTangles}
+use Rattle.l4_mapdb.specs.Inside.Sheets.{now_in}
+use Rattle.l4_mapdb.specs.Inside.Shown.{IsShownBy}
+use Rattle.l4_mapdb.specs.Inside.Tangles.{KeyTangles}
 use Rattle.l4_mapdb.proofs.tangles.has_tangle.Given as goal
 
 -- no used move out of the place of a key before this one entangles the message

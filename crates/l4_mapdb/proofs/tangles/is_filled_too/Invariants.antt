@@ -1,8 +1,8 @@
 use Rattle.std.proofs.Common.{◌≢◌, ◌<◌}
 use Rattle.l4_mapdb.specs.Mappings.{Mappings}
 use Rattle.l4_mapdb.specs.Transfer.{PageMove, IsUsed}
-use Rattle.l4_mapdb.specs.Shown.{IsShownBy}
-use Rattle.l4_mapdb.specs.Sheets.{now_in}
+use Rattle.l4_mapdb.specs.Inside.Shown.{IsShownBy}
+use Rattle.l4_mapdb.specs.Inside.Sheets.{now_in}
 use Rattle.l4_mapdb.proofs.tangles.is_filled_too.Given as goal
 
 -- none of the items below, but this one, has the place as a target

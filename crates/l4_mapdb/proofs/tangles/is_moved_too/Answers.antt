@@ -1,6 +1,6 @@
 use Rattle.std.proofs.Common.{arith}
-use Rattle.l4_mapdb.specs.Shown.{page_move}
-use Rattle.l4_mapdb.specs.Sheets.{now_in}
+use Rattle.l4_mapdb.specs.Inside.Shown.{page_move}
+use Rattle.l4_mapdb.specs.Inside.Sheets.{now_in}
 use Rattle.l4_mapdb.proofs.Rising.{so, not_so}
 use Rattle.l4_mapdb.proofs.Tangled.{not_moved_too}
 use Rattle.l4_mapdb.proofs.tangles.is_moved_too.Goals as goal

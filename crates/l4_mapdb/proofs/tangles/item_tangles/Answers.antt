@@ -1,5 +1,5 @@
-use Rattle.l4_mapdb.specs.Shown.{page_move}
-use Rattle.l4_mapdb.specs.Sheets.{now_in}
+use Rattle.l4_mapdb.specs.Inside.Shown.{page_move}
+use Rattle.l4_mapdb.specs.Inside.Sheets.{now_in}
 use Rattle.l4_mapdb.proofs.Rising.{not_so}
 use Rattle.l4_mapdb.proofs.Tangled.{no_item, of_item}
 use Rattle.l4_mapdb.proofs.tangles.item_tangles.Goals as goal

@@ -2,9 +2,9 @@ use Rattle.std.proofs.Common.{◌≡◌, ℕ, ◌<◌, Some, slice_get}
 use Rattle.l4_mapdb.specs.declared.ItemMove.{ItemMove}
 use Rattle.l4_mapdb.specs.Mappings.{Mappings, IsForest}
 use Rattle.l4_mapdb.specs.Transfer.{IsUsed}
-use Rattle.l4_mapdb.specs.Shown.{IsShownBy}
-use Rattle.l4_mapdb.specs.Tangles.{ItemTangles}
-use Rattle.l4_mapdb.specs.Sheets.{now_in}
+use Rattle.l4_mapdb.specs.Inside.Shown.{IsShownBy}
+use Rattle.l4_mapdb.specs.Inside.Tangles.{ItemTangles}
+use Rattle.l4_mapdb.specs.Inside.Sheets.{now_in}
 use Rattle.l4_mapdb.proofs.tangles.place_tangles.Given as goal
 
 -- no item below this one entangles the message by its move out of the place

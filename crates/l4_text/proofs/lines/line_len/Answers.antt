@@ -1,5 +1,5 @@
 use Rattle.std.proofs.Common.{◌∙◌, ap, length, unwrap_or}
-use Rattle.l4_text.specs.Lines.{is_newline}
+use Rattle.l4_text.specs.Inside.Reading.{is_newline}
 use Rattle.l4_text.proofs.Parts.{position_or}
 use Rattle.l4_text.proofs.lines.line_len.Goals as goal
 

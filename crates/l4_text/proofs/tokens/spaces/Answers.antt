@@ -1,5 +1,5 @@
 use Rattle.std.proofs.Common.{◌∙◌, ap, length, unwrap_or}
-use Rattle.l4_text.specs.Tokens.{is_no_space}
+use Rattle.l4_text.specs.Inside.Reading.{is_no_space}
 use Rattle.l4_text.proofs.Parts.{position_or}
 use Rattle.l4_text.proofs.tokens.spaces.Goals as goal
 

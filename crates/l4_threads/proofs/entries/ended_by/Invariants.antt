@@ -1,5 +1,5 @@
 use Rattle.std.proofs.Common.{◌≡◌, ◌≤◌, drop, [], length}
-use Rattle.l4_threads.specs.Entries.{ended_in}
+use Rattle.l4_threads.specs.Inside.Entries.{ended_in}
 use Rattle.l4_threads.proofs.entries.ended_by.Given as goal
 
 abbrev pub invariant-loop-entry : goal.invariant-loop-entry

@@ -1,5 +1,5 @@
 use Rattle.std.proofs.Common.{◌≡◌, take, drop, ◌++◌}
-use Rattle.l4_threads.specs.Entries.{freed_in}
+use Rattle.l4_threads.specs.Inside.Entries.{freed_in}
 use Rattle.l4_threads.proofs.entries.free_all.Given as goal
 
 -- the entries before i are freed, and the others are as they were

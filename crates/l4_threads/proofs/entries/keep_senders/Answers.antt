@@ -1,6 +1,6 @@
 use Rattle.std.proofs.Common.{rules}
 use Rattle.arrayvec.proofs.ArrayVecLemmas.{filter-from_retain}
-use Rattle.l4_threads.specs.Entries.{sends_in}
+use Rattle.l4_threads.specs.Inside.Entries.{sends_in}
 use Rattle.l4_threads.proofs.entries.keep_senders.Goals as goal
 
 pub returns : goal.returns

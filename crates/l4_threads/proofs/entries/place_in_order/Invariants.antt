@@ -1,5 +1,5 @@
 use Rattle.std.proofs.Common.{◌≡◌, take, drop, ◌++◌}
-use Rattle.l4_threads.specs.Entries.{rising_with}
+use Rattle.l4_threads.specs.Inside.Entries.{rising_with}
 use Rattle.l4_threads.proofs.entries.place_in_order.Given as goal
 
 -- the number goes into what is left of the list

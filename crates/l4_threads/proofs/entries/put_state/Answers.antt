@@ -1,5 +1,5 @@
 use Rattle.std.proofs.Common.{subst}
-use Rattle.l4_threads.specs.Entries.{Entries, IsAt}
+use Rattle.l4_threads.specs.Inside.Entries.{Entries, IsAt}
 use Rattle.l4_threads.proofs.TableLemmas.{written_change}
 use Rattle.l4_threads.proofs.entries.put_state.Goals as goal
 

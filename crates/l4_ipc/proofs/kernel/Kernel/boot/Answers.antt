@@ -3,7 +3,7 @@ use Rattle.std.specs.FinSet as set
 use Rattle.l4_mapdb.specs.Mappings.{Mappings}
 use Rattle.l4_threads.specs.Threads.{Threads, first_threads}
 use Rattle.l4_ipc.specs.Machine.{machine}
-use Rattle.l4_ipc.specs.Sound.{IsSound}
+use Rattle.l4_ipc.specs.Inside.Sound.{IsSound}
 use Rattle.l4_ipc.proofs.SoundKept.{sound_boot}
 use Rattle.l4_ipc.proofs.kernel.Kernel.boot.Goals as goal
 

@@ -2,8 +2,9 @@ use Rattle.std.proofs.Common.{◌≡◌, ◌≢◌, ◌<◌, ◌≤◌, ◌+◌,
 use Rattle.std.proofs.lemmas.Option.{slice_get_within}
 use Rattle.l4_lock.specs.declared.entries.Entry.{Entry}
 use Rattle.l4_lock.specs.Books.{SeatState, Book, book_at, reply_waits}
-use Rattle.l4_lock.specs.Locked.{Lock, lock, IsReady, Begins, Enters, EndsAtOnce, IsLeft, Refuses}
-use Rattle.l4_lock.specs.Board.{Publishing}
+use Rattle.l4_lock.specs.Locked.{Lock, lock, Enters, EndsAtOnce, IsLeft, Refuses}
+use Rattle.l4_lock.specs.Inside.Entering.{IsReady, Begins}
+use Rattle.l4_lock.specs.Inside.Board.{Publishing}
 use Rattle.l4_lock.proofs.Openings.{ok_part}
 use Rattle.l4_lock.proofs.Started.{ready, get_there}
 use Rattle.l4_lock.proofs.Taking.{finished, begun_kept, numbered, enters, ends_at_once, is_left, seat_back, refuses, some_there}

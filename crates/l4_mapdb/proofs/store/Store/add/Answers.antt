@@ -2,7 +2,7 @@ use Rattle.std.proofs.Common.{◌∙◌, ap, subst, sym, refl, None}
 use Rattle.std.specs.FinMap as map
 use Rattle.slab.specs.Slab.{Slab}
 use Rattle.l4_mapdb.specs.declared.store.Node.{Node}
-use Rattle.l4_mapdb.specs.Sheets.{Sheet, StandsUnder}
+use Rattle.l4_mapdb.specs.Inside.Sheets.{Sheet, StandsUnder}
 use Rattle.l4_mapdb.proofs.Slots.{Slots}
 use Rattle.l4_mapdb.proofs.Stored.{Pages, Names, once_named, named_added}
 use Rattle.l4_mapdb.proofs.store.Store.add.Goals as goal

@@ -1,5 +1,5 @@
 use Rattle.std.proofs.Common.{◌≤◌, length, refl, subst, arith}
-use Rattle.l4_mapdb.specs.Sheets.{Sheet, shown_only}
+use Rattle.l4_mapdb.specs.Inside.Sheets.{Sheet, shown_only}
 use Rattle.l4_mapdb.proofs.Stored.{Names, once_named, once_kept, shown_only_keeps, changed_all}
 use Rattle.l4_mapdb.proofs.store.Store.drop_blanks.Goals as goal
 

@@ -1,5 +1,5 @@
 use Rattle.std.proofs.Common.{◌≡◌}
-use Rattle.l4_mapdb.specs.Sheets.{shown_only}
+use Rattle.l4_mapdb.specs.Inside.Sheets.{shown_only}
 use Rattle.l4_mapdb.proofs.Stored.{ChangedBelow}
 use Rattle.l4_mapdb.proofs.store.Store.drop_blanks.Given as goal
 

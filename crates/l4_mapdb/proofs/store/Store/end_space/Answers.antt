@@ -1,5 +1,5 @@
 use Rattle.std.proofs.Common.{subst, sym}
-use Rattle.l4_mapdb.specs.Sheets.{Sheet, NoPageFrom}
+use Rattle.l4_mapdb.specs.Inside.Sheets.{Sheet, NoPageFrom}
 use Rattle.l4_mapdb.proofs.Ended.{pages_without}
 use Rattle.l4_mapdb.proofs.store.Store.end_space.Goals as goal
 

@@ -1,5 +1,5 @@
 use Rattle.std.proofs.Common.{subst}
-use Rattle.l4_mapdb.specs.Sheets.{Sheet}
+use Rattle.l4_mapdb.specs.Inside.Sheets.{Sheet}
 use Rattle.l4_mapdb.proofs.Stored.{Names, next_in_named}
 use Rattle.l4_mapdb.proofs.store.Store.next_in.Goals as goal
 

@@ -1,5 +1,5 @@
 use Rattle.std.proofs.Common.{subst}
-use Rattle.l4_mapdb.specs.Sheets.{Sheet}
+use Rattle.l4_mapdb.specs.Inside.Sheets.{Sheet}
 use Rattle.l4_mapdb.proofs.Stored.{Names, next_named}
 use Rattle.l4_mapdb.proofs.store.Store.next_page.Goals as goal
 

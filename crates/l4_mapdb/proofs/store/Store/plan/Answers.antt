@@ -1,6 +1,6 @@
 use Rattle.std.proofs.Common.{subst, sym, refl}
 use Rattle.l4_mapdb.specs.declared.store.Store.TheInside.{Inside}
-use Rattle.l4_mapdb.specs.Stores.{IsIndexed}
+use Rattle.l4_mapdb.specs.Inside.Stores.{IsIndexed}
 use Rattle.l4_mapdb.proofs.Stored.{once_named, named_written}
 use Rattle.l4_mapdb.proofs.store.Store.plan.Goals as goal
 use Rattle.l4_mapdb.proofs.store.Store.plan.Goals.{in-Some, in_default}

@@ -1,5 +1,5 @@
 use Rattle.std.proofs.Common.{subst, sym}
-use Rattle.l4_mapdb.specs.Sheets.{Sheet, StandsUnder}
+use Rattle.l4_mapdb.specs.Inside.Sheets.{Sheet, StandsUnder}
 use Rattle.l4_mapdb.proofs.Stored.{named_removed}
 use Rattle.l4_mapdb.proofs.store.Store.remove.Goals as goal
 

@@ -1,5 +1,5 @@
 use Rattle.std.proofs.Common.{◌≤◌, length, refl, subst, arith}
-use Rattle.l4_mapdb.specs.Sheets.{Sheet, settled}
+use Rattle.l4_mapdb.specs.Inside.Sheets.{Sheet, settled}
 use Rattle.l4_mapdb.proofs.Stored.{Names, once_named, once_kept, settled_keeps, changed_all}
 use Rattle.l4_mapdb.proofs.store.Store.settle.Goals as goal
 

@@ -1,5 +1,5 @@
 use Rattle.std.proofs.Common.{◌≡◌}
-use Rattle.l4_mapdb.specs.Sheets.{settled}
+use Rattle.l4_mapdb.specs.Inside.Sheets.{settled}
 use Rattle.l4_mapdb.proofs.Stored.{ChangedBelow}
 use Rattle.l4_mapdb.proofs.store.Store.settle.Given as goal
 

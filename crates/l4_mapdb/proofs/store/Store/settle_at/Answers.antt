@@ -1,6 +1,6 @@
 use Rattle.std.proofs.Common.{Some, subst, sym, refl}
 use Rattle.l4_mapdb.specs.declared.store.Store.TheInside.{Inside}
-use Rattle.l4_mapdb.specs.Stores.{IsIndexed}
+use Rattle.l4_mapdb.specs.Inside.Stores.{IsIndexed}
 use Rattle.l4_mapdb.proofs.Stored.{named_written}
 use Rattle.l4_mapdb.proofs.store.Store.settle_at.Goals as goal
 use Rattle.l4_mapdb.proofs.store.Store.settle_at.Goals.{in-Some-get_mut, in_default-get_mut}

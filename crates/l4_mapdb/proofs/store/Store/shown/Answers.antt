@@ -1,5 +1,5 @@
 use Rattle.std.proofs.Common.{◌∙◌, ap, subst, sym}
-use Rattle.l4_mapdb.specs.Sheets.{Sheet, slot_at}
+use Rattle.l4_mapdb.specs.Inside.Sheets.{Sheet, slot_at}
 use Rattle.l4_mapdb.proofs.Slots.{none_shown}
 use Rattle.l4_mapdb.proofs.Stored.{Names, once_named, record_shows}
 use Rattle.l4_mapdb.proofs.store.Store.shown.Goals as goal

@@ -1,7 +1,8 @@
 use Rattle.std.proofs.Common.{ℕ, List, [], ◌≡◌, subst, sym, ap, ◌∙◌}
 use Rattle.std.proofs.lemmas.Bool.{false≢true}
 use Rattle.std.specs.List.Sorted.{IsStrictlyIncreasing}
-use Rattle.l4_threads.specs.Entries.{Entries, ended_in, is_in}
+use Rattle.l4_threads.specs.Inside.Entries.{Entries, ended_in}
+use Rattle.l4_threads.specs.Queue.{is_in}
 use Rattle.l4_threads.proofs.DeleteLemmas.{ended_list, rises, ends_seen}
 use Rattle.l4_threads.proofs.table.Threads.ended_with.Goals as goal
 

@@ -1,9 +1,9 @@
 use Rattle.std.proofs.Common.{◌≡◌, ℕ, Some, refl, sym, ap, ◌∙◌, subst, length}
 use Rattle.std.proofs.lemmas.Option.{slice_get_read}
 use Rattle.std.proofs.lemmas.Bool.{false≢true}
-use Rattle.l4_threads.specs.Entries.{Entries, any_state}
+use Rattle.l4_threads.specs.Inside.Entries.{Entries, any_state}
 use Rattle.l4_threads.specs.Enabled.{expires}
-use Rattle.l4_threads.specs.Queue.{threads_of}
+use Rattle.l4_threads.specs.Inside.Kept.{threads_of}
 use Rattle.l4_threads.proofs.EnabledLemmas.{LeastSoFar, least_skips, least_takes, least_of_all, never_expires, none_such}
 use Rattle.l4_threads.proofs.table.Threads.next_expiry.Goals as goal
 use Rattle.l4_threads.proofs.table.Threads.next_expiry.Goals.{then-can_expire, else-can_expire}

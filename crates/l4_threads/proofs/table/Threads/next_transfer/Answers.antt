@@ -1,6 +1,6 @@
 use Rattle.std.proofs.Common.{sym, ap, ◌∙◌, subst, is_some}
-use Rattle.l4_threads.specs.Enabled.{taker}
-use Rattle.l4_threads.specs.Entries.{is_receiving, any_state}
+use Rattle.l4_threads.specs.Inside.Taker.{taker}
+use Rattle.l4_threads.specs.Inside.Entries.{is_receiving, any_state}
 use Rattle.l4_threads.proofs.EnabledLemmas.{IsQueueOf, queue_of, find_here, find_further, find_end, next_transfer_is, no_transfer, none_such, none_first}
 use Rattle.l4_threads.proofs.table.Threads.next_transfer.Goals as goal
 

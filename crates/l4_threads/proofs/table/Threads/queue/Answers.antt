@@ -1,5 +1,5 @@
 use Rattle.std.proofs.Common.{List, ℕ, sym, ap, ◌∙◌}
-use Rattle.l4_threads.specs.Entries.{is_in}
+use Rattle.l4_threads.specs.Queue.{is_in}
 use Rattle.l4_threads.proofs.ViewLemmas.{sends_seen}
 use Rattle.l4_threads.proofs.table.Threads.queue.Goals as goal
 

@@ -1,5 +1,5 @@
 use Rattle.std.proofs.Common.{◌≡◌, filter, ap, ◌∙◌}
-use Rattle.l4_threads.specs.Entries.{Entries, sends_in, without_in}
+use Rattle.l4_threads.specs.Inside.Entries.{Entries, sends_in, without_in}
 use Rattle.l4_threads.proofs.DeleteLemmas.{freed_back, gone_in, gone_table, deletes}
 use Rattle.l4_threads.proofs.table.Threads.take_away.Goals as goal
 

@@ -1,7 +1,7 @@
 use Rattle.std.proofs.Common.{ℕ, sym, ap, ◌∙◌, Some}
 use Rattle.l4_threads.specs.declared.Thread.{Thread}
 use Rattle.std.proofs.lemmas.Option.{get_or_from_slice_get}
-use Rattle.l4_threads.specs.Entries.{Entries, found, IsAt}
+use Rattle.l4_threads.specs.Inside.Entries.{Entries, found, IsAt}
 use Rattle.l4_threads.proofs.TableLemmas.{found_first}
 use Rattle.l4_threads.proofs.ViewLemmas.{thread_at_seen}
 use Rattle.l4_threads.proofs.table.Threads.thread.Goals as goal

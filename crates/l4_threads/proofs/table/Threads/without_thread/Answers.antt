@@ -1,5 +1,5 @@
 use Rattle.std.proofs.Common.{refl, sym, ap, ◌∙◌}
-use Rattle.l4_threads.specs.Entries.{Entries, has_space}
+use Rattle.l4_threads.specs.Inside.Entries.{Entries, has_space}
 use Rattle.l4_threads.proofs.DeleteLemmas.{used_seen, unused_seen}
 use Rattle.l4_threads.proofs.table.Threads.without_thread.Goals as goal
 

@@ -2,7 +2,7 @@
 use Rattle.std.specs.Prelude.{◌≡◌, ◌≢◌, ℕ, List, Option, Some, IsTrue, ◌⊎◌}
 use Rattle.l4_mapdb.specs.declared.Place.{Place}
 use Rattle.l4_mapdb.specs.declared.store.Node.{Node}
-use Rattle.l4_mapdb.specs.Sheets.{slot_at}
+use Rattle.l4_mapdb.specs.Inside.Sheets.{slot_at}
 use Rattle.l4_mapdb.specs.Mappings.{Mappings}
 use Rattle.l4_mapdb.specs.Transfer.{PageMove, IsGone}
 

@@ -8,7 +8,7 @@ use Rattle.l4_mapdb.specs.declared.Place.{Place}
 use Rattle.l4_mapdb.specs.declared.Mapping.{Mapping}
 use Rattle.l4_mapdb.specs.declared.store.Node.{Node}
 use Rattle.l4_mapdb.specs.Mappings.{place_code, mapping_code}
-use Rattle.l4_mapdb.specs.Entries.{Entries}
+use Rattle.l4_mapdb.specs.Inside.Entries.{Entries}
 
 -- the record or nothing under each key from 0 on, and the spaces that there are
 pub record Sheet : Type 0 where

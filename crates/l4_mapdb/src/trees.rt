@@ -3,9 +3,9 @@
 ghost use Rattle.std.specs.Prelude.{◌≡◌, ◌↔◌, ◌≤◌, [], OnOk, IsTrue, MatchOption, None, ℕ};
 ghost use Rattle.std.specs.FinSet as set;
 ghost use Rattle.l4_spaces.specs.Tables.{space_pages};
-ghost use Rattle.l4_mapdb.specs.Entries.{child_of};
-ghost use Rattle.l4_mapdb.specs.Sheets.{IsWhole, RecordedOnce, now_in};
-ghost use Rattle.l4_mapdb.specs.Planning.{ShowsOwn, IsRootKey, NoRootKey};
+ghost use Rattle.l4_mapdb.specs.Inside.Entries.{child_of};
+ghost use Rattle.l4_mapdb.specs.Inside.Sheets.{IsWhole, RecordedOnce, now_in};
+ghost use Rattle.l4_mapdb.specs.Inside.Records.{ShowsOwn, IsRootKey, NoRootKey};
 
 use crate::store::{Node, Store};
 use crate::{ItemMove, Mapping, NoMemory, Place};

@@ -1,15 +1,17 @@
 -- The lists that the tables of threads keep: the threads with their numbers, and the queue of senders. (this profile's own)
-use Rattle.std.specs.Prelude.{◌≡◌, ◌≢◌, ℕ, ◌<◌, ◌≤◌, ◌^◌, length, ◌==◌, ◌&&◌, ◌||◌, Bool, false, true, not, nat_lt, filter, if◌then◌else◌, List, [], ◌∷◌, ◌++◌, map, Option, Some, slice_get}
+use Rattle.std.specs.Prelude.{◌≡◌, ◌≢◌, ℕ, ◌<◌, ◌≤◌, ◌^◌, length, ◌==◌, ◌&&◌, ◌||◌, Bool, false, true, not, nat_lt, filter, if◌then◌else◌, List, [], ◌∷◌, map, Option, Some, slice_get}
 use Rattle.std.specs.List.{list_any}
 use Rattle.std.specs.Option.{option_map_or, option_map}
 use Rattle.std.specs.Ordering.{nat_cmp}
 use Rattle.std.specs.FinMap as fin
 use Rattle.l4_threads.specs.Threads.{number_of, is_sending, is_running}
-use Rattle.l4_threads.specs.Control.{freed, frees}
+use Rattle.l4_threads.specs.Control.{freed}
+use Rattle.l4_threads.specs.Inside.Ending.{frees}
 use Rattle.l4_threads.specs.declared.Thread.{Thread}
 use Rattle.l4_threads.specs.declared.ThreadId.{ThreadId}
 use Rattle.l4_threads.specs.declared.State.{State}
 use Rattle.l4_threads.specs.declared.State.TheVariants.{Running, Sending as Sends, Receiving as Receives}
+use Rattle.l4_threads.specs.Queue.{is_in, IsOnce}
 
 -- the threads with their numbers, in the order of their creation
 abbrev pub Entries : Type 0
@@ -36,20 +38,6 @@ in_state state thread = record thread { state = state }
 
 abbrev pub in_pager : ThreadId → Thread → Thread
 in_pager pager thread = record thread { pager = pager }
-
--- the pairs of a list: each item with each later one
-abbrev pub pairs_of : List ℕ → List (ℕ × ℕ)
-pairs_of [] = []
-pairs_of (a ∷ rest) = map (λ b. (a, b)) rest ++ pairs_of rest
-
--- whether the number is in the list
-abbrev pub is_in : List ℕ → ℕ → Bool
-is_in queue n = list_any (λ m. n == m) queue
-
--- no number stands twice in the list
-abbrev pub IsOnce : List ℕ → Type 0
-IsOnce [] = Unit {0}
-IsOnce (a ∷ rest) = (is_in rest a ≡ false) × IsOnce rest
 
 -- whether the one number stands before the other
 abbrev pub precedes : List ℕ → ℕ → ℕ → Bool

@@ -5,7 +5,7 @@ use Rattle.l4_fpage.specs.Rights.{Right, has}
 use Rattle.l4_mapdb.specs.declared.Place.{Place}
 use Rattle.l4_mapdb.specs.declared.moving.UsedMove.{UsedMove}
 use Rattle.l4_mapdb.specs.Mappings.{place_cmp, Mappings, shown, parent_of}
-use Rattle.l4_mapdb.specs.Entries.{Entries, parent_in}
+use Rattle.l4_mapdb.specs.Inside.Entries.{Entries, parent_in}
 use Rattle.l4_mapdb.specs.Transfer.{PageMove}
 
 -- each place shows what stands for it in the list

@@ -1,6 +1,6 @@
 use Rattle.std.proofs.Common.{ℕ, ◌<◌}
-use Rattle.l4_mapdb.specs.Planning.{NoRootKey}
-use Rattle.l4_mapdb.proofs.lists.root_in.Given as goal
+use Rattle.l4_mapdb.specs.Inside.Records.{NoRootKey}
+use Rattle.l4_mapdb.proofs.trees.root_in.Given as goal
 
 -- none of the keys below this one is of a root
 abbrev pub invariant-loop-key : goal.invariant-loop-key

@@ -1,6 +1,6 @@
 use Rattle.std.proofs.Common.{arith}
 use Rattle.l4_mapdb.proofs.Slots.{slot_within}
-use Rattle.l4_mapdb.proofs.lists.root_in.Goals as goal
+use Rattle.l4_mapdb.proofs.trees.root_in.Goals as goal
 
 pub returns : goal.returns
 returns c = λ key n m at.

@@ -2,7 +2,7 @@
 use Rattle.std.specs.FinMap as map
 use Rattle.l4_mapdb.specs.declared.Forest.TheInside.{Inside}
 use Rattle.l4_mapdb.specs.Mappings.{Mappings, IsForest}
-use Rattle.l4_mapdb.specs.Sheets.{Sheet, now_in, RecordedOnce, IsWhole}
+use Rattle.l4_mapdb.specs.Inside.Sheets.{Sheet, now_in, RecordedOnce, IsWhole}
 
 abbrev pub of_sheet : Sheet → Mappings
 of_sheet sheet = record { places = map.from_entries (now_in sheet.slots); spaces = sheet.spaces }

@@ -1,7 +1,7 @@
 use Rattle.std.proofs.Common.{◌≡◌, ◌∙◌, refl, subst, arith, ℕ}
-use Rattle.l4_mapdb.specs.Planning.{ShowsOwn}
+use Rattle.l4_mapdb.specs.Inside.Records.{ShowsOwn}
 use Rattle.l4_mapdb.proofs.Initial.{own_first, own_added}
-use Rattle.l4_mapdb.proofs.lists.own_places.Goals as goal
+use Rattle.l4_mapdb.proofs.trees.own_places.Goals as goal
 
 pub loop-frame-init : goal.loop-frame-init
 loop-frame-init c = (own_first c.args.places.now.slots c.requires.empty, refl)

@@ -9,10 +9,10 @@ use Rattle.l4_mapdb.specs.declared.ItemMove.{ItemMove}
 use Rattle.l4_mapdb.specs.declared.losing.Pages.{Pages}
 use Rattle.l4_mapdb.specs.declared.store.Node.{Node}
 use Rattle.l4_mapdb.specs.Mappings.{place_cmp, Mappings, Chain, Descends, IsPresent, IsForest}
-use Rattle.l4_mapdb.specs.Entries.{Entries, parent_in, IsAmong, IsCutEntry}
+use Rattle.l4_mapdb.specs.Inside.Entries.{Entries, parent_in, IsAmong, IsCutEntry}
 use Rattle.l4_mapdb.specs.Transfer.{PageMove, IsUsed, IsEntangled, Becomes, NeedsPlace}
-use Rattle.l4_mapdb.specs.Shown.{IsShownBy}
-use Rattle.l4_mapdb.specs.Sheets.{slot_at, StandsUnder, HasRecord, now_in}
+use Rattle.l4_mapdb.specs.Inside.Shown.{IsShownBy}
+use Rattle.l4_mapdb.specs.Inside.Sheets.{slot_at, StandsUnder, HasRecord, now_in}
 
 -- sigma0's places for the frames below this number, and no others, show something
 abbrev pub ShowsOwn : ℕ → List (Option Node) → Type 0

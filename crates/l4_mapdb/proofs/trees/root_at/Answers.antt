@@ -1,5 +1,5 @@
 use Rattle.std.proofs.Common.{◌∙◌, sym, refl}
-use Rattle.l4_mapdb.proofs.lists.root_at.Goals as goal
+use Rattle.l4_mapdb.proofs.trees.root_at.Goals as goal
 
 pub returns : goal.returns
 returns c =

@@ -3,7 +3,7 @@ use Rattle.std.specs.Prelude.{◌≡◌, ◌↔◌, ℕ, Some}
 use Rattle.l4_spaces.specs.Tables.{key_of}
 use Rattle.l4_mapdb.specs.declared.Place.{Place}
 use Rattle.l4_mapdb.specs.declared.store.Store.TheInside.{Inside}
-use Rattle.l4_mapdb.specs.Sheets.{Sheet, StandsUnder}
+use Rattle.l4_mapdb.specs.Inside.Sheets.{Sheet, StandsUnder}
 
 abbrev pub seen : Inside → Sheet
 seen a = record { slots = a.nodes.slots; spaces = a.pages.spaces }

@@ -1,7 +1,7 @@
 -- What a contract sees of the kernel, and what it keeps. (this profile's own)
 use Rattle.l4_ipc.specs.declared.kernel.Kernel.TheInside.{Inside}
 use Rattle.l4_ipc.specs.Machine.{Machine, machine}
-use Rattle.l4_ipc.specs.Sound.{IsSound}
+use Rattle.l4_ipc.specs.Inside.Sound.{IsSound}
 
 abbrev pub seen : Inside → Machine
 seen a = machine a.threads a.forest

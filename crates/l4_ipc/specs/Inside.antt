@@ -1,0 +1,4 @@
+pub mod Delivering
+pub mod Entering
+pub mod Kept
+pub mod Sound

@@ -1,0 +1,4 @@
+pub mod Board
+pub mod Closing
+pub mod Entering
+pub mod Noting

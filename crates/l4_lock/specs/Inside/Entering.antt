@@ -1,0 +1,56 @@
+-- A call as it is entered, step after step. (this profile's own)
+use Rattle.std.specs.Prelude.{◌≡◌, ℕ, List, [], ◌∷◌, Option, Some, None, Ok, ◌+◌, ◌≤◌, ◌++◌, length, map, slice_get, slice_set}
+use Rattle.l4_ipc.specs.declared.steps.Step.TheVariants.{Start}
+use Rattle.l4_ipc.specs.Machine.{Machine}
+use Rattle.l4_ipc.specs.Steps.{Steps, IsIdle}
+use Rattle.l4_lock.specs.declared.entries.Entry.{Entry}
+use Rattle.l4_lock.specs.History.{GoesOn}
+use Rattle.l4_ipc.specs.declared.calls.Call.{Call}
+use Rattle.l4_ipc.specs.declared.steps.Answer.{Answer}
+use Rattle.l4_lock.specs.declared.entries.Pending.{Pending}
+use Rattle.l4_lock.specs.Sizes.{max_threads}
+use Rattle.l4_lock.specs.Books.{Book, book, plain, HasNotEnded, AreRight}
+use Rattle.l4_lock.specs.Locked.{start_entry}
+
+-- the seat of the last entry
+abbrev pub last_seat : Option ℕ → List Entry → Option ℕ
+last_seat seat [] = seat
+last_seat seat (e ∷ es) = last_seat (Some e.seat) es
+
+-- steps of one seat that come next, until there is none, and what the books are then
+pub record Went (seat : ℕ) (old new : Machine) (before after : List Entry) (books later : List Book) : Type 0 where
+  pub rest : List Entry
+  pub goes : GoesOn old seat rest new
+  pub longer : after ≡ before ++ rest
+  pub few : length rest ≤ max_threads
+  pub same : map plain later ≡ map plain books
+  pub right : (frames : ℕ) → last_seat None before ≡ Some seat → AreRight frames before old books → AreRight frames after new later
+
+-- the book at this place is the number's, and its call that isn't taken yet has not ended
+abbrev pub IsReady : List Book → ℕ → ℕ → List Entry → Machine → Type 0
+IsReady books place n history m =
+    (b : Book) × (slice_get books place ≡ Some b) × (b.number ≡ n) × ((p : Pending) → b.pending ≡ Some p → HasNotEnded history m n p.start)
+
+-- A call was begun: its start and the steps that come next stand at the end of the history, and its book knows of it.
+pub record Begins (n : ℕ) (call : Call) (old new : Machine) (before after : List Entry) (books later : List Book) (place : ℕ) : Type 0 where
+  pub answer : Answer
+  pub started : Machine
+  pub starts : Steps old (Start n call) (Ok answer) started
+  pub rest : List Entry
+  pub goes : GoesOn started n rest new
+  pub few : length rest ≤ max_threads
+  pub history : after ≡ before ++ start_entry n call answer ∷ rest
+  pub idle : IsIdle new
+  pub right : (frames : ℕ) → AreRight frames before old books → AreRight frames after new later
+  pub former : Book
+  pub former_at : slice_get books place ≡ Some former
+  pub former_number : former.number ≡ n
+  pub same : map plain later ≡ map plain (slice_set books place (record former { pending = Some (record { call = call; start = length before; ended = None }) }))
+  pub book : Book
+  pub receipts : book.receipts ≡ former.receipts
+  pub at : slice_get later place ≡ Some book
+  pub number : book.number ≡ n
+  pub pending : Pending
+  pub pending_is : book.pending ≡ Some pending
+  pub pending_call : pending.call ≡ call
+  pub pending_start : pending.start ≡ length before

@@ -1,0 +1,23 @@
+-- How a stream is read, piece by piece, and what goes out at once (this profile's own).
+use Rattle.std.specs.Prelude.{ℕ, ◌≡◌, ◌+◌, ◌==◌, ◌<◌, ◌≤◌, Bool, true, false, List, [], ◌++◌, length, Option, Result, Ok, Err, not}
+use Rattle.std.specs.Io.KnownBytes.{Consumes, IsAtEnd, Appends}
+use Rattle.l4_text.specs.declared.faults.RunFault.{RunFault}
+use Rattle.l4_text.specs.declared.faults.RunFault.TheVariants.{Read}
+
+abbrev pub is_newline : ℕ → Bool
+is_newline byte = byte == 10
+
+-- a read put new bytes in the place of those that were there
+pub record Filled (old new : Option (List ℕ)) (before after : List ℕ × ℕ) (result : Result Bool RunFault) : Type 0 where
+  pub more : result ≡ Ok true → Consumes old new after.0 × (0 < length after.0) × (length after.0 ≤ 4096) × (after.1 ≡ before.1 + 1) × (after.1 ≤ 16777216)
+  pub none : result ≡ Ok false → Consumes old new [] × IsAtEnd new × (after.0 ≡ [])
+  pub fault : (e : RunFault) → result ≡ Err e → (e ≡ Read) × Consumes old new [] × (before.0 ≡ [] → after.0 ≡ [])
+
+abbrev pub is_no_space : ℕ → Bool
+is_no_space byte = not (byte == 32)
+
+-- what went out, and then what is held back, is what was held back before, and then the text
+pub record Puts (old new : Option (List ℕ)) (held held' text : List ℕ) : Type 0 where
+  pub front : List ℕ
+  pub whole : held ++ text ≡ front ++ held'
+  pub out : Appends old new front

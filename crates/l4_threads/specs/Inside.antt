@@ -1,0 +1,4 @@
+pub mod Ending
+pub mod Entries
+pub mod Kept
+pub mod Taker

@@ -1,0 +1,18 @@
+-- What the tables of threads keep, and what a contract sees of them. (this profile's own)
+use Rattle.std.specs.Prelude.{ℕ, List}
+use Rattle.std.specs.FinMap as fin
+use Rattle.std.specs.FinSet as set
+use Rattle.l4_threads.specs.declared.table.Threads.TheInside.{Inside}
+use Rattle.l4_threads.specs.Threads.{Threads as Seen}
+use Rattle.l4_threads.specs.Inside.Entries.{Entries, IsTable}
+use Rattle.l4_threads.specs.Queue.{pairs_of}
+
+-- the threads of a table, a queue and the next space
+abbrev pub threads_of : Entries → List ℕ → ℕ → Seen
+threads_of es queue next = record { threads = fin.from_entries es; before = set.from_list (pairs_of queue); next_space = next }
+
+abbrev pub seen : Inside → Seen
+seen a = threads_of a.threads.items a.queue.items a.next_space
+
+abbrev pub IsKept : Inside → Type 0
+IsKept a = IsTable a.threads.items a.queue.items a.next_space
