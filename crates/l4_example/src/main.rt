@@ -1,10 +1,13 @@
-//! How the kernel is embedded: sigma0 hands pages to one thread, which delegates a range of them to another and takes it back.
+//! How the kernel is embedded: sigma0 hands pages to one thread, which delegates a range of them to another, takes it back, and then
+//! answers a third thread's page fault.
 #![tactic(auto)]
 
 use l4_ipc::{
-    ArrayVec, Block, Call, Fpage, Kernel, MAX_WORDS, Refused, Rights, Step, ThreadId, Timeout,
+    ArrayVec, Block, Call, Fpage, Kernel, MAX_WORDS, Message, Refused, Rights, Step, ThreadId,
+    Timeout,
 };
 use l4_msg::Region;
+use l4_pager::{Entry, RegionPager, answering, brought, wait};
 use l4_plan::{Plan, plan};
 use l4_plan_check::{Proved, check};
 use std::io;
@@ -15,6 +18,11 @@ const FRAMES: u32 = 64;
 
 /// The number of root, which may create threads.
 const ROOT: u32 = 2;
+
+/// Where a thread reads, in its page 9, and by which instruction.
+const FAULT_ADDRESS: u32 = 0x9abc;
+
+const FAULT_IP: u32 = 0x40_0100;
 
 /// A thread of the example.
 #[derive(Clone, Copy)]
@@ -35,6 +43,8 @@ enum Stop {
     NoId,
     NoPlan,
     NotProved,
+    NoRegion,
+    NoMessage,
     NothingEnabled,
     Output(io::Error),
 }
@@ -47,10 +57,16 @@ fn step(kernel: &mut Kernel, step: &Step) -> Result<(), Stop> {
     }
 }
 
+/// Does the step that comes next.
+fn step_next(kernel: &mut Kernel) -> Result<(), Stop> {
+    let next = kernel.enabled().ok_or(Stop::NothingEnabled)?;
+    step(kernel, &next)
+}
+
 /// Makes the thread of this number, in a space of its own.
-fn create(kernel: &mut Kernel, number: u32) -> Result<Party, Stop> {
+fn create(kernel: &mut Kernel, number: u32, pager: &Party) -> Result<Party, Stop> {
     let id = ThreadId::global(number, 1).ok_or(Stop::NoId)?;
-    step(kernel, &Step::Start(ROOT, Call::create(id, id, SIGMA0.id)))?;
+    step(kernel, &Step::Start(ROOT, Call::create(id, id, pager.id)))?;
     Ok(Party { number, id })
 }
 
@@ -72,8 +88,30 @@ fn delegate(kernel: &mut Kernel, from: &Party, to: &Party, region: &Region) -> R
     step(kernel, &Step::Start(to.number, receive))?;
     let send = Call::send(to.id, words_of(&plan), Timeout::Never);
     step(kernel, &Step::Start(from.number, send))?;
-    let transfer = kernel.enabled().ok_or(Stop::NothingEnabled)?;
-    step(kernel, &transfer)
+    step_next(kernel)
+}
+
+/// Lets a thread read where no page is, and its pager receive the fault's message.
+fn fault(kernel: &mut Kernel, thread: &Party, pager: &Party) -> Result<(ThreadId, Message), Stop> {
+    step(kernel, &Step::Start(pager.number, wait()))?;
+    let read = Call::fault(FAULT_ADDRESS, FAULT_IP, Rights::R);
+    step(kernel, &Step::Start(thread.number, read))?;
+    step_next(kernel)?;
+    let told = kernel.reply(pager.number).ok_or(Stop::NoMessage)?;
+    brought(told).ok_or(Stop::NoMessage)
+}
+
+/// Lets a thread read where no page is, and its pager map the page as its regions say.
+fn serve(
+    kernel: &mut Kernel,
+    thread: &Party,
+    pager: &Party,
+    regions: &RegionPager,
+) -> Result<(), Stop> {
+    let (sender, message) = fault(kernel, thread, pager)?;
+    let answer = answering(sender, &regions.answer(&message));
+    step(kernel, &Step::Start(pager.number, answer))?;
+    step_next(kernel)
 }
 
 /// Prints what the space of a thread shows.
@@ -91,11 +129,26 @@ fn show(rt: &impl Print, kernel: &Kernel, party: &Party) -> io::Result<()> {
     Ok(())
 }
 
-/// Delegates and takes back, and prints what the two spaces show after each.
+/// A pager's table of one region: pages 8 to 11 are its own pages 16 to 19, to be read.
+fn table() -> Result<RegionPager, Stop> {
+    let mut regions = RegionPager::new();
+    let region = Entry {
+        first: 8,
+        source: 16,
+        count: 4,
+        rights: Rights::R,
+    };
+    match regions.add(region) {
+        Ok(()) => Ok(regions),
+        Err(_) => Err(Stop::NoRegion),
+    }
+}
+
+/// Delegates, takes back and answers a fault, and prints what the spaces show after each.
 fn tell<R: AllocGlobal + Print>(rt: &R) -> Result<(), Stop> {
     let mut kernel = Kernel::boot(rt.alloc(), FRAMES).map_err(Stop::Refused)?;
-    let first = create(&mut kernel, 3)?;
-    let second = create(&mut kernel, 4)?;
+    let first = create(&mut kernel, 3, &SIGMA0)?;
+    let second = create(&mut kernel, 4, &SIGMA0)?;
     let pages = Region {
         source: 16,
         target: 16,
@@ -116,7 +169,10 @@ fn tell<R: AllocGlobal + Print>(rt: &R) -> Result<(), Stop> {
     let unmap = Call::unmap(false, &[Fpage::of_block(block, Rights::all())]).ok_or(Stop::NoPlan)?;
     step(&mut kernel, &Step::Start(first.number, unmap))?;
     show(rt, &kernel, &first).map_err(Stop::Output)?;
-    show(rt, &kernel, &second).map_err(Stop::Output)
+    show(rt, &kernel, &second).map_err(Stop::Output)?;
+    let third = create(&mut kernel, 5, &first)?;
+    serve(&mut kernel, &third, &first, &table()?)?;
+    show(rt, &kernel, &third).map_err(Stop::Output)
 }
 
 fn main(rt: HostRuntime) -> ExitCode {
