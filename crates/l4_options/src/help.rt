@@ -56,6 +56,11 @@ are skipped.
                          own; the words are fpages with the rights to take, one
                          more of them than bits 5 to 0 of CONTROL say, and bit 6
                          means N's own pages too
+  fault N ADDRESS IP RIGHTS
+                         N tries an access (RIGHTS, as r--) at ADDRESS, by the
+                         instruction at IP, both in bytes; where the page isn't
+                         there with these rights, N's pager is told, and N goes on
+                         with the pager's next message
   show N FIRST COUNT     lists the present pages of N's space among the COUNT
                          pages from FIRST on
   parent N PAGE          the parent of a page of N's space: the page that it was
@@ -65,6 +70,11 @@ N is a thread's number, below 262144. Thread 1 is sigma0, which holds frame i at
 page i; thread 2 is root. Numbers are decimal, or hexadecimal after 0x.
 
   N ipc TAG ERROR FROM WORD..      an ipc of N ended
+  N fault hit                      the page is there with these rights
+  N fault answered                 the pager of N has answered the fault
+  N fault failed CODE              there is no such pager (4), it was deleted before
+                                   it answered (5), or its answer's pages couldn't be
+                                   given (9)
   N unmap ok                       an unmap of N ended
   N control ok                     root's call ended (N is 2)
   N gone                           N was deleted while its call went on
