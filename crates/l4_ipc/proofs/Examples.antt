@@ -1,5 +1,5 @@
 -- Small cases of the definitions over runs: of each main one, one that it holds of, and one that it doesn't.
-use Rattle.std.proofs.Common.{◌≡◌, ◌≢◌, ℕ, zero, suc, ◌+◌, ◌<◌, ◌≤◌, Bool, true, false, cond, List, [], ◌∷◌, ◌++◌, Option, Some, None, Result, Ok, Err, IsTrue, is_some, refl, sym, ap, ◌∙◌, subst, inl, inr, ◌⊎◌, ◌↔◌, option_and_then, slice_index, lit≤, lit<, arith}
+use Rattle.std.proofs.Common.{◌≡◌, ◌≢◌, ℕ, zero, suc, ◌+◌, ◌<◌, ◌≤◌, Bool, true, false, cond, List, [], ◌∷◌, ◌++◌, Option, Some, None, Result, Ok, Err, IsTrue, is_some, refl, sym, ap, ◌∙◌, subst, inl, inr, ◌⊎◌, ◌↔◌, option_and_then, slice_get, slice_index, slice_index_or, lit≤, lit<, arith}
 use Rattle.std.specs.Ordering.{nat_cmp, eq_by_cmp, is_eq}
 use Rattle.std.specs.declared.cmp.Ordering.{Ordering}
 use Rattle.std.specs.declared.cmp.Ordering.TheVariants.{Less, Equal, Greater}
@@ -7,36 +7,53 @@ use Rattle.std.specs.Cmp.{nat_cmp_total}
 use Rattle.std.specs.FinMap as map
 use Rattle.std.specs.FinSet as set
 use Rattle.std.specs.List.{All, HoldsAt}
-use Rattle.std.proofs.lemmas.List.Elements.{All-nil}
+use Rattle.std.specs.Option.{option_map, option_map_or}
+use Rattle.std.proofs.lemmas.List.Elements.{All-nil, All-cons}
+use Rattle.std.proofs.lemmas.Option.{slice_get_within}
 use Rattle.std.proofs.lemmas.Bool.{false≢true}
-use Rattle.l4_fpage.specs.Rights.{RightsSet, Right, Read, Write, Execute, has, all_rights, no_rights, common}
+use Rattle.l4_fpage.specs.Rights.{RightsSet, Right, Read, Write, Execute, Within, has, all_rights, no_rights, common}
 use Rattle.l4_fpage.specs.Fpages.{rights_of, ReadsAs}
 use Rattle.l4_fpage.specs.declared.fpages.Fpage.{Fpage}
-use Rattle.l4_fpage.specs.declared.fpages.Fpage.TheVariants.{Sized}
-use Rattle.l4_msg.specs.Moves.{fpage_of}
+use Rattle.l4_fpage.specs.declared.fpages.Fpage.TheVariants.{Nil, Sized, Complete}
+use Rattle.l4_msg.specs.Moves.{fpage_of, is_grant, IsMap, ItemMoves, RegionMoves, complete}
+use Rattle.l4_msg.specs.Regions.{IsRival}
+use Rattle.l4_msg.specs.declared.items.Item.{Item}
+use Rattle.l4_msg.specs.declared.items.Item.TheVariants.{Map}
 use Rattle.l4_msg.specs.declared.regions.Region.{Region}
 use Rattle.l4_mapdb.specs.declared.Place.{Place}
 use Rattle.l4_mapdb.specs.declared.Mapping.{Mapping}
-use Rattle.l4_mapdb.specs.Mappings.{place_cmp, Mappings, shown, parent_of, Chain, child, further, IsPresent, rights_at}
+use Rattle.l4_mapdb.specs.Mappings.{place_cmp, Mappings, shown, parent_of, Chain, child, further, Descends, IsPresent, rights_at}
+use Rattle.l4_mapdb.specs.Losing.{LosesRights}
+use Rattle.l4_mapdb.specs.Transfer.{PageMove, IsGranted, IsEntangled, ParentLater, Becomes, Moved, IsCut}
+use Rattle.l4_mapdb.proofs.Unique.{same_rights}
 use Rattle.l4_mapdb.proofs.Places.{places_total, exact_places}
 use Rattle.l4_unmap.specs.Unmap.{UnmapReads, with_own}
 use Rattle.l4_threads.specs.declared.Thread.{Thread}
-use Rattle.l4_threads.specs.declared.State.TheVariants.{Running}
-use Rattle.l4_threads.specs.Threads.{thread_at, first_threads, nilthread}
+use Rattle.l4_threads.specs.declared.Receiving.{Receiving}
+use Rattle.l4_threads.specs.declared.Sending.{Sending}
+use Rattle.l4_threads.specs.declared.Source.TheVariants.{Anyone}
+use Rattle.l4_threads.specs.declared.State.{State}
+use Rattle.l4_threads.specs.declared.State.TheVariants.{Running, Sending as IsSender, Receiving as IsReceiver}
+use Rattle.l4_threads.specs.Enabled.{CanExpire, IsFirstSender, expires, offers_to}
+use Rattle.l4_threads.specs.Threads.{Threads, pair_cmp, thread_at, state_of, first_threads, nilthread}
 use Rattle.l4_ipc.specs.declared.calls.Call.{Call}
 use Rattle.l4_ipc.specs.declared.calls.Call.TheVariants.{Unmap}
 use Rattle.l4_ipc.specs.declared.calls.UnmapCall.{UnmapCall}
 use Rattle.l4_ipc.specs.declared.steps.Step.{Step}
 use Rattle.l4_ipc.specs.declared.steps.Step.TheVariants.{Start, Transfer, Expire}
-use Rattle.l4_ipc.specs.declared.steps.Outcome.TheVariants.{Started}
+use Rattle.l4_ipc.specs.declared.steps.Outcome.TheVariants.{Started, Done}
 use Rattle.l4_ipc.specs.declared.steps.Answer.{Answer}
 use Rattle.l4_ipc.specs.declared.steps.Refused.{Refused}
 use Rattle.l4_ipc.specs.declared.steps.Refused.TheVariants.{NotEnabled}
 use Rattle.l4_ipc.specs.Machine.{Machine, machine}
-use Rattle.l4_ipc.specs.Events.{Event}
+use Rattle.l4_ipc.specs.Moving.{IsUsedBy}
+use Rattle.l4_ipc.specs.Runs.{Run}
+use Rattle.l4_ipc.specs.Steps.{Meets, Steps, after_transfer}
+use Rattle.l4_ipc.specs.Events.{Event, Follow, IsTrace, IsDelivery}
+use Rattle.l4_ipc.proofs.Lasting.{one_delivery}
 use Rattle.l4_ipc.specs.Provenance.{Link, Brings, LeavesAlone, Leads, HasProvenance, Flushes, LeadsThrough, NoneThroughFlushed}
 use Rattle.l4_ipc.proofs.OneState.{same_value}
-use Rattle.l4_ipc.specs.Delegation.{source_at, target_at, IsHandedOn, IsNewPlace, IsReplaced, Delegates}
+use Rattle.l4_ipc.specs.Delegation.{source_at, target_at, IsHandedOn, IsNewPlace, IsReplaced, Delegates, IsDelegation}
 
 -- MAPPINGS OF FEW PLACES
 
@@ -264,3 +281,332 @@ with_all_rights d = elim ((d.places (page_of 1 6) (handed all_rights)).0 (here a
   | inl n ↦ false≢true (sym (ap (λ (m : Mapping). m.rights.w) (new_is (page_of 1 6) (handed all_rights) n).1))
   | inr k ↦ (let j : ◌≡◌ {A = Option Mapping} None (Some (handed all_rights)) = sym (none_before 6) ∙ k.0 in cc)
 ]
+
+-- A RUN
+
+idle_state : state_of first_threads 1 ≡ Some (Running None)
+idle_state = ap (option_map (λ (x : Thread). x.state)) sigma0_there
+
+-- sigma0 runs, so its wait can't end
+runs_on : ¬ (CanExpire first_threads 1)
+runs_on e = false≢true (ap expires (same_value (sym idle_state ∙ e.at)) ∙ e.zero)
+
+-- a step that is not enabled is refused
+pub refused_step : (s : Mappings) → IsTrace (machine first_threads s) (Expire 1 ∷ []) (Err NotEnabled ∷ []) (refused s ∷ []) (machine first_threads s)
+refused_step s = record { steps_are = refl; answers_are = refl; follow = (refl, (runs_on, refl, refl), refl) }
+
+-- and changes nothing
+pub refused_and_changed : ¬ (Run (machine first_threads of_sigma0) (Expire 1 ∷ []) (Err NotEnabled ∷ []) (machine first_threads nothing))
+refused_and_changed r =
+    let same : machine first_threads nothing ≡ machine first_threads of_sigma0 = r.2 ∙ r.1.2 in
+    false≢true (ap is_some (sym (shows_nothing (page_of 0 5)) ∙ ap (λ (m : Machine). shown m.mappings (page_of 0 5)) same ∙ there))
+
+-- A PROVENANCE THROUGH A TRANSFER: sigma0 sends page 5, to read, and root takes it at page 6
+
+abbrev page_to_read : Fpage
+page_to_read = Sized (record { base = 0x5000; log = 12; rights = region.rights; large = lit≤ tt; small = lit≤ tt; aligned = refl })
+
+abbrev item : Item
+item = Map 0x6000 page_to_read
+
+abbrev sends_page : Sending
+sends_page = record { words = record { items = 0x80 ∷ 0x6008 ∷ 0x50c4 ∷ [] }; items = record { items = item ∷ [] }; to = 2; expires = false; «then» = None; fault = false }
+
+abbrev takes_all : Receiving
+takes_all = record { «from» = Anyone; window = Complete no_rights; expires = false; fault = false }
+
+abbrev sender : Thread
+sender = record { id = record { 0 = 0x4001 }; space = 0; pager = nilthread; state = IsSender sends_page }
+
+abbrev receiver : Thread
+receiver = record { id = record { 0 = 0x8001 }; space = 1; pager = record { 0 = 0x4001 }; state = IsReceiver takes_all }
+
+abbrev partners : Threads
+partners = record { threads = map.insert (map.insert map.empty 1 sender) 2 receiver; before = set.empty; next_space = 2 }
+
+sender_at : thread_at partners 1 ≡ Some sender
+sender_at = map.get-from_entries nat_cmp_total ((2, receiver) ∷ (1, sender) ∷ []) 1
+
+receiver_at : thread_at partners 2 ≡ Some receiver
+receiver_at = map.get-from_entries nat_cmp_total ((2, receiver) ∷ (1, sender) ∷ []) 2
+
+offers : IsTrue (offers_to (state_of partners 1) (state_of partners 2) 1 2)
+offers =
+    ap (λ (o : Option State). offers_to o (state_of partners 2) 1 2) (ap (option_map (λ (x : Thread). x.state)) sender_at)
+    ∙ ap (λ (o : Option State). offers_to (Some (IsSender sends_page)) o 1 2) (ap (option_map (λ (x : Thread). x.state)) receiver_at)
+
+meets : Meets partners 1 2 sender receiver sends_page takes_all
+meets = record {
+  from_at = sender_at;
+  to_at = receiver_at;
+  from_state = refl;
+  to_state = refl;
+  enabled = record { offers = offers; first = λ other o b. false≢true (sym (set.contains-empty pair_cmp (other, 1)) ∙ b) };
+}
+
+abbrev delivers : Mappings → Event
+delivers new = record {
+  before = machine partners of_sigma0;
+  step = Transfer 1 2;
+  answer = Ok (record { outcome = Done; ended = record { items = 1 ∷ 2 ∷ [] } });
+  after = machine (after_transfer true partners 1 2 sender sends_page takes_all) new;
+}
+
+delivery : (new : Mappings) → IsDelivery (delivers new) sender receiver sends_page takes_all
+delivery new = record { sender = 1; receiver = 2; step = refl; meets = meets; answer = record { outcome = Done; ended = record { items = 1 ∷ 2 ∷ [] } }; ok = refl; done = refl }
+
+abbrev moves_5_to_6 : PageMove
+moves_5_to_6 = record { item = 0; source = page_of 0 5; target = page_of 1 6; grant = false; shows = frame_5; rights = region.rights }
+
+-- the move is used
+pub used : IsUsedBy of_sigma0 0 1 (item ∷ []) (Complete no_rights) moves_5_to_6
+used = record {
+  by = item;
+  item = refl;
+  from_space = refl;
+  to_space = refl;
+  pages = (lit≤ tt, record { index = 0; within = lit< tt; source_is = refl; target_is = refl });
+  grant = refl;
+  present = there;
+  rights = refl;
+  some_right = λ none. false≢true (sym (ap (λ (a : RightsSet). a.r) none));
+}
+
+-- where the sender has no page it isn't
+pub absent : (move : PageMove) → ¬ (IsUsedBy nothing 0 1 (item ∷ []) (Complete no_rights) move)
+absent move u = false≢true (ap is_some (sym (shows_nothing move.source) ∙ u.present))
+
+item_is : (k : ℕ) (by : Item) → slice_get (item ∷ []) k ≡ Some by → (k ≡ 0) × (item ≡ by)
+item_is zero by at = (refl, same_value at)
+item_is (suc k) by at = absurd (let lt : suc k < 1 = slice_get_within (item ∷ []) (suc k) by at in omega (arith, lt))
+
+-- no other is
+one_move : (move : PageMove) → IsUsedBy of_sigma0 0 1 (item ∷ []) (Complete no_rights) move → move ≡ moves_5_to_6
+one_move move u =
+    let by = item_is move.item u.by u.item in
+    let pages : ItemMoves item (Complete no_rights) move.source.page move.target.page = subst (λ (x : Item). ItemMoves x (Complete no_rights) move.source.page move.target.page) (sym by.1) u.pages in
+    let source_page : move.source.page ≡ 5 = omega (arith, pages.1.within, pages.1.source_is) in
+    let target_page : move.target.page ≡ 6 = omega (arith, pages.1.within, pages.1.target_is) in
+    let source : move.source ≡ page_of 0 5 = λ i. record { space = u.from_space i; page = source_page i } in
+    let target : move.target ≡ page_of 1 6 = λ i. record { space = u.to_space i; page = target_page i } in
+    let grant : move.grant ≡ false = u.grant ∙ ap is_grant (sym by.1) in
+    let shows : move.shows ≡ frame_5 = same_value (sym u.present ∙ ap (shown of_sigma0) source ∙ there) in
+    let rights : move.rights ≡ region.rights = u.rights ∙ ap (λ (x : Mapping). common x.rights (rights_of (fpage_of u.by))) shows ∙ ap (λ (x : Item). common all_rights (rights_of (fpage_of x))) (sym by.1) in
+    λ i. record { item = by.0 i; source = source i; target = target i; grant = grant i; shows = shows i; rights = rights i }
+
+abbrev through : Link
+through = record { move = moves_5_to_6; item = item }
+
+brings : (new : Mappings) → Brings (delivers new) through
+brings new = record { «from» = sender; to = receiver; sends = sends_page; takes = takes_all; delivery = delivery new; used = used; item = refl }
+
+one_link : (new : Mappings) (link : Link) → Brings (delivers new) link → link ≡ through
+one_link new link b =
+    let m = one_delivery (delivers new) b.«from» sender b.to receiver b.sends sends_page b.takes takes_all b.delivery (delivery new) in
+    let u : IsUsedBy of_sigma0 0 1 (item ∷ []) (Complete no_rights) link.move =
+    subst (λ (v : Receiving). IsUsedBy of_sigma0 0 1 (item ∷ []) v.window link.move) m.takes
+    (subst (λ (v : Sending). IsUsedBy of_sigma0 0 1 v.items.items b.takes.window link.move) m.sends
+    (subst (λ (v : Thread). IsUsedBy of_sigma0 0 v.space b.sends.items.items b.takes.window link.move) m.to
+    (subst (λ (v : Thread). IsUsedBy of_sigma0 v.space b.to.space b.sends.items.items b.takes.window link.move) m.«from» b.used))) in
+    let move : link.move ≡ moves_5_to_6 = one_move link.move u in
+    let named : item ≡ link.item = (item_is link.move.item link.item (subst (λ (v : Sending). slice_get v.items.items link.move.item ≡ Some link.item) m.sends b.item)).1 in
+    λ i. record { move = move i; item = sym named i }
+
+still_there : (rights : RightsSet) → shown (delegated rights) (page_of 0 5) ≡ Some frame_5
+still_there rights = shown_with of_sigma0 (page_of 1 6) (handed rights) (page_of 0 5) ∙ there
+
+above_it : (place above : Place) → place ≡ page_of 1 6 → Descends (delegated region.rights) place above → Within region.rights (rights_at (delegated region.rights) above)
+above_it place above is (child up) =
+    let parent : page_of 0 5 ≡ above = same_value (sym (ap (option_and_then (λ (m : Mapping). m.parent)) (here region.rights)) ∙ ap (parent_of (delegated region.rights)) (sym is) ∙ up) in
+    let rights : rights_at (delegated region.rights) (page_of 0 5) ≡ all_rights = ap (λ (o : Option Mapping). option_map_or (λ (x : Mapping). x.rights) o no_rights) (still_there region.rights) in
+    subst (λ (p : Place). Within region.rights (rights_at (delegated region.rights) p)) parent (subst (Within region.rights) (sym rights) (λ right h. each_right right))
+above_it place above is (further {middle = c} up rest) =
+    let parent : page_of 0 5 ≡ c = same_value (sym (ap (option_and_then (λ (m : Mapping). m.parent)) (here region.rights)) ∙ ap (parent_of (delegated region.rights)) (sym is) ∙ up) in
+    let top : parent_of (delegated region.rights) c ≡ None = ap (parent_of (delegated region.rights)) (sym parent) ∙ ap (option_and_then (λ (m : Mapping). m.parent)) (still_there region.rights) in
+    absurd (no_parent (delegated region.rights) c above top rest)
+
+-- root's page has a provenance through the one transfer
+pub roots_page : HasProvenance of_sigma0 (delivers (delegated region.rights) ∷ []) (delegated region.rights) (page_of 1 6) (handed region.rights)
+roots_page = record {
+  origin = page_of 0 5;
+  of_sigma0 = refl;
+  first = frame_5;
+  at_start = there;
+  links = through ∷ [];
+  leads = inr (through, [], refl, brings (delegated region.rights), refl, (refl, refl));
+  only = λ other others l. elim l [
+    | inl x ↦ absurd (false≢true (ap is_some (sym (none_before 6) ∙ ap (shown of_sigma0) (sym x.1.1)) ∙ x.0.before))
+    | inr x ↦
+        let same : x.0 ≡ through = one_link (delegated region.rights) x.0 x.3 in
+        (sym x.4 ∙ ap (λ (k : Link). k.move.source) same, x.2 ∙ (λ i. same i ∷ x.5.0 i))
+  ];
+  frame = refl;
+  within_sources = All-cons (λ (link : Link). Within region.rights link.move.shows.rights) through [] (λ right h. each_right right) (All-nil (λ (link : Link). Within region.rights link.move.shows.rights));
+  within_items = All-cons (λ (link : Link). Within region.rights (rights_of (fpage_of link.item))) through [] (λ right h. h) (All-nil (λ (link : Link). Within region.rights (rights_of (fpage_of link.item))));
+  within_above = λ above chain. above_it (page_of 1 6) above refl chain;
+}
+
+-- with more rights than the item named it has none
+pub more_than_named : ¬ (HasProvenance of_sigma0 (delivers (delegated all_rights) ∷ []) (delegated all_rights) (page_of 1 6) (handed all_rights))
+more_than_named p = elim p.leads [
+  | inl x ↦ (let k : ◌≡◌ {A = ℕ} 1 0 = ap (λ (q : Place). q.space) (sym x.1.1) ∙ p.of_sigma0 in cc)
+  | inr x ↦
+      let named : item ≡ x.0.item = ap (λ (k : Link). k.item) (sym (one_link (delegated all_rights) x.0 x.3)) in
+      let each : All (λ (link : Link). Within all_rights (rights_of (fpage_of link.item))) (x.0 ∷ x.1) = subst (λ (l : List Link). All (λ (link : Link). Within all_rights (rights_of (fpage_of link.item))) l) x.2 p.within_items in
+      let within : Within all_rights (rights_of (fpage_of x.0.item)) = each 0 x.0 (omega arith) in
+      false≢true (subst (λ (k : Item). IsTrue (has (rights_of (fpage_of k)) Write)) (sym named) (within Write refl))
+]
+
+-- A DELIVERED DELEGATION
+
+moved_alone : (k : ℕ) (by : Item) (source target : ℕ) → k < 1 → slice_index_or (item ∷ []) k by ≡ by → ItemMoves by complete source target → RegionMoves region source target
+moved_alone zero by source target lt is moves = (subst (λ (x : Item). ItemMoves x complete source target) (sym is) moves).1
+moved_alone (suc k) by source target lt is moves = absurd (omega (arith, lt))
+
+abbrev IsInside : ℕ → Type 0
+IsInside page = (5 ≤ page) × (page < 6)
+
+-- the one item is a plan of its page
+pub one_page : (new : Mappings) → IsDelegation (delivers new) region sender receiver sends_page takes_all (5 ∷ [])
+one_page new = record {
+  sound = record { some = lit< tt; space = record { source = lit≤ tt; target = lit≤ tt }; rights = λ none. false≢true none };
+  plan = record {
+    rival = record {
+      maps = All-cons IsMap item [] tt (All-nil IsMap);
+      moves = λ source target. (λ any. moved_alone any.0 any.1 source target any.2 any.3 any.4, λ m. (0, item, lit< tt, refl, (lit≤ tt, m)));
+    };
+    starts = (record { map = tt; rights = refl; base = refl; log = 12; bytes = refl }, tt);
+    rising = λ i j d lt less. absurd (omega (arith, lt, less));
+    certificate = record { inside = All-cons IsInside 5 [] (lit≤ tt, lit< tt) (All-nil IsInside); apart = λ i j d lt less. absurd (omega (arith, lt, less)) };
+  };
+  window_rights = no_rights;
+  window = refl;
+  delivery = delivery new;
+}
+
+-- and of no larger region
+pub two_pages : (new : Mappings) (pages : List ℕ) → ¬ (IsDelegation (delivers new) (record region { count = 2 }) sender receiver sends_page takes_all pages)
+two_pages new pages d =
+    let any = (d.plan.rival.moves 6 7).1 (record { index = 1; within = lit< tt; source_is = refl; target_is = refl }) in
+    let m : RegionMoves region 6 7 = moved_alone any.0 any.1 6 7 any.2 any.3 any.4 in
+    omega (arith, m.within, m.source_is)
+
+-- THE STEP THAT DELIVERS IT
+
+abbrev Used : PageMove → Type 0
+Used = IsUsedBy of_sigma0 0 1 (item ∷ []) (Complete no_rights)
+
+no_grant : (u : PageMove) → Used u → ¬ (IsTrue u.grant)
+no_grant u is h = false≢true (sym (ap (λ (m : PageMove). m.grant) (one_move u is)) ∙ h)
+
+not_granted : (place : Place) → ¬ (IsGranted Used place)
+not_granted place g = no_grant g.move g.used g.grant
+
+target_absent : (u : PageMove) → Used u → ¬ (IsPresent of_sigma0 u.target)
+target_absent u is present = false≢true (ap is_some (sym (none_before 6) ∙ ap (λ (m : PageMove). shown of_sigma0 m.target) (sym (one_move u is))) ∙ present)
+
+not_entangled : ¬ (IsEntangled Used of_sigma0)
+not_entangled (inl s) = s.differ (ap (λ (m : PageMove). m.item) (one_move s.one s.one_used ∙ sym (one_move s.other s.other_used)))
+not_entangled (inr (inl g)) = no_grant g.one g.one_used g.grant
+not_entangled (inr (inr r)) = target_absent r.one r.one_used r.present
+
+parent_same : (p : Option Place) → ParentLater Used p p
+parent_same None = refl
+parent_same (Some p) = (p, inr (not_granted p, refl), refl)
+
+parent_kept : (p later : Option Place) → ParentLater Used p later → later ≡ p
+parent_kept None later h = h
+parent_kept (Some p) later h =
+    elim h.1 [
+      | inl g ↦ absurd (no_grant g.0 g.1 g.2)
+      | inr n ↦ h.2 ∙ ap (λ (q : Place). Some q) (sym n.1)
+    ]
+
+same_mapping : (a b : Mapping) → a.frame ≡ b.frame → a.rights ≡ b.rights → a.parent ≡ b.parent → a ≡ b
+same_mapping a b f r p = λ i. record { frame = f i; rights = r i; parent = p i }
+
+abbrev ShowsAfter : Place → Mapping → Type 0
+ShowsAfter place m = IsNewPlace of_sigma0 0 1 region place m ⊎ ((shown of_sigma0 place ≡ Some m) × ¬ (IsReplaced of_sigma0 0 1 region place))
+
+becomes : (place : Place) (m : Mapping) → ShowsAfter place m → Becomes Used of_sigma0 place m
+becomes place m (inl n) =
+    let is = new_is place m n in
+    inl (record {
+      move = moves_5_to_6;
+      used = used;
+      map = λ g. false≢true g;
+      target = sym is.0;
+      frame = ap (λ (x : Mapping). x.frame) is.1;
+      rights = ap (λ (x : Mapping). x.rights) is.1;
+      parent = ap (λ (x : Mapping). x.parent) is.1;
+    })
+becomes place m (inr k) = inr (inr (record {
+  before = m;
+  at = k.0;
+  not_gone = λ g. target_absent g.move g.used g.present;
+  not_granted = not_granted place;
+  frame = refl;
+  rights = refl;
+  parent = parent_same m.parent;
+}))
+
+shows : (place : Place) (m : Mapping) → Becomes Used of_sigma0 place m → ShowsAfter place m
+shows place m (inl a) =
+    let is : a.move ≡ moves_5_to_6 = one_move a.move a.used in
+    let place_is : page_of 1 6 ≡ place = ap (λ (u : PageMove). u.target) (sym is) ∙ a.target in
+    let frame : m.frame ≡ 5 = a.frame ∙ ap (λ (u : PageMove). u.shows.frame) is in
+    let rights : m.rights ≡ region.rights = a.rights ∙ ap (λ (u : PageMove). u.rights) is in
+    let parent : m.parent ≡ Some (page_of 0 5) = a.parent ∙ ap (λ (u : PageMove). Some u.source) is in
+    let shows_is : handed region.rights ≡ m = same_mapping (handed region.rights) m (sym frame) (sym rights) (sym parent) in
+    inl (subst (λ (x : Mapping). IsNewPlace of_sigma0 0 1 region place x) shows_is (subst (λ (q : Place). IsNewPlace of_sigma0 0 1 region q (handed region.rights)) place_is new_page))
+shows place m (inr (inl h)) = absurd (no_grant h.move h.used h.grant)
+shows place m (inr (inr s)) =
+    let same_one : s.before ≡ m = same_mapping s.before m (sym s.frame) (sym s.rights) (sym (parent_kept s.before.parent m.parent s.parent)) in
+    inr (s.at ∙ ap (λ (x : Mapping). Some x) same_one, never_replaced place)
+
+moved : Moved Used of_sigma0 (delegated region.rights)
+moved = record {
+  spaces = refl;
+  places = λ place m. (λ at. becomes place m ((with_common_rights.places place m).0 at), λ b. (with_common_rights.places place m).1 (shows place m b));
+}
+
+-- of_sigma0 shows one page
+one_page_there : (place : Place) (m : Mapping) → shown of_sigma0 place ≡ Some m → frame_5 ≡ m
+one_page_there place m at =
+    elim (eq_by_cmp place_cmp place (page_of 0 5)) as (λ b. eq_by_cmp place_cmp place (page_of 0 5) ≡ b → frame_5 ≡ m) [
+      | true ↦ λ e. same_value (sym (shown_with nothing (page_of 0 5) frame_5 place ∙ ap (λ b. cond b (Some frame_5) (shown nothing place)) e) ∙ at)
+      | false ↦ λ e. absurd (let k : ◌≡◌ {A = Option Mapping} None (Some m) = sym (shown_with nothing (page_of 0 5) frame_5 place ∙ ap (λ b. cond b (Some frame_5) (shown nothing place)) e ∙ shows_nothing place) ∙ at in cc)
+    ] refl
+
+has_right : (place : Place) (m : Mapping) → ShowsAfter place m → ¬ (m.rights ≡ no_rights)
+has_right place m (inl n) none = false≢true (sym (ap (λ (a : RightsSet). a.r) (ap (λ (x : Mapping). x.rights) (sym (new_is place m n).1) ∙ none)))
+has_right place m (inr k) none = false≢true (sym (ap (λ (a : RightsSet). a.r) (ap (λ (x : Mapping). x.rights) (one_page_there place m k.0) ∙ none)))
+
+-- nothing is granted, so nothing is cut
+uncut : LosesRights (IsCut Used (delegated region.rights)) (delegated region.rights) (delegated region.rights)
+uncut = record {
+  spaces = refl;
+  places = λ place m. (
+    λ at. (
+      m,
+      at,
+      record {
+        frame = refl;
+        parent = refl;
+        rights = λ right. (λ h. (h, λ c. no_grant c.move c.used c.grant), λ h. h.0);
+        some_right = has_right place m ((with_common_rights.places place m).0 at);
+      },
+    ),
+    λ l. l.1 ∙ ap (λ (x : Mapping). Some x) (same_mapping l.0 m (sym l.2.frame)
+        (same_rights l.0.rights m.rights (λ right. (λ h. (l.2.rights right).1 (h, λ c. no_grant c.move c.used c.grant), λ h. ((l.2.rights right).0 h).0)))
+        (sym l.2.parent)),
+  );
+}
+
+-- so the event follows from the state in which both wait: with the page's provenance above, a run that leads to it
+pub delivered : Follow (machine partners of_sigma0) (delivers (delegated region.rights) ∷ []) (machine (after_transfer true partners 1 2 sender sends_page takes_all) (delegated region.rights))
+delivered = (
+  refl,
+  (sender, receiver, sends_page, takes_all, meets, ((λ l. let k : Complete no_rights ≡ Nil = l.1 in cc), not_entangled, record { middle = delegated region.rights; moved = moved; cut = uncut }), refl, refl),
+  refl,
+)

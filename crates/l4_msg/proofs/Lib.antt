@@ -1,3 +1,4 @@
+pub mod Examples
 pub mod Landing
 pub mod Pigeons
 pub mod Reading
