@@ -1,0 +1,148 @@
+-- Tables and served threads as they are kept, and as a contract sees them.
+use Rattle.std.proofs.Common.{◌≡◌, ℕ, Bool, true, false, cond, not, ◌&&◌, ◌||◌, List, [], ◌∷◌, ◌++◌, Option, Some, None, refl, sym, ap, ◌∙◌}
+use Rattle.std.specs.Option.{unwrap_or}
+use Rattle.std.specs.Bool.{OnFalse}
+use Rattle.std.specs.List.{list_any}
+use Rattle.std.specs.Map.{lookup}
+use Rattle.std.specs.BTreeMap.{is_at}
+use Rattle.std.specs.Ordering.{nat_cmp, eq_by_cmp, is_eq}
+use Rattle.std.specs.declared.cmp.Ordering.{Ordering}
+use Rattle.std.specs.declared.cmp.Ordering.TheVariants.{Less, Equal, Greater}
+use Rattle.std.specs.Cmp.{nat_cmp_total, eq_by_cmp_equiv}
+use Rattle.std.specs.FinMap as fin
+use Rattle.std.specs.FinMap.{nat_cmp-IsAntisymmetric}
+use Rattle.std.specs.FinSet as set
+use Rattle.std.proofs.lemmas.Bool.{false≢true}
+use Rattle.l4_sigma0.specs.Owners.{Owners}
+use Rattle.l4_pager.specs.declared.regions.Entry.{Entry}
+use Rattle.l4_servers.specs.Servers.{Servers, servers, regions_of, is_served, with_region, with_served, without}
+
+-- KEYS
+
+same_key : (a b : ℕ) → is_at (nat_cmp a) b ≡ eq_by_cmp nat_cmp b a
+same_key a b = (eq_by_cmp_equiv nat_cmp_total).symm a b
+
+is_equal : (r : Ordering) → is_eq r ≡ true → r ≡ Equal
+is_equal Less e = absurd (false≢true e)
+is_equal Equal e = refl
+is_equal Greater e = absurd (false≢true e)
+
+pub equal : (a b : ℕ) → eq_by_cmp nat_cmp a b ≡ true → a ≡ b
+equal a b e = nat_cmp-IsAntisymmetric a b (is_equal (nat_cmp a b) e)
+
+-- TABLES
+
+abbrev pub Tables : Type 0
+Tables = List (ℕ × List Entry)
+
+abbrev pub at : ℕ → Tables → Option (List Entry)
+at n es = lookup (is_at (nat_cmp n)) es
+
+abbrev pub seen : Tables → fin.FinMap nat_cmp (List Entry)
+seen es = fin.from_entries es
+
+found : (es : Tables) (q : ℕ) → fin.find nat_cmp q es ≡ at q es
+found [] q = refl
+found (e ∷ es) q = ap (λ (o : Option (List Entry)). cond (is_at (nat_cmp q) e.0) (Some e.1) o) (found es q)
+
+got : (es : Tables) (q : ℕ) → fin.get (seen es) q ≡ at q es
+got es q = fin.get-from_entries nat_cmp_total es q ∙ found es q
+
+put : (es new : Tables) (n : ℕ) (v : List Entry) → ((q : ℕ) → at q new ≡ cond (is_at (nat_cmp n) q) (Some v) (at q es)) → seen new ≡ fin.insert (seen es) n v
+put es new n v h = fin.same_map nat_cmp_total nat_cmp-IsAntisymmetric _ _ (λ q.
+    got new q ∙ h q ∙ ap (λ b. cond b (Some v) (at q es)) (same_key n q)
+    ∙ ap (cond (eq_by_cmp nat_cmp q n) (Some v)) (sym (got es q)) ∙ sym (fin.get-insert nat_cmp_total (seen es) n v q))
+
+taken : (es new : Tables) (n : ℕ) → ((q : ℕ) → at q new ≡ cond (is_at (nat_cmp n) q) None (at q es)) → seen new ≡ fin.remove (seen es) n
+taken es new n h = fin.same_map nat_cmp_total nat_cmp-IsAntisymmetric _ _ (λ q.
+    got new q ∙ h q ∙ ap (λ b. cond b None (at q es)) (same_key n q)
+    ∙ ap (cond (eq_by_cmp nat_cmp q n) None) (sym (got es q)) ∙ sym (fin.get-remove nat_cmp_total (seen es) n q))
+
+-- the regions of a thread with a table, and of one without
+pub has_regions : (s : Servers) (o : Owners) (es : Tables) (served : set.FinSet nat_cmp) (n : ℕ) (v : List Entry) → servers o (seen es) served ≡ s → Some v ≡ at n es → v ≡ regions_of s n
+has_regions s o es served n v view h = ap (λ (t : Option (List Entry)). unwrap_or t []) (h ∙ sym (got es n)) ∙ ap (λ (x : Servers). regions_of x n) view
+
+pub no_regions : (s : Servers) (o : Owners) (es : Tables) (served : set.FinSet nat_cmp) (n : ℕ) → servers o (seen es) served ≡ s → None ≡ at n es → [] ≡ regions_of s n
+no_regions s o es served n view h = ap (λ (t : Option (List Entry)). unwrap_or t []) (h ∙ sym (got es n)) ∙ ap (λ (x : Servers). regions_of x n) view
+
+-- a table with one region more
+pub region_added : (s : Servers) (o : Owners) (es mid new : Tables) (served : set.FinSet nat_cmp) (n : ℕ) (entry : Entry) (old v : List Entry) → servers o (seen es) served ≡ s
+    → old ≡ regions_of s n → v ≡ old ++ entry ∷ [] → mid ≡ es → ((q : ℕ) → at q new ≡ cond (is_at (nat_cmp n) q) (Some v) (at q mid)) → servers o (seen new) served ≡ with_region s n entry
+region_added s o es mid new served n entry old v view is more same h =
+    ap (λ (t : fin.FinMap nat_cmp (List Entry)). servers o t served) (put es new n v (λ q. h q ∙ ap (λ (x : Tables). cond (is_at (nat_cmp n) q) (Some v) (at q x)) same) ∙ ap (fin.insert (seen es) n) (more ∙ ap (λ (x : List Entry). x ++ entry ∷ []) is))
+    ∙ ap (λ (x : Servers). servers x.owners (fin.insert x.tables n (regions_of s n ++ entry ∷ [])) x.served) view
+
+-- the tables as they were
+pub same_tables : (s : Servers) (o : Owners) (es new : Tables) (served : set.FinSet nat_cmp) → servers o (seen es) served ≡ s → new ≡ es → servers o (seen new) served ≡ s
+same_tables s o es new served view e = ap (λ (x : Tables). servers o (seen x) served) e ∙ view
+
+-- THREADS THAT ARE SERVED
+
+pub on_false : (b : Bool) (P : Type 0) → OnFalse b P → b ≡ false → P
+on_false true P h e = absurd (false≢true (sym e))
+on_false false P h e = h
+
+abbrev pub Numbers : Type 0
+Numbers = List ℕ
+
+abbrev pub has : ℕ → Numbers → Bool
+has n ks = list_any (is_at (nat_cmp n)) ks
+
+abbrev pub served_by : Numbers → set.FinSet nat_cmp
+served_by ks = set.from_list ks
+
+pub held : (ks : Numbers) (q : ℕ) → set.contains (served_by ks) q ≡ has q ks
+held ks q = set.contains-from_list nat_cmp_total ks q
+
+pub served_is : (s : Servers) (o : Owners) (tables : fin.FinMap nat_cmp (List Entry)) (ks : Numbers) (n : ℕ) → servers o tables (served_by ks) ≡ s → is_served s n ≡ has n ks
+served_is s o tables ks n view = ap (λ (x : Servers). is_served x n) (sym view) ∙ held ks n
+
+joined : (b c : Bool) → cond b true c ≡ (b || c)
+joined true c = refl
+joined false c = refl
+
+left : (b c : Bool) → cond b false c ≡ (not b && c)
+left true c = refl
+left false c = refl
+
+in_set : (ks new : Numbers) (n : ℕ) → ((q : ℕ) → has q new ≡ cond (is_at (nat_cmp n) q) true (has q ks)) → served_by new ≡ set.insert (served_by ks) n
+in_set ks new n h = set.same_set nat_cmp_total nat_cmp-IsAntisymmetric _ _ (λ q.
+    held new q ∙ h q ∙ ap (λ b. cond b true (has q ks)) (same_key n q) ∙ joined (eq_by_cmp nat_cmp q n) (has q ks)
+    ∙ ap (λ b. eq_by_cmp nat_cmp q n || b) (sym (held ks q)) ∙ sym (set.contains-insert nat_cmp_total (served_by ks) n q))
+
+out_of_set : (ks new : Numbers) (n : ℕ) → ((q : ℕ) → has q new ≡ cond (is_at (nat_cmp n) q) false (has q ks)) → served_by new ≡ set.remove (served_by ks) n
+out_of_set ks new n h = set.same_set nat_cmp_total nat_cmp-IsAntisymmetric _ _ (λ q.
+    held new q ∙ h q ∙ ap (λ b. cond b false (has q ks)) (same_key n q) ∙ left (eq_by_cmp nat_cmp q n) (has q ks)
+    ∙ ap (λ b. not (eq_by_cmp nat_cmp q n) && b) (sym (held ks q)) ∙ sym (set.contains-remove nat_cmp_total (served_by ks) n q))
+
+pub serves : (s : Servers) (o : Owners) (tables : fin.FinMap nat_cmp (List Entry)) (ks new : Numbers) (n : ℕ) → servers o tables (served_by ks) ≡ s
+    → ((q : ℕ) → has q new ≡ cond (is_at (nat_cmp n) q) true (has q ks)) → servers o tables (served_by new) ≡ with_served s n
+serves s o tables ks new n view h =
+    ap (servers o tables) (in_set ks new n h) ∙ ap (λ (x : Servers). servers x.owners x.tables (set.insert x.served n)) view
+
+pub same_served : (s : Servers) (o : Owners) (tables : fin.FinMap nat_cmp (List Entry)) (ks new : Numbers) → servers o tables (served_by ks) ≡ s → new ≡ ks → servers o tables (served_by new) ≡ s
+same_served s o tables ks new view e = ap (λ (x : Numbers). servers o tables (served_by x)) e ∙ view
+
+pub forgets : (s : Servers) (o : Owners) (es new : Tables) (ks later : Numbers) (n : ℕ) → servers o (seen es) (served_by ks) ≡ s
+    → ((q : ℕ) → at q new ≡ cond (is_at (nat_cmp n) q) None (at q es)) → ((q : ℕ) → has q later ≡ cond (is_at (nat_cmp n) q) false (has q ks))
+    → servers o (seen new) (served_by later) ≡ without s n
+forgets s o es new ks later n view h g =
+    ap (λ (t : fin.FinMap nat_cmp (List Entry)). servers o t (served_by later)) (taken es new n h) ∙ ap (servers o (fin.remove (seen es) n)) (out_of_set ks later n g)
+    ∙ ap (λ (x : Servers). servers x.owners (fin.remove x.tables n) (set.remove x.served n)) view
+
+-- whom a set does not have is put in and taken out again
+put_and_taken : (b was : Bool) → (b ≡ true → was ≡ false) → (not b && (b || was)) ≡ was
+put_and_taken true was h = sym (h refl)
+put_and_taken false was h = refl
+
+pub set_as_before : (s : set.FinSet nat_cmp) (n : ℕ) → set.contains s n ≡ false → set.remove (set.insert s n) n ≡ s
+set_as_before s n h = set.same_set nat_cmp_total nat_cmp-IsAntisymmetric _ _ (λ q.
+    set.contains-remove nat_cmp_total (set.insert s n) n q ∙ ap (λ b. not (eq_by_cmp nat_cmp q n) && b) (set.contains-insert nat_cmp_total s n q)
+    ∙ put_and_taken (eq_by_cmp nat_cmp q n) (set.contains s q) (λ e. ap (set.contains s) (equal q n e) ∙ h))
+
+pub takes_back : (s before : Servers) (o : Owners) (tables : fin.FinMap nat_cmp (List Entry)) (ks new : Numbers) (n : ℕ) → servers o tables (served_by ks) ≡ s
+    → ((q : ℕ) → has q new ≡ cond (is_at (nat_cmp n) q) false (has q ks)) → is_served before n ≡ false → s ≡ with_served before n → servers o tables (served_by new) ≡ before
+takes_back s before o tables ks new n view h none is =
+    ap (servers o tables) (out_of_set ks new n h)
+    ∙ ap (λ (x : Servers). servers x.owners x.tables (set.remove x.served n)) (view ∙ is)
+    ∙ ap (servers before.owners before.tables) (set_as_before before.served n none)

@@ -1,0 +1,5 @@
+use Rattle.l4_servers.proofs.Finding.{Looking}
+use Rattle.l4_servers.proofs.servers.Servers.first_ready.Given as goal
+
+abbrev pub invariant-loop-thread : goal.invariant-loop-thread
+invariant-loop-thread l = Looking l.kernel.threads l.self l.thread-iterator

@@ -1,0 +1,9 @@
+//! Threads that are served: who is, by which table each answers, and what it enters next.
+#![tactic(auto)]
+
+mod servers;
+
+pub use servers::{RegionRefusal, Servers};
+
+#[cfg(test)]
+mod tests;

@@ -1,0 +1,196 @@
+//! The servers, and the call that the next of them enters.
+ghost use Rattle.std.specs.Prelude.{◌≡◌, not, IfOk, OnErr, MatchOption, MatchResult};
+ghost use Rattle.l4_msg.specs.Messages.{CanBeWritten};
+
+use l4_ipc::{Call, Kernel, NoMemory, Reply};
+use l4_msg::Message;
+use l4_pager::{Entry, PagerRefusal, RegionPager, answering, brought, wait};
+use l4_sigma0::Sigma0;
+use l4_threads::ThreadId;
+use std::alloc::Global;
+use std::collections::{BTreeMap, BTreeSet};
+use std::marker::Model;
+
+/// sigma0's thread.
+const SIGMA0: u32 = 1;
+
+/// The space that a sender who is no longer there counts as.
+const GONE_SPACE: u64 = u64::MAX;
+
+/// Why a region isn't added to a thread's table.
+#[derive(Clone, Copy, PartialEq, Eq, Debug)]
+pub enum RegionRefusal {
+    /// The table refuses it.
+    Pager(PagerRefusal),
+    /// There is no memory for the thread's table.
+    NoMemory,
+}
+
+/// sigma0's table of owners, the region tables of threads, and the threads that are served. Threads go by their numbers.
+#[derive(Drop)]
+pub struct Servers {
+    owners: Sigma0,
+    tables: BTreeMap<u32, RegionPager>,
+    served: BTreeSet<u32>,
+}
+
+impl Model for Servers {
+    ghost use Rattle.std.specs.FinMap as fin;
+    ghost use Rattle.std.specs.FinSet as set;
+    ghost use Rattle.l4_pager.specs.contracts.regions.Entry as entry;
+    ghost use Rattle.l4_servers.specs.Servers.{Servers as TheServers, servers, servers_code};
+
+    ghost Value = { TheServers };
+
+    ghost coded = { servers_code entry.the_row.coded };
+
+    ghost view = { λ s. servers s.owners (fin.from_entries s.tables.entries) (set.from_list s.served.keys) };
+}
+
+/// The space of a message's sender.
+fn space_of_sender(kernel: &Kernel, sender: ThreadId) -> u64
+    ensures { result ≡ space_of_sender kernel.now.threads sender }
+{
+    kernel.space_of(sender.0 >> 14).unwrap_or(GONE_SPACE)
+}
+
+ghost use Rattle.l4_servers.specs.Acting.{space_of_sender};
+
+impl Servers {
+    ghost use Rattle.l4_sigma0.specs.Owners.{max_frames};
+    ghost use Rattle.l4_pager.specs.Regions.{Answers as AnswersByRegion};
+    ghost use Rattle.l4_servers.specs.Servers.{no_servers, regions_of, is_served, with_region, with_served, without, RegionFails};
+    ghost use Rattle.l4_servers.specs.Servers.{Servers as TheServers};
+    ghost use Rattle.l4_pager.specs.Regions.{CanAdd};
+    ghost use Rattle.std.specs.Prelude.{◌≤◌, false};
+    ghost use Rattle.l4_servers.specs.Acting.{NoneReady, IsFirstReady, Answers, Follows, ActsNext};
+
+    /// No frame has an owner, no thread has a table, and nobody is served. `frames` is at most 4,096.
+    pub fn new(alloc: Global, frames: u32) -> Servers
+        requires { frames ≤ max_frames }
+        ensures { result ≡ no_servers frames }
+    {
+        Servers {
+            owners: Sigma0::new(frames),
+            tables: BTreeMap::new(alloc),
+            served: BTreeSet::new(alloc),
+        }
+    }
+
+    /// Adds a region to a thread's table. The refusals are the table's, in its order, and then want of memory. A region that is
+    /// refused changes nothing.
+    pub fn add_region(&mut self, thread: u32, entry: Entry) -> Result<(), RegionRefusal>
+        ensures { MatchResult result
+            (λ _. CanAdd (regions_of self.old thread) entry × (self.new ≡ with_region self.old thread entry))
+            (λ refusal. RegionFails self.old thread entry refusal × (self.new ≡ self.old)) }
+    {
+        if let Some(table) = self.tables.get_mut(&thread) {
+            let Err(refusal) = table.add(entry) else {
+                return Ok(());
+            };
+            return Err(RegionRefusal::Pager(refusal));
+        }
+        let mut table = RegionPager::new();
+        if let Err(refusal) = table.add(entry) {
+            return Err(RegionRefusal::Pager(refusal));
+        }
+        let Ok(_) = self.tables.insert(thread, table) else {
+            return Err(RegionRefusal::NoMemory);
+        };
+        Ok(())
+    }
+
+    /// The thread is served from now on. Answers whether it was not before.
+    pub fn serve(&mut self, thread: u32) -> Result<bool, NoMemory>
+        ensures { MatchResult result
+            (λ begins. (begins ≡ not (is_served self.old thread)) × (self.new ≡ with_served self.old thread) × (begins ≡ false → self.new ≡ self.old))
+            (λ _. self.new ≡ self.old) }
+    {
+        let Ok(begins) = self.served.insert(thread) else {
+            return Err(NoMemory);
+        };
+        Ok(begins)
+    }
+
+    /// Takes back that a thread is served.
+    pub fn take_back(&mut self, thread: u32)
+        ensures { (before : TheServers) → is_served before thread ≡ false → self.old ≡ with_served before thread → self.new ≡ before }
+    {
+        self.served.remove(&thread);
+    }
+
+    /// The thread is served no longer, and has no table.
+    pub fn forget(&mut self, thread: u32)
+        ensures { self.new ≡ without self.old thread }
+    {
+        self.tables.remove(&thread);
+        self.served.remove(&thread);
+    }
+
+    /// The served thread of the least number that runs.
+    fn first_ready(&self, kernel: &Kernel) -> Option<u32>
+        ensures { MatchOption result (NoneReady kernel.now.threads self.now) (IsFirstReady kernel.now.threads self.now) }
+    {
+        for thread in self.served.iter() {
+            if kernel.reply(*thread).is_some() {
+                return Some(*thread);
+            }
+        }
+        None
+    }
+
+    /// What a thread's regions answer to a message.
+    fn region_answer(&self, thread: u32, message: &Message) -> Message
+        ensures answers { AnswersByRegion (regions_of self.now thread) message.now result }
+        ensures writable { CanBeWritten result }
+    {
+        match self.tables.get(&thread) {
+            Some(table) => table.answer(message),
+            None => RegionPager::new().answer(message),
+        }
+    }
+
+    /// What a thread answers to a sender's message.
+    fn answer(
+        &mut self,
+        kernel: &Kernel,
+        thread: u32,
+        sender: ThreadId,
+        message: &Message,
+    ) -> Message
+        ensures answers { Answers kernel.now.threads self.old thread sender message.now result self.new }
+        ensures writable { CanBeWritten result }
+    {
+        if thread == SIGMA0 {
+            return self.owners.answer(space_of_sender(kernel, sender), message);
+        }
+        self.region_answer(thread, message)
+    }
+
+    /// What a thread enters after this reply.
+    fn next_call(&mut self, kernel: &Kernel, thread: u32, reply: &Reply) -> Call
+        ensures { Follows kernel.now.threads self.old thread reply.now result self.new }
+    {
+        let Some((sender, message)) = brought(reply) else {
+            return wait();
+        };
+        answering(sender, &self.answer(kernel, thread, sender, &message))
+    }
+
+    /// The served thread that acts next, and the call that it enters: of the served threads that run the one of the least number. It
+    /// answers the message that its last reply brought, and then waits for the next one, or only waits where it brought none. sigma0
+    /// answers by its table of owners, in which an owner is set now; each other thread by its regions. None where no served thread
+    /// runs, and then nothing changes.
+    pub fn next_act(&mut self, kernel: &Kernel) -> Option<(u32, Call)>
+        ensures { MatchOption result (NoneReady kernel.now.threads self.old × (self.new ≡ self.old))
+            (λ act. ActsNext kernel.now.threads self.old act.0 act.1 self.new) }
+    {
+        let Some(thread) = self.first_ready(kernel) else {
+            return None;
+        };
+        let Some(reply) = kernel.reply(thread) else {
+            return None;
+        };
+        Some((thread, self.next_call(kernel, thread, reply)))
+    }
+}
