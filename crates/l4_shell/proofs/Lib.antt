@@ -3,3 +3,4 @@ pub mod Going
 pub mod Listing
 pub mod Scripting
 pub mod Delegating
+pub mod Served

@@ -9,11 +9,12 @@ use mathlib.Core.List.{append_assoc}
 use denote.Enum.Bare.{sameb}
 use Rattle.std.proofs.lemmas.Bool.{false≢true}
 use Rattle.l4_ipc.specs.Machine.{Machine, IsBoot}
+use Rattle.l4_servers.specs.Servers.{Servers, no_servers}
 use Rattle.l4_text.specs.Lines.{NoNewline, kept_of, TakesLine, TakesRest, GivesLine, left_of}
 use Rattle.l4_shell.specs.Lines.{ScriptLine, in_front, lines_of}
 use Rattle.l4_shell.specs.Requests.{asked_at, asked_of}
 use Rattle.l4_text.specs.Streams.{WentOut, HasTold, Tells}
-use Rattle.l4_shell.specs.Sessions.{AnswersLine, AnswersLines}
+use Rattle.l4_shell.specs.Sessions.{Session, session, AnswersLine, AnswersLines}
 use Rattle.l4_shell.specs.Scripts.{Runs}
 use Rattle.l4_shell.specs.Inside.Scripts.{TellsBeginning, TellsAll, TellsWhole, TellsScript}
 use Rattle.l4_text.specs.declared.lines.Ending.{Ending}
@@ -61,13 +62,13 @@ whole_front (line ∷ lines) more h none =
 -- ANSWERS
 
 -- the answer to one line more
-answers_more : (old between new : Machine) (number : ℕ) (lines : List ScriptLine) (text : List ℕ) (line : ScriptLine) (last : List ℕ) → AnswersLines old number lines text between
+answers_more : (old between new : Session) (number : ℕ) (lines : List ScriptLine) (text : List ℕ) (line : ScriptLine) (last : List ℕ) → AnswersLines old number lines text between
     → AnswersLine between (number + length lines) (asked_of line) last new → AnswersLines old number (lines ++ line ∷ []) (text ++ last) new
 answers_more old between new number [] text line last are is = (
   last,
   [],
   new,
-  subst (λ (m : Machine). AnswersLine m number (asked_of line) last new) are.1 (subst (λ (n : ℕ). AnswersLine between n (asked_of line) last new) (omega arith) is),
+  subst (λ (m : Session). AnswersLine m number (asked_of line) last new) are.1 (subst (λ (n : ℕ). AnswersLine between n (asked_of line) last new) (omega arith) is),
   (refl, refl),
   ap (λ t. t ++ last) are.0 ∙ sym (append-nil last),
 )
@@ -96,7 +97,7 @@ asked_long bytes kept is long =
 -- THE LOOP
 
 -- the lines that were answered so far, before the one of this number
-pub record Answered (m : Machine) (old new : Option (List ℕ)) (now : List ℕ × ℕ) (number : ℕ) (last : Machine) (written out : Option (List ℕ)) (before after : List ℕ × Bool) : Type 0 where
+pub record Answered (m : Session) (old new : Option (List ℕ)) (now : List ℕ × ℕ) (number : ℕ) (last : Session) (written out : Option (List ℕ)) (before after : List ℕ × Bool) : Type 0 where
   pub read : List ℕ
   pub done : List ℕ
   pub from : Consumes old new read
@@ -111,7 +112,7 @@ pub record Answered (m : Machine) (old new : Option (List ℕ)) (now : List ℕ 
   pub bound : left_of now + number ≤ 68736253953
   pub few : now.1 ≤ 16777216
 
-pub answered_none : (m : Machine) (a w : Option (List ℕ)) (now : List ℕ × ℕ) (s : List ℕ × Bool) → now ≡ ([], 0) → Answered m a a now 1 m w w s s
+pub answered_none : (m : Session) (a w : Option (List ℕ)) (now : List ℕ × ℕ) (s : List ℕ × Bool) → now ≡ ([], 0) → Answered m a a now 1 m w w s s
 answered_none m a w now s is = record {
   read = [];
   done = [];
@@ -129,7 +130,7 @@ answered_none m a w now s is = record {
 }
 
 -- one whole line more
-answered_more : (m last next : Machine) (old mid new : Option (List ℕ)) (now after : List ℕ × ℕ) (kept : List ℕ × Bool) (number : ℕ) (written out out' : Option (List ℕ))
+answered_more : (m last next : Session) (old mid new : Option (List ℕ)) (now after : List ℕ × ℕ) (kept : List ℕ × Bool) (number : ℕ) (written out out' : Option (List ℕ))
     (before s t : List ℕ × Bool) (ending : Ending) → Answered m old mid now number last written out before s → (l : TakesLine mid new now after kept)
     → asked_at ending kept.0 ≡ asked_of (record { bytes = l.bytes; whole = true })
     → (text : List ℕ) × AnswersLine last number (asked_at ending kept.0) text next × Tells out out' s t text
@@ -156,7 +157,7 @@ answered_more m last next old mid new now after kept number written out out' bef
     }
 
 -- what was held back went out
-pub answered_sent : (m last : Machine) (old new : Option (List ℕ)) (now : List ℕ × ℕ) (number : ℕ) (written out out' : Option (List ℕ)) (before s t : List ℕ × Bool)
+pub answered_sent : (m last : Session) (old new : Option (List ℕ)) (now : List ℕ × ℕ) (number : ℕ) (written out out' : Option (List ℕ)) (before s t : List ℕ × Bool)
     → Answered m old new now number last written out before s → Tells out out' s t [] → Answered m old new now number last written out' before t
 answered_sent m last old new now number written out out' before s t a sent = record {
   read = a.read;
@@ -175,7 +176,7 @@ answered_sent m last old new now number written out out' before s t a sent = rec
 }
 
 -- the lines so far, as lines of what was read
-pub beginning_of : (m last : Machine) (old new : Option (List ℕ)) (now : List ℕ × ℕ) (number : ℕ) (written out : Option (List ℕ)) (before after : List ℕ × Bool)
+pub beginning_of : (m last : Session) (old new : Option (List ℕ)) (now : List ℕ × ℕ) (number : ℕ) (written out : Option (List ℕ)) (before after : List ℕ × Bool)
     → Answered m old new now number last written out before after → TellsBeginning m old new written out before after
 beginning_of m last old new now number written out before after a = record {
   read = a.read;
@@ -188,14 +189,14 @@ beginning_of m last old new now number written out before after a = record {
 }
 
 -- all that was read and not taken has no newline
-same_rest : (m last : Machine) (old mid new : Option (List ℕ)) (now after : List ℕ × ℕ) (kept : List ℕ × Bool) (number : ℕ) (written out : Option (List ℕ)) (before s : List ℕ × Bool)
+same_rest : (m last : Session) (old mid new : Option (List ℕ)) (now after : List ℕ × ℕ) (kept : List ℕ × Bool) (number : ℕ) (written out : Option (List ℕ)) (before s : List ℕ × Bool)
     → (a : Answered m old mid now number last written out before s) → (l : TakesRest mid new now after kept) → lines_of (a.read ++ l.takes.read) ≡ a.lines ++ lines_of l.bytes
 same_rest m last old mid new now after kept number written out before s a l =
     ap lines_of (ap (λ x. x ++ l.takes.read) a.same ∙ append_assoc a.done now.0 l.takes.read
     ∙ ap (λ x. a.done ++ x) (l.takes.same ∙ ap (λ x. l.bytes ++ x) l.empty ∙ append-nil l.bytes)) ∙ a.front l.bytes
 
 -- reading failed
-pub answered_read : (m last : Machine) (old mid new : Option (List ℕ)) (now after : List ℕ × ℕ) (kept : List ℕ × Bool) (number : ℕ) (written out : Option (List ℕ)) (before s : List ℕ × Bool)
+pub answered_read : (m last : Session) (old mid new : Option (List ℕ)) (now after : List ℕ × ℕ) (kept : List ℕ × Bool) (number : ℕ) (written out : Option (List ℕ)) (before s : List ℕ × Bool)
     (e : RunFault) → Answered m old mid now number last written out before s → GivesLine mid new now after kept (Err e) → TellsWhole m old new written out before s
 answered_read m last old mid new now after kept number written out before s e a gives =
     let l = gives.0 in
@@ -221,7 +222,7 @@ something_kept : (bytes : List ℕ) → 0 < length (take 4096 bytes) → 0 < len
 something_kept bytes h = omega (arith, h, length-take 4096 bytes)
 
 -- at the end no line is left
-pub answered_end : (m last : Machine) (old mid new : Option (List ℕ)) (now after : List ℕ × ℕ) (kept : List ℕ × Bool) (number : ℕ) (written out : Option (List ℕ)) (before s : List ℕ × Bool)
+pub answered_end : (m last : Session) (old mid new : Option (List ℕ)) (now after : List ℕ × ℕ) (kept : List ℕ × Bool) (number : ℕ) (written out : Option (List ℕ)) (before s : List ℕ × Bool)
     (r : Option Ending) → Answered m old mid now number last written out before s → GivesLine mid new now after kept (Ok r) → r ≡ None
     → TellsAll m old new written out before s (number - 1)
 answered_end m last old mid new now after kept number written out before s r a gives is =
@@ -246,12 +247,12 @@ answered_end m last old mid new now after kept number written out before s r a g
     }
 
 -- after a line: all lines so far, or with a cut line all that there are
-abbrev pub AfterLine : Ending → Machine → Option (List ℕ) → Option (List ℕ) → List ℕ × ℕ → ℕ → Machine → Option (List ℕ) → Option (List ℕ) → List ℕ × Bool → List ℕ × Bool → Type 0
+abbrev pub AfterLine : Ending → Session → Option (List ℕ) → Option (List ℕ) → List ℕ × ℕ → ℕ → Session → Option (List ℕ) → Option (List ℕ) → List ℕ × Bool → List ℕ × Bool → Type 0
 AfterLine Whole m old new now number last written out before after = Answered m old new now (number + 1) last written out before after
 AfterLine Long m old new now number last written out before after = Answered m old new now (number + 1) last written out before after
 AfterLine Cut m old new now number last written out before after = TellsAll m old new written out before after number
 
-pub after_line : (ending : Ending) (m last next : Machine) (old mid new : Option (List ℕ)) (now after : List ℕ × ℕ) (kept : List ℕ × Bool) (number : ℕ) (written out out' : Option (List ℕ))
+pub after_line : (ending : Ending) (m last next : Session) (old mid new : Option (List ℕ)) (now after : List ℕ × ℕ) (kept : List ℕ × Bool) (number : ℕ) (written out out' : Option (List ℕ))
     (before s t : List ℕ × Bool) (r : Option Ending) → Answered m old mid now number last written out before s → GivesLine mid new now after kept (Ok r) → r ≡ Some ending
     → (text : List ℕ) × AnswersLine last number (asked_at ending kept.0) text next × Tells out out' s t text
     → AfterLine ending m old new after number next written out' before t
@@ -289,14 +290,14 @@ after_line Cut m last next old mid new now after kept number written out out' be
     }
 
 -- the line was cut
-pub answered_cut : (ending : Ending) (m next : Machine) (old new : Option (List ℕ)) (after : List ℕ × ℕ) (number : ℕ) (written out : Option (List ℕ)) (before t : List ℕ × Bool)
+pub answered_cut : (ending : Ending) (m next : Session) (old new : Option (List ℕ)) (after : List ℕ × ℕ) (number : ℕ) (written out : Option (List ℕ)) (before t : List ℕ × Bool)
     → AfterLine ending m old new after number next written out before t → true ≡ sameb the_type ending Cut → TellsAll m old new written out before t number
 answered_cut Whole m next old new after number written out before t a cut = absurd (false≢true (sym cut))
 answered_cut Long m next old new after number written out before t a cut = absurd (false≢true (sym cut))
 answered_cut Cut m next old new after number written out before t a cut = a
 
 -- any other line goes on
-pub answered_on : (ending : Ending) (m next : Machine) (old new : Option (List ℕ)) (after : List ℕ × ℕ) (number : ℕ) (written out : Option (List ℕ)) (before t : List ℕ × Bool)
+pub answered_on : (ending : Ending) (m next : Session) (old new : Option (List ℕ)) (after : List ℕ × ℕ) (number : ℕ) (written out : Option (List ℕ)) (before t : List ℕ × Bool)
     → AfterLine ending m old new after number next written out before t → false ≡ sameb the_type ending Cut → Answered m old new after (number + 1) next written out before t
 answered_on Whole m next old new after number written out before t a cut = a
 answered_on Long m next old new after number written out before t a cut = a
@@ -308,11 +309,16 @@ answered_on Cut m next old new after number written out before t a cut = absurd 
 nothing_told : (w : Option (List ℕ)) (s : List ℕ × Bool) → s ≡ ([], false) → HasTold w w s.0 s.1 []
 nothing_told w s is = subst (λ (t : List ℕ × Bool). HasTold w w t.0 t.1 []) (sym is) ([], refl, appends_same w)
 
+-- nobody was served at the start
+from_none : (frames : ℕ) (m : Machine) (sv : Servers) (lines : List ScriptLine) (text : List ℕ) (last : Session) → sv ≡ no_servers frames
+    → AnswersLines (session m sv) 1 lines text last → AnswersLines (session m (no_servers frames)) 1 lines text last
+from_none frames m sv lines text last none answers = subst (λ (x : Servers). AnswersLines (session m x) 1 lines text last) none answers
+
 -- all that was told went out
-pub runs_on : (frames : ℕ) (m : Machine) (old new written out now : Option (List ℕ)) (before after : List ℕ × Bool) (result : Result ℕ RunFault) → IsBoot frames m → before ≡ ([], false)
-    → TellsScript m old new written out before after result
+pub runs_on : (frames : ℕ) (m : Machine) (sv : Servers) (old new written out now : Option (List ℕ)) (before after : List ℕ × Bool) (result : Result ℕ RunFault) → IsBoot frames m → sv ≡ no_servers frames → before ≡ ([], false)
+    → TellsScript (session m sv) old new written out before after result
     → ((start : Option (List ℕ)) (told : List ℕ) → HasTold start out after.0 after.1 told → Appends start now told) → Runs frames old new written now result
-runs_on frames m old new written out now before after (Ok count) boots is t sent =
+runs_on frames m sv old new written out now before after (Ok count) boots none is t sent =
     let told = t.some.told in
     record {
       read = t.some.read;
@@ -320,19 +326,19 @@ runs_on frames m old new written out now before after (Ok count) boots is t sent
       end = t.end;
       lines = t.number;
       text = told.text;
-      is_text = record { boot = m; boots = boots; last = told.last; answers = subst (λ (ls : List ScriptLine). AnswersLines m 1 ls told.text told.last) t.all told.answers };
+      is_text = record { boot = m; boots = boots; last = told.last; answers = subst (λ (ls : List ScriptLine). AnswersLines (session m (no_servers frames)) 1 ls told.text told.last) t.all (from_none frames m sv _ _ _ none told.answers) };
       out = sent written told.text (told.tells written [] (nothing_told written before is));
     }
-runs_on frames m old new written out now before after (Err Read) boots is t sent =
+runs_on frames m sv old new written out now before after (Err Read) boots none is t sent =
     let told = t.some.told in
     record {
       read = t.some.read;
       «from» = t.some.from;
       text = told.text;
-      is_text = record { boot = m; boots = boots; last = told.last; answers = subst (λ (ls : List ScriptLine). AnswersLines m 1 ls told.text told.last) t.whole told.answers };
+      is_text = record { boot = m; boots = boots; last = told.last; answers = subst (λ (ls : List ScriptLine). AnswersLines (session m (no_servers frames)) 1 ls told.text told.last) t.whole (from_none frames m sv _ _ _ none told.answers) };
       out = sent written told.text (told.tells written [] (nothing_told written before is));
     }
-runs_on frames m old new written out now before after (Err Write) boots is t sent =
+runs_on frames m sv old new written out now before after (Err Write) boots none is t sent =
     let told = t.told in
     record {
       read = t.read;
@@ -342,13 +348,13 @@ runs_on frames m old new written out now before after (Err Write) boots is t sen
       parts = t.parts;
       sure = t.sure;
       text = told.text;
-      is_text = record { boot = m; boots = boots; last = told.last; answers = told.answers };
+      is_text = record { boot = m; boots = boots; last = told.last; answers = from_none frames m sv _ _ _ none told.answers };
       out = record { front = told.text; rest = []; whole = sym (append-nil told.text); out = sent written told.text (told.tells written [] (nothing_told written before is)) };
     }
-runs_on frames m old new written out now before after (Err Memory) boots is t sent = absurd t
+runs_on frames m sv old new written out now before after (Err Memory) boots none is t sent = absurd t
 
 -- the lines that were answered, whatever then came
-some_told : (m : Machine) (old new written out : Option (List ℕ)) (before after : List ℕ × Bool) (result : Result ℕ RunFault) → TellsScript m old new written out before after result
+some_told : (m : Session) (old new written out : Option (List ℕ)) (before after : List ℕ × Bool) (result : Result ℕ RunFault) → TellsScript m old new written out before after result
     → TellsBeginning m old new written out before after
 some_told m old new written out before after (Ok count) t = t.some
 some_told m old new written out before after (Err Read) t = t.some
@@ -356,11 +362,11 @@ some_told m old new written out before after (Err Write) t = t
 some_told m old new written out before after (Err Memory) t = absurd t
 
 -- a write failed
-pub runs_not : (frames : ℕ) (m : Machine) (old new written out now : Option (List ℕ)) (before after : List ℕ × Bool) (result : Result ℕ RunFault) → IsBoot frames m → before ≡ ([], false)
-    → TellsScript m old new written out before after result
+pub runs_not : (frames : ℕ) (m : Machine) (sv : Servers) (old new written out now : Option (List ℕ)) (before after : List ℕ × Bool) (result : Result ℕ RunFault) → IsBoot frames m → sv ≡ no_servers frames → before ≡ ([], false)
+    → TellsScript (session m sv) old new written out before after result
     → ((start : Option (List ℕ)) (told : List ℕ) → HasTold start out after.0 after.1 told → WentOut start now told) → Runs frames old new written now (Err Write)
-runs_not frames m old new written out now before after result boots is tells sent =
-    let t = some_told m old new written out before after result tells in
+runs_not frames m sv old new written out now before after result boots none is tells sent =
+    let t = some_told (session m sv) old new written out before after result tells in
     let told = t.told in
     record {
       read = t.read;
@@ -370,12 +376,12 @@ runs_not frames m old new written out now before after result boots is tells sen
       parts = t.parts;
       sure = t.sure;
       text = told.text;
-      is_text = record { boot = m; boots = boots; last = told.last; answers = told.answers };
+      is_text = record { boot = m; boots = boots; last = told.last; answers = from_none frames m sv _ _ _ none told.answers };
       out = sent written told.text (told.tells written [] (nothing_told written before is));
     }
 
 -- the bytes of the line are those that were kept
-pub same_bytes : (last next : Machine) (number : ℕ) (ending : Ending) (bytes kept : List ℕ) (out out' : Option (List ℕ)) (s t : List ℕ × Bool) → bytes ≡ kept
+pub same_bytes : (last next : Session) (number : ℕ) (ending : Ending) (bytes kept : List ℕ) (out out' : Option (List ℕ)) (s t : List ℕ × Bool) → bytes ≡ kept
     → (text : List ℕ) × AnswersLine last number (asked_at ending bytes) text next × Tells out out' s t text
     → (text : List ℕ) × AnswersLine last number (asked_at ending kept) text next × Tells out out' s t text
 same_bytes last next number ending bytes kept out out' s t is h = (h.0, subst (λ (b : List ℕ). AnswersLine last number (asked_at ending b) h.0 next) is h.1, h.2)

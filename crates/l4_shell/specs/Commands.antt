@@ -2,13 +2,13 @@
 use Rattle.std.specs.Prelude.{ℕ, ◌^◌, ◌==◌, Bool, true, false, List, [], ◌∷◌, length, nat_le, slice_index, Option, Some, None, Result, Err, option_and_then, ok_or, if◌then◌else◌, codes}
 use Rattle.std.specs.Str.{bytes_eq}
 use Rattle.l4_fpage.specs.Rights.{RightsSet}
-use Rattle.l4_msg.specs.declared.regions.Region.{Region}
+use Rattle.l4_msg.specs.declared.regions.Region.{Region as Delegated}
 use Rattle.l4_shell.specs.declared.partners.Partner.{Partner}
 use Rattle.l4_shell.specs.declared.partners.Partner.TheVariants.{Nil, Any, Thread as One}
 use Rattle.l4_shell.specs.declared.partners.NewSpace.{NewSpace}
 use Rattle.l4_shell.specs.declared.partners.NewSpace.TheVariants.{New, Of}
 use Rattle.l4_shell.specs.declared.commands.Command.{Command}
-use Rattle.l4_shell.specs.declared.commands.Command.TheVariants.{Thread, SetPager, Delete, Receive, Send, Ipc, Fault, Delegate, Unmap, Show, Parent}
+use Rattle.l4_shell.specs.declared.commands.Command.TheVariants.{Thread, SetPager, Delete, Receive, Send, Ipc, Fault, Delegate, Unmap, Show, Parent, Region, Serve}
 use Rattle.l4_shell.specs.declared.commands.ScriptFault.{ScriptFault}
 use Rattle.l4_shell.specs.declared.commands.ScriptFault.TheVariants.{UnknownCommand, BadTokens}
 use Rattle.l4_text.specs.Numbers.{below, number_of}
@@ -140,7 +140,7 @@ send_asked (number ∷ to ∷ tokens) = do
   Some (Send n partner words)
 
 -- SOURCE TARGET COUNT RIGHTS
-abbrev pub region_of : List (List ℕ) → Option Region
+abbrev pub region_of : List (List ℕ) → Option Delegated
 region_of [] = None
 region_of (source ∷ tokens) = do
   three ← three_of tokens
@@ -197,9 +197,33 @@ fault_asked (number ∷ tokens) = do
   access ← rights_of three.1.1
   Some (Fault n (record { address = address; ip = ip; access = access }))
 
--- the commands of page faults
-abbrev pub fault_command_of : List ℕ → List (List ℕ) → Result Command ScriptFault
-fault_command_of name tokens = if is_word (codes "fault") name then ok_or (fault_asked tokens) BadTokens else Err UnknownCommand
+-- P FIRST SOURCE COUNT RIGHTS
+abbrev pub region_asked : List (List ℕ) → Option Command
+region_asked [] = None
+region_asked (number ∷ []) = None
+region_asked (number ∷ first ∷ tokens) = do
+  three ← three_of tokens
+  n ← thread_of number
+  f ← number_of first
+  s ← number_of three.0
+  c ← number_of three.1.0
+  rights ← rights_of three.1.1
+  Some (Region n (record { first = f; source = s; count = c; rights = rights }))
+
+-- P
+abbrev pub serve_asked : List (List ℕ) → Option Command
+serve_asked tokens = do
+  token ← one_of tokens
+  number ← thread_of token
+  Some (Serve number)
+
+-- the commands of page faults and pagers
+abbrev pub pager_command_of : List ℕ → List (List ℕ) → Result Command ScriptFault
+pager_command_of name tokens =
+    if is_word (codes "fault") name then ok_or (fault_asked tokens) BadTokens
+    else (if is_word (codes "region") name then ok_or (region_asked tokens) BadTokens
+    else (if is_word (codes "serve") name then ok_or (serve_asked tokens) BadTokens
+    else Err UnknownCommand))
 
 -- what the tokens of a line that has some ask for, or why they can't be read
 unfoldable pub command_of : List (List ℕ) → Result Command ScriptFault
@@ -215,4 +239,4 @@ command_of (name ∷ tokens) =
     else (if is_word (codes "unmap") name then ok_or (unmap_asked tokens) BadTokens
     else (if is_word (codes "show") name then ok_or (show_asked tokens) BadTokens
     else (if is_word (codes "parent") name then ok_or (parent_asked tokens) BadTokens
-    else fault_command_of name tokens)))))))))
+    else pager_command_of name tokens)))))))))

@@ -5,4 +5,5 @@ pub mod Refusals
 pub mod Requests
 pub mod Scripts
 pub mod Sessions
+pub mod Texts
 pub mod Inside

@@ -1,6 +1,10 @@
 -- The codes of what a script's line is refused for before it reaches the kernel (this profile's own).
 use Rattle.std.specs.Prelude.{codes}
 use Rattle.l4_answers.specs.Refusals.{Refusal, plainly}
+use Rattle.l4_pager.specs.declared.regions.PagerRefusal.{PagerRefusal}
+use Rattle.l4_pager.specs.declared.regions.PagerRefusal.TheVariants.{Overlap, NoRegion, Full, BadRegion}
+use Rattle.l4_servers.specs.declared.servers.RegionRefusal.{RegionRefusal}
+use Rattle.l4_servers.specs.declared.servers.RegionRefusal.TheVariants.{Pager, NoMemory}
 use Rattle.l4_plan.specs.declared.plans.PlanRefusal.{PlanRefusal}
 use Rattle.l4_plan.specs.declared.plans.PlanRefusal.TheVariants.{Empty, OutOfSpace, NoRights, TooLong}
 use Rattle.l4_shell.specs.declared.commands.ScriptFault.{ScriptFault}
@@ -19,3 +23,19 @@ plan_refusal Empty = plainly (codes "N1")
 plan_refusal OutOfSpace = plainly (codes "N2")
 plan_refusal NoRights = plainly (codes "N3")
 plan_refusal (TooLong pages) = plainly (codes "N4")
+
+-- want of memory
+abbrev pub lacks_memory : Refusal
+lacks_memory = plainly (codes "NoMemory")
+
+-- the code of what a pager's table refuses
+abbrev pub pager_refusal : PagerRefusal → Refusal
+pager_refusal Overlap = plainly (codes "P1")
+pager_refusal NoRegion = plainly (codes "P2")
+pager_refusal Full = plainly (codes "P3")
+pager_refusal BadRegion = plainly (codes "P4")
+
+-- the code of a region that isn't added
+abbrev pub region_refusal : RegionRefusal → Refusal
+region_refusal (Pager refusal) = pager_refusal refusal
+region_refusal NoMemory = lacks_memory

@@ -10,9 +10,9 @@ use Rattle.l4_shell.specs.declared.partners.Partner.TheVariants.{Nil, Any, Threa
 use Rattle.l4_shell.specs.declared.partners.NewSpace.{NewSpace}
 use Rattle.l4_shell.specs.declared.partners.NewSpace.TheVariants.{New, Of}
 use Rattle.l4_shell.specs.declared.commands.Command.{Command}
-use Rattle.l4_shell.specs.declared.commands.Command.TheVariants.{Thread, SetPager, Delete, Receive, Send, Ipc, Fault, Delegate, Unmap, Show, Parent}
+use Rattle.l4_shell.specs.declared.commands.Command.TheVariants.{Thread, SetPager, Delete, Receive, Send, Ipc, Fault, Delegate, Unmap, Show, Parent, Region, Serve}
 use Rattle.l4_shell.specs.declared.requests.Request.{Request}
-use Rattle.l4_shell.specs.declared.requests.Request.TheVariants.{Enter, SendPlan, ListPages, TellParent}
+use Rattle.l4_shell.specs.declared.requests.Request.TheVariants.{Enter, EndThread, SendPlan, ListPages, TellParent, AddRegion, ServeThread}
 use Rattle.l4_shell.specs.declared.commands.ScriptFault.{ScriptFault}
 use Rattle.l4_shell.specs.declared.commands.ScriptFault.TheVariants.{LineTooLong, CutLine}
 use Rattle.l4_text.specs.declared.lines.Ending.{Ending}
@@ -67,11 +67,15 @@ send_call partner words = ipc_call partner Nil 0 0 words
 abbrev pub unmap_call : ℕ → List ℕ → Call
 unmap_call control words = Unmaps (record { control = control; words = record { items = words } })
 
--- what a command comes to; thread 2 is root, which creates and deletes threads and names their pagers
+-- the thread that creates and deletes threads, and names their pagers
+abbrev pub root : ℕ
+root = 2
+
+-- what a command comes to
 abbrev pub request_of : Command → Request
-request_of (Thread number space pager) = Enter 2 (create_call number space pager)
-request_of (SetPager number pager) = Enter 2 (set_pager_call number pager)
-request_of (Delete number) = Enter 2 (delete_call number)
+request_of (Thread number space pager) = Enter root (create_call number space pager)
+request_of (SetPager number pager) = Enter root (set_pager_call number pager)
+request_of (Delete number) = EndThread number
 request_of (Receive number partner window) = Enter number (receive_call partner window)
 request_of (Send number partner words) = Enter number (send_call partner words)
 request_of (Ipc number to «from» timeouts window words) = Enter number (ipc_call to «from» timeouts window words)
@@ -80,6 +84,8 @@ request_of (Delegate number partner region) = SendPlan number partner region
 request_of (Unmap number control words) = Enter number (unmap_call control words)
 request_of (Show number first count) = ListPages number first count
 request_of (Parent number page) = TellParent number page
+request_of (Region number entry) = AddRegion number entry
+request_of (Serve number) = ServeThread number
 
 -- WHAT A LINE ASKS FOR
 

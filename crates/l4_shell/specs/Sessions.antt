@@ -19,18 +19,25 @@ use Rattle.l4_ipc.specs.Following.{Done, AreNext}
 use Rattle.l4_shell.specs.declared.commands.Command.{Command}
 use Rattle.l4_shell.specs.declared.commands.ScriptFault.{ScriptFault}
 use Rattle.l4_shell.specs.declared.requests.Request.{Request}
-use Rattle.l4_shell.specs.declared.requests.Request.TheVariants.{Enter, SendPlan, ListPages, TellParent}
+use Rattle.l4_shell.specs.declared.requests.Request.TheVariants.{Enter, EndThread, SendPlan, ListPages, TellParent, AddRegion, ServeThread}
 use Rattle.l4_answers.specs.Replies.{transfer_text, expire_text, reply_text, waits_text}
 use Rattle.l4_answers.specs.Pages.{page_text, shown_text, parent_text}
 use Rattle.l4_answers.specs.Refusals.{kernel_refusal, refused_text}
-use Rattle.l4_shell.specs.Refusals.{script_refusal, plan_refusal}
+use Rattle.l4_shell.specs.Refusals.{script_refusal, plan_refusal, lacks_memory, region_refusal}
 use Rattle.l4_shell.specs.Lines.{ScriptLine}
 use Rattle.l4_text.specs.Streams.{Tells}
-use Rattle.l4_shell.specs.Requests.{request_of, asked_of, send_call}
+use Rattle.l4_shell.specs.Requests.{request_of, asked_of, root, send_call, delete_call}
+use Rattle.l4_shell.specs.Texts.{region_text, refused_act_text}
 use Rattle.l4_shell.specs.Delegations.{ArePlanWords, HasNoPlan}
 use Rattle.l4_shell.specs.declared.partners.Partner.{Partner}
 use Rattle.l4_msg.specs.declared.regions.Region.{Region}
 use Rattle.l4_plan.specs.declared.plans.PlanRefusal.{PlanRefusal}
+use Rattle.l4_pager.specs.Regions.{CanAdd}
+use Rattle.l4_pager.specs.Serving.{waiting}
+use Rattle.l4_pager.specs.declared.regions.Entry.{Entry}
+use Rattle.l4_servers.specs.Servers.{Servers, no_servers, regions_of, with_region, with_served, without, RegionFails}
+use Rattle.l4_servers.specs.Acting.{NoneReady, ActsNext}
+use Rattle.l4_servers.specs.declared.servers.RegionRefusal.{RegionRefusal}
 
 -- STEPS
 
@@ -63,45 +70,153 @@ ended_in steps = flat_map (λ done. done.answer.ended.items) steps
 abbrev pub waiting_text : ℕ → Bool → List ℕ
 waiting_text thread ended = if ended then [] else waits_text thread
 
--- ONE CALL
+-- SESSIONS
 
--- The step that comes next was done, again and again until there was none, and all of it is told; at last that the
--- caller waits, where its call had not ended before and did not end then.
-pub record GoesOn (old : Machine) (thread : ℕ) (ended text : List ℕ) (new : Machine) : Type 0 where
-  pub steps : List Done
-  pub next : AreNext old steps new
-  pub idle : IsIdle new
-  pub text_is : text ≡ flat_map done_text steps ++ waiting_text thread (is_among thread (ended ++ ended_in steps))
+-- what a script has: the kernel, and the servers
+pub record Session : Type 0 where
+  pub machine : Machine
+  pub servers : Servers
 
--- the call was started and its start told, and then the steps that follow
-pub record Follows (old : Machine) (thread : ℕ) (call : Call) (text : List ℕ) (new : Machine) : Type 0 where
+abbrev pub session : Machine → Servers → Session
+session machine servers = record { machine = machine; servers = servers }
+
+-- SERVED THREADS
+
+-- a served thread's call: what its start answered, the steps that followed, and the servers once its words were made
+pub record Act : Type 0 where
+  pub thread : ℕ
+  pub call : Call
+  pub servers : Servers
   pub answer : Answer
   pub started : Machine
-  pub starts : Steps old (Start thread call) (Ok answer) started
+  pub steps : List Done
+  pub after : Machine
+
+-- the served thread that acts next entered its call, and the step that comes next was done, again and again until there was none
+pub record IsAct (old : Session) (act : Act) : Type 0 where
+  pub acts : ActsNext old.machine.threads old.servers act.thread act.call act.servers
+  pub starts : Steps old.machine (Start act.thread act.call) (Ok act.answer) act.started
+  pub next : AreNext act.started act.steps act.after
+  pub idle : IsIdle act.after
+
+abbrev pub act_text : Act → List ℕ
+act_text act = step_text (Start act.thread act.call) act.answer act.started ++ flat_map done_text act.steps
+
+-- the threads whose calls ended in these acts
+abbrev pub ended_by : List Act → List ℕ
+ended_by acts = flat_map (λ act. act.answer.ended.items ++ ended_in act.steps) acts
+
+-- one act after another
+abbrev pub AreActs : Session → List Act → Session → Type 0
+AreActs old [] new = new ≡ old
+AreActs old (act ∷ acts) new = IsAct old act × AreActs (session act.after act.servers) acts new
+
+-- the acts of a line, at most
+abbrev pub most_acts : ℕ
+most_acts = 256
+
+-- no served thread runs
+abbrev pub IsQuiet : Session → List ℕ → Session → Type 0
+IsQuiet old text new = NoneReady old.machine.threads old.servers × (text ≡ []) × (new ≡ old)
+
+-- the line has had all its acts
+abbrev pub IsSpent : Session → ℕ → List ℕ → Session → Type 0
+IsSpent old count text new = (count ≡ most_acts) × (text ≡ []) × (new ≡ old)
+
+-- the call of the served thread that acts next was refused, and the text is its refusal
+pub record RefusesAct (old : Session) (count : ℕ) (text : List ℕ) (new : Session) : Type 0 where
+  pub few : count < most_acts
+  pub thread : ℕ
+  pub call : Call
+  pub acts : ActsNext old.machine.threads old.servers thread call new.servers
+  pub refusal : Refused
+  pub refused : Steps old.machine (Start thread call) (Err refusal) new.machine
+  pub text_is : text ≡ refused_act_text thread (kernel_refusal refusal)
+
+-- why no served thread acts further on a line that has had so many acts
+abbrev pub StopsActing : Session → ℕ → List ℕ → Session → Type 0
+StopsActing old count text new = IsQuiet old text new ⊎ (IsSpent old count text new ⊎ RefusesAct old count text new)
+
+-- ONE CALL
+
+-- The step that comes next was done, again and again until there was none; then the served threads acted, one after another; and all of
+-- it is told; at last that the caller waits, where its call had not ended before and did not end then.
+pub record GoesOn (old : Session) (thread : ℕ) (ended text : List ℕ) (new : Session) : Type 0 where
+  pub steps : List Done
+  pub settled : Machine
+  pub next : AreNext old.machine steps settled
+  pub idle : IsIdle settled
+  pub acts : List Act
+  pub between : Session
+  pub are : AreActs (session settled old.servers) acts between
+  pub few : length acts ≤ most_acts
+  pub last : List ℕ
+  pub stops : StopsActing between (length acts) last new
+  pub text_is :
+      text ≡ flat_map done_text steps ++ ((flat_map act_text acts ++ last) ++ waiting_text thread (is_among thread (ended ++ (ended_in steps ++ ended_by acts))))
+
+-- the call was started and its start told, the servers are these since, and then what follows
+pub record Follows (old : Session) (thread : ℕ) (call : Call) (servers : Servers) (text : List ℕ) (new : Session) : Type 0 where
+  pub answer : Answer
+  pub started : Machine
+  pub starts : Steps old.machine (Start thread call) (Ok answer) started
   pub rest : List ℕ
-  pub goes_on : GoesOn started thread answer.ended.items rest new
+  pub goes_on : GoesOn (session started servers) thread answer.ended.items rest new
   pub text_is : text ≡ step_text (Start thread call) answer started ++ rest
 
 -- the call of this line was refused, and the text is its refusal
-pub record Refuses (old : Machine) (line thread : ℕ) (call : Call) (text : List ℕ) (new : Machine) : Type 0 where
+pub record Refuses (old : Session) (line thread : ℕ) (call : Call) (text : List ℕ) (new : Session) : Type 0 where
   pub refusal : Refused
-  pub refused : Steps old (Start thread call) (Err refusal) new
+  pub refused : Steps old.machine (Start thread call) (Err refusal) new.machine
+  pub servers : new.servers ≡ old.servers
   pub text_is : text ≡ refused_text line (kernel_refusal refusal)
 
-abbrev pub Enters : Machine → ℕ → ℕ → Call → List ℕ → Machine → Type 0
-Enters old line thread call text new = Follows old thread call text new ⊎ Refuses old line thread call text new
+abbrev pub Enters : Session → ℕ → ℕ → Call → List ℕ → Session → Type 0
+Enters old line thread call text new = Follows old thread call old.servers text new ⊎ Refuses old line thread call text new
+
+-- root deletes a thread, which is served no longer and has no table
+abbrev pub Deletes : Session → ℕ → ℕ → List ℕ → Session → Type 0
+Deletes old line thread text new =
+    Follows old root (delete_call thread) (without old.servers thread) text new ⊎ Refuses old line root (delete_call thread) text new
+
+-- PAGERS
+
+-- there was no memory, and nothing was done
+abbrev pub LacksMemory : Session → ℕ → List ℕ → Session → Type 0
+LacksMemory old line text new = (text ≡ refused_text line lacks_memory) × (new ≡ old)
+
+-- a thread waits for anybody's message, and is served from then on
+abbrev pub ServesThread : Session → ℕ → ℕ → List ℕ → Session → Type 0
+ServesThread old line thread text new =
+    Follows old thread waiting (with_served old.servers thread) text new ⊎ (Refuses old line thread waiting text new ⊎ LacksMemory old line text new)
+
+-- the region was added
+abbrev pub RegionAdded : Session → ℕ → Entry → List ℕ → Session → Type 0
+RegionAdded old thread entry text new =
+    CanAdd (regions_of old.servers thread) entry × (text ≡ region_text) × (new ≡ session old.machine (with_region old.servers thread entry))
+
+-- the region was refused
+abbrev pub RegionRefused : Session → ℕ → ℕ → Entry → List ℕ → Session → Type 0
+RegionRefused old line thread entry text new =
+    (refusal : RegionRefusal) × RegionFails old.servers thread entry refusal × (text ≡ refused_text line (region_refusal refusal)) × (new ≡ old)
+
+-- a thread's table gets a region; a thread that isn't there is refused
+abbrev pub AddsRegion : Session → ℕ → ℕ → Entry → List ℕ → Session → Type 0
+AddsRegion old line thread entry text new =
+    MatchOption (space_of old.machine.threads thread) ((text ≡ refused_text line (kernel_refusal UnknownThread)) × (new ≡ old))
+    (λ space. RegionAdded old thread entry text new ⊎ RegionRefused old line thread entry text new)
 
 -- DELEGATIONS
 
 -- the message of the region's shortest plan is sent
-abbrev pub SendsPlan : Machine → ℕ → ℕ → Partner → Region → List ℕ → Machine → Type 0
+abbrev pub SendsPlan : Session → ℕ → ℕ → Partner → Region → List ℕ → Session → Type 0
 SendsPlan old line thread to r text new = (words : List ℕ) × ArePlanWords r words × Enters old line thread (send_call to words) text new
 
 -- the region has no plan, and the text is the refusal; whether the call would be refused is not looked at
-abbrev pub RefusesPlan : Machine → ℕ → Region → List ℕ → Machine → Type 0
+abbrev pub RefusesPlan : Session → ℕ → Region → List ℕ → Session → Type 0
 RefusesPlan old line r text new = (refusal : PlanRefusal) × HasNoPlan r refusal × (text ≡ refused_text line (plan_refusal refusal)) × (new ≡ old)
 
-abbrev pub Delegates : Machine → ℕ → ℕ → Partner → Region → List ℕ → Machine → Type 0
+abbrev pub Delegates : Session → ℕ → ℕ → Partner → Region → List ℕ → Session → Type 0
 Delegates old line thread to r text new = SendsPlan old line thread to r text new ⊎ RefusesPlan old line r text new
 
 -- PAGES
@@ -146,28 +261,31 @@ parent_answer m line thread page =
 -- LINES
 
 -- a line's request was carried out, and the text is what was told of it
-abbrev pub CarriesOut : Machine → ℕ → Request → List ℕ → Machine → Type 0
+abbrev pub CarriesOut : Session → ℕ → Request → List ℕ → Session → Type 0
 CarriesOut old line (Enter thread call) text new = Enters old line thread call text new
+CarriesOut old line (EndThread thread) text new = Deletes old line thread text new
 CarriesOut old line (SendPlan thread to region) text new = Delegates old line thread to region text new
-CarriesOut old line (ListPages thread first count) text new = Shows old line thread first count text × (new ≡ old)
-CarriesOut old line (TellParent thread page) text new = (text ≡ parent_answer old line thread page) × (new ≡ old)
+CarriesOut old line (ListPages thread first count) text new = Shows old.machine line thread first count text × (new ≡ old)
+CarriesOut old line (TellParent thread page) text new = (text ≡ parent_answer old.machine line thread page) × (new ≡ old)
+CarriesOut old line (AddRegion thread entry) text new = AddsRegion old line thread entry text new
+CarriesOut old line (ServeThread thread) text new = ServesThread old line thread text new
 
 -- the answer to a line of this number that asks for this
-abbrev pub AnswersLine : Machine → ℕ → Result (Option Command) ScriptFault → List ℕ → Machine → Type 0
+abbrev pub AnswersLine : Session → ℕ → Result (Option Command) ScriptFault → List ℕ → Session → Type 0
 AnswersLine old line (Ok None) text new = (text ≡ []) × (new ≡ old)
 AnswersLine old line (Ok (Some command)) text new = CarriesOut old line (request_of command) text new
 AnswersLine old line (Err fault) text new = (text ≡ refused_text line (script_refusal fault)) × (new ≡ old)
 
 -- the answers to lines, of which the first has this number, one after another
-abbrev pub AnswersLines : Machine → ℕ → List ScriptLine → List ℕ → Machine → Type 0
+abbrev pub AnswersLines : Session → ℕ → List ScriptLine → List ℕ → Session → Type 0
 AnswersLines old number [] text new = (text ≡ []) × (new ≡ old)
 AnswersLines old number (line ∷ lines) text new =
-    (first : List ℕ) × (rest : List ℕ) × (between : Machine) × AnswersLine old number (asked_of line) first between
+    (first : List ℕ) × (rest : List ℕ) × (between : Session) × AnswersLine old number (asked_of line) first between
     × AnswersLines between (number + 1) lines rest new × (text ≡ first ++ rest)
 
--- the answers to a script's lines, over a machine with so many frames as it boots
+-- the answers to a script's lines, over a machine with so many frames as it boots, and without servers
 pub record IsScriptText (frames : ℕ) (lines : List ScriptLine) (text : List ℕ) : Type 0 where
   pub boot : Machine
   pub boots : IsBoot frames boot
-  pub last : Machine
-  pub answers : AnswersLines boot 1 lines text last
+  pub last : Session
+  pub answers : AnswersLines (session boot (no_servers frames)) 1 lines text last

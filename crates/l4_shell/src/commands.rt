@@ -1,7 +1,7 @@
 //! What a script line asks for.
 ghost use Rattle.std.specs.Prelude.{◌≡◌, [], length};
 ghost use Rattle.l4_text.specs.Tokens.{tokens_of};
-ghost use Rattle.l4_shell.specs.Commands.{thread_asked, set_pager_asked, delete_asked, receive_asked, show_asked, parent_asked, send_asked, delegate_asked, ipc_asked, unmap_asked, fault_asked, fault_command_of, words_of, command_of};
+ghost use Rattle.l4_shell.specs.Commands.{thread_asked, set_pager_asked, delete_asked, receive_asked, show_asked, parent_asked, send_asked, delegate_asked, ipc_asked, unmap_asked, fault_asked, region_asked, serve_asked, pager_command_of, words_of, command_of};
 
 use crate::partners::{NewSpace, Partner, any_or_thread, new_space, nil_or_thread, thread_number};
 use crate::regions::{region, rights};
@@ -9,6 +9,7 @@ use crate::tokens::{one, three, two};
 use arrayvec::ArrayVec;
 use l4_ipc::FaultCall;
 use l4_msg::Region;
+use l4_pager::Entry;
 use l4_text::{next_token, number};
 use std::marker::Model;
 
@@ -120,17 +121,17 @@ pub(crate) enum Command {
         control: u32,
         words: Words,
     },
-    /// The present pages of a thread's space, among `count` from `first` on.
-    Show {
-        number: u32,
-        first: u32,
-        count: u32,
-    },
+    /// The present pages of a thread's space, from a first on among so many.
+    Show(u32, u32, u32),
     /// The parent of a page of a thread's space.
     Parent {
         number: u32,
         page: u32,
     },
+    /// A thread's table gets a region.
+    Region(u32, Entry),
+    /// A thread is served.
+    Serve(u32),
 }
 
 const THREAD: &[u8] = b"thread";
@@ -154,6 +155,10 @@ const UNMAP: &[u8] = b"unmap";
 const SHOW: &[u8] = b"show";
 
 const PARENT: &[u8] = b"parent";
+
+const REGION: &[u8] = b"region";
+
+const SERVE: &[u8] = b"serve";
 
 /// `N SPACE PAGER`
 #[tactic(auto, unfolding(crate::specs::Commands::thread_asked))]
@@ -209,11 +214,7 @@ fn show(line: &[u8]) -> Option<Command>
     ensures { result ≡ show_asked (tokens_of line.now) }
 {
     let (number_token, (first, count)) = three(line)?;
-    Some(Command::Show {
-        number: thread_number(number_token)?,
-        first: number(first)?,
-        count: number(count)?,
-    })
+    Some(Command::Show(thread_number(number_token)?, number(first)?, number(count)?))
 }
 
 /// `N PAGE`
@@ -323,12 +324,43 @@ fn fault(line: &[u8]) -> Option<Command>
     ))
 }
 
-/// A command of page faults, by its name and the tokens after it.
-fn fault_command(name: &[u8], rest: &[u8]) -> Result<Command, ScriptFault>
-    ensures { result ≡ fault_command_of name.now (tokens_of rest.now) }
+/// `P FIRST SOURCE COUNT RIGHTS`
+fn add_region(line: &[u8]) -> Option<Command>
+    ensures { result ≡ region_asked (tokens_of line.now) }
+{
+    let (number_token, rest) = next_token(line)?;
+    let (first, rest) = next_token(rest)?;
+    let (source, (count, access)) = three(rest)?;
+    Some(Command::Region(
+        thread_number(number_token)?,
+        Entry {
+            first: number(first)?,
+            source: number(source)?,
+            count: number(count)?,
+            rights: rights(access)?,
+        },
+    ))
+}
+
+/// `P`
+fn serve(line: &[u8]) -> Option<Command>
+    ensures { result ≡ serve_asked (tokens_of line.now) }
+{
+    Some(Command::Serve(thread_number(one(line)?)?))
+}
+
+/// A command of page faults or pagers, by its name and the tokens after it.
+fn pager_command(name: &[u8], rest: &[u8]) -> Result<Command, ScriptFault>
+    ensures { result ≡ pager_command_of name.now (tokens_of rest.now) }
 {
     if name == FAULT {
         return fault(rest).ok_or(ScriptFault::BadTokens);
+    }
+    if name == REGION {
+        return add_region(rest).ok_or(ScriptFault::BadTokens);
+    }
+    if name == SERVE {
+        return serve(rest).ok_or(ScriptFault::BadTokens);
     }
     Err(ScriptFault::UnknownCommand)
 }
@@ -371,5 +403,5 @@ pub(crate) fn read_command(line: &[u8]) -> Result<Command, ScriptFault>
     if name == PARENT {
         return parent(rest).ok_or(ScriptFault::BadTokens);
     }
-    fault_command(name, rest)
+    pager_command(name, rest)
 }

@@ -8,7 +8,9 @@ mod refusals;
 mod regions;
 mod requests;
 mod running;
+mod serving;
 mod session;
+mod texts;
 mod tokens;
 
 pub use l4_options::options;

@@ -1,10 +1,12 @@
 //! The codes of what a script's line is refused for before it reaches the kernel.
 ghost use Rattle.std.specs.Prelude.{◌≡◌};
-ghost use Rattle.l4_shell.specs.Refusals.{script_refusal, plan_refusal};
+ghost use Rattle.l4_shell.specs.Refusals.{script_refusal, plan_refusal, lacks_memory, pager_refusal, region_refusal};
 
 use crate::commands::ScriptFault;
 use l4_answers::Code;
+use l4_pager::PagerRefusal;
 use l4_plan::PlanRefusal;
+use l4_servers::RegionRefusal;
 
 /// The code of a line that can't be read.
 pub(crate) fn script_code(fault: ScriptFault) -> Code
@@ -27,5 +29,34 @@ pub(crate) fn plan_code(refusal: &PlanRefusal) -> Code
         PlanRefusal::OutOfSpace => Code::plain(b"N2"),
         PlanRefusal::NoRights => Code::plain(b"N3"),
         PlanRefusal::TooLong(_) => Code::plain(b"N4"),
+    }
+}
+
+/// The code of want of memory.
+pub(crate) fn memory_code() -> Code
+    ensures { result ≡ lacks_memory }
+{
+    Code::plain(b"NoMemory")
+}
+
+/// The code of what a pager's table refuses.
+fn pager_code(refusal: PagerRefusal) -> Code
+    ensures { result ≡ pager_refusal refusal }
+{
+    match refusal {
+        PagerRefusal::Overlap => Code::plain(b"P1"),
+        PagerRefusal::NoRegion => Code::plain(b"P2"),
+        PagerRefusal::Full => Code::plain(b"P3"),
+        PagerRefusal::BadRegion => Code::plain(b"P4"),
+    }
+}
+
+/// The code of a region that isn't added.
+pub(crate) fn region_code(refusal: RegionRefusal) -> Code
+    ensures { result ≡ region_refusal refusal }
+{
+    match refusal {
+        RegionRefusal::Pager(refusal) => pager_code(refusal),
+        RegionRefusal::NoMemory => memory_code(),
     }
 }

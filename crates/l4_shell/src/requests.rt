@@ -6,22 +6,29 @@ use crate::commands::{Command, Words};
 use crate::partners::{NewSpace, Partner};
 use l4_ipc::{Call, Control, Create, IpcCall, SetPager, UnmapCall};
 use l4_msg::Region;
+use l4_pager::Entry;
 use l4_threads::ThreadId;
 
 /// The thread that creates and deletes threads, and names their pagers.
-const ROOT: u32 = 2;
+pub(crate) const ROOT: u32 = 2;
 
 /// What a command comes to. Threads go by their numbers.
 #[derive(Drop)]
 pub(crate) enum Request {
     /// The thread enters the call.
     Enter(u32, Call),
+    /// Root deletes the thread.
+    EndThread(u32),
     /// The thread sends the message of the region's plan.
     SendPlan(u32, Partner, Region),
     /// The present pages of the thread's space are listed, among so many from a first on.
     ListPages(u32, u32, u32),
     /// The parent of a page of the thread's space is told.
     TellParent(u32, u32),
+    /// The thread's table gets the region.
+    AddRegion(u32, Entry),
+    /// The thread waits for anybody's message, and is served from then on.
+    ServeThread(u32),
 }
 
 /// The id of a script's thread: its number, and version 1.
@@ -74,7 +81,7 @@ fn set_pager_call(number: u32, pager: Partner) -> Call
 }
 
 /// Root's call that deletes a thread.
-fn delete_call(number: u32) -> Call
+pub(crate) fn delete_call(number: u32) -> Call
     ensures { result ≡ delete_call number }
 {
     Call::Control(Control::Delete(id_of(number)))
@@ -128,7 +135,7 @@ pub(crate) fn request_of(command: Command) -> Request
             pager,
         } => Request::Enter(ROOT, create_call(number, space, pager)),
         Command::SetPager { number, pager } => Request::Enter(ROOT, set_pager_call(number, pager)),
-        Command::Delete { number } => Request::Enter(ROOT, delete_call(number)),
+        Command::Delete { number } => Request::EndThread(number),
         Command::Receive {
             number,
             from,
@@ -150,11 +157,9 @@ pub(crate) fn request_of(command: Command) -> Request
             control,
             words,
         } => Request::Enter(number, unmap_call(control, words)),
-        Command::Show {
-            number,
-            first,
-            count,
-        } => Request::ListPages(number, first, count),
+        Command::Show(number, first, count) => Request::ListPages(number, first, count),
         Command::Parent { number, page } => Request::TellParent(number, page),
+        Command::Region(number, entry) => Request::AddRegion(number, entry),
+        Command::Serve(number) => Request::ServeThread(number),
     }
 }

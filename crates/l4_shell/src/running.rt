@@ -2,9 +2,11 @@
 ghost use Rattle.std.specs.Prelude.{◌≡◌, ◌≤◌};
 ghost use Rattle.l4_shell.specs.Scripts.{Runs};
 ghost use Rattle.l4_shell.specs.Inside.Scripts.{TellsScript};
+ghost use Rattle.l4_shell.specs.Sessions.{session};
 
 use crate::session::answer_line;
 use l4_ipc::Kernel;
+use l4_servers::Servers;
 use l4_text::{Ending, Line, Output, RunFault, Source, next_line};
 use std::alloc::Global;
 use std::io::{Read, Write};
@@ -12,11 +14,12 @@ use std::io::{Read, Write};
 /// Answers line after line, to the end of the script. Answers their number.
 fn answer_all<R: Read, W: Write>(
     kernel: &mut Kernel,
+    servers: &mut Servers,
     reader: &mut R,
     out: &mut Output,
     writer: &mut W,
 ) -> Result<u64, RunFault>
-    ensures { TellsScript kernel.old (R.remaining reader.old) (R.remaining reader.new)
+    ensures { TellsScript (session kernel.old servers.old) (R.remaining reader.old) (R.remaining reader.new)
         (W.contents writer.old) (W.contents writer.new) out.old out.new result }
 {
     let mut source = Source::new();
@@ -33,7 +36,14 @@ fn answer_all<R: Read, W: Write>(
         let Some(ending) = next else {
             return Ok(number - 1);
         };
-        answer_line(kernel, number, ending, line.as_slice(), out, writer);
+        answer_line(
+            kernel,
+            servers,
+            (number, ending),
+            line.as_slice(),
+            out,
+            writer,
+        );
         if ending == Ending::Cut {
             return Ok(number);
         }
@@ -68,8 +78,9 @@ pub fn run<R: Read, W: Write>(
     let Ok(mut kernel) = Kernel::boot(alloc, frames) else {
         return Err(RunFault::Memory);
     };
+    let mut servers = Servers::new(alloc, frames);
     let mut out = Output::new();
-    let answered = answer_all(&mut kernel, reader, &mut out, writer);
+    let answered = answer_all(&mut kernel, &mut servers, reader, &mut out, writer);
     match out.finish(writer) {
         Ok(()) => answered,
         Err(_) => Err(RunFault::Write),

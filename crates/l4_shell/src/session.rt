@@ -1,22 +1,23 @@
 //! Script lines over a kernel.
-ghost use Rattle.std.specs.Prelude.{◌≡◌, ℕ, List, MatchOption, Ok};
-ghost use Rattle.l4_ipc.specs.Steps.{Steps, IsNext, IsIdle};
+ghost use Rattle.std.specs.Prelude.{◌≡◌, ℕ, List, MatchOption};
 ghost use Rattle.l4_text.specs.Streams.{Tells};
 ghost use Rattle.l4_text.specs.Tokens.{tokens_of};
 ghost use Rattle.l4_shell.specs.Requests.{is_comment, is_empty, asked_at};
-ghost use Rattle.l4_shell.specs.Sessions.{step_line, ended_text, step_text, is_among, waiting_text, GoesOn, Enters, place_text, ListsBelow, Shows, parent_answer, Delegates, CarriesOut, AnswersLine};
+ghost use Rattle.l4_shell.specs.Sessions.{session, Enters, Deletes, ServesThread, AddsRegion, place_text, ListsBelow, Shows, parent_answer, Delegates, CarriesOut, AnswersLine};
+ghost use Rattle.l4_shell.specs.Inside.Telling.{TellsStart, TellsRefusal};
 
 use crate::commands::{Command, ScriptFault, read_command};
 use crate::delegations::plan_words;
 use crate::partners::Partner;
-use crate::refusals::{plan_code, script_code};
-use crate::requests::{Request, request_of, send_call};
-use l4_answers::{
-    expire_text, page_text, parent_text, refused_code, refused_text, reply_text, shown_text,
-    transfer_text, waits_text,
-};
-use l4_ipc::{Answer, Call, Kernel, Outcome, Refused, Step};
+use crate::refusals::{memory_code, plan_code, region_code, script_code};
+use crate::requests::{ROOT, Request, delete_call, request_of, send_call};
+use crate::serving::{follow, tell};
+use crate::texts::region_text;
+use l4_answers::{page_text, parent_text, refused_code, refused_text, shown_text};
+use l4_ipc::{Answer, Call, Kernel, Refused, Step};
 use l4_msg::Region;
+use l4_pager::{Entry, wait};
+use l4_servers::Servers;
 use l4_text::{Ending, Output, next_token};
 use std::io::Write;
 
@@ -58,125 +59,139 @@ fn asked(ending: Ending, line: &[u8]) -> Result<Option<Command>, ScriptFault>
     }
 }
 
-/// Tells how the calls ended that ended in a step.
-fn tell_ended<W: Write>(kernel: &Kernel, answer: &Answer, out: &mut Output, writer: &mut W)
-    ensures { Tells (W.contents writer.old) (W.contents writer.new) out.old out.new
-        (ended_text kernel.now answer.now.ended.items) }
-{
-    for number in answer.ended.as_slice() {
-        out.put(writer, &reply_text(*number, kernel.reply(*number)));
-    }
-}
-
-/// Tells a step itself.
-fn tell_step<W: Write>(step: &Step, outcome: Outcome, out: &mut Output, writer: &mut W)
-    ensures { Tells (W.contents writer.old) (W.contents writer.new) out.old out.new
-        (step_line step.now outcome) }
-{
-    match step {
-        Step::Start(_, _) => {}
-        Step::Transfer(s, r) => out.put(writer, &transfer_text(*s, *r, outcome)),
-        Step::Expire(n) => out.put(writer, &expire_text(*n)),
-    }
-}
-
-/// Tells a step, and how the calls ended that ended in it.
-fn tell<W: Write>(kernel: &Kernel, step: &Step, answer: &Answer, out: &mut Output, writer: &mut W)
-    ensures { Tells (W.contents writer.old) (W.contents writer.new) out.old out.new
-        (step_text step.now answer.now kernel.now) }
-{
-    tell_step(step, answer.outcome, out, writer);
-    tell_ended(kernel, answer, out, writer);
-}
-
-/// Whether the thread's call ended in a step.
-fn has_ended(answer: &Answer, thread: u32) -> bool
-    ensures { result ≡ is_among thread answer.now.ended.items }
-{
-    answer.ended.as_slice().contains(&thread)
-}
-
-/// Does the step that comes next. None where there is none.
-fn go_on(kernel: &mut Kernel) -> Option<(Step, Answer)>
-    ensures next { MatchOption result (IsIdle kernel.old) (λ d. IsNext kernel.old d.0
-        × Steps kernel.old d.0 (Ok d.1) kernel.new) }
-    ensures still { result ≡ None → kernel.new ≡ kernel.old }
-{
-    let Some(step) = kernel.enabled() else {
-        return None;
-    };
-    let Ok(answer) = kernel.step(&step) else {
-        return None;
-    };
-    Some((step, answer))
-}
-
-/// Tells that a thread's call has not ended.
-fn tell_waiting<W: Write>(thread: u32, ended: bool, out: &mut Output, writer: &mut W)
-    ensures { Tells (W.contents writer.old) (W.contents writer.new) out.old out.new
-        (waiting_text thread ended) }
-{
-    if !ended {
-        out.put(writer, &waits_text(thread));
-    }
-}
-
-/// Does the steps that follow a call's start until there is none, and tells them and whether the
-/// caller waits.
-fn follow<W: Write>(
-    kernel: &mut Kernel,
-    thread: u32,
-    start: &Answer,
-    out: &mut Output,
-    writer: &mut W,
-)
-    ensures { (text : List ℕ) × GoesOn kernel.old thread start.now.ended.items text kernel.new
-        × Tells (W.contents writer.old) (W.contents writer.new) out.old out.new text }
-{
-    let mut ended = has_ended(start, thread);
-    while let Some((step, answer)) = go_on(kernel) {
-        tell(kernel, &step, &answer, out, writer);
-        ended = ended | has_ended(&answer, thread);
-    }
-    tell_waiting(thread, ended, out, writer);
-}
-
-/// Enters a call, and does the steps that follow until there is none.
-fn enter<W: Write>(
+/// Starts a call and tells it. Where it is refused, tells why; None then.
+fn start<W: Write>(
     kernel: &mut Kernel,
     line: u64,
     thread: u32,
     call: Call,
     out: &mut Output,
     writer: &mut W,
-)
-    ensures { (text : List ℕ) × Enters kernel.old line thread call text kernel.new
-        × Tells (W.contents writer.old) (W.contents writer.new) out.old out.new text }
+) -> Option<Answer>
+    ensures { MatchOption result
+        (TellsRefusal kernel.old line thread call kernel.new (W.contents writer.old) (W.contents writer.new) out.old out.new)
+        (λ answer. TellsStart kernel.old thread call answer kernel.new (W.contents writer.old) (W.contents writer.new) out.old out.new) }
 {
     let step = Step::Start(thread, call);
     match kernel.step(&step) {
         Ok(answer) => {
             tell(kernel, &step, &answer, out, writer);
-            follow(kernel, thread, &answer, out, writer);
+            Some(answer)
         }
-        Err(refused) => out.put(writer, &refused_text(line, &refused_code(refused))),
+        Err(refused) => {
+            out.put(writer, &refused_text(line, &refused_code(refused)));
+            None
+        }
+    }
+}
+
+/// Enters a call, and does what follows.
+fn enter<W: Write>(
+    kernel: &mut Kernel,
+    servers: &mut Servers,
+    line: u64,
+    entry: (u32, Call),
+    out: &mut Output,
+    writer: &mut W,
+)
+    ensures { (text : List ℕ) × Enters (session kernel.old servers.old) line entry.0 entry.1 text (session kernel.new servers.new)
+        × Tells (W.contents writer.old) (W.contents writer.new) out.old out.new text }
+{
+    let (thread, call) = entry;
+    let Some(answer) = start(kernel, line, thread, call, out, writer) else {
+        return;
+    };
+    follow(kernel, servers, thread, &answer, out, writer);
+}
+
+/// Root deletes a thread, which is served no longer and has no table.
+fn end_thread<W: Write>(
+    kernel: &mut Kernel,
+    servers: &mut Servers,
+    line: u64,
+    thread: u32,
+    out: &mut Output,
+    writer: &mut W,
+)
+    ensures { (text : List ℕ) × Deletes (session kernel.old servers.old) line thread text (session kernel.new servers.new)
+        × Tells (W.contents writer.old) (W.contents writer.new) out.old out.new text }
+{
+    let Some(answer) = start(kernel, line, ROOT, delete_call(thread), out, writer) else {
+        return;
+    };
+    servers.forget(thread);
+    follow(kernel, servers, ROOT, &answer, out, writer);
+}
+
+/// A thread waits for anybody's message, and is served from then on.
+fn serve_thread<W: Write>(
+    kernel: &mut Kernel,
+    servers: &mut Servers,
+    line: u64,
+    thread: u32,
+    out: &mut Output,
+    writer: &mut W,
+)
+    ensures { (text : List ℕ) × ServesThread (session kernel.old servers.old) line thread text (session kernel.new servers.new)
+        × Tells (W.contents writer.old) (W.contents writer.new) out.old out.new text }
+{
+    let Ok(begins) = servers.serve(thread) else {
+        return out.put(writer, &refused_text(line, &memory_code()));
+    };
+    let Some(answer) = start(kernel, line, thread, wait(), out, writer) else {
+        if begins {
+            return servers.take_back(thread);
+        }
+        return;
+    };
+    follow(kernel, servers, thread, &answer, out, writer);
+}
+
+/// Adds a region to a thread's table.
+fn add_region<W: Write>(
+    kernel: &Kernel,
+    servers: &mut Servers,
+    line: u64,
+    region: (u32, Entry),
+    out: &mut Output,
+    writer: &mut W,
+)
+    ensures { (text : List ℕ) × AddsRegion (session kernel.now servers.old) line region.0 region.1 text (session kernel.now servers.new)
+        × Tells (W.contents writer.old) (W.contents writer.new) out.old out.new text }
+{
+    let (thread, entry) = region;
+    let Some(_) = kernel.space_of(thread) else {
+        let code = refused_code(Refused::UnknownThread);
+        return out.put(writer, &refused_text(line, &code));
+    };
+    match servers.add_region(thread, entry) {
+        Ok(()) => out.put(writer, &region_text()),
+        Err(refusal) => out.put(writer, &refused_text(line, &region_code(refusal))),
     }
 }
 
 /// Sends the message of a region's plan. Where there is none, tells why and does nothing.
 fn delegate<W: Write>(
     kernel: &mut Kernel,
+    servers: &mut Servers,
     line: u64,
     delegation: (u32, Partner, Region),
     out: &mut Output,
     writer: &mut W,
 )
-    ensures { (text : List ℕ) × Delegates kernel.old line delegation.0 delegation.1 delegation.2 text kernel.new
+    ensures { (text : List ℕ) × Delegates (session kernel.old servers.old) line delegation.0 delegation.1 delegation.2 text (session kernel.new servers.new)
         × Tells (W.contents writer.old) (W.contents writer.new) out.old out.new text }
 {
     let (thread, to, region) = delegation;
     match plan_words(&region) {
-        Ok(words) => enter(kernel, line, thread, send_call(to, words), out, writer),
+        Ok(words) => enter(
+            kernel,
+            servers,
+            line,
+            (thread, send_call(to, words)),
+            out,
+            writer,
+        ),
         Err(refusal) => out.put(writer, &refused_text(line, &plan_code(&refusal))),
     }
 }
@@ -262,41 +277,48 @@ fn tell_parent<W: Write>(
 /// Carries out what a line asks for.
 fn carry_out<W: Write>(
     kernel: &mut Kernel,
+    servers: &mut Servers,
     line: u64,
     request: Request,
     out: &mut Output,
     writer: &mut W,
 )
-    ensures { (text : List ℕ) × CarriesOut kernel.old line request text kernel.new
+    ensures { (text : List ℕ) × CarriesOut (session kernel.old servers.old) line request text (session kernel.new servers.new)
         × Tells (W.contents writer.old) (W.contents writer.new) out.old out.new text }
 {
     match request {
-        Request::Enter(thread, call) => enter(kernel, line, thread, call, out, writer),
+        Request::Enter(thread, call) => enter(kernel, servers, line, (thread, call), out, writer),
+        Request::EndThread(thread) => end_thread(kernel, servers, line, thread, out, writer),
         Request::SendPlan(thread, to, region) => {
-            delegate(kernel, line, (thread, to, region), out, writer)
+            delegate(kernel, servers, line, (thread, to, region), out, writer)
         }
         Request::ListPages(thread, first, count) => {
             show(kernel, line, thread, (first, count), out, writer)
         }
         Request::TellParent(thread, page) => tell_parent(kernel, line, thread, page, out, writer),
+        Request::AddRegion(thread, entry) => {
+            add_region(kernel, servers, line, (thread, entry), out, writer)
+        }
+        Request::ServeThread(thread) => serve_thread(kernel, servers, line, thread, out, writer),
     }
 }
 
 /// Answers one line.
 pub(crate) fn answer_line<W: Write>(
     kernel: &mut Kernel,
-    number: u64,
-    ending: Ending,
-    line: &[u8],
+    servers: &mut Servers,
+    line: (u64, Ending),
+    bytes: &[u8],
     out: &mut Output,
     writer: &mut W,
 )
-    ensures { (text : List ℕ) × AnswersLine kernel.old number (asked_at ending line.now) text kernel.new
+    ensures { (text : List ℕ) × AnswersLine (session kernel.old servers.old) line.0 (asked_at line.1 bytes.now) text (session kernel.new servers.new)
         × Tells (W.contents writer.old) (W.contents writer.new) out.old out.new text }
 {
-    match asked(ending, line) {
+    let (number, ending) = line;
+    match asked(ending, bytes) {
         Ok(None) => {}
-        Ok(Some(command)) => carry_out(kernel, number, request_of(command), out, writer),
+        Ok(Some(command)) => carry_out(kernel, servers, number, request_of(command), out, writer),
         Err(fault) => out.put(writer, &refused_text(number, &script_code(fault))),
     }
 }

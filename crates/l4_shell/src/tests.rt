@@ -1,5 +1,5 @@
 use crate::commands::{Command, read_command};
-use crate::requests::{Request, request_of};
+use crate::requests::{ROOT, Request, delete_call, request_of};
 use crate::{RunFault, run};
 use l4_ipc::{Call, Control};
 use std::alloc::Global;
@@ -154,6 +154,7 @@ fn entered(line: &[u8]) -> Result<(u32, Call), Fail> {
     };
     match request_of(command) {
         Request::Enter(caller, call) => Ok((caller, call)),
+        Request::EndThread(thread) => Ok((ROOT, delete_call(thread))),
         _ => Err("no call".into()),
     }
 }
@@ -196,6 +197,23 @@ fn raises_faults(rt: HostRuntime) -> Result<(), Fail> {
 }
 
 #[test]
+fn serves_threads(rt: HostRuntime) -> Result<(), Fail> {
+    let rows: [(&[u8], &[u8]); 4] = [
+        (b"serve 9\n", b"line 1 refused K2\n"),
+        (b"serve 1\nserve 1\n", b"1 waits\nline 2 refused K3\n"),
+        (
+            b"serve 1\nfault 2 0x5678 0 r--\nshow 2 0 16\n",
+            b"1 waits\ntransfer 2 1 done\n1 ipc ffe40002 0 2 00005678 00000000\ntransfer 1 2 done\n2 fault answered\npage 5 frame 5 rwx\nshown 1\n",
+        ),
+        (
+            b"region 9 4 4 0 rwx\nregion 2 4 4 0 rwx\nregion 2 4 100 2 r--\nregion 2 5 100 1 r--\n",
+            b"line 1 refused K2\nline 2 refused P4\nregion ok\nline 4 refused P1\n",
+        ),
+    ];
+    check_answers(&rt, rt.alloc(), rows.as_slice())
+}
+
+#[test]
 fn names_the_callers(rt: HostRuntime) -> Result<(), Fail> {
     let rows: [(&[u8], &[u8]); 5] = [
         (b"unmap 7 0\n", b"line 1 refused K2\n"),
@@ -218,7 +236,7 @@ fn names_the_callers(rt: HostRuntime) -> Result<(), Fail> {
 
 #[test]
 fn refuses_wrong_tokens(rt: HostRuntime) -> Result<(), Fail> {
-    let lines: [&[u8]; 39] = [
+    let lines: [&[u8]; 44] = [
         b"ipc\n",
         b"ipc 1\n",
         b"ipc 1 nil nil 0\n",
@@ -258,6 +276,11 @@ fn refuses_wrong_tokens(rt: HostRuntime) -> Result<(), Fail> {
         b"fault nil 0 0 r--\n",
         b"fault 1 0 nil r--\n",
         b"fault 1 0 0 rw\n",
+        b"region 1 0 0 1\n",
+        b"region 1 0 0 1 rw_\n",
+        b"region any 0 0 1 rwx\n",
+        b"serve\n",
+        b"serve any\n",
     ];
     for line in lines {
         let mut script = line;

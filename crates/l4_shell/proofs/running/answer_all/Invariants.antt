@@ -1,6 +1,7 @@
+use Rattle.l4_shell.specs.Sessions.{session}
 use Rattle.l4_shell.proofs.Scripting.{Answered}
 use Rattle.l4_shell.proofs.running.answer_all.Given as goal
 
 abbrev pub invariant-loop-number : goal.invariant-loop-number
 invariant-loop-number g l =
-    Answered l.initial.kernel (g.R.Read.remaining l.initial.reader) (g.R.Read.remaining l.reader) l.source l.number l.kernel (g.W.Write.contents l.initial.writer) (g.W.Write.contents l.writer) l.initial.out l.out
+    Answered (session l.initial.kernel l.initial.servers) (g.R.Read.remaining l.initial.reader) (g.R.Read.remaining l.reader) l.source l.number (session l.kernel l.servers) (g.W.Write.contents l.initial.writer) (g.W.Write.contents l.writer) l.initial.out l.out

@@ -1,7 +1,7 @@
 use Rattle.std.proofs.Common.{take}
 use Rattle.l4_text.specs.Streams.{Tells}
 use Rattle.l4_shell.specs.Sessions.{ended_text}
-use Rattle.l4_shell.proofs.session.tell_ended.Given as goal
+use Rattle.l4_shell.proofs.serving.tell_ended.Given as goal
 
 abbrev pub invariant-loop-number : goal.invariant-loop-number
 invariant-loop-number g l =

@@ -1,0 +1,22 @@
+use Rattle.std.proofs.Common.{arith, ap, ◌∙◌}
+use Rattle.l4_shell.specs.Texts.{refused_act_text}
+use Rattle.l4_shell.proofs.Going.{acting_none, acting_more, acting_quiet, acting_spent, acting_refused}
+use Rattle.l4_shell.proofs.serving.serve.Goals as goal
+
+pub loop-init : goal.loop-init
+loop-init g c = acting_none _ _ _ _
+
+pub returns-in_default : goal.returns-in_default
+returns-in_default g c = acting_quiet _ _ _ _ _ _ _ _ _ _ _ (omega (arith, c.loop-test.true)) c.loop.invariant c.in_default.ensures
+
+pub returns-in-Err : goal.returns-in-Err
+returns-in-Err g c =
+    acting_refused _ _ _ _ _ _ _ _ _ _ _ _ _ _ _ _ _ _ c.loop-test.true c.loop.invariant c.in-Some.ensures c.in-Err.ensures
+    (c.refused_act_text.ensures ∙ ap (refused_act_text _) c.refused_code.ensures) c.put.ensures
+
+pub loop-preserved : goal.loop-preserved
+loop-preserved g c =
+    acting_more _ _ _ _ _ _ _ _ _ _ _ _ _ _ _ _ _ _ _ _ _ _ c.loop.invariant c.in-Some.ensures c.in-Ok.ensures c.tell.ensures c.settle-settled.ensures c.has_ended-own.ensures
+
+pub returns : goal.returns
+returns g c = acting_spent _ _ _ _ _ _ _ _ _ (omega (arith, c.loop-test.false, c.loop.auto)) c.loop.invariant
