@@ -1,0 +1,78 @@
+//! The calls that the tests enter, and what they count in a history.
+
+use arrayvec::ArrayVec;
+use l4_ipc::{Call, Fpage, MAX_WORDS, Rights, Step, ThreadId, Timeout};
+use l4_lock::{History, KernelLock, Locked, Seat, Unclosed};
+use std::process::Abort;
+
+/// The page frames of the tests' kernels.
+pub const FRAMES: u32 = 256;
+
+/// The number of sigma0.
+pub const SIGMA0: u32 = 1;
+
+/// The number of root, which may make and end threads.
+pub const ROOT: u32 = 2;
+
+/// The id of a thread in its first version.
+pub fn id(number: u32) -> ThreadId {
+    match ThreadId::global(number, 1) {
+        Some(id) => id,
+        None => ThreadId::nil(),
+    }
+}
+
+/// Makes a thread in a space of its own.
+pub fn create(number: u32) -> Call {
+    Call::create(id(number), id(number), ThreadId::nil())
+}
+
+/// Makes a thread in a space of its own, whose faults go to the pager.
+pub fn create_for(number: u32, pager: u32) -> Call {
+    Call::create(id(number), id(number), id(pager))
+}
+
+/// Ends a thread.
+pub fn delete(number: u32) -> Call {
+    Call::delete(id(number))
+}
+
+/// Sends a message, its tag first. It waits for as long as it takes.
+pub fn send(to: u32, words: &[u32]) -> Call {
+    let mut registers: ArrayVec<u32, MAX_WORDS> = ArrayVec::new();
+    let _ = registers.try_extend_from_slice(words);
+    Call::send(id(to), registers, Timeout::Never)
+}
+
+/// Receives anybody's message with a complete window. It waits for as long as it takes.
+pub fn receive() -> Call {
+    Call::receive(
+        ThreadId::any(),
+        Fpage::Complete(Rights::all()),
+        Timeout::Never,
+    )
+}
+
+/// How many calls of this number the history starts.
+pub fn starts_of(history: &History, number: u32) -> usize {
+    history
+        .entries_from(0)
+        .filter(|entry| entry.seat == number && matches!(entry.step, Step::Start(_, _)))
+        .count()
+}
+
+/// The history of a lock that is closed with its seats.
+pub fn closed<R: Abort>(rt: &R, lock: KernelLock, seats: Vec<Seat>) -> History {
+    match lock.unlock().close(seats) {
+        Ok((history, _)) => history,
+        Err(unclosed) => panic!(rt; "not closed: {:?}", unclosed.mismatch),
+    }
+}
+
+/// What a lock that is not closed hands back.
+pub fn unclosed<R: Abort>(rt: &R, locked: Locked, seats: Vec<Seat>) -> Unclosed {
+    match locked.close(seats) {
+        Ok(_) => panic!(rt; "closed"),
+        Err(unclosed) => unclosed,
+    }
+}

@@ -1,0 +1,15 @@
+//! Tests of the locked kernel on running threads. Each ends by itself.
+#![tactic(auto)]
+
+#[cfg(test)]
+mod calls;
+#[cfg(test)]
+mod closing;
+#[cfg(test)]
+mod faults;
+#[cfg(test)]
+mod messages;
+#[cfg(test)]
+mod storms;
+#[cfg(test)]
+mod waiting;

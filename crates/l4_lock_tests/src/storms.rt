@@ -1,0 +1,84 @@
+//! Many threads send to one.
+
+use crate::calls::{FRAMES, ROOT, closed, create, receive, send, starts_of};
+use l4_lock::{KernelLock, Seat};
+use std::alloc::{AllocError, Global};
+use std::process::Abort;
+use std::sync::{Arc, Wait};
+use std::thread::{JoinHandle, Threads, spawn};
+
+/// The first thread that sends, and the one that receives.
+const FIRST: u32 = 3;
+
+const RECEIVER: u32 = 10;
+
+/// How many messages each thread sends.
+const EACH: u32 = 100;
+
+/// How many messages there are.
+const ALL: u32 = 700;
+
+/// Enters the calls of one seat: the receiver's, or a sender's.
+fn work<R: Wait>(rt: &R, lock: &KernelLock, mut seat: Seat) -> Seat {
+    let receives = seat.number() == RECEIVER;
+    let count = if receives { ALL } else { EACH };
+    for round in 0..count {
+        let call = if receives {
+            receive()
+        } else {
+            send(RECEIVER, &[1, round])
+        };
+        let _ = lock.call(rt, &mut seat, call);
+    }
+    seat
+}
+
+/// Starts the thread of a seat.
+fn start<R: Threads + Wait + Copy + Send + Drop + 'static>(
+    rt: &R,
+    lock: &Arc<KernelLock, Global>,
+    seat: Seat,
+) -> Result<JoinHandle<Seat>, AllocError> {
+    let (own, lock) = (*rt, Arc::try_clone(lock)?);
+    Ok(spawn(rt, move || work(&own, &lock, seat))?)
+}
+
+/// Starts the threads of all seats but root's.
+fn start_all<R: Threads + Wait + Abort + Copy + Send + Drop + 'static>(
+    rt: &R,
+    alloc: Global,
+    lock: &Arc<KernelLock, Global>,
+) -> Vec<JoinHandle<Seat>> {
+    let mut working = Vec::new(alloc);
+    for number in FIRST..=RECEIVER {
+        let seat = lock.seat(rt, number).expect(rt, "a seat");
+        let handle = start(rt, lock, seat).expect(rt, "a thread");
+        working.push(handle).expect(rt, "memory");
+    }
+    working
+}
+
+#[test]
+fn seven_hundred_messages(rt: HostRuntime) {
+    let (lock, _) = KernelLock::new(rt.alloc(), FRAMES, 0).expect(&rt, "a lock");
+    let mut root = lock.seat(&rt, ROOT).expect(&rt, "a seat");
+    for number in FIRST..=RECEIVER {
+        assert!(rt; lock.call(&rt, &mut root, create(number)).is_ok());
+    }
+    let lock = Arc::new(rt.alloc(), lock).expect(&rt, "memory");
+    let mut seats = Vec::new(rt.alloc());
+    for handle in start_all(&rt, rt.alloc(), &lock) {
+        seats.push(handle.join(&rt)).expect(&rt, "memory");
+    }
+    seats.push(root).expect(&rt, "memory");
+    let history = match Arc::try_unwrap(lock) {
+        Ok(lock) => closed(&rt, lock, seats),
+        Err(_) => panic!(rt; "the threads have ended"),
+    };
+    assert_eq!(rt; history.len(), 2108);
+    assert_eq!(rt; starts_of(&history, ROOT), 8);
+    for number in FIRST..RECEIVER {
+        assert_eq!(rt; starts_of(&history, number), 100, "of thread {number}");
+    }
+    assert_eq!(rt; starts_of(&history, RECEIVER), 700);
+}

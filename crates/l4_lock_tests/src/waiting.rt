@@ -1,0 +1,145 @@
+//! Calls that were left waiting, and threads that are deleted as they wait.
+ghost use Rattle.std.specs.Prelude.{◌≡◌};
+
+use crate::calls::{FRAMES, ROOT, closed, create, delete, receive};
+use l4_ipc::{Refused, Reply};
+use l4_lock::{Board, Entered, KernelLock, LockRefusal, Locked, Seat, Watch};
+use std::sync::Wait;
+use std::thread::{Threads, join, sleep};
+use std::time::{Clock, Duration};
+
+/// A thread that waits.
+const THIRD: u32 = 3;
+
+/// How often the watch looks at most.
+const LOOKS: u32 = 10_000;
+
+/// Whether the call was left waiting.
+fn waits(entered: Result<Entered, LockRefusal>) -> bool {
+    matches!(entered, Ok(Entered::Waiting))
+}
+
+/// Whether the call has ended with this reply.
+fn ends(entered: Result<Entered, LockRefusal>, reply: Reply) -> bool {
+    match entered {
+        Ok(Entered::Done(last)) => last == reply,
+        Ok(Entered::Waiting) => false,
+        Err(_) => false,
+    }
+}
+
+/// Whether the call was refused so.
+fn is_refused(entered: Result<Entered, LockRefusal>, refusal: LockRefusal) -> bool {
+    match entered {
+        Ok(_) => false,
+        Err(first) => first == refusal,
+    }
+}
+
+/// The seat of a thread that is deleted as it waits gets Gone, once, and a new thread with its number starts anew.
+#[test]
+fn gone_once(rt: HostRuntime) {
+    let mut locked = Locked::new(rt.alloc(), FRAMES, 0).expect(&rt, "a lock").0;
+    let mut root = locked.seat(ROOT).expect(&rt, "a seat");
+    let mut third = locked.seat(THIRD).expect(&rt, "a seat");
+    assert!(rt; ends(locked.enter(&mut root, create(THIRD)), Reply::Controlled));
+    assert!(rt; waits(locked.enter(&mut third, receive())));
+    assert!(rt; locked.take(&mut third).is_none());
+    assert!(rt; ends(locked.enter(&mut root, delete(THIRD)), Reply::Controlled));
+    assert!(rt; ends(locked.enter(&mut root, create(THIRD)), Reply::Controlled));
+    assert!(rt;
+        is_refused(
+            locked.enter(&mut third, receive()),
+            LockRefusal::ReplyWaiting
+        )
+    );
+    assert_eq!(rt; locked.take(&mut third), Some(Reply::Gone));
+    assert_eq!(rt; locked.take(&mut third), None);
+    assert!(rt; waits(locked.enter(&mut third, receive())));
+    assert!(rt;
+        is_refused(
+            locked.enter(&mut third, receive()),
+            LockRefusal::Kernel(Refused::Busy)
+        )
+    );
+    assert_eq!(rt;
+        (third.starts(), third.waiting(), third.receipts().len()),
+        (2, 1, 1)
+    );
+    assert_eq!(rt; locked.history().len(), 5);
+}
+
+/// Waits until the board shows this number. Answers whether it does.
+fn shows<R: Clock>(rt: &R, board: &Board, watch: &mut Watch, number: u64) -> bool
+    requires { watch.old.board ≡ board.now }
+{
+    for _ in 0..LOOKS {
+        if board.look(watch) >= number {
+            return true;
+        }
+        sleep(rt, Duration::from_millis(1));
+    }
+    false
+}
+
+/// Ends the thread once the board shows that it waits, and makes another of its number.
+fn replace<R: Wait + Clock>(rt: &R, lock: &KernelLock, root: &mut Seat, watch: &mut Watch) -> bool
+    requires { watch.old.board ≡ lock.now }
+{
+    shows(rt, lock.board(), watch, 2)
+        && lock.call(rt, root, delete(THIRD)).is_ok()
+        && lock.call(rt, root, create(THIRD)).is_ok()
+}
+
+/// One thread waits, and another replaces it.
+fn wait_and_replace<R: Threads + Wait + Clock + Sync>(
+    rt: &R,
+    lock: &KernelLock,
+    root: &mut Seat,
+    third: &mut Seat,
+    watch: &mut Watch,
+) -> (Result<Reply, LockRefusal>, bool)
+    requires { watch.old.board ≡ lock.now }
+{
+    join(
+        rt,
+        || lock.call(rt, third, receive()),
+        || -> bool
+            requires { watch.now.board ≡ lock.now }
+        { replace(rt, lock, root, watch) },
+    )
+}
+
+#[test]
+fn gone_on_threads(rt: HostRuntime) {
+    let (lock, mut watches) = KernelLock::new(rt.alloc(), FRAMES, 1).expect(&rt, "a lock");
+    let mut watch = watches.pop().expect(&rt, "a watch");
+    let mut root = lock.seat(&rt, ROOT).expect(&rt, "a seat");
+    let mut third = lock.seat(&rt, THIRD).expect(&rt, "a seat");
+    assert!(rt; lock.call(&rt, &mut root, create(THIRD)).is_ok());
+    let (reply, replaced) = wait_and_replace(&rt, &lock, &mut root, &mut third, &mut watch);
+    assert_eq!(rt; reply, Ok(Reply::Gone));
+    assert!(rt; replaced);
+    let seats = Vec::from_array(rt.alloc(), [root, third]).expect(&rt, "memory");
+    assert_eq!(rt; closed(&rt, lock, seats).len(), 4);
+}
+
+/// What a lock refuses.
+#[test]
+fn refusals(rt: HostRuntime) {
+    let mut locked = Locked::new(rt.alloc(), FRAMES, 0).expect(&rt, "a lock").0;
+    let mut other = Locked::new(rt.alloc(), FRAMES, 0).expect(&rt, "a lock").0;
+    let mut third = locked.seat(THIRD).expect(&rt, "a seat");
+    let mut foreign = other.seat(ROOT).expect(&rt, "a seat");
+    assert!(rt; matches!(locked.seat(THIRD), Err(LockRefusal::SeatTaken)));
+    let unknown = LockRefusal::Kernel(Refused::UnknownThread);
+    assert!(rt; is_refused(locked.enter(&mut third, receive()), unknown));
+    assert!(rt; is_refused(locked.enter(&mut foreign, receive()), unknown));
+    assert!(rt; locked.history().is_empty());
+    assert!(rt;
+        matches!(
+            Locked::new(rt.alloc(), 0, 0),
+            Err(LockRefusal::Kernel(Refused::BadFrames))
+        )
+    );
+}
