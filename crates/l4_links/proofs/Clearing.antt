@@ -1,0 +1,83 @@
+-- A node that leaves its list after all that descends from it.
+use Rattle.std.proofs.Common.{◌≡◌, ◌≢◌, ℕ, List, [], ◌∷◌, ◌++◌, Option, Some, None, refl, sym, ap, ◌∙◌, subst, arith, inl, inr}
+use Rattle.std.proofs.lemmas.Bool.{cases_eq}
+use Rattle.std.specs.Option.{option_map, option_and_then}
+use Rattle.l4_links.specs.declared.nodes.Node.{Node}
+use Rattle.l4_links.specs.declared.nodes.Slot.{Slot}
+use Rattle.l4_links.specs.Leads.{Leads, step}
+use Rattle.l4_links.specs.Inside.Trees.{Limb, parent_at, Sheds}
+use Rattle.l4_links.specs.Inside.Orders.{first_of, last_of, position}
+use Rattle.l4_links.specs.Inside.Nodes.{Slots, slot_at, node_at, spots, limbs, IsOrder, IsForest, Parts, Prunes, Clears}
+use Rattle.l4_links.proofs.Writes.{no_slot}
+use Rattle.l4_links.proofs.Positions.{same_order_out}
+use Rattle.l4_links.proofs.Growing.{tree_sheds}
+use Rattle.l4_links.proofs.Neighbours.{neighbours_at, some_from}
+use Rattle.l4_links.proofs.Runs.{parent_is, run_from_leads}
+
+abbrev limb_of : Node → Limb
+limb_of n = record { parent = n.parent; depth = n.depth }
+
+-- a key does not descend from itself
+pub apart : (slots : Slots) (ks : List ℕ) → IsForest slots ks → (k : ℕ) → ¬ (Leads (parent_at (limbs slots)) k k)
+apart slots ks f k l = let r = run_from_leads (limbs slots) (position ks) f.tree l in let a = r.after in omega (arith, a)
+
+-- the top has its node after the cut
+pub top_left : (old mid : Slots) (top : ℕ) → Prunes top old mid → node_at old top ≢ None → node_at mid top ≢ None
+top_left old mid top p there none =
+    let off = apart old (p.front ++ top ∷ p.rest) p.was top in
+    elim (node_at old top) as (λ o. node_at old top ≡ o → ⊥) [
+      | None ↦ λ e. there e
+      | Some n ↦ λ e. some_from old mid top n (sym (p.limbs_kept top off)) e none
+    ] refl
+
+first_gone : (front left : List ℕ) (top : ℕ) (rest : List ℕ) (prev next first : Option ℕ) → prev ≡ last_of None front → next ≡ first_of left None → first_of (front ++ top ∷ rest) None ≡ first
+    → ((prev ≡ None → first_of (front ++ left) None ≡ next) × (prev ≢ None → first_of (front ++ left) None ≡ first))
+first_gone [] left top rest prev next first p n f = (λ _. sym n, λ some. absurd (some p))
+first_gone (x ∷ xs) left top rest prev next first p n f = (λ none. absurd (last_some x xs (sym p ∙ none)), λ _. f)
+  where
+    last_some : (b : ℕ) (xs : List ℕ) → last_of (Some b) xs ≢ None
+    last_some b [] e = let w : ◌≡◌ {A = Option ℕ} (Some b) None = e in absurd (let z : ◌≡◌ {A = Option ℕ} (Some b) None = w in cc)
+    last_some b (x ∷ xs) e = last_some x xs e
+
+-- what the cut and the writes to the neighbours make of the nodes
+pub cleared : (old mid new : Slots) (top : ℕ) (node : Node) (first after : Option ℕ) → Prunes top old mid → node_at mid top ≡ Some node → Parts top mid new → ((xs ys : List ℕ) → IsOrder mid (xs ++ top ∷ ys) → IsOrder new (xs ++ ys))
+    → (node.prev ≡ None → after ≡ node.next) → (node.prev ≢ None → after ≡ first) → Clears top first after old new
+cleared old mid new top node first after p at q order onto keep =
+    let near = neighbours_at mid p.front top p.left node p.forest.order at in
+    let none_top : limbs new top ≡ None = ap (option_map limb_of) q.gone in
+    let away : (a : ℕ) (x : Limb) → limbs new a ≡ Some x → a ≢ top = λ a x is e. (let w : ◌≡◌ {A = Option Limb} None (Some x) = sym none_top ∙ sym (ap (limbs new) e) ∙ is in absurd (let z : ◌≡◌ {A = Option Limb} None (Some x) = w in cc)) in
+    let gone_mid : (k : ℕ) → Leads (parent_at (limbs old)) k top → limbs mid k ≡ None = λ k l. ap (λ (o : Option Slot). option_map limb_of (option_and_then (λ (z : Slot). z.node) o)) (p.gone k l) in
+    let sheds : Sheds (limbs mid) (limbs new) = record {
+      left = λ a. elim (cases_eq a top) [ inl e ↦ inl (ap (limbs new) e ∙ none_top) | inr ne ↦ inr (q.limbs_same a ne) ];
+      closed = λ a b x is up. q.limbs_same b (λ e.
+          let was : limbs mid a ≡ Some x = sym (q.limbs_same a (away a x is)) ∙ is in
+          let old_up : ¬ (Leads (parent_at (limbs old)) a top) = λ l. (let w : ◌≡◌ {A = Option Limb} None (Some x) = sym (gone_mid a l) ∙ was in absurd (let z : ◌≡◌ {A = Option Limb} None (Some x) = w in cc)) in
+          let was_old : limbs old a ≡ Some x = sym (p.limbs_kept a old_up) ∙ was in
+          old_up (step (parent_is (limbs old) a x was_old ∙ up ∙ ap (λ (z : ℕ). Some z) e)));
+    } in
+    record {
+      gone = λ k l.
+          no_slot new k (q.spots_same k ∙ ap (option_map (λ (s : Slot). s.place)) (p.gone k l));
+      here = q.gone;
+      spot = q.spots_same top ∙ p.spots_kept top (apart old (p.front ++ top ∷ p.rest) p.was top);
+      limbs_kept = λ k ne off. q.limbs_same k ne ∙ p.limbs_kept k off;
+      values_kept = λ k ne off. q.values_same k ne ∙ p.values_kept k off;
+      marks_kept = λ k ne off. q.marks_same k ne ∙ p.marks_kept k off;
+      spots_kept = λ k ne off. q.spots_same k ∙ p.spots_kept k off;
+      front = p.front;
+      rest = p.rest;
+      left = p.left;
+      was = p.was;
+      forest = record {
+        order = order p.front p.left p.forest.order;
+        tree = tree_sheds (limbs mid) (limbs new) (position (p.front ++ top ∷ p.left)) (position (p.front ++ p.left)) p.forest.tree sheds (same_order_out (limbs new) p.front top p.left none_top);
+      };
+      first_is = λ f. (let g = first_gone p.front p.left top p.rest node.prev node.next first near.0 near.1 f in
+          elim (node.prev) as (λ o. node.prev ≡ o → first_of (p.front ++ p.left) None ≡ after) [
+            | None ↦ λ e. g.0 e ∙ sym (onto e)
+            | Some k ↦ λ e. (let some : node.prev ≢ None = λ z. absurd (let w : ◌≡◌ {A = Option ℕ} (Some k) None = sym e ∙ z in cc) in g.1 some ∙ sym (keep some))
+          ] refl);
+    }
+
+pub none_some : {X : Type 0} {o : Option ℕ} {k : ℕ} → o ≡ None → o ≡ Some k → X
+none_some {X} {o} {k} none some = absurd (let w : ◌≡◌ {A = Option ℕ} None (Some k) = sym none ∙ some in cc)

@@ -1,0 +1,235 @@
+-- A new key under a parent, and keys that go: the trees stay trees, and what leads where.
+use Rattle.std.proofs.Common.{◌≡◌, ◌≢◌, ◌↔◌, ℕ, ◌<◌, ◌≤◌, ◌+◌, Option, Some, None, refl, sym, ap, ◌∙◌, subst, arith, inl, inr, ◌⊎◌, option_and_then}
+use Rattle.std.proofs.lemmas.Bool.{cases_eq}
+use Rattle.l4_links.specs.Leads.{Leads, step, steps}
+use Rattle.l4_links.specs.Inside.Trees.{Limb, parent_at, IsTree, StandsAfter, Sprouts, Sheds, SameOrder}
+use Rattle.l4_links.proofs.Runs.{below, same, above, order, one_limb, has_limb}
+
+-- what stands under a key of the old trees is one of them, and not the new key
+old_key : (old new : ℕ → Option Limb) (p k : ℕ) (s : Sprouts old new p k) (a : ℕ) (x : Limb) → a ≢ k → new a ≡ Some x → old a ≡ Some x
+old_key old new p k s a x ne is = sym (s.others a ne) ∙ is
+
+not_new : (old new : ℕ → Option Limb) (p k : ℕ) (s : Sprouts old new p k) (a : ℕ) (x : Limb) → old a ≡ Some x → a ≢ k
+not_new old new p k s a x is e = let w : ◌≡◌ {A = Option Limb} None (Some x) = sym s.vacant ∙ sym (ap old e) ∙ is in absurd (let z : ◌≡◌ {A = Option Limb} None (Some x) = w in cc)
+
+-- the limb of the new key
+new_limb : (old new : ℕ → Option Limb) (p k : ℕ) (s : Sprouts old new p k) (a : ℕ) (x : Limb) → a ≡ k → new a ≡ Some x → x ≡ record { parent = Some p; depth = s.above.depth + 1 }
+new_limb old new p k s a x e is =
+    let w : ◌≡◌ {A = Option Limb} (Some x) (Some (record { parent = Some p; depth = s.above.depth + 1 })) = sym is ∙ ap new e ∙ s.filled in cc
+
+-- how the places of two keys are ordered afterwards
+pub tree_sprouts : (old new : ℕ → Option Limb) (pos later : ℕ → ℕ) (p k : ℕ) → IsTree old pos → Sprouts old new p k → StandsAfter old pos later p k → IsTree new later
+tree_sprouts old new pos later p k t s m =
+    let moved : (a : ℕ) (x : Limb) → old a ≡ Some x → ((pos a ≤ pos p) × (later a ≡ pos a)) ⊎ ((pos p < pos a) × (later a ≡ pos a + 1)) =
+    λ a x is. elim (order (pos a) (pos p)) [
+      | below lt ↦ let le : pos a ≤ pos p = omega (arith, lt) in inl (le, m.low a x is le)
+      | same eq ↦ let le : pos a ≤ pos p = omega (arith, eq) in inl (le, m.low a x is le)
+      | above gt ↦ inr (gt, m.high a x is gt)
+    ] in
+    let here = m.here in
+    let parent_low : later p ≡ pos p = m.low p s.above s.at_parent (omega arith) in
+    record {
+      apart = λ a b x y is_a is_b eq. elim (cases_eq a k) [
+        | inl ak ↦ elim (cases_eq b k) [
+          | inl bk ↦ ak ∙ sym bk
+          | inr nb ↦ absurd (
+              let ib = old_key old new p k s b y nb is_b in
+              let e : later k ≡ later b = sym (ap later ak) ∙ eq in
+              elim (moved b y ib) [ inl l ↦ (let l0 = l.0 in let l1 = l.1 in omega (arith, e, l0, l1, here)) | inr h ↦ (let h0 = h.0 in let h1 = h.1 in omega (arith, e, h0, h1, here)) ])
+        ]
+        | inr na ↦
+            let ia = old_key old new p k s a x na is_a in
+            elim (cases_eq b k) [
+              | inl bk ↦ absurd (
+                  let e : later a ≡ later k = eq ∙ ap later bk in
+                  elim (moved a x ia) [ inl l ↦ (let l0 = l.0 in let l1 = l.1 in omega (arith, e, l0, l1, here)) | inr h ↦ (let h0 = h.0 in let h1 = h.1 in omega (arith, e, h0, h1, here)) ])
+              | inr nb ↦
+                  let ib = old_key old new p k s b y nb is_b in
+                  t.apart a b x y ia ib (
+                  elim (moved a x ia) [
+                    | inl l ↦ (let l0 = l.0 in let l1 = l.1 in elim (moved b y ib) [ inl q ↦ (let q0 = q.0 in let q1 = q.1 in omega (arith, eq, l0, l1, q0, q1)) | inr q ↦ (let q0 = q.0 in let q1 = q.1 in omega (arith, eq, l0, l1, q0, q1)) ])
+                    | inr l ↦ (let l0 = l.0 in let l1 = l.1 in elim (moved b y ib) [ inl q ↦ (let q0 = q.0 in let q1 = q.1 in omega (arith, eq, l0, l1, q0, q1)) | inr q ↦ (let q0 = q.0 in let q1 = q.1 in omega (arith, eq, l0, l1, q0, q1)) ])
+                  ])
+            ]
+      ];
+      top = λ a x is none. elim (cases_eq a k) [
+        | inl ak ↦ absurd (
+            let e : ◌≡◌ {A = Option ℕ} x.parent (Some p) = ap (λ (z : Limb). z.parent) (new_limb old new p k s a x ak is) in
+            let w : ◌≡◌ {A = Option ℕ} None (Some p) = sym none ∙ e in cc)
+        | inr na ↦ t.top a x (old_key old new p k s a x na is) none
+      ];
+      under = λ a q x is up. elim (cases_eq a k) [
+        | inl ak ↦
+            let lx = new_limb old new p k s a x ak is in
+            let e : ◌≡◌ {A = Option ℕ} (Some q) (Some p) = sym up ∙ ap (λ (z : Limb). z.parent) lx in
+            let qp : q ≡ p = cc in
+            let pk = not_new old new p k s p s.above s.at_parent in
+            let lq : later q ≡ later p = ap later qp in
+            let la : later a ≡ later k = ap later ak in
+            record {
+              above = s.above;
+              at_parent = ap new qp ∙ s.others p pk ∙ s.at_parent;
+              after = omega (arith, lq, la, here, parent_low);
+              deeper = ap (λ (z : Limb). z.depth) lx;
+              between = λ b y is_b lo hi. elim (cases_eq b k) [
+                | inl bk ↦ absurd (let lb : later b ≡ later k = ap later bk in omega (arith, lb, la, hi))
+                | inr nb ↦ absurd (
+                    let ib = old_key old new p k s b y nb is_b in
+                    elim (moved b y ib) [ inl l ↦ (let l0 = l.0 in let l1 = l.1 in omega (arith, lq, la, lo, hi, l0, l1, here, parent_low)) | inr h ↦ (let h0 = h.0 in let h1 = h.1 in omega (arith, la, hi, h0, h1, here)) ])
+              ];
+            }
+        | inr na ↦
+            let ia = old_key old new p k s a x na is in
+            let u = t.under a q x ia up in
+            let qk = not_new old new p k s q u.above u.at_parent in
+            let ua = u.after in
+            let mq = moved q u.above u.at_parent in
+            let ma = moved a x ia in
+            record {
+              above = u.above;
+              at_parent = s.others q qk ∙ u.at_parent;
+              after = elim mq [
+                | inl l ↦ (let l0 = l.0 in let l1 = l.1 in elim ma [ inl z ↦ (let z0 = z.0 in let z1 = z.1 in omega (arith, ua, l0, l1, z0, z1)) | inr z ↦ (let z0 = z.0 in let z1 = z.1 in omega (arith, ua, l0, l1, z0, z1)) ])
+                | inr l ↦ (let l0 = l.0 in let l1 = l.1 in elim ma [ inl z ↦ (let z0 = z.0 in let z1 = z.1 in omega (arith, ua, l0, l1, z0, z1)) | inr z ↦ (let z0 = z.0 in let z1 = z.1 in omega (arith, ua, l0, l1, z0, z1)) ])
+              ];
+              deeper = u.deeper;
+              between = λ b y is_b lo hi. elim (cases_eq b k) [
+                | inl bk ↦
+                    let lb : later b ≡ later k = ap later bk in
+                    let ly = new_limb old new p k s b y bk is_b in
+                    let dy : y.depth ≡ s.above.depth + 1 = ap (λ (z : Limb). z.depth) ly in
+                    -- the parent stands at q or after it, and before a
+                    let q_le : pos q ≤ pos p = elim mq [ inl l ↦ l.0 | inr l ↦ (let l0 = l.0 in let l1 = l.1 in omega (arith, lo, lb, here, l0, l1)) ] in
+                    let a_gt : pos p < pos a = elim ma [ inl l ↦ (let l0 = l.0 in let l1 = l.1 in omega (arith, hi, lb, here, l0, l1)) | inr l ↦ l.0 ] in
+                    elim (order (pos q) (pos p)) [
+                      | below lt ↦ (let d = u.between p s.above s.at_parent lt a_gt in omega (arith, d, dy))
+                      | same eq ↦
+                          let qe : q ≡ p = t.apart q p u.above s.above u.at_parent s.at_parent eq in
+                          let ue : u.above ≡ s.above = one_limb old q u.at_parent (ap old qe ∙ s.at_parent) in
+                          let de : u.above.depth ≡ s.above.depth = ap (λ (z : Limb). z.depth) ue in
+                          omega (arith, de, dy)
+                      | above gt ↦ absurd (omega (arith, gt, q_le))
+                    ]
+                | inr nb ↦
+                    let ib = old_key old new p k s b y nb is_b in
+                    let mb = moved b y ib in
+                    u.between b y ib
+                    (elim mq [
+                      | inl l ↦ (let l0 = l.0 in let l1 = l.1 in elim mb [ inl z ↦ (let z0 = z.0 in let z1 = z.1 in omega (arith, lo, l0, l1, z0, z1)) | inr z ↦ (let z0 = z.0 in let z1 = z.1 in omega (arith, lo, l0, l1, z0, z1)) ])
+                      | inr l ↦ (let l0 = l.0 in let l1 = l.1 in elim mb [ inl z ↦ (let z0 = z.0 in let z1 = z.1 in omega (arith, lo, l0, l1, z0, z1)) | inr z ↦ (let z0 = z.0 in let z1 = z.1 in omega (arith, lo, l0, l1, z0, z1)) ])
+                    ])
+                    (elim mb [
+                      | inl l ↦ (let l0 = l.0 in let l1 = l.1 in elim ma [ inl z ↦ (let z0 = z.0 in let z1 = z.1 in omega (arith, hi, l0, l1, z0, z1)) | inr z ↦ (let z0 = z.0 in let z1 = z.1 in omega (arith, hi, l0, l1, z0, z1)) ])
+                      | inr l ↦ (let l0 = l.0 in let l1 = l.1 in elim ma [ inl z ↦ (let z0 = z.0 in let z1 = z.1 in omega (arith, hi, l0, l1, z0, z1)) | inr z ↦ (let z0 = z.0 in let z1 = z.1 in omega (arith, hi, l0, l1, z0, z1)) ])
+                    ])
+              ];
+            }
+      ];
+    }
+
+-- keys that have gone leave trees
+pub tree_sheds : (old new : ℕ → Option Limb) (pos later : ℕ → ℕ) → IsTree old pos → Sheds old new → SameOrder new pos later → IsTree new later
+tree_sheds old new pos later t s o =
+    let was : (a : ℕ) (x : Limb) → new a ≡ Some x → old a ≡ Some x =
+    λ a x is. elim (s.left a) [ inl none ↦ absurd (let w : ◌≡◌ {A = Option Limb} None (Some x) = sym none ∙ is in cc) | inr e ↦ sym e ∙ is ] in
+    record {
+      apart = λ a b x y is_a is_b eq. elim (order (pos a) (pos b)) [
+        | below lt ↦ absurd (let l = o.onward a b x y is_a is_b lt in omega (arith, l, eq))
+        | same e ↦ t.apart a b x y (was a x is_a) (was b y is_b) e
+        | above gt ↦ absurd (let l = o.onward b a y x is_b is_a gt in omega (arith, l, eq))
+      ];
+      top = λ a x is none. t.top a x (was a x is) none;
+      under = λ a p x is up.
+          let u = t.under a p x (was a x is) up in
+          let ip : new p ≡ Some u.above = s.closed a p x is up ∙ u.at_parent in
+          record {
+            above = u.above;
+            at_parent = ip;
+            after = o.onward p a u.above x ip is u.after;
+            deeper = u.deeper;
+            between = λ b y is_b lo hi. u.between b y (was b y is_b) (o.back p b u.above y ip is_b lo) (o.back b a y x is_b is hi);
+          };
+    }
+
+-- what leads where below a new key: it is nobody's parent
+pub leads_before : (old new : ℕ → Option Limb) (pos : ℕ → ℕ) (p k : ℕ) → IsTree old pos → (s : Sprouts old new p k) → {low high : ℕ} → low ≢ k → Leads (parent_at new) low high → Leads (parent_at old) low high
+leads_before old new pos p k t s {low} {high} ne (step up) = step (sym (ap (option_and_then (λ (x : Limb). x.parent)) (s.others low ne)) ∙ up)
+leads_before old new pos p k t s {low} ne (steps {middle = m} up rest) =
+    let was : parent_at old low ≡ Some m = sym (ap (option_and_then (λ (x : Limb). x.parent)) (s.others low ne)) ∙ up in
+    let h = has_limb old low m was in
+    let u = t.under low m h.limb h.is h.up in
+    steps was (leads_before old new pos p k t s (not_new old new p k s m u.above u.at_parent) rest)
+
+pub leads_after : (old new : ℕ → Option Limb) (p k : ℕ) → (s : Sprouts old new p k) → {low high : ℕ} → Leads (parent_at old) low high → Leads (parent_at new) low high
+leads_after old new p k s {low} {high} (step up) =
+    let h = has_limb old low high up in
+    step (ap (option_and_then (λ (x : Limb). x.parent)) (s.others low (not_new old new p k s low h.limb h.is)) ∙ up)
+leads_after old new p k s {low} (steps {middle = m} up rest) =
+    let h = has_limb old low m up in
+    steps (ap (option_and_then (λ (x : Limb). x.parent)) (s.others low (not_new old new p k s low h.limb h.is)) ∙ up) (leads_after old new p k s rest)
+
+-- a key other than the new one leads where it led
+pub leads_same : (old new : ℕ → Option Limb) (pos : ℕ → ℕ) (p k : ℕ) → IsTree old pos → (s : Sprouts old new p k) → (low high : ℕ) → low ≢ k → Leads (parent_at new) low high ↔ Leads (parent_at old) low high
+leads_same old new pos p k t s low high ne = (λ l. leads_before old new pos p k t s ne l, λ l. leads_after old new p k s l)
+
+-- the new key leads to its parent, and where that leads
+pub leads_from_new : (old new : ℕ → Option Limb) (pos : ℕ → ℕ) (p k : ℕ) → IsTree old pos → (s : Sprouts old new p k) → (high : ℕ) → Leads (parent_at new) k high ↔ ((high ≡ p) ⊎ Leads (parent_at old) p high)
+leads_from_new old new pos p k t s high =
+    let up : parent_at new k ≡ Some p = ap (option_and_then (λ (x : Limb). x.parent)) s.filled in
+    let pk = not_new old new p k s p s.above s.at_parent in (
+      λ l. from_new old new pos p k t s refl up pk l,
+      λ c. elim c [
+        | inl e ↦ step (up ∙ ap (λ (x : ℕ). Some x) (sym e))
+        | inr l ↦ steps up (leads_after old new p k s l)
+      ],
+    )
+  where
+    from_new : (old new : ℕ → Option Limb) (pos : ℕ → ℕ) (p k : ℕ) → IsTree old pos → (s : Sprouts old new p k) → {low high : ℕ} → low ≡ k → parent_at new k ≡ Some p → p ≢ k → Leads (parent_at new) low high → (high ≡ p) ⊎ Leads (parent_at old) p high
+    from_new old new pos p k t s {low} {high} e up pk (step is) = inl (let w : ◌≡◌ {A = Option ℕ} (Some high) (Some p) = sym is ∙ ap (parent_at new) e ∙ up in cc)
+    from_new old new pos p k t s {low} {high} e up pk (steps {middle = m} is rest) =
+        let w : ◌≡◌ {A = Option ℕ} (Some m) (Some p) = sym is ∙ ap (parent_at new) e ∙ up in
+        let mp : m ≡ p = cc in
+        inr (leads_before old new pos p k t s pk (subst (λ (x : ℕ). Leads (parent_at new) x high) mp rest))
+
+-- a key that is left leads where it led
+pub leads_left : (old new : ℕ → Option Limb) → Sheds old new → {low high : ℕ} → Leads (parent_at new) low high → Leads (parent_at old) low high
+leads_left old new s {low} {high} (step up) = step (kept_parent old new s low high up)
+  where
+    kept_parent : (old new : ℕ → Option Limb) → Sheds old new → (low m : ℕ) → parent_at new low ≡ Some m → parent_at old low ≡ Some m
+    kept_parent old new s low m up =
+        let h = has_limb new low m up in
+        elim (s.left low) [
+          | inl none ↦ absurd (let w : ◌≡◌ {A = Option Limb} None (Some h.limb) = sym none ∙ h.is in cc)
+          | inr e ↦ sym (ap (option_and_then (λ (x : Limb). x.parent)) e) ∙ up
+        ]
+leads_left old new s {low} (steps {middle = m} up rest) =
+    let h = has_limb new low m up in
+    let was : parent_at old low ≡ Some m = elim (s.left low) [
+      | inl none ↦ absurd (let w : ◌≡◌ {A = Option Limb} None (Some h.limb) = sym none ∙ h.is in cc)
+      | inr e ↦ sym (ap (option_and_then (λ (x : Limb). x.parent)) e) ∙ up
+    ] in
+    steps was (leads_left old new s rest)
+
+pub leads_kept : (old new : ℕ → Option Limb) → Sheds old new → {low high : ℕ} (x : Limb) → new low ≡ Some x → Leads (parent_at old) low high → Leads (parent_at new) low high
+leads_kept old new s {low} {high} x is (step up) = step (still old new s low high x is up)
+  where
+    still : (old new : ℕ → Option Limb) → Sheds old new → (low m : ℕ) (x : Limb) → new low ≡ Some x → parent_at old low ≡ Some m → parent_at new low ≡ Some m
+    still old new s low m x is up = elim (s.left low) [
+      | inl none ↦ absurd (let w : ◌≡◌ {A = Option Limb} None (Some x) = sym none ∙ is in cc)
+      | inr e ↦ ap (option_and_then (λ (x : Limb). x.parent)) e ∙ up
+    ]
+leads_kept old new s {low} {high} x is (steps {middle = m} up rest) =
+    let now : parent_at new low ≡ Some m = elim (s.left low) [
+      | inl none ↦ absurd (let w : ◌≡◌ {A = Option Limb} None (Some x) = sym none ∙ is in cc)
+      | inr e ↦ ap (option_and_then (λ (x : Limb). x.parent)) e ∙ up
+    ] in
+    let h = has_limb new low m now in
+    let stays : new m ≡ old m = s.closed low m h.limb h.is h.up in
+    steps now (leads_rest old new s stays rest)
+  where
+    leads_rest : (old new : ℕ → Option Limb) → Sheds old new → {low high : ℕ} → new low ≡ old low → Leads (parent_at old) low high → Leads (parent_at new) low high
+    leads_rest old new s {low} alike (step up) = step (ap (option_and_then (λ (x : Limb). x.parent)) alike ∙ up)
+    leads_rest old new s {low} alike (steps {middle = m} up rest) =
+        let now : parent_at new low ≡ Some m = ap (option_and_then (λ (x : Limb). x.parent)) alike ∙ up in
+        let h = has_limb new low m now in
+        steps now (leads_rest old new s (s.closed low m h.limb h.is h.up) rest)

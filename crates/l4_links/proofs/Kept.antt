@@ -1,0 +1,471 @@
+-- What the nodes keep, after each operation.
+use Rattle.std.proofs.Common.{◌≡◌, ◌≢◌, ◌⊎◌, ℕ, Bool, true, false, ◌&&◌, ◌+◌, ◌<◌, ◌≤◌, List, [], ◌∷◌, ◌++◌, ◌^◌, length, Option, Some, None, refl, sym, ap, ◌∙◌, subst, arith, inl, inr}
+use Rattle.std.proofs.lemmas.Bool.{cases_eq}
+use Rattle.std.specs.Option.{option_map, option_and_then}
+use Rattle.l4_fpage.specs.Rights.{RightsSet, common, set_of_bits, bits_of}
+use Rattle.l4_fpage.proofs.Eight.{bits_below, set_of_sum}
+use Rattle.l4_links.specs.declared.Place.{Place}
+use Rattle.l4_links.specs.declared.nodes.Node.{Node}
+use Rattle.l4_links.specs.declared.nodes.Slot.{Slot}
+use Rattle.l4_links.specs.Leads.{Leads, step, steps}
+use Rattle.l4_links.specs.Inside.Trees.{Limb, IsTree, parent_at, Sprouts, Rises}
+use Rattle.l4_links.specs.Inside.Orders.{Link, IsIn, IsLinked, first_of, last_of, position}
+use Rattle.l4_links.specs.Inside.Nodes.{Slots, slot_at, node_at, spots, limbs, links, values, sources, marks, Marks, Worth, capped_worth, IsOrder, IsForest, IsLow, IsMarked, IsStamped, IsDone, IsFree, HasMarks, HasSeen, NoneMet, Ends, Comes, Prunes, Clears, CapsBelow, SetsPlace, SetsSource, IsSame}
+use Rattle.l4_links.specs.Inside.Keeping.{IsWithin, LiesWithin, IsFresh, sources_walk, IsSound}
+use Rattle.l4_links.proofs.Writes.{map_at, stamped_same}
+use Rattle.l4_links.proofs.Linking.{parted, link_at, linked_same}
+use Rattle.l4_links.proofs.Neighbours.{order_same_nodes, not_in_list, in_list}
+use Rattle.l4_links.proofs.Runs.{run_from_leads, has_limb, parent_is}
+use Rattle.l4_links.proofs.Walking.{low_of_common, low_stays, node_from_limb, limb_in}
+
+abbrev limb_of : Node → Limb
+limb_of n = record { parent = n.parent; depth = n.depth }
+
+abbrev link_of : Node → Link
+link_of n = record { prev = n.prev; next = n.next }
+
+abbrev worth_of : Node → Worth
+worth_of n = record { frame = n.frame; rights = n.rights; source = n.source }
+
+abbrev marks_of : Node → Marks
+marks_of n = record { mark = n.mark; seen = n.seen }
+
+-- no node has a fresh stamp
+pub fresh_none : (slots : Slots) (stamp fresh : ℕ) → IsStamped stamp slots → IsFresh stamp fresh → (k : ℕ) (m : Marks) → marks slots k ≡ Some m → ¬ (IsMarked fresh m.mark) × ¬ (IsMarked fresh m.seen)
+fresh_none slots stamp fresh s f k m is = elim f [
+  | inl zero ↦ (
+    λ d. (let one = d.some in omega (arith, one, zero)),
+    λ d. (let one = d.some in omega (arith, one, zero)),
+  )
+  | inr n ↦
+      let b = s n.0 k m is in
+      let b0 = b.0 in
+      let b1 = b.1 in
+      let next = n.1 in (
+        λ d. (let e = d.same in omega (arith, b0, next, e)),
+        λ d. (let e = d.same in omega (arith, b1, next, e)),
+      )
+]
+
+pub stamped_fresh : (slots : Slots) (stamp fresh : ℕ) → IsStamped stamp slots → IsFresh stamp fresh → IsStamped fresh slots
+stamped_fresh slots stamp fresh s f some k m is = elim f [
+  | inl zero ↦ absurd (omega (arith, some, zero))
+  | inr n ↦
+      let b = s n.0 k m is in
+      let b0 = b.0 in
+      let b1 = b.1 in
+      let next = n.1 in
+      (omega (arith, b0, next), omega (arith, b1, next))
+]
+
+pub fresh_marks : (slots : Slots) (ks : List ℕ) (stamp fresh : ℕ) (cap : RightsSet) → IsForest slots ks → IsStamped stamp slots → IsFresh stamp fresh → HasMarks cap fresh slots
+fresh_marks slots ks stamp fresh cap forest s f = record {
+  keys = ks;
+  forest = forest;
+  marked = λ k n at m. absurd ((fresh_none slots stamp fresh s f k (marks_of n) (ap (option_map marks_of) at)).0 m);
+}
+
+pub fresh_seen : (slots : Slots) (ks : List ℕ) (stamp fresh : ℕ) → IsForest slots ks → IsStamped stamp slots → IsFresh stamp fresh → HasSeen fresh slots
+fresh_seen slots ks stamp fresh forest s f = record {
+  keys = ks;
+  forest = forest;
+  marked = λ k n at m. absurd ((fresh_none slots stamp fresh s f k (marks_of n) (ap (option_map marks_of) at)).0 m);
+  seen = λ k n at m. absurd ((fresh_none slots stamp fresh s f k (marks_of n) (ap (option_map marks_of) at)).1 m);
+}
+
+-- with a fresh stamp all marks are right
+pub sound_fresh : (slots : Slots) (first : Option ℕ) (stamp fresh walk : ℕ) (ks : List ℕ) → IsForest slots ks → first_of ks None ≡ first → IsWithin slots → IsStamped stamp slots → IsFresh stamp fresh → IsSound slots first fresh walk
+sound_fresh slots first stamp fresh walk ks forest first_is within s f = record {
+  keys = ks;
+  forest = forest;
+  first_is = first_is;
+  within = within;
+  stamped = stamped_fresh slots stamp fresh s f;
+  capped = λ _. fresh_marks slots ks stamp fresh (set_of_bits walk) forest s f;
+  sought = λ _. fresh_seen slots ks stamp fresh forest s f;
+}
+
+-- no node
+pub sound_empty : (walk : ℕ) → IsSound [] None 1 walk
+sound_empty walk =
+    let forest : IsForest [] [] = record {
+      order = record { once = tt; linked = tt; all = λ k n at. absurd (let w : ◌≡◌ {A = Option Node} None (Some n) = at in cc) };
+      tree = record {
+        apart = λ a b x y is_a is_b e. absurd (let w : ◌≡◌ {A = Option Limb} None (Some x) = is_a in cc);
+        top = λ a x is e. absurd (let w : ◌≡◌ {A = Option Limb} None (Some x) = is in cc);
+        under = λ a p x is up. absurd (let w : ◌≡◌ {A = Option Limb} None (Some x) = is in cc);
+      };
+    } in
+    record {
+      keys = [];
+      forest = forest;
+      first_is = refl;
+      within = λ k p x l h is up v w. absurd (let z : ◌≡◌ {A = Option Limb} None (Some x) = is in cc);
+      stamped = λ some k m is. absurd (let z : ◌≡◌ {A = Option Marks} None (Some m) = is in cc);
+      capped = λ _. record { keys = []; forest = forest; marked = λ k n at m. absurd (let w : ◌≡◌ {A = Option Node} None (Some n) = at in cc) };
+      sought = λ _. record {
+        keys = [];
+        forest = forest;
+        marked = λ k n at m. absurd (let w : ◌≡◌ {A = Option Node} None (Some n) = at in cc);
+        seen = λ k n at m. absurd (let w : ◌≡◌ {A = Option Node} None (Some n) = at in cc);
+      };
+    }
+
+-- the nodes are the same, whatever blanks came or went
+module _ (a b : Slots) (same : (k : ℕ) → node_at b k ≡ node_at a k) where
+  limbs_path : limbs a ≡ limbs b
+  limbs_path = λ i k. option_map limb_of (sym (same k) i)
+
+  forest_nodes : (ks : List ℕ) → IsForest a ks → IsForest b ks
+  forest_nodes ks f = record { order = order_same_nodes a b ks same f.order; tree = subst (λ (g : ℕ → Option Limb). IsTree g (position ks)) limbs_path f.tree }
+
+  pub sound_nodes : (first : Option ℕ) (stamp walk : ℕ) → IsSound a first stamp walk → IsSound b first stamp walk
+  sound_nodes first stamp walk s = record {
+    keys = s.keys;
+    forest = forest_nodes s.keys s.forest;
+    first_is = s.first_is;
+    within = λ k p x l h is up v w. s.within k p x l h (sym (ap (option_map limb_of) (same k)) ∙ is) up (sym (ap (option_map worth_of) (same k)) ∙ v) (sym (ap (option_map worth_of) (same p)) ∙ w);
+    stamped = stamped_same stamp a b (λ k. ap (option_map marks_of) (same k)) s.stamped;
+    capped = λ ne. (let m = s.capped ne in record {
+      keys = m.keys;
+      forest = forest_nodes m.keys m.forest;
+      marked = λ k n at mark. (let d = m.marked k n (sym (same k) ∙ at) mark in record {
+        ends = subst (λ (g : ℕ → Option Limb). Ends g m.keys k n.depth n.end) limbs_path d.ends;
+        low = λ j o at_j. d.low j o (sym (same j) ∙ at_j);
+      });
+    });
+    sought = λ e. (let m = s.sought e in record {
+      keys = m.keys;
+      forest = forest_nodes m.keys m.forest;
+      marked = λ k n at mark. (let d = m.marked k n (sym (same k) ∙ at) mark in record {
+        ends = subst (λ (g : ℕ → Option Limb). Ends g m.keys k n.depth n.end) limbs_path d.ends;
+        free = λ j lo hi z. d.free j lo hi (sym (ap (λ (o : Option Node). option_map (λ (w : Worth). w.source) (option_map worth_of o)) (same j)) ∙ z);
+      });
+      seen = λ k n at mark j l z. m.seen k n (sym (same k) ∙ at) mark j (subst (λ (g : ℕ → Option Limb). Leads (parent_at g) j k) (sym limbs_path) l)
+          (sym (ap (λ (o : Option Node). option_map (λ (w : Worth). w.source) (option_map worth_of o)) (same j)) ∙ z);
+    });
+  }
+
+pub nodes_freed : (old new : Slots) (key : ℕ) → node_at old key ≡ None → slot_at new key ≡ None → ((o : ℕ) → o ≢ key → slot_at new o ≡ slot_at old o) → (k : ℕ) → node_at new k ≡ node_at old k
+nodes_freed old new key blank gone others k = elim (cases_eq k key) [
+  | inl e ↦ ap (node_at new) e ∙ ap (option_and_then (λ (s : Slot). s.node)) gone ∙ sym blank ∙ sym (ap (node_at old) e)
+  | inr ne ↦ ap (option_and_then (λ (s : Slot). s.node)) (others k ne)
+]
+
+pub nodes_blank : (old new : Slots) (key : ℕ) (slot : Slot) → slot.node ≡ None → slot_at old key ≡ None → slot_at new key ≡ Some slot → ((o : ℕ) → o ≢ key → slot_at new o ≡ slot_at old o) → (k : ℕ) → node_at new k ≡ node_at old k
+nodes_blank old new key slot blank vacant filled others k = elim (cases_eq k key) [
+  | inl e ↦ ap (node_at new) e ∙ ap (option_and_then (λ (s : Slot). s.node)) filled ∙ blank ∙ sym (ap (option_and_then (λ (s : Slot). s.node)) vacant) ∙ sym (ap (node_at old) e)
+  | inr ne ↦ ap (option_and_then (λ (s : Slot). s.node)) (others k ne)
+]
+
+-- the marks after a key without marks has come
+pub stamped_comes : (worth : Worth) (key : ℕ) (old new : Slots) (stamp : ℕ) → Comes worth key old new → IsStamped stamp old → IsStamped stamp new
+stamped_comes worth key old new stamp c s some k m is = elim (cases_eq k key) [
+  | inl e ↦
+      let w : ◌≡◌ {A = Option Marks} (Some (record { mark = 0; seen = 0 })) (Some m) = sym c.marks_is ∙ sym (ap (marks new) e) ∙ is in
+      let z : record { mark = 0; seen = 0 } ≡ m = cc in
+      let a : m.mark ≡ 0 = sym (ap (λ (q : Marks). q.mark) z) in
+      let b : m.seen ≡ 0 = sym (ap (λ (q : Marks). q.seen) z) in
+      (omega (arith, a), omega (arith, b))
+  | inr ne ↦ s some k m (sym (c.marks_same k ne) ∙ is)
+]
+
+-- a parent stands
+pub parent_stands : (slots : Slots) (ks : List ℕ) → IsForest slots ks → (k p : ℕ) (x : Limb) → limbs slots k ≡ Some x → x.parent ≡ Some p → (y : Limb) × (limbs slots p ≡ Some y)
+parent_stands slots ks f k p x is up = let u = f.tree.under k p x is up in (u.above, u.at_parent)
+
+-- a root lies within nothing
+pub within_root : (old new : Slots) (ks : List ℕ) (worth : Worth) (key : ℕ) → IsForest old ks → IsWithin old → Rises (limbs old) (limbs new) key → Comes worth key old new → IsWithin new
+within_root old new ks worth key f within r c k p x l h is up v w = elim (cases_eq k key) [
+  | inl e ↦ absurd (
+      let y : ◌≡◌ {A = Option Limb} (Some x) (Some (record { parent = None; depth = 0 })) = sym is ∙ ap (limbs new) e ∙ r.filled in
+      let xs : x ≡ record { parent = None; depth = 0 } = cc in
+      let z : ◌≡◌ {A = Option ℕ} None (Some p) = sym (ap (λ (q : Limb). q.parent) xs) ∙ up in cc)
+  | inr ne ↦
+      let was = sym (r.others k ne) ∙ is in
+      let above = parent_stands old ks f k p x was up in
+      let pk : p ≢ key = λ e. (let z : ◌≡◌ {A = Option Limb} None (Some above.0) = sym r.vacant ∙ sym (ap (limbs old) e) ∙ above.1 in absurd (let q : ◌≡◌ {A = Option Limb} None (Some above.0) = z in cc)) in
+      within k p x l h was up (sym (c.values_same k ne) ∙ v) (sym (c.values_same p pk) ∙ w)
+]
+
+all_same : (b : Bool) → b && b ≡ b
+all_same true = refl
+all_same false = refl
+
+all_with : (a c : Bool) → (a && c) && a ≡ a && c
+all_with true true = refl
+all_with true false = refl
+all_with false c = refl
+
+-- what a parent has of some rights is of the parent's
+pub low_of_parent : (a r : RightsSet) → IsLow a (common a r)
+low_of_parent a r = λ i. record { r = all_with a.r r.r i; w = all_with a.w r.w i; x = all_with a.x r.x i }
+
+-- a child lies within its parent
+pub within_child : (old new : Slots) (ks : List ℕ) (parent key : ℕ) (above : Worth) (rights : RightsSet) → IsForest old ks → IsWithin old → values old parent ≡ Some above → Sprouts (limbs old) (limbs new) parent key
+    → Comes (record { frame = above.frame; rights = common above.rights rights; source = false }) key old new → IsWithin new
+within_child old new ks parent key above rights f within at s c k p x l h is up v w =
+    let new_key : (q : ℕ) (y : Limb) → limbs old q ≡ Some y → q ≢ key = λ q y old_q e. (let z : ◌≡◌ {A = Option Limb} None (Some y) = sym s.vacant ∙ sym (ap (limbs old) e) ∙ old_q in absurd (let u : ◌≡◌ {A = Option Limb} None (Some y) = z in cc)) in
+    elim (cases_eq k key) [
+      | inl e ↦
+          let y : ◌≡◌ {A = Option Limb} (Some x) (Some (record { parent = Some parent; depth = s.above.depth + 1 })) = sym is ∙ ap (limbs new) e ∙ s.filled in
+          let xs : x ≡ record { parent = Some parent; depth = s.above.depth + 1 } = cc in
+          let z : ◌≡◌ {A = Option ℕ} (Some p) (Some parent) = sym up ∙ ap (λ (q : Limb). q.parent) xs in
+          let pp : p ≡ parent = cc in
+          let low_is : ◌≡◌ {A = Option Worth} (Some l) (Some (record { frame = above.frame; rights = common above.rights rights; source = false })) = sym v ∙ ap (values new) e ∙ c.value_is in
+          let ls : l ≡ record { frame = above.frame; rights = common above.rights rights; source = false } = cc in
+          let high_is : ◌≡◌ {A = Option Worth} (Some h) (Some above) = sym w ∙ ap (values new) pp ∙ c.values_same parent (new_key parent s.above s.at_parent) ∙ at in
+          let hs : h ≡ above = cc in
+          subst (λ (q : Worth). LiesWithin l q) (sym hs)
+          (subst (λ (q : Worth). LiesWithin q above) (sym ls) (record { rights = low_of_parent above.rights rights; frame = refl }))
+      | inr ne ↦
+          let was = sym (s.others k ne) ∙ is in
+          let up_is = parent_stands old ks f k p x was up in
+          within k p x l h was up (sym (c.values_same k ne) ∙ v) (sym (c.values_same p (new_key p up_is.0 up_is.1)) ∙ w)
+    ]
+
+-- the list begins with the same key
+pub first_same : (xs : List ℕ) (k : ℕ) (ys zs : List ℕ) → first_of (xs ++ k ∷ ys) None ≡ first_of (xs ++ k ∷ zs) None
+first_same [] k ys zs = refl
+first_same (x ∷ xs) k ys zs = refl
+
+last_some : (b : ℕ) (xs : List ℕ) → last_of (Some b) xs ≢ None
+last_some b [] e = let w : ◌≡◌ {A = Option ℕ} (Some b) None = e in absurd (let z : ◌≡◌ {A = Option ℕ} (Some b) None = w in cc)
+last_some b (x ∷ xs) e = last_some x xs e
+
+-- two orders of the same links begin with the same key
+pub first_unique : (slots : Slots) (ks ls : List ℕ) → IsOrder slots ks → IsOrder slots ls → first_of ks None ≡ first_of ls None
+first_unique slots [] [] a b = refl
+first_unique slots [] (l ∷ ls) a b = absurd (let n = in_list slots (l ∷ ls) b l (inl refl) in a.all l n.0 n.1)
+first_unique slots (k ∷ ks) ls a b =
+    let n = in_list slots (k ∷ ks) a k (inl refl) in
+    let p = parted ls k (b.all k n.0 n.1) in
+    let l = link_at (links slots) None p.front k p.back None (subst (λ (z : List ℕ). IsLinked (links slots) None z None) p.is b.linked) in
+    let w : ◌≡◌ {A = Option Link} (Some (record { prev = None; next = first_of ks None })) (Some (record { prev = last_of None p.front; next = first_of p.back None })) = sym a.linked.0 ∙ l in
+    let e : record { prev = None; next = first_of ks None } ≡ record { prev = last_of None p.front; next = first_of p.back None } = cc in
+    none_front k p.front p.back (sym (ap (λ (z : Link). z.prev) e)) ∙ sym (ap (λ (z : List ℕ). first_of z None) p.is)
+  where
+    none_front : (k : ℕ) (front back : List ℕ) → last_of None front ≡ None → ◌≡◌ {A = Option ℕ} (Some k) (first_of (front ++ k ∷ back) None)
+    none_front k [] back e = refl
+    none_front k (x ∷ xs) back e = absurd (last_some x xs e)
+
+-- what is left of the nodes lies within as it did
+pub within_kept : (old new : Slots) (ks : List ℕ) → IsForest new ks → IsWithin old → ((k : ℕ) (x : Limb) → limbs new k ≡ Some x → (limbs new k ≡ limbs old k) × (values new k ≡ values old k)) → IsWithin new
+within_kept old new ks f within kept k p x l h is up v w =
+    let a = kept k x is in
+    let above = parent_stands new ks f k p x is up in
+    let b = kept p above.0 above.1 in
+    within k p x l h (sym a.0 ∙ is) up (sym a.1 ∙ v) (sym b.1 ∙ w)
+
+no_some : {X Y : Type 0} (x : X) → ◌≡◌ {A = Option X} None (Some x) → Y
+no_some {X} x e = absurd (let w : ◌≡◌ {A = Option X} None (Some x) = e in cc)
+
+-- the nodes that are left after a run was cut off are sound
+pub sound_cut : (old new : Slots) (first : Option ℕ) (stamp fresh walk top : ℕ) → IsSound old first stamp walk → Prunes top old new → IsFresh stamp fresh → IsSound new first fresh walk
+sound_cut old new first stamp fresh walk top s p f =
+    sound_fresh new first stamp fresh walk (p.front ++ top ∷ p.left) p.forest
+    (first_same p.front top p.left p.rest ∙ first_unique old (p.front ++ top ∷ p.rest) s.keys p.was.order s.forest.order ∙ s.first_is)
+    (within_kept old new (p.front ++ top ∷ p.left) p.forest s.within (λ k x is. (let off = left old new top p limb_of k x is in (p.limbs_kept k off, p.values_kept k off))))
+    (λ some k m is. s.stamped some k m (sym (p.marks_kept k (left old new top p marks_of k m is)) ∙ is)) f
+  where
+    left : (old new : Slots) (top : ℕ) (p : Prunes top old new) {X : Type 0} (F : Node → X) (k : ℕ) (x : X) → option_map F (node_at new k) ≡ Some x → ¬ (Leads (parent_at (limbs old)) k top)
+    left old new top p F k x is l = no_some x (sym (ap (λ (o : Option Slot). option_map F (option_and_then (λ (z : Slot). z.node) o)) (p.gone k l)) ∙ is)
+
+-- nothing descends from a key without a node
+pub none_below : (slots : Slots) (ks : List ℕ) → IsForest slots ks → (top k : ℕ) → node_at slots top ≡ None → Leads (parent_at (limbs slots)) k top → ⊥
+none_below slots ks f top k none l =
+    let r = run_from_leads (limbs slots) (position ks) f.tree l in
+    let w : ◌≡◌ {A = Option Limb} None (Some r.top) = sym (ap (option_map limb_of) none) ∙ r.at_top in cc
+
+-- trees and links alone make a forest
+pub forest_links : (old new : Slots) (ks : List ℕ) → ((k : ℕ) → limbs new k ≡ limbs old k) → ((k : ℕ) → links new k ≡ links old k) → IsForest old ks → IsForest new ks
+forest_links old new ks limbs_same links_same f = record {
+  order = record {
+    once = f.order.once;
+    linked = linked_same (links old) (links new) None ks None (λ k i. links_same k) f.order.linked;
+    all = λ k n at. limb_in old ks f.order k (limb_of n) (sym (limbs_same k) ∙ ap (option_map limb_of) at);
+  };
+  tree = subst (λ (g : ℕ → Option Limb). IsTree g (position ks)) (λ i k. sym (limbs_same k) i) f.tree;
+}
+
+all_share : (a b c : Bool) → (a && c) && (b && c) ≡ (a && b) && c
+all_share false b c = refl
+all_share true false false = refl
+all_share true false true = refl
+all_share true true false = refl
+all_share true true true = refl
+
+-- what lies within stays within, where both are capped
+low_both : (h r c : RightsSet) → IsLow h r → IsLow (common h c) (common r c)
+low_both h r c low =
+    let share : common (common r c) (common h c) ≡ common (common r h) c = λ i. record { r = all_share r.r h.r c.r i; w = all_share r.w h.w c.w i; x = all_share r.x h.x c.x i } in
+    share ∙ ap (λ (z : RightsSet). common z c) low
+
+pub same_worth : {v w : Worth} → ◌≡◌ {A = Option Worth} (Some v) (Some w) → v ≡ w
+same_worth {v} {w} e = let z : ◌≡◌ {A = Option Worth} (Some v) (Some w) = e in cc
+
+within_capped : (old new : Slots) (ks : List ℕ) (top : ℕ) (cap : RightsSet) → IsForest old ks → IsWithin old → CapsBelow top cap old new → IsWithin new
+within_capped old new ks top cap f within c k p x l h is up v w =
+    let was : limbs old k ≡ Some x = sym (c.limbs_same k) ∙ is in
+    let above = parent_stands old ks f k p x was up in
+    let up_k : parent_at (limbs old) k ≡ Some p = parent_is (limbs old) k x was ∙ up in
+    let n = node_from_limb old k x was in
+    let m = node_from_limb old p above.0 above.1 in
+    let lo : values old k ≡ Some (worth_of n.0) = ap (option_map worth_of) n.1 in
+    let hi : values old p ≡ Some (worth_of m.0) = ap (option_map worth_of) m.1 in
+    let base = within k p x (worth_of n.0) (worth_of m.0) was up lo hi in
+    let put : (a b : Worth) → a ≡ l → b ≡ h → LiesWithin a b → LiesWithin l h = λ a b e g r. subst (λ (z : Worth). LiesWithin l z) g (subst (λ (z : Worth). LiesWithin z b) e r) in
+    elim (c.decided k) [
+      | inr off ↦
+          let off_p : ¬ (Leads (parent_at (limbs old)) p top) = λ q. off (steps up_k q) in
+          put (worth_of n.0) (worth_of m.0) (same_worth (sym lo ∙ sym (c.kept k off) ∙ v)) (same_worth (sym hi ∙ sym (c.kept p off_p) ∙ w)) base
+      | inl on ↦
+          let low_is : capped_worth cap (worth_of n.0) ≡ l = same_worth (sym (ap (option_map (capped_worth cap)) lo) ∙ sym (c.capped k on) ∙ v) in
+          elim (c.decided p) [
+            | inl on_p ↦
+                put (capped_worth cap (worth_of n.0)) (capped_worth cap (worth_of m.0)) low_is (same_worth (sym (ap (option_map (capped_worth cap)) hi) ∙ sym (c.capped p on_p) ∙ w))
+                (record { rights = low_both m.0.rights n.0.rights cap base.rights; frame = base.frame })
+            | inr off_p ↦
+                put (capped_worth cap (worth_of n.0)) (worth_of m.0) low_is (same_worth (sym hi ∙ sym (c.kept p off_p) ∙ w))
+                (record { rights = low_stays n.0.rights cap m.0.rights base.rights; frame = base.frame })
+          ]
+    ]
+
+from_zero : (n : ℕ) → n ≡ 0 + n
+from_zero n = omega arith
+
+pub bits_back : (cap : RightsSet) → set_of_bits (bits_of cap) ≡ cap
+bits_back cap = ap set_of_bits (from_zero (bits_of cap)) ∙ set_of_sum 0 cap refl
+
+pub no_sources_walk : (cap : RightsSet) → bits_of cap ≢ sources_walk
+no_sources_walk cap e = let b = bits_below cap in let z : bits_of cap ≡ 8 = e in absurd (omega (arith, b, z))
+
+pub sound_capped : (old new : Slots) (first : Option ℕ) (stamp walk later top : ℕ) (cap : RightsSet) → IsSound old first stamp walk → CapsBelow top cap old new → HasMarks cap later new → IsStamped later new → IsSound new first later (bits_of cap)
+sound_capped old new first stamp walk later top cap s c m t = record {
+  keys = s.keys;
+  forest = forest_links old new s.keys c.limbs_same c.links_same s.forest;
+  first_is = s.first_is;
+  within = within_capped old new s.keys top cap s.forest s.within c;
+  stamped = t;
+  capped = λ _. subst (λ (z : RightsSet). HasMarks z later new) (sym (bits_back cap)) m;
+  sought = λ e. absurd (no_sources_walk cap e);
+}
+
+-- the marks that a walk starts with
+pub marks_for : (slots : Slots) (first : Option ℕ) (stamp walk later : ℕ) (cap : RightsSet) → IsSound slots first stamp walk → ((walk ≡ bits_of cap) × (later ≡ stamp)) ⊎ IsFresh stamp later → HasMarks cap later slots × IsStamped later slots
+marks_for slots first stamp walk later cap s e = elim e [
+  | inl same ↦ (
+    subst (λ (z : ℕ). HasMarks cap z slots) (sym same.1)
+        (subst (λ (z : RightsSet). HasMarks z stamp slots) (ap set_of_bits same.0 ∙ bits_back cap) (s.capped (λ w. no_sources_walk cap (sym same.0 ∙ w)))),
+    subst (λ (z : ℕ). IsStamped z slots) (sym same.1) s.stamped,
+  )
+  | inr f ↦ (fresh_marks slots s.keys stamp later cap s.forest s.stamped f, stamped_fresh slots stamp later s.stamped f)
+]
+
+pub seen_for : (slots : Slots) (first : Option ℕ) (stamp walk later : ℕ) → IsSound slots first stamp walk → ((walk ≡ sources_walk) × (later ≡ stamp)) ⊎ IsFresh stamp later → HasSeen later slots × IsStamped later slots
+seen_for slots first stamp walk later s e = elim e [
+  | inl same ↦ (
+    subst (λ (z : ℕ). HasSeen z slots) (sym same.1) (s.sought same.0),
+    subst (λ (z : ℕ). IsStamped z slots) (sym same.1) s.stamped,
+  )
+  | inr f ↦ (fresh_seen slots s.keys stamp later s.forest s.stamped f, stamped_fresh slots stamp later s.stamped f)
+]
+
+within_same : (old new : Slots) → IsSame old new → IsWithin old → IsWithin new
+within_same old new e within k p x l h is up v w = within k p x l h (sym (e.limbs_same k) ∙ is) up (sym (e.values_same k) ∙ v) (sym (e.values_same p) ∙ w)
+
+-- after a walk for sources that found none
+pub sound_sought : (old new : Slots) (first : Option ℕ) (stamp walk later : ℕ) → IsSound old first stamp walk → IsSame old new → HasSeen later new → IsStamped later new → IsSound new first later sources_walk
+sound_sought old new first stamp walk later s e h t = record {
+  keys = s.keys;
+  forest = forest_links old new s.keys e.limbs_same e.links_same s.forest;
+  first_is = s.first_is;
+  within = within_same old new e s.within;
+  stamped = t;
+  capped = λ ne. absurd (ne refl);
+  sought = λ _. h;
+}
+
+-- and after one that found a source, with a fresh stamp
+pub sound_found : (old new : Slots) (first : Option ℕ) (stamp walk later fresh next : ℕ) → IsSound old first stamp walk → IsSame old new → IsStamped later new → IsFresh later fresh → IsSound new first fresh next
+sound_found old new first stamp walk later fresh next s e t f =
+    sound_fresh new first later fresh next s.keys (forest_links old new s.keys e.limbs_same e.links_same s.forest) s.first_is (within_same old new e s.within) t f
+
+abbrev erased : Worth → Worth
+erased w = record w { source = false }
+
+erased_back : (slots : Slots) (k : ℕ) (w : Worth) → option_map erased (values slots k) ≡ Some w → (v : Worth) × (values slots k ≡ Some v) × (erased v ≡ w)
+erased_back slots k w e = elim (values slots k) as (λ o. values slots k ≡ o → option_map erased o ≡ Some w → (v : Worth) × (values slots k ≡ Some v) × (erased v ≡ w)) [
+  | None ↦ λ is z. absurd (let y : ◌≡◌ {A = Option Worth} None (Some w) = z in cc)
+  | Some v ↦ λ is z. (v, is, same_worth z)
+] refl e
+
+-- after a source was marked or a mark was taken away
+pub sound_source : (old new : Slots) (first : Option ℕ) (stamp fresh walk key : ℕ) (source : Bool) → IsSound old first stamp walk → SetsSource key source old new → IsFresh stamp fresh → IsSound new first fresh walk
+sound_source old new first stamp fresh walk key source s c f =
+    let write : Node → Node = λ n. record n { source = source } in
+    let limbs_same : (k : ℕ) → limbs new k ≡ limbs old k = map_at limb_of write (λ n. refl) key old new c.here c.others in
+    let links_same : (k : ℕ) → links new k ≡ links old k = map_at link_of write (λ n. refl) key old new c.here c.others in
+    let rest_same : (k : ℕ) → option_map (λ (n : Node). erased (worth_of n)) (node_at new k) ≡ option_map (λ (n : Node). erased (worth_of n)) (node_at old k) = map_at (λ (n : Node). erased (worth_of n)) write (λ n. refl) key old new c.here c.others in
+    let back : (k : ℕ) (l : Worth) → values new k ≡ Some l → (v : Worth) × (values old k ≡ Some v) × (erased v ≡ erased l) =
+    λ k l v. erased_back old k (erased l) (erased_two (node_at old k) ∙ sym (rest_same k) ∙ sym (erased_two (node_at new k)) ∙ ap (option_map erased) v) in
+    sound_fresh new first stamp fresh walk s.keys (forest_links old new s.keys limbs_same links_same s.forest) s.first_is
+    (λ k p x l h is up v w.
+    let lo = back k l v in
+    let hi = back p h w in
+    let base = s.within k p x lo.0 hi.0 (sym (limbs_same k) ∙ is) up lo.1 hi.1 in
+    let le : lo.0.rights ≡ l.rights = ap (λ (z : Worth). z.rights) lo.2 in
+    let he : hi.0.rights ≡ h.rights = ap (λ (z : Worth). z.rights) hi.2 in
+    let lf : lo.0.frame ≡ l.frame = ap (λ (z : Worth). z.frame) lo.2 in
+    let hf : hi.0.frame ≡ h.frame = ap (λ (z : Worth). z.frame) hi.2 in
+    record {
+      rights = subst (λ (z : RightsSet). IsLow h.rights z) le (subst (λ (z : RightsSet). IsLow z lo.0.rights) he base.rights);
+      frame = sym lf ∙ base.frame ∙ hf;
+    })
+    (stamped_same stamp old new (map_at marks_of write (λ n. refl) key old new c.here c.others) s.stamped) f
+  where
+    erased_two : (o : Option Node) → option_map erased (option_map worth_of o) ≡ option_map (λ (n : Node). erased (worth_of n)) o
+    erased_two None = refl
+    erased_two (Some n) = refl
+
+pub sound_root : (old new : Slots) (first : Option ℕ) (stamp fresh walk key : ℕ) (worth : Worth) → IsSound old first stamp walk → Rises (limbs old) (limbs new) key → Comes worth key old new
+    → ((ks : List ℕ) → IsForest old ks → first_of ks None ≡ first → IsForest new (key ∷ ks)) → IsFresh stamp fresh → IsSound new (Some key) fresh walk
+sound_root old new first stamp fresh walk key worth s r c forest f =
+    sound_fresh new (Some key) stamp fresh walk (key ∷ s.keys) (forest s.keys s.forest s.first_is) refl (within_root old new s.keys worth key s.forest s.within r c) (stamped_comes worth key old new stamp c s.stamped) f
+
+pub sound_child : (old new : Slots) (first : Option ℕ) (stamp fresh walk parent key : ℕ) (above : Node) (rights : RightsSet) → IsSound old first stamp walk → node_at old parent ≡ Some above → Sprouts (limbs old) (limbs new) parent key
+    → Comes (record { frame = above.frame; rights = common above.rights rights; source = false }) key old new → ((xs ys : List ℕ) → IsForest old (xs ++ parent ∷ ys) → IsForest new (xs ++ parent ∷ key ∷ ys)) → IsFresh stamp fresh → IsSound new first fresh walk
+sound_child old new first stamp fresh walk parent key above rights s at sprouts c forest f =
+    let p = parted s.keys parent (s.forest.order.all parent above at) in
+    sound_fresh new first stamp fresh walk (p.front ++ parent ∷ key ∷ p.back) (forest p.front p.back (subst (λ (z : List ℕ). IsForest old z) p.is s.forest))
+    (first_same p.front parent (key ∷ p.back) p.back ∙ sym (ap (λ (z : List ℕ). first_of z None) p.is) ∙ s.first_is)
+    (within_child old new s.keys parent key (worth_of above) rights s.forest s.within (ap (option_map worth_of) at) sprouts c)
+    (stamped_comes (record { frame = above.frame; rights = common above.rights rights; source = false }) key old new stamp c s.stamped) f
+
+-- the nodes that are left after a node went with all that descends from it
+pub sound_cleared : (old new : Slots) (first after : Option ℕ) (stamp fresh walk top : ℕ) → IsSound old first stamp walk → Clears top first after old new → IsFresh stamp fresh → IsSound new after fresh walk
+sound_cleared old new first after stamp fresh walk top s p f =
+    sound_fresh new after stamp fresh walk (p.front ++ p.left) p.forest
+    (p.first_is (first_unique old (p.front ++ top ∷ p.rest) s.keys p.was.order s.forest.order ∙ s.first_is))
+    (within_kept old new (p.front ++ p.left) p.forest s.within (λ k x is. (let off = left old new first after top p limb_of k x is in (p.limbs_kept k off.0 off.1, p.values_kept k off.0 off.1))))
+    (λ some k m is. (let off = left old new first after top p marks_of k m is in s.stamped some k m (sym (p.marks_kept k off.0 off.1) ∙ is))) f
+  where
+    left : (old new : Slots) (first after : Option ℕ) (top : ℕ) (p : Clears top first after old new) {X : Type 0} (F : Node → X) (k : ℕ) (x : X) → option_map F (node_at new k) ≡ Some x → (k ≢ top) × ¬ (Leads (parent_at (limbs old)) k top)
+    left old new first after top p F k x is = (
+      λ e. no_some x (sym (ap (option_map F) (ap (node_at new) e ∙ p.here)) ∙ is),
+      λ l. no_some x (sym (ap (λ (o : Option Slot). option_map F (option_and_then (λ (z : Slot). z.node) o)) (p.gone k l)) ∙ is),
+    )
+
+pub some_node : {o : Option Node} {n : Node} → o ≡ Some n → o ≢ None
+some_node {o} {n} e none = let w : ◌≡◌ {A = Option Node} (Some n) None = sym e ∙ none in absurd (let z : ◌≡◌ {A = Option Node} (Some n) None = w in cc)
+
+-- a slot that is of another page has the same node
+pub nodes_moved : (old new : Slots) (key : ℕ) (place : Place) → SetsPlace key place old new → (k : ℕ) → node_at new k ≡ node_at old k
+nodes_moved old new key place c k = elim (cases_eq k key) [
+  | inl e ↦ ap (node_at new) e ∙ ap (option_and_then (λ (s : Slot). s.node)) c.here ∙ over place (slot_at old key) ∙ sym (ap (node_at old) e)
+  | inr ne ↦ ap (option_and_then (λ (s : Slot). s.node)) (c.others k ne)
+]
+  where
+    over : (place : Place) (o : Option Slot) → option_and_then (λ (s : Slot). s.node) (option_map (λ (s : Slot). record s { place = place }) o) ≡ option_and_then (λ (s : Slot). s.node) o
+    over place None = refl
+    over place (Some s) = refl

@@ -1,0 +1,17 @@
+pub mod Writes
+pub mod Runs
+pub mod Growing
+pub mod Roots
+pub mod Positions
+pub mod Linking
+pub mod Neighbours
+pub mod Cutting
+pub mod Walking
+pub mod Places
+pub mod Seeking
+pub mod Clearing
+pub mod Depths
+pub mod Seen
+pub mod Kept
+pub mod Views
+pub mod Capping

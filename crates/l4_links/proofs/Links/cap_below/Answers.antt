@@ -1,0 +1,37 @@
+use Rattle.std.proofs.Common.{◌≡◌, ◌⊎◌, ℕ, sym, subst, ◌∙◌, ap}
+use Rattle.l4_fpage.specs.Rights.{bits_of}
+use Rattle.l4_links.specs.Entries.{Entries, CapsBelow}
+use Rattle.l4_links.specs.Inside.Keeping.{entries_of, IsFresh, IsSound}
+use Rattle.l4_links.proofs.Kept.{marks_for, sound_capped}
+use Rattle.l4_links.proofs.Views.{view_caps, caps_none}
+use Rattle.l4_links.proofs.Links.cap_below.Goals as goal
+
+pub returns-in_default : goal.returns-in_default
+returns-in_default c =
+    subst (λ (s : Entries). CapsBelow c.args.top c.args.cap s s) c.self.view_is
+    (caps_none c.self.inside.nodes.slots c.self.inside.first c.self.inside.stamp c.self.inside.walk c.args.top c.args.cap c.self.invariant.sound (sym c.node_of.ensures ∙ c.in_default.is))
+
+pub cap_below-requires-clause-marks : goal.cap_below-requires-clause-marks
+cap_below-requires-clause-marks c =
+    let m = marks_for c.self.inside.nodes.slots c.self.inside.first c.self.inside.stamp c.self.inside.walk c.stamp_for-stamp.result c.args.cap c.self.invariant.sound
+    (subst (λ (w : ℕ). ((c.self.inside.walk ≡ w) × (c.stamp_for-stamp.result ≡ c.self.inside.stamp)) ⊎ IsFresh c.self.inside.stamp c.stamp_for-stamp.result) c.bits-walk.ensures c.stamp_for-stamp.ensures) in
+    m.0
+
+pub cap_below-requires-clause-stamped : goal.cap_below-requires-clause-stamped
+cap_below-requires-clause-stamped c =
+    let m = marks_for c.self.inside.nodes.slots c.self.inside.first c.self.inside.stamp c.self.inside.walk c.stamp_for-stamp.result c.args.cap c.self.invariant.sound
+    (subst (λ (w : ℕ). ((c.self.inside.walk ≡ w) × (c.stamp_for-stamp.result ≡ c.self.inside.stamp)) ⊎ IsFresh c.self.inside.stamp c.stamp_for-stamp.result) c.bits-walk.ensures c.stamp_for-stamp.ensures) in
+    m.1
+
+pub invariant_of-self : goal.invariant_of-self
+invariant_of-self c = record {
+  sound =
+      subst (λ (w : ℕ). IsSound c.cap_below.new.nodes.slots c.self.inside.first c.stamp_for-stamp.result w) (sym c.bits-walk.ensures)
+      (sound_capped c.self.inside.nodes.slots c.cap_below.new.nodes.slots c.self.inside.first c.self.inside.stamp c.self.inside.walk c.stamp_for-stamp.result c.args.top c.args.cap
+      c.self.invariant.sound c.cap_below.ensures.caps c.cap_below.ensures.marks c.cap_below.ensures.stamped);
+}
+
+pub returns : goal.returns
+returns c =
+    subst (λ (s : Entries). CapsBelow c.args.top c.args.cap s (entries_of c.cap_below.new.nodes.slots)) c.self.view_is
+    (view_caps c.self.inside.nodes.slots c.cap_below.new.nodes.slots c.args.top c.args.cap c.cap_below.ensures.caps)

@@ -1,0 +1,136 @@
+-- Where keys stand in a list once one was put in or taken out.
+use Rattle.std.proofs.Common.{◌≡◌, ◌≢◌, ℕ, ◌<◌, ◌≤◌, ◌+◌, cond, List, [], ◌∷◌, ◌++◌, length, Option, Some, None, refl, sym, ap, ◌∙◌, arith, inl, inr, ◌⊎◌}
+use Rattle.std.proofs.lemmas.Bool.{cases_eq, eq-eqb, ne_eqb}
+use Rattle.l4_links.specs.Inside.Trees.{Limb, StandsAfter, SameOrder}
+use Rattle.l4_links.specs.Inside.Orders.{position, IsIn}
+
+pub position_here : (x : ℕ) (xs : List ℕ) (k : ℕ) → x ≡ k → position (x ∷ xs) k ≡ 0
+position_here x xs k e = ap (λ b. cond b 0 (position xs k + 1)) (eq-eqb x k e)
+
+pub position_further : (x : ℕ) (xs : List ℕ) (k : ℕ) → x ≢ k → position (x ∷ xs) k ≡ position xs k + 1
+position_further x xs k ne = ap (λ b. cond b 0 (position xs k + 1)) (ne_eqb x k ne)
+
+pub position_within : (xs : List ℕ) (a : ℕ) → IsIn xs a → position xs a < length xs
+position_within [] a i = absurd i
+position_within (x ∷ xs) a i = elim (cases_eq x a) [
+  | inl e ↦ (let h = position_here x xs a e in omega (arith, h))
+  | inr ne ↦
+      let h = position_further x xs a ne in
+      let r = position_within xs a (elim i [ inl e ↦ absurd (ne e) | inr j ↦ j ]) in
+      omega (arith, h, r)
+]
+
+-- two keys of the list don't stand in one place
+pub position_apart : (xs : List ℕ) (a b : ℕ) → IsIn xs a → position xs a ≡ position xs b → a ≡ b
+position_apart [] a b i e = absurd i
+position_apart (x ∷ xs) a b i e = elim (cases_eq x a) [
+  | inl xa ↦ elim (cases_eq x b) [
+    | inl xb ↦ sym xa ∙ xb
+    | inr nb ↦ absurd (let p = position_here x xs a xa in let q = position_further x xs b nb in omega (arith, e, p, q))
+  ]
+  | inr na ↦ elim (cases_eq x b) [
+    | inl xb ↦ absurd (let p = position_further x xs a na in let q = position_here x xs b xb in omega (arith, e, p, q))
+    | inr nb ↦
+        position_apart xs a b (elim i [ inl y ↦ absurd (na y) | inr j ↦ j ])
+        (let p = position_further x xs a na in let q = position_further x xs b nb in omega (arith, e, p, q))
+  ]
+]
+
+pub position_parted : (xs : List ℕ) (k : ℕ) (ys : List ℕ) → ¬ (IsIn xs k) → position (xs ++ k ∷ ys) k ≡ length xs
+position_parted [] k ys out = position_here k ys k refl
+position_parted (x ∷ xs) k ys out =
+    let h = position_further x (xs ++ k ∷ ys) k (λ e. out (inl e)) in
+    let r = position_parted xs k ys (λ i. out (inr i)) in
+    omega (arith, h, r)
+
+-- a key that was taken out: those before it stay where they were, and those after it move back by one
+pub position_out : (xs : List ℕ) (k : ℕ) (ys : List ℕ) (a : ℕ) → a ≢ k
+    → ((position (xs ++ k ∷ ys) a < length xs) × (position (xs ++ ys) a ≡ position (xs ++ k ∷ ys) a))
+    ⊎ ((length xs < position (xs ++ k ∷ ys) a) × (position (xs ++ ys) a + 1 ≡ position (xs ++ k ∷ ys) a))
+position_out [] k ys a ne =
+    let h = position_further k ys a (λ e. ne (sym e)) in
+    inr (omega (arith, h), sym h)
+position_out (x ∷ xs) k ys a ne = elim (cases_eq x a) [
+  | inl e ↦
+      let p = position_here x (xs ++ k ∷ ys) a e in
+      let q = position_here x (xs ++ ys) a e in
+      inl (omega (arith, p), q ∙ sym p)
+  | inr n ↦
+      let p = position_further x (xs ++ k ∷ ys) a n in
+      let q = position_further x (xs ++ ys) a n in
+      elim (position_out xs k ys a ne) [
+        | inl r ↦ (let r0 = r.0 in let r1 = r.1 in inl (omega (arith, p, r0), omega (arith, p, q, r1)))
+        | inr r ↦ (let r0 = r.0 in let r1 = r.1 in inr (omega (arith, p, r0), omega (arith, p, q, r1)))
+      ]
+]
+
+-- a key that was put in behind another one
+pub position_in : (xs : List ℕ) (p k : ℕ) (ys : List ℕ) (a : ℕ) → a ≢ k → ¬ (IsIn xs p)
+    → ((position (xs ++ p ∷ ys) a ≤ length xs) × (position (xs ++ p ∷ k ∷ ys) a ≡ position (xs ++ p ∷ ys) a))
+    ⊎ ((length xs < position (xs ++ p ∷ ys) a) × (position (xs ++ p ∷ k ∷ ys) a ≡ position (xs ++ p ∷ ys) a + 1))
+position_in [] p k ys a ne out = elim (cases_eq p a) [
+  | inl e ↦
+      let u = position_here p ys a e in
+      let v = position_here p (k ∷ ys) a e in
+      inl (omega (arith, u), v ∙ sym u)
+  | inr n ↦
+      let u = position_further p ys a n in
+      let v = position_further p (k ∷ ys) a n in
+      let w = position_further k ys a (λ e. ne (sym e)) in
+      inr (omega (arith, u), omega (arith, u, v, w))
+]
+position_in (x ∷ xs) p k ys a ne out = elim (cases_eq x a) [
+  | inl e ↦
+      let u = position_here x (xs ++ p ∷ ys) a e in
+      let v = position_here x (xs ++ p ∷ k ∷ ys) a e in
+      inl (omega (arith, u), v ∙ sym u)
+  | inr n ↦
+      let u = position_further x (xs ++ p ∷ ys) a n in
+      let v = position_further x (xs ++ p ∷ k ∷ ys) a n in
+      elim (position_in xs p k ys a ne (λ i. out (inr i))) [
+        | inl r ↦ (let r0 = r.0 in let r1 = r.1 in inl (omega (arith, u, r0), omega (arith, u, v, r1)))
+        | inr r ↦ (let r0 = r.0 in let r1 = r.1 in inr (omega (arith, u, r0), omega (arith, u, v, r1)))
+      ]
+]
+
+pub position_new : (xs : List ℕ) (p k : ℕ) (ys : List ℕ) → k ≢ p → ¬ (IsIn xs k) → position (xs ++ p ∷ k ∷ ys) k ≡ length xs + 1
+position_new [] p k ys ne out =
+    let u = position_further p (k ∷ ys) k (λ e. ne (sym e)) in
+    let v = position_here k ys k refl in
+    omega (arith, u, v)
+position_new (x ∷ xs) p k ys ne out =
+    let u = position_further x (xs ++ p ∷ k ∷ ys) k (λ e. out (inl e)) in
+    let r = position_new xs p k ys ne (λ i. out (inr i)) in
+    omega (arith, u, r)
+
+-- so it stands straight after that one
+pub stands_after : (at : ℕ → Option Limb) (xs : List ℕ) (p k : ℕ) (ys : List ℕ) → at k ≡ None → k ≢ p → ¬ (IsIn xs p) → ¬ (IsIn xs k) → StandsAfter at (position (xs ++ p ∷ ys)) (position (xs ++ p ∷ k ∷ ys)) p k
+stands_after at xs p k ys vacant ne out_p out_k =
+    let here = position_parted xs p ys out_p in
+    let other : (a : ℕ) (x : Limb) → at a ≡ Some x → a ≢ k = λ a x is e. let w : ◌≡◌ {A = Option Limb} None (Some x) = sym vacant ∙ sym (ap at e) ∙ is in absurd (let z : ◌≡◌ {A = Option Limb} None (Some x) = w in cc) in
+    record {
+      here = (let n = position_new xs p k ys ne out_k in omega (arith, n, here));
+      low = λ a x is le. elim (position_in xs p k ys a (other a x is) out_p) [
+        | inl r ↦ r.1
+        | inr r ↦ absurd (let r0 = r.0 in omega (arith, le, here, r0))
+      ];
+      high = λ a x is lt. elim (position_in xs p k ys a (other a x is) out_p) [
+        | inl r ↦ absurd (let r0 = r.0 in omega (arith, lt, here, r0))
+        | inr r ↦ r.1
+      ];
+    }
+
+-- and the keys that are left stand in the order that they had
+pub same_order_out : (at : ℕ → Option Limb) (xs : List ℕ) (k : ℕ) (ys : List ℕ) → at k ≡ None → SameOrder at (position (xs ++ k ∷ ys)) (position (xs ++ ys))
+same_order_out at xs k ys vacant =
+    let other : (a : ℕ) (x : Limb) → at a ≡ Some x → a ≢ k = λ a x is e. let w : ◌≡◌ {A = Option Limb} None (Some x) = sym vacant ∙ sym (ap at e) ∙ is in absurd (let z : ◌≡◌ {A = Option Limb} None (Some x) = w in cc) in
+    record {
+      onward = λ a b x y is_a is_b lt. elim (position_out xs k ys a (other a x is_a)) [
+        | inl r ↦ (let r0 = r.0 in let r1 = r.1 in elim (position_out xs k ys b (other b y is_b)) [ inl q ↦ (let q0 = q.0 in let q1 = q.1 in omega (arith, lt, r0, r1, q0, q1)) | inr q ↦ (let q0 = q.0 in let q1 = q.1 in omega (arith, lt, r0, r1, q0, q1)) ])
+        | inr r ↦ (let r0 = r.0 in let r1 = r.1 in elim (position_out xs k ys b (other b y is_b)) [ inl q ↦ (let q0 = q.0 in let q1 = q.1 in omega (arith, lt, r0, r1, q0, q1)) | inr q ↦ (let q0 = q.0 in let q1 = q.1 in omega (arith, lt, r0, r1, q0, q1)) ])
+      ];
+      back = λ a b x y is_a is_b lt. elim (position_out xs k ys a (other a x is_a)) [
+        | inl r ↦ (let r0 = r.0 in let r1 = r.1 in elim (position_out xs k ys b (other b y is_b)) [ inl q ↦ (let q0 = q.0 in let q1 = q.1 in omega (arith, lt, r0, r1, q0, q1)) | inr q ↦ (let q0 = q.0 in let q1 = q.1 in omega (arith, lt, r0, r1, q0, q1)) ])
+        | inr r ↦ (let r0 = r.0 in let r1 = r.1 in elim (position_out xs k ys b (other b y is_b)) [ inl q ↦ (let q0 = q.0 in let q1 = q.1 in omega (arith, lt, r0, r1, q0, q1)) | inr q ↦ (let q0 = q.0 in let q1 = q.1 in omega (arith, lt, r0, r1, q0, q1)) ])
+      ];
+    }

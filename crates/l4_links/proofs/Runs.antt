@@ -1,0 +1,122 @@
+-- A key's descendants are the run of deeper keys straight after it.
+use Rattle.std.proofs.Common.{◌≡◌, ◌↔◌, ℕ, suc, zero, ◌<◌, ◌≤◌, Option, Some, None, refl, sym, ap, ◌∙◌, arith, inl, inr, option_and_then}
+use Rattle.std.proofs.lemmas.Bool.{cases_lt}
+use Rattle.l4_links.specs.Leads.{Leads, step, steps}
+use Rattle.l4_links.specs.Inside.Trees.{Limb, parent_at, IsTree, IsInRun}
+
+-- numbers are in one of three orders
+pub data Order (a b : ℕ) : Type 0 where
+  below : a < b → Order a b
+  same : a ≡ b → Order a b
+  above : b < a → Order a b
+
+pub order : (a b : ℕ) → Order a b
+order a b = elim (cases_lt a b) [
+  | inl lt ↦ below lt
+  | inr le ↦ elim (cases_lt b a) [ inl lt ↦ above lt | inr ge ↦ same (omega arith) ]
+]
+
+-- one key has one limb
+pub one_limb : (at : ℕ → Option Limb) (a : ℕ) {x y : Limb} → at a ≡ Some x → at a ≡ Some y → x ≡ y
+one_limb at a {x} {y} p q = let k : ◌≡◌ {A = Option Limb} (Some x) (Some y) = sym p ∙ q in cc
+
+-- a key with a parent has a limb
+pub record HasLimb (at : ℕ → Option Limb) (a p : ℕ) : Type 0 where
+  pub limb : Limb
+  pub is : at a ≡ Some limb
+  pub up : limb.parent ≡ Some p
+
+pub has_limb : (at : ℕ → Option Limb) (a p : ℕ) → parent_at at a ≡ Some p → HasLimb at a p
+has_limb at a p up =
+    elim (at a) as (λ o. at a ≡ o → option_and_then (λ (m : Limb). m.parent) o ≡ Some p → HasLimb at a p) [
+      | None ↦ λ e h. absurd (let k : ◌≡◌ {A = Option ℕ} None (Some p) = h in cc)
+      | Some m ↦ λ e h. record { limb = m; is = e; up = h }
+    ] refl up
+
+pub parent_is : (at : ℕ → Option Limb) (a : ℕ) (x : Limb) → at a ≡ Some x → parent_at at a ≡ x.parent
+parent_is at a x is = ap (option_and_then (λ (m : Limb). m.parent)) is
+
+-- what leads to a key is of its run
+pub run_from_leads : (at : ℕ → Option Limb) (pos : ℕ → ℕ) → IsTree at pos → {low high : ℕ} → Leads (parent_at at) low high → IsInRun at pos high low
+run_from_leads at pos t {low} {high} (step up) =
+    let h = has_limb at low high up in
+    let u = t.under low high h.limb h.is h.up in
+    record {
+      top = u.above;
+      at_top = u.at_parent;
+      limb = h.limb;
+      at_limb = h.is;
+      after = u.after;
+      deeper = (let d = u.deeper in omega arith);
+      between = u.between;
+    }
+run_from_leads at pos t {low} {high} (steps {middle = m} up rest) =
+    let h = has_limb at low m up in
+    let u = t.under low m h.limb h.is h.up in
+    let r = run_from_leads at pos t rest in
+    let e : u.above ≡ r.limb = one_limb at m u.at_parent r.at_limb in
+    let ed : u.above.depth ≡ r.limb.depth = ap (λ (x : Limb). x.depth) e in
+    let ud = u.deeper in
+    let ua = u.after in
+    let rd = r.deeper in
+    let ra = r.after in
+    record {
+      top = r.top;
+      at_top = r.at_top;
+      limb = h.limb;
+      at_limb = h.is;
+      after = omega (arith, ua, ra);
+      deeper = omega (arith, ud, ed, rd);
+      between = λ b y is lo hi. elim (order (pos b) (pos m)) [
+        | below lt ↦ r.between b y is lo lt
+        | same eq ↦
+            let be : b ≡ m = t.apart b m y r.limb is r.at_limb eq in
+            let ye : y ≡ r.limb = one_limb at b is (ap at be ∙ r.at_limb) in
+            let yd : y.depth ≡ r.limb.depth = ap (λ (x : Limb). x.depth) ye in
+            omega (arith, yd, rd)
+        | above gt ↦
+            let l = u.between b y is gt hi in
+            omega (arith, l, ed, rd)
+      ];
+    }
+
+-- a key of the run leads to its top
+leads_within : (at : ℕ → Option Limb) (pos : ℕ → ℕ) → IsTree at pos → (n high low : ℕ) (r : IsInRun at pos high low) → r.limb.depth ≤ n → Leads (parent_at at) low high
+leads_within at pos t zero high low r le = absurd (let d = r.deeper in omega (arith, d, le))
+leads_within at pos t (suc n) high low r le =
+    elim (r.limb.parent) as (λ o. r.limb.parent ≡ o → Leads (parent_at at) low high) [
+      | None ↦ λ e. absurd (let z = t.top low r.limb r.at_limb e in let d = r.deeper in omega (arith, z, d))
+      | Some p ↦ λ e.
+          let u = t.under low p r.limb r.at_limb e in
+          let up : parent_at at low ≡ Some p = parent_is at low r.limb r.at_limb ∙ e in
+          let ud = u.deeper in
+          let ua = u.after in
+          elim (order (pos p) (pos high)) [
+            | below lt ↦ absurd (
+                let d = u.between high r.top r.at_top lt r.after in
+                let rd = r.deeper in
+                omega (arith, d, rd, ud))
+            | same eq ↦
+                let pe : p ≡ high = t.apart p high u.above r.top u.at_parent r.at_top eq in
+                step (up ∙ ap (λ (x : ℕ). Some x) pe)
+            | above gt ↦
+                let d = r.between p u.above u.at_parent gt ua in
+                let higher : IsInRun at pos high p = record {
+                  top = r.top;
+                  at_top = r.at_top;
+                  limb = u.above;
+                  at_limb = u.at_parent;
+                  after = gt;
+                  deeper = d;
+                  between = λ b y is lo hi. r.between b y is lo (omega (arith, hi, ua));
+                } in
+                steps up (leads_within at pos t n high p higher (omega (arith, ud, le)))
+          ]
+    ] refl
+
+pub leads_from_run : (at : ℕ → Option Limb) (pos : ℕ → ℕ) → IsTree at pos → (high low : ℕ) → IsInRun at pos high low → Leads (parent_at at) low high
+leads_from_run at pos t high low r = leads_within at pos t r.limb.depth high low r (omega arith)
+
+-- the descendants of a key are its run
+pub descendants : (at : ℕ → Option Limb) (pos : ℕ → ℕ) → IsTree at pos → (high low : ℕ) → Leads (parent_at at) low high ↔ IsInRun at pos high low
+descendants at pos t high low = (λ l. run_from_leads at pos t l, λ r. leads_from_run at pos t high low r)

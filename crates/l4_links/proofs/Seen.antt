@@ -1,0 +1,108 @@
+-- What a contract sees of the slots, piece by piece.
+use Rattle.std.proofs.Common.{◌≡◌, ◌≢◌, ◌↔◌, ◌⊎◌, ℕ, Bool, true, false, List, Option, Some, None, refl, sym, ap, ◌∙◌, subst, inl, inr}
+use Rattle.std.proofs.Math.ListN.{get_or-map}
+use Rattle.std.specs.Option.{option_map, option_and_then}
+use Rattle.l4_fpage.specs.Rights.{RightsSet, common}
+use Rattle.l4_links.specs.declared.Place.{Place}
+use Rattle.l4_links.specs.declared.Standing.{Standing}
+use Rattle.l4_links.specs.declared.Entry.{Entry}
+use Rattle.l4_links.specs.declared.nodes.Node.{Node}
+use Rattle.l4_links.specs.declared.nodes.Slot.{Slot}
+use Rattle.l4_links.specs.Leads.{Leads}
+use Rattle.l4_links.specs.Inside.Trees.{Limb, parent_at}
+use Rattle.l4_links.specs.Inside.Nodes.{Slots, slot_at, node_at, spots, limbs, values, sources, Worth, capped_worth}
+use Rattle.l4_links.specs.Entries.{Entries, entry_at, standing_at, IsStanding, IsBlank, parent_of, Descends, IsSource, capped}
+use Rattle.l4_links.specs.Inside.Keeping.{standing_of, entry_of, entries_of}
+
+abbrev limb_of : Node → Limb
+limb_of n = record { parent = n.parent; depth = n.depth }
+
+abbrev worth_of : Node → Worth
+worth_of n = record { frame = n.frame; rights = n.rights; source = n.source }
+
+-- what stands, of its tree and its worth
+abbrev pub stands_as : Option Limb → Option Worth → Option Standing
+stands_as None w = None
+stands_as (Some x) None = None
+stands_as (Some x) (Some w) = Some (record { frame = w.frame; rights = w.rights; source = w.source; parent = x.parent })
+
+abbrev pub joined : Option Place → Option Limb → Option Worth → Option Entry
+joined None x w = None
+joined (Some p) x w = Some (record { place = p; stands = stands_as x w })
+
+pub at_seen : (slots : Slots) (k : ℕ) → entry_at (entries_of slots) k ≡ option_map entry_of (slot_at slots k)
+at_seen slots k = get_or-map (option_map entry_of) slots k None
+
+pub shown_is : (slots : Slots) (k : ℕ) → entry_at (entries_of slots) k ≡ joined (spots slots k) (limbs slots k) (values slots k)
+shown_is slots k = at_seen slots k ∙ over (slot_at slots k)
+  where
+    inside : (p : Place) (o : Option Node) → ◌≡◌ {A = Option Entry} (Some (record { place = p; stands = option_map standing_of o })) (joined (Some p) (option_map limb_of o) (option_map worth_of o))
+    inside p None = refl
+    inside p (Some n) = refl
+
+    over : (o : Option Slot) → option_map entry_of o ≡ joined (option_map (λ (s : Slot). s.place) o) (option_map limb_of (option_and_then (λ (s : Slot). s.node) o)) (option_map worth_of (option_and_then (λ (s : Slot). s.node) o))
+    over None = refl
+    over (Some s) = inside s.place s.node
+
+pub entry_same : (a b : Slots) (k : ℕ) → spots b k ≡ spots a k → limbs b k ≡ limbs a k → values b k ≡ values a k → entry_at (entries_of b) k ≡ entry_at (entries_of a) k
+entry_same a b k p l v = shown_is b k ∙ (λ i. joined (p i) (l i) (v i)) ∙ sym (shown_is a k)
+
+pub standing_is : (slots : Slots) (k : ℕ) → standing_at (entries_of slots) k ≡ option_map standing_of (node_at slots k)
+standing_is slots k = ap (option_and_then (λ (e : Entry). e.stands)) (at_seen slots k) ∙ over (slot_at slots k)
+  where
+    over : (o : Option Slot) → option_and_then (λ (e : Entry). e.stands) (option_map entry_of o) ≡ option_map standing_of (option_and_then (λ (s : Slot). s.node) o)
+    over None = refl
+    over (Some s) = refl
+
+pub parent_same : (slots : Slots) (k : ℕ) → parent_of (entries_of slots) k ≡ parent_at (limbs slots) k
+parent_same slots k = ap (option_and_then (λ (t : Standing). t.parent)) (standing_is slots k) ∙ over (node_at slots k)
+  where
+    over : (o : Option Node) → option_and_then (λ (t : Standing). t.parent) (option_map standing_of o) ≡ option_and_then (λ (x : Limb). x.parent) (option_map limb_of o)
+    over None = refl
+    over (Some n) = refl
+
+pub leads_of : (slots : Slots) {low high : ℕ} → Descends (entries_of slots) low high → Leads (parent_at (limbs slots)) low high
+leads_of slots {low} {high} d = subst (λ (f : ℕ → Option ℕ). Leads f low high) (λ i k. parent_same slots k i) d
+
+pub descends_of : (slots : Slots) {low high : ℕ} → Leads (parent_at (limbs slots)) low high → Descends (entries_of slots) low high
+descends_of slots {low} {high} l = subst (λ (f : ℕ → Option ℕ). Leads f low high) (λ i k. sym (parent_same slots k) i) l
+
+pub node_there : (slots : Slots) (k : ℕ) → IsStanding (entries_of slots) k → node_at slots k ≢ None
+node_there slots k there none = there (standing_is slots k ∙ ap (option_map standing_of) none)
+
+pub no_standing : (o : Option Node) → option_map standing_of o ≡ None → o ≡ None
+no_standing None e = refl
+no_standing (Some n) e = absurd (let z : ◌≡◌ {A = Option Standing} (Some (standing_of n)) None = e in cc)
+
+pub blank_node : (slots : Slots) (k : ℕ) → IsBlank (entries_of slots) k → node_at slots k ≡ None
+blank_node slots k b = no_standing (node_at slots k) (sym (standing_is slots k) ∙ b.blank)
+
+pub blank_slot : (slots : Slots) (k : ℕ) → IsBlank (entries_of slots) k → slot_at slots k ≢ None
+blank_slot slots k b none = b.there (at_seen slots k ∙ ap (option_map entry_of) none)
+
+pub source_is : (slots : Slots) (k : ℕ) → option_map (λ (t : Standing). t.source) (standing_at (entries_of slots) k) ≡ sources slots k
+source_is slots k = ap (option_map (λ (t : Standing). t.source)) (standing_is slots k) ∙ over (node_at slots k)
+  where
+    over : (o : Option Node) → option_map (λ (t : Standing). t.source) (option_map standing_of o) ≡ option_map (λ (w : Worth). w.source) (option_map worth_of o)
+    over None = refl
+    over (Some n) = refl
+
+-- an entry where something stands now
+pub stands_joined : (o : Option Place) (x : Limb) (w : Worth) (y : Option Limb) (v : Option Worth)
+    → joined o (Some x) (Some w) ≡ option_map (λ (e : Entry). record e { stands = Some (record { frame = w.frame; rights = w.rights; source = w.source; parent = x.parent }) }) (joined o y v)
+stands_joined None x w y v = refl
+stands_joined (Some p) x w y v = refl
+
+-- an entry that was capped
+pub capped_joined : (cap : RightsSet) (o : Option Place) (x : Option Limb) (w : Option Worth) → joined o x (option_map (capped_worth cap) w) ≡ option_map (capped cap) (joined o x w)
+capped_joined cap None x w = refl
+capped_joined cap (Some p) None w = refl
+capped_joined cap (Some p) (Some x) None = refl
+capped_joined cap (Some p) (Some x) (Some w) = refl
+
+pub source_joined : (source : Bool) (o : Option Place) (x : Option Limb) (w : Option Worth)
+    → joined o x (option_map (λ (v : Worth). record v { source = source }) w) ≡ option_map (λ (e : Entry). record e { stands = option_map (λ (t : Standing). record t { source = source }) e.stands }) (joined o x w)
+source_joined source None x w = refl
+source_joined source (Some p) None w = refl
+source_joined source (Some p) (Some x) None = refl
+source_joined source (Some p) (Some x) (Some w) = refl

@@ -1,0 +1,4 @@
+pub mod Trees
+pub mod Orders
+pub mod Nodes
+pub mod Keeping

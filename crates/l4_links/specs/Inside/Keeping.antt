@@ -1,0 +1,54 @@
+-- What a contract sees of the slab, and what the nodes keep.
+use Rattle.std.specs.Prelude.{◌≡◌, ◌≢◌, ◌⊎◌, ℕ, ◌+◌, ◌≤◌, List, Option, Some, None, map}
+use Rattle.std.specs.Option.{option_map}
+use Rattle.l4_fpage.specs.Rights.{RightsSet, common, set_of_bits}
+use Rattle.l4_links.specs.declared.Standing.{Standing}
+use Rattle.l4_links.specs.declared.Entry.{Entry}
+use Rattle.l4_links.specs.declared.nodes.Node.{Node}
+use Rattle.l4_links.specs.declared.nodes.Slot.{Slot}
+use Rattle.l4_links.specs.declared.Links.TheInside.{Inside}
+use Rattle.l4_links.specs.Inside.Trees.{Limb}
+use Rattle.l4_links.specs.Inside.Orders.{first_of}
+use Rattle.l4_links.specs.Inside.Nodes.{Slots, limbs, values, Worth, IsLow, IsForest, IsStamped, HasMarks, HasSeen}
+use Rattle.l4_links.specs.Entries.{Entries}
+
+abbrev pub standing_of : Node → Standing
+standing_of n = record { frame = n.frame; rights = n.rights; source = n.source; parent = n.parent }
+
+abbrev pub entry_of : Slot → Entry
+entry_of s = record { place = s.place; stands = option_map standing_of s.node }
+
+abbrev pub entries_of : Slots → Entries
+entries_of slots = map (option_map entry_of) slots
+
+abbrev pub seen : Inside → Entries
+seen a = entries_of a.nodes.slots
+
+-- a child has its parent's frame, and no other rights than the parent
+pub record LiesWithin (low high : Worth) : Type 0 where
+  pub rights : IsLow high.rights low.rights
+  pub frame : low.frame ≡ high.frame
+
+abbrev pub IsWithin : Slots → Type 0
+IsWithin slots = (key parent : ℕ) (x : Limb) (low high : Worth) → limbs slots key ≡ Some x → x.parent ≡ Some parent → values slots key ≡ Some low → values slots parent ≡ Some high → LiesWithin low high
+
+-- the next stamp; after the last one there is the stamp 0 for good
+abbrev pub IsFresh : ℕ → ℕ → Type 0
+IsFresh stamp fresh = (fresh ≡ 0) ⊎ ((1 ≤ stamp) × (fresh ≡ stamp + 1))
+
+-- the number of a walk for sources; a walk that caps rights has the number of their bits
+abbrev pub sources_walk : ℕ
+sources_walk = 8
+
+-- the nodes are trees, the list begins with this key, and the marks of this stamp are those of this walk
+pub record IsSound (slots : Slots) (first : Option ℕ) (stamp walk : ℕ) : Type 0 where
+  pub keys : List ℕ
+  pub forest : IsForest slots keys
+  pub first_is : first_of keys None ≡ first
+  pub within : IsWithin slots
+  pub stamped : IsStamped stamp slots
+  pub capped : walk ≢ sources_walk → HasMarks (set_of_bits walk) stamp slots
+  pub sought : walk ≡ sources_walk → HasSeen stamp slots
+
+pub record IsKept (a : Inside) : Type 0 where
+  pub sound : IsSound a.nodes.slots a.first a.stamp a.walk

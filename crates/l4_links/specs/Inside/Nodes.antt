@@ -1,0 +1,237 @@
+-- What the nodes of a slab say of trees and of links.
+use Rattle.std.specs.Prelude.{◌≡◌, ◌≢◌, ℕ, ◌<◌, ◌≤◌, ◌⊎◌, ◌++◌, ◌∷◌, length, Bool, true, List, Option, Some, None, slice_index_or, option_and_then}
+use Rattle.std.specs.Option.{option_map}
+use Rattle.l4_fpage.specs.Rights.{RightsSet, common}
+use Rattle.l4_links.specs.declared.Place.{Place}
+use Rattle.l4_links.specs.declared.nodes.Node.{Node}
+use Rattle.l4_links.specs.declared.nodes.Slot.{Slot}
+use Rattle.l4_links.specs.Leads.{Leads}
+use Rattle.l4_links.specs.Inside.Trees.{Limb, IsTree, parent_at}
+use Rattle.l4_links.specs.Inside.Orders.{Link, IsOnce, IsIn, IsLinked, first_of, position}
+
+abbrev pub Slots : Type 0
+Slots = List (Option Slot)
+
+abbrev pub slot_at : Slots → ℕ → Option Slot
+slot_at slots key = slice_index_or slots key None
+
+abbrev pub node_at : Slots → ℕ → Option Node
+node_at slots key = option_and_then (λ (s : Slot). s.node) (slot_at slots key)
+
+-- the place of the slot's page
+abbrev pub spots : Slots → ℕ → Option Place
+spots slots key = option_map {T = Slot} (λ s. s.place) (slot_at slots key)
+
+abbrev pub limbs : Slots → ℕ → Option Limb
+limbs slots key = option_map {T = Node} (λ n. record { parent = n.parent; depth = n.depth }) (node_at slots key)
+
+abbrev pub links : Slots → ℕ → Option Link
+links slots key = option_map {T = Node} (λ n. record { prev = n.prev; next = n.next }) (node_at slots key)
+
+-- what a node says of its page, apart from its tree
+pub record Worth : Type 0 where
+  pub frame : ℕ
+  pub rights : RightsSet
+  pub source : Bool
+
+abbrev pub values : Slots → ℕ → Option Worth
+values slots key = option_map {T = Node} (λ n. record { frame = n.frame; rights = n.rights; source = n.source }) (node_at slots key)
+
+-- the worth with no other rights than these
+abbrev pub capped_worth : RightsSet → Worth → Worth
+capped_worth cap w = record w { rights = common w.rights cap }
+
+-- which walks have been over the node's run, and by the node
+pub record Marks : Type 0 where
+  pub mark : ℕ
+  pub seen : ℕ
+
+abbrev pub marks : Slots → ℕ → Option Marks
+marks slots key = option_map {T = Node} (λ n. record { mark = n.mark; seen = n.seen }) (node_at slots key)
+
+-- no walk has left a mark above this stamp
+abbrev pub IsStamped : ℕ → Slots → Type 0
+IsStamped stamp slots = 1 ≤ stamp → (key : ℕ) (m : Marks) → marks slots key ≡ Some m → (m.mark ≤ stamp) × (m.seen ≤ stamp)
+
+-- whether the node is a source
+abbrev pub sources : Slots → ℕ → Option Bool
+sources slots key = option_map {T = Worth} (λ w. w.source) (values slots key)
+
+-- the nodes' links are this list's, and each node stands once in it
+pub record IsOrder (slots : Slots) (ks : List ℕ) : Type 0 where
+  pub once : IsOnce ks
+  pub linked : IsLinked (links slots) None ks None
+  pub all : (key : ℕ) (n : Node) → node_at slots key ≡ Some n → IsIn ks key
+
+-- the nodes are trees in the order of this list
+pub record IsForest (slots : Slots) (ks : List ℕ) : Type 0 where
+  pub order : IsOrder slots ks
+  pub tree : IsTree (limbs slots) (position ks)
+
+-- the slot has this node now, and all else is as it was
+pub record Writes (key : ℕ) (node : Option Node) (old new : Slots) : Type 0 where
+  pub here : slot_at old key ≢ None → node_at new key ≡ node
+  pub others : (other : ℕ) → other ≢ key → node_at new other ≡ node_at old other
+  pub spots_same : (other : ℕ) → spots new other ≡ spots old other
+
+-- the slot is of this page now, and all else is as it was
+pub record SetsPlace (key : ℕ) (place : Place) (old new : Slots) : Type 0 where
+  pub here : slot_at new key ≡ option_map {T = Slot} (λ s. record s { place = place }) (slot_at old key)
+  pub others : (other : ℕ) → other ≢ key → slot_at new other ≡ slot_at old other
+
+-- the node of the key, if it is meant, has this next key
+pub record SetsNext (at next : Option ℕ) (old new : Slots) : Type 0 where
+  pub here : (key : ℕ) → at ≡ Some key → node_at new key ≡ option_map {T = Node} (λ n. record n { next = next }) (node_at old key)
+  pub others : (key : ℕ) → at ≢ Some key → node_at new key ≡ node_at old key
+  pub spots_same : (other : ℕ) → spots new other ≡ spots old other
+
+pub record SetsPrev (at prev : Option ℕ) (old new : Slots) : Type 0 where
+  pub here : (key : ℕ) → at ≡ Some key → node_at new key ≡ option_map {T = Node} (λ n. record n { prev = prev }) (node_at old key)
+  pub others : (key : ℕ) → at ≢ Some key → node_at new key ≡ node_at old key
+  pub spots_same : (other : ℕ) → spots new other ≡ spots old other
+
+-- the key has no node any more, and all other nodes have their values and stand in their trees as they did
+pub record Parts (key : ℕ) (old new : Slots) : Type 0 where
+  pub gone : node_at new key ≡ None
+  pub limbs_same : (other : ℕ) → other ≢ key → limbs new other ≡ limbs old other
+  pub values_same : (other : ℕ) → other ≢ key → values new other ≡ values old other
+  pub marks_same : (other : ℕ) → other ≢ key → marks new other ≡ marks old other
+  pub spots_same : (other : ℕ) → spots new other ≡ spots old other
+
+-- the key has no slot any more, and all else stands as it did
+pub record TakesSlot (key : ℕ) (old new : Slots) : Type 0 where
+  pub gone : slot_at new key ≡ None
+  pub limbs_same : (other : ℕ) → other ≢ key → limbs new other ≡ limbs old other
+  pub values_same : (other : ℕ) → other ≢ key → values new other ≡ values old other
+  pub marks_same : (other : ℕ) → other ≢ key → marks new other ≡ marks old other
+  pub spots_same : (other : ℕ) → other ≢ key → spots new other ≡ spots old other
+
+-- a node with this worth has come under the parent
+pub record Comes (worth : Worth) (key : ℕ) (old new : Slots) : Type 0 where
+  pub vacant : node_at old key ≡ None
+  pub value_is : values new key ≡ Some worth
+  pub marks_is : marks new key ≡ Some (record { mark = 0; seen = 0 })
+  pub limbs_same : (other : ℕ) → other ≢ key → limbs new other ≡ limbs old other
+  pub values_same : (other : ℕ) → other ≢ key → values new other ≡ values old other
+  pub marks_same : (other : ℕ) → other ≢ key → marks new other ≡ marks old other
+  pub spots_same : (other : ℕ) → spots new other ≡ spots old other
+
+-- what descends from the key has gone, and all else is as it was
+pub record Prunes (top : ℕ) (old new : Slots) : Type 0 where
+  pub gone : (key : ℕ) → Leads (parent_at (limbs old)) key top → slot_at new key ≡ None
+  pub limbs_kept : (key : ℕ) → ¬ (Leads (parent_at (limbs old)) key top) → limbs new key ≡ limbs old key
+  pub values_kept : (key : ℕ) → ¬ (Leads (parent_at (limbs old)) key top) → values new key ≡ values old key
+  pub marks_kept : (key : ℕ) → ¬ (Leads (parent_at (limbs old)) key top) → marks new key ≡ marks old key
+  pub spots_kept : (key : ℕ) → ¬ (Leads (parent_at (limbs old)) key top) → spots new key ≡ spots old key
+  pub front : List ℕ
+  pub rest : List ℕ
+  pub left : List ℕ
+  pub was : IsForest old (front ++ top ∷ rest)
+  pub forest : IsForest new (front ++ top ∷ left)
+
+-- what descends from the key has gone, the key has no node any more, all else is as it was, and the list begins with this key
+pub record Clears (top : ℕ) (first after : Option ℕ) (old new : Slots) : Type 0 where
+  pub gone : (key : ℕ) → Leads (parent_at (limbs old)) key top → slot_at new key ≡ None
+  pub here : node_at new top ≡ None
+  pub spot : spots new top ≡ spots old top
+  pub limbs_kept : (key : ℕ) → key ≢ top → ¬ (Leads (parent_at (limbs old)) key top) → limbs new key ≡ limbs old key
+  pub values_kept : (key : ℕ) → key ≢ top → ¬ (Leads (parent_at (limbs old)) key top) → values new key ≡ values old key
+  pub marks_kept : (key : ℕ) → key ≢ top → ¬ (Leads (parent_at (limbs old)) key top) → marks new key ≡ marks old key
+  pub spots_kept : (key : ℕ) → key ≢ top → ¬ (Leads (parent_at (limbs old)) key top) → spots new key ≡ spots old key
+  pub front : List ℕ
+  pub rest : List ℕ
+  pub left : List ℕ
+  pub was : IsForest old (front ++ top ∷ rest)
+  pub forest : IsForest new (front ++ left)
+  pub first_is : first_of (front ++ top ∷ rest) None ≡ first → first_of (front ++ left) None ≡ after
+
+-- the node's rights are no others than these
+pub record Caps (key : ℕ) (cap : RightsSet) (old new : Slots) : Type 0 where
+  pub here : node_at new key ≡ option_map {T = Node} (λ n. record n { rights = common n.rights cap }) (node_at old key)
+  pub others : (other : ℕ) → other ≢ key → node_at new other ≡ node_at old other
+  pub spots_same : (other : ℕ) → spots new other ≡ spots old other
+
+-- the node has this mark and this end
+pub record Closes (key stamp : ℕ) (end : Option ℕ) (old new : Slots) : Type 0 where
+  pub here : node_at new key ≡ option_map {T = Node} (λ n. record n { mark = stamp; end = end }) (node_at old key)
+  pub others : (other : ℕ) → other ≢ key → node_at new other ≡ node_at old other
+  pub spots_same : (other : ℕ) → spots new other ≡ spots old other
+
+-- the place of a key in the list, or the list's end
+abbrev pub place_of : List ℕ → Option ℕ → ℕ
+place_of ks None = length ks
+place_of ks (Some key) = position ks key
+
+-- the mark is one of this stamp; the stamp 0 marks nothing
+pub record IsMarked (stamp mark : ℕ) : Type 0 where
+  pub same : mark ≡ stamp
+  pub some : 1 ≤ stamp
+
+-- the rights lie within these
+abbrev pub IsLow : RightsSet → RightsSet → Type 0
+IsLow cap rights = common rights cap ≡ rights
+
+-- the run of the key's descendants goes up to this one
+pub record Ends (at : ℕ → Option Limb) (ks : List ℕ) (top depth : ℕ) (end : Option ℕ) : Type 0 where
+  pub beyond : position ks top < place_of ks end
+  pub live : (b : ℕ) → end ≡ Some b → IsIn ks b
+  pub deeper : (b : ℕ) (y : Limb) → at b ≡ Some y → position ks top < position ks b → position ks b < place_of ks end → depth < y.depth
+  pub stops : (b : ℕ) (y : Limb) → end ≡ Some b → at b ≡ Some y → y.depth ≤ depth
+
+-- the rights of all that descends from the key lie within these, and its run goes up to this end
+pub record IsDone (slots : Slots) (ks : List ℕ) (cap : RightsSet) (top depth : ℕ) (end : Option ℕ) : Type 0 where
+  pub ends : Ends (limbs slots) ks top depth end
+  pub low : (j : ℕ) (n : Node) → node_at slots j ≡ Some n → position ks top < position ks j → position ks j < place_of ks end → IsLow cap n.rights
+
+-- the nodes are trees, and each that has the mark is done
+pub record HasMarks (cap : RightsSet) (stamp : ℕ) (slots : Slots) : Type 0 where
+  pub keys : List ℕ
+  pub forest : IsForest slots keys
+  pub marked : (k : ℕ) (n : Node) → node_at slots k ≡ Some n → IsMarked stamp n.mark → IsDone slots keys cap k n.depth n.end
+
+-- the rights of all that descends from the key are no others than these, and all else is as it was
+pub record CapsBelow (top : ℕ) (cap : RightsSet) (old new : Slots) : Type 0 where
+  pub limbs_same : (key : ℕ) → limbs new key ≡ limbs old key
+  pub links_same : (key : ℕ) → links new key ≡ links old key
+  pub spots_same : (key : ℕ) → spots new key ≡ spots old key
+  pub decided : (key : ℕ) → Leads (parent_at (limbs old)) key top ⊎ ¬ (Leads (parent_at (limbs old)) key top)
+  pub capped : (key : ℕ) → Leads (parent_at (limbs old)) key top → values new key ≡ option_map (capped_worth cap) (values old key)
+  pub kept : (key : ℕ) → ¬ (Leads (parent_at (limbs old)) key top) → values new key ≡ values old key
+
+-- a walk has come by the node
+pub record Sees (key stamp : ℕ) (old new : Slots) : Type 0 where
+  pub here : node_at new key ≡ option_map {T = Node} (λ n. record n { seen = stamp }) (node_at old key)
+  pub others : (other : ℕ) → other ≢ key → node_at new other ≡ node_at old other
+  pub spots_same : (other : ℕ) → spots new other ≡ spots old other
+
+-- the node is a source now, or none
+pub record SetsSource (key : ℕ) (source : Bool) (old new : Slots) : Type 0 where
+  pub here : node_at new key ≡ option_map {T = Node} (λ n. record n { source = source }) (node_at old key)
+  pub others : (other : ℕ) → other ≢ key → node_at new other ≡ node_at old other
+  pub spots_same : (other : ℕ) → spots new other ≡ spots old other
+
+-- the nodes have the same trees, links and values
+pub record IsSame (old new : Slots) : Type 0 where
+  pub limbs_same : (key : ℕ) → limbs new key ≡ limbs old key
+  pub links_same : (key : ℕ) → links new key ≡ links old key
+  pub values_same : (key : ℕ) → values new key ≡ values old key
+  pub spots_same : (key : ℕ) → spots new key ≡ spots old key
+
+-- a source descends from the key, or none does
+abbrev pub Meets : ℕ → Slots → Type 0
+Meets top slots = (j : ℕ) × (Leads (parent_at (limbs slots)) j top × (sources slots j ≡ Some true))
+
+abbrev pub NoneMet : ℕ → Slots → Type 0
+NoneMet top slots = (j : ℕ) → Leads (parent_at (limbs slots)) j top → sources slots j ≢ Some true
+
+-- no source descends from the key, and its run goes up to this end
+pub record IsFree (slots : Slots) (ks : List ℕ) (top depth : ℕ) (end : Option ℕ) : Type 0 where
+  pub ends : Ends (limbs slots) ks top depth end
+  pub free : (j : ℕ) → position ks top < position ks j → position ks j < place_of ks end → sources slots j ≢ Some true
+
+-- the nodes are trees; each that has the mark is free, and no source descends from one that was seen
+pub record HasSeen (stamp : ℕ) (slots : Slots) : Type 0 where
+  pub keys : List ℕ
+  pub forest : IsForest slots keys
+  pub marked : (k : ℕ) (n : Node) → node_at slots k ≡ Some n → IsMarked stamp n.mark → IsFree slots keys k n.depth n.end
+  pub seen : (k : ℕ) (n : Node) → node_at slots k ≡ Some n → IsMarked stamp n.seen → NoneMet k slots

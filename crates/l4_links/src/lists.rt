@@ -1,0 +1,146 @@
+//! The list of all nodes in depth-first order: one is put in, one is taken out, a run is cut off.
+
+ghost use Rattle.std.specs.Prelude.{◌≡◌, ◌≢◌, ◌<◌, ◌+◌, ◌^◌, ◌++◌, ◌∷◌, [], ℕ, List, Option, Some, None, false};
+ghost use Rattle.l4_fpage.specs.Rights.{common};
+ghost use Rattle.l4_links.specs.Inside.Trees.{Sprouts, Rises};
+ghost use Rattle.l4_links.specs.Inside.Orders.{TakesOut, first_of};
+ghost use Rattle.l4_links.specs.Inside.Nodes.{node_at, slot_at, spots, limbs, links, values, IsOrder, IsForest, Parts, TakesSlot, Comes, Prunes, Clears};
+
+use crate::nodes::{Node, Slot, child_depth, node_of, set_next, set_prev, write};
+use l4_fpage::Rights;
+use slab::Slab;
+
+/// Takes the node out of its list. Its slot stays, as a blank.
+pub(crate) fn unlink(nodes: &mut Slab<Slot>, key: usize)
+    requires order { (ks : List ℕ) × IsOrder nodes.old.slots ks }
+    requires there { node_at nodes.old.slots key ≢ None }
+    ensures takes { TakesOut (links nodes.old.slots) (links nodes.new.slots) key }
+    ensures parts { Parts key nodes.old.slots nodes.new.slots }
+    ensures order { (xs ys : List ℕ) → IsOrder nodes.old.slots (xs ++ key ∷ ys) → IsOrder nodes.new.slots (xs ++ ys) }
+{
+    let Some(node) = node_of(nodes, key) else {
+        unreachable!()
+    };
+    write(nodes, key, None);
+    set_next(nodes, node.prev, node.next);
+    set_prev(nodes, node.next, node.prev);
+}
+
+/// Takes the node out of its list, and the slot away.
+pub(crate) fn take_out(nodes: &mut Slab<Slot>, key: usize)
+    requires order { (ks : List ℕ) × IsOrder nodes.old.slots ks }
+    requires there { node_at nodes.old.slots key ≢ None }
+    ensures out { TakesSlot key nodes.old.slots nodes.new.slots }
+    ensures order { (xs ys : List ℕ) → IsOrder nodes.old.slots (xs ++ key ∷ ys) → IsOrder nodes.new.slots (xs ++ ys) }
+{
+    unlink(nodes, key);
+    let _ = nodes.try_remove(key);
+}
+
+/// Puts a node straight after its parent, into the blank that the key is of.
+pub(crate) fn link_under(
+    nodes: &mut Slab<Slot>,
+    parent: usize,
+    key: usize,
+    above: Node,
+    rights: Rights,
+)
+    requires forest { (ks : List ℕ) × IsForest nodes.old.slots ks }
+    requires there { node_at nodes.old.slots parent ≡ Some above }
+    requires room { slot_at nodes.old.slots key ≢ None }
+    requires blank { node_at nodes.old.slots key ≡ None }
+    ensures sprouts { Sprouts (limbs nodes.old.slots) (limbs nodes.new.slots) parent key }
+    ensures comes { Comes (record { frame = above.frame; rights = common above.rights rights; source = false }) key nodes.old.slots nodes.new.slots }
+    ensures forest { (xs ys : List ℕ) → IsForest nodes.old.slots (xs ++ parent ∷ ys) → IsForest nodes.new.slots (xs ++ parent ∷ key ∷ ys) }
+{
+    let slots = nodes.capacity();
+    let node = Node {
+        frame: above.frame,
+        rights: above.rights.intersection(rights),
+        source: false,
+        parent: Some(parent),
+        depth: child_depth(&above, slots),
+        prev: Some(parent),
+        next: above.next,
+        mark: 0,
+        end: None,
+        seen: 0,
+    };
+    write(nodes, key, Some(node));
+    set_prev(nodes, above.next, Some(key));
+    set_next(nodes, Some(parent), Some(key));
+}
+
+/// Puts a root before all other nodes, into the blank that the key is of.
+pub(crate) fn link_root(
+    nodes: &mut Slab<Slot>,
+    first: Option<usize>,
+    key: usize,
+    frame: u32,
+    rights: Rights,
+)
+    requires room { slot_at nodes.old.slots key ≢ None }
+    requires blank { node_at nodes.old.slots key ≡ None }
+    ensures rises { Rises (limbs nodes.old.slots) (limbs nodes.new.slots) key }
+    ensures comes { Comes (record { frame = frame; rights = rights; source = false }) key nodes.old.slots nodes.new.slots }
+    ensures forest { (ks : List ℕ) → IsForest nodes.old.slots ks → first_of ks None ≡ first → IsForest nodes.new.slots (key ∷ ks) }
+{
+    let node = Node {
+        frame,
+        rights,
+        source: false,
+        parent: None,
+        depth: 0,
+        prev: None,
+        next: first,
+        mark: 0,
+        end: None,
+        seen: 0,
+    };
+    write(nodes, key, Some(node));
+    set_prev(nodes, first, Some(key));
+}
+
+/// Takes all that descends from the node out of the list.
+pub(crate) fn cut_below(nodes: &mut Slab<Slot>, top: usize)
+    requires forest { (ks : List ℕ) × IsForest nodes.old.slots ks }
+    requires there { node_at nodes.old.slots top ≢ None }
+    ensures { Prunes top nodes.old.slots nodes.new.slots }
+{
+    let Some(head) = node_of(nodes, top) else {
+        unreachable!()
+    };
+    let depth = head.depth;
+    let mut at = head.next;
+    for _ in 0..nodes.capacity() {
+        let Some(key) = at else {
+            return;
+        };
+        let Some(node) = node_of(nodes, key) else {
+            unreachable!()
+        };
+        if node.depth <= depth {
+            return;
+        }
+        at = node.next;
+        take_out(nodes, key);
+    }
+}
+
+/// Takes all that descends from the node out of the list, and the node too. Its slot stays, as a blank. The list begins with
+/// the key that is given then.
+pub(crate) fn clear(nodes: &mut Slab<Slot>, first: Option<usize>, top: usize) -> Option<usize>
+    requires forest { (ks : List ℕ) × IsForest nodes.old.slots ks }
+    requires there { node_at nodes.old.slots top ≢ None }
+    ensures { Clears top first result nodes.old.slots nodes.new.slots }
+{
+    cut_below(nodes, top);
+    let Some(node) = node_of(nodes, top) else {
+        unreachable!()
+    };
+    unlink(nodes, top);
+    let Some(_) = node.prev else {
+        return node.next;
+    };
+    first
+}

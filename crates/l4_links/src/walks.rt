@@ -1,0 +1,108 @@
+//! Walks over the run of a node's descendants. A node whose run a walk of the same stamp has been over is passed by with all that descends from it.
+
+ghost use Rattle.std.specs.Prelude.{◌≡◌, ◌≢◌, ◌≤◌, List, Option, Some, None, true, false};
+ghost use Rattle.l4_links.specs.Inside.Nodes.{Slots, node_at, HasMarks, CapsBelow, Closes, Sees, HasSeen, IsSame, Meets, NoneMet, IsMarked, IsStamped};
+
+use crate::nodes::{Node, Slot, cap_at, close, node_of, see};
+use l4_fpage::Rights;
+use slab::Slab;
+
+/// Where the walk goes on: after the run of a node that it has been over, and else at the next node.
+fn onward(node: &Node, stamp: u64) -> Option<usize>
+    ensures over { node.now.mark ≡ stamp → 1 ≤ stamp → result ≡ node.now.end }
+    ensures on { node.now.mark ≢ stamp → result ≡ node.now.next }
+    ensures none { stamp ≡ 0 → result ≡ node.now.next }
+{
+    if stamp == 0 {
+        return node.next;
+    }
+    if node.mark == stamp {
+        return node.end;
+    }
+    node.next
+}
+
+/// Lets all that descends from the node have no other rights than these. A run that the walk of this stamp has been over is passed by.
+pub(crate) fn cap_below(nodes: &mut Slab<Slot>, top: usize, cap: Rights, stamp: u64)
+    requires marks { HasMarks cap stamp nodes.old.slots }
+    requires stamped { IsStamped stamp nodes.old.slots }
+    requires there { node_at nodes.old.slots top ≢ None }
+    ensures caps { CapsBelow top cap nodes.old.slots nodes.new.slots }
+    ensures marks { HasMarks cap stamp nodes.new.slots }
+    ensures stamped { IsStamped stamp nodes.new.slots }
+{
+    let Some(head) = node_of(nodes, top) else {
+        unreachable!()
+    };
+    let depth = head.depth;
+    let mut at = head.next;
+    for _ in 0..nodes.capacity() {
+        let Some(key) = at else {
+            return close(nodes, top, stamp, at);
+        };
+        let Some(node) = node_of(nodes, key) else {
+            unreachable!()
+        };
+        if node.depth <= depth {
+            return close(nodes, top, stamp, at);
+        }
+        cap_at(nodes, key, cap);
+        at = onward(&node, stamp);
+    }
+}
+
+/// Whether a walk of this stamp has come by the node.
+fn was_seen(node: &Node, stamp: u64) -> bool
+    ensures { result ≡ true → IsMarked stamp node.now.seen }
+{
+    if stamp == 0 {
+        return false;
+    }
+    node.seen == stamp
+}
+
+/// Notes that the walk has been over all that descends from the node, and that it has come by the node.
+fn close_seen(nodes: &mut Slab<Slot>, key: usize, stamp: u64, end: Option<usize>) -> bool
+    ensures { (middle : Slots) × Closes key stamp end nodes.old.slots middle × Sees key stamp middle nodes.new.slots × (result ≡ false) }
+{
+    close(nodes, key, stamp, end);
+    see(nodes, key, stamp);
+    false
+}
+
+/// Whether a source descends from the node. What walks of this stamp have come by is not looked at again.
+pub(crate) fn has_source(nodes: &mut Slab<Slot>, top: usize, stamp: u64) -> bool
+    requires seen { HasSeen stamp nodes.old.slots }
+    requires stamped { IsStamped stamp nodes.old.slots }
+    requires there { node_at nodes.old.slots top ≢ None }
+    ensures same { IsSame nodes.old.slots nodes.new.slots }
+    ensures stamped { IsStamped stamp nodes.new.slots }
+    ensures yes { result ≡ true → Meets top nodes.old.slots }
+    ensures no { result ≡ false → NoneMet top nodes.old.slots × HasSeen stamp nodes.new.slots }
+{
+    let Some(head) = node_of(nodes, top) else {
+        unreachable!()
+    };
+    if was_seen(&head, stamp) {
+        return false;
+    }
+    let depth = head.depth;
+    let mut at = head.next;
+    for _ in 0..nodes.capacity() {
+        let Some(key) = at else {
+            return close_seen(nodes, top, stamp, at);
+        };
+        let Some(node) = node_of(nodes, key) else {
+            unreachable!()
+        };
+        if node.depth <= depth {
+            return close_seen(nodes, top, stamp, at);
+        }
+        if node.source {
+            return true;
+        }
+        see(nodes, key, stamp);
+        at = onward(&node, stamp);
+    }
+    false
+}
