@@ -1,0 +1,97 @@
+//! Threads share one kernel: one raises page faults, another serves their pager, sigma0 hands out the pager's pages, and one more watches how
+//! far the history comes. Each seat's receipts are printed at the end: they are the same whatever the schedule.
+#![tactic(auto)]
+
+mod parties;
+mod printing;
+
+use l4_lock::{KernelLock, Seat};
+use parties::{CLIENT, PAGER, ROOT, Runs, SIGMA0, create, run_all};
+use printing::{print_client, print_receipts};
+use std::alloc::Global;
+use std::io;
+use std::process::ExitCode;
+use std::sync::Wait;
+use std::thread::Threads;
+use std::time::Clock;
+
+/// The page frames of the machine.
+const FRAMES: u32 = 64;
+
+/// Why the example ended early.
+#[derive(Debug, Drop)]
+enum Stop {
+    NoMemory,
+    NoSeat,
+    NotMade,
+    NotClosed,
+    Output(io::Error),
+}
+
+/// The seats of the threads.
+#[derive(Drop)]
+struct Seats {
+    root: Seat,
+    runs: Runs,
+}
+
+/// Takes the seats, and makes the two threads: a pager, and one whose faults go to it.
+fn begin<R: Wait>(rt: &R, lock: &KernelLock) -> Result<Seats, Stop> {
+    let (Ok(mut root), Ok(sigma0), Ok(pager), Ok(client)) = (
+        lock.seat(rt, ROOT),
+        lock.seat(rt, SIGMA0),
+        lock.seat(rt, PAGER),
+        lock.seat(rt, CLIENT),
+    ) else {
+        return Err(Stop::NoSeat);
+    };
+    for (number, pager) in [(PAGER, SIGMA0), (CLIENT, PAGER)] {
+        if lock.call(rt, &mut root, create(number, pager)).is_err() {
+            return Err(Stop::NotMade);
+        }
+    }
+    Ok(Seats {
+        root,
+        runs: Runs {
+            sigma0,
+            pager,
+            client,
+        },
+    })
+}
+
+/// The seats in one list, by rising number.
+fn listed(alloc: Global, seats: Seats) -> Result<Vec<Seat>, Stop> {
+    let Seats { root, runs } = seats;
+    let Runs {
+        sigma0,
+        pager,
+        client,
+    } = runs;
+    Vec::from_array(alloc, [sigma0, root, pager, client]).map_err(|_| Stop::NoMemory)
+}
+
+/// Runs the threads, and prints what each has to show.
+fn tell<R: AllocGlobal + Print + Clock + Threads + Wait + Sync>(rt: &R) -> Result<(), Stop> {
+    let Ok((lock, _)) = KernelLock::new(rt.alloc(), FRAMES, 0) else {
+        return Err(Stop::NoMemory);
+    };
+    let Seats { root, runs } = begin(rt, &lock)?;
+    let (runs, watched) = run_all(rt, &lock, runs);
+    let seats = listed(rt.alloc(), Seats { root, runs })?;
+    for seat in &seats {
+        print_receipts(rt, seat).map_err(Stop::Output)?;
+    }
+    let Ok((history, kernel)) = lock.unlock().close(seats) else {
+        return Err(Stop::NotClosed);
+    };
+    print_client(rt, &kernel).map_err(Stop::Output)?;
+    println!(rt; "watched {watched} of {} entries", history.len()).map_err(Stop::Output)
+}
+
+fn main(rt: HostRuntime) -> ExitCode {
+    match tell(&rt) {
+        Ok(()) => ExitCode::from(0),
+        Err(_) => ExitCode::from(1),
+    }
+}
