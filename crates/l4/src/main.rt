@@ -7,11 +7,10 @@
 ghost use Rattle.std.specs.Prelude.{◌≤◌};
 
 use l4_msg::Region;
-use l4_options::{Options, command_words, misread, show, stopped};
+use l4_options::{Options, misread, show, status_of, stopped};
 use l4_shell::{RunFault, check_lines, options, plan_lines, run};
 use std::io;
 use std::process::ExitCode;
-use std::rt::Env;
 
 const NOT_PROVED: u8 = 1;
 
@@ -59,14 +58,6 @@ fn obey<R: AllocGlobal + Input + Print + Eprint>(rt: &R, words: &[String]) -> u8
     }
 }
 
-/// Does what the command line asks for, and answers the status to end with.
-fn status<R: AllocGlobal + Env + Input + Print + Eprint>(rt: &R) -> u8 {
-    match command_words(rt) {
-        Ok(words) => obey(rt, words.as_slice()),
-        Err(status) => status,
-    }
-}
-
 fn main(rt: HostRuntime) -> ExitCode {
-    ExitCode::from(status(&rt))
+    ExitCode::from(status_of(&rt, |rt, words| obey(rt, words)))
 }

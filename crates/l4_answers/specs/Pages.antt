@@ -12,9 +12,11 @@ letter holds byte = if holds then byte else 45
 abbrev pub rights_text : RightsSet → List ℕ
 rights_text rights = letter rights.r 114 ∷ letter rights.w 119 ∷ letter rights.x 120 ∷ []
 
+abbrev pub page_words : ℕ → Mapping → List ℕ
+page_words page mapping = codes "page " ++ decimal page ++ codes " frame " ++ decimal mapping.frame ++ space ++ rights_text mapping.rights
+
 abbrev pub page_text : ℕ → Mapping → List ℕ
-page_text page mapping =
-    codes "page " ++ decimal page ++ codes " frame " ++ decimal mapping.frame ++ space ++ rights_text mapping.rights ++ newline
+page_text page mapping = page_words page mapping ++ newline
 
 abbrev pub shown_text : ℕ → List ℕ
 shown_text count = codes "shown " ++ decimal count ++ newline

@@ -1,6 +1,6 @@
 //! The texts of pages, of their rights and of their parents.
 ghost use Rattle.std.specs.Prelude.{◌≡◌, ◌≤◌, ◌+◌, ◌++◌, length};
-ghost use Rattle.l4_answers.specs.Pages.{rights_text, page_text, shown_text, place_or_none, parent_text};
+ghost use Rattle.l4_answers.specs.Pages.{rights_text, page_words, page_text, shown_text, place_or_none, parent_text};
 
 use l4_fpage::Rights;
 use l4_mapdb::{Mapping, Place};
@@ -18,11 +18,12 @@ pub fn letters(rights: Rights) -> [u8; 3]
     ]
 }
 
-/// `page P frame F RIGHTS`
-pub fn page_text(page: u32, mapping: &Mapping) -> Text
-    ensures { result ≡ page_text page mapping.now }
+/// Adds `page P frame F RIGHTS`.
+pub fn add_page(text: &mut Text, page: u32, mapping: &Mapping)
+    requires { length text.old + 60 ≤ 1024 }
+    ensures value { text.new ≡ text.old ++ page_words page mapping.now }
+    ensures len { length text.new ≤ length text.old + 60 }
 {
-    let mut text = Text::new();
     text.add(b"page ");
     text.add_number(u64::from(page));
     text.add(b" frame ");
@@ -30,6 +31,14 @@ pub fn page_text(page: u32, mapping: &Mapping) -> Text
     text.push(b' ');
     let letters = letters(mapping.rights);
     text.add(letters.as_slice());
+}
+
+/// `page P frame F RIGHTS`
+pub fn page_text(page: u32, mapping: &Mapping) -> Text
+    ensures { result ≡ page_text page mapping.now }
+{
+    let mut text = Text::new();
+    add_page(&mut text, page, mapping);
     text.push(b'\n');
     text
 }

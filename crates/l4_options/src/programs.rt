@@ -68,7 +68,7 @@ pub fn show(rt: &impl Print, text: &str) -> u8
 
 /// The words of the command line, the program's name first. Where there are none to be had it says why on
 /// standard error, and answers the status to end with: 2 where a word is not UTF-8, 4 for want of memory.
-pub fn command_words<R: AllocGlobal + Env + Eprint>(rt: &R) -> Result<Vec<String>, u8>
+fn command_words<R: AllocGlobal + Env + Eprint>(rt: &R) -> Result<Vec<String>, u8>
     ensures { IfErr result (λ status. (status ≡ 2) ⊎ (status ≡ 4)) }
 {
     let words: Result<Vec<String>, AllocError> = match env::args(rt) {
@@ -79,5 +79,18 @@ pub fn command_words<R: AllocGlobal + Env + Eprint>(rt: &R) -> Result<Vec<String
     match words {
         Ok(words) => Ok(words),
         Err(_) => Err(failed(rt, "error: out of memory", NO_MEMORY)),
+    }
+}
+
+/// Has `obey` do what the words of the command line ask for, and answers the status to end with.
+pub fn status_of<R: AllocGlobal + Env + Eprint, F: FnOnce(&R, &[String]) -> u8>(
+    rt: &R,
+    obey: F,
+) -> u8
+    requires { F.IsAlwaysCallable obey }
+{
+    match command_words(rt) {
+        Ok(words) => obey(rt, words.as_slice()),
+        Err(status) => status,
     }
 }

@@ -6,14 +6,12 @@ use crate::requests::OptionFault;
 use clap::error::ErrorKind;
 use clap::{Arg, ArgAction, ArgMatches, Error};
 use l4_fpage::Rights;
+use l4_ipc::MAX_FRAMES;
 use l4_msg::Region;
 use std::alloc::Global;
 
 /// The frames of a machine where none are asked for.
 const DEFAULT_FRAMES: u32 = 256;
-
-/// The most frames of a machine.
-const MOST_FRAMES: u32 = 4_096;
 
 /// The option `--frames`.
 pub(crate) fn frames_option<'a>(alloc: Global) -> Arg<'a> {
@@ -46,7 +44,7 @@ fn frames_in(text: &[u8]) -> Option<u32>
     ensures { IfSome result IsFrameCount }
 {
     let value = number_in(text)?;
-    if value >= 1 && value <= MOST_FRAMES {
+    if value >= 1 && value <= MAX_FRAMES {
         Some(value)
     } else {
         None

@@ -24,7 +24,7 @@ use Rattle.l4_text.specs.declared.faults.RunFault.{RunFault}
 use Rattle.l4_text.specs.declared.faults.RunFault.TheVariants.{Read, Write, Memory}
 use Rattle.l4_text.proofs.LineSteps.{consumes_more, consumes_same, empty_list}
 use Rattle.l4_text.proofs.Gone.{appends_same}
-use Rattle.l4_text.proofs.Telling.{tells_none, tells_more, tells_is}
+use Rattle.l4_text.proofs.Telling.{nothing_told, tells_none, tells_more, tells_is}
 
 -- LINES OF BYTES
 
@@ -304,10 +304,6 @@ answered_on Long m next old new after number written out before t a cut = a
 answered_on Cut m next old new after number written out before t a cut = absurd (false≢true cut)
 
 -- THE RUN
-
--- nothing was told before
-nothing_told : (w : Option (List ℕ)) (s : List ℕ × Bool) → s ≡ ([], false) → HasTold w w s.0 s.1 []
-nothing_told w s is = subst (λ (t : List ℕ × Bool). HasTold w w t.0 t.1 []) (sym is) ([], refl, appends_same w)
 
 -- nobody was served at the start
 from_none : (frames : ℕ) (m : Machine) (sv : Servers) (lines : List ScriptLine) (text : List ℕ) (last : Session) → sv ≡ no_servers frames

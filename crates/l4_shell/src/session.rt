@@ -14,15 +14,12 @@ use crate::requests::{ROOT, Request, delete_call, request_of, send_call};
 use crate::serving::{follow, tell};
 use crate::texts::region_text;
 use l4_answers::{page_text, parent_text, refused_code, refused_text, shown_text};
-use l4_ipc::{Answer, Call, Kernel, Refused, Step};
+use l4_ipc::{Answer, Call, Kernel, Refused, SPACE_PAGES, Step};
 use l4_msg::Region;
 use l4_pager::{Entry, wait};
 use l4_servers::Servers;
 use l4_text::{Ending, Output, next_token};
 use std::io::Write;
-
-/// The pages of a space.
-const PAGES: u32 = 1_048_576;
 
 /// Whether a line's first byte is `#`.
 fn is_comment(line: &[u8]) -> bool
@@ -250,7 +247,7 @@ fn show<W: Write>(
         return out.put(writer, &refused_text(line, &code));
     };
     let (first, count) = pages;
-    let end = first.saturating_add(count).min(PAGES);
+    let end = first.saturating_add(count).min(SPACE_PAGES);
     let shown = list_pages(kernel, space, first, end, out, writer);
     out.put(writer, &shown_text(shown));
 }

@@ -2,9 +2,10 @@ use crate::commands::{Command, read_command};
 use crate::requests::{ROOT, Request, delete_call, request_of};
 use crate::{RunFault, run};
 use l4_ipc::{Call, Control};
+use l4_text::{Drip, Sip};
 use std::alloc::Global;
 use std::io;
-use std::io::{Read, Write};
+use std::io::Read;
 use std::process::Abort;
 use std::test::Fail;
 
@@ -33,30 +34,6 @@ fn newlines(bytes: &[u8]) -> usize {
     bytes.iter().filter(|b| **b == b'\n').count()
 }
 
-/// Gives one byte a call, and fails at a call.
-#[derive(Drop)]
-struct Drip<'a> {
-    bytes: &'a [u8],
-    calls: usize,
-}
-
-impl Read for Drip<'_> {
-    fn read(&mut self, buf: &mut [u8]) -> io::Result<usize> {
-        if self.calls == 0 || buf.is_empty() {
-            return Err(io::Error::from(io::ErrorKind::Other));
-        }
-        self.calls -= 1;
-        match self.bytes.split_first() {
-            Some((first, rest)) => {
-                buf[0] = *first;
-                self.bytes = rest;
-                Ok(1)
-            }
-            None => Ok(0),
-        }
-    }
-}
-
 /// Gives one `#` a call, and fails at a call.
 #[derive(Drop)]
 struct Hashes {
@@ -71,33 +48,6 @@ impl Read for Hashes {
         self.calls -= 1;
         buf[0] = b'#';
         Ok(1)
-    }
-}
-
-/// Takes one byte a call, and fails at a call.
-#[derive(Drop)]
-struct Sip {
-    taken: Vec<u8>,
-    calls: usize,
-}
-
-impl Write for Sip {
-    fn write(&mut self, buf: &[u8]) -> io::Result<usize> {
-        if self.calls == 0 {
-            return Err(io::Error::from(io::ErrorKind::Other));
-        }
-        self.calls -= 1;
-        match buf.first() {
-            Some(first) => {
-                self.taken.push(*first)?;
-                Ok(1)
-            }
-            None => Ok(0),
-        }
-    }
-
-    fn flush(&mut self) -> io::Result<()> {
-        Ok(())
     }
 }
 

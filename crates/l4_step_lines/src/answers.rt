@@ -1,7 +1,7 @@
 //! The texts of answers.
 ghost use Rattle.std.specs.Prelude.{◌≤◌, ◌+◌, length};
 
-use l4_answers::{add_code, add_place, letters, refused_code};
+use l4_answers::{add_code, add_page, add_place, refused_code};
 use l4_ipc::{Outcome, Refused, Step};
 use l4_mapdb::Mapping;
 use l4_text::Text;
@@ -151,13 +151,7 @@ pub(crate) fn space_text(space: Option<u64>) -> Text {
 /// `page P frame F RIGHTS`, and `none` or the space and the page of its parent.
 pub(crate) fn page_text(page: u32, mapping: &Mapping) -> Text {
     let mut text = Text::new();
-    text.add(b"page ");
-    text.add_number(u64::from(page));
-    text.add(b" frame ");
-    text.add_number(u64::from(mapping.frame));
-    text.push(b' ');
-    let letters = letters(mapping.rights);
-    text.add(letters.as_slice());
+    add_page(&mut text, page, mapping);
     text.push(b' ');
     add_place(&mut text, mapping.parent);
     text.push(b'\n');

@@ -2,7 +2,7 @@
 use crate::numbers::numbers;
 use arrayvec::ArrayVec;
 use l4_fpage::Rights;
-use l4_ipc::{Call, Control, Create, FaultCall, IpcCall, SetPager, Step, UnmapCall};
+use l4_ipc::{Call, Control, Create, FaultCall, IpcCall, MAX_WORDS, SetPager, Step, UnmapCall};
 use l4_text::{next_token, number};
 use l4_threads::ThreadId;
 
@@ -47,8 +47,8 @@ const SETPAGER: &[u8] = b"setpager";
 
 const DELETE: &[u8] = b"delete";
 
-/// A copy of at most 64 words.
-fn registers(words: &[u32]) -> Option<ArrayVec<u32, 64>> {
+/// A copy of the words, where they are no more than a message has.
+fn registers(words: &[u32]) -> Option<ArrayVec<u32, MAX_WORDS>> {
     let mut registers = ArrayVec::new();
     match registers.try_extend_from_slice(words) {
         Ok(()) => Some(registers),

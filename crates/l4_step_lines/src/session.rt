@@ -5,12 +5,9 @@ use crate::answers::{
 use crate::requests::{Request, read_request};
 use crate::running::Fault;
 use l4_answers::shown_text;
-use l4_ipc::{Kernel, Step};
+use l4_ipc::{Kernel, SPACE_PAGES, Step};
 use l4_text::{Output, next_token};
 use std::io::Write;
-
-/// The pages of a space.
-const PAGES: u32 = 1_048_576;
 
 /// Does a step, and tells what it did and how the calls ended that ended in it.
 fn do_step<W: Write>(kernel: &mut Kernel, step: &Step, out: &mut Output, writer: &mut W) {
@@ -28,7 +25,7 @@ fn do_step<W: Write>(kernel: &mut Kernel, step: &Step, out: &mut Output, writer:
 fn list_pages<W: Write>(kernel: &Kernel, space: u64, out: &mut Output, writer: &mut W) {
     let mut from = 0u32;
     let mut shown = 0u32;
-    for turn in 0..PAGES {
+    for turn in 0..SPACE_PAGES {
         let Some(page) = kernel.next_page(space, from) else {
             break;
         };

@@ -4,10 +4,8 @@ use arrayvec::ArrayVec;
 use l4_fpage::Rights;
 use l4_ipc::{Outcome, Step};
 use l4_mapdb::{Mapping, Place};
-use l4_text::RunFault;
+use l4_text::{Drip, RunFault};
 use l4_threads::{IpcReply, Reply, ThreadId};
-use std::io;
-use std::io::Read;
 use std::test::Fail;
 
 const LIST: &[u8] = b"space 1\nenabled\nspace 2\n";
@@ -19,30 +17,6 @@ const ANSWERS: [&[u8]; 4] = [
     b"space 0\nenabled none\n",
     b"space 0\nenabled none\nspace 1\n",
 ];
-
-/// Gives one byte a call, and fails at a call.
-#[derive(Drop)]
-struct Drip<'a> {
-    bytes: &'a [u8],
-    calls: usize,
-}
-
-impl Read for Drip<'_> {
-    fn read(&mut self, buf: &mut [u8]) -> io::Result<usize> {
-        if self.calls == 0 || buf.is_empty() {
-            return Err(io::Error::from(io::ErrorKind::Other));
-        }
-        self.calls -= 1;
-        match self.bytes.split_first() {
-            Some((first, rest)) => {
-                buf[0] = *first;
-                self.bytes = rest;
-                Ok(1)
-            }
-            None => Ok(0),
-        }
-    }
-}
 
 #[test]
 fn a_failing_read_loses_no_answer(rt: HostRuntime) -> Result<(), Fail> {
@@ -95,6 +69,11 @@ fn spells_every_answer(rt: HostRuntime) -> Result<(), Fail> {
         ended_text(262_143, Some(&reply)).as_slice()
             == b"262143 ipc fedcba98 9 01234567\n".as_slice()
     );
+    Ok(())
+}
+
+#[test]
+fn spells_a_page(rt: HostRuntime) -> Result<(), Fail> {
     let mapping = Mapping {
         frame: 4_095,
         rights: Rights::of_bits(2),

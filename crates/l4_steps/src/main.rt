@@ -4,13 +4,10 @@
 //! 4 for want of memory at the start.
 #![tactic(auto)]
 
-use l4_options::{
-    NOT_UNDERSTOOD, StepOptions, command_words, misread, show, step_options, stopped,
-};
+use l4_options::{NOT_UNDERSTOOD, StepOptions, misread, show, status_of, step_options, stopped};
 use l4_step_lines::{Fault, run};
 use std::io;
 use std::process::ExitCode;
-use std::rt::Env;
 
 /// Answers the list of steps on standard input.
 fn answer_list<R: AllocGlobal + Input + Print + Eprint>(rt: &R, frames: u32) -> u8 {
@@ -33,14 +30,6 @@ fn obey<R: AllocGlobal + Input + Print + Eprint>(rt: &R, words: &[String]) -> u8
     }
 }
 
-/// Does what the command line asks for, and answers the status to end with.
-fn status<R: AllocGlobal + Env + Input + Print + Eprint>(rt: &R) -> u8 {
-    match command_words(rt) {
-        Ok(words) => obey(rt, words.as_slice()),
-        Err(status) => status,
-    }
-}
-
 fn main(rt: HostRuntime) -> ExitCode {
-    ExitCode::from(status(&rt))
+    ExitCode::from(status_of(&rt, |rt, words| obey(rt, words)))
 }

@@ -44,7 +44,7 @@ held_gone old new before held failed is fine out start told h =
 
 -- ---- all that was told to an output that was told nothing before
 
-nothing_told : (w : Option (List ℕ)) (s : List ℕ × Bool) → s ≡ ([], false) → HasTold w w s.0 s.1 []
+pub nothing_told : (w : Option (List ℕ)) (s : List ℕ × Bool) → s ≡ ([], false) → HasTold w w s.0 s.1 []
 nothing_told w s is = subst (λ (t : List ℕ × Bool). HasTold w w t.0 t.1 []) (sym is) ([], refl, appends_same w)
 
 pub all_out : (w out now : Option (List ℕ)) (before after : List ℕ × Bool) (text : List ℕ) → before ≡ ([], false) → Tells w out before after text

@@ -1,6 +1,7 @@
 //! Lines of bytes from a reader, tokens, numbers, texts of bounded length, and bytes to a writer.
 #![tactic(auto)]
 
+mod failing;
 mod faults;
 mod lines;
 mod numbers;
@@ -8,6 +9,7 @@ mod output;
 mod texts;
 mod tokens;
 
+pub use failing::{Drip, Sip};
 pub use faults::RunFault;
 pub use lines::{Ending, Line, Source, next_line};
 pub use numbers::{decimal_number, number, word};

@@ -9,6 +9,9 @@ use arrayvec::ArrayVec;
 use std::io::Read;
 use std::marker::Model;
 
+/// The most bytes of a line that are kept, and that one read takes.
+const MAX_LINE: usize = 4_096;
+
 /// The most reads of a stream.
 const MOST_READS: u32 = 16_777_216;
 
@@ -27,7 +30,7 @@ pub enum Ending {
 /// gave some, at most 16,777,216.
 #[derive(Drop)]
 pub struct Source {
-    chunk: [u8; 4_096],
+    chunk: [u8; MAX_LINE],
     start: usize,
     end: usize,
     reads: u32,
@@ -49,7 +52,7 @@ impl Source {
         ensures { result ≡ ([], 0) }
     {
         Source {
-            chunk: [0; 4_096],
+            chunk: [0; MAX_LINE],
             start: 0,
             end: 0,
             reads: 0,
@@ -114,7 +117,7 @@ impl Source {
 /// A line as far as it came, or the first 4,096 bytes of a longer one.
 #[derive(Drop)]
 pub struct Line {
-    bytes: ArrayVec<u8, 4_096>,
+    bytes: ArrayVec<u8, MAX_LINE>,
     long: bool,
 }
 

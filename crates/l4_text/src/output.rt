@@ -12,10 +12,13 @@ use arrayvec::ArrayVec;
 use std::io::Write;
 use std::marker::Model;
 
-/// The bytes that are held back until there are many, at most 16,384.
+/// The most bytes that are held back.
+const MAX_HELD: usize = 16_384;
+
+/// The bytes that are held back until there are many.
 #[derive(Drop)]
 struct Held {
-    bytes: ArrayVec<u8, 16_384>,
+    bytes: ArrayVec<u8, MAX_HELD>,
 }
 
 impl Model for Held {

@@ -1,34 +1,5 @@
-use crate::{Ending, Line, Output, Source, Text, next_line, next_token, number};
-use std::io;
-use std::io::Write;
+use crate::{Ending, Line, Output, Sip, Source, Text, next_line, next_token, number};
 use std::test::Fail;
-
-/// Takes one byte a call, and fails at a call.
-#[derive(Drop)]
-struct Sip {
-    taken: Vec<u8>,
-    calls: usize,
-}
-
-impl Write for Sip {
-    fn write(&mut self, buf: &[u8]) -> io::Result<usize> {
-        if self.calls == 0 {
-            return Err(io::Error::from(io::ErrorKind::Other));
-        }
-        self.calls -= 1;
-        match buf.first() {
-            Some(first) => {
-                self.taken.push(*first)?;
-                Ok(1)
-            }
-            None => Ok(0),
-        }
-    }
-
-    fn flush(&mut self) -> io::Result<()> {
-        Ok(())
-    }
-}
 
 #[test]
 fn reads_numbers(rt: HostRuntime) -> Result<(), Fail> {

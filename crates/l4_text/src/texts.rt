@@ -6,10 +6,13 @@ use arrayvec::ArrayVec;
 use itoa::Buffer;
 use std::marker::Model;
 
-/// The bytes of a text, at most 1,024.
+/// The most bytes of a text.
+const MAX_TEXT: usize = 1_024;
+
+/// The bytes of a text.
 #[derive(Drop)]
 pub struct Text {
-    bytes: ArrayVec<u8, 1024>,
+    bytes: ArrayVec<u8, MAX_TEXT>,
 }
 
 impl Model for Text {
