@@ -222,6 +222,15 @@ impl Locked {
                 seats,
             });
         }
+        Ok(self.opened())
+    }
+
+    /// The history and the kernel. Apart from `close`, as the optimizer takes many minutes over a result whose two variants hold a kernel that it
+    /// sees come from the same place.
+    #[inline(never)]
+    fn opened(self) -> (History, Kernel)
+        ensures { (result.0.entries ≡ self.history) × (result.1 ≡ self.kernel) }
+    {
         let Locked {
             frames: _,
             kernel,
@@ -230,6 +239,6 @@ impl Locked {
             publisher: _,
             alloc: _,
         } = self;
-        Ok((history, kernel))
+        (history, kernel)
     }
 }
