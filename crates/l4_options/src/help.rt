@@ -61,6 +61,15 @@ are skipped.
                          instruction at IP, both in bytes; where the page isn't
                          there with these rights, N's pager is told, and N goes on
                          with the pager's next message
+  region P FIRST SOURCE COUNT RIGHTS
+                         for faults in the COUNT pages from FIRST on P gives its
+                         own pages from SOURCE on, with RIGHTS: one region more in
+                         P's table, which has at most 64
+  serve P                P receives from any, and from then on answers each message
+                         by itself, on the line that brings it: a fault from its
+                         table; thread 1, sigma0, a fault or a request for frames
+                         by giving each frame to one space; any other message by a
+                         nil map item
   show N FIRST COUNT     lists the present pages of N's space among the COUNT
                          pages from FIRST on
   parent N PAGE          the parent of a page of N's space: the page that it was
@@ -87,6 +96,7 @@ page i; thread 2 is root. Numbers are decimal, or hexadecimal after 0x.
   page P frame F RIGHTS            a page that show lists; then shown K, how many
   parent SPACE PAGE                the page's parent (parent none: it has none;
                                    absent: it isn't present)
+  region ok                        the table has one region more
   line L refused CODE              the line changed nothing
 
 The codes, each with the number that it carries; l4 plan, l4 check and l4_steps
@@ -112,6 +122,12 @@ print them too:
   K3         the thread's last call goes on
   K4         a timeout is neither never nor zero
   K6         a machine has 1 to 4096 frames
+  P1         a page of the region is one of another region of the table
+  P2         no region of the table has the page with this access: a served thread
+             answers by a nil map item
+  P3         the table has 64 regions
+  P4         the region has no page, a page or source page beyond the space, or no
+             right
   N1         the region has no page
   N2         the region goes beyond the 1048576 pages of a space
   N3         the region has no rights
