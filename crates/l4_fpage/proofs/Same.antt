@@ -7,15 +7,6 @@ use Rattle.l4_fpage.specs.declared.fpages.Fpage.TheVariants.{Nil, Complete, Size
 use Rattle.l4_fpage.specs.Rights.{RightsSet}
 use Rattle.l4_fpage.specs.Fpages.{ReadsAs, IsMalformed, base_field}
 
-lt_prop : (a b : ℕ) → IsProp (a < b)
-lt_prop a b = hlevel props
-
-le_prop_of : (a b : ℕ) → IsProp (a ≤ b)
-le_prop_of a b = hlevel props
-
-eq_prop : (a b : ℕ) → IsProp (a ≡ b)
-eq_prop a b = hlevel props
-
 made : (base log : ℕ) → RightsSet → (10 ≤ log) × (log ≤ 31) × (base % 2 ^ log ≡ 0) → Extent
 made base log r f = record { base = base; log = log; rights = r; large = f.0; small = f.1; aligned = f.2 }
 

@@ -200,21 +200,9 @@ pub end_wrong : (counts : Book → ℕ) (books : List Book) (seats : List SeatSt
 end_wrong counts books seats i None past h = λ k p less at. h k p (omega (arith, past, less)) at
 end_wrong counts books seats i (Some n) past h = (h.0, λ k p less at below. h.1 k p (omega (arith, past, less)) at below)
 
--- two lists of receipts, place by place
-pub same_more : (xs ys : List Receipt) (i : ℕ) (x y : Receipt) → x ≡ get_or xs i x → i < length xs → y ≡ get_or ys i y → i < length ys → x ≡ y
-    → ((k : ℕ) → k < i → slice_get xs k ≡ slice_get ys k) → (k : ℕ) → k < i + 1 → slice_get xs k ≡ slice_get ys k
-same_more xs ys i x y is lt is' lt' e h k less = elim (last_or k i less) [
-  | inl before ↦ h k before
-  | inr same ↦ subst (λ (j : ℕ). slice_get xs j ≡ slice_get ys j) (sym same) (at_place xs i x lt is ∙ ap Some e ∙ sym (at_place ys i y lt' is'))
-]
-
 pub all_same : (xs ys : List Receipt) (i : ℕ) → length xs ≡ length ys → length xs ≤ i → ((k : ℕ) → k < i → slice_get xs k ≡ slice_get ys k) → xs ≡ ys
 all_same xs ys i long past h = same_lists xs ys long (λ k d lt.
     same_Some (get_or xs k d) (get_or ys k d) (sym (slice_get-get_or xs k d lt) ∙ h k (omega (arith, lt, past)) ∙ slice_get-get_or ys k d (omega (arith, lt, long))))
-
-pub differ_at : (xs ys : List Receipt) (i : ℕ) (x y : Receipt) → x ≡ get_or xs i x → i < length xs → y ≡ get_or ys i y → i < length ys → x ≢ y → xs ≢ ys
-differ_at xs ys i x y is lt is' lt' other same =
-    other (same_Some x y (sym (at_place xs i x lt is) ∙ ap (λ (l : List Receipt). slice_get l i) same ∙ at_place ys i y lt' is'))
 
 -- what the loops leave
 pub least_missing : (books : List Book) (seats : List SeatState) (o : Option ℕ) → SoFarMissing books seats (length books) o → Least (IsMissing books seats) o

@@ -57,17 +57,6 @@ eq_true a b h =
     let page : a.page ≡ b.page = grind (arith, nat_tests) in
     λ i. record { space = space i; page = page i }
 
-pub eq_false : (a b : Place) → (nat_eq a.space b.space && nat_eq a.page b.page) ≡ false → a ≢ b
-eq_false a b h e =
-    let space : a.space ≡ b.space = ap (λ p. p.space) e in
-    let page : a.page ≡ b.page = ap (λ p. p.page) e in
-    grind (arith, nat_tests)
-
--- the parent is not the place that is looked for, so the question is passed on to it
-pub passes_on : (parent : Place → Option Place) (at next high : Place) → parent at ≡ Some next → next ≢ high → Chain parent at high ↔ Chain parent next high
-passes_on parent at next high up ne =
-    (λ h. elim (chain_up parent next up h) [ inl e ↦ absurd (ne e) | inr r ↦ r ], λ h. further up h)
-
 -- by cases on a test
 pub decided : {A : Type 0} (b : Bool) → (IsTrue b → A) → (¬ (IsTrue b) → A) → A
 decided true f g = f refl

@@ -161,10 +161,6 @@ failing_is_unique words BadWindow BadWindow h k = absurd h
 pub window_is_unique : (word : ℕ) (a b : Fpage) → WindowReads word a → WindowReads word b → a ≡ b
 window_is_unique word a b h k = reads_same (word / 16 * 16) a b h k
 
--- and none where it is malformed
-pub bad_window_reads_none : (word : ℕ) (window : Fpage) → IsBadWindow word → WindowReads word window → ⊥
-bad_window_reads_none word window m h = malformed_reads_none (word / 16 * 16) window m h
-
 -- a send base that was read is a multiple of 1,024
 base_whole : (a b : ℕ) (item : Item) → ItemReads a b item → base_of item % 1024 ≡ 0
 base_whole a b (Map base fpage) h = omega (arith, h.1)

@@ -24,17 +24,6 @@ follows_drop (x ∷ items) (suc i) =
     let e : nat_lt (suc i) (length items) ≡ nat_lt (suc (suc i)) (suc (length items)) = grind (arith, nat_tests) in
     follows_drop items i ∙ e
 
--- one more item's words
-pub items_words_more : (items : List Item) (i : ℕ) (d : Item) → i < length items → items_words (drop i items) ≡ (item_words (get_or items i d) (nat_lt (i + 1) (length items))).0 ∷ (item_words (get_or items i d) (nat_lt (i + 1) (length items))).1 ∷ items_words (drop (i + 1) items)
-items_words_more items i d h =
-    let x = get_or items i d in
-    let e : follows (drop (i + 1) items) ≡ nat_lt (i + 1) (length items) = rw add-one (follows_drop items i) in
-    ap items_words (drop_more items i d h) ∙ ap (λ (b : Bool). (item_words x b).0 ∷ (item_words x b).1 ∷ items_words (drop (i + 1) items)) e
-
--- words with two more, before the rest
-pub two_more : (words rest : List ℕ) (a b : ℕ) → ((words ++ a ∷ []) ++ b ∷ []) ++ rest ≡ words ++ (a ∷ b ∷ rest)
-two_more words rest a b = simp append_assoc
-
 -- the words of an item read as it
 pub item_reads : (item : Item) (more : Bool) → base_of item % 1024 ≡ 0 → ItemReads (item_words item more).0 (item_words item more).1 item
 item_reads (Map base fpage) true h = (omega arith, omega arith, word_reads fpage)

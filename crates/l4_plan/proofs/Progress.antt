@@ -84,21 +84,6 @@ zip_push R [] (b ∷ ys) x y h r = absurd h
 zip_push R (a ∷ xs) [] x y h r = absurd h
 zip_push R (a ∷ xs) (b ∷ ys) x y h r = (h.0, zip_push R xs ys x y h.1 r)
 
-pub progress_start : (r : Region) → Progress r r.source [] []
-progress_start r = record {
-  from = omega arith;
-  to = omega arith;
-  crosses = none_crosses_start r;
-  walk = refl;
-  starts = tt;
-  maps = All-nil IsMap;
-  whole = All-nil (λ item. base_of item % 1024 ≡ 0);
-  moves = λ s t. (λ w. absurd (omega (arith, w.2)), λ h. absurd (omega (arith, h.within)));
-  inside = All-nil (λ p. (r.source ≤ p) × (p < r.source));
-  rising = λ i j d less in_j. absurd (omega (arith, in_j));
-  apart = λ i j d less in_j. absurd (omega (arith, in_j));
-}
-
 -- the page that was reached joins the certificate
 pub pages_push : (r : Region) (page : ℕ) (items : List Item) (pages : List ℕ) → Progress r page items pages → AllPairs (λ p q. ShareBlock r p q → ⊥) (pages ++ page ∷ [])
 pages_push r page items pages h =

@@ -14,22 +14,10 @@ tag_not_long line tag t l =
 
 -- ---- the first line
 
-pub first_tag : (lines : List (List ℕ)) (items : List Item) (pages : List ℕ) (line : List ℕ) (tag : ℕ) → IsClaim lines None items pages → IsTagLine line tag → IsClaim (lines ++ line ∷ []) (Some (Plan tag)) items pages
-first_tag [] items pages line tag h t = rw (h.0, h.1) (t, tt, omega arith)
-first_tag (l ∷ ls) items pages line tag h t = absurd h
-
-pub first_long : (lines : List (List ℕ)) (items : List Item) (pages : List ℕ) (line : List ℕ) → IsClaim lines None items pages → line ≡ long_line → IsClaim (lines ++ line ∷ []) (Some TooLong) items pages
-first_long [] items pages line h t = rw h.1 (t, h.0, tt, omega arith)
-first_long (l ∷ ls) items pages line h t = absurd h
-
 one_line : (line : List ℕ) (head : Option Head) (items : List Item) (pages : List ℕ) → ((tag : ℕ) → IsTagLine line tag → ⊥) → (line ≡ long_line → ⊥) → IsClaim (line ∷ []) head items pages → ⊥
 one_line line None items pages no_tag no_long c = c
 one_line line (Some (Plan tag)) items pages no_tag no_long c = no_tag tag c.0
 one_line line (Some TooLong) items pages no_tag no_long c = no_long c.0
-
-pub no_first : (lines : List (List ℕ)) (items : List Item) (pages : List ℕ) (line : List ℕ) → IsClaim lines None items pages → ((tag : ℕ) → IsTagLine line tag → ⊥) → (line ≡ long_line → ⊥) → IsBeginning (lines ++ line ∷ []) → ⊥
-no_first [] items pages line h no_tag no_long b = one_line line b.0 b.1 b.2 no_tag no_long b.3
-no_first (l ∷ ls) items pages line h no_tag no_long b = absurd h
 
 -- ---- item lines
 

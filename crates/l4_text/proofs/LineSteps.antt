@@ -23,11 +23,6 @@ pub consumes_same : (a : Option (List ℕ)) → Consumes a a []
 consumes_same None = tt
 consumes_same (Some x) = refl
 
-pub consumes_none : (a b : Option (List ℕ)) → Keeps a b → Consumes a b []
-consumes_none None b h = tt
-consumes_none (Some x) None h = absurd h
-consumes_none (Some x) (Some y) h = sym h
-
 pub plain_append : (xs ys : List ℕ) → NoNewline xs → NoNewline ys → NoNewline (xs ++ ys)
 plain_append [] ys p q = q
 plain_append (x ∷ xs) ys p q = (p.0, plain_append xs ys p.1 q)

@@ -17,9 +17,6 @@ pub record ReadsFirst (words : List ℕ) (number : ℕ) (fpages : List Fpage) : 
   pub count : length fpages ≡ number
   pub each : (k : ℕ) → k < number → HoldsAt (ReadsAs (get_or words k 0)) fpages k
 
-pub none_read : (words : List ℕ) → ReadsFirst words 0 []
-none_read words = record { count = refl; each = λ k lt. absurd (omega (arith, lt)) }
-
 -- one more
 pub one_read : (words : List ℕ) (i : ℕ) (fpages : List Fpage) (fpage : Fpage) → ReadsFirst words i fpages → ReadsAs (get_or words i 0) fpage → ReadsFirst words (i + 1) (fpages ++ fpage ∷ [])
 one_read words i fpages fpage first reads = record {
@@ -36,13 +33,6 @@ one_read words i fpages fpage first reads = record {
 -- none of the first registers is malformed
 pub none_malformed : (words : List ℕ) (i : ℕ) (fpages : List Fpage) → ReadsFirst words i fpages → (k : ℕ) → k < i → ¬ (IsMalformed (get_or words k 0))
 none_malformed words i fpages first k lt bad = malformed_reads_none (get_or words k 0) (get_or fpages k Nil) bad (first.each k lt Nil)
-
-pub all_read : (control : ℕ) (words : List ℕ) (i : ℕ) (fpages : List Fpage) → ReadsFirst words i fpages → i ≡ fpage_count control → fpage_count control ≤ length words → UnmapReads control words fpages
-all_read control words i fpages first end there = record {
-  there = there;
-  count = omega (arith, first.count, end);
-  each = λ k lt. first.each k (omega (arith, lt, first.count));
-}
 
 -- registers that are read are not refused
 pub reads_not_fails : (control : ℕ) (words : List ℕ) (fpages : List Fpage) (fault : UnmapFault) → UnmapReads control words fpages → UnmapFails control words fault → ⊥
