@@ -58,9 +58,11 @@ fn step(kernel: &mut Kernel, step: &Step) -> Result<(), Stop> {
 }
 
 /// Does the step that comes next.
-fn step_next(kernel: &mut Kernel) -> Result<(), Stop> {
-    let next = kernel.enabled().ok_or(Stop::NothingEnabled)?;
-    step(kernel, &next)
+fn go_on(kernel: &mut Kernel) -> Result<(), Stop> {
+    match kernel.step_next() {
+        Some(_) => Ok(()),
+        None => Err(Stop::NothingEnabled),
+    }
 }
 
 /// Makes the thread of this number, in a space of its own.
@@ -88,7 +90,7 @@ fn delegate(kernel: &mut Kernel, from: &Party, to: &Party, region: &Region) -> R
     step(kernel, &Step::Start(to.number, receive))?;
     let send = Call::send(to.id, words_of(&plan), Timeout::Never);
     step(kernel, &Step::Start(from.number, send))?;
-    step_next(kernel)
+    go_on(kernel)
 }
 
 /// Lets a thread read where no page is, and its pager receive the fault's message.
@@ -96,7 +98,7 @@ fn fault(kernel: &mut Kernel, thread: &Party, pager: &Party) -> Result<(ThreadId
     step(kernel, &Step::Start(pager.number, wait()))?;
     let read = Call::fault(FAULT_ADDRESS, FAULT_IP, Rights::R);
     step(kernel, &Step::Start(thread.number, read))?;
-    step_next(kernel)?;
+    go_on(kernel)?;
     let told = kernel.reply(pager.number).ok_or(Stop::NoMessage)?;
     brought(told).ok_or(Stop::NoMessage)
 }
@@ -111,7 +113,7 @@ fn serve(
     let (sender, message) = fault(kernel, thread, pager)?;
     let answer = answering(sender, &regions.answer(&message));
     step(kernel, &Step::Start(pager.number, answer))?;
-    step_next(kernel)
+    go_on(kernel)
 }
 
 /// Prints what the space of a thread shows.

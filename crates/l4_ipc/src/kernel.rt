@@ -1,5 +1,5 @@
 //! The kernel.
-ghost use Rattle.std.specs.Prelude.{◌≡◌, ◌<◌, ◌≤◌, ◌⊎◌, ℕ, List, IsTrue, IfOk, OnErr, MatchOption, MatchResult};
+ghost use Rattle.std.specs.Prelude.{◌≡◌, ◌<◌, ◌≤◌, ◌⊎◌, ℕ, List, IsTrue, Ok, IfOk, OnErr, MatchOption, MatchResult};
 ghost use Rattle.std.specs.List.{All};
 ghost use Rattle.std.specs.Option.{option_copied};
 ghost use Rattle.l4_mapdb.specs.declared.Place.{Place};
@@ -141,6 +141,21 @@ impl Kernel {
         }
         let number = self.threads.next_expiry()?;
         Some(Step::Expire(number))
+    }
+
+    /// Does the step that comes next, as `enabled` names it, and gives it with its answer. None where none is enabled, and then nothing
+    /// changes.
+    pub fn step_next(&mut self) -> Option<(Step, Answer)>
+        ensures { MatchOption result (IsIdle self.old × (self.new ≡ self.old))
+            (λ done. IsNext self.old done.0 × Steps self.old done.0 (Ok done.1) self.new) }
+    {
+        let Some(step) = self.enabled() else {
+            return None;
+        };
+        let Ok(answer) = self.step(&step) else {
+            return None;
+        };
+        Some((step, answer))
     }
 
     /// The reply of the last ended call of a thread that runs.

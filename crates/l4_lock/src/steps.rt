@@ -1,6 +1,6 @@
 //! Steps of the kernel with their entries.
 ghost use Rattle.std.specs.Prelude.{◌≡◌, ◌≢◌, ◌⊎◌, ◌+◌, ◌<◌, ◌≤◌, ◌++◌, ◌∷◌, [], ℕ, Ok, Err, None, IfOk, IfErr, OnErr, map, length, MatchOption, slice_get};
-ghost use Rattle.l4_ipc.specs.Steps.{Steps, IsNext, IsIdle};
+ghost use Rattle.l4_ipc.specs.Steps.{Steps, IsIdle};
 ghost use Rattle.l4_lock.specs.Inside.Noting.{noted};
 ghost use Rattle.l4_lock.specs.Books.{book_at, reply_waits};
 ghost use Rattle.l4_lock.specs.Inside.Entering.{Went, Begins, IsReady};
@@ -39,21 +39,6 @@ pub fn reply_waits(accounts: &[Account], number: u32) -> bool
     }
 }
 
-/// Does the step that comes next. None where there is none.
-fn go_on(kernel: &mut Kernel) -> Option<(Step, Answer)>
-    ensures next { MatchOption result (IsIdle kernel.old) (λ d. IsNext kernel.old d.0
-        × Steps kernel.old d.0 (Ok d.1) kernel.new) }
-    ensures still { result ≡ None → kernel.new ≡ kernel.old }
-{
-    let Some(step) = kernel.enabled() else {
-        return None;
-    };
-    let Ok(answer) = kernel.step(&step) else {
-        return None;
-    };
-    Some((step, answer))
-}
-
 /// Notes at each account that these calls ended in the entry of this place.
 fn note_all(accounts: &mut Vec<Account>, kernel: &Kernel, ended: &[u32], place: usize)
     ensures { accounts.new.items ≡ map (noted kernel.now ended.now place) accounts.old.items }
@@ -88,7 +73,7 @@ pub fn follow(kernel: &mut Kernel, history: &mut History, accounts: &mut Vec<Acc
     ensures idle { IsIdle kernel.new }
 {
     kernel.law_consistent();
-    while let Some((step, answer)) = go_on(kernel) {
+    while let Some((step, answer)) = kernel.step_next() {
         append(kernel, history, accounts, seat, step, answer);
     }
 }

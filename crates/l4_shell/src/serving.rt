@@ -1,6 +1,5 @@
 //! What follows a call's start: the steps that come next, and the acts of served threads.
-ghost use Rattle.std.specs.Prelude.{◌≡◌, ℕ, List, MatchOption, Ok};
-ghost use Rattle.l4_ipc.specs.Steps.{Steps, IsNext, IsIdle};
+ghost use Rattle.std.specs.Prelude.{◌≡◌, ℕ, List};
 ghost use Rattle.l4_text.specs.Streams.{Tells};
 ghost use Rattle.l4_shell.specs.Sessions.{session, step_line, ended_text, step_text, is_among, waiting_text, GoesOn};
 ghost use Rattle.l4_shell.specs.Inside.Telling.{TellsSteps, TellsActs};
@@ -59,21 +58,6 @@ fn has_ended(answer: &Answer, thread: u32) -> bool
     answer.ended.as_slice().contains(&thread)
 }
 
-/// Does the step that comes next. None where there is none.
-fn go_on(kernel: &mut Kernel) -> Option<(Step, Answer)>
-    ensures next { MatchOption result (IsIdle kernel.old) (λ d. IsNext kernel.old d.0
-        × Steps kernel.old d.0 (Ok d.1) kernel.new) }
-    ensures still { result ≡ None → kernel.new ≡ kernel.old }
-{
-    let Some(step) = kernel.enabled() else {
-        return None;
-    };
-    let Ok(answer) = kernel.step(&step) else {
-        return None;
-    };
-    Some((step, answer))
-}
-
 /// Tells that a thread's call has not ended.
 fn tell_waiting<W: Write>(thread: u32, ended: bool, out: &mut Output, writer: &mut W)
     ensures { Tells (W.contents writer.old) (W.contents writer.new) out.old out.new
@@ -89,7 +73,7 @@ fn settle<W: Write>(kernel: &mut Kernel, thread: u32, out: &mut Output, writer: 
     ensures { TellsSteps kernel.old thread result kernel.new (W.contents writer.old) (W.contents writer.new) out.old out.new }
 {
     let mut ended = false;
-    while let Some((step, answer)) = go_on(kernel) {
+    while let Some((step, answer)) = kernel.step_next() {
         tell(kernel, &step, &answer, out, writer);
         ended = ended | has_ended(&answer, thread);
     }

@@ -1,4 +1,4 @@
-use Rattle.std.proofs.Common.{refl, sym, subst, arith, vec_len, vec_capacity}
+use Rattle.std.proofs.Common.{sym, subst, arith, vec_len, vec_capacity}
 use Rattle.l4_ipc.specs.Machine.{Machine}
 use Rattle.l4_lock.specs.Inside.Entering.{Went}
 use Rattle.l4_lock.proofs.Going.{going_first, going_more, going_done}
@@ -10,19 +10,19 @@ loop-step-init c = going_first _ _ _ _ _ _ c.law_consistent.ensures c.requires
 
 pub append-requires : goal.append-requires
 append-requires c =
-    let less = fewer _ _ c.in-Some.step c.in-Some.answer c.in-Some.ensures.next.0 c.in-Some.ensures.next.1 in
+    let less = fewer _ _ c.in-Some.step c.in-Some.answer c.in-Some.ensures.0 c.in-Some.ensures.1 in
     let room = c.loop-step.invariant.room in
     omega (arith, less, room)
 
 pub loop-step-smaller : goal.loop-step-smaller
-loop-step-smaller c = fewer _ _ c.in-Some.step c.in-Some.answer c.in-Some.ensures.next.0 c.in-Some.ensures.next.1
+loop-step-smaller c = fewer _ _ c.in-Some.step c.in-Some.answer c.in-Some.ensures.0 c.in-Some.ensures.1
 
 pub loop-step-preserved : goal.loop-step-preserved
 loop-step-preserved c =
-    going_more _ _ _ _ _ _ _ _ _ _ _ _ _ _ c.in-Some.step c.in-Some.answer c.loop-step.invariant c.in-Some.ensures.next.0 c.in-Some.ensures.next.1
+    going_more _ _ _ _ _ _ _ _ _ _ _ _ _ _ c.in-Some.step c.in-Some.answer c.loop-step.invariant c.in-Some.ensures.0 c.in-Some.ensures.1
     c.append.ensures.history c.append.ensures.accounts c.append.ensures.room.0 c.append.ensures.room.1
 
 pub returns-clause-went : goal.returns-clause-went
 returns-clause-went c =
-    subst (λ (m : Machine). Went c.args.seat c.args.kernel.now m c.args.history.now.entries c.loop-step.history.entries c.args.accounts.now.items c.loop-step.accounts.items) (sym (c.in_default.ensures.still refl))
+    subst (λ (m : Machine). Went c.args.seat c.args.kernel.now m c.args.history.now.entries c.loop-step.history.entries c.args.accounts.now.items c.loop-step.accounts.items) (sym c.in_default.ensures.1)
     (going_done _ _ _ _ _ _ _ _ _ c.loop-step.invariant c.law_consistent.ensures)
