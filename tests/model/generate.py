@@ -1,0 +1,536 @@
+"""Makes random lists of kernel steps and random scripts that reach deep states: chains, wide trees, grants under grants, entangled
+messages, long queues, deletions under waiting partners, served faults and delegations.
+
+A maker looks at the model, so most of what it makes can be done; some of it can't, and some can't even be read.
+"""
+from machine import Sending
+from words import ANY_THREAD, PAGES
+
+ROOT = 2
+COMPLETE = 0x10
+NEVER, SEND_AT_ONCE, RECEIVE_AT_ONCE = 0, 0x04000000, 0x0400
+# where pages lie that are mapped on: at the space's ends, and over a border between two tables of 1,024 pages
+POOLS = [range(0, 12), range(0, 40), range(1016, 1036), range(PAGES - 16, PAGES), range(4, 8)]
+LONGEST_MESSAGE = 31
+MOST_REFUSALS = 30
+
+
+def ident(number):
+    return number * 16384 + 1
+
+
+class Maker:
+    """What lists of steps and scripts have in common: words, partners, and the kinds of lists by their weights."""
+
+    def __init__(self, random, model):
+        self.random = random
+        self.model = model
+        self.machine = model.machine
+        self.pool = random.choice(POOLS)
+        self.most_threads = random.choice([4, 6, 9, 12])
+        self.grants = random.choice([0.1, 0.3, 0.6])
+        self.largest = random.choice([12, 13, 15])
+        self.planned = []
+        self.refusals = 0
+        self.weights = [weight * random.choice([0.1, 1, 1, 4]) for weight in self.PLANS.values()]
+
+    def line(self):
+        """The next line: of what is planned, or one that lets a thread go on where few run, or any."""
+        if self.planned and self.random.random() < 0.97:
+            return self.planned.pop(0)
+        if (len(self.free()) < 3 or self.machine.threads[ROOT].phase) and self.random.random() < 0.8:
+            return self.freeing_line()
+        if not self.planned and self.random.random() < 0.1:
+            name = self.random.choices(list(self.PLANS), self.weights)[0]
+            self.planned = list(getattr(self, "plan_" + name)())
+        return self.any_line()
+
+    def hear(self, answer):
+        """What the last line was answered: a plan is mostly given up where something in it is refused."""
+        self.refusals = self.refusals + 1 if "refused" in answer else 0
+        if self.refusals and self.random.random() < 0.3:
+            self.planned = []
+
+    def is_stuck(self):
+        """Whether nothing seems to go on any more, as where root and sigma0 wait for each other."""
+        return self.refusals > MOST_REFUSALS
+
+    # threads
+
+    def thread(self):
+        """A thread's number: mostly one that is there."""
+        if self.random.random() < 0.03:
+            return self.random.randrange(0, 70)
+        return self.random.choice(list(self.machine.threads))
+
+    def free(self):
+        """The threads that run, but for root, which is to go on so that it can create and delete others."""
+        return [number for number, thread in self.machine.threads.items() if thread.phase is None and number != ROOT]
+
+    def running(self):
+        runs = self.free()
+        if not runs or self.random.random() < 0.03:
+            return self.thread()
+        shows = {space for space, _ in self.machine.places}
+        with_pages = [number for number in runs if self.machine.threads[number].space in shows]
+        return self.random.choice(with_pages if with_pages and self.random.random() < 0.5 else runs)
+
+    def waiting(self):
+        return [number for number, thread in self.machine.threads.items() if thread.phase is not None]
+
+    def blocked(self, waiting):
+        """A thread that waits, and one that runs and could let it go on; or one that root is to delete, and None."""
+        threads = self.machine.threads
+        number = ROOT if threads[ROOT].phase is not None else self.random.choice(waiting)
+        phase = threads[number].phase
+        partner = phase.partner if isinstance(phase, Sending) else self.machine.named(phase.partner)
+        if partner is None:
+            partner = self.random.choice(self.free() or [ROOT])
+        if number > ROOT and (threads[partner].phase is not None or self.random.random() < 0.5):
+            return number, None
+        if threads[partner].phase is not None and partner > ROOT:
+            return partner, None
+        return number, partner
+
+    def partner_to_send(self, number):
+        """Whom to send to: mostly somebody who waits for it."""
+        waits = [n for n in self.machine.threads if self.machine.accepts(n, number)] if number in self.machine.threads else []
+        return self.random.choice(waits) if waits and self.random.random() < 0.7 else self.thread()
+
+    def new_number(self):
+        free = [n for n in range(3, 3 + self.most_threads) if n not in self.machine.threads]
+        return self.random.choice(free) if free and self.random.random() < 0.95 else self.thread()
+
+    # words
+
+    def page(self):
+        return self.random.choice(self.pool)
+
+    def page_of(self, number):
+        """A page that the thread shows, or any."""
+        thread = self.machine.threads.get(number)
+        pages = self.machine.pages(thread.space) if thread else []
+        return self.random.choice(pages)[0] if pages and self.random.random() < 0.9 else self.page()
+
+    def rights(self):
+        return self.random.choice([7, 7, 7, 7, 6, 5, 4, 3, 2, 1, 0])
+
+    def fpage(self, page, rights):
+        """A word for an fpage about this page, spelled in any of its ways."""
+        chance = self.random.random()
+        if chance < 0.02:
+            return self.random.choice([rights, 0x10 | rights, 0x200 | rights | self.page() << 12, 0xA0 | rights, 0xB0 | rights])
+        if chance < 0.03:
+            return self.random.getrandbits(32)
+        log = 12 if self.random.random() < 0.6 else self.random.randint(10, self.largest)
+        word = page << 12 | log << 4 | rights | self.random.choice([0, 0, 0, 8])
+        return word if self.random.random() < 0.8 else word | self.random.getrandbits(2) << 10
+
+    def window(self):
+        chance = self.random.random()
+        if chance < 0.75:
+            return COMPLETE
+        if chance < 0.85:
+            return 0
+        return self.fpage(self.page(), self.random.randrange(16)) if chance < 0.98 else self.random.getrandbits(10)
+
+    def item(self, number):
+        kind = 10 if self.random.random() < self.grants else 8
+        if self.random.random() < 0.005:
+            kind = self.random.randrange(16)
+        middle = self.random.getrandbits(10) & 0x3F0 if self.random.random() < 0.1 else 0
+        source = self.page_of(number)
+        target = source if self.random.random() < 0.2 else self.page()
+        return [target << 12 | middle | kind | self.random.getrandbits(1), self.fpage(source, self.rights())]
+
+    def message(self, number):
+        """A message's words: a tag, some words, some items, and now and then words that are not counted, or too few."""
+        random = self.random
+        untyped = random.choice([0, 0, 0, 1, 2, 5])
+        items = random.choice([0, 1, 1, 1, 1, 2, 2, 3, 5]) if random.random() < 0.97 else random.randint(6, LONGEST_MESSAGE)
+        untyped = min(untyped, 63 - 2 * items)
+        words = [random.getrandbits(16) << 16 | 2 * items << 6 | untyped]
+        words += [random.getrandbits(32) for _ in range(untyped)]
+        for _ in range(items):
+            words += self.item(number)
+        chance = random.random()
+        if chance < 0.02 and len(words) < 60:
+            words += [random.getrandbits(32) for _ in range(random.randint(1, 4))]
+        elif chance < 0.03:
+            words.pop()
+        elif chance < 0.04 and words:
+            words[0] ^= 1 << random.randrange(32)
+        return words
+
+    def timeouts(self):
+        chance = self.random.random()
+        if chance < 0.6:
+            return NEVER
+        return self.random.choice([SEND_AT_ONCE, RECEIVE_AT_ONCE, SEND_AT_ONCE | RECEIVE_AT_ONCE, 1 if chance > 0.98 else NEVER])
+
+    def unmap_words(self, number):
+        count = self.random.choice([1, 1, 1, 2, 3, 8])
+        words = [self.fpage(self.page_of(number), self.rights()) for _ in range(count)]
+        control = count - 1 | self.random.choice([0, 0x40]) | self.random.choice([0, 0, 0x80])
+        if self.random.random() < 0.02:
+            control ^= 1 << self.random.randrange(6)
+        return control, words
+
+    def pair(self, count=2):
+        """Different threads that run, as many as are asked for where there are as many, and in front one that shows a page."""
+        numbers = self.free() if self.random.random() < 0.95 else list(self.machine.threads)
+        self.random.shuffle(numbers)
+        shows = {space for space, _ in self.machine.places}
+        numbers.sort(key=lambda number: self.machine.threads[number].space not in shows)
+        return ((numbers or [1]) * count)[:count]
+
+    # plans
+
+    def sharing(self):
+        """Two threads that run and share a space, with pages where there are such, or any two."""
+        runs = self.free()
+        pairs = [(a, b) for a in runs for b in runs if a != b and self.machine.threads[a].space == self.machine.threads[b].space]
+        shows = {space for space, _ in self.machine.places}
+        pairs = [pair for pair in pairs if self.machine.threads[pair[0]].space in shows] or pairs
+        return list(self.random.choice(pairs)) if pairs else self.pair()
+
+    def plan_family(self):
+        """A space maps a page on within itself, and then hands on the page with its descendants in one message, most of it granted."""
+        giver, taker = self.sharing()
+        other = self.random.choice([number for number in self.free() if number not in (giver, taker)] or [taker])
+        pages = [self.page_of(giver)]
+        for _ in range(self.random.choice([1, 2, 3])):
+            page = self.page() if self.random.random() < 0.8 else self.random.choice(pages)
+            yield from self.hand_on(giver, taker, self.one_item(self.random.choice(pages), page, self.random.choice([7, 7, 6, 5])))
+            pages.append(page)
+        self.random.shuffle(pages)
+        words = [2 * len(pages) << 6]
+        for page in pages:
+            words += [self.page() << 12 | self.random.choice([8, 10, 10]), page << 12 | 0xC0 | self.rights()]
+        yield from self.hand_on(giver, other, words)
+
+    def one_item(self, source, target, rights, kind=8):
+        return [0x80, target << 12 | kind, source << 12 | 0xC0 | rights]
+
+    def plan_chain(self):
+        giver, taker = self.pair()
+        page, at = self.page_of(giver), self.page()
+        for _ in range(self.random.choice([4, 12, 30, 60])):
+            yield from self.hand_on(giver, taker, self.one_item(page, at, self.random.choice([7, 7, 7, 6, 5])))
+            page, at = at, (at + 1) % PAGES
+            giver, taker = taker, giver
+        yield self.any_unmap(self.random.choice([giver, taker]))
+
+    def plan_tree(self):
+        giver, taker, other = self.pair(3)
+        page, at = self.page_of(giver), self.random.choice([self.page(), 2048])
+        width = self.random.choice([3, 10, LONGEST_MESSAGE])
+        words = [2 * width << 6]
+        for k in range(width):
+            words += [(at + k) % PAGES << 12 | 8, page << 12 | 0xC0 | self.rights()]
+        yield from self.hand_on(giver, taker, words)
+        for k in range(0, width, 3):
+            yield from self.hand_on(taker, other, self.one_item((at + k) % PAGES, (at + width + k) % PAGES, 7))
+        yield self.any_unmap(giver)
+
+    def plan_grants(self):
+        """A page with children is granted from thread to thread, with fewer and fewer rights, and mapped on in between."""
+        giver, taker, other = self.pair(3)
+        page = self.page_of(giver)
+        for rights in (7, self.random.choice([7, 6, 5]), self.random.choice([6, 4, 3]), self.random.choice([4, 2, 0])):
+            yield from self.hand_on(giver, other, self.one_item(page, self.page(), 7))
+            at = self.page()
+            yield from self.hand_on(giver, taker, self.one_item(page, at, rights, 10))
+            giver, taker, other = taker, other, giver
+            page = at
+
+
+class StepMaker(Maker):
+    """Makes lists of kernel steps."""
+
+    PLANS = {"chain": 1, "tree": 1, "grants": 2, "family": 2, "queue": 0.2, "fault": 1, "spaces": 1}
+
+    def any_line(self):
+        random = self.random
+        step = self.machine.enabled()
+        if step is not None and random.random() < 0.8:
+            return " ".join(map(str, step))
+        if random.random() < 0.08:
+            return random.choice([f"transfer {self.thread()} {self.thread()}", f"expire {self.thread()}"])
+        number = self.running()
+        kind = random.choices(["ipc", "unmap", "fault", "create", "setpager", "delete"], [60, 8, 8, 8, 3, 4])[0]
+        return getattr(self, "any_" + kind)(number)
+
+    def freeing_line(self):
+        """Lets somebody go on who waits: it gets a message or is received from, or is deleted, or there is a thread more."""
+        random = self.random
+        step = self.machine.enabled()
+        if step is not None:
+            return " ".join(map(str, step))
+        waiting = self.waiting()
+        if not waiting or (len(self.machine.threads) < self.most_threads and random.random() < 0.6):
+            return self.any_create(ROOT)
+        number, partner = self.blocked(waiting)
+        if partner is None:
+            return f"start 2 delete {ident(number):#x}"
+        if isinstance(self.machine.threads[number].phase, Sending):
+            return self.ipc(partner, 0, ANY_THREAD, RECEIVE_AT_ONCE, self.window(), [])
+        return self.ipc(partner, self.machine.threads[number].ident, 0, SEND_AT_ONCE, 0, self.message(partner))
+
+    def ident_of(self, number):
+        """The id of a thread, or one that names nobody."""
+        chance = self.random.random()
+        if chance < 0.02:
+            return self.random.choice([0, ANY_THREAD, 1, ident(number) + 1, ident(number) + 64, number * 16384, self.random.getrandbits(32)])
+        thread = self.machine.threads.get(number)
+        return thread.ident if thread else ident(number)
+
+    def any_ipc(self, number):
+        to = self.ident_of(self.partner_to_send(number)) if self.random.random() < 0.6 else 0
+        partner = 0
+        if to == 0 or self.random.random() < 0.4:
+            partner = ANY_THREAD if self.random.random() < 0.6 else self.ident_of(self.thread())
+        return self.ipc(number, to, partner, self.timeouts(), self.window(), self.message(number) if to else [])
+
+    def ipc(self, number, to, partner, timeouts, window, words):
+        front = f"start {number} ipc {to:#x} {partner:#x} {timeouts:#x} {window:#x}"
+        return " ".join([front] + [f"{word:#x}" for word in words[:64]])
+
+    def any_unmap(self, number):
+        control, words = self.unmap_words(number)
+        return " ".join([f"start {number} unmap {control:#x}"] + [f"{word:#x}" for word in words])
+
+    def any_fault(self, number):
+        address = self.page_of(number) if self.random.random() < 0.3 else self.page()
+        return f"start {number} fault {address << 12 | self.random.getrandbits(12):#x} {self.random.getrandbits(32):#x} {self.rights()}"
+
+    def any_create(self, number):
+        if len(self.machine.threads) >= self.most_threads and self.random.random() < 0.9:
+            return self.any_delete(number)
+        number = self.new_number()
+        word = ident(number) if self.random.random() < 0.8 else self.ident_of(number)
+        space = word if self.random.random() < 0.5 else self.ident_of(self.thread())
+        return self.create(word, space, self.ident_of(self.thread()))
+
+    def create(self, word, space, pager):
+        caller = 2 if self.random.random() < 0.9 else self.thread()
+        return f"start {caller} create {word:#x} {space:#x} {pager:#x}"
+
+    def any_setpager(self, _):
+        return f"start 2 setpager {self.ident_of(self.thread()):#x} {self.ident_of(self.thread()):#x}"
+
+    def any_delete(self, number):
+        caller = 2 if self.random.random() < 0.9 else number
+        return f"start {caller} delete {self.ident_of(self.thread()):#x}"
+
+    # plans
+
+    def hand_on(self, giver, taker, words):
+        """The giver's message to the taker, which waits for it."""
+        yield self.ipc(taker, 0, ANY_THREAD, 0, COMPLETE, [])
+        yield self.ipc(giver, self.ident_of(taker), 0, 0, 0, words)
+        yield f"transfer {giver} {taker}"
+
+    def plan_queue(self):
+        """As many senders as there can be, of which some give up at once, one is deleted and one receives in turn."""
+        receiver = self.random.choice([1, 2, 3])
+        for number in range(3, 66):
+            if number not in self.machine.threads:
+                yield f"start 2 create {ident(number):#x} {ident(self.random.choice([1, 2, number])):#x} 0x4001"
+        senders = self.random.sample(range(3, 67), 60)
+        for number in senders:
+            timeouts = SEND_AT_ONCE if self.random.random() < 0.05 else NEVER
+            partner = self.random.choice([0, 0, ident(receiver), ANY_THREAD])
+            yield self.ipc(number, ident(receiver), partner, timeouts, COMPLETE, [number << 16])
+        for number in senders[:10]:
+            partner = ANY_THREAD if self.random.random() < 0.5 else ident(number)
+            yield self.ipc(receiver, 0, partner, RECEIVE_AT_ONCE, 0, [])
+            yield f"transfer {self.random.choice(senders)} {receiver}"
+            yield f"transfer {senders[0] if partner == ANY_THREAD else number} {receiver}"
+            yield f"start 2 delete {ident(self.random.choice(senders)):#x}"
+        yield f"start 2 delete {ident(receiver):#x}"
+        for number in senders[10:]:
+            if self.random.random() < 0.9:
+                yield f"start 2 delete {ident(number):#x}"
+
+    def plan_fault(self):
+        pager, user = self.pair()
+        yield f"start 2 setpager {self.ident_of(user):#x} {self.ident_of(pager):#x}"
+        yield self.ipc(pager, 0, ANY_THREAD, 0, self.window(), [])
+        at = self.page()
+        yield f"start {user} fault {at << 12 | 0x678:#x} 0x400100 {self.rights()}"
+        yield f"transfer {user} {pager}"
+        if self.random.random() < 0.2:
+            yield f"start 2 delete {self.ident_of(self.random.choice([pager, user])):#x}"
+        words = self.one_item(self.page_of(pager), at, self.rights(), self.random.choice([8, 8, 10]))
+        yield self.ipc(pager, self.ident_of(user), ANY_THREAD, SEND_AT_ONCE, 0, words)
+        yield f"transfer {pager} {user}"
+
+    def plan_spaces(self):
+        """A thread gets pages in a space of its own, hands them on, and is deleted while others wait for it."""
+        number = self.new_number()
+        giver, taker = self.pair()
+        yield self.create(ident(number), ident(number), 0x4001)
+        at = self.page()
+        yield from self.hand_on(giver, number, self.one_item(self.page_of(giver), at, 7))
+        yield from self.hand_on(number, taker, self.one_item(at, self.page(), self.rights(), self.random.choice([8, 10])))
+        yield self.ipc(giver, ident(number), ANY_THREAD, 0, COMPLETE, self.one_item(self.page_of(giver), at, 7))
+        yield self.ipc(taker, 0, ident(number), 0, COMPLETE, [])
+        yield f"start 2 delete {ident(number):#x}"
+
+
+class ScriptMaker(Maker):
+    """Makes scripts."""
+
+    PLANS = {"chain": 1, "tree": 1, "grants": 2, "family": 2, "queue": 0.2, "serve": 1, "pagers": 2, "regions": 0.2, "spaces": 1}
+
+    def any_line(self):
+        random = self.random
+        if random.random() < 0.01:
+            return random.choice(["", "  ", "# a comment", "frob 1", "show 1 0", "send 1", "recv 1 any 0x20", "parent 1 4294967296", "thread 0 new nil"])
+        number = self.running()
+        kinds = ["send", "recv", "ipc", "unmap", "fault", "thread", "setpager", "delete", "delegate", "region", "serve", "show", "parent"]
+        kind = random.choices(kinds, [22, 14, 14, 8, 8, 6, 2, 3, 6, 3, 3, 2, 2])[0]
+        return getattr(self, "any_" + kind)(number)
+
+    def freeing_line(self):
+        """Lets somebody go on who waits: it gets a message or is received from, or is deleted, or there is a thread more."""
+        random = self.random
+        waiting = [number for number in self.waiting() if number not in self.model.served]
+        if not waiting or (len(self.machine.threads) < self.most_threads and random.random() < 0.6):
+            return self.any_thread(ROOT)
+        number, partner = self.blocked(waiting)
+        if partner is None:
+            return f"delete {number}"
+        if isinstance(self.machine.threads[number].phase, Sending):
+            return f"ipc {partner} nil any {RECEIVE_AT_ONCE:#x} {self.window():#x}"
+        return f"ipc {partner} {number} nil {SEND_AT_ONCE:#x} 0" + self.words(self.message(partner))
+
+    def who(self, number):
+        return self.random.choice(["nil", "any"]) if self.random.random() < 0.02 else number
+
+    def words(self, words):
+        return "".join(f" {word:#x}" for word in words[:64])
+
+    def any_send(self, number):
+        return f"send {number} {self.who(self.partner_to_send(number))}" + self.words(self.message(number))
+
+    def any_recv(self, number):
+        partner = "any" if self.random.random() < 0.6 else self.thread()
+        return f"recv {number} {partner} {self.window():#x}"
+
+    def any_ipc(self, number):
+        to = self.who(self.partner_to_send(number))
+        partner = self.random.choice([to, "any", self.thread(), "nil"])
+        return f"ipc {number} {to} {partner} {self.timeouts():#x} {self.window():#x}" + self.words(self.message(number))
+
+    def any_unmap(self, number):
+        control, words = self.unmap_words(number)
+        return f"unmap {number} {control:#x}" + self.words(words)
+
+    def any_fault(self, number):
+        address = self.page() << 12 | self.random.getrandbits(12)
+        return f"fault {number} {address:#x} {self.random.getrandbits(32):#x} {self.rights_text()}"
+
+    def rights_text(self):
+        return "".join(self.random.choice([c, c, c, "-"]) for c in "rwx")
+
+    def any_thread(self, number):
+        if len(self.machine.threads) >= self.most_threads and self.random.random() < 0.9:
+            return self.any_delete(number)
+        space = "new" if self.random.random() < 0.6 else self.thread()
+        pager = "nil" if self.random.random() < 0.1 else self.thread()
+        return f"thread {self.new_number()} {space} {pager}"
+
+    def any_setpager(self, _):
+        return f"setpager {self.thread()} {self.thread()}"
+
+    def any_delete(self, _):
+        return f"delete {self.thread()}"
+
+    def any_delegate(self, number):
+        count = self.random.choice([0, 1, 2, 3, 5, 8, 13, 30, 40, 64, 4096, PAGES])
+        to = self.who(self.partner_to_send(number))
+        return f"delegate {number} {to} {self.page_of(number)} {self.page()} {count} {self.rights_text()}"
+
+    def any_region(self, _):
+        count = self.random.choice([0, 1, 1, 2, 4, PAGES]) if self.random.random() < 0.3 else self.random.randint(1, 3)
+        number = self.thread()
+        return f"region {number} {self.page()} {self.page_of(number)} {count} {self.rights_text()}"
+
+    def any_serve(self, number):
+        return f"serve {number}"
+
+    def any_show(self, number):
+        return f"show {number} {self.page()} {self.random.choice([0, 1, 5, PAGES, 0xFFFFFFFF])}"
+
+    def any_parent(self, number):
+        return f"parent {number} {self.page_of(number)}"
+
+    # plans
+
+    def hand_on(self, giver, taker, words):
+        yield f"recv {taker} {self.random.choice(['any', giver])} 0x10"
+        yield f"send {giver} {taker}" + self.words(words)
+
+    def plan_queue(self):
+        receiver = self.random.choice([1, 2, 3])
+        for number in range(3, 66):
+            if number not in self.machine.threads:
+                yield f"thread {number} {self.random.choice([1, 2, 'new'])} 1"
+        senders = self.random.sample(range(3, 67), 60)
+        for number in senders:
+            timeouts = SEND_AT_ONCE if self.random.random() < 0.05 else NEVER
+            partner = self.random.choice(["nil", "nil", receiver, "any"])
+            yield f"ipc {number} {receiver} {partner} {timeouts:#x} 0x10 {number << 16:#x}"
+        for number in senders[:10]:
+            yield f"recv {receiver} {self.random.choice(['any', number])} 0"
+            yield f"delete {self.random.choice(senders)}"
+        yield f"delete {receiver}"
+        for number in senders[10:]:
+            if self.random.random() < 0.9:
+                yield f"delete {number}"
+
+    def plan_serve(self):
+        """sigma0 is served: threads fault and ask for frames."""
+        yield "serve 1"
+        for _ in range(self.random.randint(2, 8)):
+            number, page = self.running(), self.page()
+            yield f"setpager {number} 1"
+            yield f"fault {number} {page << 12:#x} 0 {self.rights_text()}"
+            asked = self.fpage(page, self.rights())
+            yield f"ipc {self.running()} 1 1 0 {self.window():#x} 0xffa00002 {asked:#x} {self.random.choice([0, 0, 0, 1])}"
+
+    def plan_pagers(self):
+        """A pager behind a pager behind sigma0, each served, and threads that fault at the last."""
+        first, second, user, other = self.pair(4)
+        yield "serve 1"
+        yield f"setpager {first} 1"
+        yield f"setpager {second} {first}"
+        for pager, behind in ((first, 1), (second, first)):
+            at = self.page()
+            yield f"ipc {pager} {behind} {behind} 0 0x10 0xffe40002 {at << 12:#x} 0"
+            yield f"region {pager} {self.page()} {at} {self.random.randint(1, 4)} {self.rights_text()}"
+            yield f"serve {pager}"
+        for number in (user, other, user):
+            yield f"setpager {number} {self.random.choice([first, second])}"
+            yield f"fault {number} {self.page() << 12:#x} 0x400100 {self.rights_text()}"
+        if self.random.random() < 0.3:
+            yield f"delete {self.random.choice([first, second])}"
+
+    def plan_regions(self):
+        """A table of regions is filled up."""
+        number = self.thread()
+        for k in range(self.random.choice([3, 3, 5, 66])):
+            yield f"region {number} {2 * k} {self.page()} {self.random.choice([1, 1, 2, 3])} {self.rights_text()}"
+
+    def plan_spaces(self):
+        number = self.new_number()
+        giver, taker = self.pair()
+        yield f"thread {number} new 1"
+        at = self.page()
+        yield from self.hand_on(giver, number, self.one_item(self.page_of(giver), at, 7))
+        yield from self.hand_on(number, taker, self.one_item(at, self.page(), self.rights(), self.random.choice([8, 10])))
+        yield f"ipc {giver} {number} any 0 0x10" + self.words(self.one_item(self.page_of(giver), at, 7))
+        yield f"recv {taker} {number} 0x10"
+        yield f"delete {number}"

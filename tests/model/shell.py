@@ -1,0 +1,362 @@
+"""What is answered to a script, line by line: the commands, the served threads, sigma0's table and the tables of regions."""
+from machine import SIGMA0_ID, Machine
+from steps import RIGHTS
+from words import ANY_THREAD, ERROR_TAG, FULL_RIGHTS, NIL_THREAD, PAGE_LOG, PAGES, WORDS, Refused, read_fpage, write_fpage
+
+ROOT = 2
+NUMBERS = 1 << 18
+COMPLETE_WINDOW = 0x10
+NIL_ITEM = (0x80, 8, 0)
+ONE_ITEM = 0x80
+RECEIVE_AT_ONCE = 0x04000000
+REGIONS = 64
+PLAN_ITEMS = 31
+ACTS = 256
+LONGEST_LINE = 4096
+NO_SPACE = (1 << 64) - 1
+DIGITS = {10: set("0123456789"), 16: set("0123456789abcdefABCDEF")}
+LONGEST_NUMBER = {10: 10, 16: 8}
+
+
+def ident(number):
+    return number * 16384 + 1
+
+
+def fault_of(words):
+    """The access and the page of a fault message, or None where the message is none."""
+    label, counts = words[0] >> 16, words[0] & 0xFFF
+    if counts == 2 and 0xFFE0 <= label <= 0xFFE7:
+        return label & FULL_RIGHTS, words[1] >> PAGE_LOG
+    return None
+
+
+class Sigma0:
+    """Who owns which frame."""
+
+    def __init__(self, frames):
+        self.frames = frames
+        self.owners = {}
+
+    def answer(self, space, words):
+        fault = fault_of(words)
+        if fault:
+            asked = read_fpage(write_fpage(fault[1] << PAGE_LOG, PAGE_LOG, 0))
+        elif words[0] == 0xFFA00002 and words[2] == 0:
+            asked = read_fpage(words[1] & ~15)
+        else:
+            asked = None
+        pages = asked.pages() if asked else range(0)
+        if not pages or pages[-1] >= self.frames:
+            return NIL_ITEM
+        if any(self.owners.get(page, space) != space for page in pages):
+            return NIL_ITEM
+        self.owners.update((page, space) for page in pages)
+        return (ONE_ITEM, asked.base | 8, write_fpage(asked.base, asked.log, FULL_RIGHTS))
+
+
+def region_answer(regions, words):
+    fault = fault_of(words)
+    if fault:
+        access, page = fault
+        for first, source, count, rights in regions:
+            if first <= page < first + count and rights & access == access:
+                at = (source + page - first) << PAGE_LOG
+                return (ONE_ITEM, page << PAGE_LOG | 8, write_fpage(at, PAGE_LOG, rights))
+    return NIL_ITEM
+
+
+def plan_words(source, target, count, rights):
+    """The message that moves just a region by the fewest map items: again and again the largest block that may move."""
+    if count == 0:
+        raise Refused("N1")
+    if source + count > PAGES or target + count > PAGES:
+        raise Refused("N2")
+    if rights == 0:
+        raise Refused("N3")
+    items = []
+    page = source
+    while page < source + count:
+        log = 0
+        while is_allowed(page, log + 1, source, target, count):
+            log += 1
+        items.append(((target + page - source) << PAGE_LOG, write_fpage(page << PAGE_LOG, log + PAGE_LOG, rights)))
+        page += 1 << log
+        if len(items) > PLAN_ITEMS:
+            raise Refused("N4")
+    if count == PAGES:
+        items = [(0, write_fpage(0, 1, rights))]
+    words = [2 * len(items) << 6]
+    for k, (base, fpage) in enumerate(items):
+        words += [base | 8 | (k + 1 < len(items)), fpage]
+    return tuple(words)
+
+
+def is_allowed(page, log, source, target, count):
+    """Whether the 2^log pages from this one on lie in the region, and are a block at both ends."""
+    there = target + page - source
+    return page + (1 << log) <= source + count and page % (1 << log) == 0 and there % (1 << log) == 0
+
+
+class BadTokens(Exception):
+    """A token that can't be read, or too few or too many."""
+
+
+class Tokens:
+    """The tokens of a line after its command, taken one by one."""
+
+    def __init__(self, tokens):
+        self.left = list(tokens)
+
+    def take(self):
+        if not self.left:
+            raise BadTokens
+        return self.left.pop(0)
+
+    def number(self, below=1 << 32):
+        token = self.take()
+        digits, base = (token[2:], 16) if token.startswith("0x") else (token, 10)
+        if not 1 <= len(digits) <= LONGEST_NUMBER[base] or not set(digits) <= DIGITS[base]:
+            raise BadTokens
+        number = int(digits, base)
+        if number >= below:
+            raise BadTokens
+        return number
+
+    def thread(self):
+        return self.number(NUMBERS)
+
+    def word_or(self, names):
+        if self.left and self.left[0] in names:
+            return names[self.take()]
+        return ident(self.thread())
+
+    def who(self):
+        return self.word_or({"nil": NIL_THREAD, "any": ANY_THREAD})
+
+    def pager(self):
+        return self.word_or({"nil": NIL_THREAD})
+
+    def rights(self):
+        token = self.take()
+        found = [number for number, text in RIGHTS.items() if text == token]
+        if not found:
+            raise BadTokens
+        return found[0]
+
+    def words(self):
+        if len(self.left) > WORDS:
+            raise BadTokens
+        return tuple(self.number() for _ in list(self.left))
+
+    def end(self):
+        if self.left:
+            raise BadTokens
+
+
+class Shell:
+    """The machine behind a script. `answer` is the text that a line is answered by; a line is a string with a character for each byte."""
+
+    def __init__(self, frames):
+        self.machine = Machine(frames)
+        self.sigma0 = Sigma0(frames)
+        self.served = set()
+        self.regions = {}
+        self.line = 0
+        self.out = []
+
+    def answer(self, line, is_cut=False):
+        """The answer to a line, given without its newline."""
+        self.line += 1
+        self.out = []
+        try:
+            self.carry_out(line, is_cut)
+        except BadTokens:
+            self.refuse("S2")
+        except Refused as refusal:
+            self.refuse(refusal.text())
+        return "".join(text + "\n" for text in self.out)
+
+    def refuse(self, text):
+        self.out.append(f"line {self.line} refused {text}")
+
+    def carry_out(self, line, is_cut):
+        if is_cut:
+            raise Refused("S4")
+        if len(line) > LONGEST_LINE:
+            raise Refused("S3")
+        tokens = [token for token in line.split(" ") if token]
+        if not tokens or line.startswith("#"):
+            return
+        command = getattr(self, "do_" + tokens[0], None) if tokens[0] in COMMANDS else None
+        if command is None:
+            raise Refused("S1")
+        command(Tokens(tokens[1:]))
+
+    # commands
+
+    def do_thread(self, tokens):
+        number = tokens.thread()
+        space = tokens.word_or({"new": ident(number)})
+        pager = tokens.pager()
+        tokens.end()
+        self.enter(ROOT, ("create", ident(number), space, pager))
+
+    def do_recv(self, tokens):
+        number, partner, window = tokens.thread(), tokens.who(), tokens.number()
+        tokens.end()
+        self.enter(number, ("ipc", NIL_THREAD, partner, 0, window, ()))
+
+    def do_send(self, tokens):
+        number, to, words = tokens.thread(), tokens.who(), tokens.words()
+        self.enter(number, ("ipc", to, NIL_THREAD, 0, 0, words))
+
+    def do_ipc(self, tokens):
+        number, to, partner, timeouts, window = tokens.thread(), tokens.who(), tokens.who(), tokens.number(), tokens.number()
+        self.enter(number, ("ipc", to, partner, timeouts, window, tokens.words()))
+
+    def do_unmap(self, tokens):
+        number, control = tokens.thread(), tokens.number()
+        self.enter(number, ("unmap", control, tokens.words()))
+
+    def do_setpager(self, tokens):
+        number, pager = tokens.thread(), tokens.pager()
+        tokens.end()
+        self.enter(ROOT, ("setpager", ident(number), pager))
+
+    def do_delete(self, tokens):
+        number = tokens.thread()
+        tokens.end()
+        self.enter(ROOT, ("delete", ident(number)))
+
+    def do_fault(self, tokens):
+        number, address, ip, access = tokens.thread(), tokens.number(), tokens.number(), tokens.rights()
+        tokens.end()
+        self.enter(number, ("fault", address, ip, access))
+
+    def do_delegate(self, tokens):
+        number, to = tokens.thread(), tokens.who()
+        source, target, count, rights = tokens.number(), tokens.number(), tokens.number(), tokens.rights()
+        tokens.end()
+        self.enter(number, ("ipc", to, NIL_THREAD, 0, 0, plan_words(source, target, count, rights)))
+
+    def do_serve(self, tokens):
+        number = tokens.thread()
+        tokens.end()
+        self.enter(number, ("ipc", NIL_THREAD, ANY_THREAD, 0, 0, ()), serves=True)
+
+    def do_region(self, tokens):
+        number, first, source, count, rights = tokens.thread(), tokens.number(), tokens.number(), tokens.number(), tokens.rights()
+        tokens.end()
+        self.known(number)
+        regions = self.regions.setdefault(number, [])
+        if count == 0 or first + count > PAGES or source + count > PAGES or rights == 0:
+            raise Refused("P4")
+        if any(first < other[0] + other[2] and other[0] < first + count for other in regions):
+            raise Refused("P1")
+        if len(regions) == REGIONS:
+            raise Refused("P3")
+        regions.append((first, source, count, rights))
+        self.out.append("region ok")
+
+    def do_show(self, tokens):
+        number, first, count = tokens.thread(), tokens.number(), tokens.number()
+        tokens.end()
+        shown = 0
+        for page, mapping in self.machine.pages(self.known(number).space):
+            if first <= page < first + count:
+                self.out.append(f"page {page} frame {mapping.frame} {RIGHTS[mapping.rights]}")
+                shown += 1
+        self.out.append(f"shown {shown}")
+
+    def do_parent(self, tokens):
+        number, page = tokens.thread(), tokens.number()
+        tokens.end()
+        mapping = self.machine.places.get((self.known(number).space, page))
+        if mapping is None:
+            self.out.append("absent")
+        elif mapping.parent is None:
+            self.out.append("parent none")
+        else:
+            self.out.append(f"parent {mapping.parent[0]} {mapping.parent[1]}")
+
+    def known(self, number):
+        thread = self.machine.threads.get(number)
+        if thread is None:
+            raise Refused("K2")
+        return thread
+
+    # the calls of a line, and of the served threads after it
+
+    def enter(self, number, call, serves=False):
+        self.waiting = number
+        self.tell(self.machine.start(number, call))
+        if serves:
+            self.served.add(number)
+        if call[0] == "delete":
+            self.forget_ended()
+        self.go_on()
+        for _ in range(ACTS):
+            running = [n for n in sorted(self.served) if self.machine.threads[n].phase is None]
+            if not running:
+                break
+            self.tell(self.machine.start(running[0], self.act(running[0])))
+            self.go_on()
+        if self.waiting is not None:
+            self.out.append(f"{number} waits")
+
+    def act(self, number):
+        """The call that a served thread enters."""
+        reply = self.machine.threads[number].reply
+        if reply is None or reply[0] != "ipc" or reply[1] & ERROR_TAG:
+            return ("ipc", NIL_THREAD, ANY_THREAD, 0, 0, ())
+        _, tag, _, sender, words = reply
+        message = (tag, *words)
+        if self.machine.threads[number].ident == SIGMA0_ID:
+            there = self.machine.named(sender)
+            space = NO_SPACE if there is None else self.machine.threads[there].space
+            answer = self.sigma0.answer(space, message)
+        else:
+            answer = region_answer(self.regions.get(number, []), message)
+        return ("ipc", sender, ANY_THREAD, RECEIVE_AT_ONCE, 0, answer)
+
+    def go_on(self):
+        while (step := self.machine.enabled()) is not None:
+            kind, *numbers = step
+            outcome, ended = getattr(self.machine, kind)(*numbers)
+            self.out.append(" ".join(map(str, step)) + (f" {outcome}" if kind == "transfer" else ""))
+            self.tell((outcome, ended))
+
+    def tell(self, answer):
+        for number, reply in answer[1]:
+            self.out.append(f"{number} {reply_text(reply)}")
+            if number == self.waiting:
+                self.waiting = None
+
+    def forget_ended(self):
+        self.served &= set(self.machine.threads)
+        self.regions = {number: regions for number, regions in self.regions.items() if number in self.machine.threads}
+
+    def questions(self):
+        """The lines that ask for everything that is to be seen."""
+        lines = []
+        told = set()
+        for number in sorted(self.machine.threads):
+            space = self.machine.threads[number].space
+            if space not in told:
+                told.add(space)
+                lines.append(f"show {number} 0 {PAGES}")
+                lines += [f"parent {number} {page}" for page, _ in self.machine.pages(space)]
+        return lines
+
+
+COMMANDS = {name[3:] for name in dir(Shell) if name.startswith("do_")}
+
+
+def reply_text(reply):
+    kind, *rest = reply
+    if kind == "ipc":
+        tag, error, partner, words = rest
+        whose = "nil" if partner == NIL_THREAD else str(partner >> 14)
+        return f"ipc {tag:08x} {error} {whose}" + "".join(f" {word:08x}" for word in words)
+    texts = {"hit": "fault hit", "answered": "fault answered", "failed": "fault failed", "unmapped": "unmap ok", "controlled": "control ok", "gone": "gone"}
+    return " ".join([texts[kind], *map(str, rest)])
