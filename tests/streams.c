@@ -1,0 +1,56 @@
+/* Stands between a program and its standard input and output, by LD_PRELOAD, as the environment says:
+ *   READ_BYTES=N    a read gives at most N bytes
+ *   READ_FAILS=K    read K, counted from 1, and all after it fail
+ *   READ_ENDLESS=C  each read gives this character, and none is the last
+ *   WRITE_BYTES=N, WRITE_FAILS=K    the same of writes to standard output
+ *   WRITE_NONE=K    write K and all after it take nothing
+ */
+#define _GNU_SOURCE
+#include <errno.h>
+#include <stdlib.h>
+#include <sys/syscall.h>
+#include <unistd.h>
+
+static long setting(const char *name) {
+    const char *text = getenv(name);
+    return text ? atol(text) : 0;
+}
+
+static size_t at_most(size_t count, long most) {
+    return most > 0 && (size_t)most < count ? (size_t)most : count;
+}
+
+ssize_t read(int file, void *bytes, size_t count) {
+    static long calls;
+    const char *endless = getenv("READ_ENDLESS");
+    if (file == STDIN_FILENO) {
+        long fails = setting("READ_FAILS");
+        calls++;
+        if (fails && calls >= fails) {
+            errno = EIO;
+            return -1;
+        }
+        count = at_most(count, setting("READ_BYTES"));
+        if (endless && count) {
+            *(char *)bytes = *endless;
+            return 1;
+        }
+    }
+    return syscall(SYS_read, file, bytes, count);
+}
+
+ssize_t write(int file, const void *bytes, size_t count) {
+    static long calls;
+    if (file == STDOUT_FILENO) {
+        long fails = setting("WRITE_FAILS"), none = setting("WRITE_NONE");
+        calls++;
+        if (fails && calls >= fails) {
+            errno = EIO;
+            return -1;
+        }
+        if (none && calls >= none)
+            return 0;
+        count = at_most(count, setting("WRITE_BYTES"));
+    }
+    return syscall(SYS_write, file, bytes, count);
+}
