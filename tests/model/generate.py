@@ -3,14 +3,14 @@ messages, long queues, deletions under waiting partners, served faults and deleg
 
 A maker looks at the model, so most of what it makes can be done; some of it can't, and some can't even be read.
 """
-from machine import Sending
+from machine import ROOT_SPACE, Sending
 from words import ANY_THREAD, PAGES
 
 ROOT = 2
 COMPLETE = 0x10
 NEVER, SEND_AT_ONCE, RECEIVE_AT_ONCE = 0, 0x04000000, 0x0400
 # where pages lie that are mapped on: at the space's ends, and over a border between two tables of 1,024 pages
-POOLS = [range(0, 12), range(0, 40), range(1016, 1036), range(PAGES - 16, PAGES), range(4, 8)]
+POOLS = [range(0, 12), range(0, 40), range(1016, 1036), range(PAGES - 16, PAGES), range(4, 9)]
 LONGEST_MESSAGE = 31
 MOST_REFUSALS = 30
 
@@ -197,6 +197,9 @@ class Maker:
     def plan_family(self):
         """A space maps a page on within itself, and then hands on the page with its descendants in one message, most of it granted."""
         giver, taker = self.sharing()
+        if self.machine.threads[giver].space != self.machine.threads[taker].space:
+            taker = self.new_number()
+            yield self.join(taker, giver)
         other = self.random.choice([number for number in self.free() if number not in (giver, taker)] or [taker])
         pages = [self.page_of(giver)]
         for _ in range(self.random.choice([1, 2, 3])):
@@ -205,8 +208,8 @@ class Maker:
             pages.append(page)
         self.random.shuffle(pages)
         words = [2 * len(pages) << 6]
-        for page in pages:
-            words += [self.page() << 12 | self.random.choice([8, 10, 10]), page << 12 | 0xC0 | self.rights()]
+        for page, at in zip(pages, self.random.sample(self.pool, min(len(pages), len(self.pool)))):
+            words += [at << 12 | self.random.choice([8, 10, 10]), page << 12 | 0xC0 | self.rights()]
         yield from self.hand_on(giver, other, words)
 
     def one_item(self, source, target, rights, kind=8):
@@ -248,13 +251,15 @@ class Maker:
 class StepMaker(Maker):
     """Makes lists of kernel steps."""
 
-    PLANS = {"chain": 1, "tree": 1, "grants": 2, "family": 2, "queue": 0.2, "fault": 1, "spaces": 1}
+    PLANS = {"chain": 2, "tree": 1, "grants": 2, "family": 3, "queue": 0.2, "fault": 1, "spaces": 1}
 
     def any_line(self):
         random = self.random
         step = self.machine.enabled()
         if step is not None and random.random() < 0.8:
             return " ".join(map(str, step))
+        if step is not None and random.random() < 0.4:
+            return f"expire {random.choice(step[1:])}"
         if random.random() < 0.08:
             return random.choice([f"transfer {self.thread()} {self.thread()}", f"expire {self.thread()}"])
         number = self.running()
@@ -312,16 +317,25 @@ class StepMaker(Maker):
         space = word if self.random.random() < 0.5 else self.ident_of(self.thread())
         return self.create(word, space, self.ident_of(self.thread()))
 
+    def controller(self):
+        """Mostly root, or another thread of its space."""
+        chance = self.random.random()
+        home = [number for number, thread in self.machine.threads.items() if thread.space == ROOT_SPACE]
+        return ROOT if chance < 0.65 else self.random.choice(home) if chance < 0.95 else self.thread()
+
     def create(self, word, space, pager):
-        caller = 2 if self.random.random() < 0.9 else self.thread()
-        return f"start {caller} create {word:#x} {space:#x} {pager:#x}"
+        return f"start {self.controller()} create {word:#x} {space:#x} {pager:#x}"
+
+    def join(self, number, other):
+        return f"start 2 create {ident(number):#x} {self.ident_of(other):#x} 0x4001"
 
     def any_setpager(self, _):
-        return f"start 2 setpager {self.ident_of(self.thread()):#x} {self.ident_of(self.thread()):#x}"
+        return f"start {self.controller()} setpager {self.ident_of(self.thread()):#x} {self.ident_of(self.thread()):#x}"
 
-    def any_delete(self, number):
-        caller = 2 if self.random.random() < 0.9 else number
-        return f"start {caller} delete {self.ident_of(self.thread()):#x}"
+    def any_delete(self, _):
+        caller = self.controller()
+        victim = caller if self.random.random() < 0.25 else self.thread()
+        return f"start {caller} delete {self.ident_of(victim):#x}"
 
     # plans
 
@@ -382,7 +396,7 @@ class StepMaker(Maker):
 class ScriptMaker(Maker):
     """Makes scripts."""
 
-    PLANS = {"chain": 1, "tree": 1, "grants": 2, "family": 2, "queue": 0.2, "serve": 1, "pagers": 2, "regions": 0.2, "spaces": 1}
+    PLANS = {"chain": 2, "tree": 1, "grants": 2, "family": 3, "queue": 0.2, "serve": 2, "pagers": 4, "regions": 0.3, "spaces": 1}
 
     def any_line(self):
         random = self.random
@@ -442,6 +456,9 @@ class ScriptMaker(Maker):
         pager = "nil" if self.random.random() < 0.1 else self.thread()
         return f"thread {self.new_number()} {space} {pager}"
 
+    def join(self, number, other):
+        return f"thread {number} {other} 1"
+
     def any_setpager(self, _):
         return f"setpager {self.thread()} {self.thread()}"
 
@@ -491,32 +508,48 @@ class ScriptMaker(Maker):
             if self.random.random() < 0.9:
                 yield f"delete {number}"
 
+    def frame(self):
+        """A frame that sigma0 has, of which there are few, so that many ask for the same."""
+        return self.random.randrange(min(self.model.sigma0.frames, 6))
+
     def plan_serve(self):
         """sigma0 is served: threads fault and ask for frames."""
         yield "serve 1"
         for _ in range(self.random.randint(2, 8)):
-            number, page = self.running(), self.page()
+            number, page = self.running(), self.frame()
             yield f"setpager {number} 1"
             yield f"fault {number} {page << 12:#x} 0 {self.rights_text()}"
             asked = self.fpage(page, self.rights())
             yield f"ipc {self.running()} 1 1 0 {self.window():#x} 0xffa00002 {asked:#x} {self.random.choice([0, 0, 0, 1])}"
 
     def plan_pagers(self):
-        """A pager behind a pager behind sigma0, each served, and threads that fault at the last."""
-        first, second, user, other = self.pair(4)
+        """A pager behind a pager behind sigma0, each served, and threads that fault at them; one may be deleted and made again."""
+        pagers = [number for number in self.free() if number != 1]
+        if len(pagers) < 3:
+            return
+        first, second, *users = self.random.sample(pagers, min(len(pagers), 5))
         yield "serve 1"
         yield f"setpager {first} 1"
         yield f"setpager {second} {first}"
+        at = self.frame()
+        pages = {}
         for pager, behind in ((first, 1), (second, first)):
-            at = self.page()
             yield f"ipc {pager} {behind} {behind} 0 0x10 0xffe40002 {at << 12:#x} 0"
-            yield f"region {pager} {self.page()} {at} {self.random.randint(1, 4)} {self.rights_text()}"
+            pages[pager] = self.page()
+            yield f"region {pager} {pages[pager]} {at} {self.random.randint(1, 4)} {self.rights_text()}"
             yield f"serve {pager}"
-        for number in (user, other, user):
-            yield f"setpager {number} {self.random.choice([first, second])}"
-            yield f"fault {number} {self.page() << 12:#x} 0x400100 {self.rights_text()}"
-        if self.random.random() < 0.3:
-            yield f"delete {self.random.choice([first, second])}"
+            at = pages[pager]
+        for number in users * 2:
+            pager = self.random.choice([first, second])
+            yield f"setpager {number} {pager}"
+            page = (pages[pager] + self.random.choice([0, 0, 0, 1, 5])) % PAGES
+            yield f"fault {number} {page << 12:#x} 0x400100 {self.rights_text()}"
+        if self.random.random() < 0.4:
+            yield f"delete {first}"
+            yield f"thread {first} {self.random.choice(['new', 1])} 1"
+            yield self.random.choice([f"region {first} {pages[first]} {self.page()} 2 rwx", f"show {first} 0 1"])
+            yield f"serve {first}"
+            yield f"fault {users[0]} {pages[first] << 12:#x} 0 {self.rights_text()}"
 
     def plan_regions(self):
         """A table of regions is filled up."""
