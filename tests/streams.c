@@ -1,9 +1,10 @@
-/* Stands between a program and its standard input and output, by LD_PRELOAD, as the environment says:
+/* Stands between a program and its standard input, its standard output and its memory, by LD_PRELOAD, as the environment says:
  *   READ_BYTES=N    a read gives at most N bytes
  *   READ_FAILS=K    read K, counted from 1, and all after it fail
  *   READ_ENDLESS=C  each read gives this character, and none is the last
  *   WRITE_BYTES=N, WRITE_FAILS=K    the same of writes to standard output
  *   WRITE_NONE=K    write K and all after it take nothing
+ *   MEMORY_FAILS=K  growth K of the memory fails, and no other
  */
 #define _GNU_SOURCE
 #include <errno.h>
@@ -53,4 +54,21 @@ ssize_t write(int file, const void *bytes, size_t count) {
         count = at_most(count, setting("WRITE_BYTES"));
     }
     return syscall(SYS_write, file, bytes, count);
+}
+
+extern void *__libc_malloc(size_t);
+extern void *__libc_realloc(void *, size_t);
+
+static int growth_fails(void) {
+    static long growths;
+    long fails = setting("MEMORY_FAILS");
+    return fails && ++growths == fails;
+}
+
+void *malloc(size_t size) {
+    return growth_fails() ? NULL : __libc_malloc(size);
+}
+
+void *realloc(void *old, size_t size) {
+    return growth_fails() ? NULL : __libc_realloc(old, size);
 }
