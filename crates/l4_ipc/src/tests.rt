@@ -10,6 +10,7 @@ use l4_msg::{MsgFault, copied};
 use l4_threads::{Reply, ThreadFault, ThreadId};
 use l4_unmap::UnmapFault;
 use std::alloc::Global;
+use std::process::Abort;
 use std::test::Fail;
 
 const NOBODY: ThreadId = ThreadId(0);
@@ -279,10 +280,10 @@ fn outcome(answer: &Result<Answer, Refused>) -> Option<Outcome> {
     }
 }
 
-#[test]
-fn delegates_what_is_there_at_the_transfer(rt: HostRuntime) -> Result<(), Fail> {
-    let mut kernel = Kernel::boot(rt.alloc(), 256)?;
-    let steps = [
+/// Thread 3 gets pages 0 to 15 from sigma0 and begins to delegate pages 4 to 15 to thread 4. Before the transfer sigma0 takes page 5
+/// back, and after it thread 3 takes back what writes to page 6.
+fn delegation() -> [Step; 11] {
+    [
         create(2, THIRD, THIRD),
         create(2, FOURTH, FOURTH),
         receive(3, SIGMA0, COMPLETE),
@@ -294,23 +295,31 @@ fn delegates_what_is_there_at_the_transfer(rt: HostRuntime) -> Result<(), Fail> 
         Step::Transfer(3, 4),
         unmap(3, 0, &[0x60c2]),
         Step::Transfer(3, 4),
-    ];
-    let wanted = [
-        Some(Outcome::Started),
-        Some(Outcome::Started),
-        Some(Outcome::Started),
-        Some(Outcome::Started),
-        Some(Outcome::Done),
-        Some(Outcome::Started),
-        Some(Outcome::Started),
-        Some(Outcome::Started),
-        Some(Outcome::Done),
-        Some(Outcome::Started),
-        None,
-    ];
-    let answers = kernel.run(&steps)?;
+    ]
+}
+
+/// How those steps end.
+const DELEGATED: [Option<Outcome>; 11] = [
+    Some(Outcome::Started),
+    Some(Outcome::Started),
+    Some(Outcome::Started),
+    Some(Outcome::Started),
+    Some(Outcome::Done),
+    Some(Outcome::Started),
+    Some(Outcome::Started),
+    Some(Outcome::Started),
+    Some(Outcome::Done),
+    Some(Outcome::Started),
+    None,
+];
+
+#[test]
+fn delegates_what_is_there_at_the_transfer(rt: HostRuntime) -> Result<(), Fail> {
+    let mut kernel = Kernel::boot(rt.alloc(), 256)?;
+    let steps = delegation();
+    let answers = kernel.run(steps.as_slice())?;
     assert_eq!(rt; answers.len(), 11);
-    for (answer, want) in answers.iter().zip(wanted) {
+    for (answer, want) in answers.iter().zip(DELEGATED) {
         assert_eq!(rt; outcome(answer), want);
     }
     for page in 4..16 {
@@ -368,6 +377,22 @@ fn enabled_transfers(rt: HostRuntime) -> Result<(), Fail> {
     assert_eq!(rt; answer.ended.as_slice(), [2, 3].as_slice());
     assert!(rt; replied(&kernel, 3, 0x1, 0, ROOT, &[7]));
     assert!(rt; kernel.enabled().is_none());
+    Ok(())
+}
+
+#[test]
+fn steps_that_come_next(rt: HostRuntime) -> Result<(), Fail> {
+    let mut kernel = waiting(rt.alloc(), COMPLETE)?;
+    assert_eq!(rt; kernel.step_next(), None);
+    kernel.step(&send(2, THIRD, &[0x1, 7]))?;
+    kernel.step(&ipc(1, NOBODY, ANYBODY, 0x0400, 0, &[]))?;
+    let (step, answer) = kernel.step_next().ok_or("no transfer")?;
+    assert_eq!(rt; step, Step::Transfer(2, 3));
+    assert_eq!(rt; answer.outcome, Outcome::Done);
+    let (step, answer) = kernel.step_next().ok_or("no expiry")?;
+    assert_eq!(rt; step, Step::Expire(1));
+    assert_eq!(rt; answer.outcome, Outcome::Expired);
+    assert_eq!(rt; kernel.step_next(), None);
     Ok(())
 }
 
@@ -474,80 +499,92 @@ fn is_untouched(kernel: &Kernel) -> bool {
         && kernel.next_page(2, 0).is_none()
 }
 
+/// Does each of these steps, which is refused so, with thread 3 waiting, and nothing changes.
+fn check_refusals(rt: &impl Abort, alloc: Global, cases: &[(Step, Refused)]) -> Result<(), Fail> {
+    let mut kernel = waiting(alloc, COMPLETE)?;
+    for (step, want) in cases {
+        assert_eq!(rt; kernel.step(step).err(), Some(*want));
+        assert!(rt; is_untouched(&kernel), "after {want:?}");
+    }
+    Ok(())
+}
+
 #[test]
-fn refusals(rt: HostRuntime) -> Result<(), Fail> {
-    let mut kernel = waiting(rt.alloc(), COMPLETE)?;
-    let message = |fault| Refused::Lower(Lower::Message(fault));
-    let thread = |fault| Refused::Lower(Lower::Thread(fault));
-    let unmapping = |fault| Refused::Lower(Lower::Unmap(fault));
+fn refused_callers(rt: HostRuntime) -> Result<(), Fail> {
     let cases = [
         (Step::Transfer(1, 3), Refused::NotEnabled),
         (Step::Expire(3), Refused::NotEnabled),
         (send(9, SIGMA0, &[0]), Refused::UnknownThread),
         (send(3, SIGMA0, &[0]), Refused::Busy),
-        (
-            ipc(2, SIGMA0, NOBODY, 0x0001_0000, 0, &[0]),
-            Refused::BadTimeout,
-        ),
-        (send(2, SIGMA0, &[]), message(MsgFault::Short)),
-        (send(2, SIGMA0, &[0xfc1]), message(MsgFault::TooManyWords)),
-        (send(2, SIGMA0, &[0x40, 0]), message(MsgFault::OddTyped)),
-        (
-            send(2, SIGMA0, &[0x80, 0x8, 0x1020]),
-            message(MsgFault::BadItem(0)),
-        ),
-        (
-            send(2, SIGMA0, &[0x80, 0xc, 0]),
-            message(MsgFault::Unsupported(0)),
-        ),
-        (send(2, SIGMA0, &[0x1000]), message(MsgFault::Flags)),
-        (receive(2, ANYBODY, 0x20), message(MsgFault::BadWindow)),
-        (create(1, FOURTH, FOURTH), thread(ThreadFault::NoPrivilege)),
-        (create(1, FOURTH, ROOT), thread(ThreadFault::NoPrivilege)),
-        (create(2, ANYBODY, FOURTH), thread(ThreadFault::BadId)),
-        (create(2, ROOT, ROOT), thread(ThreadFault::Taken)),
-        (
-            create(2, FOURTH, ThreadId(0x4002)),
-            thread(ThreadFault::Unknown),
-        ),
-        (set_pager(1, THIRD, ROOT), thread(ThreadFault::NoPrivilege)),
-        (set_pager(2, FOURTH, ROOT), thread(ThreadFault::Unknown)),
-        (
-            set_pager(2, ThreadId(3 * 16384 + 2), ROOT),
-            thread(ThreadFault::Unknown),
-        ),
-        (delete(1, THIRD), thread(ThreadFault::NoPrivilege)),
-        (delete(2, FOURTH), thread(ThreadFault::Unknown)),
-        (
-            delete(2, ThreadId(3 * 16384 + 2)),
-            thread(ThreadFault::Unknown),
-        ),
-        (delete(2, SIGMA0), thread(ThreadFault::Kept)),
-        (delete(2, ROOT), thread(ThreadFault::Kept)),
         (delete(9, THIRD), Refused::UnknownThread),
         (delete(3, THIRD), Refused::Busy),
-        (unmap(2, 0x40, &[]), unmapping(UnmapFault::TooFew)),
-        (unmap(2, 1, &[0x17]), unmapping(UnmapFault::TooFew)),
-        (unmap(2, 0, &[0x1020]), unmapping(UnmapFault::BadFpage(0))),
         (unmap(9, 0, &[]), Refused::UnknownThread),
         (unmap(3, 0, &[]), Refused::Busy),
         (fault(9, 0x5000, 4), Refused::UnknownThread),
         (fault(3, 0x5000, 4), Refused::Busy),
-        // Of both phases, each is read.
-        (
-            ipc(2, THIRD, ANYBODY, 0, 0x20, &[0]),
-            message(MsgFault::BadWindow),
-        ),
-        (
-            ipc(2, THIRD, ANYBODY, 0x0001_0000, 0, &[0]),
-            Refused::BadTimeout,
-        ),
     ];
-    for (step, want) in &cases {
-        assert_eq!(rt; kernel.step(step).err(), Some(*want));
-        assert!(rt; is_untouched(&kernel), "after {want:?}");
-    }
-    Ok(())
+    check_refusals(&rt, rt.alloc(), cases.as_slice())
+}
+
+#[test]
+fn refused_ipcs(rt: HostRuntime) -> Result<(), Fail> {
+    let message = |fault| Refused::Lower(Lower::Message(fault));
+    let bad_item = send(2, SIGMA0, &[0x80, 0x8, 0x1020]);
+    let string_item = send(2, SIGMA0, &[0x80, 0xc, 0]);
+    let bad_timeout = ipc(2, SIGMA0, NOBODY, 0x0001_0000, 0, &[0]);
+    // Of both phases, each is read.
+    let both_bad_window = ipc(2, THIRD, ANYBODY, 0, 0x20, &[0]);
+    let both_bad_timeout = ipc(2, THIRD, ANYBODY, 0x0001_0000, 0, &[0]);
+    let cases = [
+        (bad_timeout, Refused::BadTimeout),
+        (send(2, SIGMA0, &[]), message(MsgFault::Short)),
+        (send(2, SIGMA0, &[0xfc1]), message(MsgFault::TooManyWords)),
+        (send(2, SIGMA0, &[0x40, 0]), message(MsgFault::OddTyped)),
+        (bad_item, message(MsgFault::BadItem(0))),
+        (string_item, message(MsgFault::Unsupported(0))),
+        (send(2, SIGMA0, &[0x1000]), message(MsgFault::Flags)),
+        (receive(2, ANYBODY, 0x20), message(MsgFault::BadWindow)),
+        (both_bad_window, message(MsgFault::BadWindow)),
+        (both_bad_timeout, Refused::BadTimeout),
+    ];
+    check_refusals(&rt, rt.alloc(), cases.as_slice())
+}
+
+#[test]
+fn refused_controls(rt: HostRuntime) -> Result<(), Fail> {
+    let thread = |fault| Refused::Lower(Lower::Thread(fault));
+    let second_third = ThreadId(3 * 16384 + 2);
+    let beside_nobody = create(2, FOURTH, ThreadId(0x4002));
+    let cases = [
+        (create(1, FOURTH, FOURTH), thread(ThreadFault::NoPrivilege)),
+        (create(1, FOURTH, ROOT), thread(ThreadFault::NoPrivilege)),
+        (create(2, ANYBODY, FOURTH), thread(ThreadFault::BadId)),
+        (create(2, ROOT, ROOT), thread(ThreadFault::Taken)),
+        (beside_nobody, thread(ThreadFault::Unknown)),
+        (set_pager(1, THIRD, ROOT), thread(ThreadFault::NoPrivilege)),
+        (set_pager(2, FOURTH, ROOT), thread(ThreadFault::Unknown)),
+        (
+            set_pager(2, second_third, ROOT),
+            thread(ThreadFault::Unknown),
+        ),
+        (delete(1, THIRD), thread(ThreadFault::NoPrivilege)),
+        (delete(2, FOURTH), thread(ThreadFault::Unknown)),
+        (delete(2, second_third), thread(ThreadFault::Unknown)),
+        (delete(2, SIGMA0), thread(ThreadFault::Kept)),
+        (delete(2, ROOT), thread(ThreadFault::Kept)),
+    ];
+    check_refusals(&rt, rt.alloc(), cases.as_slice())
+}
+
+#[test]
+fn refused_unmaps(rt: HostRuntime) -> Result<(), Fail> {
+    let unmapping = |fault| Refused::Lower(Lower::Unmap(fault));
+    let cases = [
+        (unmap(2, 0x40, &[]), unmapping(UnmapFault::TooFew)),
+        (unmap(2, 1, &[0x17]), unmapping(UnmapFault::TooFew)),
+        (unmap(2, 0, &[0x1020]), unmapping(UnmapFault::BadFpage(0))),
+    ];
+    check_refusals(&rt, rt.alloc(), cases.as_slice())
 }
 
 /// A thread receives from anybody in the window of all pages, and a message is sent to it.
