@@ -51,7 +51,7 @@ impl Model for Servers {
 fn space_of_sender(kernel: &Kernel, sender: ThreadId) -> u64
     ensures { result ≡ space_of_sender kernel.now.threads sender }
 {
-    kernel.space_of(sender.0 >> 14).unwrap_or(GONE_SPACE)
+    kernel.space_of(sender.number()).unwrap_or(GONE_SPACE)
 }
 
 ghost use Rattle.l4_servers.specs.Acting.{space_of_sender};

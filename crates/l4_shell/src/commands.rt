@@ -8,13 +8,10 @@ use crate::regions::{region, rights};
 use crate::tokens::{one, three, two};
 use arrayvec::ArrayVec;
 use l4_ipc::FaultCall;
-use l4_msg::Region;
+use l4_msg::{MAX_WORDS, Region};
 use l4_pager::Entry;
 use l4_text::{next_token, number};
 use std::marker::Model;
-
-/// The most words of a line, as many as there are message registers.
-pub(crate) const MOST_WORDS: usize = 64;
 
 /// Why a line can't be read.
 #[derive(Clone, Copy, Debug, PartialEq, Eq)]
@@ -29,10 +26,10 @@ pub(crate) enum ScriptFault {
     CutLine,
 }
 
-/// The words of a message, at most 64.
+/// The words of a message, at most as many as there are message registers.
 #[derive(Drop)]
 pub(crate) struct Words {
-    words: ArrayVec<u32, 64>,
+    words: ArrayVec<u32, MAX_WORDS>,
 }
 
 impl Model for Words {
@@ -54,14 +51,14 @@ impl Words {
     }
 
     /// The words of these registers.
-    pub(crate) fn of_registers(words: ArrayVec<u32, 64>) -> Words
+    pub(crate) fn of_registers(words: ArrayVec<u32, MAX_WORDS>) -> Words
         ensures { result ≡ words.items }
     {
         Words { words }
     }
 
     /// The words themselves.
-    pub(crate) fn into_registers(self) -> ArrayVec<u32, 64>
+    pub(crate) fn into_registers(self) -> ArrayVec<u32, MAX_WORDS>
         ensures { result.items ≡ self }
     {
         self.words
@@ -229,13 +226,13 @@ fn parent(line: &[u8]) -> Option<Command>
     })
 }
 
-/// At most 64 numbers, to the end of the line.
+/// The numbers to the end of the line, at most as many as there are message registers.
 fn read_words(line: &[u8]) -> Option<Words>
     ensures { result ≡ words_of (tokens_of line.now) }
 {
     let mut words = ArrayVec::new();
     let mut rest = line;
-    for count in 0..MOST_WORDS {
+    for count in 0..MAX_WORDS {
         match next_token(rest) {
             None => return Some(Words { words }),
             Some((token, after)) => {

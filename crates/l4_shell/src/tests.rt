@@ -29,6 +29,54 @@ const REFUSALS: [&[u8]; 4] = [
     b"line 4 refused S4\n",
 ];
 
+/// Lines of known commands with too few tokens, too many, or one that can't be read.
+const WRONG_LINES: [&[u8]; 44] = [
+    b"ipc\n",
+    b"ipc 1\n",
+    b"ipc 1 nil nil 0\n",
+    b"ipc nil nil nil 0 0\n",
+    b"ipc 262144 nil nil 0 0\n",
+    b"ipc 1 new nil 0 0\n",
+    b"ipc 1 262144 nil 0 0\n",
+    b"ipc 1 nil new 0 0\n",
+    b"ipc 1 nil nil any 0\n",
+    b"ipc 1 nil nil 0 any\n",
+    b"ipc 1 nil nil 4294967296 0\n",
+    b"ipc 1 nil nil 0 0 nil\n",
+    b"unmap\n",
+    b"unmap 1\n",
+    b"unmap any 0\n",
+    b"unmap 262144 0\n",
+    b"unmap 1 nil\n",
+    b"unmap 1 4294967296\n",
+    b"unmap 1 0 nil\n",
+    b"setpager\n",
+    b"setpager 1\n",
+    b"setpager 1 2 3\n",
+    b"setpager nil 1\n",
+    b"setpager 262144 1\n",
+    b"setpager 1 any\n",
+    b"setpager 1 262144\n",
+    b"delete\n",
+    b"delete 1 2\n",
+    b"delete nil\n",
+    b"delete any\n",
+    b"delete new\n",
+    b"delete 262144\n",
+    b"delete 4294967296\n",
+    b"fault\n",
+    b"fault 1 0 0\n",
+    b"fault 1 0 0 r-- 0\n",
+    b"fault nil 0 0 r--\n",
+    b"fault 1 0 nil r--\n",
+    b"fault 1 0 0 rw\n",
+    b"region 1 0 0 1\n",
+    b"region 1 0 0 1 rw_\n",
+    b"region any 0 0 1 rwx\n",
+    b"serve\n",
+    b"serve any\n",
+];
+
 /// How many of these bytes are newlines.
 fn newlines(bytes: &[u8]) -> usize {
     bytes.iter().filter(|b| **b == b'\n').count()
@@ -186,53 +234,7 @@ fn names_the_callers(rt: HostRuntime) -> Result<(), Fail> {
 
 #[test]
 fn refuses_wrong_tokens(rt: HostRuntime) -> Result<(), Fail> {
-    let lines: [&[u8]; 44] = [
-        b"ipc\n",
-        b"ipc 1\n",
-        b"ipc 1 nil nil 0\n",
-        b"ipc nil nil nil 0 0\n",
-        b"ipc 262144 nil nil 0 0\n",
-        b"ipc 1 new nil 0 0\n",
-        b"ipc 1 262144 nil 0 0\n",
-        b"ipc 1 nil new 0 0\n",
-        b"ipc 1 nil nil any 0\n",
-        b"ipc 1 nil nil 0 any\n",
-        b"ipc 1 nil nil 4294967296 0\n",
-        b"ipc 1 nil nil 0 0 nil\n",
-        b"unmap\n",
-        b"unmap 1\n",
-        b"unmap any 0\n",
-        b"unmap 262144 0\n",
-        b"unmap 1 nil\n",
-        b"unmap 1 4294967296\n",
-        b"unmap 1 0 nil\n",
-        b"setpager\n",
-        b"setpager 1\n",
-        b"setpager 1 2 3\n",
-        b"setpager nil 1\n",
-        b"setpager 262144 1\n",
-        b"setpager 1 any\n",
-        b"setpager 1 262144\n",
-        b"delete\n",
-        b"delete 1 2\n",
-        b"delete nil\n",
-        b"delete any\n",
-        b"delete new\n",
-        b"delete 262144\n",
-        b"delete 4294967296\n",
-        b"fault\n",
-        b"fault 1 0 0\n",
-        b"fault 1 0 0 r-- 0\n",
-        b"fault nil 0 0 r--\n",
-        b"fault 1 0 nil r--\n",
-        b"fault 1 0 0 rw\n",
-        b"region 1 0 0 1\n",
-        b"region 1 0 0 1 rw_\n",
-        b"region any 0 0 1 rwx\n",
-        b"serve\n",
-        b"serve any\n",
-    ];
-    for line in lines {
+    for line in WRONG_LINES {
         let mut script = line;
         let mut written = Vec::new(rt.alloc());
         assert_eq!(rt; run(rt.alloc(), 256, &mut script, &mut written), Ok(1));
@@ -289,7 +291,11 @@ fn reads_calls(rt: HostRuntime) -> Result<(), Fail> {
     assert_eq!(rt; caller, 5);
     assert_eq!(rt; unmap.control, 0x41);
     assert!(rt; unmap.words.as_slice() == [0x10, 0x1017].as_slice());
+    Ok(())
+}
 
+#[test]
+fn reads_controls(rt: HostRuntime) -> Result<(), Fail> {
     let (caller, call) = entered(b"setpager 5 3")?;
     let Call::Control(Control::SetPager(change)) = call else {
         return Err("no SetPager".into());
