@@ -7,7 +7,7 @@
 ghost use Rattle.std.specs.Prelude.{◌≤◌};
 
 use l4_msg::Region;
-use l4_options::{Options, misread, show, status_of, stopped};
+use l4_options::{Options, command_words, misread, show, status_of, stopped};
 use l4_shell::{RunFault, check_lines, options, plan_lines, run};
 use std::io;
 use std::process::ExitCode;
@@ -59,5 +59,6 @@ fn obey<R: AllocGlobal + Input + Print + Eprint>(rt: &R, words: &[String]) -> u8
 }
 
 fn main(rt: HostRuntime) -> ExitCode {
-    ExitCode::from(status_of(&rt, |rt, words| obey(rt, words)))
+    let words = command_words(&rt);
+    ExitCode::from(status_of(words, |words| obey(&rt, words)))
 }

@@ -10,7 +10,7 @@ mod step_help;
 mod values;
 
 pub use commands::options;
-pub use programs::{NOT_UNDERSTOOD, misread, show, status_of, stopped};
+pub use programs::{NOT_UNDERSTOOD, command_words, misread, show, status_of, stopped};
 pub use requests::{OptionFault, Options, StepOptions};
 pub use step_commands::step_options;
 

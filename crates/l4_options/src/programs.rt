@@ -1,5 +1,6 @@
 //! What the programs share: the words of the command line, and the statuses to end with.
-ghost use Rattle.std.specs.Prelude.{◌≡◌, ◌⊎◌, IfErr};
+ghost use Rattle.std.specs.Prelude.{◌≡◌, ◌⊎◌, IfErr, MatchResult};
+ghost use Rattle.std.specs.Fn.{FnOnceReturnsAt};
 ghost use Rattle.l4_options.specs.Statuses.{run_status, option_status};
 
 use crate::requests::OptionFault;
@@ -68,7 +69,7 @@ pub fn show(rt: &impl Print, text: &str) -> u8
 
 /// The words of the command line, the program's name first. Where there are none to be had it says why on
 /// standard error, and answers the status to end with: 2 where a word is not UTF-8, 4 for want of memory.
-fn command_words<R: AllocGlobal + Env + Eprint>(rt: &R) -> Result<Vec<String>, u8>
+pub fn command_words<R: AllocGlobal + Env + Eprint>(rt: &R) -> Result<Vec<String>, u8>
     ensures { IfErr result (λ status. (status ≡ 2) ⊎ (status ≡ 4)) }
 {
     let words: Result<Vec<String>, AllocError> = match env::args(rt) {
@@ -82,15 +83,14 @@ fn command_words<R: AllocGlobal + Env + Eprint>(rt: &R) -> Result<Vec<String>, u
     }
 }
 
-/// Has `obey` do what the words of the command line ask for, and answers the status to end with.
-pub fn status_of<R: AllocGlobal + Env + Eprint, F: FnOnce(&R, &[String]) -> u8>(
-    rt: &R,
-    obey: F,
-) -> u8
+/// The status to end with: what `obey` answers to the words of the command line, and where there are none to be had the status that
+/// says why.
+pub fn status_of<F: FnOnce(&[String]) -> u8>(words: Result<Vec<String>, u8>, obey: F) -> u8
     requires { F.IsAlwaysCallable obey }
+    ensures { MatchResult words (λ some. FnOnceReturnsAt F.FnOnce obey some.items result) (λ status. result ≡ status) }
 {
-    match command_words(rt) {
-        Ok(words) => obey(rt, words.as_slice()),
+    match words {
+        Ok(words) => obey(words.as_slice()),
         Err(status) => status,
     }
 }

@@ -4,7 +4,9 @@
 //! 4 for want of memory at the start.
 #![tactic(auto)]
 
-use l4_options::{NOT_UNDERSTOOD, StepOptions, misread, show, status_of, step_options, stopped};
+use l4_options::{
+    NOT_UNDERSTOOD, StepOptions, command_words, misread, show, status_of, step_options, stopped,
+};
 use l4_step_lines::{Fault, run};
 use std::io;
 use std::process::ExitCode;
@@ -31,5 +33,6 @@ fn obey<R: AllocGlobal + Input + Print + Eprint>(rt: &R, words: &[String]) -> u8
 }
 
 fn main(rt: HostRuntime) -> ExitCode {
-    ExitCode::from(status_of(&rt, |rt, words| obey(rt, words)))
+    let words = command_words(&rt);
+    ExitCode::from(status_of(words, |words| obey(&rt, words)))
 }
