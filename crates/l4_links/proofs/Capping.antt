@@ -3,18 +3,17 @@ use Rattle.std.proofs.Common.{◌≡◌, ◌≢◌, ◌⊎◌, ℕ, Bool, true, 
 use Rattle.std.proofs.lemmas.Bool.{cases_eq}
 use Rattle.std.specs.Option.{option_map, option_and_then}
 use Rattle.l4_fpage.specs.Rights.{RightsSet, common, bits_of}
-use Rattle.l4_links.specs.declared.Place.{Place}
 use Rattle.l4_links.specs.declared.Standing.{Standing}
 use Rattle.l4_links.specs.declared.Entry.{Entry}
 use Rattle.l4_links.specs.declared.nodes.Node.{Node}
 use Rattle.l4_links.specs.declared.nodes.Slot.{Slot}
 use Rattle.l4_links.specs.Leads.{Leads, step}
 use Rattle.l4_links.specs.Inside.Trees.{Limb, parent_at}
-use Rattle.l4_links.specs.Inside.Nodes.{Slots, slot_at, node_at, spots, limbs, values, Worth, capped_worth, IsForest, IsLow, IsMarked, IsStamped, HasMarks, Caps, CapsBelow}
+use Rattle.l4_links.specs.Inside.Nodes.{Slots, Spot, slot_at, node_at, spots, limbs, values, Worth, capped_worth, IsForest, IsLow, IsMarked, IsStamped, HasMarks, Caps, CapsBelow}
 use Rattle.l4_links.specs.Inside.Nodes as nodes
 use Rattle.l4_links.specs.Entries.{entry_at, Descends, CapsTree, capped}
 use Rattle.l4_links.specs.Inside.Keeping.{standing_of, entry_of, entries_of, IsWithin, LiesWithin, IsSound}
-use Rattle.l4_links.proofs.Writes.{map_at, stamped_same, marks_of}
+use Rattle.l4_links.proofs.Writes.{map_at, stamped_same, marks_of, spot_of}
 use Rattle.l4_links.proofs.Neighbours.{worth_of}
 use Rattle.l4_links.proofs.Runs.{parent_is}
 use Rattle.l4_links.proofs.Walking.{low_of_common, low_stays, node_from_limb, caps_lowers, forest_same, done_same, marks_capped, values_capped}
@@ -127,10 +126,10 @@ tree_none slots first stamp walk top cap s none = record {
   kept = λ k ne off. refl;
 }
   where
-    blank_inside : (cap : RightsSet) (p : Place) (o : Option Node) → o ≡ None → ◌≡◌ {A = Option Entry} (Some (record { place = p; stands = option_map standing_of o })) (option_map (capped cap) (Some (record { place = p; stands = option_map standing_of o })))
+    blank_inside : (cap : RightsSet) (p : Spot) (o : Option Node) → o ≡ None → ◌≡◌ {A = Option Entry} (Some (record { place = p.place; wanted = p.wanted; stands = option_map standing_of o })) (option_map (capped cap) (Some (record { place = p.place; wanted = p.wanted; stands = option_map standing_of o })))
     blank_inside cap p None e = refl
     blank_inside cap p (Some n) e = absurd (let z : ◌≡◌ {A = Option Node} (Some n) None = e in cc)
 
     blank_entry : (cap : RightsSet) (o : Option Slot) → option_and_then (λ (s : Slot). s.node) o ≡ None → option_map entry_of o ≡ option_map (capped cap) (option_map entry_of o)
     blank_entry cap None e = refl
-    blank_entry cap (Some s) e = blank_inside cap s.place s.node e
+    blank_entry cap (Some s) e = blank_inside cap (spot_of s) s.node e

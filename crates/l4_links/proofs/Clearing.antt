@@ -8,10 +8,10 @@ use Rattle.l4_links.specs.Leads.{Leads, step}
 use Rattle.l4_links.specs.Inside.Trees.{Limb, parent_at, Sheds}
 use Rattle.l4_links.specs.Inside.Orders.{first_of, last_of, position}
 use Rattle.l4_links.specs.Inside.Nodes.{Slots, slot_at, node_at, spots, limbs, IsOrder, IsForest, Parts, Prunes, Clears}
-use Rattle.l4_links.proofs.Writes.{no_slot}
 use Rattle.l4_links.proofs.Positions.{same_order_out}
 use Rattle.l4_links.proofs.Growing.{tree_sheds}
 use Rattle.l4_links.proofs.Neighbours.{neighbours_at, some_from}
+use Rattle.l4_links.proofs.Cutting.{none_of}
 use Rattle.l4_links.proofs.Runs.{parent_is, run_from_leads}
 
 abbrev limb_of : Node → Limb
@@ -46,7 +46,7 @@ cleared old mid new top node first after p at q order onto keep =
     let near = neighbours_at mid p.front top p.left node p.forest.order at in
     let none_top : limbs new top ≡ None = ap (option_map limb_of) q.gone in
     let away : (a : ℕ) (x : Limb) → limbs new a ≡ Some x → a ≢ top = λ a x is e. (let w : ◌≡◌ {A = Option Limb} None (Some x) = sym none_top ∙ sym (ap (limbs new) e) ∙ is in absurd (let z : ◌≡◌ {A = Option Limb} None (Some x) = w in cc)) in
-    let gone_mid : (k : ℕ) → Leads (parent_at (limbs old)) k top → limbs mid k ≡ None = λ k l. ap (λ (o : Option Slot). option_map limb_of (option_and_then (λ (z : Slot). z.node) o)) (p.gone k l) in
+    let gone_mid : (k : ℕ) → Leads (parent_at (limbs old)) k top → limbs mid k ≡ None = λ k l. ap (option_map limb_of) (p.gone k l) in
     let sheds : Sheds (limbs mid) (limbs new) = record {
       left = λ a. elim (cases_eq a top) [ inl e ↦ inl (ap (limbs new) e ∙ none_top) | inr ne ↦ inr (q.limbs_same a ne) ];
       closed = λ a b x is up. q.limbs_same b (λ e.
@@ -55,9 +55,11 @@ cleared old mid new top node first after p at q order onto keep =
           let was_old : limbs old a ≡ Some x = sym (p.limbs_kept a old_up) ∙ was in
           old_up (step (parent_is (limbs old) a x was_old ∙ up ∙ ap (λ (z : ℕ). Some z) e)));
     } in
+    let q_gone : (k : ℕ) → Leads (parent_at (limbs old)) k top → node_at new k ≡ None =
+    λ k l. elim (cases_eq k top) [ inl e ↦ ap (node_at new) e ∙ q.gone | inr ne ↦ none_of new k (q.limbs_same k ne ∙ gone_mid k l) ] in
     record {
-      gone = λ k l.
-          no_slot new k (q.spots_same k ∙ ap (option_map (λ (s : Slot). s.place)) (p.gone k l));
+      gone = λ k l. q_gone k l;
+      spots_gone = λ k l. q.spots_same k ∙ p.spots_gone k l;
       here = q.gone;
       spot = q.spots_same top ∙ p.spots_kept top (apart old (p.front ++ top ∷ p.rest) p.was top);
       limbs_kept = λ k ne off. q.limbs_same k ne ∙ p.limbs_kept k off;

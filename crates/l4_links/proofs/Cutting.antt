@@ -3,14 +3,12 @@ use Rattle.std.proofs.Common.{◌≡◌, ◌≢◌, ◌↔◌, ℕ, suc, zero, �
 use Rattle.std.proofs.lemmas.Bool.{cases_eq, cases_lt}
 use Rattle.std.proofs.lemmas.List.{get_or_past}
 use Rattle.std.specs.Option.{option_map, option_and_then}
-use Rattle.l4_links.specs.declared.Place.{Place}
 use Rattle.l4_links.specs.declared.nodes.Node.{Node}
 use Rattle.l4_links.specs.declared.nodes.Slot.{Slot}
 use Rattle.l4_links.specs.Leads.{Leads, steps}
 use Rattle.l4_links.specs.Inside.Trees.{Limb, IsInRun, parent_at, Sheds, SameOrder}
 use Rattle.l4_links.specs.Inside.Orders.{IsIn, IsOnce, first_of, position}
-use Rattle.l4_links.specs.Inside.Nodes.{Slots, slot_at, node_at, spots, limbs, values, marks, IsOrder, IsForest, TakesSlot, Prunes}
-use Rattle.l4_links.proofs.Writes.{no_slot}
+use Rattle.l4_links.specs.Inside.Nodes.{Slots, slot_at, node_at, spots, limbs, values, marks, IsOrder, IsForest, CutsOff, left_spot, Prunes}
 use Rattle.l4_links.proofs.Linking.{in_left, in_right, in_parts, once_front, once_back, once_out, parted}
 use Rattle.l4_links.proofs.Positions.{position_here, position_further, position_within}
 use Rattle.l4_links.proofs.Neighbours.{once_apart, in_list, neighbours_at}
@@ -159,7 +157,7 @@ pub record CutSoFar (old cur : Slots) (top depth : ℕ) (at : Option ℕ) (count
   pub count_is : length run ≡ count
   pub gone : (k : ℕ) → IsIn run k → node_at cur k ≡ None
   pub limbs_same : (k : ℕ) → ¬ (IsIn run k) → limbs cur k ≡ limbs old k
-  pub slots_gone : (k : ℕ) → IsIn run k → slot_at cur k ≡ None
+  pub spots_gone : (k : ℕ) → IsIn run k → spots cur k ≡ left_spot (spots old k)
   pub values_same : (k : ℕ) → ¬ (IsIn run k) → values cur k ≡ values old k
   pub marks_same : (k : ℕ) → ¬ (IsIn run k) → marks cur k ≡ marks old k
   pub spots_same : (k : ℕ) → ¬ (IsIn run k) → spots cur k ≡ spots old k
@@ -322,14 +320,14 @@ cut_first old ks top node forest at =
       count_is = refl;
       gone = λ k i. absurd i;
       limbs_same = λ k out. refl;
-      slots_gone = λ k i. absurd i;
+      spots_gone = λ k i. absurd i;
       values_same = λ k out. refl;
       marks_same = λ k out. refl;
       spots_same = λ k out. refl;
       deeper = λ k x i. absurd i;
     }
 
-none_of : (slots : Slots) (k : ℕ) → limbs slots k ≡ None → node_at slots k ≡ None
+pub none_of : (slots : Slots) (k : ℕ) → limbs slots k ≡ None → node_at slots k ≡ None
 none_of slots k e = elim (node_at slots k) as (λ o. option_map limb_of o ≡ None → o ≡ None) [
   | None ↦ λ _. refl
   | Some n ↦ λ w. absurd (let z : ◌≡◌ {A = Option Limb} (Some (limb_of n)) None = w in cc)
@@ -337,7 +335,7 @@ none_of slots k e = elim (node_at slots k) as (λ o. option_map limb_of o ≡ No
 
 -- one more key is taken out
 cut_step : (old cur new : Slots) (top depth count key : ℕ) (node : Node) (c : CutSoFar old cur top depth (Some key) count) (rest : List ℕ) → c.back ≡ key ∷ rest → node_at cur key ≡ Some node → depth < node.depth
-    → ((xs ys : List ℕ) → IsOrder cur (xs ++ key ∷ ys) → IsOrder new (xs ++ ys)) → TakesSlot key cur new → CutSoFar old new top depth node.next (count + 1)
+    → ((xs ys : List ℕ) → IsOrder cur (xs ++ key ∷ ys) → IsOrder new (xs ++ ys)) → CutsOff key cur new → CutSoFar old new top depth node.next (count + 1)
 cut_step old cur new top depth count key node c rest e at deep out parts =
     let here : IsOrder cur (c.front ++ top ∷ key ∷ rest) = subst (λ (z : List ℕ). IsOrder cur (c.front ++ top ∷ z)) e c.order in
     let near : IsOrder cur ((c.front ++ top ∷ []) ++ key ∷ rest) = subst (λ (z : List ℕ). IsOrder cur z) (sym (append_assoc c.front (top ∷ []) (key ∷ rest))) here in
@@ -352,17 +350,17 @@ cut_step old cur new top depth count key node c rest e at deep out parts =
       at_is = (neighbours_at cur (c.front ++ top ∷ []) key rest node near at).1;
       count_is = (let l : length (c.run ++ key ∷ []) ≡ length c.run + length (key ∷ []) = length-append c.run (key ∷ []) in let n = c.count_is in let one : length (key ∷ []) ≡ 1 = omega arith in omega (arith, l, n, one));
       gone = λ k i. elim (cases_eq k key) [
-        | inl ke ↦ ap (node_at new) ke ∙ ap (option_and_then (λ (s : Slot). s.node)) parts.gone
+        | inl ke ↦ ap (node_at new) ke ∙ parts.gone
         | inr ne ↦ elim (in_parts c.run (key ∷ []) k i) [
           | inl l ↦ none_of new k (parts.limbs_same k ne ∙ ap (option_map limb_of) (c.gone k l))
           | inr r ↦ elim r [ inl ke ↦ absurd (ne (sym ke)) | inr none ↦ absurd none ]
         ]
       ];
       limbs_same = λ k off. parts.limbs_same k (λ ke. off (in_right c.run (key ∷ []) k (inl (sym ke)))) ∙ c.limbs_same k (λ i. off (in_left c.run (key ∷ []) k i));
-      slots_gone = λ k i. elim (cases_eq k key) [
-        | inl ke ↦ ap (slot_at new) ke ∙ parts.gone
+      spots_gone = λ k i. elim (cases_eq k key) [
+        | inl ke ↦ ap (spots new) ke ∙ parts.spot ∙ ap left_spot (c.spots_same key not_run) ∙ ap (λ (z : ℕ). left_spot (spots old z)) (sym ke)
         | inr ne ↦ elim (in_parts c.run (key ∷ []) k i) [
-          | inl l ↦ no_slot new k (parts.spots_same k ne ∙ ap (option_map (λ (s : Slot). s.place)) (c.slots_gone k l))
+          | inl l ↦ parts.spots_same k ne ∙ c.spots_gone k l
           | inr r ↦ elim r [ inl ke ↦ absurd (ne (sym ke)) | inr none ↦ absurd none ]
         ]
       ];
@@ -383,7 +381,7 @@ cut_step old cur new top depth count key node c rest e at deep out parts =
     }
 
 pub cut_more : (old cur new : Slots) (top depth count key : ℕ) (node : Node) → CutSoFar old cur top depth (Some key) count → node_at cur key ≡ Some node → depth < node.depth
-    → ((xs ys : List ℕ) → IsOrder cur (xs ++ key ∷ ys) → IsOrder new (xs ++ ys)) → TakesSlot key cur new → CutSoFar old new top depth node.next (count + 1)
+    → ((xs ys : List ℕ) → IsOrder cur (xs ++ key ∷ ys) → IsOrder new (xs ++ ys)) → CutsOff key cur new → CutSoFar old new top depth node.next (count + 1)
 cut_more old cur new top depth count key node c at deep out parts =
     elim c.back as (λ (bs : List ℕ). c.back ≡ bs → CutSoFar old new top depth node.next (count + 1)) [
       | [] ↦ λ e. absurd (let w : ◌≡◌ {A = Option ℕ} (Some key) None = c.at_is ∙ ap (λ (z : List ℕ). first_of z None) e in cc)
@@ -446,7 +444,8 @@ cut_there old cur top depth count key c none =
 
 pub pruned : (old cur : Slots) (top depth : ℕ) (at : Option ℕ) (count : ℕ) → HasCut old cur top depth at count → Prunes top old cur
 pruned old cur top depth at count h = record {
-  gone = λ k l. h.cut.slots_gone k ((cut_is old cur top depth at count h k).0 l);
+  gone = λ k l. h.cut.gone k ((cut_is old cur top depth at count h k).0 l);
+  spots_gone = λ k l. h.cut.spots_gone k ((cut_is old cur top depth at count h k).0 l);
   limbs_kept = λ k off. h.cut.limbs_same k (λ i. off ((cut_is old cur top depth at count h k).1 i));
   values_kept = λ k off. h.cut.values_same k (λ i. off ((cut_is old cur top depth at count h k).1 i));
   marks_kept = λ k off. h.cut.marks_same k (λ i. off ((cut_is old cur top depth at count h k).1 i));

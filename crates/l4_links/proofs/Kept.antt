@@ -4,13 +4,12 @@ use Rattle.std.proofs.lemmas.Bool.{cases_eq}
 use Rattle.std.specs.Option.{option_map, option_and_then}
 use Rattle.l4_fpage.specs.Rights.{RightsSet, common, set_of_bits, bits_of}
 use Rattle.l4_fpage.proofs.Eight.{bits_below, set_of_sum}
-use Rattle.l4_links.specs.declared.Place.{Place}
 use Rattle.l4_links.specs.declared.nodes.Node.{Node}
 use Rattle.l4_links.specs.declared.nodes.Slot.{Slot}
 use Rattle.l4_links.specs.Leads.{Leads, step, steps}
 use Rattle.l4_links.specs.Inside.Trees.{Limb, IsTree, parent_at, Sprouts, Rises}
 use Rattle.l4_links.specs.Inside.Orders.{Link, IsIn, IsLinked, first_of, last_of, position}
-use Rattle.l4_links.specs.Inside.Nodes.{Slots, slot_at, node_at, spots, limbs, links, values, sources, marks, Marks, Worth, capped_worth, IsOrder, IsForest, IsLow, IsMarked, IsStamped, IsDone, IsFree, HasMarks, HasSeen, NoneMet, Ends, Comes, Prunes, Clears, CapsBelow, SetsPlace, SetsSource, IsSame}
+use Rattle.l4_links.specs.Inside.Nodes.{Slots, slot_at, node_at, spots, limbs, links, values, sources, marks, Marks, Worth, capped_worth, IsOrder, IsForest, IsLow, IsMarked, IsStamped, IsDone, IsFree, HasMarks, HasSeen, NoneMet, Ends, Comes, Clears, CapsBelow, SetsWanted, IsSame}
 use Rattle.l4_links.specs.Inside.Keeping.{IsWithin, LiesWithin, IsFresh, sources_walk, IsSound}
 use Rattle.l4_links.proofs.Writes.{map_at, stamped_same}
 use Rattle.l4_links.proofs.Linking.{parted, link_at, linked_same}
@@ -25,7 +24,7 @@ abbrev link_of : Node → Link
 link_of n = record { prev = n.prev; next = n.next }
 
 abbrev worth_of : Node → Worth
-worth_of n = record { frame = n.frame; rights = n.rights; source = n.source }
+worth_of n = record { frame = n.frame; rights = n.rights; source = n.source; granted = n.granted }
 
 abbrev marks_of : Node → Marks
 marks_of n = record { mark = n.mark; seen = n.seen }
@@ -203,7 +202,7 @@ low_of_parent a r = λ i. record { r = all_with a.r r.r i; w = all_with a.w r.w 
 
 -- a child lies within its parent
 pub within_child : (old new : Slots) (ks : List ℕ) (parent key : ℕ) (above : Worth) (rights : RightsSet) → IsForest old ks → IsWithin old → values old parent ≡ Some above → Sprouts (limbs old) (limbs new) parent key
-    → Comes (record { frame = above.frame; rights = common above.rights rights; source = false }) key old new → IsWithin new
+    → Comes (record { frame = above.frame; rights = common above.rights rights; source = false; granted = None }) key old new → IsWithin new
 within_child old new ks parent key above rights f within at s c k p x l h is up v w =
     let new_key : (q : ℕ) (y : Limb) → limbs old q ≡ Some y → q ≢ key = λ q y old_q e. (let z : ◌≡◌ {A = Option Limb} None (Some y) = sym s.vacant ∙ sym (ap (limbs old) e) ∙ old_q in absurd (let u : ◌≡◌ {A = Option Limb} None (Some y) = z in cc)) in
     elim (cases_eq k key) [
@@ -212,8 +211,8 @@ within_child old new ks parent key above rights f within at s c k p x l h is up 
           let xs : x ≡ record { parent = Some parent; depth = s.above.depth + 1 } = cc in
           let z : ◌≡◌ {A = Option ℕ} (Some p) (Some parent) = sym up ∙ ap (λ (q : Limb). q.parent) xs in
           let pp : p ≡ parent = cc in
-          let low_is : ◌≡◌ {A = Option Worth} (Some l) (Some (record { frame = above.frame; rights = common above.rights rights; source = false })) = sym v ∙ ap (values new) e ∙ c.value_is in
-          let ls : l ≡ record { frame = above.frame; rights = common above.rights rights; source = false } = cc in
+          let low_is : ◌≡◌ {A = Option Worth} (Some l) (Some (record { frame = above.frame; rights = common above.rights rights; source = false; granted = None })) = sym v ∙ ap (values new) e ∙ c.value_is in
+          let ls : l ≡ record { frame = above.frame; rights = common above.rights rights; source = false; granted = None } = cc in
           let high_is : ◌≡◌ {A = Option Worth} (Some h) (Some above) = sym w ∙ ap (values new) pp ∙ c.values_same parent (new_key parent s.above s.at_parent) ∙ at in
           let hs : h ≡ above = cc in
           subst (λ (q : Worth). LiesWithin l q) (sym hs)
@@ -259,17 +258,6 @@ within_kept old new ks f within kept k p x l h is up v w =
 
 no_some : {X Y : Type 0} (x : X) → ◌≡◌ {A = Option X} None (Some x) → Y
 no_some {X} x e = absurd (let w : ◌≡◌ {A = Option X} None (Some x) = e in cc)
-
--- the nodes that are left after a run was cut off are sound
-pub sound_cut : (old new : Slots) (first : Option ℕ) (stamp fresh walk top : ℕ) → IsSound old first stamp walk → Prunes top old new → IsFresh stamp fresh → IsSound new first fresh walk
-sound_cut old new first stamp fresh walk top s p f =
-    sound_fresh new first stamp fresh walk (p.front ++ top ∷ p.left) p.forest
-    (first_same p.front top p.left p.rest ∙ first_unique old (p.front ++ top ∷ p.rest) s.keys p.was.order s.forest.order ∙ s.first_is)
-    (within_kept old new (p.front ++ top ∷ p.left) p.forest s.within (λ k x is. (let off = left old new top p limb_of k x is in (p.limbs_kept k off, p.values_kept k off))))
-    (λ some k m is. s.stamped some k m (sym (p.marks_kept k (left old new top p marks_of k m is)) ∙ is)) f
-  where
-    left : (old new : Slots) (top : ℕ) (p : Prunes top old new) {X : Type 0} (F : Node → X) (k : ℕ) (x : X) → option_map F (node_at new k) ≡ Some x → ¬ (Leads (parent_at (limbs old)) k top)
-    left old new top p F k x is l = no_some x (sym (ap (λ (o : Option Slot). option_map F (option_and_then (λ (z : Slot). z.node) o)) (p.gone k l)) ∙ is)
 
 -- nothing descends from a key without a node
 pub none_below : (slots : Slots) (ks : List ℕ) → IsForest slots ks → (top k : ℕ) → node_at slots top ≡ None → Leads (parent_at (limbs slots)) k top → ⊥
@@ -391,56 +379,19 @@ pub sound_found : (old new : Slots) (first : Option ℕ) (stamp walk later fresh
 sound_found old new first stamp walk later fresh next s e t f =
     sound_fresh new first later fresh next s.keys (forest_links old new s.keys e.limbs_same e.links_same s.forest) s.first_is (within_same old new e s.within) t f
 
-abbrev erased : Worth → Worth
-erased w = record w { source = false }
-
-erased_back : (slots : Slots) (k : ℕ) (w : Worth) → option_map erased (values slots k) ≡ Some w → (v : Worth) × (values slots k ≡ Some v) × (erased v ≡ w)
-erased_back slots k w e = elim (values slots k) as (λ o. values slots k ≡ o → option_map erased o ≡ Some w → (v : Worth) × (values slots k ≡ Some v) × (erased v ≡ w)) [
-  | None ↦ λ is z. absurd (let y : ◌≡◌ {A = Option Worth} None (Some w) = z in cc)
-  | Some v ↦ λ is z. (v, is, same_worth z)
-] refl e
-
--- after a source was marked or a mark was taken away
-pub sound_source : (old new : Slots) (first : Option ℕ) (stamp fresh walk key : ℕ) (source : Bool) → IsSound old first stamp walk → SetsSource key source old new → IsFresh stamp fresh → IsSound new first fresh walk
-sound_source old new first stamp fresh walk key source s c f =
-    let write : Node → Node = λ n. record n { source = source } in
-    let limbs_same : (k : ℕ) → limbs new k ≡ limbs old k = map_at limb_of write (λ n. refl) key old new c.here c.others in
-    let links_same : (k : ℕ) → links new k ≡ links old k = map_at link_of write (λ n. refl) key old new c.here c.others in
-    let rest_same : (k : ℕ) → option_map (λ (n : Node). erased (worth_of n)) (node_at new k) ≡ option_map (λ (n : Node). erased (worth_of n)) (node_at old k) = map_at (λ (n : Node). erased (worth_of n)) write (λ n. refl) key old new c.here c.others in
-    let back : (k : ℕ) (l : Worth) → values new k ≡ Some l → (v : Worth) × (values old k ≡ Some v) × (erased v ≡ erased l) =
-    λ k l v. erased_back old k (erased l) (erased_two (node_at old k) ∙ sym (rest_same k) ∙ sym (erased_two (node_at new k)) ∙ ap (option_map erased) v) in
-    sound_fresh new first stamp fresh walk s.keys (forest_links old new s.keys limbs_same links_same s.forest) s.first_is
-    (λ k p x l h is up v w.
-    let lo = back k l v in
-    let hi = back p h w in
-    let base = s.within k p x lo.0 hi.0 (sym (limbs_same k) ∙ is) up lo.1 hi.1 in
-    let le : lo.0.rights ≡ l.rights = ap (λ (z : Worth). z.rights) lo.2 in
-    let he : hi.0.rights ≡ h.rights = ap (λ (z : Worth). z.rights) hi.2 in
-    let lf : lo.0.frame ≡ l.frame = ap (λ (z : Worth). z.frame) lo.2 in
-    let hf : hi.0.frame ≡ h.frame = ap (λ (z : Worth). z.frame) hi.2 in
-    record {
-      rights = subst (λ (z : RightsSet). IsLow h.rights z) le (subst (λ (z : RightsSet). IsLow z lo.0.rights) he base.rights);
-      frame = sym lf ∙ base.frame ∙ hf;
-    })
-    (stamped_same stamp old new (map_at marks_of write (λ n. refl) key old new c.here c.others) s.stamped) f
-  where
-    erased_two : (o : Option Node) → option_map erased (option_map worth_of o) ≡ option_map (λ (n : Node). erased (worth_of n)) o
-    erased_two None = refl
-    erased_two (Some n) = refl
-
 pub sound_root : (old new : Slots) (first : Option ℕ) (stamp fresh walk key : ℕ) (worth : Worth) → IsSound old first stamp walk → Rises (limbs old) (limbs new) key → Comes worth key old new
     → ((ks : List ℕ) → IsForest old ks → first_of ks None ≡ first → IsForest new (key ∷ ks)) → IsFresh stamp fresh → IsSound new (Some key) fresh walk
 sound_root old new first stamp fresh walk key worth s r c forest f =
     sound_fresh new (Some key) stamp fresh walk (key ∷ s.keys) (forest s.keys s.forest s.first_is) refl (within_root old new s.keys worth key s.forest s.within r c) (stamped_comes worth key old new stamp c s.stamped) f
 
 pub sound_child : (old new : Slots) (first : Option ℕ) (stamp fresh walk parent key : ℕ) (above : Node) (rights : RightsSet) → IsSound old first stamp walk → node_at old parent ≡ Some above → Sprouts (limbs old) (limbs new) parent key
-    → Comes (record { frame = above.frame; rights = common above.rights rights; source = false }) key old new → ((xs ys : List ℕ) → IsForest old (xs ++ parent ∷ ys) → IsForest new (xs ++ parent ∷ key ∷ ys)) → IsFresh stamp fresh → IsSound new first fresh walk
+    → Comes (record { frame = above.frame; rights = common above.rights rights; source = false; granted = None }) key old new → ((xs ys : List ℕ) → IsForest old (xs ++ parent ∷ ys) → IsForest new (xs ++ parent ∷ key ∷ ys)) → IsFresh stamp fresh → IsSound new first fresh walk
 sound_child old new first stamp fresh walk parent key above rights s at sprouts c forest f =
     let p = parted s.keys parent (s.forest.order.all parent above at) in
     sound_fresh new first stamp fresh walk (p.front ++ parent ∷ key ∷ p.back) (forest p.front p.back (subst (λ (z : List ℕ). IsForest old z) p.is s.forest))
     (first_same p.front parent (key ∷ p.back) p.back ∙ sym (ap (λ (z : List ℕ). first_of z None) p.is) ∙ s.first_is)
     (within_child old new s.keys parent key (worth_of above) rights s.forest s.within (ap (option_map worth_of) at) sprouts c)
-    (stamped_comes (record { frame = above.frame; rights = common above.rights rights; source = false }) key old new stamp c s.stamped) f
+    (stamped_comes (record { frame = above.frame; rights = common above.rights rights; source = false; granted = None }) key old new stamp c s.stamped) f
 
 -- the nodes that are left after a node went with all that descends from it
 pub sound_cleared : (old new : Slots) (first after : Option ℕ) (stamp fresh walk top : ℕ) → IsSound old first stamp walk → Clears top first after old new → IsFresh stamp fresh → IsSound new after fresh walk
@@ -453,19 +404,19 @@ sound_cleared old new first after stamp fresh walk top s p f =
     left : (old new : Slots) (first after : Option ℕ) (top : ℕ) (p : Clears top first after old new) {X : Type 0} (F : Node → X) (k : ℕ) (x : X) → option_map F (node_at new k) ≡ Some x → (k ≢ top) × ¬ (Leads (parent_at (limbs old)) k top)
     left old new first after top p F k x is = (
       λ e. no_some x (sym (ap (option_map F) (ap (node_at new) e ∙ p.here)) ∙ is),
-      λ l. no_some x (sym (ap (λ (o : Option Slot). option_map F (option_and_then (λ (z : Slot). z.node) o)) (p.gone k l)) ∙ is),
+      λ l. no_some x (sym (ap (option_map F) (p.gone k l)) ∙ is),
     )
 
 pub some_node : {o : Option Node} {n : Node} → o ≡ Some n → o ≢ None
 some_node {o} {n} e none = let w : ◌≡◌ {A = Option Node} (Some n) None = sym e ∙ none in absurd (let z : ◌≡◌ {A = Option Node} (Some n) None = w in cc)
 
--- a slot that is of another page has the same node
-pub nodes_moved : (old new : Slots) (key : ℕ) (place : Place) → SetsPlace key place old new → (k : ℕ) → node_at new k ≡ node_at old k
-nodes_moved old new key place c k = elim (cases_eq k key) [
-  | inl e ↦ ap (node_at new) e ∙ ap (option_and_then (λ (s : Slot). s.node)) c.here ∙ over place (slot_at old key) ∙ sym (ap (node_at old) e)
+-- a slot whose page is wanted or not has the same node
+pub nodes_wanted : (old new : Slots) (key : ℕ) (wanted : Bool) → SetsWanted key wanted old new → (k : ℕ) → node_at new k ≡ node_at old k
+nodes_wanted old new key wanted c k = elim (cases_eq k key) [
+  | inl e ↦ ap (node_at new) e ∙ ap (option_and_then (λ (s : Slot). s.node)) c.here ∙ over wanted (slot_at old key) ∙ sym (ap (node_at old) e)
   | inr ne ↦ ap (option_and_then (λ (s : Slot). s.node)) (c.others k ne)
 ]
   where
-    over : (place : Place) (o : Option Slot) → option_and_then (λ (s : Slot). s.node) (option_map (λ (s : Slot). record s { place = place }) o) ≡ option_and_then (λ (s : Slot). s.node) o
-    over place None = refl
-    over place (Some s) = refl
+    over : (wanted : Bool) (o : Option Slot) → option_and_then (λ (s : Slot). s.node) (option_map (λ (s : Slot). record s { wanted = wanted }) o) ≡ option_and_then (λ (s : Slot). s.node) o
+    over wanted None = refl
+    over wanted (Some s) = refl

@@ -15,3 +15,6 @@ pub mod Seen
 pub mod Kept
 pub mod Views
 pub mod Capping
+pub mod Naming
+pub mod Noting
+pub mod Laws

@@ -1,19 +1,19 @@
 -- The neighbours of a node in its list, and what the writes to them make of the links.
-use Rattle.std.proofs.Common.{◌≡◌, ◌≢◌, ℕ, ◌+◌, List, [], ◌∷◌, ◌++◌, Option, Some, None, refl, sym, ap, ◌∙◌, subst, inl, inr}
+use Rattle.std.proofs.Common.{◌≡◌, ◌≢◌, ℕ, ◌+◌, Bool, true, false, if◌then◌else◌, List, [], ◌∷◌, ◌++◌, Option, Some, None, refl, sym, ap, ◌∙◌, subst, inl, inr}
 use Rattle.std.proofs.lemmas.Bool.{cases_eq}
 use Rattle.std.specs.Option.{option_map, option_and_then}
 use Rattle.l4_links.specs.declared.nodes.Node.{Node}
 use Rattle.l4_links.specs.declared.nodes.Slot.{Slot}
 use Rattle.l4_links.specs.Inside.Trees.{Limb, Sprouts}
 use Rattle.l4_links.specs.Inside.Orders.{IsIn, IsOnce, Link, first_of, last_of, IsLinked, PutsAfter, TakesOut, position}
-use Rattle.l4_links.specs.Inside.Nodes.{Slots, slot_at, node_at, limbs, links, Worth, IsOrder, IsForest, Writes, SetsNext, SetsPrev, Parts, TakesSlot, Comes}
-use Rattle.l4_links.proofs.Writes.{marks_of}
+use Rattle.l4_links.specs.Inside.Nodes.{Slots, slot_at, node_at, limbs, links, Worth, IsOrder, IsForest, Writes, SetsNext, SetsPrev, Parts, TakesSlot, CutsOff, left_spot, Spot, wanted_in, spots, Comes}
+use Rattle.l4_links.proofs.Writes.{marks_of, spot_of}
 use Rattle.l4_links.proofs.Linking.{in_left, in_right, in_parts, once_front, once_back, once_out, once_in, parted, first_in, last_in, link_at, linked_in, linked_out}
 use Rattle.l4_links.proofs.Positions.{stands_after}
 use Rattle.l4_links.proofs.Growing.{tree_sprouts}
 
 abbrev pub worth_of : Node → Worth
-worth_of n = record { frame = n.frame; rights = n.rights; source = n.source }
+worth_of n = record { frame = n.frame; rights = n.rights; source = n.source; granted = n.granted }
 
 abbrev link_of : Node → Link
 link_of n = record { prev = n.prev; next = n.next }
@@ -288,8 +288,37 @@ takes_slot old middle new key p gone others = record {
   limbs_same = λ o ne. ap (λ (s : Option Slot). option_map limb_of (option_and_then (λ (z : Slot). z.node) s)) (others o ne) ∙ p.limbs_same o ne;
   values_same = λ o ne. ap (λ (s : Option Slot). option_map worth_of (option_and_then (λ (z : Slot). z.node) s)) (others o ne) ∙ p.values_same o ne;
   marks_same = λ o ne. ap (λ (s : Option Slot). option_map marks_of (option_and_then (λ (z : Slot). z.node) s)) (others o ne) ∙ p.marks_same o ne;
-  spots_same = λ o ne. ap (λ (s : Option Slot). option_map (λ (z : Slot). z.place) s) (others o ne) ∙ p.spots_same o;
+  spots_same = λ o ne. ap (λ (s : Option Slot). option_map spot_of s) (others o ne) ∙ p.spots_same o;
 }
+
+-- a node that is cut off: a wanted page is left, and any other goes
+pub cut_wanted : (old new : Slots) (key : ℕ) → wanted_in (spots old key) ≡ true → Parts key old new → CutsOff key old new
+cut_wanted old new key wanted p = record {
+  gone = p.gone;
+  spot = p.spots_same key ∙ sym (left_wanted (spots old key) wanted);
+  limbs_same = p.limbs_same;
+  values_same = p.values_same;
+  marks_same = p.marks_same;
+  spots_same = λ o ne. p.spots_same o;
+}
+  where
+    left_wanted : (o : Option Spot) → wanted_in o ≡ true → left_spot o ≡ o
+    left_wanted None e = refl
+    left_wanted (Some s) e = ap (λ (b : Bool). if b then Some s else None) e
+
+pub cut_unwanted : (old new : Slots) (key : ℕ) → wanted_in (spots old key) ≡ false → TakesSlot key old new → CutsOff key old new
+cut_unwanted old new key unwanted p = record {
+  gone = ap (option_and_then (λ (s : Slot). s.node)) p.gone;
+  spot = ap (option_map spot_of) p.gone ∙ sym (left_unwanted (spots old key) unwanted);
+  limbs_same = p.limbs_same;
+  values_same = p.values_same;
+  marks_same = p.marks_same;
+  spots_same = p.spots_same;
+}
+  where
+    left_unwanted : (o : Option Spot) → wanted_in o ≡ false → left_spot o ≡ None
+    left_unwanted None e = refl
+    left_unwanted (Some s) e = ap (λ (b : Bool). if b then Some s else None) e
 
 -- the same nodes are the same order
 pub order_same_nodes : (old new : Slots) (ks : List ℕ) → ((o : ℕ) → node_at new o ≡ node_at old o) → IsOrder old ks → IsOrder new ks

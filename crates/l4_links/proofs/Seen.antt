@@ -1,34 +1,34 @@
 -- What a contract sees of the slots, piece by piece.
-use Rattle.std.proofs.Common.{◌≡◌, ◌≢◌, ◌↔◌, ◌⊎◌, ℕ, Bool, true, false, List, Option, Some, None, refl, sym, ap, ◌∙◌, subst, inl, inr}
+use Rattle.std.proofs.Common.{◌≡◌, ◌≢◌, ◌↔◌, ◌⊎◌, ℕ, Bool, true, false, if◌then◌else◌, List, Option, Some, None, refl, sym, ap, ◌∙◌, subst, inl, inr}
 use Rattle.std.proofs.Math.ListN.{get_or-map}
 use Rattle.std.specs.Option.{option_map, option_and_then}
 use Rattle.l4_fpage.specs.Rights.{RightsSet, common}
-use Rattle.l4_links.specs.declared.Place.{Place}
 use Rattle.l4_links.specs.declared.Standing.{Standing}
 use Rattle.l4_links.specs.declared.Entry.{Entry}
 use Rattle.l4_links.specs.declared.nodes.Node.{Node}
 use Rattle.l4_links.specs.declared.nodes.Slot.{Slot}
 use Rattle.l4_links.specs.Leads.{Leads}
 use Rattle.l4_links.specs.Inside.Trees.{Limb, parent_at}
-use Rattle.l4_links.specs.Inside.Nodes.{Slots, slot_at, node_at, spots, limbs, values, sources, Worth, capped_worth}
-use Rattle.l4_links.specs.Entries.{Entries, entry_at, standing_at, IsStanding, IsBlank, parent_of, Descends, IsSource, capped}
+use Rattle.l4_links.specs.Inside.Nodes.{Slots, Spot, left_spot, slot_at, node_at, spots, limbs, values, sources, Worth, capped_worth}
+use Rattle.l4_links.specs.Entries.{Entries, entry_at, standing_at, IsStanding, IsBlank, parent_of, Descends, IsSource, capped, cut_off}
 use Rattle.l4_links.specs.Inside.Keeping.{standing_of, entry_of, entries_of}
+use Rattle.l4_links.proofs.Writes.{spot_of}
 
 abbrev limb_of : Node → Limb
 limb_of n = record { parent = n.parent; depth = n.depth }
 
 abbrev worth_of : Node → Worth
-worth_of n = record { frame = n.frame; rights = n.rights; source = n.source }
+worth_of n = record { frame = n.frame; rights = n.rights; source = n.source; granted = n.granted }
 
 -- what stands, of its tree and its worth
 abbrev pub stands_as : Option Limb → Option Worth → Option Standing
 stands_as None w = None
 stands_as (Some x) None = None
-stands_as (Some x) (Some w) = Some (record { frame = w.frame; rights = w.rights; source = w.source; parent = x.parent })
+stands_as (Some x) (Some w) = Some (record { frame = w.frame; rights = w.rights; source = w.source; granted = w.granted; parent = x.parent })
 
-abbrev pub joined : Option Place → Option Limb → Option Worth → Option Entry
+abbrev pub joined : Option Spot → Option Limb → Option Worth → Option Entry
 joined None x w = None
-joined (Some p) x w = Some (record { place = p; stands = stands_as x w })
+joined (Some p) x w = Some (record { place = p.place; wanted = p.wanted; stands = stands_as x w })
 
 pub at_seen : (slots : Slots) (k : ℕ) → entry_at (entries_of slots) k ≡ option_map entry_of (slot_at slots k)
 at_seen slots k = get_or-map (option_map entry_of) slots k None
@@ -36,13 +36,13 @@ at_seen slots k = get_or-map (option_map entry_of) slots k None
 pub shown_is : (slots : Slots) (k : ℕ) → entry_at (entries_of slots) k ≡ joined (spots slots k) (limbs slots k) (values slots k)
 shown_is slots k = at_seen slots k ∙ over (slot_at slots k)
   where
-    inside : (p : Place) (o : Option Node) → ◌≡◌ {A = Option Entry} (Some (record { place = p; stands = option_map standing_of o })) (joined (Some p) (option_map limb_of o) (option_map worth_of o))
+    inside : (p : Spot) (o : Option Node) → ◌≡◌ {A = Option Entry} (Some (record { place = p.place; wanted = p.wanted; stands = option_map standing_of o })) (joined (Some p) (option_map limb_of o) (option_map worth_of o))
     inside p None = refl
     inside p (Some n) = refl
 
-    over : (o : Option Slot) → option_map entry_of o ≡ joined (option_map (λ (s : Slot). s.place) o) (option_map limb_of (option_and_then (λ (s : Slot). s.node) o)) (option_map worth_of (option_and_then (λ (s : Slot). s.node) o))
+    over : (o : Option Slot) → option_map entry_of o ≡ joined (option_map spot_of o) (option_map limb_of (option_and_then (λ (s : Slot). s.node) o)) (option_map worth_of (option_and_then (λ (s : Slot). s.node) o))
     over None = refl
-    over (Some s) = inside s.place s.node
+    over (Some s) = inside (spot_of s) s.node
 
 pub entry_same : (a b : Slots) (k : ℕ) → spots b k ≡ spots a k → limbs b k ≡ limbs a k → values b k ≡ values a k → entry_at (entries_of b) k ≡ entry_at (entries_of a) k
 entry_same a b k p l v = shown_is b k ∙ (λ i. joined (p i) (l i) (v i)) ∙ sym (shown_is a k)
@@ -88,21 +88,36 @@ source_is slots k = ap (option_map (λ (t : Standing). t.source)) (standing_is s
     over (Some n) = refl
 
 -- an entry where something stands now
-pub stands_joined : (o : Option Place) (x : Limb) (w : Worth) (y : Option Limb) (v : Option Worth)
-    → joined o (Some x) (Some w) ≡ option_map (λ (e : Entry). record e { stands = Some (record { frame = w.frame; rights = w.rights; source = w.source; parent = x.parent }) }) (joined o y v)
+pub stands_joined : (o : Option Spot) (x : Limb) (w : Worth) (y : Option Limb) (v : Option Worth)
+    → joined o (Some x) (Some w) ≡ option_map (λ (e : Entry). record e { stands = Some (record { frame = w.frame; rights = w.rights; source = w.source; granted = w.granted; parent = x.parent }) }) (joined o y v)
 stands_joined None x w y v = refl
 stands_joined (Some p) x w y v = refl
 
 -- an entry that was capped
-pub capped_joined : (cap : RightsSet) (o : Option Place) (x : Option Limb) (w : Option Worth) → joined o x (option_map (capped_worth cap) w) ≡ option_map (capped cap) (joined o x w)
+pub capped_joined : (cap : RightsSet) (o : Option Spot) (x : Option Limb) (w : Option Worth) → joined o x (option_map (capped_worth cap) w) ≡ option_map (capped cap) (joined o x w)
 capped_joined cap None x w = refl
 capped_joined cap (Some p) None w = refl
 capped_joined cap (Some p) (Some x) None = refl
 capped_joined cap (Some p) (Some x) (Some w) = refl
 
-pub source_joined : (source : Bool) (o : Option Place) (x : Option Limb) (w : Option Worth)
+pub source_joined : (source : Bool) (o : Option Spot) (x : Option Limb) (w : Option Worth)
     → joined o x (option_map (λ (v : Worth). record v { source = source }) w) ≡ option_map (λ (e : Entry). record e { stands = option_map (λ (t : Standing). record t { source = source }) e.stands }) (joined o x w)
 source_joined source None x w = refl
 source_joined source (Some p) None w = refl
 source_joined source (Some p) (Some x) None = refl
 source_joined source (Some p) (Some x) (Some w) = refl
+
+-- an entry that is a source no more, nor granted
+pub plain_joined : (o : Option Spot) (x : Option Limb) (w : Option Worth)
+    → joined o x (option_map (λ (v : Worth). record v { source = false; granted = None }) w)
+    ≡ option_map (λ (e : Entry). record e { stands = option_map (λ (t : Standing). record t { source = false; granted = None }) e.stands }) (joined o x w)
+plain_joined None x w = refl
+plain_joined (Some p) None w = refl
+plain_joined (Some p) (Some x) None = refl
+plain_joined (Some p) (Some x) (Some w) = refl
+
+-- an entry that was cut off
+pub cut_joined : (o : Option Spot) (x : Option Limb) (w : Option Worth) → joined (left_spot o) None None ≡ cut_off (joined o x w)
+cut_joined None x w = refl
+cut_joined (Some p) x w =
+    elim (p.wanted) as (λ b. joined (if b then Some p else None) None None ≡ (if b then Some (record { place = p.place; wanted = p.wanted; stands = None }) else None)) [ true ↦ refl | false ↦ refl ]

@@ -10,44 +10,44 @@ use Rattle.l4_links.specs.declared.nodes.Slot.{Slot}
 use Rattle.l4_links.specs.Leads.{Leads}
 use Rattle.l4_links.specs.Inside.Trees.{Limb, parent_at, Rises}
 use Rattle.l4_links.specs.Inside.Trees as trees
-use Rattle.l4_links.specs.Inside.Nodes.{Slots, slot_at, node_at, spots, limbs, values, Worth, capped_worth, IsForest, Comes, Meets, NoneMet, IsSame}
+use Rattle.l4_links.specs.Inside.Nodes.{Slots, Spot, slot_at, node_at, spots, limbs, values, Worth, capped_worth, IsForest, Comes, Meets, NoneMet, IsSame}
 use Rattle.l4_links.specs.Inside.Nodes as nodes
 use Rattle.l4_links.specs.Inside.Orders.{position}
-use Rattle.l4_links.specs.Entries.{Entries, entry_at, standing_at, IsBlank, Descends, IsSource, AddsBlank, Stands, Sprouts, Prunes, Clears, CapsBelow, SetsSource, Moves, capped}
+use Rattle.l4_links.specs.Entries.{Entries, entry_at, standing_at, IsBlank, Descends, IsSource, AddsBlank, Stands, Sprouts, Clears, CapsBelow, SetsSource, SetsPlain, SetsWanted, TakesOver, capped, cut_off}
 use Rattle.l4_links.specs.Inside.Keeping.{standing_of, entry_of, entries_of, IsSound}
 use Rattle.l4_links.proofs.Writes.{map_at}
 use Rattle.l4_links.proofs.Growing.{leads_same, leads_from_new}
-use Rattle.l4_links.proofs.Seen.{joined, at_seen, shown_is, entry_same, standing_is, leads_of, descends_of, source_is, stands_joined, capped_joined, source_joined}
+use Rattle.l4_links.proofs.Seen.{joined, at_seen, shown_is, entry_same, standing_is, leads_of, descends_of, source_is, stands_joined, capped_joined, source_joined, plain_joined, cut_joined}
 use Rattle.l4_links.proofs.Kept.{none_below}
 
 abbrev limb_of : Node → Limb
 limb_of n = record { parent = n.parent; depth = n.depth }
 
 abbrev worth_of : Node → Worth
-worth_of n = record { frame = n.frame; rights = n.rights; source = n.source }
+worth_of n = record { frame = n.frame; rights = n.rights; source = n.source; granted = n.granted }
 
 -- what came stands under its key
-view_stands : (old new : Slots) (key : ℕ) (x : Limb) (w : Worth) → limbs new key ≡ Some x → Comes w key old new → Stands key (record { frame = w.frame; rights = w.rights; source = w.source; parent = x.parent }) (entries_of old) (entries_of new)
+view_stands : (old new : Slots) (key : ℕ) (x : Limb) (w : Worth) → limbs new key ≡ Some x → Comes w key old new → Stands key (record { frame = w.frame; rights = w.rights; source = w.source; granted = w.granted; parent = x.parent }) (entries_of old) (entries_of new)
 view_stands old new key x w is c = record {
   here =
       shown_is new key ∙ (λ i. joined (c.spots_same key i) (is i) (c.value_is i)) ∙ stands_joined (spots old key) x w (limbs old key) (values old key)
-      ∙ sym (ap (option_map (λ (e : Entry). record e { stands = Some (record { frame = w.frame; rights = w.rights; source = w.source; parent = x.parent }) })) (shown_is old key));
+      ∙ sym (ap (option_map (λ (e : Entry). record e { stands = Some (record { frame = w.frame; rights = w.rights; source = w.source; granted = w.granted; parent = x.parent }) })) (shown_is old key));
   others = λ o ne. entry_same old new o (c.spots_same o) (c.limbs_same o ne) (c.values_same o ne);
 }
 
-pub view_root : (old new : Slots) (key frame : ℕ) (rights : RightsSet) → Rises (limbs old) (limbs new) key → Comes (record { frame = frame; rights = rights; source = false }) key old new
-    → Stands key (record { frame = frame; rights = rights; source = false; parent = None }) (entries_of old) (entries_of new)
-view_root old new key frame rights r c = view_stands old new key (record { parent = None; depth = 0 }) (record { frame = frame; rights = rights; source = false }) r.filled c
+pub view_root : (old new : Slots) (key frame : ℕ) (rights : RightsSet) → Rises (limbs old) (limbs new) key → Comes (record { frame = frame; rights = rights; source = false; granted = None }) key old new
+    → Stands key (record { frame = frame; rights = rights; source = false; granted = None; parent = None }) (entries_of old) (entries_of new)
+view_root old new key frame rights r c = view_stands old new key (record { parent = None; depth = 0 }) (record { frame = frame; rights = rights; source = false; granted = None }) r.filled c
 
 pub view_child : (old new : Slots) (first : Option ℕ) (stamp walk parent key : ℕ) (above : Node) (rights : RightsSet) → IsSound old first stamp walk → node_at old parent ≡ Some above → trees.Sprouts (limbs old) (limbs new) parent key
-    → Comes (record { frame = above.frame; rights = common above.rights rights; source = false }) key old new → Sprouts parent key rights (entries_of old) (entries_of new)
+    → Comes (record { frame = above.frame; rights = common above.rights rights; source = false; granted = None }) key old new → Sprouts parent key rights (entries_of old) (entries_of new)
 view_child old new first stamp walk parent key above rights s at p c =
     let same = leads_same (limbs old) (limbs new) (position s.keys) parent key s.forest.tree p in
     let from = leads_from_new (limbs old) (limbs new) (position s.keys) parent key s.forest.tree p in
     record {
       above = standing_of above;
       at_parent = standing_is old parent ∙ ap (option_map standing_of) at;
-      stands = view_stands old new key (record { parent = Some parent; depth = p.above.depth + 1 }) (record { frame = above.frame; rights = common above.rights rights; source = false }) p.filled c;
+      stands = view_stands old new key (record { parent = Some parent; depth = p.above.depth + 1 }) (record { frame = above.frame; rights = common above.rights rights; source = false; granted = None }) p.filled c;
       leads = λ low high ne. (
         λ d. descends_of old ((same low high ne).0 (leads_of new d)),
         λ d. descends_of new ((same low high ne).1 (leads_of old d)),
@@ -58,18 +58,9 @@ view_child old new first stamp walk parent key above rights s at p c =
       );
     }
 
-pub view_prunes : (old new : Slots) (top : ℕ) → nodes.Prunes top old new → Prunes top (entries_of old) (entries_of new)
-view_prunes old new top p = record {
-  gone = λ k d. at_seen new k ∙ ap (option_map entry_of) (p.gone k (leads_of old d));
-  kept = λ k off. (let o : ¬ (Leads (parent_at (limbs old)) k top) = λ l. off (descends_of old l) in entry_same old new k (p.spots_kept k o) (p.limbs_kept k o) (p.values_kept k o));
-}
-
 -- nothing descends from a key where nothing stands
 pub nothing_below : (slots : Slots) (first : Option ℕ) (stamp walk top k : ℕ) → IsSound slots first stamp walk → node_at slots top ≡ None → Descends (entries_of slots) k top → ⊥
 nothing_below slots first stamp walk top k s none d = none_below slots s.keys s.forest top k none (leads_of slots d)
-
-pub prunes_none : (slots : Slots) (first : Option ℕ) (stamp walk top : ℕ) → IsSound slots first stamp walk → node_at slots top ≡ None → Prunes top (entries_of slots) (entries_of slots)
-prunes_none slots first stamp walk top s none = record { gone = λ k d. absurd (nothing_below slots first stamp walk top k s none d); kept = λ k off. refl }
 
 pub view_caps : (old new : Slots) (top : ℕ) (cap : RightsSet) → nodes.CapsBelow top cap old new → CapsBelow top cap (entries_of old) (entries_of new)
 view_caps old new top cap c = record {
@@ -114,7 +105,7 @@ view_source old new key source c = record {
     value_here = ap (option_map worth_of) c.here ∙ value_both (node_at old key)
 
 -- a blank came
-pub view_blank : (old new : Slots) (key : ℕ) (place : Place) → slot_at old key ≡ None → slot_at new key ≡ Some (record { place = place; node = None }) → ((o : ℕ) → o ≢ key → slot_at new o ≡ slot_at old o) → AddsBlank place (entries_of old) (entries_of new) key
+pub view_blank : (old new : Slots) (key : ℕ) (place : Place) → slot_at old key ≡ None → slot_at new key ≡ Some (record { place = place; wanted = false; node = None }) → ((o : ℕ) → o ≢ key → slot_at new o ≡ slot_at old o) → AddsBlank place (entries_of old) (entries_of new) key
 view_blank old new key place vacant filled others = record {
   vacant = at_seen old key ∙ ap (option_map entry_of) vacant;
   filled = at_seen new key ∙ ap (option_map entry_of) filled;
@@ -124,7 +115,7 @@ view_blank old new key place vacant filled others = record {
 -- what came is a blank
 pub blank_added : (place : Place) (old new : Entries) (key : ℕ) → AddsBlank place old new key → IsBlank new key
 blank_added place old new key a = record {
-  there = λ none. (let w : ◌≡◌ {A = Option Entry} (Some (record { place = place; stands = None })) None = sym a.filled ∙ none in absurd (let z : ◌≡◌ {A = Option Entry} (Some (record { place = place; stands = None })) None = w in cc));
+  there = λ none. (let w : ◌≡◌ {A = Option Entry} (Some (record { place = place; wanted = false; stands = None })) None = sym a.filled ∙ none in absurd (let z : ◌≡◌ {A = Option Entry} (Some (record { place = place; wanted = false; stands = None })) None = w in cc));
   blank = ap (option_and_then (λ (e : Entry). e.stands)) a.filled;
 }
 
@@ -136,14 +127,16 @@ view_others old new o e = at_seen new o ∙ ap (option_map entry_of) e ∙ sym (
 
 pub view_clears : (old new : Slots) (first after : Option ℕ) (top : ℕ) → nodes.Clears top first after old new → Clears top (entries_of old) (entries_of new)
 view_clears old new first after top p = record {
-  gone = λ k d. at_seen new k ∙ ap (option_map entry_of) (p.gone k (leads_of old d));
+  gone = λ k d.
+      let l = leads_of old d in
+      shown_is new k ∙ (λ i. joined (p.spots_gone k l i) (option_map limb_of (p.gone k l i)) (option_map worth_of (p.gone k l i))) ∙ cut_joined (spots old k) (limbs old k) (values old k) ∙ sym (ap cut_off (shown_is old k));
   here =
       shown_is new top ∙ (λ i. joined (p.spot i) (option_map limb_of (p.here i)) (option_map worth_of (p.here i))) ∙ blank_joined (spots old top) (limbs old top) (values old top)
       ∙ sym (ap (option_map (λ (e : Entry). record e { stands = None })) (shown_is old top));
   kept = λ k ne off. (let o : ¬ (Leads (parent_at (limbs old)) k top) = λ l. off (descends_of old l) in entry_same old new k (p.spots_kept k ne o) (p.limbs_kept k ne o) (p.values_kept k ne o));
 }
   where
-    blank_joined : (o : Option Place) (x : Option Limb) (w : Option Worth) → joined o None None ≡ option_map (λ (e : Entry). record e { stands = None }) (joined o x w)
+    blank_joined : (o : Option Spot) (x : Option Limb) (w : Option Worth) → joined o None None ≡ option_map (λ (e : Entry). record e { stands = None }) (joined o x w)
     blank_joined None x w = refl
     blank_joined (Some p) x w = refl
 
@@ -157,14 +150,56 @@ clears_none slots first stamp walk top s none = record {
   where
     blank_entry : (o : Option Slot) → option_and_then (λ (s : Slot). s.node) o ≡ None → option_map entry_of o ≡ option_map (λ (e : Entry). record e { stands = None }) (option_map entry_of o)
     blank_entry None e = refl
-    blank_entry (Some s) e = ap (λ (n : Option Node). Some (record { place = s.place; stands = option_map standing_of n })) e
+    blank_entry (Some s) e = ap (λ (n : Option Node). Some (record { place = s.place; wanted = s.wanted; stands = option_map standing_of n })) e
 
-pub view_moves : (old new : Slots) (key : ℕ) (place : Place) → nodes.SetsPlace key place old new → Moves key place (entries_of old) (entries_of new)
-view_moves old new key place c = record {
-  here = at_seen new key ∙ ap (option_map entry_of) c.here ∙ over (slot_at old key) ∙ sym (ap (option_map (λ (e : Entry). record e { place = place })) (at_seen old key));
+pub view_wanted : (old new : Slots) (key : ℕ) (wanted : Bool) → nodes.SetsWanted key wanted old new → SetsWanted key wanted (entries_of old) (entries_of new)
+view_wanted old new key wanted c = record {
+  here = at_seen new key ∙ ap (option_map entry_of) c.here ∙ over (slot_at old key) ∙ sym (ap (option_map (λ (e : Entry). record e { wanted = wanted })) (at_seen old key));
   others = λ o ne. view_others old new o (c.others o ne);
 }
   where
-    over : (o : Option Slot) → option_map entry_of (option_map (λ (s : Slot). record s { place = place }) o) ≡ option_map (λ (e : Entry). record e { place = place }) (option_map entry_of o)
+    over : (o : Option Slot) → option_map entry_of (option_map (λ (s : Slot). record s { wanted = wanted }) o) ≡ option_map (λ (e : Entry). record e { wanted = wanted }) (option_map entry_of o)
     over None = refl
     over (Some s) = refl
+
+pub view_plain : (old new : Slots) (key : ℕ) → nodes.SetsPlain key old new → SetsPlain key (entries_of old) (entries_of new)
+view_plain old new key c = record {
+  here =
+      shown_is new key ∙ (λ i. joined (c.spots_same key i) (limb_here i) (value_here i)) ∙ plain_joined (spots old key) (limbs old key) (values old key)
+      ∙ sym (ap (option_map (λ (e : Entry). record e { stands = option_map (λ (t : Standing). record t { source = false; granted = None }) e.stands })) (shown_is old key));
+  others = λ o ne. entry_same old new o (c.spots_same o) (ap (option_map limb_of) (c.others o ne)) (ap (option_map worth_of) (c.others o ne));
+}
+  where
+    limb_both : (o : Option Node) → option_map limb_of (option_map (λ (n : Node). record n { source = false; granted = None }) o) ≡ option_map limb_of o
+    limb_both None = refl
+    limb_both (Some n) = refl
+
+    value_both : (o : Option Node) → option_map worth_of (option_map (λ (n : Node). record n { source = false; granted = None }) o) ≡ option_map (λ (v : Worth). record v { source = false; granted = None }) (option_map worth_of o)
+    value_both None = refl
+    value_both (Some n) = refl
+
+    limb_here : limbs new key ≡ limbs old key
+    limb_here = ap (option_map limb_of) c.here ∙ limb_both (node_at old key)
+
+    value_here : values new key ≡ option_map (λ (v : Worth). record v { source = false; granted = None }) (values old key)
+    value_here = ap (option_map worth_of) c.here ∙ value_both (node_at old key)
+
+pub view_takes : (old new : Slots) (key blank : ℕ) (rights : RightsSet) → nodes.TakesOver key blank rights old new → TakesOver key blank rights (entries_of old) (entries_of new)
+view_takes old new key blank rights c = record {
+  page = entry_of c.page;
+  was = at_seen old blank ∙ ap (option_map entry_of) c.was;
+  here =
+      at_seen new key ∙ ap (option_map entry_of) c.here ∙ over c.page.place (slot_at old key)
+      ∙ sym (ap (option_map (λ (e : Entry). record e { place = c.page.place; stands = option_map (λ (t : Standing). record t { granted = Some rights }) e.stands })) (at_seen old key));
+  gone = view_gone new blank c.gone;
+  others = λ o nk nb. view_others old new o (c.others o nk nb);
+}
+  where
+    stands_over : (o : Option Node) → option_map standing_of (option_map (λ (n : Node). record n { granted = Some rights }) o) ≡ option_map (λ (t : Standing). record t { granted = Some rights }) (option_map standing_of o)
+    stands_over None = refl
+    stands_over (Some n) = refl
+
+    over : (p : Place) (o : Option Slot) → option_map entry_of (option_map (λ (s : Slot). record s { place = p; node = option_map (λ (n : Node). record n { granted = Some rights }) s.node }) o)
+        ≡ option_map (λ (e : Entry). record e { place = p; stands = option_map (λ (t : Standing). record t { granted = Some rights }) e.stands }) (option_map entry_of o)
+    over p None = refl
+    over p (Some s) = ap (λ (t : Option Standing). Some (record { place = p; wanted = s.wanted; stands = t })) (stands_over s.node)

@@ -329,7 +329,7 @@ walk_step old cur new top depth cap stamp count key node on c at deep w a =
                 let small : IsLow cap m.0.rights = a.low k m.0 m.1 gt hi in
                 let here : values cur k ≡ Some (worth_of m.0) = value_at cur k m.0 m.1 in
                 let old_here : values old k ≡ Some (worth_of m.0) = sym was ∙ here in
-                ap (option_map worth_of) (w.others k ne) ∙ here ∙ ap (λ (z : RightsSet). Some (record { frame = m.0.frame; rights = z; source = m.0.source })) (sym small) ∙ sym (ap (option_map (capped_worth cap)) old_here)
+                ap (option_map worth_of) (w.others k ne) ∙ here ∙ ap (λ (z : RightsSet). Some (record { frame = m.0.frame; rights = z; source = m.0.source; granted = m.0.granted })) (sym small) ∙ sym (ap (option_map (capped_worth cap)) old_here)
           ];
       outside = λ k off.
           let ne : k ≢ key = λ e. let p : position c.keys k ≡ position c.keys key = ap (position c.keys) e in off (omega (arith, p, reached)) (omega (arith, p, beyond)) in

@@ -2,13 +2,15 @@
 use Rattle.std.proofs.Common.{◌≡◌, ◌≢◌, ℕ, ◌≤◌, Option, Some, None, refl, sym, ap, ◌∙◌, subst, inl, inr}
 use Rattle.std.proofs.lemmas.Bool.{cases_eq}
 use Rattle.std.specs.Option.{option_map, option_and_then}
-use Rattle.l4_links.specs.declared.Place.{Place}
 use Rattle.l4_links.specs.declared.nodes.Node.{Node}
 use Rattle.l4_links.specs.declared.nodes.Slot.{Slot}
-use Rattle.l4_links.specs.Inside.Nodes.{Slots, slot_at, node_at, spots, marks, Marks, IsStamped}
+use Rattle.l4_links.specs.Inside.Nodes.{Slots, Spot, slot_at, node_at, spots, marks, Marks, IsStamped}
 
 abbrev pub marks_of : Node → Marks
 marks_of n = record { mark = n.mark; seen = n.seen }
+
+abbrev pub spot_of : Slot → Spot
+spot_of s = record { place = s.place; wanted = s.wanted }
 
 map_both : {X : Type 0} (F : Node → X) (f : Node → Node) → ((n : Node) → F (f n) ≡ F n) → (o : Option Node) → option_map F (option_map f o) ≡ option_map F o
 map_both F f same None = refl
@@ -51,9 +53,9 @@ stamped_at f stamp fits key old new here others s some k m is = elim (cases_eq k
 
 -- a key without a place has no slot
 pub no_slot : (slots : Slots) (k : ℕ) → spots slots k ≡ None → slot_at slots k ≡ None
-no_slot slots k e = elim (slot_at slots k) as (λ o. option_map (λ (s : Slot). s.place) o ≡ None → o ≡ None) [
+no_slot slots k e = elim (slot_at slots k) as (λ o. option_map spot_of o ≡ None → o ≡ None) [
   | None ↦ λ _. refl
-  | Some s ↦ λ w. absurd (let z : ◌≡◌ {A = Option Place} (Some s.place) None = w in cc)
+  | Some s ↦ λ w. absurd (let z : ◌≡◌ {A = Option Spot} (Some (spot_of s)) None = w in cc)
 ] e
 
 -- a node has a slot

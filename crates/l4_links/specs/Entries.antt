@@ -1,8 +1,11 @@
--- What a contract sees of the nodes: the page of each key, and what stands there.
-use Rattle.std.specs.Prelude.{◌≡◌, ◌≢◌, ◌↔◌, ◌⊎◌, ℕ, Bool, true, false, List, Option, Some, None, slice_index_or, option_and_then, is_some, IsTrue, refl}
+-- What a contract sees of the nodes: the spaces that there are, the page of each key, and what stands there.
+use Rattle.std.specs.Prelude.{◌≡◌, ◌≢◌, ◌↔◌, ◌⊎◌, ◌<◌, ◌≤◌, ℕ, Bool, true, false, List, Option, Some, None, slice_index_or, option_and_then, is_some, if◌then◌else◌, IsTrue, refl}
 use Rattle.std.specs.Option.{option_map}
+use Rattle.std.specs.Ordering.{nat_cmp}
+use Rattle.std.specs.FinSet as set
 use Rattle.std.specs.Coded.{Coded, code_by, coded×, coded_ℕ, coded_bool, coded_list, coded_option}
-use Rattle.l4_fpage.specs.Rights.{RightsSet, rights_code, common}
+use Rattle.l4_fpage.specs.Rights.{RightsSet, rights_code, common, no_rights}
+use Rattle.l4_spaces.specs.Tables.{IsPage}
 use Rattle.l4_links.specs.declared.Place.{Place}
 use Rattle.l4_links.specs.declared.Standing.{Standing}
 use Rattle.l4_links.specs.declared.Entry.{Entry}
@@ -17,14 +20,24 @@ place_code = code_by (ℕ × ℕ) (coded× coded_ℕ coded_ℕ) (λ p. (p.space,
 
 abbrev pub standing_code : Coded Standing
 standing_code =
-    code_by (ℕ × (RightsSet × (Bool × Option ℕ))) (coded× coded_ℕ (coded× rights_code (coded× coded_bool (coded_option coded_ℕ))))
-    (λ t. (t.frame, (t.rights, (t.source, t.parent)))) (λ p. record { frame = p.0; rights = p.1.0; source = p.1.1.0; parent = p.1.1.1 }) (λ _. refl)
+    code_by (ℕ × (RightsSet × (Bool × (Option RightsSet × Option ℕ)))) (coded× coded_ℕ (coded× rights_code (coded× coded_bool (coded× (coded_option rights_code) (coded_option coded_ℕ)))))
+    (λ t. (t.frame, (t.rights, (t.source, (t.granted, t.parent))))) (λ p. record { frame = p.0; rights = p.1.0; source = p.1.1.0; granted = p.1.1.1.0; parent = p.1.1.1.1 }) (λ _. refl)
 
 abbrev pub entry_code : Coded Entry
-entry_code = code_by (Place × Option Standing) (coded× place_code (coded_option standing_code)) (λ e. (e.place, e.stands)) (λ p. record { place = p.0; stands = p.1 }) (λ _. refl)
+entry_code =
+    code_by (Place × (Bool × Option Standing)) (coded× place_code (coded× coded_bool (coded_option standing_code)))
+    (λ e. (e.place, (e.wanted, e.stands))) (λ p. record { place = p.0; wanted = p.1.0; stands = p.1.1 }) (λ _. refl)
 
 abbrev pub entries_code : Coded Entries
 entries_code = coded_list (coded_option entry_code)
+
+-- the entries, and the spaces that there are
+pub record Linked : Type 0 where
+  pub entries : Entries
+  pub spaces : set.FinSet nat_cmp
+
+abbrev pub linked_code : Coded Linked
+linked_code = code_by (Entries × set.FinSet nat_cmp) (coded× entries_code (set.code coded_ℕ)) (λ s. (s.entries, s.spaces)) (λ p. record { entries = p.0; spaces = p.1 }) (λ _. refl)
 
 -- the entry under a key
 abbrev pub entry_at : Entries → ℕ → Option Entry
@@ -47,6 +60,35 @@ pub record IsBlank (s : Entries) (key : ℕ) : Type 0 where
 abbrev pub parent_of : Entries → ℕ → Option ℕ
 parent_of s key = option_and_then (λ (t : Standing). t.parent) (standing_at s key)
 
+-- the key is of the page
+abbrev pub IsAt : Entries → Place → ℕ → Type 0
+IsAt s place key = option_map {T = Entry} (λ e. e.place) (entry_at s key) ≡ Some place
+
+-- the page has a key
+abbrev pub HasKey : Entries → ℕ → ℕ → Type 0
+HasKey s space page = (key : ℕ) × IsAt s (record { space = space; page = page }) key
+
+-- no page of the space from this one on has a key
+abbrev pub NoKeyFrom : Entries → ℕ → ℕ → Type 0
+NoKeyFrom s space page = (other : ℕ) → page ≤ other → ¬ (HasKey s space other)
+
+-- the least page of the space with a key that is not below this one
+pub record IsNextKey (s : Entries) (space page next : ℕ) : Type 0 where
+  pub there : HasKey s space next
+  pub from : page ≤ next
+  pub least : (other : ℕ) → page ≤ other → HasKey s space other → next ≤ other
+
+-- no page of the space from this one on and below the end has a key
+abbrev pub NoKeyIn : Entries → ℕ → ℕ → ℕ → Type 0
+NoKeyIn s space page end = (other : ℕ) → page ≤ other → other < end → ¬ (HasKey s space other)
+
+-- the least page of the space with a key that is not below this one, and it is below the end
+pub record IsNextKeyIn (s : Entries) (space page end next : ℕ) : Type 0 where
+  pub there : HasKey s space next
+  pub from : page ≤ next
+  pub before : next < end
+  pub least : (other : ℕ) → page ≤ other → HasKey s space other → next ≤ other
+
 -- one or more steps to the parent lead from the first key to the second
 abbrev pub Descends : Entries → ℕ → ℕ → Type 0
 Descends s low high = Leads (parent_of s) low high
@@ -55,6 +97,29 @@ Descends s low high = Leads (parent_of s) low high
 abbrev pub IsSource : Entries → ℕ → Type 0
 IsSource s key = option_map (λ (t : Standing). t.source) (standing_at s key) ≡ Some true
 
+-- what stands has a right
+abbrev pub HaveRights : Entries → Type 0
+HaveRights s = (key : ℕ) (t : Standing) → standing_at s key ≡ Some t → t.rights ≢ no_rights
+
+-- each page lies in a space that is there, and has one key
+pub record HavePlaces (s : Linked) : Type 0 where
+  pub housed : (key : ℕ) (e : Entry) → entry_at s.entries key ≡ Some e → IsTrue (set.contains s.spaces e.place.space)
+  pub fits : (key : ℕ) (e : Entry) → entry_at s.entries key ≡ Some e → IsPage e.place.page
+  pub once : (place : Place) (a b : ℕ) → IsAt s.entries place a → IsAt s.entries place b → a ≡ b
+
+-- the parent stands, shows the same frame, and has all rights of its child
+pub record ParentStands (s : Entries) (t : Standing) (parent : ℕ) : Type 0 where
+  pub above : Standing
+  pub at : standing_at s parent ≡ Some above
+  pub frame : t.frame ≡ above.frame
+  pub within : common t.rights above.rights ≡ t.rights
+
+-- what stands, stands in trees
+pub record AreTrees (s : Entries) : Type 0 where
+  pub parents : (key : ℕ) (t : Standing) (parent : ℕ) → standing_at s key ≡ Some t → t.parent ≡ Some parent → ParentStands s t parent
+  pub apart : (key : ℕ) → ¬ (Descends s key key)
+  pub decided : (low high : ℕ) → Descends s low high ⊎ ¬ (Descends s low high)
+
 -- what stands has no other rights than these
 abbrev pub capped : RightsSet → Entry → Entry
 capped cap e = record e { stands = option_map (λ (t : Standing). record t { rights = common t.rights cap }) e.stands }
@@ -62,7 +127,7 @@ capped cap e = record e { stands = option_map (λ (t : Standing). record t { rig
 -- a blank for the place has come under the key
 pub record AddsBlank (place : Place) (old new : Entries) (key : ℕ) : Type 0 where
   pub vacant : entry_at old key ≡ None
-  pub filled : entry_at new key ≡ Some (record { place = place; stands = None })
+  pub filled : entry_at new key ≡ Some (record { place = place; wanted = false; stands = None })
   pub others : (other : ℕ) → other ≢ key → entry_at new other ≡ entry_at old other
 
 -- this stands under the key now, and all else is as it was
@@ -74,20 +139,24 @@ pub record Stands (key : ℕ) (standing : Standing) (old new : Entries) : Type 0
 pub record Sprouts (parent key : ℕ) (rights : RightsSet) (old new : Entries) : Type 0 where
   pub above : Standing
   pub at_parent : standing_at old parent ≡ Some above
-  pub stands : Stands key (record { frame = above.frame; rights = common above.rights rights; source = false; parent = Some parent }) old new
+  pub stands : Stands key (record { frame = above.frame; rights = common above.rights rights; source = false; granted = None; parent = Some parent }) old new
   pub leads : (low high : ℕ) → low ≢ key → Descends new low high ↔ Descends old low high
   pub from_new : (high : ℕ) → Descends new key high ↔ ((high ≡ parent) ⊎ Descends old parent high)
 
--- what descends from the key has gone, and all else is as it was
-pub record Prunes (top : ℕ) (old new : Entries) : Type 0 where
-  pub gone : (key : ℕ) → Descends old key top → entry_at new key ≡ None
-  pub kept : (key : ℕ) → ¬ (Descends old key top) → entry_at new key ≡ entry_at old key
+-- what is left of a page that is cut off: a blank where it is wanted, else nothing
+abbrev pub cut_off : Option Entry → Option Entry
+cut_off cut = option_and_then (λ (e : Entry). if e.wanted then Some (record e { stands = None }) else None) cut
 
--- what descends from the key has gone, nothing stands under the key, and all else is as it was
+-- what descends from the key is cut off, nothing stands under the key, and all else is as it was
 pub record Clears (top : ℕ) (old new : Entries) : Type 0 where
-  pub gone : (key : ℕ) → Descends old key top → entry_at new key ≡ None
+  pub gone : (key : ℕ) → Descends old key top → entry_at new key ≡ cut_off (entry_at old key)
   pub here : entry_at new top ≡ option_map {T = Entry} (λ e. record e { stands = None }) (entry_at old top)
   pub kept : (key : ℕ) → key ≢ top → ¬ (Descends old key top) → entry_at new key ≡ entry_at old key
+
+-- what stands without a right has gone with its page, and all else is as it was
+pub record Buries (old new : Entries) : Type 0 where
+  pub gone : (key : ℕ) (t : Standing) → standing_at old key ≡ Some t → t.rights ≡ no_rights → entry_at new key ≡ None
+  pub kept : (key : ℕ) → ((t : Standing) → standing_at old key ≡ Some t → t.rights ≢ no_rights) → entry_at new key ≡ entry_at old key
 
 -- what descends from the key has no other rights than these, and all else is as it was
 pub record CapsBelow (top : ℕ) (cap : RightsSet) (old new : Entries) : Type 0 where
@@ -105,7 +174,20 @@ pub record SetsSource (key : ℕ) (source : Bool) (old new : Entries) : Type 0 w
   pub here : entry_at new key ≡ option_map {T = Entry} (λ e. record e { stands = option_map (λ (t : Standing). record t { source = source }) e.stands }) (entry_at old key)
   pub others : (other : ℕ) → other ≢ key → entry_at new other ≡ entry_at old other
 
--- the page of the key is this one, and all else is as it was
-pub record Moves (key : ℕ) (place : Place) (old new : Entries) : Type 0 where
-  pub here : entry_at new key ≡ option_map {T = Entry} (λ e. record e { place = place }) (entry_at old key)
+-- what stands under the key is neither a source nor granted any more, and all else is as it was
+pub record SetsPlain (key : ℕ) (old new : Entries) : Type 0 where
+  pub here : entry_at new key ≡ option_map {T = Entry} (λ e. record e { stands = option_map (λ (t : Standing). record t { source = false; granted = None }) e.stands }) (entry_at old key)
   pub others : (other : ℕ) → other ≢ key → entry_at new other ≡ entry_at old other
+
+-- the page of the key is wanted now or not, and all else is as it was
+pub record SetsWanted (key : ℕ) (wanted : Bool) (old new : Entries) : Type 0 where
+  pub here : entry_at new key ≡ option_map {T = Entry} (λ e. record e { wanted = wanted }) (entry_at old key)
+  pub others : (other : ℕ) → other ≢ key → entry_at new other ≡ entry_at old other
+
+-- what stands under the key has taken the blank's page, with a note of the rights of the item that grants it; the blank has gone, and all else is as it was
+pub record TakesOver (key blank : ℕ) (rights : RightsSet) (old new : Entries) : Type 0 where
+  pub page : Entry
+  pub was : entry_at old blank ≡ Some page
+  pub here : entry_at new key ≡ option_map {T = Entry} (λ e. record e { place = page.place; stands = option_map (λ (t : Standing). record t { granted = Some rights }) e.stands }) (entry_at old key)
+  pub gone : entry_at new blank ≡ None
+  pub others : (other : ℕ) → other ≢ key → other ≢ blank → entry_at new other ≡ entry_at old other

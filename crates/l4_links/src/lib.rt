@@ -1,18 +1,24 @@
-//! Pages and what was mapped from what: the nodes of all pages stand in a slab, linked in one list in depth-first order. A new
-//! child goes straight after its parent, and what descends from a node is the run of deeper nodes straight after it, so each
-//! operation walks the nodes that it touches. No contract speaks of the list: what is said is said of parents and of what
-//! descends from them.
+//! Pages and what was mapped from what: the nodes of all pages stand in a slab, linked in one list in depth-first order, and page
+//! tables name the key of each page. A new child goes straight after its parent, and what descends from a node is the run of
+//! deeper nodes straight after it, so each operation walks the nodes that it touches. No contract speaks of the list or of the
+//! tables: what is said is said of parents, of what descends from them, and of which page has which key.
 #![tactic(auto)]
 
-ghost use Rattle.std.specs.Prelude.{◌≡◌, ◌≢◌, ◌⊎◌, [], ℕ, true, false, OnErr, IfOk, Some, None};
+ghost use Rattle.std.specs.Prelude.{◌≡◌, ◌≢◌, ◌⊎◌, ◌↔◌, ◌≤◌, [], ℕ, length, true, false, IsTrue, IsOk, OnOk, OnErr, IfOk, MatchOption, Some, None};
+ghost use Rattle.std.specs.FinSet as set;
+ghost use Rattle.l4_spaces.specs.Tables.{IsPage};
 
 mod lists;
+mod names;
 mod nodes;
 mod stamps;
 mod walks;
 
 use l4_fpage::Rights;
-use nodes::{Slot, cap_at, node_of, set_place, set_source, standing_of};
+pub use l4_spaces::NoMemory;
+use l4_spaces::Spaces;
+use names::{remove, take_over};
+use nodes::{Slot, cap_at, node_of, set_plain, set_source, set_wanted, standing_of};
 use slab::Slab;
 use stamps::{SOURCES_WALK, fresh, stamp_for};
 use std::alloc::Global;
@@ -23,7 +29,7 @@ use std::marker::Model;
 pub struct Place {
     /// The number of the space.
     pub space: u64,
-    /// The page, in units of 4,096 bytes.
+    /// The page, below 2^20, in units of 4,096 bytes.
     pub page: u32,
 }
 
@@ -36,6 +42,8 @@ pub struct Standing {
     pub rights: Rights,
     /// Whether it is marked as one that a message moves.
     pub source: bool,
+    /// The rights of the item that has granted it here, while a message is delivered.
+    pub granted: Option<Rights>,
     /// The key of the parent: the page that it was mapped from. None at the top of its tree.
     pub parent: Option<usize>,
 }
@@ -45,18 +53,18 @@ pub struct Standing {
 pub struct Entry {
     /// The page.
     pub place: Place,
+    /// Whether a message fills the page: it stays as a blank where what stands there is cut off.
+    pub wanted: bool,
     /// None in a blank: a page with a key, where nothing stands.
     pub stands: Option<Standing>,
 }
 
-/// There was no memory, and nothing was changed.
-#[derive(Clone, Copy, Debug, PartialEq, Eq)]
-pub struct NoMemory;
-
-/// The nodes of all pages.
+/// The nodes of all pages, and the spaces that there are.
 #[derive(Drop)]
 pub struct Links {
     nodes: Slab<Slot>,
+    /// The key of each page.
+    pages: Spaces,
     /// The key of the first node of the list.
     first: Option<usize>,
     /// The marks of this stamp are right. The stamp 0 is of no mark.
@@ -66,11 +74,11 @@ pub struct Links {
 }
 
 impl Model for Links {
-    ghost use Rattle.l4_links.specs.Entries.{Entries, entries_code};
+    ghost use Rattle.l4_links.specs.Entries.{Linked, linked_code};
 
-    ghost Value = { Entries };
+    ghost Value = { Linked };
 
-    ghost coded = { entries_code };
+    ghost coded = { linked_code };
 
     ghost use Rattle.l4_links.specs.Inside.Keeping.{seen, IsKept};
 
@@ -80,67 +88,139 @@ impl Model for Links {
 }
 
 impl Links {
-    ghost use Rattle.l4_links.specs.Entries.{entry_at, standing_at, IsStanding, IsBlank, Descends, IsSource, AddsBlank, Stands, Sprouts, Prunes, Clears, CapsBelow, CapsTree, SetsSource, Moves};
+    ghost use Rattle.l4_links.specs.Entries.{entry_at, standing_at, IsStanding, IsBlank, IsAt, IsSource, HavePlaces, AreTrees, NoKeyFrom, IsNextKey, NoKeyIn, IsNextKeyIn, Descends, AddsBlank, Stands, Sprouts, Clears, CapsBelow, CapsTree, SetsSource, SetsPlain, SetsWanted, TakesOver};
 
-    /// No page.
+    /// No page, and no space.
     pub fn new(alloc: Global) -> Links
-        ensures { result ≡ [] }
+        ensures entries { result.entries ≡ [] }
+        ensures spaces { result.spaces ≡ set.empty }
     {
         Links {
             nodes: Slab::new(alloc),
+            pages: Spaces::new(alloc),
             first: None,
             stamp: 1,
             walk: SOURCES_WALK,
         }
     }
 
+    /// Begins an empty space. Nothing changes if it is there.
+    pub fn add_space(&mut self, space: u64) -> Result<(), NoMemory>
+        ensures ok { OnOk result (self.new ≡ record self.old { spaces = set.insert self.old.spaces space }) }
+        ensures err { OnErr result (self.new ≡ self.old) }
+        ensures succeeds { IsTrue (set.contains self.old.spaces space) → IsOk result }
+        ensures there { IsTrue (set.contains self.old.spaces space) → self.new ≡ self.old }
+    {
+        self.pages.add(space)
+    }
+
+    /// Ends a space that no key is of. Nothing changes if it isn't there.
+    pub fn end_space(&mut self, space: u64)
+        requires empty { NoKeyFrom self.old.entries space 0 }
+        ensures { self.new ≡ record self.old { spaces = set.remove self.old.spaces space } }
+    {
+        self.pages.remove(space);
+    }
+
+    /// The key of the page.
+    pub fn find(&self, place: Place) -> Option<usize>
+        ensures { (key : ℕ) → (result ≡ Some key) ↔ IsAt self.now.entries place key }
+    {
+        self.pages.get(place.space, place.page)
+    }
+
+    /// The least page of the space with a key that is not below `page`, None where there is none.
+    pub fn next_key(&self, space: u64, page: u32) -> Option<u32>
+        ensures { MatchOption result (NoKeyFrom self.now.entries space page) (IsNextKey self.now.entries space page) }
+    {
+        self.pages.next_present(space, page)
+    }
+
+    /// The least page of the space with a key that is not below `page`, if it is below `end`. Nothing from `end` on is looked at.
+    pub fn next_key_in(&self, space: u64, page: u32, end: u32) -> Option<u32>
+        ensures { MatchOption result (NoKeyIn self.now.entries space page end) (IsNextKeyIn self.now.entries space page end) }
+    {
+        self.pages.next_in(space, page, end)
+    }
+
+    /// A number that all keys lie below.
+    pub fn bound(&self) -> usize
+        ensures { length self.now.entries ≤ result }
+    {
+        self.nodes.capacity()
+    }
+
+    /// What holds of the pages at all times: each lies in a space that is there, and has one key. It does nothing.
+    pub fn law_places(&self)
+        ensures { HavePlaces self.now }
+    {
+        let _ = &self.nodes;
+    }
+
+    /// What holds of what stands at all times: it stands in trees. It does nothing.
+    pub fn law_trees(&self)
+        ensures { AreTrees self.now.entries }
+    {
+        let _ = &self.nodes;
+    }
+
     /// What is under the key.
     pub fn at(&self, key: usize) -> Option<Entry>
-        ensures { result ≡ entry_at self.now key }
+        ensures { result ≡ entry_at self.now.entries key }
     {
         let Some(slot) = self.nodes.get(key) else {
             return None;
         };
         Some(Entry {
             place: slot.place,
+            wanted: slot.wanted,
             stands: standing_of(slot.node),
         })
     }
 
-    /// Whether something stands under the key.
-    pub fn stands(&self, key: usize) -> bool
-        ensures { result ≡ true → IsStanding self.now key }
+    /// What stands under the key.
+    pub fn standing(&self, key: usize) -> Option<Standing>
+        ensures { result ≡ standing_at self.now.entries key }
     {
-        node_of(&self.nodes, key).is_some()
+        standing_of(node_of(&self.nodes, key))
     }
 
-    /// Adds a blank for the page. Its key is given.
+    /// Adds a blank for a page that has no key. Its key is given.
     pub fn add_blank(&mut self, place: Place) -> Result<usize, NoMemory>
-        ensures ok { IfOk result (AddsBlank place self.old self.new) }
-        ensures blank { IfOk result (IsBlank self.new) }
+        requires there { IsTrue (set.contains self.old.spaces place.space) }
+        requires fits { IsPage place.page }
+        requires free { (key : ℕ) → ¬ (IsAt self.old.entries place key) }
+        ensures ok { IfOk result (AddsBlank place self.old.entries self.new.entries) }
+        ensures blank { IfOk result (IsBlank self.new.entries) }
+        ensures spaces { self.new.spaces ≡ self.old.spaces }
         ensures err { OnErr result (self.new ≡ self.old) }
     {
-        let slot = Slot { place, node: None };
-        let key = match self.nodes.insert(slot) {
-            Ok(key) => key,
-            Err(_) => return Err(NoMemory),
+        self.pages.prepare(place.space, &[place.page])?;
+        let slot = Slot {
+            place,
+            wanted: false,
+            node: None,
         };
+        let key = self.nodes.insert(slot)?;
+        self.pages.set(place.space, place.page, key);
         Ok(key)
     }
 
     /// Takes the blank under the key away.
     pub fn take_blank(&mut self, key: usize)
-        requires blank { IsBlank self.old key }
-        ensures gone { entry_at self.new key ≡ None }
-        ensures others { (other : ℕ) → other ≢ key → entry_at self.new other ≡ entry_at self.old other }
+        requires blank { IsBlank self.old.entries key }
+        ensures gone { entry_at self.new.entries key ≡ None }
+        ensures others { (other : ℕ) → other ≢ key → entry_at self.new.entries other ≡ entry_at self.old.entries other }
+        ensures spaces { self.new.spaces ≡ self.old.spaces }
     {
-        let _ = self.nodes.try_remove(key);
+        remove(&mut self.nodes, &mut self.pages, key);
     }
 
-    /// Lets the top of a tree stand at the blank.
+    /// Lets the top of a tree stand at the blank, with some right.
     pub fn stand_root(&mut self, key: usize, frame: u32, rights: Rights)
-        requires blank { IsBlank self.old key }
-        ensures { Stands key (record { frame = frame; rights = rights; source = false; parent = None }) self.old self.new }
+        requires blank { IsBlank self.old.entries key }
+        ensures stands { Stands key (record { frame = frame; rights = rights; source = false; granted = None; parent = None }) self.old.entries self.new.entries }
+        ensures spaces { self.new.spaces ≡ self.old.spaces }
     {
         lists::link_root(&mut self.nodes, self.first, key, frame, rights);
         self.first = Some(key);
@@ -148,11 +228,12 @@ impl Links {
     }
 
     /// Lets a child of the parent stand at the blank. It shows the parent's frame, and has those of these rights that the
-    /// parent has.
+    /// parent has, of which there is one.
     pub fn stand_under(&mut self, parent: usize, key: usize, rights: Rights)
-        requires there { IsStanding self.old parent }
-        requires blank { IsBlank self.old key }
-        ensures { Sprouts parent key rights self.old self.new }
+        requires there { IsStanding self.old.entries parent }
+        requires blank { IsBlank self.old.entries key }
+        ensures sprouts { Sprouts parent key rights self.old.entries self.new.entries }
+        ensures spaces { self.new.spaces ≡ self.old.spaces }
     {
         let Some(above) = node_of(&self.nodes, parent) else {
             unreachable!()
@@ -161,32 +242,35 @@ impl Links {
         self.stamp = fresh(self.stamp);
     }
 
-    /// Takes all that descends from the key away.
-    pub fn cut_below(&mut self, top: usize)
-        ensures { Prunes top self.old self.new }
-    {
-        let Some(_) = node_of(&self.nodes, top) else {
-            return;
-        };
-        lists::cut_below(&mut self.nodes, top);
-        self.stamp = fresh(self.stamp);
-    }
-
-    /// Takes all that descends from the key away, and lets nothing stand under the key: a blank is left.
+    /// Cuts off all that descends from the key, and lets nothing stand under the key: a blank is left. What is cut off goes with its
+    /// page, but for a wanted page, which is left as a blank.
     pub fn clear(&mut self, key: usize)
-        ensures { Clears key self.old self.new }
+        ensures clears { Clears key self.old.entries self.new.entries }
+        ensures spaces { self.new.spaces ≡ self.old.spaces }
     {
         let Some(_) = node_of(&self.nodes, key) else {
             return;
         };
-        self.first = lists::clear(&mut self.nodes, self.first, key);
+        self.first = lists::clear(&mut self.nodes, &mut self.pages, self.first, key);
         self.stamp = fresh(self.stamp);
+    }
+
+    /// Lets what stands under the key stand at the blank's page, and takes the blank away. It keeps its rights, its parent and its
+    /// children, and is noted as granted by an item of these rights.
+    pub fn take_over(&mut self, key: usize, blank: usize, rights: Rights)
+        requires there { IsStanding self.old.entries key }
+        requires blank { IsBlank self.old.entries blank }
+        ensures takes { TakesOver key blank rights self.old.entries self.new.entries }
+        ensures spaces { self.new.spaces ≡ self.old.spaces }
+    {
+        take_over(&mut self.nodes, &mut self.pages, key, blank, rights);
     }
 
     /// Lets all that descends from the key have no other rights than these. Calls with the same rights one after another visit
     /// no run twice.
     pub fn cap_below(&mut self, top: usize, cap: Rights)
-        ensures { CapsBelow top cap self.old self.new }
+        ensures caps { CapsBelow top cap self.old.entries self.new.entries }
+        ensures spaces { self.new.spaces ≡ self.old.spaces }
     {
         let Some(_) = node_of(&self.nodes, top) else {
             return;
@@ -200,7 +284,8 @@ impl Links {
 
     /// Lets what stands under the key, and all that descends from it, have no other rights than these.
     pub fn cap_tree(&mut self, top: usize, cap: Rights)
-        ensures { CapsTree top cap self.old self.new }
+        ensures caps { CapsTree top cap self.old.entries self.new.entries }
+        ensures spaces { self.new.spaces ≡ self.old.spaces }
     {
         let Some(_) = node_of(&self.nodes, top) else {
             return;
@@ -215,9 +300,10 @@ impl Links {
 
     /// Whether a source descends from the key. Calls one after another visit no node twice.
     pub fn has_source_below(&mut self, top: usize) -> bool
-        ensures same { (key : ℕ) → entry_at self.new key ≡ entry_at self.old key }
-        ensures yes { result ≡ true → (low : ℕ) × Descends self.old low top × IsSource self.old low }
-        ensures no { result ≡ false → (low : ℕ) → Descends self.old low top → ¬ (IsSource self.old low) }
+        ensures same { (key : ℕ) → entry_at self.new.entries key ≡ entry_at self.old.entries key }
+        ensures yes { result ≡ true → (low : ℕ) × Descends self.old.entries low top × IsSource self.old.entries low }
+        ensures no { result ≡ false → (low : ℕ) → Descends self.old.entries low top → ¬ (IsSource self.old.entries low) }
+        ensures spaces { self.new.spaces ≡ self.old.spaces }
     {
         let Some(_) = node_of(&self.nodes, top) else {
             return false;
@@ -232,19 +318,32 @@ impl Links {
         false
     }
 
-    /// Lets the key be of another page. What stands there, and what descends from it, stays.
-    pub fn set_place(&mut self, key: usize, place: Place)
-        ensures { Moves key place self.old self.new }
-    {
-        set_place(&mut self.nodes, key, place);
-    }
-
-    /// Marks what stands under the key as a source, or takes the mark away.
+    /// Marks what stands under the key as a source.
     pub fn set_source(&mut self, key: usize, source: bool)
-        ensures { SetsSource key source self.old self.new }
+        ensures sets { SetsSource key source self.old.entries self.new.entries }
+        ensures spaces { self.new.spaces ≡ self.old.spaces }
     {
         set_source(&mut self.nodes, key, source);
+        if !source {
+            return;
+        }
         self.stamp = fresh(self.stamp);
+    }
+
+    /// Takes the marks of a source and of a grant from what stands under the key.
+    pub fn set_plain(&mut self, key: usize)
+        ensures sets { SetsPlain key self.old.entries self.new.entries }
+        ensures spaces { self.new.spaces ≡ self.old.spaces }
+    {
+        set_plain(&mut self.nodes, key);
+    }
+
+    /// Notes whether a message fills the page of the key.
+    pub fn set_wanted(&mut self, key: usize, wanted: bool)
+        ensures sets { SetsWanted key wanted self.old.entries self.new.entries }
+        ensures spaces { self.new.spaces ≡ self.old.spaces }
+    {
+        set_wanted(&mut self.nodes, key, wanted);
     }
 }
 

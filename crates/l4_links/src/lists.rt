@@ -4,10 +4,13 @@ ghost use Rattle.std.specs.Prelude.{◌≡◌, ◌≢◌, ◌<◌, ◌+◌, ◌^
 ghost use Rattle.l4_fpage.specs.Rights.{common};
 ghost use Rattle.l4_links.specs.Inside.Trees.{Sprouts, Rises};
 ghost use Rattle.l4_links.specs.Inside.Orders.{TakesOut, first_of};
-ghost use Rattle.l4_links.specs.Inside.Nodes.{node_at, slot_at, spots, limbs, links, values, IsOrder, IsForest, Parts, TakesSlot, Comes, Prunes, Clears};
+ghost use Rattle.l4_links.specs.Inside.Nodes.{node_at, slot_at, spots, limbs, links, values, IsOrder, IsForest, Parts, TakesSlot, CutsOff, Comes, Prunes, Clears};
+ghost use Rattle.l4_links.specs.Inside.Keeping.{IsIndexed};
 
-use crate::nodes::{Node, Slot, child_depth, node_of, set_next, set_prev, write};
+use crate::names::remove;
+use crate::nodes::{Node, Slot, child_depth, is_wanted, node_of, set_next, set_prev, write};
 use l4_fpage::Rights;
+use l4_spaces::Spaces;
 use slab::Slab;
 
 /// Takes the node out of its list. Its slot stays, as a blank.
@@ -26,15 +29,32 @@ pub(crate) fn unlink(nodes: &mut Slab<Slot>, key: usize)
     set_prev(nodes, node.next, node.prev);
 }
 
-/// Takes the node out of its list, and the slot away.
-pub(crate) fn take_out(nodes: &mut Slab<Slot>, key: usize)
+/// Takes the node out of its list, and the slot away with its page's name.
+pub(crate) fn take_out(nodes: &mut Slab<Slot>, pages: &mut Spaces, key: usize)
     requires order { (ks : List ℕ) × IsOrder nodes.old.slots ks }
     requires there { node_at nodes.old.slots key ≢ None }
     ensures out { TakesSlot key nodes.old.slots nodes.new.slots }
     ensures order { (xs ys : List ℕ) → IsOrder nodes.old.slots (xs ++ key ∷ ys) → IsOrder nodes.new.slots (xs ++ ys) }
+    ensures indexed { IsIndexed nodes.old.slots pages.old → IsIndexed nodes.new.slots pages.new }
+    ensures spaces { pages.new.spaces ≡ pages.old.spaces }
 {
     unlink(nodes, key);
-    let _ = nodes.try_remove(key);
+    remove(nodes, pages, key);
+}
+
+/// Takes the node out of its list. A wanted page is left as a blank, and any other slot goes with its page's name.
+fn cut_off(nodes: &mut Slab<Slot>, pages: &mut Spaces, key: usize)
+    requires order { (ks : List ℕ) × IsOrder nodes.old.slots ks }
+    requires there { node_at nodes.old.slots key ≢ None }
+    ensures out { CutsOff key nodes.old.slots nodes.new.slots }
+    ensures order { (xs ys : List ℕ) → IsOrder nodes.old.slots (xs ++ key ∷ ys) → IsOrder nodes.new.slots (xs ++ ys) }
+    ensures indexed { IsIndexed nodes.old.slots pages.old → IsIndexed nodes.new.slots pages.new }
+    ensures spaces { pages.new.spaces ≡ pages.old.spaces }
+{
+    if is_wanted(nodes, key) {
+        return unlink(nodes, key);
+    }
+    take_out(nodes, pages, key);
 }
 
 /// Puts a node straight after its parent, into the blank that the key is of.
@@ -50,7 +70,7 @@ pub(crate) fn link_under(
     requires room { slot_at nodes.old.slots key ≢ None }
     requires blank { node_at nodes.old.slots key ≡ None }
     ensures sprouts { Sprouts (limbs nodes.old.slots) (limbs nodes.new.slots) parent key }
-    ensures comes { Comes (record { frame = above.frame; rights = common above.rights rights; source = false }) key nodes.old.slots nodes.new.slots }
+    ensures comes { Comes (record { frame = above.frame; rights = common above.rights rights; source = false; granted = None }) key nodes.old.slots nodes.new.slots }
     ensures forest { (xs ys : List ℕ) → IsForest nodes.old.slots (xs ++ parent ∷ ys) → IsForest nodes.new.slots (xs ++ parent ∷ key ∷ ys) }
 {
     let slots = nodes.capacity();
@@ -58,6 +78,7 @@ pub(crate) fn link_under(
         frame: above.frame,
         rights: above.rights.intersection(rights),
         source: false,
+        granted: None,
         parent: Some(parent),
         depth: child_depth(&above, slots),
         prev: Some(parent),
@@ -82,13 +103,14 @@ pub(crate) fn link_root(
     requires room { slot_at nodes.old.slots key ≢ None }
     requires blank { node_at nodes.old.slots key ≡ None }
     ensures rises { Rises (limbs nodes.old.slots) (limbs nodes.new.slots) key }
-    ensures comes { Comes (record { frame = frame; rights = rights; source = false }) key nodes.old.slots nodes.new.slots }
+    ensures comes { Comes (record { frame = frame; rights = rights; source = false; granted = None }) key nodes.old.slots nodes.new.slots }
     ensures forest { (ks : List ℕ) → IsForest nodes.old.slots ks → first_of ks None ≡ first → IsForest nodes.new.slots (key ∷ ks) }
 {
     let node = Node {
         frame,
         rights,
         source: false,
+        granted: None,
         parent: None,
         depth: 0,
         prev: None,
@@ -101,11 +123,13 @@ pub(crate) fn link_root(
     set_prev(nodes, first, Some(key));
 }
 
-/// Takes all that descends from the node out of the list.
-pub(crate) fn cut_below(nodes: &mut Slab<Slot>, top: usize)
+/// Cuts off all that descends from the node.
+pub(crate) fn cut_below(nodes: &mut Slab<Slot>, pages: &mut Spaces, top: usize)
     requires forest { (ks : List ℕ) × IsForest nodes.old.slots ks }
     requires there { node_at nodes.old.slots top ≢ None }
-    ensures { Prunes top nodes.old.slots nodes.new.slots }
+    ensures prunes { Prunes top nodes.old.slots nodes.new.slots }
+    ensures indexed { IsIndexed nodes.old.slots pages.old → IsIndexed nodes.new.slots pages.new }
+    ensures spaces { pages.new.spaces ≡ pages.old.spaces }
 {
     let Some(head) = node_of(nodes, top) else {
         unreachable!()
@@ -123,18 +147,25 @@ pub(crate) fn cut_below(nodes: &mut Slab<Slot>, top: usize)
             return;
         }
         at = node.next;
-        take_out(nodes, key);
+        cut_off(nodes, pages, key);
     }
 }
 
-/// Takes all that descends from the node out of the list, and the node too. Its slot stays, as a blank. The list begins with
-/// the key that is given then.
-pub(crate) fn clear(nodes: &mut Slab<Slot>, first: Option<usize>, top: usize) -> Option<usize>
+/// Cuts off all that descends from the node, and takes the node out of the list. Its slot stays, as a blank. The list begins
+/// with the key that is given then.
+pub(crate) fn clear(
+    nodes: &mut Slab<Slot>,
+    pages: &mut Spaces,
+    first: Option<usize>,
+    top: usize,
+) -> Option<usize>
     requires forest { (ks : List ℕ) × IsForest nodes.old.slots ks }
     requires there { node_at nodes.old.slots top ≢ None }
-    ensures { Clears top first result nodes.old.slots nodes.new.slots }
+    ensures clears { Clears top first result nodes.old.slots nodes.new.slots }
+    ensures indexed { IsIndexed nodes.old.slots pages.old → IsIndexed nodes.new.slots pages.new }
+    ensures spaces { pages.new.spaces ≡ pages.old.spaces }
 {
-    cut_below(nodes, top);
+    cut_below(nodes, pages, top);
     let Some(node) = node_of(nodes, top) else {
         unreachable!()
     };

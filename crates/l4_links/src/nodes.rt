@@ -1,9 +1,11 @@
 //! The slots of the slab: what each holds, and the writes to one of them.
 
-ghost use Rattle.std.specs.Prelude.{◌≡◌, ◌+◌, ◌<◌};
+ghost use Rattle.std.specs.Prelude.{◌≡◌, ◌+◌, ◌<◌, false, Some};
 ghost use Rattle.std.specs.Option.{option_map};
 ghost use Rattle.l4_links.specs.Inside.Keeping.{standing_of};
-ghost use Rattle.l4_links.specs.Inside.Nodes.{node_at, slot_at, spots, Writes, SetsPlace, SetsNext, SetsPrev, Caps, Closes, Sees, SetsSource};
+ghost use Rattle.l4_links.specs.Inside.Nodes.{node_at, slot_at, spots, wanted_in, Writes, SetsWanted, Gives, SetsNext, SetsPrev, Caps, Closes, Sees, SetsSource, SetsPlain};
+ghost use Rattle.l4_links.specs.declared.nodes.Slot.{Slot as ASlot};
+ghost use Rattle.l4_links.specs.declared.nodes.Node.{Node as ANode};
 
 use crate::{Place, Standing};
 use l4_fpage::Rights;
@@ -13,6 +15,8 @@ use slab::Slab;
 #[derive(Clone, Copy)]
 pub(crate) struct Slot {
     pub place: Place,
+    /// Whether a message fills the page.
+    pub wanted: bool,
     /// None in a blank, which keeps its key and its place and stands in no tree.
     pub node: Option<Node>,
 }
@@ -24,6 +28,8 @@ pub(crate) struct Node {
     pub rights: Rights,
     /// Whether a message moves the page.
     pub source: bool,
+    /// The rights of the item that has granted the page here, while a message is delivered.
+    pub granted: Option<Rights>,
     /// The key of the parent.
     pub parent: Option<usize>,
     /// How many ancestors there are.
@@ -50,6 +56,26 @@ pub(crate) fn node_of(nodes: &Slab<Slot>, key: usize) -> Option<Node>
     slot.node
 }
 
+/// The page of the key.
+pub(crate) fn place_of(nodes: &Slab<Slot>, key: usize) -> Option<Place>
+    ensures { result ≡ option_map (λ (s : ASlot). s.place) (slot_at nodes.now.slots key) }
+{
+    let Some(slot) = nodes.get(key) else {
+        return None;
+    };
+    Some(slot.place)
+}
+
+/// Whether a message fills the page of the key.
+pub(crate) fn is_wanted(nodes: &Slab<Slot>, key: usize) -> bool
+    ensures { result ≡ wanted_in (spots nodes.now.slots key) }
+{
+    let Some(slot) = nodes.get(key) else {
+        return false;
+    };
+    slot.wanted
+}
+
 /// How deep a child of the node stands. No node stands deeper than there are slots.
 pub(crate) fn child_depth(node: &Node, slots: usize) -> usize
     requires { node.now.depth < slots }
@@ -67,12 +93,35 @@ pub(crate) fn write(nodes: &mut Slab<Slot>, key: usize, node: Option<Node>)
     }
 }
 
-/// Lets the slot under the key, if there is one, be of this page.
-pub(crate) fn set_place(nodes: &mut Slab<Slot>, key: usize, place: Place)
-    ensures { SetsPlace key place nodes.old.slots nodes.new.slots }
+/// Notes whether a message fills the page of the key, if there is one.
+pub(crate) fn set_wanted(nodes: &mut Slab<Slot>, key: usize, wanted: bool)
+    ensures { SetsWanted key wanted nodes.old.slots nodes.new.slots }
+{
+    if let Some(slot) = nodes.get_mut(key) {
+        slot.wanted = wanted;
+    }
+}
+
+/// The node with a note that an item of these rights grants it.
+fn granted(node: Option<Node>, rights: Rights) -> Option<Node>
+    ensures { result ≡ option_map (λ (n : ANode). record n { granted = Some rights }) node }
+{
+    let Some(node) = node else {
+        return None;
+    };
+    Some(Node {
+        granted: Some(rights),
+        ..node
+    })
+}
+
+/// Lets the slot under the key, if there is one, be of this page, with a note that an item of these rights grants it.
+pub(crate) fn give(nodes: &mut Slab<Slot>, key: usize, place: Place, rights: Rights)
+    ensures { Gives key place rights nodes.old.slots nodes.new.slots }
 {
     if let Some(slot) = nodes.get_mut(key) {
         slot.place = place;
+        slot.node = granted(slot.node, rights);
     }
 }
 
@@ -145,6 +194,24 @@ pub(crate) fn set_source(nodes: &mut Slab<Slot>, key: usize, source: bool)
     write(nodes, key, Some(Node { source, ..node }));
 }
 
+/// Takes the marks of a source and of a grant from the node.
+pub(crate) fn set_plain(nodes: &mut Slab<Slot>, key: usize)
+    ensures { SetsPlain key nodes.old.slots nodes.new.slots }
+{
+    let Some(node) = node_of(nodes, key) else {
+        return;
+    };
+    write(
+        nodes,
+        key,
+        Some(Node {
+            source: false,
+            granted: None,
+            ..node
+        }),
+    );
+}
+
 /// What a contract shows of a node.
 pub(crate) fn standing_of(node: Option<Node>) -> Option<Standing>
     ensures { result ≡ option_map standing_of node }
@@ -156,6 +223,7 @@ pub(crate) fn standing_of(node: Option<Node>) -> Option<Standing>
         frame: node.frame,
         rights: node.rights,
         source: node.source,
+        granted: node.granted,
         parent: node.parent,
     })
 }

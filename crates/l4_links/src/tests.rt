@@ -1,3 +1,7 @@
+ghost use Rattle.std.specs.Prelude.{IfOk};
+ghost use Rattle.l4_spaces.specs.Tables.{IsPage};
+ghost use Rattle.l4_links.specs.Entries.{IsBlank};
+
 use crate::{Entry, Links, NoMemory, Place, Standing};
 use l4_fpage::Rights;
 use std::test::Fail;
@@ -7,28 +11,56 @@ fn place(page: u32) -> Place {
     Place { space: 0, page }
 }
 
+/// A blank at the page of space 0, which has no key yet.
+fn blank(links: &mut Links, page: u32) -> Result<usize, NoMemory>
+    requires { IsPage page }
+    ensures { IfOk result (IsBlank links.new.entries) }
+{
+    links.add_space(0)?;
+    let place = Place { space: 0, page };
+    let None = links.find(place) else {
+        return Err(NoMemory);
+    };
+    let key = links.add_blank(place)?;
+    Ok(key)
+}
+
 /// A child with all rights that its parent has, at the page.
-fn child(links: &mut Links, parent: usize, page: u32) -> Result<usize, NoMemory> {
-    let key = links.add_blank(place(page))?;
-    if links.stands(parent) {
-        links.stand_under(parent, key, Rights::all());
-    }
+fn child(links: &mut Links, parent: usize, page: u32) -> Result<usize, NoMemory>
+    requires { IsPage page }
+{
+    let key = blank(links, page)?;
+    let Some(_) = links.standing(parent) else {
+        return Err(NoMemory);
+    };
+    links.stand_under(parent, key, Rights::all());
     Ok(key)
 }
 
 /// A root with all rights.
-fn root(links: &mut Links, frame: u32) -> Result<usize, NoMemory> {
-    let key = links.add_blank(place(frame))?;
+fn root(links: &mut Links, frame: u32) -> Result<usize, NoMemory>
+    requires { IsPage frame }
+{
+    let key = blank(links, frame)?;
     links.stand_root(key, frame, Rights::all());
     Ok(key)
 }
 
+/// Lets what stands under the key take this page, which has no key yet.
+fn grant(links: &mut Links, key: usize, page: u32, rights: Rights) -> Result<(), NoMemory>
+    requires { IsPage page }
+{
+    let blank = blank(links, page)?;
+    let Some(_) = links.standing(key) else {
+        return Err(NoMemory);
+    };
+    links.take_over(key, blank, rights);
+    Ok(())
+}
+
 /// The rights under the key, and the parent.
 fn shown(links: &Links, key: usize) -> Option<(Rights, Option<usize>)> {
-    let Some(entry) = links.at(key) else {
-        return None;
-    };
-    let Some(standing) = entry.stands else {
+    let Some(standing) = links.standing(key) else {
         return None;
     };
     Some((standing.rights, standing.parent))
@@ -53,31 +85,12 @@ fn caps_a_chain(rt: HostRuntime) -> Result<(), Fail> {
         shown(&links, middle),
         Some((Rights::of_bits(5), Some(top)))
     );
-    links.cap_below(top, Rights::of_bits(3));
+    links.cap_tree(top, Rights::of_bits(3));
+    assert_eq!(rt; shown(&links, top), Some((Rights::of_bits(3), None)));
     assert_eq!(rt;
         shown(&links, low),
         Some((Rights::of_bits(1), Some(middle)))
     );
-    Ok(())
-}
-
-#[test]
-fn cuts_a_run_in_the_middle(rt: HostRuntime) -> Result<(), Fail> {
-    let mut links = Links::new(rt.alloc());
-    let top = root(&mut links, 5)?;
-    let last = child(&mut links, top, 10)?;
-    let cut = child(&mut links, top, 11)?;
-    let low = child(&mut links, cut, 12)?;
-    let lowest = child(&mut links, low, 13)?;
-    let first = child(&mut links, top, 14)?;
-    links.cut_below(cut);
-    assert_eq!(rt; links.at(low), None);
-    assert_eq!(rt; links.at(lowest), None);
-    assert_eq!(rt; shown(&links, cut), Some((Rights::all(), Some(top))));
-    // the list goes on from the node before the run to the one after it
-    links.cap_below(top, Rights::of_bits(4));
-    assert_eq!(rt; shown(&links, first), Some((Rights::of_bits(4), Some(top))));
-    assert_eq!(rt; shown(&links, last), Some((Rights::of_bits(4), Some(top))));
     Ok(())
 }
 
@@ -88,16 +101,31 @@ fn clears_a_node_in_the_middle(rt: HostRuntime) -> Result<(), Fail> {
     let last = child(&mut links, top, 10)?;
     let gone = child(&mut links, top, 11)?;
     let low = child(&mut links, gone, 12)?;
-    let first = child(&mut links, top, 13)?;
+    let lowest = child(&mut links, low, 13)?;
+    let first = child(&mut links, top, 14)?;
+    links.set_wanted(lowest, true);
     links.clear(gone);
     assert_eq!(rt;
         links.at(gone),
         Some(Entry {
             place: place(11),
+            wanted: false,
             stands: None
         })
     );
     assert_eq!(rt; links.at(low), None);
+    assert_eq!(rt; links.find(place(12)), None);
+    // a wanted page is left as a blank
+    assert_eq!(rt;
+        links.at(lowest),
+        Some(Entry {
+            place: place(13),
+            wanted: true,
+            stands: None
+        })
+    );
+    assert_eq!(rt; links.find(place(13)), Some(lowest));
+    // the list goes on from the node before the run to the one after it
     links.cap_below(top, Rights::of_bits(4));
     assert_eq!(rt; shown(&links, first), Some((Rights::of_bits(4), Some(top))));
     assert_eq!(rt; shown(&links, last), Some((Rights::of_bits(4), Some(top))));
@@ -110,15 +138,85 @@ fn clears_a_node_in_the_middle(rt: HostRuntime) -> Result<(), Fail> {
         frame: 6,
         rights: Rights::all(),
         source: false,
+        granted: None,
         parent: Some(second),
     };
     assert_eq!(rt;
         links.at(below),
         Some(Entry {
             place: place(20),
+            wanted: false,
             stands: Some(shows)
         })
     );
+    Ok(())
+}
+
+#[test]
+fn grants_a_page(rt: HostRuntime) -> Result<(), Fail> {
+    let mut links = Links::new(rt.alloc());
+    let top = root(&mut links, 5)?;
+    let granted = child(&mut links, top, 10)?;
+    let low = child(&mut links, granted, 11)?;
+    links.set_source(granted, true);
+    grant(&mut links, granted, 12, Rights::of_bits(5))?;
+    assert_eq!(rt; links.find(place(10)), None);
+    assert_eq!(rt; links.find(place(12)), Some(granted));
+    assert_eq!(rt;
+        links.standing(granted),
+        Some(Standing {
+            frame: 5,
+            rights: Rights::all(),
+            source: true,
+            granted: Some(Rights::of_bits(5)),
+            parent: Some(top),
+        })
+    );
+    assert_eq!(rt; shown(&links, low), Some((Rights::all(), Some(granted))));
+    links.set_plain(granted);
+    assert_eq!(rt;
+        links.standing(granted),
+        Some(Standing {
+            frame: 5,
+            rights: Rights::all(),
+            source: false,
+            granted: None,
+            parent: Some(top),
+        })
+    );
+    Ok(())
+}
+
+#[test]
+fn finds_pages(rt: HostRuntime) -> Result<(), Fail> {
+    let mut links = Links::new(rt.alloc());
+    let key = blank(&mut links, 3)?;
+    let far = root(&mut links, 1_048_575)?;
+    links.law_places();
+    links.law_trees();
+    assert!(rt; links.bound() >= 2);
+    assert_eq!(rt; links.find(place(3)), Some(key));
+    assert_eq!(rt; links.find(place(4)), None);
+    assert_eq!(rt; links.next_key(0, 0), Some(3));
+    assert_eq!(rt; links.next_key(0, 4), Some(1_048_575));
+    assert_eq!(rt; links.next_key(1, 0), None);
+    assert_eq!(rt; links.next_key_in(0, 4, 1_048_575), None);
+    assert_eq!(rt; links.find(place(1_048_575)), Some(far));
+    Ok(())
+}
+
+#[test]
+fn takes_a_blank_and_its_space(rt: HostRuntime) -> Result<(), Fail> {
+    let mut links = Links::new(rt.alloc());
+    let key = blank(&mut links, 3)?;
+    links.take_blank(key);
+    assert_eq!(rt; links.at(key), None);
+    assert_eq!(rt; links.find(place(3)), None);
+    let None = links.next_key(0, 0) else {
+        return Ok(());
+    };
+    links.end_space(0);
+    assert_eq!(rt; links.next_key(0, 0), None);
     Ok(())
 }
 

@@ -1,7 +1,9 @@
 -- What a contract sees of the slab, and what the nodes keep.
-use Rattle.std.specs.Prelude.{◌≡◌, ◌≢◌, ◌⊎◌, ℕ, ◌+◌, ◌≤◌, List, Option, Some, None, map}
+use Rattle.std.specs.Prelude.{◌≡◌, ◌≢◌, ◌⊎◌, ◌↔◌, ℕ, ◌+◌, ◌≤◌, List, Option, Some, None, map}
 use Rattle.std.specs.Option.{option_map}
 use Rattle.l4_fpage.specs.Rights.{RightsSet, common, set_of_bits}
+use Rattle.l4_spaces.specs.Tables.{Tables, key_of, IsSpace, IsPage}
+use Rattle.l4_links.specs.declared.Place.{Place}
 use Rattle.l4_links.specs.declared.Standing.{Standing}
 use Rattle.l4_links.specs.declared.Entry.{Entry}
 use Rattle.l4_links.specs.declared.nodes.Node.{Node}
@@ -9,20 +11,26 @@ use Rattle.l4_links.specs.declared.nodes.Slot.{Slot}
 use Rattle.l4_links.specs.declared.Links.TheInside.{Inside}
 use Rattle.l4_links.specs.Inside.Trees.{Limb}
 use Rattle.l4_links.specs.Inside.Orders.{first_of}
-use Rattle.l4_links.specs.Inside.Nodes.{Slots, limbs, values, Worth, IsLow, IsForest, IsStamped, HasMarks, HasSeen}
-use Rattle.l4_links.specs.Entries.{Entries}
+use Rattle.l4_links.specs.Inside.Nodes.{Slots, Spot, spots, limbs, values, Worth, IsOf, IsLow, IsForest, IsStamped, HasMarks, HasSeen}
+use Rattle.l4_links.specs.Entries.{Entries, Linked}
 
 abbrev pub standing_of : Node → Standing
-standing_of n = record { frame = n.frame; rights = n.rights; source = n.source; parent = n.parent }
+standing_of n = record { frame = n.frame; rights = n.rights; source = n.source; granted = n.granted; parent = n.parent }
 
 abbrev pub entry_of : Slot → Entry
-entry_of s = record { place = s.place; stands = option_map standing_of s.node }
+entry_of s = record { place = s.place; wanted = s.wanted; stands = option_map standing_of s.node }
 
 abbrev pub entries_of : Slots → Entries
 entries_of slots = map (option_map entry_of) slots
 
-abbrev pub seen : Inside → Entries
-seen a = entries_of a.nodes.slots
+abbrev pub seen : Inside → Linked
+seen a = record { entries = entries_of a.nodes.slots; spaces = a.pages.spaces }
+
+-- the page tables name a key under a page just where the key is of it, and each page lies in a space that is there
+pub record IsIndexed (slots : Slots) (pages : Tables) : Type 0 where
+  pub names : (place : Place) (key : ℕ) → (key_of pages place.space place.page ≡ Some key) ↔ IsOf slots place key
+  pub housed : (key : ℕ) (s : Spot) → spots slots key ≡ Some s → IsSpace pages s.place.space
+  pub fits : (key : ℕ) (s : Spot) → spots slots key ≡ Some s → IsPage s.place.page
 
 -- a child has its parent's frame, and no other rights than the parent
 pub record LiesWithin (low high : Worth) : Type 0 where
@@ -52,3 +60,4 @@ pub record IsSound (slots : Slots) (first : Option ℕ) (stamp walk : ℕ) : Typ
 
 pub record IsKept (a : Inside) : Type 0 where
   pub sound : IsSound a.nodes.slots a.first a.stamp a.walk
+  pub indexed : IsIndexed a.nodes.slots a.pages

@@ -1,5 +1,5 @@
 -- What the nodes of a slab say of trees and of links.
-use Rattle.std.specs.Prelude.{◌≡◌, ◌≢◌, ℕ, ◌<◌, ◌≤◌, ◌⊎◌, ◌++◌, ◌∷◌, length, Bool, true, List, Option, Some, None, slice_index_or, option_and_then}
+use Rattle.std.specs.Prelude.{◌≡◌, ◌≢◌, ℕ, ◌<◌, ◌≤◌, ◌⊎◌, ◌++◌, ◌∷◌, length, Bool, true, false, List, Option, Some, None, if◌then◌else◌, slice_index_or, option_and_then}
 use Rattle.std.specs.Option.{option_map}
 use Rattle.l4_fpage.specs.Rights.{RightsSet, common}
 use Rattle.l4_links.specs.declared.Place.{Place}
@@ -18,9 +18,25 @@ slot_at slots key = slice_index_or slots key None
 abbrev pub node_at : Slots → ℕ → Option Node
 node_at slots key = option_and_then (λ (s : Slot). s.node) (slot_at slots key)
 
--- the place of the slot's page
-abbrev pub spots : Slots → ℕ → Option Place
-spots slots key = option_map {T = Slot} (λ s. s.place) (slot_at slots key)
+-- a slot's page, and whether a message fills it
+pub record Spot : Type 0 where
+  pub place : Place
+  pub wanted : Bool
+
+abbrev pub spots : Slots → ℕ → Option Spot
+spots slots key = option_map {T = Slot} (λ s. record { place = s.place; wanted = s.wanted }) (slot_at slots key)
+
+-- the key is of the page
+abbrev pub IsOf : Slots → Place → ℕ → Type 0
+IsOf slots place key = option_map {T = Spot} (λ s. s.place) (spots slots key) ≡ Some place
+
+abbrev pub wanted_in : Option Spot → Bool
+wanted_in None = false
+wanted_in (Some s) = s.wanted
+
+-- what is left of a page that is cut off
+abbrev pub left_spot : Option Spot → Option Spot
+left_spot cut = option_and_then (λ (s : Spot). if s.wanted then Some s else None) cut
 
 abbrev pub limbs : Slots → ℕ → Option Limb
 limbs slots key = option_map {T = Node} (λ n. record { parent = n.parent; depth = n.depth }) (node_at slots key)
@@ -33,9 +49,10 @@ pub record Worth : Type 0 where
   pub frame : ℕ
   pub rights : RightsSet
   pub source : Bool
+  pub granted : Option RightsSet
 
 abbrev pub values : Slots → ℕ → Option Worth
-values slots key = option_map {T = Node} (λ n. record { frame = n.frame; rights = n.rights; source = n.source }) (node_at slots key)
+values slots key = option_map {T = Node} (λ n. record { frame = n.frame; rights = n.rights; source = n.source; granted = n.granted }) (node_at slots key)
 
 -- the worth with no other rights than these
 abbrev pub capped_worth : RightsSet → Worth → Worth
@@ -74,10 +91,23 @@ pub record Writes (key : ℕ) (node : Option Node) (old new : Slots) : Type 0 wh
   pub others : (other : ℕ) → other ≢ key → node_at new other ≡ node_at old other
   pub spots_same : (other : ℕ) → spots new other ≡ spots old other
 
--- the slot is of this page now, and all else is as it was
-pub record SetsPlace (key : ℕ) (place : Place) (old new : Slots) : Type 0 where
-  pub here : slot_at new key ≡ option_map {T = Slot} (λ s. record s { place = place }) (slot_at old key)
+-- the slot's page is wanted now or not, and all else is as it was
+pub record SetsWanted (key : ℕ) (wanted : Bool) (old new : Slots) : Type 0 where
+  pub here : slot_at new key ≡ option_map {T = Slot} (λ s. record s { wanted = wanted }) (slot_at old key)
   pub others : (other : ℕ) → other ≢ key → slot_at new other ≡ slot_at old other
+
+-- the slot is of this page now, with a note of the rights of the item that grants it, and all else is as it was
+pub record Gives (key : ℕ) (place : Place) (rights : RightsSet) (old new : Slots) : Type 0 where
+  pub here : slot_at new key ≡ option_map {T = Slot} (λ s. record s { place = place; node = option_map (λ (n : Node). record n { granted = Some rights }) s.node }) (slot_at old key)
+  pub others : (other : ℕ) → other ≢ key → slot_at new other ≡ slot_at old other
+
+-- the node has taken the blank's page, with a note of the rights of the item that grants it; the blank has gone, and all else is as it was
+pub record TakesOver (key blank : ℕ) (rights : RightsSet) (old new : Slots) : Type 0 where
+  pub page : Slot
+  pub was : slot_at old blank ≡ Some page
+  pub here : slot_at new key ≡ option_map {T = Slot} (λ s. record s { place = page.place; node = option_map (λ (n : Node). record n { granted = Some rights }) s.node }) (slot_at old key)
+  pub gone : slot_at new blank ≡ None
+  pub others : (other : ℕ) → other ≢ key → other ≢ blank → slot_at new other ≡ slot_at old other
 
 -- the node of the key, if it is meant, has this next key
 pub record SetsNext (at next : Option ℕ) (old new : Slots) : Type 0 where
@@ -106,6 +136,15 @@ pub record TakesSlot (key : ℕ) (old new : Slots) : Type 0 where
   pub marks_same : (other : ℕ) → other ≢ key → marks new other ≡ marks old other
   pub spots_same : (other : ℕ) → other ≢ key → spots new other ≡ spots old other
 
+-- the key has no node any more and no slot but that of a wanted page, and all else stands as it did
+pub record CutsOff (key : ℕ) (old new : Slots) : Type 0 where
+  pub gone : node_at new key ≡ None
+  pub spot : spots new key ≡ left_spot (spots old key)
+  pub limbs_same : (other : ℕ) → other ≢ key → limbs new other ≡ limbs old other
+  pub values_same : (other : ℕ) → other ≢ key → values new other ≡ values old other
+  pub marks_same : (other : ℕ) → other ≢ key → marks new other ≡ marks old other
+  pub spots_same : (other : ℕ) → other ≢ key → spots new other ≡ spots old other
+
 -- a node with this worth has come under the parent
 pub record Comes (worth : Worth) (key : ℕ) (old new : Slots) : Type 0 where
   pub vacant : node_at old key ≡ None
@@ -116,9 +155,10 @@ pub record Comes (worth : Worth) (key : ℕ) (old new : Slots) : Type 0 where
   pub marks_same : (other : ℕ) → other ≢ key → marks new other ≡ marks old other
   pub spots_same : (other : ℕ) → spots new other ≡ spots old other
 
--- what descends from the key has gone, and all else is as it was
+-- what descends from the key is cut off, and all else is as it was
 pub record Prunes (top : ℕ) (old new : Slots) : Type 0 where
-  pub gone : (key : ℕ) → Leads (parent_at (limbs old)) key top → slot_at new key ≡ None
+  pub gone : (key : ℕ) → Leads (parent_at (limbs old)) key top → node_at new key ≡ None
+  pub spots_gone : (key : ℕ) → Leads (parent_at (limbs old)) key top → spots new key ≡ left_spot (spots old key)
   pub limbs_kept : (key : ℕ) → ¬ (Leads (parent_at (limbs old)) key top) → limbs new key ≡ limbs old key
   pub values_kept : (key : ℕ) → ¬ (Leads (parent_at (limbs old)) key top) → values new key ≡ values old key
   pub marks_kept : (key : ℕ) → ¬ (Leads (parent_at (limbs old)) key top) → marks new key ≡ marks old key
@@ -129,9 +169,10 @@ pub record Prunes (top : ℕ) (old new : Slots) : Type 0 where
   pub was : IsForest old (front ++ top ∷ rest)
   pub forest : IsForest new (front ++ top ∷ left)
 
--- what descends from the key has gone, the key has no node any more, all else is as it was, and the list begins with this key
+-- what descends from the key is cut off, the key has no node any more, all else is as it was, and the list begins with this key
 pub record Clears (top : ℕ) (first after : Option ℕ) (old new : Slots) : Type 0 where
-  pub gone : (key : ℕ) → Leads (parent_at (limbs old)) key top → slot_at new key ≡ None
+  pub gone : (key : ℕ) → Leads (parent_at (limbs old)) key top → node_at new key ≡ None
+  pub spots_gone : (key : ℕ) → Leads (parent_at (limbs old)) key top → spots new key ≡ left_spot (spots old key)
   pub here : node_at new top ≡ None
   pub spot : spots new top ≡ spots old top
   pub limbs_kept : (key : ℕ) → key ≢ top → ¬ (Leads (parent_at (limbs old)) key top) → limbs new key ≡ limbs old key
@@ -207,6 +248,12 @@ pub record Sees (key stamp : ℕ) (old new : Slots) : Type 0 where
 -- the node is a source now, or none
 pub record SetsSource (key : ℕ) (source : Bool) (old new : Slots) : Type 0 where
   pub here : node_at new key ≡ option_map {T = Node} (λ n. record n { source = source }) (node_at old key)
+  pub others : (other : ℕ) → other ≢ key → node_at new other ≡ node_at old other
+  pub spots_same : (other : ℕ) → spots new other ≡ spots old other
+
+-- the node is neither a source nor granted any more
+pub record SetsPlain (key : ℕ) (old new : Slots) : Type 0 where
+  pub here : node_at new key ≡ option_map {T = Node} (λ n. record n { source = false; granted = None }) (node_at old key)
   pub others : (other : ℕ) → other ≢ key → node_at new other ≡ node_at old other
   pub spots_same : (other : ℕ) → spots new other ≡ spots old other
 

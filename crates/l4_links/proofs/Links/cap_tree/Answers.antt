@@ -1,14 +1,15 @@
-use Rattle.std.proofs.Common.{◌≡◌, ◌⊎◌, ℕ, sym, subst, ◌∙◌, ap}
+use Rattle.std.proofs.Common.{◌≡◌, ◌⊎◌, ℕ, sym, subst, ◌∙◌, ap, refl}
 use Rattle.l4_fpage.specs.Rights.{bits_of}
-use Rattle.l4_links.specs.Entries.{Entries, CapsTree}
+use Rattle.l4_links.specs.Entries.{Linked, CapsTree}
 use Rattle.l4_links.specs.Inside.Keeping.{entries_of, IsFresh, IsSound}
 use Rattle.l4_links.proofs.Kept.{marks_for}
 use Rattle.l4_links.proofs.Capping.{sound_tree, view_tree, tree_none}
+use Rattle.l4_links.proofs.Naming.{indexed_same}
 use Rattle.l4_links.proofs.Links.cap_tree.Goals as goal
 
-pub returns-in_default : goal.returns-in_default
-returns-in_default c =
-    subst (λ (s : Entries). CapsTree c.args.top c.args.cap s s) c.self.view_is
+pub returns-in_default-clause-caps : goal.returns-in_default-clause-caps
+returns-in_default-clause-caps c =
+    subst (λ (s : Linked). CapsTree c.args.top c.args.cap s.entries s.entries) c.self.view_is
     (tree_none c.self.inside.nodes.slots c.self.inside.first c.self.inside.stamp c.self.inside.walk c.args.top c.args.cap c.self.invariant.sound (sym c.node_of.ensures ∙ c.in_default.is))
 
 pub cap_below-requires-clause-marks : goal.cap_below-requires-clause-marks
@@ -29,10 +30,11 @@ invariant_of-self c = record {
       subst (λ (w : ℕ). IsSound c.cap_at.new.nodes.slots c.self.inside.first c.stamp_for-stamp.result w) (sym c.bits-walk.ensures)
       (sound_tree c.self.inside.nodes.slots c.cap_below.new.nodes.slots c.cap_at.new.nodes.slots c.self.inside.first c.self.inside.stamp c.self.inside.walk c.stamp_for-stamp.result c.args.top c.args.cap
       c.self.invariant.sound c.cap_below.ensures.caps c.cap_below.ensures.marks c.cap_below.ensures.stamped c.cap_at.ensures);
+  indexed = indexed_same c.self.inside.nodes.slots c.cap_at.new.nodes.slots c.self.inside.pages c.self.inside.pages (λ k. c.cap_at.ensures.spots_same k ∙ c.cap_below.ensures.caps.spots_same k) refl refl c.self.invariant.indexed;
 }
 
-pub returns : goal.returns
-returns c =
-    subst (λ (s : Entries). CapsTree c.args.top c.args.cap s (entries_of c.cap_at.new.nodes.slots)) c.self.view_is
+pub returns-clause-caps : goal.returns-clause-caps
+returns-clause-caps c =
+    subst (λ (s : Linked). CapsTree c.args.top c.args.cap s.entries (entries_of c.cap_at.new.nodes.slots)) c.self.view_is
     (view_tree c.self.inside.nodes.slots c.cap_below.new.nodes.slots c.cap_at.new.nodes.slots c.self.inside.first c.self.inside.stamp c.self.inside.walk c.args.top c.args.cap
     c.self.invariant.sound c.cap_below.ensures.caps c.cap_at.ensures)

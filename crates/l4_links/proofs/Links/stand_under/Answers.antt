@@ -1,8 +1,9 @@
-use Rattle.std.proofs.Common.{sym, subst, ◌∙◌}
-use Rattle.l4_links.specs.Entries.{Entries, Sprouts}
+use Rattle.std.proofs.Common.{sym, subst, ◌∙◌, refl}
+use Rattle.l4_links.specs.Entries.{Linked, Sprouts}
 use Rattle.l4_links.specs.Inside.Keeping.{entries_of}
 use Rattle.l4_links.proofs.Kept.{sound_child}
 use Rattle.l4_links.proofs.Views.{view_child}
+use Rattle.l4_links.proofs.Naming.{indexed_same}
 use Rattle.l4_links.proofs.Links.stand_under.Goals as goal
 
 pub invariant_of-self : goal.invariant_of-self
@@ -10,10 +11,11 @@ invariant_of-self c = record {
   sound =
       sound_child c.self.inside.nodes.slots c.link_under.new.nodes.slots c.self.inside.first c.self.inside.stamp c.fresh-self-inside.result c.self.inside.walk c.args.parent c.args.key c.in-Some.above c.args.rights
       c.self.invariant.sound (sym c.node_of.ensures ∙ c.in-Some.is) c.link_under.ensures.sprouts c.link_under.ensures.comes c.link_under.ensures.forest c.fresh-self-inside.ensures;
+  indexed = indexed_same c.self.inside.nodes.slots c.link_under.new.nodes.slots c.self.inside.pages c.self.inside.pages c.link_under.ensures.comes.spots_same refl refl c.self.invariant.indexed;
 }
 
-pub returns : goal.returns
-returns c =
-    subst (λ (s : Entries). Sprouts c.args.parent c.args.key c.args.rights s (entries_of c.link_under.new.nodes.slots)) c.self.view_is
+pub returns-clause-sprouts : goal.returns-clause-sprouts
+returns-clause-sprouts c =
+    subst (λ (s : Linked). Sprouts c.args.parent c.args.key c.args.rights s.entries (entries_of c.link_under.new.nodes.slots)) c.self.view_is
     (view_child c.self.inside.nodes.slots c.link_under.new.nodes.slots c.self.inside.first c.self.inside.stamp c.self.inside.walk c.args.parent c.args.key c.in-Some.above c.args.rights
     c.self.invariant.sound (sym c.node_of.ensures ∙ c.in-Some.is) c.link_under.ensures.sprouts c.link_under.ensures.comes)

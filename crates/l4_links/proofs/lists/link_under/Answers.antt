@@ -11,6 +11,7 @@ child above rights depth parent = record {
   frame = above.frame;
   rights = rights;
   source = false;
+  granted = None;
   parent = Some parent;
   depth = depth;
   prev = Some parent;
@@ -33,7 +34,7 @@ returns-clause-sprouts c =
 
 pub returns-clause-comes : goal.returns-clause-comes
 returns-clause-comes c =
-    subst (λ (r : RightsSet). Comes (record { frame = c.args.above.frame; rights = r; source = false }) c.args.key c.args.nodes.now.slots c.set_next.new.nodes.slots) c.intersection.ensures
+    subst (λ (r : RightsSet). Comes (record { frame = c.args.above.frame; rights = r; source = false; granted = None }) c.args.key c.args.nodes.now.slots c.set_next.new.nodes.slots) c.intersection.ensures
     (comes_in c.args.nodes.now.slots c.write.new.nodes.slots c.set_prev.new.nodes.slots c.set_next.new.nodes.slots c.args.key (child c.args.above c.intersection.result c.child_depth.result c.args.parent)
     (Some c.args.parent) (Some c.args.key) c.args.above.next (Some c.args.key) c.requires.blank c.requires.room c.write.ensures c.set_prev.ensures c.set_next.ensures refl refl)
 

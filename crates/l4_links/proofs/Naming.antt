@@ -1,0 +1,448 @@
+-- The page tables name the key of each page.
+use Rattle.std.proofs.Common.{◌≡◌, ◌≢◌, ◌↔◌, ℕ, ◌<◌, ◌≤◌, ◌==◌, ◌&&◌, ◌||◌, not, [], cond, Bool, Result, Ok, Err, OnOk, OnErr, Option, Some, None, MatchOption, IsTrue, is_some, true, false, refl, sym, ap, ◌∙◌, subst, arith, inl, inr}
+use Rattle.std.proofs.lemmas.Bool.{cases_eq}
+use Rattle.std.proofs.lemmas.Bool.Decides.{nat_tests}
+use Rattle.std.specs.Option.{option_map, option_and_then}
+use Rattle.std.specs.Ordering.{eq_by_cmp, nat_cmp}
+use Rattle.std.specs.Cmp.{nat_cmp_total}
+use Rattle.std.specs.FinMap.{nat_cmp-IsAntisymmetric}
+use Rattle.std.specs.FinMap as map
+use Rattle.std.specs.FinSet as set
+use Rattle.l4_fpage.specs.Rights.{RightsSet}
+use Rattle.l4_spaces.specs.Tables as tables
+use Rattle.l4_spaces.specs.Tables.{Tables, NonePresentFrom, IsNextPresent, NonePresentIn, IsNextIn, IsSpace, IsPage}
+use Rattle.l4_spaces.proofs.Below.{places_total, tie, untie, apart, decided, is_equal}
+use Rattle.l4_links.specs.declared.Place.{Place}
+use Rattle.l4_links.specs.declared.Entry.{Entry}
+use Rattle.l4_links.specs.declared.nodes.Node.{Node}
+use Rattle.l4_links.specs.declared.nodes.Slot.{Slot}
+use Rattle.l4_links.specs.Entries.{Linked, Entries, entry_at, IsAt, HasKey, NoKeyFrom, IsNextKey, NoKeyIn, IsNextKeyIn, HavePlaces}
+use Rattle.l4_links.specs.Inside.Nodes.{Slots, Spot, slot_at, node_at, spots, IsOf, SetsWanted, Gives, TakesOver}
+use Rattle.l4_links.specs.Inside.Keeping.{entry_of, entries_of, IsIndexed}
+use Rattle.l4_links.proofs.Writes.{spot_of}
+use Rattle.l4_links.proofs.Seen.{at_seen}
+
+abbrev pub Pages : Type 0
+Pages = map.FinMap tables.place_cmp ℕ
+
+abbrev pub key_in : Pages → Place → Option ℕ
+key_in pages place = map.get pages (place.space, place.page)
+
+-- the page of each key
+abbrev pub places : Slots → ℕ → Option Place
+places slots key = option_map {T = Spot} (λ s. s.place) (spots slots key)
+
+-- the pages name the key of each page
+abbrev pub Names : (ℕ → Option Place) → Pages → Type 0
+Names at pages = (place : Place) (key : ℕ) → (key_in pages place ≡ Some key) ↔ (at key ≡ Some place)
+
+-- a page has one key
+pub once_named : (at : ℕ → Option Place) (pages : Pages) → Names at pages → (place : Place) (j k : ℕ) → at j ≡ Some place → at k ≡ Some place → j ≡ k
+once_named at pages names place j k a b =
+    let e : key_in pages place ≡ Some j = (names place j).1 a in
+    let f : key_in pages place ≡ Some k = (names place k).1 b in
+    let w : ◌≡◌ {A = Option ℕ} (Some j) (Some k) = sym e ∙ f in cc
+
+-- and a key one page
+one_place : (at : ℕ → Option Place) (key : ℕ) (p q : Place) → at key ≡ Some p → at key ≡ Some q → p ≡ q
+one_place at key p q a b = let w : ◌≡◌ {A = Option Place} (Some p) (Some q) = sym a ∙ b in cc
+
+no_place : {X : Type 0} (p : Place) → ◌≡◌ {A = Option Place} None (Some p) → X
+no_place p e = absurd (let w : ◌≡◌ {A = Option Place} None (Some p) = e in cc)
+
+no_key : {X : Type 0} (k : ℕ) → ◌≡◌ {A = Option ℕ} None (Some k) → X
+no_key k e = absurd (let w : ◌≡◌ {A = Option ℕ} None (Some k) = e in cc)
+
+same_key : {j k : ℕ} → ◌≡◌ {A = Option ℕ} (Some j) (Some k) → j ≡ k
+same_key {j} {k} e = let w : ◌≡◌ {A = Option ℕ} (Some j) (Some k) = e in cc
+
+same_place : {X : Type 0} (a b : Place) → (a ≡ b → X) → (a ≢ b → X) → X
+same_place a b f g =
+    decided (eq_by_cmp tables.place_cmp (a.space, a.page) (b.space, b.page))
+    (λ t. f (ap (λ (p : ℕ × ℕ). record { space = p.0; page = p.1 }) (untie (a.space, a.page) (b.space, b.page) t)))
+    (λ t. g (λ e. let u : true ≡ false = sym (tie (a.space, a.page) (b.space, b.page) (ap (λ (p : Place). (p.space, p.page)) e)) ∙ t in cc))
+
+apart_places : (a b : Place) → a ≢ b → eq_by_cmp tables.place_cmp (a.space, a.page) (b.space, b.page) ≡ false
+apart_places a b ne = apart (a.space, a.page) (b.space, b.page) (λ e. ne (ap (λ (p : ℕ × ℕ). record { space = p.0; page = p.1 }) e))
+
+put_here : (pages : Pages) (place q : Place) (key : ℕ) → q ≡ place → key_in (map.insert pages (place.space, place.page) key) q ≡ Some key
+put_here pages place q key same =
+    map.get-insert places_total pages (place.space, place.page) key (q.space, q.page)
+    ∙ ap (λ b. cond b (Some key) (key_in pages q)) (tie (q.space, q.page) (place.space, place.page) (ap (λ (p : Place). (p.space, p.page)) same))
+
+put_other : (pages : Pages) (place q : Place) (key : ℕ) → q ≢ place → key_in (map.insert pages (place.space, place.page) key) q ≡ key_in pages q
+put_other pages place q key ne =
+    map.get-insert places_total pages (place.space, place.page) key (q.space, q.page)
+    ∙ ap (λ b. cond b (Some key) (key_in pages q)) (apart_places q place ne)
+
+drop_here : (pages : Pages) (place q : Place) → q ≡ place → key_in (map.remove pages (place.space, place.page)) q ≡ None
+drop_here pages place q same =
+    map.get-remove places_total pages (place.space, place.page) (q.space, q.page)
+    ∙ ap (λ b. cond b None (key_in pages q)) (tie (q.space, q.page) (place.space, place.page) (ap (λ (p : Place). (p.space, p.page)) same))
+
+drop_other : (pages : Pages) (place q : Place) → q ≢ place → key_in (map.remove pages (place.space, place.page)) q ≡ key_in pages q
+drop_other pages place q ne =
+    map.get-remove places_total pages (place.space, place.page) (q.space, q.page)
+    ∙ ap (λ b. cond b None (key_in pages q)) (apart_places q place ne)
+
+-- a key has come for a page, and the page names it
+named_added : (old new : ℕ → Option Place) (before after : Pages) (place : Place) (key : ℕ) → Names old before → ((k : ℕ) → old k ≢ Some place) → old key ≡ None → new key ≡ Some place
+    → ((o : ℕ) → o ≢ key → new o ≡ old o) → after ≡ map.insert before (place.space, place.page) key → Names new after
+named_added old new before after place key names free vacant stands others is q k =
+    same_place q place
+    (λ same.
+    let here : key_in after q ≡ Some key = ap (λ (m : Pages). key_in m q) is ∙ put_here before place q key same in (
+      λ h. ap new (sym (same_key (sym here ∙ h))) ∙ stands ∙ ap (λ (p : Place). Some p) (sym same),
+      λ s. elim (cases_eq k key) [
+        | inl e ↦ here ∙ ap (λ (z : ℕ). Some z) (sym e)
+        | inr ne ↦ absurd (free k (sym (others k ne) ∙ s ∙ ap (λ (p : Place). Some p) same))
+      ],
+    ))
+    (λ off.
+    let there : key_in after q ≡ key_in before q = ap (λ (m : Pages). key_in m q) is ∙ put_other before place q key off in (
+      λ h.
+          let s : old k ≡ Some q = (names q k).0 (sym there ∙ h) in
+          others k (λ e. no_place q (sym vacant ∙ ap old (sym e) ∙ s)) ∙ s,
+      λ s. elim (cases_eq k key) [
+        | inl e ↦ absurd (off (one_place new key q place (ap new (sym e) ∙ s) stands))
+        | inr ne ↦ there ∙ (names q k).1 (sym (others k ne) ∙ s)
+      ],
+    ))
+
+-- a key has gone, and its page names none
+named_removed : (old new : ℕ → Option Place) (before after : Pages) (place : Place) (key : ℕ) → Names old before → old key ≡ Some place → new key ≡ None
+    → ((o : ℕ) → o ≢ key → new o ≡ old o) → after ≡ map.remove before (place.space, place.page) → Names new after
+named_removed old new before after place key names stood gone others is q k =
+    same_place q place
+    (λ same.
+    let here : key_in after q ≡ None = ap (λ (m : Pages). key_in m q) is ∙ drop_here before place q same in (
+      λ h. no_key k (sym here ∙ h),
+      λ s. elim (cases_eq k key) [
+        | inl e ↦ no_place q (sym gone ∙ ap new (sym e) ∙ s)
+        | inr ne ↦ absurd (ne (once_named old before names place k key (sym (others k ne) ∙ s ∙ ap (λ (p : Place). Some p) same) stood))
+      ],
+    ))
+    (λ off.
+    let there : key_in after q ≡ key_in before q = ap (λ (m : Pages). key_in m q) is ∙ drop_other before place q off in (
+      λ h.
+          let s : old k ≡ Some q = (names q k).0 (sym there ∙ h) in
+          others k (λ e. off (one_place old key q place (ap old (sym e) ∙ s) stood)) ∙ s,
+      λ s. elim (cases_eq k key) [
+        | inl e ↦ no_place q (sym gone ∙ ap new (sym e) ∙ s)
+        | inr ne ↦ there ∙ (names q k).1 (sym (others k ne) ∙ s)
+      ],
+    ))
+
+-- a key has taken the page of another one, which has gone
+named_moved : (old new : ℕ → Option Place) (before between after : Pages) (from to : Place) (key blank : ℕ) → Names old before → key ≢ blank → old key ≡ Some from → old blank ≡ Some to → new key ≡ Some to → new blank ≡ None
+    → ((o : ℕ) → o ≢ key → o ≢ blank → new o ≡ old o) → between ≡ map.insert before (to.space, to.page) key → after ≡ map.remove between (from.space, from.page) → Names new after
+named_moved old new before between after from to key blank names other was was_to is gone others put drop q k =
+    let differ : from ≢ to = λ e. other (once_named old before names to key blank (was ∙ ap (λ (p : Place). Some p) e) was_to) in
+    same_place q from
+    (λ same.
+    let here : key_in after q ≡ None = ap (λ (m : Pages). key_in m q) drop ∙ drop_here between from q same in (
+      λ h. no_key k (sym here ∙ h),
+      λ s. elim (cases_eq k key) [
+        | inl e ↦ absurd (differ (sym same ∙ one_place new key q to (ap new (sym e) ∙ s) is))
+        | inr nk ↦ elim (cases_eq k blank) [
+          | inl e ↦ no_place q (sym gone ∙ ap new (sym e) ∙ s)
+          | inr nb ↦ absurd (nk (once_named old before names from k key (sym (others k nk nb) ∙ s ∙ ap (λ (p : Place). Some p) same) was))
+        ]
+      ],
+    ))
+    (λ off.
+    let left : key_in after q ≡ key_in between q = ap (λ (m : Pages). key_in m q) drop ∙ drop_other between from q off in
+    same_place q to
+    (λ same.
+    let here : key_in after q ≡ Some key = left ∙ ap (λ (m : Pages). key_in m q) put ∙ put_here before to q key same in (
+      λ h. ap new (sym (same_key (sym here ∙ h))) ∙ is ∙ ap (λ (p : Place). Some p) (sym same),
+      λ s. elim (cases_eq k key) [
+        | inl e ↦ here ∙ ap (λ (z : ℕ). Some z) (sym e)
+        | inr nk ↦ elim (cases_eq k blank) [
+          | inl e ↦ no_place q (sym gone ∙ ap new (sym e) ∙ s)
+          | inr nb ↦ absurd (nb (once_named old before names to k blank (sym (others k nk nb) ∙ s ∙ ap (λ (p : Place). Some p) same) was_to))
+        ]
+      ],
+    ))
+    (λ nt.
+    let there : key_in after q ≡ key_in before q = left ∙ ap (λ (m : Pages). key_in m q) put ∙ put_other before to q key nt in (
+      λ h.
+          let s : old k ≡ Some q = (names q k).0 (sym there ∙ h) in
+          others k (λ e. off (one_place old key q from (ap old (sym e) ∙ s) was)) (λ e. nt (one_place old blank q to (ap old (sym e) ∙ s) was_to)) ∙ s,
+      λ s. elim (cases_eq k key) [
+        | inl e ↦ absurd (nt (one_place new key q to (ap new (sym e) ∙ s) is))
+        | inr nk ↦ elim (cases_eq k blank) [
+          | inl e ↦ no_place q (sym gone ∙ ap new (sym e) ∙ s)
+          | inr nb ↦ there ∙ (names q k).1 (sym (others k nk nb) ∙ s)
+        ]
+      ],
+    )))
+
+no_spot : {X : Type 0} (s : Spot) → ◌≡◌ {A = Option Spot} None (Some s) → X
+no_spot s e = absurd (let w : ◌≡◌ {A = Option Spot} None (Some s) = e in cc)
+
+-- what is known of the spots, known of the places
+spot_from : (slots : Slots) (k : ℕ) (s : Spot) → spots slots k ≡ Some s → places slots k ≡ Some s.place
+spot_from slots k s is = ap (option_map {T = Spot} (λ s. s.place)) is
+
+place_from : (slots : Slots) (k : ℕ) (p : Place) → places slots k ≡ Some p → (s : Spot) × (spots slots k ≡ Some s) × (s.place ≡ p)
+place_from slots k p is = elim (spots slots k) as (λ o. spots slots k ≡ o → option_map {T = Spot} (λ s. s.place) o ≡ Some p → (s : Spot) × (spots slots k ≡ Some s) × (s.place ≡ p)) [
+  | None ↦ λ _ e. no_place p e
+  | Some s ↦ λ at e. (s, at, (let w : ◌≡◌ {A = Option Place} (Some s.place) (Some p) = e in cc))
+] refl is
+
+-- that pages lie in spaces, by the places
+abbrev pub Lies : (ℕ → Option Place) → set.FinSet nat_cmp → Type 0
+Lies at spaces = (key : ℕ) (p : Place) → at key ≡ Some p → IsTrue (set.contains spaces p.space) × IsPage p.page
+
+lies_of : (slots : Slots) (t : Tables) → IsIndexed slots t → Lies (places slots) t.spaces
+lies_of slots t i key p at =
+    let s = place_from slots key p at in (
+      subst (λ (z : Place). IsTrue (set.contains t.spaces z.space)) s.2 (i.housed key s.0 s.1),
+      subst (λ (z : Place). IsPage z.page) s.2 (i.fits key s.0 s.1),
+    )
+
+indexed_of : (slots : Slots) (t : Tables) → Names (places slots) t.pages → Lies (places slots) t.spaces → IsIndexed slots t
+indexed_of slots t names lies = record {
+  names = names;
+  housed = λ key s at. (lies key s.place (spot_from slots key s at)).0;
+  fits = λ key s at. (lies key s.place (spot_from slots key s at)).1;
+}
+
+-- places that are left lie where they did
+lies_left : (old new : ℕ → Option Place) (before after : set.FinSet nat_cmp) → Lies old before → after ≡ before → ((k : ℕ) (p : Place) → new k ≡ Some p → (j : ℕ) × (old j ≡ Some p)) → Lies new after
+lies_left old new before after lies same left key p at =
+    let j = left key p at in
+    let l = lies j.0 p j.1 in
+    (subst (λ (z : set.FinSet nat_cmp). IsTrue (set.contains z p.space)) (sym same) l.0, l.1)
+
+places_slot : (slots : Slots) (k : ℕ) (o : Option Slot) → slot_at slots k ≡ o → places slots k ≡ option_map {T = Slot} (λ s. s.place) o
+places_slot slots k o e = over (slot_at slots k) ∙ ap (option_map {T = Slot} (λ s. s.place)) e
+  where
+    over : (o : Option Slot) → option_map {T = Spot} (λ s. s.place) (option_map spot_of o) ≡ option_map {T = Slot} (λ s. s.place) o
+    over None = refl
+    over (Some s) = refl
+
+pub indexed_empty : (slots : Slots) (t : Tables) → slots ≡ [] → t.pages ≡ map.empty → IsIndexed slots t
+indexed_empty slots t none empty =
+    let vacant : (k : ℕ) → places slots k ≡ None = λ k. ap (λ (z : Slots). places z k) none in
+    indexed_of slots t
+    (λ q k. (
+      λ h. no_key k (sym (map.get-empty tables.place_cmp (q.space, q.page)) ∙ ap (λ (m : Pages). key_in m q) (sym empty) ∙ h),
+      λ s. no_place q (sym (vacant k) ∙ s),
+    ))
+    (λ key p at. no_place p (sym (vacant key) ∙ at))
+
+-- the same pages of the same keys
+pub indexed_same : (old new : Slots) (t u : Tables) → ((k : ℕ) → spots new k ≡ spots old k) → u.pages ≡ t.pages → u.spaces ≡ t.spaces → IsIndexed old t → IsIndexed new u
+indexed_same old new t u same pages spaces i =
+    let places_same : (k : ℕ) → places new k ≡ places old k = λ k. ap (option_map {T = Spot} (λ s. s.place)) (same k) in
+    indexed_of new u
+    (λ q k. (
+      λ h. places_same k ∙ (i.names q k).0 (ap (λ (m : Pages). key_in m q) (sym pages) ∙ h),
+      λ s. ap (λ (m : Pages). key_in m q) pages ∙ (i.names q k).1 (sym (places_same k) ∙ s),
+    ))
+    (lies_left (places old) (places new) t.spaces u.spaces (lies_of old t i) spaces (λ k p at. (k, sym (places_same k) ∙ at)))
+
+pub indexed_wanted : (old new : Slots) (t : Tables) → ((k : ℕ) → places new k ≡ places old k) → IsIndexed old t → IsIndexed new t
+indexed_wanted old new t same i =
+    indexed_of new t
+    (λ q k. (λ h. same k ∙ (i.names q k).0 h, λ s. (i.names q k).1 (sym (same k) ∙ s)))
+    (lies_left (places old) (places new) t.spaces t.spaces (lies_of old t i) refl (λ k p at. (k, sym (same k) ∙ at)))
+
+pub places_wanted : (old new : Slots) (key : ℕ) (wanted : Bool) → SetsWanted key wanted old new → (k : ℕ) → places new k ≡ places old k
+places_wanted old new key wanted c k = elim (cases_eq k key) [
+  | inl e ↦ ap (places new) e ∙ ap (λ (z : Option Slot). option_map {T = Spot} (λ s. s.place) (option_map spot_of z)) c.here ∙ over (slot_at old key) ∙ ap (places old) (sym e)
+  | inr ne ↦ ap (λ (z : Option Slot). option_map {T = Spot} (λ s. s.place) (option_map spot_of z)) (c.others k ne)
+]
+  where
+    over : (o : Option Slot) → option_map {T = Spot} (λ s. s.place) (option_map spot_of (option_map (λ (s : Slot). record s { wanted = wanted }) o)) ≡ option_map {T = Spot} (λ s. s.place) (option_map spot_of o)
+    over None = refl
+    over (Some s) = refl
+
+pub indexed_added : (old new : Slots) (t u : Tables) (place : Place) (key : ℕ) (slot : Slot) → IsIndexed old t → ((k : ℕ) → ¬ (IsOf old place k)) → slot_at old key ≡ None → slot.place ≡ place → slot_at new key ≡ Some slot
+    → ((o : ℕ) → o ≢ key → slot_at new o ≡ slot_at old o) → IsTrue (set.contains t.spaces place.space) → IsPage place.page → u.pages ≡ map.insert t.pages (place.space, place.page) key → u.spaces ≡ t.spaces → IsIndexed new u
+indexed_added old new t u place key slot i free vacant its filled others there fits pages spaces =
+    let here : places new key ≡ Some place = places_slot new key (Some slot) filled ∙ ap (λ (p : Place). Some p) its in
+    let other : (o : ℕ) → o ≢ key → places new o ≡ places old o = λ o ne. ap (λ (z : Option Slot). option_map {T = Spot} (λ s. s.place) (option_map spot_of z)) (others o ne) in
+    let lies = lies_of old t i in
+    indexed_of new u (named_added (places old) (places new) t.pages u.pages place key i.names free (places_slot old key None vacant) here other pages)
+    (λ k p at. elim (cases_eq k key) [
+      | inl e ↦
+          let pp : p ≡ place = one_place (places new) key p place (ap (places new) (sym e) ∙ at) here in (
+            subst (λ (z : set.FinSet nat_cmp). IsTrue (set.contains z p.space)) (sym spaces) (subst (λ (z : Place). IsTrue (set.contains t.spaces z.space)) (sym pp) there),
+            subst (λ (z : Place). IsPage z.page) (sym pp) fits,
+          )
+      | inr ne ↦
+          let l = lies k p (sym (other k ne) ∙ at) in
+          (subst (λ (z : set.FinSet nat_cmp). IsTrue (set.contains z p.space)) (sym spaces) l.0, l.1)
+    ])
+
+pub indexed_removed : (old new : Slots) (t u : Tables) (place : Place) (key : ℕ) → option_map {T = Slot} (λ s. s.place) (slot_at old key) ≡ Some place → slot_at new key ≡ None
+    → ((o : ℕ) → o ≢ key → slot_at new o ≡ slot_at old o) → u.pages ≡ map.remove t.pages (place.space, place.page) → u.spaces ≡ t.spaces → IsIndexed old t → IsIndexed new u
+indexed_removed old new t u place key was gone others pages spaces i =
+    let none : places new key ≡ None = places_slot new key None gone in
+    let other : (o : ℕ) → o ≢ key → places new o ≡ places old o = λ o ne. ap (λ (z : Option Slot). option_map {T = Spot} (λ s. s.place) (option_map spot_of z)) (others o ne) in
+    indexed_of new u (named_removed (places old) (places new) t.pages u.pages place key i.names (places_slot old key (slot_at old key) refl ∙ was) none other pages)
+    (lies_left (places old) (places new) t.spaces u.spaces (lies_of old t i) spaces
+    (λ k p at. (k, sym (other k (λ e. no_place p (sym none ∙ ap (places new) (sym e) ∙ at))) ∙ at)))
+
+pub indexed_moved : (old new : Slots) (t m u : Tables) (from to : Place) (key blank : ℕ) → key ≢ blank → places old key ≡ Some from → places old blank ≡ Some to → places new key ≡ Some to → slot_at new blank ≡ None
+    → ((o : ℕ) → o ≢ key → o ≢ blank → slot_at new o ≡ slot_at old o) → m.pages ≡ map.insert t.pages (to.space, to.page) key → u.pages ≡ map.remove m.pages (from.space, from.page) → u.spaces ≡ t.spaces → IsIndexed old t → IsIndexed new u
+indexed_moved old new t m u from to key blank other was was_to is gone others put drop spaces i =
+    let none : places new blank ≡ None = places_slot new blank None gone in
+    let rest : (o : ℕ) → o ≢ key → o ≢ blank → places new o ≡ places old o = λ o nk nb. ap (λ (z : Option Slot). option_map {T = Spot} (λ s. s.place) (option_map spot_of z)) (others o nk nb) in
+    indexed_of new u (named_moved (places old) (places new) t.pages m.pages u.pages from to key blank i.names other was was_to is none rest put drop)
+    (lies_left (places old) (places new) t.spaces u.spaces (lies_of old t i) spaces
+    (λ k p at. elim (cases_eq k key) [
+      | inl e ↦ (blank, was_to ∙ ap (λ (z : Place). Some z) (one_place (places new) key to p is (ap (places new) (sym e) ∙ at)))
+      | inr nk ↦ (k, sym (rest k nk (λ e. no_place p (sym none ∙ ap (places new) (sym e) ∙ at))) ∙ at)
+    ]))
+
+pub at_is : (slots : Slots) (k : ℕ) → option_map {T = Entry} (λ e. e.place) (entry_at (entries_of slots) k) ≡ places slots k
+at_is slots k = ap (option_map {T = Entry} (λ e. e.place)) (at_seen slots k) ∙ over (slot_at slots k)
+  where
+    over : (o : Option Slot) → option_map {T = Entry} (λ e. e.place) (option_map entry_of o) ≡ option_map {T = Spot} (λ s. s.place) (option_map spot_of o)
+    over None = refl
+    over (Some s) = refl
+
+-- what is known of a page that has a key
+pub its_place : (slots : Slots) (k : ℕ) (p : Place) → option_map {T = Slot} (λ s. s.place) (slot_at slots k) ≡ Some p → places slots k ≡ Some p
+its_place slots k p e = places_slot slots k (slot_at slots k) refl ∙ e
+
+pub place_there : (slots : Slots) (t : Tables) (k : ℕ) (p : Place) → IsIndexed slots t → option_map {T = Slot} (λ s. s.place) (slot_at slots k) ≡ Some p → IsTrue (set.contains t.spaces p.space)
+place_there slots t k p i e = (lies_of slots t i k p (its_place slots k p e)).0
+
+pub place_fits : (slots : Slots) (t : Tables) (k : ℕ) (p : Place) → IsIndexed slots t → option_map {T = Slot} (λ s. s.place) (slot_at slots k) ≡ Some p → IsPage p.page
+place_fits slots t k p i e = (lies_of slots t i k p (its_place slots k p e)).1
+
+pub place_present : (slots : Slots) (t : Tables) (k : ℕ) (p : Place) → IsIndexed slots t → option_map {T = Slot} (λ s. s.place) (slot_at slots k) ≡ Some p → tables.IsPresent t p.space p.page
+place_present slots t k p i e = ap is_some ((i.names p k).1 (its_place slots k p e))
+
+slot_from : (slots : Slots) (k : ℕ) (p : Place) → option_map {T = Slot} (λ s. s.place) (slot_at slots k) ≡ Some p → (s : Slot) × (slot_at slots k ≡ Some s) × (s.place ≡ p)
+slot_from slots k p is = elim (slot_at slots k) as (λ o. slot_at slots k ≡ o → option_map {T = Slot} (λ s. s.place) o ≡ Some p → (s : Slot) × (slot_at slots k ≡ Some s) × (s.place ≡ p)) [
+  | None ↦ λ _ e. no_place p e
+  | Some s ↦ λ at e. (s, at, (let w : ◌≡◌ {A = Option Place} (Some s.place) (Some p) = e in cc))
+] refl is
+
+-- a blank's page that was taken over
+module _ (old mid new : Slots) (key blank : ℕ) (from to : Place) (rights : RightsSet) (other : key ≢ blank) (was : option_map {T = Slot} (λ s. s.place) (slot_at old key) ≡ Some from)
+    (was_to : option_map {T = Slot} (λ s. s.place) (slot_at old blank) ≡ Some to) (gone : slot_at mid blank ≡ None) (others : (o : ℕ) → o ≢ blank → slot_at mid o ≡ slot_at old o) (g : Gives key to rights mid new) where
+  abbrev given : Place → Slot → Slot
+  given p s = record s { place = p; node = option_map (λ (n : Node). record n { granted = Some rights }) s.node }
+
+  pub taken : TakesOver key blank rights old new
+  taken =
+      let page = slot_from old blank to was_to in
+      record {
+        page = page.0;
+        was = page.1;
+        here = g.here ∙ ap (option_map (given to)) (others key other) ∙ ap (λ (p : Place). option_map (given p) (slot_at old key)) (sym page.2);
+        gone = g.others blank (λ e. other (sym e)) ∙ gone;
+        others = λ o nk nb. g.others o nk ∙ others o nb;
+      }
+
+  pub indexed_taken : (t m u : Tables) → m.pages ≡ map.insert t.pages (to.space, to.page) key → u.pages ≡ map.remove m.pages (from.space, from.page) → u.spaces ≡ t.spaces → IsIndexed old t → IsIndexed new u
+  indexed_taken t m u put drop spaces i =
+      indexed_moved old new t m u from to key blank other (its_place old key from was) (its_place old blank to was_to)
+      (its_place new key to (ap (option_map {T = Slot} (λ s. s.place)) (g.here ∙ ap (option_map (given to)) (others key other)) ∙ place_given (slot_at old key) was))
+      (g.others blank (λ e. other (sym e)) ∙ gone) (λ o nk nb. g.others o nk ∙ others o nb) put drop spaces i
+    where
+      place_given : (o : Option Slot) → option_map {T = Slot} (λ s. s.place) o ≡ Some from → option_map {T = Slot} (λ s. s.place) (option_map (given to) o) ≡ Some to
+      place_given None e = no_place from e
+      place_given (Some s) e = refl
+
+-- a space without keys has no pages
+pub indexed_without : (slots : Slots) (t u : Tables) (space : ℕ) → IsIndexed slots t → NoKeyFrom (entries_of slots) space 0 → tables.Empties space t u → u.spaces ≡ set.remove t.spaces space → IsIndexed slots u
+indexed_without slots t u space i none empties spaces =
+    let lies = lies_of slots t i in
+    let kept : (k : ℕ) (p : Place) → places slots k ≡ Some p → p.space ≢ space = λ k p at e.
+    none p.page (omega arith) (k, sym_at slots k p space e at) in
+    indexed_of slots u
+    (λ q k.
+    let is : key_in u.pages q ≡ cond (q.space == space) None (key_in t.pages q) = empties q.space q.page in
+    decided (q.space == space)
+    (λ same.
+    let e : q.space ≡ space = grind (arith, nat_tests) in
+    let gone : key_in u.pages q ≡ None = is ∙ ap (λ b. cond b None (key_in t.pages q)) same in
+    (λ h. no_key k (sym gone ∙ h), λ s. absurd (kept k q s e)))
+    (λ off.
+    let stays : key_in u.pages q ≡ key_in t.pages q = is ∙ ap (λ b. cond b None (key_in t.pages q)) off in
+    (λ h. (i.names q k).0 (sym stays ∙ h), λ s. stays ∙ (i.names q k).1 s)))
+    (λ k p at.
+    let l = lies k p at in (
+      ap (λ v. set.contains v p.space) spaces ∙ set.contains-remove nat_cmp_total t.spaces space p.space ∙ (λ i. not (differs p.space space (kept k p at) i) && l.0 i),
+      l.1,
+    ))
+  where
+    sym_at : (slots : Slots) (k : ℕ) (p : Place) (space : ℕ) → p.space ≡ space → places slots k ≡ Some p → IsAt (entries_of slots) (record { space = space; page = p.page }) k
+    sym_at slots k p space e at = at_is slots k ∙ at ∙ (λ i. Some (record { space = e i; page = p.page }))
+
+    differs : (a b : ℕ) → a ≢ b → eq_by_cmp nat_cmp a b ≡ false
+    differs a b ne = decided (eq_by_cmp nat_cmp a b) (λ h. absurd (ne (nat_cmp-IsAntisymmetric a b (is_equal (nat_cmp a b) h)))) (λ h. h)
+
+-- one more space
+or_right : (a b : Bool) → b ≡ true → (a || b) ≡ true
+or_right true b h = refl
+or_right false b h = h
+
+pub indexed_begun : (E : Type 0) (result : Result Unit E) (slots : Slots) (t u : Tables) (space : ℕ) → u.pages ≡ t.pages → OnOk result (u.spaces ≡ set.insert t.spaces space) → OnErr result (u ≡ t) → IsIndexed slots t → IsIndexed slots u
+indexed_begun E (Ok _) slots t u space pages begun same i =
+    let lies = lies_of slots t i in
+    indexed_of slots u
+    (λ q k. (λ h. (i.names q k).0 (ap (λ (m : Pages). key_in m q) (sym pages) ∙ h), λ s. ap (λ (m : Pages). key_in m q) pages ∙ (i.names q k).1 s))
+    (λ k p at.
+    let l = lies k p at in
+    (ap (λ v. set.contains v p.space) begun ∙ set.contains-insert nat_cmp_total t.spaces space p.space ∙ or_right (eq_by_cmp nat_cmp p.space space) _ l.0, l.1))
+indexed_begun E (Err _) slots t u space pages begun same i = subst (λ (v : Tables). IsIndexed slots v) (sym same) i
+
+-- by key, what a contract sees
+
+pub is_at : (slots : Slots) (p : Place) (k : ℕ) → IsOf slots p k ↔ IsAt (entries_of slots) p k
+is_at slots p k = (λ o. at_is slots k ∙ o, λ a. sym (at_is slots k) ∙ a)
+
+pub find_is : (slots : Slots) (t : Tables) (p : Place) (r : Option ℕ) → IsIndexed slots t → r ≡ tables.key_of t p.space p.page → (key : ℕ) → (r ≡ Some key) ↔ IsAt (entries_of slots) p key
+find_is slots t p r i is key = (λ e. (is_at slots p key).0 ((i.names p key).0 (sym is ∙ e)), λ a. is ∙ (i.names p key).1 ((is_at slots p key).1 a))
+
+some_key : (r : Option ℕ) → IsTrue (is_some r) → (key : ℕ) × (r ≡ Some key)
+some_key None h = absurd (let e : false ≡ true = h in cc)
+some_key (Some key) h = (key, refl)
+
+-- a page is present where it has a key
+present : (slots : Slots) (t : Tables) → IsIndexed slots t → (space page : ℕ) → HasKey (entries_of slots) space page → tables.IsPresent t space page
+present slots t i space page h = ap is_some ((i.names (record { space = space; page = page }) h.0).1 ((is_at slots (record { space = space; page = page }) h.0).1 h.1))
+
+has_key : (slots : Slots) (t : Tables) → IsIndexed slots t → (space page : ℕ) → tables.IsPresent t space page → HasKey (entries_of slots) space page
+has_key slots t i space page h =
+    let k = some_key (tables.key_of t space page) h in
+    (k.0, (is_at slots (record { space = space; page = page }) k.0).0 ((i.names (record { space = space; page = page }) k.0).0 k.1))
+
+pub next_is : (slots : Slots) (t : Tables) (space page : ℕ) (r : Option ℕ) → IsIndexed slots t → MatchOption r (NonePresentFrom t space page) (IsNextPresent t space page)
+    → MatchOption r (NoKeyFrom (entries_of slots) space page) (IsNextKey (entries_of slots) space page)
+next_is slots t space page None i h = λ other le k. h other le (present slots t i space other k)
+next_is slots t space page (Some next) i h = record {
+  there = has_key slots t i space next h.present;
+  from = h.from;
+  least = λ other le k. h.least other le (present slots t i space other k);
+}
+
+pub next_in_is : (slots : Slots) (t : Tables) (space page end : ℕ) (r : Option ℕ) → IsIndexed slots t → MatchOption r (NonePresentIn t space page end) (IsNextIn t space page end)
+    → MatchOption r (NoKeyIn (entries_of slots) space page end) (IsNextKeyIn (entries_of slots) space page end)
+next_in_is slots t space page end None i h = λ other le lt k. h other le lt (present slots t i space other k)
+next_in_is slots t space page end (Some next) i h = record {
+  there = has_key slots t i space next h.present;
+  from = h.from;
+  before = h.before;
+  least = λ other le k. h.least other le (present slots t i space other k);
+}
+
+-- what holds of the pages at all times
+pub have_places : (slots : Slots) (t : Tables) → IsIndexed slots t → HavePlaces (record { entries = entries_of slots; spaces = t.spaces })
+have_places slots t i =
+    let lies = lies_of slots t i in
+    let of : (k : ℕ) (e : Entry) → entry_at (entries_of slots) k ≡ Some e → places slots k ≡ Some e.place = λ k e at. sym (at_is slots k) ∙ ap (option_map {T = Entry} (λ e. e.place)) at in
+    record {
+      housed = λ k e at. (lies k e.place (of k e at)).0;
+      fits = λ k e at. (lies k e.place (of k e at)).1;
+      once = λ p a b at_a at_b. once_named (places slots) t.pages i.names p a b ((is_at slots p a).1 at_a) ((is_at slots p b).1 at_b);
+    }
