@@ -164,7 +164,7 @@ class Maker:
 
     def timeouts(self):
         chance = self.random.random()
-        if chance < 0.6:
+        if chance < 0.5:
             return NEVER
         return self.random.choice([SEND_AT_ONCE, RECEIVE_AT_ONCE, SEND_AT_ONCE | RECEIVE_AT_ONCE, 1 if chance > 0.98 else NEVER])
 
@@ -256,9 +256,9 @@ class StepMaker(Maker):
     def any_line(self):
         random = self.random
         step = self.machine.enabled()
-        if step is not None and random.random() < 0.8:
+        if step is not None and random.random() < 0.75:
             return " ".join(map(str, step))
-        if step is not None and random.random() < 0.4:
+        if step is not None and random.random() < 0.6:
             return f"expire {random.choice(step[1:])}"
         if random.random() < 0.08:
             return random.choice([f"transfer {self.thread()} {self.thread()}", f"expire {self.thread()}"])
