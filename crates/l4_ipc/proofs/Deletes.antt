@@ -1,7 +1,7 @@
 -- Deletions of threads, as the machine says them.
-use Rattle.std.proofs.Common.{◌≡◌, ◌≢◌, ℕ, ◌+◌, ◌-◌, ◌<◌, ◌≤◌, ◌==◌, ◌||◌, not, Bool, true, false, cond, if◌then◌else◌, zero, suc, Option, Some, None, List, [], ◌∷◌, length, slice_index_or, Contains, Result, Ok, Err, MatchOption, IsTrue, IsSome, refl, sym, ap, ◌∙◌, subst, inl, inr, ◌⊎◌, option_and_then, is_some, eq-eqb, arith}
+use Rattle.std.proofs.Common.{◌≡◌, ◌≢◌, ℕ, ◌-◌, ◌<◌, ◌≤◌, ◌==◌, ◌||◌, not, Bool, true, false, cond, if◌then◌else◌, zero, suc, Option, Some, None, List, [], ◌∷◌, length, slice_index_or, Result, Ok, Err, MatchOption, IsTrue, refl, sym, ap, ◌∙◌, subst, inl, inr, ◌⊎◌, option_and_then, is_some, eq-eqb, arith}
 use Rattle.std.specs.Option.{option_map_or, option_map}
-use Rattle.std.specs.Ordering.{nat_cmp, eq_by_cmp}
+use Rattle.std.specs.Ordering.{nat_cmp}
 use Rattle.std.specs.Cmp.{unsigned_tied, nat_cmp_total}
 use Rattle.std.specs.List.{AllPairs}
 use Rattle.std.proofs.lemmas.Bool.{false≢true}
@@ -11,22 +11,21 @@ use Rattle.std.specs.FinMap as fin
 use Rattle.l4_mapdb.specs.Mappings.{Mappings}
 use Rattle.l4_mapdb.specs.Losing.{EndsSpace}
 use Rattle.l4_threads.specs.declared.Reply.TheVariants.{Controlled}
-use Rattle.l4_threads.specs.declared.State.{State}
 use Rattle.l4_threads.specs.declared.State.TheVariants.{Running}
 use Rattle.l4_threads.specs.declared.Thread.{Thread}
 use Rattle.l4_threads.specs.declared.ThreadId.{ThreadId}
 use Rattle.l4_threads.specs.declared.ThreadFault.{ThreadFault}
 use Rattle.l4_threads.specs.declared.ThreadFault.TheVariants.{NoPrivilege, Unknown, Kept}
-use Rattle.l4_threads.specs.Threads.{Threads, thread_at, state_of, space_of, number_of, runs, is_running, out_of_queue, end_call, IsConsistent}
+use Rattle.l4_threads.specs.Threads.{Threads, thread_at, state_of, number_of, runs, is_running, out_of_queue, end_call, IsConsistent}
 use Rattle.l4_threads.specs.Control.{delete_test, is_privileged, freed, Deletes, waits, IsEndedBy, IsEndedList, HasEnded, TellsEnd}
 use Rattle.l4_ipc.specs.declared.calls.Call.TheVariants.{Control as Controls}
 use Rattle.l4_ipc.specs.declared.calls.Control.TheVariants.{Delete}
 use Rattle.l4_ipc.specs.declared.steps.Answer.{Answer}
 use Rattle.l4_ipc.specs.declared.steps.Outcome.TheVariants.{Started}
 use Rattle.l4_ipc.specs.declared.steps.Step.TheVariants.{Start}
-use Rattle.l4_ipc.specs.Machine.{Machine, machine}
+use Rattle.l4_ipc.specs.Machine.{machine}
 use Rattle.l4_ipc.specs.Steps.{IsDeleteList, Steps}
-use Rattle.l4_ipc.proofs.Threads.{past, running_thread, has_state, state_other}
+use Rattle.l4_ipc.proofs.Threads.{past, running_thread, state_other}
 
 pub differs : (a b : ℕ) → a ≢ b → (a == b) ≡ false
 differs a b ne = elim (eqb_tells a b) [ inl h ↦ absurd (ne h.1) | inr h ↦ h.0 ]

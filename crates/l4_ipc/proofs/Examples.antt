@@ -1,6 +1,6 @@
 -- Small cases of the definitions over runs: of each main one, one that it holds of, and one that it doesn't.
-use Rattle.std.proofs.Common.{◌≡◌, ◌≢◌, ℕ, zero, suc, ◌+◌, ◌<◌, ◌≤◌, Bool, true, false, cond, List, [], ◌∷◌, ◌++◌, Option, Some, None, Result, Ok, Err, IsTrue, is_some, refl, sym, ap, ◌∙◌, subst, inl, inr, ◌⊎◌, ◌↔◌, option_and_then, slice_get, slice_index, slice_index_or, lit≤, lit<, arith}
-use Rattle.std.specs.Ordering.{nat_cmp, eq_by_cmp, is_eq}
+use Rattle.std.proofs.Common.{◌≡◌, ℕ, zero, suc, ◌+◌, ◌<◌, ◌≤◌, true, false, cond, List, [], ◌∷◌, Option, Some, None, Ok, Err, IsTrue, is_some, refl, sym, ap, ◌∙◌, subst, inl, inr, ◌⊎◌, option_and_then, slice_get, slice_index, slice_index_or, lit≤, lit<, arith}
+use Rattle.std.specs.Ordering.{eq_by_cmp, is_eq}
 use Rattle.std.specs.declared.cmp.Ordering.{Ordering}
 use Rattle.std.specs.declared.cmp.Ordering.TheVariants.{Less, Equal, Greater}
 use Rattle.std.specs.Cmp.{nat_cmp_total}
@@ -16,7 +16,6 @@ use Rattle.l4_fpage.specs.Fpages.{rights_of, ReadsAs}
 use Rattle.l4_fpage.specs.declared.fpages.Fpage.{Fpage}
 use Rattle.l4_fpage.specs.declared.fpages.Fpage.TheVariants.{Nil, Sized, Complete}
 use Rattle.l4_msg.specs.Moves.{fpage_of, is_grant, IsMap, ItemMoves, RegionMoves, complete}
-use Rattle.l4_msg.specs.Regions.{IsRival}
 use Rattle.l4_msg.specs.declared.items.Item.{Item}
 use Rattle.l4_msg.specs.declared.items.Item.TheVariants.{Map}
 use Rattle.l4_msg.specs.declared.regions.Region.{Region}
@@ -27,33 +26,29 @@ use Rattle.l4_mapdb.specs.Losing.{LosesRights}
 use Rattle.l4_mapdb.specs.Transfer.{PageMove, IsGranted, IsEntangled, ParentLater, Becomes, Moved, IsCut}
 use Rattle.l4_mapdb.proofs.Unique.{same_rights}
 use Rattle.l4_mapdb.proofs.Places.{places_total, exact_places}
-use Rattle.l4_unmap.specs.Unmap.{UnmapReads, with_own}
+use Rattle.l4_unmap.specs.Unmap.{with_own}
 use Rattle.l4_threads.specs.declared.Thread.{Thread}
 use Rattle.l4_threads.specs.declared.Receiving.{Receiving}
 use Rattle.l4_threads.specs.declared.Sending.{Sending}
 use Rattle.l4_threads.specs.declared.Source.TheVariants.{Anyone}
 use Rattle.l4_threads.specs.declared.State.{State}
 use Rattle.l4_threads.specs.declared.State.TheVariants.{Running, Sending as IsSender, Receiving as IsReceiver}
-use Rattle.l4_threads.specs.Enabled.{CanExpire, IsFirstSender, expires, offers_to}
+use Rattle.l4_threads.specs.Enabled.{CanExpire, expires, offers_to}
 use Rattle.l4_threads.specs.Threads.{Threads, pair_cmp, thread_at, state_of, first_threads, nilthread}
-use Rattle.l4_ipc.specs.declared.calls.Call.{Call}
 use Rattle.l4_ipc.specs.declared.calls.Call.TheVariants.{Unmap}
 use Rattle.l4_ipc.specs.declared.calls.UnmapCall.{UnmapCall}
-use Rattle.l4_ipc.specs.declared.steps.Step.{Step}
 use Rattle.l4_ipc.specs.declared.steps.Step.TheVariants.{Start, Transfer, Expire}
 use Rattle.l4_ipc.specs.declared.steps.Outcome.TheVariants.{Started, Done}
-use Rattle.l4_ipc.specs.declared.steps.Answer.{Answer}
-use Rattle.l4_ipc.specs.declared.steps.Refused.{Refused}
 use Rattle.l4_ipc.specs.declared.steps.Refused.TheVariants.{NotEnabled}
 use Rattle.l4_ipc.specs.Machine.{Machine, machine}
 use Rattle.l4_ipc.specs.Moving.{IsUsedBy}
 use Rattle.l4_ipc.specs.Runs.{Run}
-use Rattle.l4_ipc.specs.Steps.{Meets, Steps, after_transfer}
+use Rattle.l4_ipc.specs.Steps.{Meets, after_transfer}
 use Rattle.l4_ipc.specs.Events.{Event, Follow, IsTrace, IsDelivery}
 use Rattle.l4_ipc.proofs.Lasting.{one_delivery}
-use Rattle.l4_ipc.specs.Provenance.{Link, Brings, LeavesAlone, Leads, HasProvenance, Flushes, LeadsThrough, NoneThroughFlushed}
+use Rattle.l4_ipc.specs.Provenance.{Link, Brings, LeavesAlone, HasProvenance, Flushes, NoneThroughFlushed}
 use Rattle.l4_ipc.proofs.OneState.{same_value}
-use Rattle.l4_ipc.specs.Delegation.{source_at, target_at, IsHandedOn, IsNewPlace, IsReplaced, Delegates, IsDelegation}
+use Rattle.l4_ipc.specs.Delegation.{source_at, target_at, IsNewPlace, IsReplaced, Delegates, IsDelegation}
 
 -- MAPPINGS OF FEW PLACES
 

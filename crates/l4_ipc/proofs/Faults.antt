@@ -1,6 +1,5 @@
 -- The message of a page fault has no items.
-use Rattle.std.proofs.Common.{◌≡◌, ℕ, ◌+◌, ◌*◌, Bool, true, false, [], ◌∷◌, refl, arith}
-use Rattle.l4_fpage.specs.Rights.{RightsSet, bits_of}
+use Rattle.std.proofs.Common.{ℕ, Bool, true, false, [], refl, arith}
 use Rattle.l4_msg.specs.Messages.{typed_words, message_words}
 use Rattle.l4_msg.specs.Protocols.{fault_message}
 use Rattle.l4_msg.specs.Words.{ItemsRead}

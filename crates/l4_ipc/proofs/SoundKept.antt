@@ -24,7 +24,7 @@ use Rattle.l4_threads.specs.declared.Thread.{Thread}
 use Rattle.l4_threads.specs.declared.ThreadId.{ThreadId}
 use Rattle.l4_threads.specs.declared.ThreadFault.{ThreadFault}
 use Rattle.l4_threads.specs.declared.ThreadFault.TheVariants.{NoPrivilege, BadId, Taken, Unknown, Full}
-use Rattle.l4_threads.specs.Threads.{Threads, pair_cmp, thread_at, space_of, named, number_of, runs, is_running, failed, with_state, nilthread, first_threads, end_call}
+use Rattle.l4_threads.specs.Threads.{Threads, pair_cmp, thread_at, space_of, named, number_of, failed, with_state, nilthread, first_threads, end_call}
 use Rattle.l4_threads.specs.Control.{create_test, created, asks_new, is_privileged, is_bad_id, is_full, with_pager, waits_for, without_partner, Deletes, HasEnded}
 use Rattle.l4_ipc.specs.declared.calls.Call.{Call}
 use Rattle.l4_ipc.specs.declared.calls.Call.TheVariants.{Ipc, Fault, Unmap, Control as Controls}

@@ -1,5 +1,5 @@
 -- The registers of an Unmap that was made of fpages.
-use Rattle.std.proofs.Common.{◌≡◌, ℕ, zero, suc, List, [], ◌∷◌, ◌++◌, refl, sym, ap, ◌∙◌, subst, slice_index, slice_index_or, length, take, ◌+◌, ◌<◌, ◌≤◌, arith}
+use Rattle.std.proofs.Common.{◌≡◌, ℕ, zero, suc, List, [], ◌∷◌, ◌++◌, sym, ap, ◌∙◌, subst, slice_index, slice_index_or, length, take, ◌+◌, ◌<◌, ◌≤◌, arith}
 use Rattle.std.specs.List.{AllZip, HoldsAt}
 use Rattle.std.proofs.lemmas.Slice.Zip.{AllZip-long}
 use Rattle.std.proofs.lemmas.List.{take_more, length-take-le}

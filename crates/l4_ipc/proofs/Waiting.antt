@@ -1,13 +1,12 @@
 -- What a step does to the calls of threads: which wait on, and which are over.
-use Rattle.std.proofs.Common.{◌≡◌, ◌≢◌, ℕ, suc, zero, ◌+◌, ◌<◌, ◌==◌, not, ◌⊎◌, inl, inr, cond, Bool, true, false, if◌then◌else◌, List, [], ◌∷◌, ◌++◌, length, slice_index_or, Option, Some, None, is_some, Ok, Contains, IsTrue, refl, sym, ap, ◌∙◌, subst, arith, eq-eqb}
-use Rattle.std.specs.Option.{option_map_or, option_map, option_and_then}
-use Rattle.std.specs.Ordering.{nat_cmp, eq_by_cmp}
+use Rattle.std.proofs.Common.{◌≡◌, ◌≢◌, ℕ, suc, zero, ◌<◌, ◌==◌, not, ◌⊎◌, inl, inr, cond, Bool, true, false, if◌then◌else◌, List, [], ◌∷◌, ◌++◌, length, slice_index_or, Option, Some, None, is_some, Ok, Contains, refl, sym, ap, ◌∙◌, subst, arith, eq-eqb}
+use Rattle.std.specs.Option.{option_map_or, option_map}
 use Rattle.std.specs.Cmp.{unsigned_tied, nat_cmp_total}
 use Rattle.std.specs.FinMap as fin
 use Rattle.std.proofs.lemmas.Bool.{false≢true}
 use Rattle.std.proofs.lemmas.Bool.Decides.{eqb_tells}
 use Rattle.l4_threads.specs.declared.Reply.{Reply}
-use Rattle.l4_threads.specs.declared.Reply.TheVariants.{Gone, Unmapped, Controlled}
+use Rattle.l4_threads.specs.declared.Reply.TheVariants.{Unmapped, Controlled}
 use Rattle.l4_threads.specs.declared.Sending.{Sending}
 use Rattle.l4_threads.specs.declared.Receiving.{Receiving}
 use Rattle.l4_threads.specs.declared.State.{State}
@@ -26,11 +25,10 @@ use Rattle.l4_ipc.specs.declared.steps.Answer.{Answer}
 use Rattle.l4_ipc.specs.declared.steps.Step.{Step}
 use Rattle.l4_ipc.specs.declared.steps.Step.TheVariants.{Start, Transfer, Expire}
 use Rattle.l4_ipc.specs.Machine.{Machine}
-use Rattle.l4_ipc.specs.Reading.{last_reply, reply_of}
 use Rattle.l4_ipc.specs.Start.{enters, ended_by, ipc_next, fault_next}
 use Rattle.l4_ipc.specs.Steps.{Steps, Waits, is_done, sender_next, receiver_reply, expiry, Meets}
 use Rattle.l4_ipc.proofs.Threads.{past, state_other}
-use Rattle.l4_ipc.proofs.Deletes.{left_at, differs}
+use Rattle.l4_ipc.proofs.Deletes.{differs}
 
 -- the thread is not there, or runs with a reply
 abbrev pub IsOver : Option State → Type 0

@@ -1,6 +1,6 @@
 -- The machine's steps. From one state a step may give an answer, or a refusal, and go on to another state.
 -- (L4 X.2 manual: IPC, ThreadControl, Unmap; the step as one atomic event is this profile's own.)
-use Rattle.std.specs.Prelude.{◌≡◌, ◌≢◌, ℕ, ◌⊎◌, Bool, true, false, if◌then◌else◌, List, [], ◌∷◌, ◌++◌, drop, slice_index, ◌↔◌, Contains, IsTrue, Some, Result, Ok, Err}
+use Rattle.std.specs.Prelude.{◌≡◌, ℕ, ◌⊎◌, Bool, true, false, if◌then◌else◌, List, [], ◌∷◌, ◌++◌, drop, slice_index, ◌↔◌, Contains, IsTrue, Some, Result, Ok, Err}
 use Rattle.std.specs.List.Sorted.{IsStrictlyIncreasing}
 use Rattle.std.specs.FinSet as set
 use Rattle.l4_fpage.specs.declared.fpages.Fpage.{Fpage}
@@ -14,7 +14,7 @@ use Rattle.l4_threads.specs.declared.Reply.TheVariants.{Ipc as IpcReply, Answere
 use Rattle.l4_threads.specs.declared.State.{State}
 use Rattle.l4_threads.specs.declared.State.TheVariants.{Running, Sending as IsSender, Receiving as IsReceiver}
 use Rattle.l4_threads.specs.declared.Thread.{Thread}
-use Rattle.l4_threads.specs.Threads.{Threads, thread_at, state_of, runs, is_running, failed, end_call}
+use Rattle.l4_threads.specs.Threads.{Threads, thread_at, runs, is_running, failed, end_call}
 use Rattle.l4_threads.specs.Control.{create_test, created, asks_new, set_pager_test, with_pager, delete_test, Deletes, waits, IsEndedBy, HasEnded}
 use Rattle.l4_threads.specs.Enabled.{IsFirstSender, CanExpire, IsNextTransfer, IsNextExpiry}
 use Rattle.l4_ipc.specs.declared.calls.Call.{Call}

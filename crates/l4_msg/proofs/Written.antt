@@ -15,15 +15,6 @@ use Rattle.l4_msg.specs.declared.items.Item.{Item}
 use Rattle.l4_msg.specs.declared.items.Item.TheVariants.{Map, Grant}
 use Rattle.l4_msg.specs.declared.messages.Message.{Message}
 
--- an item follows where the place is not the last
-follows_drop : (items : List Item) (i : ℕ) → follows (drop (suc i) items) ≡ nat_lt (suc i) (length items)
-follows_drop [] i = grind (arith, nat_tests)
-follows_drop (x ∷ []) zero = grind (arith, nat_tests)
-follows_drop (x ∷ y ∷ items) zero = grind (arith, nat_tests)
-follows_drop (x ∷ items) (suc i) =
-    let e : nat_lt (suc i) (length items) ≡ nat_lt (suc (suc i)) (suc (length items)) = grind (arith, nat_tests) in
-    follows_drop items i ∙ e
-
 -- the words of an item read as it
 pub item_reads : (item : Item) (more : Bool) → base_of item % 1024 ≡ 0 → ItemReads (item_words item more).0 (item_words item more).1 item
 item_reads (Map base fpage) true h = (omega arith, omega arith, word_reads fpage)

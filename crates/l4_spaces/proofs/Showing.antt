@@ -1,5 +1,5 @@
 -- What a contract sees once a space was written, has come or has gone.
-use Rattle.std.proofs.Common.{◌≡◌, ◌≢◌, ℕ, zero, suc, ◌+◌, ◌*◌, ◌/◌, ◌%◌, ◌<◌, ◌≤◌, ◌==◌, ◌&&◌, ◌||◌, Bool, true, false, nat_eq, nat_lt, not, cond, List, [], ◌∷◌, ◌++◌, length, filter, slice_index_or, slice_set, Option, Some, None, is_some, IsTrue, MatchOption, IfSome, Vec, refl, sym, ap, ◌∙◌, subst, ◌⊎◌, inl, inr, arith}
+use Rattle.std.proofs.Common.{◌≡◌, ◌≢◌, ℕ, zero, suc, ◌+◌, ◌*◌, ◌/◌, ◌%◌, ◌<◌, ◌≤◌, ◌==◌, ◌&&◌, ◌||◌, Bool, true, false, nat_eq, nat_lt, not, cond, List, [], ◌∷◌, ◌++◌, length, filter, slice_index_or, slice_set, Option, Some, None, is_some, MatchOption, Vec, refl, sym, ap, ◌∙◌, subst, inl, inr, arith}
 use Rattle.std.specs.List.{list_any, count_by}
 use Rattle.std.specs.Ordering.{nat_cmp, eq_by_cmp, is_eq}
 use Rattle.std.specs.Cmp.{nat_cmp_total, tied_itself}
@@ -8,15 +8,14 @@ use Rattle.std.specs.FinMap.{nat_cmp-IsAntisymmetric}
 use Rattle.std.specs.FinSet as set
 use Rattle.std.specs.declared.alloc.Global.{Global}
 use Rattle.std.proofs.lemmas.Bool.{cases_lt, cases_eq}
-use Rattle.std.proofs.lemmas.Bool.Decides.{nat_tests}
 use Rattle.std.proofs.lemmas.List.{get_or_past}
 use Rattle.std.proofs.lemmas.List.Sums.{sum_by-cons}
 use Rattle.l4_spaces.specs.Tables.{Tables, place_cmp, key_of, table_pages, space_tables, HasRoom, KeepsRoom, KeepsOthersRoom, Empties, IsPresent, NonePresentFrom, IsNextPresent, NonePresentIn, IsNextIn}
 use Rattle.l4_spaces.specs.Inside.Two.{Rows, row, entry, is_made, IsReady, AreWhole, AreMade, NoneIn, IsFirstIn}
 use Rattle.l4_spaces.specs.Inside.Seen.{Space, Live, numbers, has, tables_of, StandsAt, key_at, is_there, shown, IsLaid}
-use Rattle.l4_spaces.proofs.Below.{places_total, exact_places, tie, untie, apart, is_equal, or_second, not_both, decided}
-use Rattle.l4_spaces.proofs.Finding.{eq_yes, eq_no, eq_of, ne_of, stands_tables, stands_number, stands_has, no_tables_of, written_here, written_other, written_numbers}
-use Rattle.l4_spaces.proofs.Listing.{key_shown, there_shown, has_shown, pages_are, same_shown, past_entry, past_made}
+use Rattle.l4_spaces.proofs.Below.{places_total, tie, untie, is_equal, not_both, decided}
+use Rattle.l4_spaces.proofs.Finding.{eq_no, eq_of, ne_of, stands_tables, stands_number, stands_has, no_tables_of, written_here, written_other, written_numbers}
+use Rattle.l4_spaces.proofs.Listing.{key_shown, there_shown, has_shown, pages_are, same_shown, past_entry}
 
 -- what is asked of the view is asked of the list
 

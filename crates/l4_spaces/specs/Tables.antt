@@ -1,6 +1,6 @@
 -- The page tables of all spaces as one value: the node of each present page, which spaces there are, and which tables (this profile's own).
 use Rattle.std.specs.Prelude.{◌≡◌, ◌≢◌, ℕ, ◌<◌, ◌≤◌, ◌==◌, ◌*◌, ◌/◌, List, Option, None, cond, not, IsTrue, is_some, refl}
-use Rattle.std.specs.List.{count_by, All}
+use Rattle.std.specs.List.{count_by}
 use Rattle.std.specs.Ordering.{nat_cmp, ordering_then}
 use Rattle.std.specs.declared.cmp.Ordering.{Ordering}
 use Rattle.std.specs.Coded.{Coded, code_by, coded×, coded_ℕ}

@@ -7,8 +7,6 @@ use Rattle.std.proofs.lemmas.Bool.{false≢true}
 use Rattle.std.proofs.lemmas.List.{at_drop_more, at_drop_all}
 use Rattle.l4_threads.specs.declared.State.{State}
 use Rattle.l4_threads.specs.declared.State.TheVariants.{Running, Sending as Sends, Receiving as Receives}
-use Rattle.l4_threads.specs.declared.Sending.{Sending}
-use Rattle.l4_threads.specs.declared.Receiving.{Receiving}
 use Rattle.l4_threads.specs.Threads.{Threads, state_of, sends, is_sending, Before, IsConsistent}
 use Rattle.l4_threads.specs.Enabled.{takes_from, offers_to, Offers, IsFirstSender, IsNextTransfer, expires, CanExpire, IsNextExpiry}
 use Rattle.l4_threads.specs.Inside.Taker.{target_of, taker}

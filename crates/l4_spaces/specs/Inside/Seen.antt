@@ -1,12 +1,11 @@
 -- What a contract sees of the spaces with their tables, and what these keep.
-use Rattle.std.specs.Prelude.{◌≡◌, ◌≢◌, ℕ, ◌*◌, ◌<◌, zero, suc, Bool, true, nat_eq, cond, List, [], ◌∷◌, ◌++◌, map, length, Option, None, Some, Vec}
+use Rattle.std.specs.Prelude.{◌≡◌, ◌≢◌, ℕ, ◌*◌, zero, suc, Bool, true, nat_eq, cond, List, [], ◌∷◌, ◌++◌, map, length, Option, None, Some, Vec}
 use Rattle.std.specs.declared.alloc.Global.{Global}
 use Rattle.std.specs.List.{list_any}
-use Rattle.std.specs.Ordering.{nat_cmp}
 use Rattle.std.specs.FinMap as map
 use Rattle.std.specs.FinSet as set
 use Rattle.l4_spaces.specs.declared.Spaces.TheInside.{Inside}
-use Rattle.l4_spaces.specs.Tables.{Tables, place_cmp, table_pages, space_tables}
+use Rattle.l4_spaces.specs.Tables.{Tables, table_pages, space_tables}
 use Rattle.l4_spaces.specs.Inside.Two.{Rows, entry, is_made, AreWhole}
 
 abbrev pub Space : Type 0

@@ -1,9 +1,8 @@
-use Rattle.std.proofs.Common.{◌≡◌, ◌∙◌, ℕ, List, Option, Some, None, is_some, true, false, sym, ap, subst}
+use Rattle.std.proofs.Common.{◌≡◌, ◌∙◌, ℕ, List, None, is_some, true, false, sym, ap}
 use Rattle.std.specs.Ordering.{nat_cmp}
 use Rattle.std.specs.FinSet as set
-use Rattle.l4_spaces.specs.Tables.{Tables, key_of}
-use Rattle.l4_spaces.specs.Inside.Two.{Rows, entry, is_made, IsReady}
-use Rattle.l4_spaces.specs.Inside.Seen.{tables_of}
+use Rattle.l4_spaces.specs.Tables.{Tables}
+use Rattle.l4_spaces.specs.Inside.Two.{Rows, entry}
 use Rattle.l4_spaces.proofs.Finding.{no_tables_of}
 use Rattle.l4_spaces.proofs.Showing.{wrote, at_here, found, laid, whole_long, there_long, keys_put, keeps_same, pages_clear, pages_clear_none, ready_shown, is_none_of}
 use Rattle.l4_spaces.proofs.Spaces.clear.Goals as goal
