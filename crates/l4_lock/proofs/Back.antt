@@ -1,5 +1,5 @@
 -- Seats that come back, one after another.
-use Rattle.std.proofs.Common.{◌≡◌, ◌≢◌, ℕ, ◌+◌, ◌<◌, ◌≤◌, ◌⊎◌, inl, inr, if◌then◌else◌, Bool, true, false, List, length, get_or, Option, Some, None, MatchOption, is_some, slice_get, refl, sym, ap, ◌∙◌, subst, arith}
+use Rattle.std.proofs.Common.{◌≡◌, ℕ, ◌+◌, ◌<◌, ◌≤◌, ◌⊎◌, inl, inr, if◌then◌else◌, Bool, true, false, List, length, get_or, Option, Some, None, MatchOption, is_some, slice_get, refl, sym, ap, ◌∙◌, subst, arith}
 use Rattle.std.specs.List.{All, AllPairs}
 use Rattle.std.proofs.lemmas.Bool.{false≢true, cases_lt}
 use Rattle.std.proofs.lemmas.Bool.Decides.{leb_tells}
@@ -13,7 +13,7 @@ use Rattle.l4_lock.specs.Inside.Noting.{started_by}
 use Rattle.l4_lock.specs.Receipts.{Proves}
 use Rattle.l4_lock.specs.declared.entries.Receipt.{Receipt}
 use Rattle.l4_lock.specs.Locked.{Lock, IsKept}
-use Rattle.l4_lock.specs.Closing.{HasBook, HasSeat, IsGiven, IsBack, IsTwice, Agrees, AllAgree, IsMissing, IsForeign, IsWrong, Least, Mismatches, AreBack, by_history, IsShown, Closes}
+use Rattle.l4_lock.specs.Closing.{HasSeat, IsGiven, IsBack, Agrees, AllAgree, IsMissing, IsForeign, IsWrong, Least, Mismatches, AreBack, by_history, Closes}
 use Rattle.l4_lock.specs.Inside.Closing.{IsFine, keep, SoFarMissing, SoFarForeign, SoFarWrong}
 
 -- an earlier place, or this one

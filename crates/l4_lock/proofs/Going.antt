@@ -1,12 +1,11 @@
 -- The steps that follow a start, one after another.
-use Rattle.std.proofs.Common.{◌≡◌, ℕ, ◌+◌, ◌<◌, ◌≤◌, List, [], ◌∷◌, ◌++◌, length, map, Some, None, Ok, refl, sym, ap, ◌∙◌, subst, arith}
+use Rattle.std.proofs.Common.{◌≡◌, ℕ, ◌+◌, ◌≤◌, List, [], ◌∷◌, ◌++◌, length, map, Some, None, Ok, refl, sym, ap, ◌∙◌, subst, arith}
 use Rattle.std.proofs.lemmas.List.{length-append}
-use Rattle.std.specs.FinMap as fin
-use Rattle.l4_threads.specs.Threads.{Threads, IsConsistent}
+use Rattle.l4_threads.specs.Threads.{IsConsistent}
 use Rattle.l4_ipc.specs.declared.steps.Answer.{Answer}
 use Rattle.l4_ipc.specs.declared.steps.Step.{Step}
 use Rattle.l4_ipc.specs.Machine.{Machine}
-use Rattle.l4_ipc.specs.Steps.{Steps, IsNext, IsIdle}
+use Rattle.l4_ipc.specs.Steps.{Steps, IsNext}
 use Rattle.l4_lock.specs.declared.entries.Entry.{Entry}
 use Rattle.l4_lock.specs.Inside.Entering.{last_seat}
 use Rattle.l4_lock.specs.History.{GoesOn}

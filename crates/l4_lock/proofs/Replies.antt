@@ -1,15 +1,15 @@
 -- A thread whose call ended in a step has its reply right after it.
-use Rattle.std.proofs.Common.{◌≡◌, ℕ, Option, Some, None, Ok, Contains, refl}
+use Rattle.std.proofs.Common.{ℕ, Option, Some, None, Ok, Contains, refl}
 use Rattle.std.specs.Option.{option_map_or, option_and_then}
 use Rattle.l4_threads.specs.declared.Reply.{Reply}
 use Rattle.l4_threads.specs.declared.Reply.TheVariants.{Gone}
 use Rattle.l4_threads.specs.declared.State.{State}
 use Rattle.l4_threads.specs.declared.State.TheVariants.{Running, Sending as IsSender, Receiving as IsReceiver}
-use Rattle.l4_threads.specs.Threads.{Threads, state_of}
+use Rattle.l4_threads.specs.Threads.{state_of}
 use Rattle.l4_ipc.specs.declared.steps.Answer.{Answer}
 use Rattle.l4_ipc.specs.declared.steps.Step.{Step}
 use Rattle.l4_ipc.specs.Machine.{Machine}
-use Rattle.l4_ipc.specs.Reading.{last_reply, reply_of}
+use Rattle.l4_ipc.specs.Reading.{last_reply}
 use Rattle.l4_ipc.specs.Steps.{Steps}
 use Rattle.l4_ipc.proofs.Waiting.{IsOver, over}
 use Rattle.l4_lock.specs.Receipts.{Says, Replied}

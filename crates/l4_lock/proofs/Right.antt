@@ -1,13 +1,12 @@
 -- The history goes on by one entry: what was right of it stays right.
-use Rattle.std.proofs.Common.{◌≡◌, ◌≢◌, ℕ, suc, zero, ◌+◌, ◌<◌, ◌≤◌, ◌⊎◌, inl, inr, nat_eq, ◌||◌, Bool, true, false, if◌then◌else◌, List, [], ◌∷◌, ◌++◌, length, map, take, Option, Some, None, Ok, MatchOption, Contains, slice_get, slice_index_or, slice_set, get_or, refl, sym, ap, ◌∙◌, subst, arith}
-use Rattle.std.specs.Option.{option_map, option_map_or}
-use Rattle.std.specs.List.{All, AllPairs, list_any}
+use Rattle.std.proofs.Common.{◌≡◌, ℕ, suc, zero, ◌+◌, ◌<◌, ◌≤◌, ◌⊎◌, inl, inr, nat_eq, ◌||◌, true, false, if◌then◌else◌, List, [], ◌∷◌, ◌++◌, length, map, take, Option, Some, None, Ok, MatchOption, Contains, slice_get, slice_index_or, slice_set, refl, sym, ap, ◌∙◌, subst, arith}
+use Rattle.std.specs.Option.{option_map}
+use Rattle.std.specs.List.{All}
 use Rattle.std.proofs.lemmas.Bool.{false≢true}
 use Rattle.std.proofs.lemmas.Bool.Decides.{eqb_tells}
 use Rattle.std.proofs.lemmas.Option.{slice_get_within}
 use Rattle.std.proofs.lemmas.List.{take-append-le}
-use Rattle.std.proofs.lemmas.List.Elements.{All-weaker, All-push, All-map}
-use Rattle.std.proofs.lemmas.List.Quantifiers.{all_pairs_push}
+use Rattle.std.proofs.lemmas.List.Elements.{All-weaker, All-map}
 use Rattle.std.proofs.Math.Seq.{take-length}
 use Rattle.std.proofs.Common.{eq-eqb}
 use Rattle.std.proofs.lemmas.List.{length-append}
@@ -20,10 +19,10 @@ use Rattle.l4_lock.specs.declared.entries.Entry.{Entry}
 use Rattle.l4_lock.specs.declared.entries.Receipt.{Receipt}
 use Rattle.l4_lock.specs.declared.entries.Ended.{Ended}
 use Rattle.l4_lock.specs.declared.entries.Pending.{Pending}
-use Rattle.l4_lock.specs.History.{IsSeated, Follows, Replays, GoesOn}
+use Rattle.l4_lock.specs.History.{IsSeated, Follows, Replays}
 use Rattle.l4_lock.specs.Inside.Entering.{last_seat}
 use Rattle.l4_lock.specs.Receipts.{Proves, StartsCall, Replied}
-use Rattle.l4_lock.specs.Books.{Book, book, pending_count, is_among, unended, plain, receipt_of, one_if, starts_of, HasNotEnded, IsPending, IsRight, numbers, IsOnce, AreRight}
+use Rattle.l4_lock.specs.Books.{Book, book, pending_count, is_among, unended, plain, receipt_of, one_if, starts_of, IsPending, IsRight, numbers, IsOnce, AreRight}
 use Rattle.l4_lock.specs.Inside.Noting.{reply_in, noted_call, noted}
 use Rattle.l4_ipc.proofs.Waiting.{still_waits, starts_waiting}
 use Rattle.l4_lock.proofs.Replies.{ended_replied}

@@ -1,8 +1,8 @@
 -- A reply is taken from the lock, and a call is entered: what the lock keeps.
-use Rattle.std.proofs.Common.{◌≡◌, ◌≢◌, ℕ, suc, zero, ◌+◌, ◌<◌, ◌≤◌, ◌⊎◌, inl, inr, Bool, true, false, List, [], ◌∷◌, ◌++◌, length, get_or, Option, Some, None, Result, Ok, Err, IfSome, IfNone, MatchOption, IsTrue, slice_get, slice_set, Contains, refl, sym, ap, ◌∙◌, subst, arith}
+use Rattle.std.proofs.Common.{◌≡◌, ◌≢◌, ℕ, ◌+◌, ◌<◌, ◌≤◌, ◌⊎◌, inl, inr, false, List, [], ◌∷◌, ◌++◌, length, get_or, Option, Some, None, Err, IfSome, IfNone, MatchOption, IsTrue, slice_get, slice_set, Contains, refl, sym, ap, ◌∙◌, subst, arith}
 use Rattle.std.specs.Option.{option_map, option_map_or, option_and_then}
 use Rattle.std.proofs.lemmas.Bool.{false≢true}
-use Rattle.std.proofs.lemmas.Option.{slice_get_within, get_or_from_slice_get}
+use Rattle.std.proofs.lemmas.Option.{get_or_from_slice_get}
 use Rattle.std.proofs.lemmas.List.{length-append}
 use Rattle.atomic_table.specs.Seated.{TableId}
 use Rattle.l4_threads.specs.declared.Reply.{Reply}
@@ -10,7 +10,7 @@ use Rattle.l4_ipc.specs.declared.calls.Call.{Call}
 use Rattle.l4_ipc.specs.declared.steps.Refused.{Refused}
 use Rattle.l4_ipc.specs.declared.steps.Step.TheVariants.{Start}
 use Rattle.l4_ipc.specs.Machine.{Machine}
-use Rattle.l4_ipc.specs.Steps.{Steps, IsIdle}
+use Rattle.l4_ipc.specs.Steps.{Steps}
 use Rattle.l4_lock.specs.declared.entries.Entry.{Entry}
 use Rattle.l4_lock.specs.declared.entries.Receipt.{Receipt}
 use Rattle.l4_lock.specs.declared.entries.Ended.{Ended}
@@ -18,11 +18,11 @@ use Rattle.l4_lock.specs.declared.entries.Pending.{Pending}
 use Rattle.l4_lock.specs.declared.refusals.LockRefusal.{LockRefusal}
 use Rattle.l4_lock.specs.declared.refusals.LockRefusal.TheVariants.{NoMemory, Kernel as ByKernel}
 use Rattle.l4_lock.specs.Receipts.{Proves}
-use Rattle.l4_lock.specs.Books.{SeatState, seat_state, Book, book, book_at, reply_waits, has_ended, plain, receipts_at, numbers, IsOnce, receipt_of, HasNotEnded, IsPending, IsRight, AreRight, Settles}
-use Rattle.l4_lock.specs.Locked.{Lock, lock, IsKept, Enters, Gains, EndsAtOnce, IsLeft, Takes, Refuses, start_entry}
+use Rattle.l4_lock.specs.Books.{SeatState, seat_state, Book, book_at, reply_waits, has_ended, plain, receipts_at, numbers, IsOnce, receipt_of, HasNotEnded, IsPending, IsRight, AreRight, Settles}
+use Rattle.l4_lock.specs.Locked.{Lock, lock, IsKept, Enters, EndsAtOnce, IsLeft, Takes, Refuses, start_entry}
 use Rattle.l4_lock.specs.Inside.Entering.{Begins}
 use Rattle.l4_lock.proofs.Right.{pend}
-use Rattle.l4_lock.proofs.Started.{own_at, set_own, set_other, plain_at, same_book, get_there, read_all, right_settled, settled_right, set_same, at_number}
+use Rattle.l4_lock.proofs.Started.{own_at, set_own, set_other, plain_at, get_there, read_all, right_settled, settled_right, set_same, at_number}
 
 pub finished : (frames : ℕ) (es : List Entry) (m : Machine) (books : List Book) (board : TableId) (published place : ℕ) (x y : Book) (before after : SeatState) (own : Call → Call) (r : Option Reply)
     → IsKept (lock frames m es books board published) → place < length books → x ≡ get_or books place x

@@ -1,5 +1,5 @@
 -- A call as it is entered, step after step. (this profile's own)
-use Rattle.std.specs.Prelude.{◌≡◌, ℕ, List, [], ◌∷◌, Option, Some, None, Ok, ◌+◌, ◌≤◌, ◌++◌, length, map, slice_get, slice_set}
+use Rattle.std.specs.Prelude.{◌≡◌, ℕ, List, [], ◌∷◌, Option, Some, None, Ok, ◌≤◌, ◌++◌, length, map, slice_get, slice_set}
 use Rattle.l4_ipc.specs.declared.steps.Step.TheVariants.{Start}
 use Rattle.l4_ipc.specs.Machine.{Machine}
 use Rattle.l4_ipc.specs.Steps.{Steps, IsIdle}
@@ -9,7 +9,7 @@ use Rattle.l4_ipc.specs.declared.calls.Call.{Call}
 use Rattle.l4_ipc.specs.declared.steps.Answer.{Answer}
 use Rattle.l4_lock.specs.declared.entries.Pending.{Pending}
 use Rattle.l4_lock.specs.Sizes.{max_threads}
-use Rattle.l4_lock.specs.Books.{Book, book, plain, HasNotEnded, AreRight}
+use Rattle.l4_lock.specs.Books.{Book, plain, HasNotEnded, AreRight}
 use Rattle.l4_lock.specs.Locked.{start_entry}
 
 -- the seat of the last entry

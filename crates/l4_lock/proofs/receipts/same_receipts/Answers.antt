@@ -1,4 +1,4 @@
-use Rattle.std.proofs.Common.{◌≡◌, arith}
+use Rattle.std.proofs.Common.{arith}
 use Rattle.l4_lock.proofs.Back.{all_same}
 use Rattle.l4_lock.proofs.receipts.same_receipts.Goals as goal
 

@@ -1,4 +1,4 @@
-use Rattle.std.proofs.Common.{sym, subst, arith, vec_len, vec_capacity}
+use Rattle.std.proofs.Common.{sym, subst, arith}
 use Rattle.l4_ipc.specs.Machine.{Machine}
 use Rattle.l4_lock.specs.Inside.Entering.{Went}
 use Rattle.l4_lock.proofs.Going.{going_first, going_more, going_done}

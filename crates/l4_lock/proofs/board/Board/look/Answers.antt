@@ -1,5 +1,4 @@
-use Rattle.std.proofs.Common.{rules, refl, sym, ap, ◌∙◌}
-use Rattle.l4_lock.specs.Board.{Watching}
+use Rattle.std.proofs.Common.{rules}
 use Rattle.l4_lock.proofs.Boards.{looks}
 use Rattle.l4_lock.proofs.board.Board.look.Goals as goal
 

@@ -1,5 +1,4 @@
-use Rattle.std.proofs.Common.{◌≡◌, refl, sym, ap, ◌∙◌}
-use Rattle.l4_lock.specs.Locked.{Lock}
+use Rattle.std.proofs.Common.{refl}
 use Rattle.l4_lock.proofs.Back.{told_mismatch, told_closed}
 use Rattle.l4_lock.proofs.locked.Locked.close.Goals as goal
 

@@ -1,7 +1,7 @@
-use Rattle.std.proofs.Common.{◌≡◌, ◌≢◌, ◌<◌, ◌≤◌, ◌+◌, ℕ, List, length, Option, Some, None, slice_get, slice_set, vec_len, false, refl, sym, ap, ◌∙◌, subst, arith}
+use Rattle.std.proofs.Common.{◌≡◌, ◌<◌, ℕ, List, length, Some, slice_get, slice_set, false, sym, ap, ◌∙◌, subst, arith}
 use Rattle.std.proofs.lemmas.Option.{slice_get_within}
 use Rattle.l4_lock.specs.declared.entries.Entry.{Entry}
-use Rattle.l4_lock.specs.Books.{SeatState, Book, book_at, reply_waits}
+use Rattle.l4_lock.specs.Books.{Book, book_at, reply_waits}
 use Rattle.l4_lock.specs.Locked.{Lock, lock, Enters, EndsAtOnce, IsLeft, Refuses}
 use Rattle.l4_lock.specs.Inside.Entering.{IsReady, Begins}
 use Rattle.l4_lock.specs.Inside.Board.{Publishing}

@@ -1,4 +1,4 @@
-use Rattle.std.proofs.Common.{rules, ◌≡◌, List, [], refl, sym, subst}
+use Rattle.std.proofs.Common.{rules, ◌≡◌, List, [], sym, subst}
 use Rattle.l4_lock.specs.declared.entries.Entry.{Entry}
 use Rattle.l4_lock.specs.Books.{Book}
 use Rattle.l4_lock.specs.Locked.{lock, IsKept}

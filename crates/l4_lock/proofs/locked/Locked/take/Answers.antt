@@ -1,4 +1,4 @@
-use Rattle.std.proofs.Common.{◌≡◌, ◌<◌, ℕ, List, length, IfSome, IfNone, slice_get, slice_set, refl, sym, ap, ◌∙◌, subst, ◌⊎◌, false}
+use Rattle.std.proofs.Common.{◌≡◌, ◌<◌, ℕ, List, length, IfSome, IfNone, slice_get, slice_set, subst, ◌⊎◌, false}
 use Rattle.l4_lock.specs.Books.{Book, book_at, reply_waits}
 use Rattle.l4_lock.specs.Locked.{Lock, lock, Takes}
 use Rattle.l4_lock.proofs.Taking.{finished, taken, not_taken}

@@ -1,7 +1,7 @@
-use Rattle.std.proofs.Common.{◌≡◌, ◌<◌, ℕ, List, length, IfSome, IfNone, slice_get, slice_set, refl, sym, ap, ◌∙◌, subst, ◌⊎◌, false}
-use Rattle.l4_lock.specs.Books.{Book, book_at, reply_waits}
+use Rattle.std.proofs.Common.{◌≡◌, ◌<◌, ℕ, List, length, IfSome, slice_get, slice_set, subst}
+use Rattle.l4_lock.specs.Books.{Book, book_at}
 use Rattle.l4_lock.specs.Locked.{Lock, lock, Takes}
-use Rattle.l4_lock.proofs.Taking.{finished, taken, not_taken}
+use Rattle.l4_lock.proofs.Taking.{finished, taken}
 use Rattle.l4_lock.proofs.locked.Locked.take_for.Goals as goal
 
 pub invariant_of-self : goal.invariant_of-self
