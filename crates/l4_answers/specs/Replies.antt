@@ -40,18 +40,24 @@ waits_text number = numbered_text number (codes " waits")
 abbrev pub from_text : ℕ → List ℕ
 from_text id = if id == 0 then codes "nil" else decimal (id / 16384)
 
-abbrev pub ipc_text : ℕ → IpcReply → List ℕ
-ipc_text number reply =
-    decimal number ++ codes " ipc " ++ word_text reply.tag ++ space ++ decimal reply.error ++ space ++ from_text reply.from.0
-    ++ words_text reply.words.items ++ newline
+abbrev pub ipc_head : ℕ → IpcReply → List ℕ
+ipc_head number reply = decimal number ++ codes " ipc " ++ word_text reply.tag ++ space ++ decimal reply.error ++ space ++ from_text reply.from.0
 
--- how a thread's call ended; a thread that is gone has no reply
+-- how a thread's call ended, but for the words of its message; a thread that is gone has no reply
+abbrev pub reply_head : ℕ → Option Reply → List ℕ
+reply_head number (Some (Ipc reply)) = ipc_head number reply
+reply_head number (Some Hit) = decimal number ++ codes " fault hit"
+reply_head number (Some Answered) = decimal number ++ codes " fault answered"
+reply_head number (Some (FaultFailed code)) = decimal number ++ codes " fault failed " ++ decimal code
+reply_head number (Some Unmapped) = decimal number ++ codes " unmap ok"
+reply_head number (Some Controlled) = decimal number ++ codes " control ok"
+reply_head number (Some Gone) = decimal number ++ codes " gone"
+reply_head number None = decimal number ++ codes " gone"
+
+-- the words of its message
+abbrev pub reply_words : Option Reply → List ℕ
+reply_words (Some (Ipc reply)) = reply.words.items
+reply_words reply = []
+
 abbrev pub reply_text : ℕ → Option Reply → List ℕ
-reply_text number (Some (Ipc reply)) = ipc_text number reply
-reply_text number (Some Hit) = numbered_text number (codes " fault hit")
-reply_text number (Some Answered) = numbered_text number (codes " fault answered")
-reply_text number (Some (FaultFailed code)) = decimal number ++ codes " fault failed " ++ decimal code ++ newline
-reply_text number (Some Unmapped) = numbered_text number (codes " unmap ok")
-reply_text number (Some Controlled) = numbered_text number (codes " control ok")
-reply_text number (Some Gone) = numbered_text number (codes " gone")
-reply_text number None = numbered_text number (codes " gone")
+reply_text number reply = reply_head number reply ++ words_text (reply_words reply) ++ newline

@@ -7,4 +7,4 @@ mod replies;
 
 pub use pages::{add_page, add_place, page_text, parent_text, shown_text};
 pub use refusals::{Code, add_code, refused_code, refused_text};
-pub use replies::{expire_text, reply_text, transfer_text, waits_text};
+pub use replies::{expire_text, line_end, put_reply, transfer_text, waits_text};

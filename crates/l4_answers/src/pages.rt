@@ -20,7 +20,7 @@ pub fn letters(rights: Rights) -> [u8; 3]
 
 /// Adds `page P frame F RIGHTS`.
 pub fn add_page(text: &mut Text, page: u32, mapping: &Mapping)
-    requires { length text.old + 60 ≤ 1024 }
+    requires { length text.old + 60 ≤ 160 }
     ensures value { text.new ≡ text.old ++ page_words page mapping.now }
     ensures len { length text.new ≤ length text.old + 60 }
 {
@@ -56,7 +56,7 @@ pub fn shown_text(count: u32) -> Text
 
 /// Adds a place's space and page, or `none`.
 pub fn add_place(text: &mut Text, place: Option<Place>)
-    requires { length text.old + 41 ≤ 1024 }
+    requires { length text.old + 41 ≤ 160 }
     ensures value { text.new ≡ text.old ++ place_or_none place }
     ensures len { length text.new ≤ length text.old + 41 }
 {

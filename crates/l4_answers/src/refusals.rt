@@ -106,7 +106,7 @@ pub fn refused_code(refused: Refused) -> Code
 
 /// Adds the number that a code carries, after a space.
 fn add_code_number(text: &mut Text, number: Option<u32>)
-    requires { length text.old + 21 ≤ 1024 }
+    requires { length text.old + 21 ≤ 160 }
     ensures value { text.new ≡ text.old ++ number_text number }
     ensures len { length text.new ≤ length text.old + 21 }
 {
@@ -118,7 +118,7 @@ fn add_code_number(text: &mut Text, number: Option<u32>)
 
 /// Adds a code, and the number that it carries.
 pub fn add_code(text: &mut Text, code: &Code)
-    requires { length text.old + 29 ≤ 1024 }
+    requires { length text.old + 29 ≤ 160 }
     ensures value { text.new ≡ text.old ++ code.now.name ++ number_text code.now.number }
     ensures len { length text.new ≤ length text.old + 29 }
 {

@@ -5,7 +5,7 @@ ghost use Rattle.l4_shell.specs.Sessions.{session, step_line, ended_text, step_t
 ghost use Rattle.l4_shell.specs.Inside.Telling.{TellsSteps, TellsActs};
 
 use crate::texts::refused_act_text;
-use l4_answers::{expire_text, refused_code, reply_text, transfer_text, waits_text};
+use l4_answers::{expire_text, put_reply, refused_code, transfer_text, waits_text};
 use l4_ipc::{Answer, Kernel, Outcome, Step};
 use l4_servers::Servers;
 use l4_text::Output;
@@ -20,7 +20,7 @@ fn tell_ended<W: Write>(kernel: &Kernel, answer: &Answer, out: &mut Output, writ
         (ended_text kernel.now answer.now.ended.items) }
 {
     for number in answer.ended.as_slice() {
-        out.put(writer, &reply_text(*number, kernel.reply(*number)));
+        put_reply(*number, kernel.reply(*number), out, writer);
     }
 }
 

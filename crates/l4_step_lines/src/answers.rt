@@ -1,11 +1,12 @@
 //! The texts of answers.
 ghost use Rattle.std.specs.Prelude.{◌≤◌, ◌+◌, length};
 
-use l4_answers::{add_code, add_page, add_place, refused_code};
+use l4_answers::{add_code, add_page, add_place, line_end, refused_code};
 use l4_ipc::{Outcome, Refused, Step};
 use l4_mapdb::Mapping;
-use l4_text::Text;
+use l4_text::{Output, Text};
 use l4_threads::{IpcReply, Reply};
+use std::io::Write;
 
 /// What a step did, in a word.
 fn outcome_name(outcome: Outcome) -> &'static [u8]
@@ -38,10 +39,10 @@ pub(crate) fn refused_text(refused: Refused) -> Text {
     text
 }
 
-/// Adds `ipc TAG ERROR FROM WORD..`
+/// Adds `ipc TAG ERROR FROM`, after which the words stand.
 fn add_ipc(text: &mut Text, reply: &IpcReply)
-    requires { length text.old + 700 ≤ 1024 }
-    ensures { length text.new ≤ length text.old + 700 }
+    requires { length text.old + 60 ≤ 160 }
+    ensures { length text.new ≤ length text.old + 60 }
 {
     text.add(b"ipc ");
     text.add_word(reply.tag);
@@ -49,23 +50,22 @@ fn add_ipc(text: &mut Text, reply: &IpcReply)
     text.add_number(u64::from(reply.error));
     text.push(b' ');
     text.add_word(reply.from.0);
-    text.add_words(reply.words.as_slice());
 }
 
 /// Adds `failed CODE`
 fn add_failed(text: &mut Text, code: u32)
-    requires { length text.old + 700 ≤ 1024 }
-    ensures { length text.new ≤ length text.old + 700 }
+    requires { length text.old + 60 ≤ 160 }
+    ensures { length text.new ≤ length text.old + 60 }
 {
     text.add(b"failed ");
     text.add_number(u64::from(code));
 }
 
-/// Adds how a call ended, or this word where there is no reply.
+/// Adds how a call ended, but for the words of its message, or this word where there is no reply.
 fn add_reply(text: &mut Text, reply: Option<&Reply>, word: &[u8])
-    requires room { length text.old + 700 ≤ 1024 }
+    requires room { length text.old + 60 ≤ 160 }
     requires short { length word.now ≤ 8 }
-    ensures { length text.new ≤ length text.old + 700 }
+    ensures { length text.new ≤ length text.old + 60 }
 {
     match reply {
         Some(Reply::Ipc(reply)) => add_ipc(text, reply),
@@ -79,27 +79,33 @@ fn add_reply(text: &mut Text, reply: Option<&Reply>, word: &[u8])
     }
 }
 
-/// How the call of this thread ended. A thread that is gone has no reply.
+/// How the call of this thread ended, but for the words of its message and the newline. A thread that is gone has no reply.
 pub(crate) fn ended_text(number: u32, reply: Option<&Reply>) -> Text {
     let mut text = Text::new();
     text.add_number(u64::from(number));
     text.push(b' ');
     add_reply(&mut text, reply, b"gone");
-    text.push(b'\n');
     text
 }
 
-/// The reply of a thread, or `none`.
+/// The reply of a thread, or `none`, but for the words of its message and the newline.
 pub(crate) fn reply_text(reply: Option<&Reply>) -> Text {
     let mut text = Text::new();
     add_reply(&mut text, reply, b"none");
-    text.push(b'\n');
     text
+}
+
+/// Tells the words of a reply's message, and the end of the line.
+pub(crate) fn put_rest<W: Write>(reply: Option<&Reply>, out: &mut Output, writer: &mut W) {
+    if let Some(Reply::Ipc(reply)) = reply {
+        out.put_words(writer, reply.words.as_slice());
+    }
+    out.put(writer, &line_end());
 }
 
 /// Adds `transfer S R`, `expire N` or `none`
 fn add_step(text: &mut Text, step: Option<&Step>)
-    requires { length text.old + 60 ≤ 1024 }
+    requires { length text.old + 60 ≤ 160 }
     ensures { length text.new ≤ length text.old + 60 }
 {
     match step {
@@ -128,7 +134,7 @@ pub(crate) fn enabled_text(step: Option<&Step>) -> Text {
 
 /// Adds `space K`, or `none`
 fn add_space(text: &mut Text, space: Option<u64>)
-    requires { length text.old + 26 ≤ 1024 }
+    requires { length text.old + 26 ≤ 160 }
     ensures { length text.new ≤ length text.old + 26 }
 {
     match space {

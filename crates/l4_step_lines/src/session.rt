@@ -1,12 +1,14 @@
 //! Lines over a kernel.
 use crate::answers::{
-    enabled_text, ended_text, outcome_text, page_text, refused_text, reply_text, space_text,
+    enabled_text, ended_text, outcome_text, page_text, put_rest, refused_text, reply_text,
+    space_text,
 };
 use crate::requests::{Request, read_request};
 use crate::running::Fault;
 use l4_answers::shown_text;
 use l4_ipc::{Kernel, SPACE_PAGES, Step};
 use l4_text::{Output, next_token};
+use l4_threads::Reply;
 use std::io::Write;
 
 /// Does a step, and tells what it did and how the calls ended that ended in it.
@@ -17,7 +19,9 @@ fn do_step<W: Write>(kernel: &mut Kernel, step: &Step, out: &mut Output, writer:
     };
     out.put(writer, &outcome_text(answer.outcome));
     for number in answer.ended.as_slice() {
-        out.put(writer, &ended_text(*number, kernel.reply(*number)));
+        let reply = kernel.reply(*number);
+        out.put(writer, &ended_text(*number, reply));
+        put_rest(reply, out, writer);
     }
 }
 
@@ -39,12 +43,18 @@ fn list_pages<W: Write>(kernel: &Kernel, space: u64, out: &mut Output, writer: &
     out.put(writer, &shown_text(shown));
 }
 
+/// Tells the reply of a thread.
+fn tell_reply<W: Write>(reply: Option<&Reply>, out: &mut Output, writer: &mut W) {
+    out.put(writer, &reply_text(reply));
+    put_rest(reply, out, writer);
+}
+
 /// Does or answers what a line asks for.
 fn answer<W: Write>(kernel: &mut Kernel, request: Request, out: &mut Output, writer: &mut W) {
     match request {
         Request::Do(step) => do_step(kernel, &step, out, writer),
         Request::Enabled => out.put(writer, &enabled_text(kernel.enabled().as_ref())),
-        Request::Reply(thread) => out.put(writer, &reply_text(kernel.reply(thread))),
+        Request::Reply(thread) => tell_reply(kernel.reply(thread), out, writer),
         Request::Space(thread) => out.put(writer, &space_text(kernel.space_of(thread))),
         Request::Pages(space) => list_pages(kernel, space, out, writer),
     }

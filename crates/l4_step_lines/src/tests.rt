@@ -50,15 +50,15 @@ fn spells_every_answer(rt: HostRuntime) -> Result<(), Fail> {
         enabled_text(Some(&Step::Expire(63))).as_slice() == b"enabled expire 63\n".as_slice()
     );
     for (reply, text) in [
-        (Reply::Hit, b"7 hit\n".as_slice()),
-        (Reply::Answered, b"7 answered\n"),
-        (Reply::FaultFailed(5), b"7 failed 5\n"),
-        (Reply::Unmapped, b"7 unmapped\n"),
-        (Reply::Gone, b"7 gone\n"),
+        (Reply::Hit, b"7 hit".as_slice()),
+        (Reply::Answered, b"7 answered"),
+        (Reply::FaultFailed(5), b"7 failed 5"),
+        (Reply::Unmapped, b"7 unmapped"),
+        (Reply::Gone, b"7 gone"),
     ] {
         assert!(rt; ended_text(7, Some(&reply)).as_slice() == text);
     }
-    assert!(rt; ended_text(7, None).as_slice() == b"7 gone\n".as_slice());
+    assert!(rt; ended_text(7, None).as_slice() == b"7 gone".as_slice());
     let reply = Reply::Ipc(IpcReply {
         tag: 0xfedc_ba98,
         error: 9,
@@ -66,8 +66,7 @@ fn spells_every_answer(rt: HostRuntime) -> Result<(), Fail> {
         words: ArrayVec::new(),
     });
     assert!(rt;
-        ended_text(262_143, Some(&reply)).as_slice()
-            == b"262143 ipc fedcba98 9 01234567\n".as_slice()
+        ended_text(262_143, Some(&reply)).as_slice() == b"262143 ipc fedcba98 9 01234567".as_slice()
     );
     Ok(())
 }

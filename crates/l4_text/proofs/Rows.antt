@@ -10,12 +10,8 @@ words_text-append [] ys = refl
 words_text-append (x ∷ xs) ys = ap (λ t. 32 ∷ (word_text x ++ t)) (words_text-append xs ys) ∙ ap (λ t. 32 ∷ t) (sym (append_assoc (word_text x) (words_text xs) (words_text ys)))
 
 -- one word more
-pub words_text_more : (xs : List ℕ) (i : ℕ) (front text : List ℕ) → i < length xs → text ≡ front ++ words_text (take i xs)
-    → (text ++ (32 ∷ [])) ++ word_text (get_or xs i 0) ≡ front ++ words_text (take (i + 1) xs)
-words_text_more xs i front text lt is =
-    ap (λ t. (t ++ (32 ∷ [])) ++ word_text (get_or xs i 0)) is
-    ∙ append_assoc (front ++ words_text (take i xs)) (32 ∷ []) (word_text (get_or xs i 0))
-    ∙ append_assoc front (words_text (take i xs)) (32 ∷ word_text (get_or xs i 0))
-    ∙ ap (λ t. front ++ (words_text (take i xs) ++ t)) (ap (λ t. 32 ∷ t) (sym (append-nil (word_text (get_or xs i 0)))))
-    ∙ ap (λ t. front ++ t) (sym (words_text-append (take i xs) (get_or xs i 0 ∷ [])))
-    ∙ ap (λ t. front ++ words_text t) (sym (take_more xs i 0 lt))
+pub words_text_more : (xs : List ℕ) (i : ℕ) → i < length xs → words_text (take i xs) ++ (32 ∷ word_text (get_or xs i 0)) ≡ words_text (take (i + 1) xs)
+words_text_more xs i lt =
+    ap (λ t. words_text (take i xs) ++ t) (ap (λ t. 32 ∷ t) (sym (append-nil (word_text (get_or xs i 0)))))
+    ∙ sym (words_text-append (take i xs) (get_or xs i 0 ∷ []))
+    ∙ ap (λ t. words_text t) (sym (take_more xs i 0 lt))

@@ -30,6 +30,18 @@ puts_tell old new before held held' failed text is fine p start told h =
     )
 
 -- what was told went out as far as a failed write let it
+pub text_gone : (old new : Option (List ℕ)) (before : List ℕ × Bool) (held : List ℕ) (failed : Bool) (text : List ℕ) → (held, failed) ≡ before → failed ≡ false → WentOut old new (held ++ text)
+    → (start : Option (List ℕ)) (told : List ℕ) → HasTold start old before.0 before.1 told → WentOut start new (told ++ text)
+text_gone old new before held failed text is fine out start told h =
+    let was : HasTold start old held false told =
+    subst (λ (b : Bool). HasTold start old held b told) fine (subst (λ (s : List ℕ × Bool). HasTold start old s.0 s.1 told) (sym is) h) in
+    record {
+      front = was.0 ++ out.front;
+      rest = out.rest;
+      whole = ap (λ t. t ++ text) was.1 ∙ append_assoc was.0 held text ∙ ap (λ t. was.0 ++ t) out.whole ∙ sym (append_assoc was.0 out.front out.rest);
+      out = appends_more start old new was.0 out.front was.2 out.out;
+    }
+
 pub held_gone : (old new : Option (List ℕ)) (before : List ℕ × Bool) (held : List ℕ) (failed : Bool) → (held, failed) ≡ before → failed ≡ false → WentOut old new held
     → (start : Option (List ℕ)) (told : List ℕ) → HasTold start old before.0 before.1 told → WentOut start new (told ++ [])
 held_gone old new before held failed is fine out start told h =

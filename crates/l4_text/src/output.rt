@@ -3,11 +3,12 @@ ghost use Rattle.std.specs.Prelude.{◌≡◌, ◌≤◌, ◌+◌, ◌==◌, [],
 ghost use Rattle.std.specs.Io.KnownBytes.{Appends};
 ghost use Rattle.std.specs.Prelude.{ℕ, List, Option, false};
 ghost use Rattle.l4_text.specs.Streams.{WentOut, HasTold, Tells, IsOutBeforeRead};
+ghost use Rattle.l4_text.specs.Texts.{words_text};
 ghost use Rattle.l4_text.specs.Inside.Reading.{Puts};
 
 use crate::faults::RunFault;
 use crate::lines::Source;
-use crate::texts::Text;
+use crate::texts::{Text, spaced_digits};
 use arrayvec::ArrayVec;
 use std::io::Write;
 use std::marker::Model;
@@ -88,7 +89,7 @@ impl Held {
 
     /// Writes what is held back, where there is no room for so many bytes more.
     fn make_room<W: Write>(&mut self, writer: &mut W, count: usize) -> Result<(), RunFault>
-        requires { count ≤ 1024 }
+        requires { count ≤ 160 }
         ensures ok { OnOk result ((length self.new + count ≤ 16384)
             × Puts (W.contents writer.old) (W.contents writer.new) self.old self.new []) }
         ensures err { IfErr result (λ e. (e ≡ RunFault.Write)
@@ -100,14 +101,14 @@ impl Held {
         Ok(())
     }
 
-    /// Adds a text, after writing what is held where there is no room for it.
-    fn put<W: Write>(&mut self, writer: &mut W, text: &Text) -> Result<(), RunFault>
+    /// Adds some bytes, after writing what is held where there is no room for them.
+    fn put<W: Write>(&mut self, writer: &mut W, bytes: &[u8]) -> Result<(), RunFault>
+        requires { length bytes.now ≤ 160 }
         ensures ok { OnOk result
-            (Puts (W.contents writer.old) (W.contents writer.new) self.old self.new text.now) }
+            (Puts (W.contents writer.old) (W.contents writer.new) self.old self.new bytes.now) }
         ensures err { IfErr result (λ e. (e ≡ RunFault.Write)
-            × WentOut (W.contents writer.old) (W.contents writer.new) (self.old ++ text.now)) }
+            × WentOut (W.contents writer.old) (W.contents writer.new) (self.old ++ bytes.now)) }
     {
-        let bytes = text.as_slice();
         self.make_room(writer, bytes.len())?;
         self.hold(bytes);
         Ok(())
@@ -161,16 +162,34 @@ impl Output {
         self.failed
     }
 
-    /// Tells a text.
-    pub fn put<W: Write>(&mut self, writer: &mut W, text: &Text)
-        ensures { Tells (W.contents writer.old) (W.contents writer.new) self.old self.new text.now }
+    /// Tells some bytes.
+    fn tell<W: Write>(&mut self, writer: &mut W, bytes: &[u8])
+        requires { length bytes.now ≤ 160 }
+        ensures { Tells (W.contents writer.old) (W.contents writer.new) self.old self.new bytes.now }
     {
         if self.failed {
             return;
         }
-        match self.held.put(writer, text) {
+        match self.held.put(writer, bytes) {
             Ok(()) => {}
             Err(_) => self.failed = true,
+        }
+    }
+
+    /// Tells a text.
+    pub fn put<W: Write>(&mut self, writer: &mut W, text: &Text)
+        ensures { Tells (W.contents writer.old) (W.contents writer.new) self.old self.new text.now }
+    {
+        self.tell(writer, text.as_slice());
+    }
+
+    /// Tells words in eight hexadecimal digits of lower case, each after a space.
+    pub fn put_words<W: Write>(&mut self, writer: &mut W, words: &[u32])
+        ensures { Tells (W.contents writer.old) (W.contents writer.new) self.old self.new (words_text words.now) }
+    {
+        for word in words {
+            let digits = spaced_digits(*word);
+            self.tell(writer, &digits);
         }
     }
 

@@ -71,14 +71,16 @@ fn tells_a_text(rt: HostRuntime) -> Result<(), Fail> {
         text.add_number(7);
         text.push(b' ');
         text.add_word(0xbad);
-        text.add_words([0x8000_0000, 1].as_slice());
-        text.add(b"\n");
         let mut writer = Sip {
             taken: Vec::new(rt.alloc()),
             calls,
         };
         let mut out = Output::new();
         out.put(&mut writer, &text);
+        out.put_words(&mut writer, [0x8000_0000, 1].as_slice());
+        let mut newline = Text::new();
+        newline.push(b'\n');
+        out.put(&mut writer, &newline);
         assert!(rt; !out.has_failed());
         let end = out.finish(&mut writer);
         assert_eq!(rt; end.is_ok(), calls == told.len(), "at {calls}");

@@ -1,13 +1,13 @@
 //! Texts of bounded length.
-ghost use Rattle.std.specs.Prelude.{◌≡◌, ◌+◌, ◌*◌, ◌/◌, ◌%◌, ◌^◌, ◌≤◌, [], ◌∷◌, ◌++◌, length, decimal};
-ghost use Rattle.l4_text.specs.Texts.{word_text, words_text, hex_digit};
+ghost use Rattle.std.specs.Prelude.{◌≡◌, ◌+◌, ◌/◌, ◌%◌, ◌^◌, ◌≤◌, [], ◌∷◌, ◌++◌, length, decimal};
+ghost use Rattle.l4_text.specs.Texts.{word_text, hex_digit};
 
 use arrayvec::ArrayVec;
 use itoa::Buffer;
 use std::marker::Model;
 
 /// The most bytes of a text.
-const MAX_TEXT: usize = 1_024;
+const MAX_TEXT: usize = 160;
 
 /// The bytes of a text.
 #[derive(Drop)]
@@ -43,6 +43,23 @@ fn digit_at(word: u32, shift: u32) -> u8
     hex_digit((word >> shift & 15) as u8)
 }
 
+/// A word in eight hexadecimal digits of lower case, after a space.
+pub(crate) fn spaced_digits(word: u32) -> [u8; 9]
+    ensures { result ≡ 32 ∷ word_text word }
+{
+    [
+        b' ',
+        digit_at(word, 28),
+        digit_at(word, 24),
+        digit_at(word, 20),
+        digit_at(word, 16),
+        digit_at(word, 12),
+        digit_at(word, 8),
+        digit_at(word, 4),
+        digit_at(word, 0),
+    ]
+}
+
 impl Text {
     /// No bytes.
     pub fn new() -> Text
@@ -56,14 +73,14 @@ impl Text {
     /// The bytes themselves.
     pub fn as_slice(&self) -> &[u8]
         ensures value { result.now ≡ self.now }
-        ensures fits { length result.now ≤ 1024 }
+        ensures fits { length result.now ≤ 160 }
     {
         self.bytes.as_slice()
     }
 
     /// Adds a byte.
     pub fn push(&mut self, byte: u8)
-        requires { length self.old + 1 ≤ 1024 }
+        requires { length self.old + 1 ≤ 160 }
         ensures value { self.new ≡ self.old ++ byte ∷ [] }
         ensures len { length self.new ≡ length self.old + 1 }
     {
@@ -72,7 +89,7 @@ impl Text {
 
     /// Adds these bytes.
     pub fn add(&mut self, bytes: &[u8])
-        requires { length self.old + length bytes.now ≤ 1024 }
+        requires { length self.old + length bytes.now ≤ 160 }
         ensures value { self.new ≡ self.old ++ bytes.now }
         ensures len { length self.new ≡ length self.old + length bytes.now }
     {
@@ -81,7 +98,7 @@ impl Text {
 
     /// A number in decimal, without leading zeros.
     pub fn add_number(&mut self, number: u64)
-        requires { length self.old + 20 ≤ 1024 }
+        requires { length self.old + 20 ≤ 160 }
         ensures value { self.new ≡ self.old ++ decimal number }
         ensures len { length self.new ≤ length self.old + 20 }
     {
@@ -91,32 +108,11 @@ impl Text {
 
     /// A word in eight hexadecimal digits of lower case.
     pub fn add_word(&mut self, word: u32)
-        requires { length self.old + 8 ≤ 1024 }
+        requires { length self.old + 8 ≤ 160 }
         ensures value { self.new ≡ self.old ++ word_text word }
         ensures len { length self.new ≡ length self.old + 8 }
     {
-        let digits = [
-            digit_at(word, 28),
-            digit_at(word, 24),
-            digit_at(word, 20),
-            digit_at(word, 16),
-            digit_at(word, 12),
-            digit_at(word, 8),
-            digit_at(word, 4),
-            digit_at(word, 0),
-        ];
-        self.add(digits.as_slice());
-    }
-
-    /// Words, each after a space.
-    pub fn add_words(&mut self, words: &[u32])
-        requires { length self.old + 9 * length words.now ≤ 1024 }
-        ensures value { self.new ≡ self.old ++ words_text words.now }
-        ensures len { length self.new ≡ length self.old + 9 * length words.now }
-    {
-        for word in words {
-            self.push(b' ');
-            self.add_word(*word);
-        }
+        let digits = spaced_digits(word);
+        self.add(&digits[1..]);
     }
 }
