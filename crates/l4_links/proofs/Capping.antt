@@ -1,9 +1,8 @@
 -- A cap of a node's rights, after that of all that descends from it.
-use Rattle.std.proofs.Common.{◌≡◌, ◌≢◌, ◌⊎◌, ℕ, Bool, true, false, ◌&&◌, List, Option, Some, None, refl, sym, ap, ◌∙◌, subst, inl, inr}
+use Rattle.std.proofs.Common.{◌≡◌, ◌≢◌, ℕ, Bool, true, false, ◌&&◌, List, Option, Some, None, refl, sym, ap, ◌∙◌, subst, inl, inr}
 use Rattle.std.proofs.lemmas.Bool.{cases_eq}
 use Rattle.std.specs.Option.{option_map, option_and_then}
 use Rattle.l4_fpage.specs.Rights.{RightsSet, common, bits_of}
-use Rattle.l4_links.specs.declared.Standing.{Standing}
 use Rattle.l4_links.specs.declared.Entry.{Entry}
 use Rattle.l4_links.specs.declared.nodes.Node.{Node}
 use Rattle.l4_links.specs.declared.nodes.Slot.{Slot}
@@ -11,7 +10,7 @@ use Rattle.l4_links.specs.Leads.{Leads, step}
 use Rattle.l4_links.specs.Inside.Trees.{Limb, parent_at}
 use Rattle.l4_links.specs.Inside.Nodes.{Slots, Spot, slot_at, node_at, spots, limbs, values, Worth, capped_worth, IsForest, IsLow, IsMarked, IsStamped, HasMarks, Caps, CapsBelow}
 use Rattle.l4_links.specs.Inside.Nodes as nodes
-use Rattle.l4_links.specs.Entries.{entry_at, Descends, CapsTree, capped}
+use Rattle.l4_links.specs.Entries.{entry_at, CapsTree, capped}
 use Rattle.l4_links.specs.Inside.Keeping.{standing_of, entry_of, entries_of, IsWithin, LiesWithin, IsSound}
 use Rattle.l4_links.proofs.Writes.{map_at, stamped_same, marks_of, spot_of}
 use Rattle.l4_links.proofs.Neighbours.{worth_of}
@@ -58,7 +57,7 @@ marks_tree mid new top cap stamp m w =
 -- the children of the node stay within it
 within_tree : (old mid new : Slots) (ks : List ℕ) (top : ℕ) (cap : RightsSet) → IsForest mid ks → IsWithin mid → CapsBelow top cap old mid → Caps top cap mid new → IsWithin new
 within_tree old mid new ks top cap f within c w k p x l h is up v u =
-    let limbs_same : (j : ℕ) → limbs new j ≡ limbs mid j = map_at limb_of (λ (n : Node). record n { rights = common n.rights cap }) (λ n. refl) top mid new w.here w.others in
+    let limbs_same : (j : ℕ) → limbs new j ≡ limbs mid j = map_at limb_of (λ (n : Node). record n { rights = common n.rights cap; doomed = w.doomed }) (λ n. refl) top mid new w.here w.others in
     let was : limbs mid k ≡ Some x = sym (limbs_same k) ∙ is in
     let above = parent_stands mid ks f k p x was up in
     let n = node_from_limb mid k x was in
@@ -96,14 +95,14 @@ sound_tree old mid new first stamp walk later top cap s c m t w =
       forest = forest_same mid new g.keys l g.forest;
       first_is = g.first_is;
       within = within_tree old mid new g.keys top cap g.forest g.within c w;
-      stamped = stamped_same later mid new (map_at marks_of (λ (n : Node). record n { rights = common n.rights cap }) (λ n. refl) top mid new w.here w.others) g.stamped;
+      stamped = stamped_same later mid new (map_at marks_of (λ (n : Node). record n { rights = common n.rights cap; doomed = w.doomed }) (λ n. refl) top mid new w.here w.others) g.stamped;
       capped = λ _. subst (λ (z : RightsSet). HasMarks z later new) (sym (bits_back cap)) (marks_tree mid new top cap later m w);
       sought = λ e. absurd (no_sources_walk cap e);
     }
 
 pub view_tree : (old mid new : Slots) (first : Option ℕ) (stamp walk top : ℕ) (cap : RightsSet) → IsSound old first stamp walk → CapsBelow top cap old mid → Caps top cap mid new → CapsTree top cap (entries_of old) (entries_of new)
 view_tree old mid new first stamp walk top cap s c w =
-    let limbs_same : (j : ℕ) → limbs new j ≡ limbs old j = λ j. map_at limb_of (λ (n : Node). record n { rights = common n.rights cap }) (λ n. refl) top mid new w.here w.others j ∙ c.limbs_same j in
+    let limbs_same : (j : ℕ) → limbs new j ≡ limbs old j = λ j. map_at limb_of (λ (n : Node). record n { rights = common n.rights cap; doomed = w.doomed }) (λ n. refl) top mid new w.here w.others j ∙ c.limbs_same j in
     let spots_same : (j : ℕ) → spots new j ≡ spots old j = λ j. w.spots_same j ∙ c.spots_same j in
     let off_top : ¬ (Leads (parent_at (limbs old)) top top) = apart old s.keys s.forest top in
     let top_value : values new top ≡ option_map (capped_worth cap) (values old top) = values_capped top cap mid new w ∙ ap (option_map (capped_worth cap)) (c.kept top off_top) in

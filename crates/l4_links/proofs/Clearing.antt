@@ -1,13 +1,12 @@
 -- A node that leaves its list after all that descends from it.
-use Rattle.std.proofs.Common.{◌≡◌, ◌≢◌, ℕ, List, [], ◌∷◌, ◌++◌, Option, Some, None, refl, sym, ap, ◌∙◌, subst, arith, inl, inr}
+use Rattle.std.proofs.Common.{◌≡◌, ◌≢◌, ℕ, List, [], ◌∷◌, ◌++◌, Option, Some, None, refl, sym, ap, ◌∙◌, arith, inl, inr}
 use Rattle.std.proofs.lemmas.Bool.{cases_eq}
-use Rattle.std.specs.Option.{option_map, option_and_then}
+use Rattle.std.specs.Option.{option_map}
 use Rattle.l4_links.specs.declared.nodes.Node.{Node}
-use Rattle.l4_links.specs.declared.nodes.Slot.{Slot}
 use Rattle.l4_links.specs.Leads.{Leads, step}
 use Rattle.l4_links.specs.Inside.Trees.{Limb, parent_at, Sheds}
 use Rattle.l4_links.specs.Inside.Orders.{first_of, last_of, position}
-use Rattle.l4_links.specs.Inside.Nodes.{Slots, slot_at, node_at, spots, limbs, IsOrder, IsForest, Parts, Prunes, Clears}
+use Rattle.l4_links.specs.Inside.Nodes.{Slots, node_at, limbs, IsOrder, IsForest, Parts, Prunes, Clears}
 use Rattle.l4_links.proofs.Positions.{same_order_out}
 use Rattle.l4_links.proofs.Growing.{tree_sheds}
 use Rattle.l4_links.proofs.Neighbours.{neighbours_at, some_from}

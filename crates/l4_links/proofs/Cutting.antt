@@ -8,7 +8,7 @@ use Rattle.l4_links.specs.declared.nodes.Slot.{Slot}
 use Rattle.l4_links.specs.Leads.{Leads, steps}
 use Rattle.l4_links.specs.Inside.Trees.{Limb, IsInRun, parent_at, Sheds, SameOrder}
 use Rattle.l4_links.specs.Inside.Orders.{IsIn, IsOnce, first_of, position}
-use Rattle.l4_links.specs.Inside.Nodes.{Slots, slot_at, node_at, spots, limbs, values, marks, IsOrder, IsForest, CutsOff, left_spot, Prunes}
+use Rattle.l4_links.specs.Inside.Nodes.{Slots, node_at, spots, limbs, values, marks, IsOrder, IsForest, CutsOff, left_spot, Prunes}
 use Rattle.l4_links.proofs.Linking.{in_left, in_right, in_parts, once_front, once_back, once_out, parted}
 use Rattle.l4_links.proofs.Positions.{position_here, position_further, position_within}
 use Rattle.l4_links.proofs.Neighbours.{once_apart, in_list, neighbours_at}

@@ -1,21 +1,21 @@
 -- What the nodes keep, after each operation.
-use Rattle.std.proofs.Common.{◌≡◌, ◌≢◌, ◌⊎◌, ℕ, Bool, true, false, ◌&&◌, ◌+◌, ◌<◌, ◌≤◌, List, [], ◌∷◌, ◌++◌, ◌^◌, length, Option, Some, None, refl, sym, ap, ◌∙◌, subst, arith, inl, inr}
+use Rattle.std.proofs.Common.{◌≡◌, ◌≢◌, ◌⊎◌, ℕ, Bool, true, false, ◌&&◌, ◌+◌, List, [], ◌∷◌, ◌++◌, Option, Some, None, refl, sym, ap, ◌∙◌, subst, arith, inl, inr}
 use Rattle.std.proofs.lemmas.Bool.{cases_eq}
 use Rattle.std.specs.Option.{option_map, option_and_then}
 use Rattle.l4_fpage.specs.Rights.{RightsSet, common, set_of_bits, bits_of}
 use Rattle.l4_fpage.proofs.Eight.{bits_below, set_of_sum}
 use Rattle.l4_links.specs.declared.nodes.Node.{Node}
 use Rattle.l4_links.specs.declared.nodes.Slot.{Slot}
-use Rattle.l4_links.specs.Leads.{Leads, step, steps}
+use Rattle.l4_links.specs.Leads.{Leads, steps}
 use Rattle.l4_links.specs.Inside.Trees.{Limb, IsTree, parent_at, Sprouts, Rises}
-use Rattle.l4_links.specs.Inside.Orders.{Link, IsIn, IsLinked, first_of, last_of, position}
-use Rattle.l4_links.specs.Inside.Nodes.{Slots, slot_at, node_at, spots, limbs, links, values, sources, marks, Marks, Worth, capped_worth, IsOrder, IsForest, IsLow, IsMarked, IsStamped, IsDone, IsFree, HasMarks, HasSeen, NoneMet, Ends, Comes, Clears, CapsBelow, SetsWanted, IsSame}
+use Rattle.l4_links.specs.Inside.Orders.{Link, IsLinked, first_of, last_of, position}
+use Rattle.l4_links.specs.Inside.Nodes.{Slots, slot_at, node_at, limbs, links, values, marks, Marks, Worth, capped_worth, IsOrder, IsForest, IsLow, IsMarked, IsStamped, HasMarks, HasSeen, Ends, Comes, Clears, CapsBelow, SetsWanted, IsSame}
 use Rattle.l4_links.specs.Inside.Keeping.{IsWithin, LiesWithin, IsFresh, sources_walk, IsSound}
-use Rattle.l4_links.proofs.Writes.{map_at, stamped_same}
+use Rattle.l4_links.proofs.Writes.{stamped_same}
 use Rattle.l4_links.proofs.Linking.{parted, link_at, linked_same}
-use Rattle.l4_links.proofs.Neighbours.{order_same_nodes, not_in_list, in_list}
-use Rattle.l4_links.proofs.Runs.{run_from_leads, has_limb, parent_is}
-use Rattle.l4_links.proofs.Walking.{low_of_common, low_stays, node_from_limb, limb_in}
+use Rattle.l4_links.proofs.Neighbours.{order_same_nodes, in_list}
+use Rattle.l4_links.proofs.Runs.{run_from_leads, parent_is}
+use Rattle.l4_links.proofs.Walking.{low_stays, node_from_limb, limb_in}
 
 abbrev limb_of : Node → Limb
 limb_of n = record { parent = n.parent; depth = n.depth }

@@ -1,15 +1,15 @@
 -- What stands, stands in trees.
-use Rattle.std.proofs.Common.{◌≡◌, ◌≢◌, ◌⊎◌, ℕ, suc, zero, ◌≤◌, ◌+◌, Option, Some, None, refl, sym, ap, ◌∙◌, subst, arith, inl, inr}
+use Rattle.std.proofs.Common.{◌≡◌, ◌≢◌, ◌⊎◌, ℕ, suc, zero, ◌≤◌, Option, Some, None, refl, sym, ap, ◌∙◌, subst, arith, inl, inr}
 use Rattle.std.proofs.lemmas.Bool.{cases_eq}
-use Rattle.std.specs.Option.{option_map, option_and_then}
+use Rattle.std.specs.Option.{option_map}
 use Rattle.l4_links.specs.declared.Standing.{Standing}
 use Rattle.l4_links.specs.declared.nodes.Node.{Node}
 use Rattle.l4_links.specs.Leads.{Leads, step, steps}
 use Rattle.l4_links.specs.Inside.Trees.{Limb, IsTree, parent_at}
 use Rattle.l4_links.specs.Inside.Orders.{position}
-use Rattle.l4_links.specs.Inside.Nodes.{Slots, node_at, limbs, values, Worth}
+use Rattle.l4_links.specs.Inside.Nodes.{Slots, node_at, limbs}
 use Rattle.l4_links.specs.Inside.Keeping.{standing_of, entries_of, IsSound}
-use Rattle.l4_links.specs.Entries.{standing_at, Descends, ParentStands, AreTrees}
+use Rattle.l4_links.specs.Entries.{standing_at, ParentStands, AreTrees}
 use Rattle.l4_links.proofs.Neighbours.{worth_of}
 use Rattle.l4_links.proofs.Runs.{has_limb, parent_is}
 use Rattle.l4_links.proofs.Walking.{node_from_limb}

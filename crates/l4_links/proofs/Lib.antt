@@ -14,6 +14,8 @@ pub mod Depths
 pub mod Seen
 pub mod Kept
 pub mod Views
+pub mod Stacking
+pub mod Burying
 pub mod Capping
 pub mod Naming
 pub mod Noting

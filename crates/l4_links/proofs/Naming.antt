@@ -1,8 +1,8 @@
 -- The page tables name the key of each page.
-use Rattle.std.proofs.Common.{◌≡◌, ◌≢◌, ◌↔◌, ℕ, ◌<◌, ◌≤◌, ◌==◌, ◌&&◌, ◌||◌, not, [], cond, Bool, Result, Ok, Err, OnOk, OnErr, Option, Some, None, MatchOption, IsTrue, is_some, true, false, refl, sym, ap, ◌∙◌, subst, arith, inl, inr}
+use Rattle.std.proofs.Common.{◌≡◌, ◌≢◌, ◌↔◌, ℕ, ◌==◌, ◌&&◌, ◌||◌, not, [], cond, Bool, Result, Ok, Err, OnOk, OnErr, Option, Some, None, MatchOption, IsTrue, is_some, true, false, refl, sym, ap, ◌∙◌, subst, arith, inl, inr}
 use Rattle.std.proofs.lemmas.Bool.{cases_eq}
 use Rattle.std.proofs.lemmas.Bool.Decides.{nat_tests}
-use Rattle.std.specs.Option.{option_map, option_and_then}
+use Rattle.std.specs.Option.{option_map}
 use Rattle.std.specs.Ordering.{eq_by_cmp, nat_cmp}
 use Rattle.std.specs.Cmp.{nat_cmp_total}
 use Rattle.std.specs.FinMap.{nat_cmp-IsAntisymmetric}
@@ -16,8 +16,8 @@ use Rattle.l4_links.specs.declared.Place.{Place}
 use Rattle.l4_links.specs.declared.Entry.{Entry}
 use Rattle.l4_links.specs.declared.nodes.Node.{Node}
 use Rattle.l4_links.specs.declared.nodes.Slot.{Slot}
-use Rattle.l4_links.specs.Entries.{Linked, Entries, entry_at, IsAt, HasKey, NoKeyFrom, IsNextKey, NoKeyIn, IsNextKeyIn, HavePlaces}
-use Rattle.l4_links.specs.Inside.Nodes.{Slots, Spot, slot_at, node_at, spots, IsOf, SetsWanted, Gives, TakesOver}
+use Rattle.l4_links.specs.Entries.{entry_at, IsAt, HasKey, NoKeyFrom, IsNextKey, NoKeyIn, IsNextKeyIn, HavePlaces}
+use Rattle.l4_links.specs.Inside.Nodes.{Slots, Spot, slot_at, spots, IsOf, SetsWanted, Gives, TakesOver}
 use Rattle.l4_links.specs.Inside.Keeping.{entry_of, entries_of, IsIndexed}
 use Rattle.l4_links.proofs.Writes.{spot_of}
 use Rattle.l4_links.proofs.Seen.{at_seen}

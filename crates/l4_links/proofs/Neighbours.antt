@@ -7,7 +7,7 @@ use Rattle.l4_links.specs.declared.nodes.Slot.{Slot}
 use Rattle.l4_links.specs.Inside.Trees.{Limb, Sprouts}
 use Rattle.l4_links.specs.Inside.Orders.{IsIn, IsOnce, Link, first_of, last_of, IsLinked, PutsAfter, TakesOut, position}
 use Rattle.l4_links.specs.Inside.Nodes.{Slots, slot_at, node_at, limbs, links, Worth, IsOrder, IsForest, Writes, SetsNext, SetsPrev, Parts, TakesSlot, CutsOff, left_spot, Spot, wanted_in, spots, Comes}
-use Rattle.l4_links.proofs.Writes.{marks_of, spot_of}
+use Rattle.l4_links.proofs.Writes.{doom_of, marks_of, spot_of}
 use Rattle.l4_links.proofs.Linking.{in_left, in_right, in_parts, once_front, once_back, once_out, once_in, parted, first_in, last_in, link_at, linked_in, linked_out}
 use Rattle.l4_links.proofs.Positions.{stands_after}
 use Rattle.l4_links.proofs.Growing.{tree_sprouts}
@@ -265,6 +265,7 @@ parts_out a b c d key node w f g slot t = record {
   limbs_same = λ o ne. map_prev limb_of node.next node.prev (λ n. refl) c d g o ∙ map_next limb_of node.prev node.next (λ n. refl) b c f o ∙ ap (option_map limb_of) (w.others o ne);
   values_same = λ o ne. map_prev worth_of node.next node.prev (λ n. refl) c d g o ∙ map_next worth_of node.prev node.next (λ n. refl) b c f o ∙ ap (option_map worth_of) (w.others o ne);
   marks_same = λ o ne. map_prev marks_of node.next node.prev (λ n. refl) c d g o ∙ map_next marks_of node.prev node.next (λ n. refl) b c f o ∙ ap (option_map marks_of) (w.others o ne);
+  dooms_same = λ o ne. map_prev doom_of node.next node.prev (λ n. refl) c d g o ∙ map_next doom_of node.prev node.next (λ n. refl) b c f o ∙ ap (option_map doom_of) (w.others o ne);
   spots_same = λ o. g.spots_same o ∙ f.spots_same o ∙ w.spots_same o;
 }
 
@@ -278,6 +279,7 @@ comes_in a b c d key node at_next next at_prev prev blank slot w f g mark seen =
   limbs_same = λ o ne. map_next limb_of at_next next (λ n. refl) c d g o ∙ map_prev limb_of at_prev prev (λ n. refl) b c f o ∙ ap (option_map limb_of) (w.others o ne);
   values_same = λ o ne. map_next worth_of at_next next (λ n. refl) c d g o ∙ map_prev worth_of at_prev prev (λ n. refl) b c f o ∙ ap (option_map worth_of) (w.others o ne);
   marks_same = λ o ne. map_next marks_of at_next next (λ n. refl) c d g o ∙ map_prev marks_of at_prev prev (λ n. refl) b c f o ∙ ap (option_map marks_of) (w.others o ne);
+  dooms_same = λ o ne. map_next doom_of at_next next (λ n. refl) c d g o ∙ map_prev doom_of at_prev prev (λ n. refl) b c f o ∙ ap (option_map doom_of) (w.others o ne);
   spots_same = λ o. g.spots_same o ∙ f.spots_same o ∙ w.spots_same o;
 }
 
@@ -288,6 +290,7 @@ takes_slot old middle new key p gone others = record {
   limbs_same = λ o ne. ap (λ (s : Option Slot). option_map limb_of (option_and_then (λ (z : Slot). z.node) s)) (others o ne) ∙ p.limbs_same o ne;
   values_same = λ o ne. ap (λ (s : Option Slot). option_map worth_of (option_and_then (λ (z : Slot). z.node) s)) (others o ne) ∙ p.values_same o ne;
   marks_same = λ o ne. ap (λ (s : Option Slot). option_map marks_of (option_and_then (λ (z : Slot). z.node) s)) (others o ne) ∙ p.marks_same o ne;
+  dooms_same = λ o ne. ap (λ (s : Option Slot). option_map doom_of (option_and_then (λ (z : Slot). z.node) s)) (others o ne) ∙ p.dooms_same o ne;
   spots_same = λ o ne. ap (λ (s : Option Slot). option_map spot_of s) (others o ne) ∙ p.spots_same o;
 }
 

@@ -3,14 +3,13 @@ use Rattle.std.proofs.Common.{◌≡◌, ◌≢◌, ◌<◌, ℕ, Bool, true, fa
 use Rattle.std.proofs.lemmas.Bool.{cases_eq, false≢true}
 use Rattle.std.specs.Option.{option_map, option_and_then}
 use Rattle.l4_fpage.specs.Rights.{RightsSet, set_of_bits}
-use Rattle.l4_links.specs.declared.Place.{Place}
 use Rattle.l4_links.specs.declared.nodes.Node.{Node}
 use Rattle.l4_links.specs.declared.nodes.Slot.{Slot}
 use Rattle.l4_links.specs.Leads.{Leads}
 use Rattle.l4_links.specs.Inside.Trees.{Limb, parent_at}
 use Rattle.l4_links.specs.Inside.Orders.{Link, position}
-use Rattle.l4_links.specs.Inside.Nodes.{Slots, slot_at, node_at, limbs, links, values, sources, marks, Marks, Worth, IsLow, Ends, place_of, SetsSource, SetsPlain, TakesOver}
-use Rattle.l4_links.specs.Inside.Keeping.{IsWithin, LiesWithin, IsFresh, IsSound}
+use Rattle.l4_links.specs.Inside.Nodes.{Slots, slot_at, node_at, limbs, links, values, sources, marks, Worth, IsLow, Ends, place_of, SetsSource, SetsPlain, TakesOver}
+use Rattle.l4_links.specs.Inside.Keeping.{IsWithin, IsFresh, IsSound}
 use Rattle.l4_links.proofs.Writes.{map_at, marks_of, stamped_same}
 use Rattle.l4_links.proofs.Neighbours.{worth_of}
 use Rattle.l4_links.proofs.Kept.{forest_links, sound_fresh}

@@ -1,15 +1,14 @@
 -- A root that stands before all other nodes.
-use Rattle.std.proofs.Common.{◌≡◌, ◌≢◌, ℕ, ◌<◌, ◌+◌, List, [], ◌∷◌, ◌++◌, length, Option, Some, None, refl, sym, ap, ◌∙◌, subst, arith, inl, inr}
+use Rattle.std.proofs.Common.{◌≡◌, ◌≢◌, ℕ, ◌+◌, List, [], ◌∷◌, Option, Some, None, refl, sym, ap, ◌∙◌, subst, arith, inl, inr}
 use Rattle.std.proofs.lemmas.Bool.{cases_eq}
 use Rattle.std.specs.Option.{option_map}
 use Rattle.l4_links.specs.declared.nodes.Node.{Node}
 use Rattle.l4_links.specs.Inside.Trees.{Limb, IsTree, Rises}
 use Rattle.l4_links.specs.Inside.Orders.{Link, IsIn, IsOnce, IsLinked, first_of, position}
-use Rattle.l4_links.specs.Inside.Nodes.{Slots, slot_at, node_at, spots, limbs, links, IsOrder, IsForest, Writes, SetsNext, SetsPrev, Comes}
+use Rattle.l4_links.specs.Inside.Nodes.{Slots, slot_at, node_at, limbs, links, IsForest, Writes, SetsNext, SetsPrev}
 use Rattle.l4_links.proofs.Linking.{linked_same}
 use Rattle.l4_links.proofs.Positions.{position_here, position_further}
-use Rattle.l4_links.proofs.Neighbours.{not_in_list, some_from, map_prev, comes_in, no_limb, worth_of, in_list}
-use Rattle.l4_links.proofs.Runs.{one_limb}
+use Rattle.l4_links.proofs.Neighbours.{not_in_list, some_from, map_prev}
 
 abbrev limb_of : Node → Limb
 limb_of n = record { parent = n.parent; depth = n.depth }

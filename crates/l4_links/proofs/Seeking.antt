@@ -6,8 +6,8 @@ use Rattle.l4_links.specs.declared.nodes.Node.{Node}
 use Rattle.l4_links.specs.Leads.{Leads, step, steps}
 use Rattle.l4_links.specs.Inside.Trees.{Limb, IsTree, parent_at}
 use Rattle.l4_links.specs.Inside.Orders.{Link, IsIn, position}
-use Rattle.l4_links.specs.Inside.Nodes.{Slots, node_at, spots, limbs, links, values, sources, Worth, IsForest, Closes, Sees, place_of, IsMarked, IsStamped, Ends, IsSame, IsFree, HasSeen, Meets, NoneMet}
-use Rattle.l4_links.proofs.Writes.{map_at, stamped_at}
+use Rattle.l4_links.specs.Inside.Nodes.{Slots, node_at, limbs, links, sources, Worth, IsForest, Closes, Sees, place_of, IsMarked, IsStamped, Ends, IsSame, IsFree, HasSeen, Meets, NoneMet}
+use Rattle.l4_links.proofs.Writes.{map_at, stamped_at, doom_of}
 use Rattle.l4_links.proofs.Neighbours.{worth_of}
 use Rattle.l4_links.proofs.Linking.{linked_same}
 use Rattle.l4_links.proofs.Positions.{position_within}
@@ -36,7 +36,7 @@ pub sources_same : (old new : Slots) → IsSame old new → (k : ℕ) → source
 sources_same old new s k = ap (option_map (λ (w : Worth). w.source)) (s.values_same k)
 
 pub same_on : (a b d : Slots) → IsSame a b → IsSame b d → IsSame a d
-same_on a b d s t = record { limbs_same = λ k. t.limbs_same k ∙ s.limbs_same k; links_same = λ k. t.links_same k ∙ s.links_same k; values_same = λ k. t.values_same k ∙ s.values_same k; spots_same = λ k. t.spots_same k ∙ s.spots_same k }
+same_on a b d s t = record { limbs_same = λ k. t.limbs_same k ∙ s.limbs_same k; links_same = λ k. t.links_same k ∙ s.links_same k; values_same = λ k. t.values_same k ∙ s.values_same k; dooms_same = λ k. t.dooms_same k ∙ s.dooms_same k; spots_same = λ k. t.spots_same k ∙ s.spots_same k }
 
 pub forest_of_same : (old new : Slots) (ks : List ℕ) → IsSame old new → IsForest old ks → IsForest new ks
 forest_of_same old new ks s f = record {
@@ -72,11 +72,12 @@ sees_same key stamp old new c = record {
   limbs_same = λ k. seen_node key stamp old new c k (λ a b. option_map limb_of b ≡ option_map limb_of a) (λ o. refl) (λ o. elim o as (λ o. option_map limb_of (option_map (λ (n : Node). record n { seen = stamp }) o) ≡ option_map limb_of o) [ None ↦ refl | Some n ↦ refl ]);
   links_same = λ k. seen_node key stamp old new c k (λ a b. option_map link_of b ≡ option_map link_of a) (λ o. refl) (λ o. elim o as (λ o. option_map link_of (option_map (λ (n : Node). record n { seen = stamp }) o) ≡ option_map link_of o) [ None ↦ refl | Some n ↦ refl ]);
   values_same = map_at worth_of (λ (n : Node). record n { seen = stamp }) (λ n. refl) key old new c.here c.others;
+  dooms_same = map_at doom_of (λ (n : Node). record n { seen = stamp }) (λ n. refl) key old new c.here c.others;
   spots_same = c.spots_same;
 }
 
 pub closes_same : (key stamp : ℕ) (end : Option ℕ) (old new : Slots) → Closes key stamp end old new → IsSame old new
-closes_same key stamp end old new c = (let l = closes_lowers key stamp end old new c in record { limbs_same = l.limbs_same; links_same = l.links_same; values_same = values_closed key stamp end old new c; spots_same = c.spots_same })
+closes_same key stamp end old new c = (let l = closes_lowers key stamp end old new c in record { limbs_same = l.limbs_same; links_same = l.links_same; values_same = values_closed key stamp end old new c; dooms_same = map_at doom_of (λ (n : Node). record n { mark = stamp; end = end }) (λ n. refl) key old new c.here c.others; spots_same = c.spots_same })
 
 -- what a node was before it was seen
 pub record WasSeen (old : Slots) (key j : ℕ) (n : Node) : Type 0 where
@@ -120,7 +121,7 @@ seek_first old top stamp node h stamped at =
     record {
       keys = h.keys;
       forest = h.forest;
-      still = record { limbs_same = λ k. refl; links_same = λ k. refl; values_same = λ k. refl; spots_same = λ k. refl };
+      still = record { limbs_same = λ k. refl; links_same = λ k. refl; values_same = λ k. refl; dooms_same = λ k. refl; spots_same = λ k. refl };
       marked = h.marked;
       seen = λ k n is s. inl (h.seen k n is s);
       stamped = stamped;

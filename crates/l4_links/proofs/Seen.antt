@@ -1,8 +1,8 @@
 -- What a contract sees of the slots, piece by piece.
-use Rattle.std.proofs.Common.{◌≡◌, ◌≢◌, ◌↔◌, ◌⊎◌, ℕ, Bool, true, false, if◌then◌else◌, List, Option, Some, None, refl, sym, ap, ◌∙◌, subst, inl, inr}
+use Rattle.std.proofs.Common.{◌≡◌, ◌≢◌, ℕ, Bool, true, false, if◌then◌else◌, Option, Some, None, refl, sym, ap, ◌∙◌, subst}
 use Rattle.std.proofs.Math.ListN.{get_or-map}
 use Rattle.std.specs.Option.{option_map, option_and_then}
-use Rattle.l4_fpage.specs.Rights.{RightsSet, common}
+use Rattle.l4_fpage.specs.Rights.{RightsSet}
 use Rattle.l4_links.specs.declared.Standing.{Standing}
 use Rattle.l4_links.specs.declared.Entry.{Entry}
 use Rattle.l4_links.specs.declared.nodes.Node.{Node}
@@ -10,7 +10,7 @@ use Rattle.l4_links.specs.declared.nodes.Slot.{Slot}
 use Rattle.l4_links.specs.Leads.{Leads}
 use Rattle.l4_links.specs.Inside.Trees.{Limb, parent_at}
 use Rattle.l4_links.specs.Inside.Nodes.{Slots, Spot, left_spot, slot_at, node_at, spots, limbs, values, sources, Worth, capped_worth}
-use Rattle.l4_links.specs.Entries.{Entries, entry_at, standing_at, IsStanding, IsBlank, parent_of, Descends, IsSource, capped, cut_off}
+use Rattle.l4_links.specs.Entries.{entry_at, standing_at, IsStanding, IsBlank, parent_of, Descends, capped, cut_off}
 use Rattle.l4_links.specs.Inside.Keeping.{standing_of, entry_of, entries_of}
 use Rattle.l4_links.proofs.Writes.{spot_of}
 

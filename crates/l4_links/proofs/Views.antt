@@ -1,5 +1,5 @@
 -- What a contract sees of each operation.
-use Rattle.std.proofs.Common.{◌≡◌, ◌≢◌, ◌↔◌, ◌⊎◌, ℕ, Bool, true, false, ◌+◌, Option, Some, None, refl, sym, ap, ◌∙◌, subst, inl, inr}
+use Rattle.std.proofs.Common.{◌≡◌, ◌≢◌, ℕ, Bool, false, ◌+◌, Option, Some, None, refl, sym, ap, ◌∙◌, inl, inr}
 use Rattle.std.specs.Option.{option_map, option_and_then}
 use Rattle.l4_fpage.specs.Rights.{RightsSet, common}
 use Rattle.l4_links.specs.declared.Place.{Place}
@@ -13,9 +13,8 @@ use Rattle.l4_links.specs.Inside.Trees as trees
 use Rattle.l4_links.specs.Inside.Nodes.{Slots, Spot, slot_at, node_at, spots, limbs, values, Worth, capped_worth, IsForest, Comes, Meets, NoneMet, IsSame}
 use Rattle.l4_links.specs.Inside.Nodes as nodes
 use Rattle.l4_links.specs.Inside.Orders.{position}
-use Rattle.l4_links.specs.Entries.{Entries, entry_at, standing_at, IsBlank, Descends, IsSource, AddsBlank, Stands, Sprouts, Clears, CapsBelow, SetsSource, SetsPlain, SetsWanted, TakesOver, capped, cut_off}
+use Rattle.l4_links.specs.Entries.{Entries, entry_at, IsBlank, Descends, IsSource, AddsBlank, Stands, Sprouts, Clears, CapsBelow, SetsSource, SetsPlain, SetsWanted, TakesOver, capped, cut_off}
 use Rattle.l4_links.specs.Inside.Keeping.{standing_of, entry_of, entries_of, IsSound}
-use Rattle.l4_links.proofs.Writes.{map_at}
 use Rattle.l4_links.proofs.Growing.{leads_same, leads_from_new}
 use Rattle.l4_links.proofs.Seen.{joined, at_seen, shown_is, entry_same, standing_is, leads_of, descends_of, source_is, stands_joined, capped_joined, source_joined, plain_joined, cut_joined}
 use Rattle.l4_links.proofs.Kept.{none_below}

@@ -6,7 +6,7 @@ use Rattle.l4_links.specs.declared.nodes.Node.{Node}
 use Rattle.l4_links.specs.Leads.{Leads}
 use Rattle.l4_links.specs.Inside.Trees.{Limb, IsTree, parent_at}
 use Rattle.l4_links.specs.Inside.Orders.{Link, IsIn, IsOnce, first_of, position}
-use Rattle.l4_links.specs.Inside.Nodes.{Slots, node_at, spots, limbs, links, values, Worth, capped_worth, IsOrder, IsForest, Caps, Closes, place_of, IsMarked, IsLow, IsStamped, Ends, IsDone, HasMarks, CapsBelow}
+use Rattle.l4_links.specs.Inside.Nodes.{Slots, node_at, spots, limbs, links, values, capped_worth, IsOrder, IsForest, Caps, Closes, place_of, IsMarked, IsLow, IsStamped, Ends, IsDone, HasMarks, CapsBelow}
 use Rattle.l4_fpage.specs.Rights.{RightsSet, common}
 use Rattle.l4_links.proofs.Writes.{marks_of, map_at, stamped_same, stamped_at}
 use Rattle.l4_links.proofs.Neighbours.{worth_of}
@@ -89,7 +89,7 @@ done_same old new ks cap top depth end w d = record {
 }
 
 -- the writes of the walk
-caps_node : (key : ℕ) (cap : RightsSet) (old new : Slots) → Caps key cap old new → (j : ℕ) (P : Option Node → Option Node → Type 0) → ((o : Option Node) → P o o) → ((o : Option Node) → P o (option_map (λ (n : Node). record n { rights = common n.rights cap }) o))
+caps_node : (key : ℕ) (cap : RightsSet) (old new : Slots) (c : Caps key cap old new) (j : ℕ) (P : Option Node → Option Node → Type 0) → ((o : Option Node) → P o o) → ((o : Option Node) → P o (option_map (λ (n : Node). record n { rights = common n.rights cap; doomed = c.doomed }) o))
     → P (node_at old j) (node_at new j)
 caps_node key cap old new c j P keep write = elim (cases_eq j key) [
   | inl e ↦
@@ -100,8 +100,8 @@ caps_node key cap old new c j P keep write = elim (cases_eq j key) [
 
 pub caps_lowers : (key : ℕ) (cap : RightsSet) (old new : Slots) → Caps key cap old new → Lowers old new
 caps_lowers key cap old new c = record {
-  limbs_same = λ k. caps_node key cap old new c k (λ a b. option_map limb_of b ≡ option_map limb_of a) (λ o. refl) (λ o. elim o as (λ o. option_map limb_of (option_map (λ (n : Node). record n { rights = common n.rights cap }) o) ≡ option_map limb_of o) [ None ↦ refl | Some n ↦ refl ]);
-  links_same = λ k. caps_node key cap old new c k (λ a b. option_map link_of b ≡ option_map link_of a) (λ o. refl) (λ o. elim o as (λ o. option_map link_of (option_map (λ (n : Node). record n { rights = common n.rights cap }) o) ≡ option_map link_of o) [ None ↦ refl | Some n ↦ refl ]);
+  limbs_same = λ k. caps_node key cap old new c k (λ a b. option_map limb_of b ≡ option_map limb_of a) (λ o. refl) (λ o. elim o as (λ o. option_map limb_of (option_map (λ (n : Node). record n { rights = common n.rights cap; doomed = c.doomed }) o) ≡ option_map limb_of o) [ None ↦ refl | Some n ↦ refl ]);
+  links_same = λ k. caps_node key cap old new c k (λ a b. option_map link_of b ≡ option_map link_of a) (λ o. refl) (λ o. elim o as (λ o. option_map link_of (option_map (λ (n : Node). record n { rights = common n.rights cap; doomed = c.doomed }) o) ≡ option_map link_of o) [ None ↦ refl | Some n ↦ refl ]);
   was = λ j n at. was_capped key cap old new c j n at;
 }
   where
@@ -110,10 +110,10 @@ caps_lowers key cap old new c = record {
       | inl e ↦
           elim (node_at old j) as (λ o. node_at old j ≡ o → Was old j n) [
             | None ↦ λ none. absurd (
-                let w : ◌≡◌ {A = Option Node} (Some n) None = sym at ∙ ap (node_at new) e ∙ c.here ∙ ap (option_map (λ (n : Node). record n { rights = common n.rights cap })) (sym (ap (node_at old) e) ∙ none) in cc)
+                let w : ◌≡◌ {A = Option Node} (Some n) None = sym at ∙ ap (node_at new) e ∙ c.here ∙ ap (option_map (λ (n : Node). record n { rights = common n.rights cap; doomed = c.doomed })) (sym (ap (node_at old) e) ∙ none) in cc)
             | Some m ↦ λ some.
-                let w : ◌≡◌ {A = Option Node} (Some n) (Some (record m { rights = common m.rights cap })) = sym at ∙ ap (node_at new) e ∙ c.here ∙ ap (option_map (λ (n : Node). record n { rights = common n.rights cap })) (sym (ap (node_at old) e) ∙ some) in
-                let same : n ≡ record m { rights = common m.rights cap } = cc in
+                let w : ◌≡◌ {A = Option Node} (Some n) (Some (record m { rights = common m.rights cap; doomed = c.doomed })) = sym at ∙ ap (node_at new) e ∙ c.here ∙ ap (option_map (λ (n : Node). record n { rights = common n.rights cap; doomed = c.doomed })) (sym (ap (node_at old) e) ∙ some) in
+                let same : n ≡ record m { rights = common m.rights cap; doomed = c.doomed } = cc in
                 let v : n.rights ≡ common m.rights cap = ap (λ (z : Node). z.rights) same in
                 record { node = m; at = some; limb_same = ap limb_of same; link_same = ap link_of same; less = λ b low. subst (λ (z : RightsSet). IsLow b z) (sym v) (low_stays m.rights cap b low) }
           ] refl
@@ -243,14 +243,14 @@ value_at slots k n at = ap (option_map worth_of) at
 pub values_capped : (key : ℕ) (cap : RightsSet) (old new : Slots) → Caps key cap old new → values new key ≡ option_map (capped_worth cap) (values old key)
 values_capped key cap old new c = ap (option_map worth_of) c.here ∙ both (node_at old key)
   where
-    both : (o : Option Node) → option_map worth_of (option_map (λ (n : Node). record n { rights = common n.rights cap }) o) ≡ option_map (capped_worth cap) (option_map worth_of o)
+    both : (o : Option Node) → option_map worth_of (option_map (λ (n : Node). record n { rights = common n.rights cap; doomed = c.doomed }) o) ≡ option_map (capped_worth cap) (option_map worth_of o)
     both None = refl
     both (Some n) = refl
 
 low_capped : (key : ℕ) (cap : RightsSet) (old new : Slots) → Caps key cap old new → (n m : Node) → node_at old key ≡ Some m → node_at new key ≡ Some n → IsLow cap n.rights
 low_capped key cap old new c n m was is =
-    let w : ◌≡◌ {A = Option Node} (Some n) (Some (record m { rights = common m.rights cap })) = sym is ∙ c.here ∙ ap (option_map (λ (n : Node). record n { rights = common n.rights cap })) was in
-    let same : n ≡ record m { rights = common m.rights cap } = cc in
+    let w : ◌≡◌ {A = Option Node} (Some n) (Some (record m { rights = common m.rights cap; doomed = c.doomed })) = sym is ∙ c.here ∙ ap (option_map (λ (n : Node). record n { rights = common n.rights cap; doomed = c.doomed })) was in
+    let same : n ≡ record m { rights = common m.rights cap; doomed = c.doomed } = cc in
     let v : n.rights ≡ common m.rights cap = ap (λ (z : Node). z.rights) same in
     subst (λ (z : RightsSet). IsLow cap z) (sym v) (low_of_common m.rights cap)
 
@@ -261,10 +261,10 @@ marks_capped key cap old new c j n at = elim (cases_eq j key) [
   | inl e ↦
       elim (node_at old j) as (λ o. node_at old j ≡ o → (m : Node) × (node_at old j ≡ Some m) × (n.mark ≡ m.mark) × (n.end ≡ m.end) × (n.depth ≡ m.depth)) [
         | None ↦ λ none. absurd (
-            let w : ◌≡◌ {A = Option Node} (Some n) None = sym at ∙ ap (node_at new) e ∙ c.here ∙ ap (option_map (λ (n : Node). record n { rights = common n.rights cap })) (sym (ap (node_at old) e) ∙ none) in cc)
+            let w : ◌≡◌ {A = Option Node} (Some n) None = sym at ∙ ap (node_at new) e ∙ c.here ∙ ap (option_map (λ (n : Node). record n { rights = common n.rights cap; doomed = c.doomed })) (sym (ap (node_at old) e) ∙ none) in cc)
         | Some m ↦ λ some.
-            let w : ◌≡◌ {A = Option Node} (Some n) (Some (record m { rights = common m.rights cap })) = sym at ∙ ap (node_at new) e ∙ c.here ∙ ap (option_map (λ (n : Node). record n { rights = common n.rights cap })) (sym (ap (node_at old) e) ∙ some) in
-            let same : n ≡ record m { rights = common m.rights cap } = cc in
+            let w : ◌≡◌ {A = Option Node} (Some n) (Some (record m { rights = common m.rights cap; doomed = c.doomed })) = sym at ∙ ap (node_at new) e ∙ c.here ∙ ap (option_map (λ (n : Node). record n { rights = common n.rights cap; doomed = c.doomed })) (sym (ap (node_at old) e) ∙ some) in
+            let same : n ≡ record m { rights = common m.rights cap; doomed = c.doomed } = cc in
             (m, some, ap (λ (z : Node). z.mark) same, ap (λ (z : Node). z.end) same, ap (λ (z : Node). z.depth) same)
       ] refl
   | inr ne ↦ (n, sym (c.others j ne) ∙ at, refl, refl, refl)
@@ -288,7 +288,7 @@ walk_step old cur new top depth cap stamp count key node on c at deep w a =
       limbs_same = λ k. l.limbs_same k ∙ c.limbs_same k;
       links_same = λ k. l.links_same k ∙ c.links_same k;
       spots_same = λ k. w.spots_same k ∙ c.spots_same k;
-      stamped = stamped_same stamp cur new (map_at marks_of (λ (n : Node). record n { rights = common n.rights cap }) (λ n. refl) key cur new w.here w.others) c.stamped;
+      stamped = stamped_same stamp cur new (map_at marks_of (λ (n : Node). record n { rights = common n.rights cap; doomed = w.doomed }) (λ n. refl) key cur new w.here w.others) c.stamped;
       live = a.live;
       reached = omega (arith, reached, beyond);
       deeper = λ b y is lo hi.

@@ -4,10 +4,13 @@ use Rattle.std.proofs.lemmas.Bool.{cases_eq}
 use Rattle.std.specs.Option.{option_map, option_and_then}
 use Rattle.l4_links.specs.declared.nodes.Node.{Node}
 use Rattle.l4_links.specs.declared.nodes.Slot.{Slot}
-use Rattle.l4_links.specs.Inside.Nodes.{Slots, Spot, slot_at, node_at, spots, marks, Marks, IsStamped}
+use Rattle.l4_links.specs.Inside.Nodes.{Slots, Spot, slot_at, node_at, spots, marks, Marks, Doom, IsStamped}
 
 abbrev pub marks_of : Node → Marks
 marks_of n = record { mark = n.mark; seen = n.seen }
+
+abbrev pub doom_of : Node → Doom
+doom_of n = record { rights = n.rights; next = n.doomed }
 
 abbrev pub spot_of : Slot → Spot
 spot_of s = record { place = s.place; wanted = s.wanted }

@@ -1,4 +1,5 @@
 pub mod Trees
 pub mod Orders
 pub mod Nodes
+pub mod Stacks
 pub mod Keeping

@@ -6,8 +6,10 @@
 
 ghost use Rattle.std.specs.Prelude.{◌≡◌, ◌≢◌, ◌⊎◌, ◌↔◌, ◌≤◌, [], ℕ, length, true, false, IsTrue, IsOk, OnOk, OnErr, IfOk, MatchOption, Some, None};
 ghost use Rattle.std.specs.FinSet as set;
+ghost use Rattle.l4_fpage.specs.Rights.{common, no_rights};
 ghost use Rattle.l4_spaces.specs.Tables.{IsPage};
 
+mod burial;
 mod lists;
 mod names;
 mod nodes;
@@ -71,6 +73,8 @@ pub struct Links {
     stamp: u64,
     /// What the walks of this stamp are for: the bits of the rights that are left, or `SOURCES_WALK`.
     walk: u8,
+    /// The key that the stack of nodes without rights begins with.
+    doomed: Option<usize>,
 }
 
 impl Model for Links {
@@ -88,7 +92,8 @@ impl Model for Links {
 }
 
 impl Links {
-    ghost use Rattle.l4_links.specs.Entries.{entry_at, standing_at, IsStanding, IsBlank, IsAt, IsSource, HavePlaces, AreTrees, NoKeyFrom, IsNextKey, NoKeyIn, IsNextKeyIn, Descends, AddsBlank, Stands, Sprouts, Clears, CapsBelow, CapsTree, SetsSource, SetsPlain, SetsWanted, TakesOver};
+    ghost use Rattle.l4_links.specs.Entries.{entry_at, standing_at, IsStanding, IsBlank, IsAt, IsSource, HaveRights, HavePlaces, AreTrees, NoKeyFrom, IsNextKey, NoKeyIn, IsNextKeyIn, Descends, AddsBlank, Stands, Sprouts, Clears, Buries, CapsBelow, CapsTree, SetsSource, SetsPlain, SetsWanted, TakesOver};
+    ghost use Rattle.l4_links.specs.declared.Standing.{Standing as AStanding};
 
     /// No page, and no space.
     pub fn new(alloc: Global) -> Links
@@ -101,6 +106,7 @@ impl Links {
             first: None,
             stamp: 1,
             walk: SOURCES_WALK,
+            doomed: None,
         }
     }
 
@@ -219,6 +225,7 @@ impl Links {
     /// Lets the top of a tree stand at the blank, with some right.
     pub fn stand_root(&mut self, key: usize, frame: u32, rights: Rights)
         requires blank { IsBlank self.old.entries key }
+        requires some { rights ≢ no_rights }
         ensures stands { Stands key (record { frame = frame; rights = rights; source = false; granted = None; parent = None }) self.old.entries self.new.entries }
         ensures spaces { self.new.spaces ≡ self.old.spaces }
     {
@@ -232,6 +239,7 @@ impl Links {
     pub fn stand_under(&mut self, parent: usize, key: usize, rights: Rights)
         requires there { IsStanding self.old.entries parent }
         requires blank { IsBlank self.old.entries key }
+        requires some { (above : AStanding) → standing_at self.old.entries parent ≡ Some above → common above.rights rights ≢ no_rights }
         ensures sprouts { Sprouts parent key rights self.old.entries self.new.entries }
         ensures spaces { self.new.spaces ≡ self.old.spaces }
     {
@@ -245,6 +253,7 @@ impl Links {
     /// Cuts off all that descends from the key, and lets nothing stand under the key: a blank is left. What is cut off goes with its
     /// page, but for a wanted page, which is left as a blank.
     pub fn clear(&mut self, key: usize)
+        requires some { HaveRights self.old.entries }
         ensures clears { Clears key self.old.entries self.new.entries }
         ensures spaces { self.new.spaces ≡ self.old.spaces }
     {
@@ -279,7 +288,7 @@ impl Links {
         let stamp = stamp_for(self.stamp, self.walk, walk);
         self.stamp = stamp;
         self.walk = walk;
-        walks::cap_below(&mut self.nodes, top, cap, stamp);
+        self.doomed = walks::cap_below(&mut self.nodes, top, cap, stamp, self.doomed);
     }
 
     /// Lets what stands under the key, and all that descends from it, have no other rights than these.
@@ -294,8 +303,18 @@ impl Links {
         let stamp = stamp_for(self.stamp, self.walk, walk);
         self.stamp = stamp;
         self.walk = walk;
-        walks::cap_below(&mut self.nodes, top, cap, stamp);
-        cap_at(&mut self.nodes, top, cap);
+        let doomed = walks::cap_below(&mut self.nodes, top, cap, stamp, self.doomed);
+        self.doomed = cap_at(&mut self.nodes, top, cap, doomed);
+    }
+
+    /// Takes away what stands without a right, with its page.
+    pub fn bury(&mut self)
+        ensures buries { Buries self.old.entries self.new.entries }
+        ensures spaces { self.new.spaces ≡ self.old.spaces }
+    {
+        self.first = burial::bury(&mut self.nodes, &mut self.pages, self.first, self.doomed);
+        self.doomed = None;
+        self.stamp = fresh(self.stamp);
     }
 
     /// Whether a source descends from the key. Calls one after another visit no node twice.

@@ -86,6 +86,7 @@ pub(crate) fn link_under(
         mark: 0,
         end: None,
         seen: 0,
+        doomed: None,
     };
     write(nodes, key, Some(node));
     set_prev(nodes, above.next, Some(key));
@@ -118,6 +119,7 @@ pub(crate) fn link_root(
         mark: 0,
         end: None,
         seen: 0,
+        doomed: None,
     };
     write(nodes, key, Some(node));
     set_prev(nodes, first, Some(key));

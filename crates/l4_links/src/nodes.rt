@@ -2,6 +2,7 @@
 
 ghost use Rattle.std.specs.Prelude.{◌≡◌, ◌+◌, ◌<◌, false, Some};
 ghost use Rattle.std.specs.Option.{option_map};
+ghost use Rattle.l4_links.specs.Inside.Stacks.{HasStack};
 ghost use Rattle.l4_links.specs.Inside.Keeping.{standing_of};
 ghost use Rattle.l4_links.specs.Inside.Nodes.{node_at, slot_at, spots, wanted_in, Writes, SetsWanted, Gives, SetsNext, SetsPrev, Caps, Closes, Sees, SetsSource, SetsPlain};
 ghost use Rattle.l4_links.specs.declared.nodes.Slot.{Slot as ASlot};
@@ -44,6 +45,8 @@ pub(crate) struct Node {
     pub end: Option<usize>,
     /// The stamp of the last walk for sources that has come by the node.
     pub seen: u64,
+    /// The key after this one on the stack of nodes without rights.
+    pub doomed: Option<usize>,
 }
 
 /// The node under the key.
@@ -151,15 +154,39 @@ pub(crate) fn set_prev(nodes: &mut Slab<Slot>, at: Option<usize>, prev: Option<u
     write(nodes, key, Some(Node { prev, ..node }));
 }
 
-/// Lets the node have no other rights than these.
-pub(crate) fn cap_at(nodes: &mut Slab<Slot>, key: usize, cap: Rights)
-    ensures { Caps key cap nodes.old.slots nodes.new.slots }
+/// Lets the node have no other rights than these. A node that loses its last right goes on the stack that begins with the key
+/// `doomed`. The key that the stack begins with then is given.
+pub(crate) fn cap_at(
+    nodes: &mut Slab<Slot>,
+    key: usize,
+    cap: Rights,
+    doomed: Option<usize>,
+) -> Option<usize>
+    requires stack { HasStack nodes.old.slots doomed }
+    ensures caps { Caps key cap nodes.old.slots nodes.new.slots }
+    ensures stack { HasStack nodes.new.slots result }
 {
     let Some(node) = node_of(nodes, key) else {
-        return;
+        return doomed;
     };
+    if node.rights.is_empty() {
+        return doomed;
+    }
     let rights = node.rights.intersection(cap);
+    if rights.is_empty() {
+        write(
+            nodes,
+            key,
+            Some(Node {
+                rights,
+                doomed,
+                ..node
+            }),
+        );
+        return Some(key);
+    }
     write(nodes, key, Some(Node { rights, ..node }));
+    doomed
 }
 
 /// Notes that the walk has been over all that descends from the node, and where it left that run.

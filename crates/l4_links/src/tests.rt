@@ -1,6 +1,6 @@
-ghost use Rattle.std.specs.Prelude.{IfOk};
+ghost use Rattle.std.specs.Prelude.{◌≡◌, IfOk, true};
 ghost use Rattle.l4_spaces.specs.Tables.{IsPage};
-ghost use Rattle.l4_links.specs.Entries.{IsBlank};
+ghost use Rattle.l4_links.specs.Entries.{IsBlank, HaveRights};
 
 use crate::{Entry, Links, NoMemory, Place, Standing};
 use l4_fpage::Rights;
@@ -30,9 +30,12 @@ fn child(links: &mut Links, parent: usize, page: u32) -> Result<usize, NoMemory>
     requires { IsPage page }
 {
     let key = blank(links, page)?;
-    let Some(_) = links.standing(parent) else {
+    let Some(above) = links.standing(parent) else {
         return Err(NoMemory);
     };
+    if above.rights.is_empty() {
+        return Err(NoMemory);
+    }
     links.stand_under(parent, key, Rights::all());
     Ok(key)
 }
@@ -56,6 +59,27 @@ fn grant(links: &mut Links, key: usize, page: u32, rights: Rights) -> Result<(),
     };
     links.take_over(key, blank, rights);
     Ok(())
+}
+
+/// Whether all that stands has a right.
+fn have_rights(links: &Links) -> bool
+    ensures { result ≡ true → HaveRights links.now.entries }
+{
+    for key in 0..links.bound() {
+        if let Some(standing) = links.standing(key) {
+            if standing.rights.is_empty() {
+                return false;
+            }
+        }
+    }
+    true
+}
+
+/// Clears the key, where all that stands has a right.
+fn clear(links: &mut Links, key: usize) {
+    if have_rights(links) {
+        links.clear(key);
+    }
 }
 
 /// The rights under the key, and the parent.
@@ -104,7 +128,7 @@ fn clears_a_node_in_the_middle(rt: HostRuntime) -> Result<(), Fail> {
     let lowest = child(&mut links, low, 13)?;
     let first = child(&mut links, top, 14)?;
     links.set_wanted(lowest, true);
-    links.clear(gone);
+    clear(&mut links, gone);
     assert_eq!(rt;
         links.at(gone),
         Some(Entry {
@@ -130,7 +154,7 @@ fn clears_a_node_in_the_middle(rt: HostRuntime) -> Result<(), Fail> {
     assert_eq!(rt; shown(&links, first), Some((Rights::of_bits(4), Some(top))));
     assert_eq!(rt; shown(&links, last), Some((Rights::of_bits(4), Some(top))));
     // a root goes from the list's beginning, and another comes
-    links.clear(top);
+    clear(&mut links, top);
     assert_eq!(rt; links.at(first), None);
     let second = root(&mut links, 6)?;
     let below = child(&mut links, second, 20)?;
@@ -235,5 +259,45 @@ fn finds_sources(rt: HostRuntime) -> Result<(), Fail> {
     links.set_source(low, false);
     assert!(rt; !links.has_source_below(top));
     assert!(rt; !links.has_source_below(left));
+    Ok(())
+}
+
+#[test]
+fn buries_what_has_no_rights(rt: HostRuntime) -> Result<(), Fail> {
+    let mut links = Links::new(rt.alloc());
+    let top = root(&mut links, 5)?;
+    let left = child(&mut links, top, 10)?;
+    let right = child(&mut links, top, 11)?;
+    let low = child(&mut links, right, 12)?;
+    let lowest = child(&mut links, low, 13)?;
+    // the parent stands on the stack before its children
+    links.cap_tree(right, Rights::of_bits(0));
+    assert_eq!(rt; shown(&links, low), Some((Rights::of_bits(0), Some(right))));
+    links.bury();
+    assert_eq!(rt; links.at(right), None);
+    assert_eq!(rt; links.at(low), None);
+    assert_eq!(rt; links.at(lowest), None);
+    assert_eq!(rt; links.find(place(11)), None);
+    assert_eq!(rt; links.find(place(13)), None);
+    assert_eq!(rt; shown(&links, left), Some((Rights::all(), Some(top))));
+    // the list goes on without them, and takes other nodes
+    let next = child(&mut links, left, 11)?;
+    links.cap_below(top, Rights::of_bits(4));
+    assert_eq!(rt; shown(&links, left), Some((Rights::of_bits(4), Some(top))));
+    assert_eq!(rt; shown(&links, next), Some((Rights::of_bits(4), Some(left))));
+    // a second walk finds what the first left without rights on the stack
+    links.cap_below(left, Rights::of_bits(3));
+    links.cap_below(top, Rights::of_bits(3));
+    links.bury();
+    assert_eq!(rt; links.at(next), None);
+    assert_eq!(rt; links.at(left), None);
+    assert_eq!(rt; shown(&links, top), Some((Rights::all(), None)));
+    // the first node of the list goes too
+    links.cap_tree(top, Rights::of_bits(0));
+    links.bury();
+    assert_eq!(rt; links.find(place(5)), None);
+    let second = root(&mut links, 5)?;
+    assert_eq!(rt; shown(&links, second), Some((Rights::all(), None)));
+    assert!(rt; have_rights(&links));
     Ok(())
 }

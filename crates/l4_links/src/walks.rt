@@ -1,6 +1,7 @@
 //! Walks over the run of a node's descendants. A node whose run a walk of the same stamp has been over is passed by with all that descends from it.
 
 ghost use Rattle.std.specs.Prelude.{◌≡◌, ◌≢◌, ◌≤◌, List, Option, Some, None, true, false};
+ghost use Rattle.l4_links.specs.Inside.Stacks.{HasStack};
 ghost use Rattle.l4_links.specs.Inside.Nodes.{Slots, node_at, HasMarks, CapsBelow, Closes, Sees, HasSeen, IsSame, Meets, NoneMet, IsMarked, IsStamped};
 
 use crate::nodes::{Node, Slot, cap_at, close, node_of, see};
@@ -23,32 +24,45 @@ fn onward(node: &Node, stamp: u64) -> Option<usize>
 }
 
 /// Lets all that descends from the node have no other rights than these. A run that the walk of this stamp has been over is passed by.
-pub(crate) fn cap_below(nodes: &mut Slab<Slot>, top: usize, cap: Rights, stamp: u64)
+/// Nodes that lose their last right go on the stack that begins with the key `doomed`. The key that the stack begins with then is given.
+pub(crate) fn cap_below(
+    nodes: &mut Slab<Slot>,
+    top: usize,
+    cap: Rights,
+    stamp: u64,
+    doomed: Option<usize>,
+) -> Option<usize>
     requires marks { HasMarks cap stamp nodes.old.slots }
     requires stamped { IsStamped stamp nodes.old.slots }
     requires there { node_at nodes.old.slots top ≢ None }
+    requires stack { HasStack nodes.old.slots doomed }
     ensures caps { CapsBelow top cap nodes.old.slots nodes.new.slots }
     ensures marks { HasMarks cap stamp nodes.new.slots }
     ensures stamped { IsStamped stamp nodes.new.slots }
+    ensures stack { HasStack nodes.new.slots result }
 {
     let Some(head) = node_of(nodes, top) else {
         unreachable!()
     };
     let depth = head.depth;
     let mut at = head.next;
+    let mut doomed = doomed;
     for _ in 0..nodes.capacity() {
         let Some(key) = at else {
-            return close(nodes, top, stamp, at);
+            close(nodes, top, stamp, at);
+            return doomed;
         };
         let Some(node) = node_of(nodes, key) else {
             unreachable!()
         };
         if node.depth <= depth {
-            return close(nodes, top, stamp, at);
+            close(nodes, top, stamp, at);
+            return doomed;
         }
-        cap_at(nodes, key, cap);
+        doomed = cap_at(nodes, key, cap, doomed);
         at = onward(&node, stamp);
     }
+    doomed
 }
 
 /// Whether a walk of this stamp has come by the node.

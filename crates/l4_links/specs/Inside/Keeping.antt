@@ -1,7 +1,7 @@
 -- What a contract sees of the slab, and what the nodes keep.
 use Rattle.std.specs.Prelude.{◌≡◌, ◌≢◌, ◌⊎◌, ◌↔◌, ℕ, ◌+◌, ◌≤◌, List, Option, Some, None, map}
 use Rattle.std.specs.Option.{option_map}
-use Rattle.l4_fpage.specs.Rights.{RightsSet, common, set_of_bits}
+use Rattle.l4_fpage.specs.Rights.{set_of_bits}
 use Rattle.l4_spaces.specs.Tables.{Tables, key_of, IsSpace, IsPage}
 use Rattle.l4_links.specs.declared.Place.{Place}
 use Rattle.l4_links.specs.declared.Standing.{Standing}
@@ -12,6 +12,7 @@ use Rattle.l4_links.specs.declared.Links.TheInside.{Inside}
 use Rattle.l4_links.specs.Inside.Trees.{Limb}
 use Rattle.l4_links.specs.Inside.Orders.{first_of}
 use Rattle.l4_links.specs.Inside.Nodes.{Slots, Spot, spots, limbs, values, Worth, IsOf, IsLow, IsForest, IsStamped, HasMarks, HasSeen}
+use Rattle.l4_links.specs.Inside.Stacks.{HasStack}
 use Rattle.l4_links.specs.Entries.{Entries, Linked}
 
 abbrev pub standing_of : Node → Standing
@@ -61,3 +62,4 @@ pub record IsSound (slots : Slots) (first : Option ℕ) (stamp walk : ℕ) : Typ
 pub record IsKept (a : Inside) : Type 0 where
   pub sound : IsSound a.nodes.slots a.first a.stamp a.walk
   pub indexed : IsIndexed a.nodes.slots a.pages
+  pub stack : HasStack a.nodes.slots a.doomed

@@ -66,6 +66,14 @@ pub record Marks : Type 0 where
 abbrev pub marks : Slots → ℕ → Option Marks
 marks slots key = option_map {T = Node} (λ n. record { mark = n.mark; seen = n.seen }) (node_at slots key)
 
+-- what the stack of nodes without rights needs to know of a node: its rights, and the next key of the stack
+pub record Doom : Type 0 where
+  pub rights : RightsSet
+  pub next : Option ℕ
+
+abbrev pub dooms : Slots → ℕ → Option Doom
+dooms slots key = option_map {T = Node} (λ n. record { rights = n.rights; next = n.doomed }) (node_at slots key)
+
 -- no walk has left a mark above this stamp
 abbrev pub IsStamped : ℕ → Slots → Type 0
 IsStamped stamp slots = 1 ≤ stamp → (key : ℕ) (m : Marks) → marks slots key ≡ Some m → (m.mark ≤ stamp) × (m.seen ≤ stamp)
@@ -126,6 +134,7 @@ pub record Parts (key : ℕ) (old new : Slots) : Type 0 where
   pub limbs_same : (other : ℕ) → other ≢ key → limbs new other ≡ limbs old other
   pub values_same : (other : ℕ) → other ≢ key → values new other ≡ values old other
   pub marks_same : (other : ℕ) → other ≢ key → marks new other ≡ marks old other
+  pub dooms_same : (other : ℕ) → other ≢ key → dooms new other ≡ dooms old other
   pub spots_same : (other : ℕ) → spots new other ≡ spots old other
 
 -- the key has no slot any more, and all else stands as it did
@@ -134,6 +143,7 @@ pub record TakesSlot (key : ℕ) (old new : Slots) : Type 0 where
   pub limbs_same : (other : ℕ) → other ≢ key → limbs new other ≡ limbs old other
   pub values_same : (other : ℕ) → other ≢ key → values new other ≡ values old other
   pub marks_same : (other : ℕ) → other ≢ key → marks new other ≡ marks old other
+  pub dooms_same : (other : ℕ) → other ≢ key → dooms new other ≡ dooms old other
   pub spots_same : (other : ℕ) → other ≢ key → spots new other ≡ spots old other
 
 -- the key has no node any more and no slot but that of a wanted page, and all else stands as it did
@@ -153,6 +163,7 @@ pub record Comes (worth : Worth) (key : ℕ) (old new : Slots) : Type 0 where
   pub limbs_same : (other : ℕ) → other ≢ key → limbs new other ≡ limbs old other
   pub values_same : (other : ℕ) → other ≢ key → values new other ≡ values old other
   pub marks_same : (other : ℕ) → other ≢ key → marks new other ≡ marks old other
+  pub dooms_same : (other : ℕ) → other ≢ key → dooms new other ≡ dooms old other
   pub spots_same : (other : ℕ) → spots new other ≡ spots old other
 
 -- what descends from the key is cut off, and all else is as it was
@@ -186,9 +197,10 @@ pub record Clears (top : ℕ) (first after : Option ℕ) (old new : Slots) : Typ
   pub forest : IsForest new (front ++ left)
   pub first_is : first_of (front ++ top ∷ rest) None ≡ first → first_of (front ++ left) None ≡ after
 
--- the node's rights are no others than these
+-- the node's rights are no others than these, and its link of the stack may be another one
 pub record Caps (key : ℕ) (cap : RightsSet) (old new : Slots) : Type 0 where
-  pub here : node_at new key ≡ option_map {T = Node} (λ n. record n { rights = common n.rights cap }) (node_at old key)
+  pub doomed : Option ℕ
+  pub here : node_at new key ≡ option_map {T = Node} (λ n. record n { rights = common n.rights cap; doomed = doomed }) (node_at old key)
   pub others : (other : ℕ) → other ≢ key → node_at new other ≡ node_at old other
   pub spots_same : (other : ℕ) → spots new other ≡ spots old other
 
@@ -262,6 +274,7 @@ pub record IsSame (old new : Slots) : Type 0 where
   pub limbs_same : (key : ℕ) → limbs new key ≡ limbs old key
   pub links_same : (key : ℕ) → links new key ≡ links old key
   pub values_same : (key : ℕ) → values new key ≡ values old key
+  pub dooms_same : (key : ℕ) → dooms new key ≡ dooms old key
   pub spots_same : (key : ℕ) → spots new key ≡ spots old key
 
 -- a source descends from the key, or none does

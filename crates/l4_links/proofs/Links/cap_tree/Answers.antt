@@ -1,5 +1,4 @@
-use Rattle.std.proofs.Common.{◌≡◌, ◌⊎◌, ℕ, sym, subst, ◌∙◌, ap, refl}
-use Rattle.l4_fpage.specs.Rights.{bits_of}
+use Rattle.std.proofs.Common.{◌≡◌, ◌⊎◌, ℕ, sym, subst, ◌∙◌, refl}
 use Rattle.l4_links.specs.Entries.{Linked, CapsTree}
 use Rattle.l4_links.specs.Inside.Keeping.{entries_of, IsFresh, IsSound}
 use Rattle.l4_links.proofs.Kept.{marks_for}
@@ -12,14 +11,14 @@ returns-in_default-clause-caps c =
     subst (λ (s : Linked). CapsTree c.args.top c.args.cap s.entries s.entries) c.self.view_is
     (tree_none c.self.inside.nodes.slots c.self.inside.first c.self.inside.stamp c.self.inside.walk c.args.top c.args.cap c.self.invariant.sound (sym c.node_of.ensures ∙ c.in_default.is))
 
-pub cap_below-requires-clause-marks : goal.cap_below-requires-clause-marks
-cap_below-requires-clause-marks c =
+pub cap_below-doomed-requires-clause-marks : goal.cap_below-doomed-requires-clause-marks
+cap_below-doomed-requires-clause-marks c =
     let m = marks_for c.self.inside.nodes.slots c.self.inside.first c.self.inside.stamp c.self.inside.walk c.stamp_for-stamp.result c.args.cap c.self.invariant.sound
     (subst (λ (w : ℕ). ((c.self.inside.walk ≡ w) × (c.stamp_for-stamp.result ≡ c.self.inside.stamp)) ⊎ IsFresh c.self.inside.stamp c.stamp_for-stamp.result) c.bits-walk.ensures c.stamp_for-stamp.ensures) in
     m.0
 
-pub cap_below-requires-clause-stamped : goal.cap_below-requires-clause-stamped
-cap_below-requires-clause-stamped c =
+pub cap_below-doomed-requires-clause-stamped : goal.cap_below-doomed-requires-clause-stamped
+cap_below-doomed-requires-clause-stamped c =
     let m = marks_for c.self.inside.nodes.slots c.self.inside.first c.self.inside.stamp c.self.inside.walk c.stamp_for-stamp.result c.args.cap c.self.invariant.sound
     (subst (λ (w : ℕ). ((c.self.inside.walk ≡ w) × (c.stamp_for-stamp.result ≡ c.self.inside.stamp)) ⊎ IsFresh c.self.inside.stamp c.stamp_for-stamp.result) c.bits-walk.ensures c.stamp_for-stamp.ensures) in
     m.1
@@ -27,14 +26,15 @@ cap_below-requires-clause-stamped c =
 pub invariant_of-self : goal.invariant_of-self
 invariant_of-self c = record {
   sound =
-      subst (λ (w : ℕ). IsSound c.cap_at.new.nodes.slots c.self.inside.first c.stamp_for-stamp.result w) (sym c.bits-walk.ensures)
-      (sound_tree c.self.inside.nodes.slots c.cap_below.new.nodes.slots c.cap_at.new.nodes.slots c.self.inside.first c.self.inside.stamp c.self.inside.walk c.stamp_for-stamp.result c.args.top c.args.cap
-      c.self.invariant.sound c.cap_below.ensures.caps c.cap_below.ensures.marks c.cap_below.ensures.stamped c.cap_at.ensures);
-  indexed = indexed_same c.self.inside.nodes.slots c.cap_at.new.nodes.slots c.self.inside.pages c.self.inside.pages (λ k. c.cap_at.ensures.spots_same k ∙ c.cap_below.ensures.caps.spots_same k) refl refl c.self.invariant.indexed;
+      subst (λ (w : ℕ). IsSound c.cap_at-self-inside.new.nodes.slots c.self.inside.first c.stamp_for-stamp.result w) (sym c.bits-walk.ensures)
+      (sound_tree c.self.inside.nodes.slots c.cap_below-doomed.new.nodes.slots c.cap_at-self-inside.new.nodes.slots c.self.inside.first c.self.inside.stamp c.self.inside.walk c.stamp_for-stamp.result c.args.top c.args.cap
+      c.self.invariant.sound c.cap_below-doomed.ensures.caps c.cap_below-doomed.ensures.marks c.cap_below-doomed.ensures.stamped c.cap_at-self-inside.ensures.caps);
+  indexed = indexed_same c.self.inside.nodes.slots c.cap_at-self-inside.new.nodes.slots c.self.inside.pages c.self.inside.pages (λ k. c.cap_at-self-inside.ensures.caps.spots_same k ∙ c.cap_below-doomed.ensures.caps.spots_same k) refl refl c.self.invariant.indexed;
+  stack = c.cap_at-self-inside.ensures.stack;
 }
 
 pub returns-clause-caps : goal.returns-clause-caps
 returns-clause-caps c =
-    subst (λ (s : Linked). CapsTree c.args.top c.args.cap s.entries (entries_of c.cap_at.new.nodes.slots)) c.self.view_is
-    (view_tree c.self.inside.nodes.slots c.cap_below.new.nodes.slots c.cap_at.new.nodes.slots c.self.inside.first c.self.inside.stamp c.self.inside.walk c.args.top c.args.cap
-    c.self.invariant.sound c.cap_below.ensures.caps c.cap_at.ensures)
+    subst (λ (s : Linked). CapsTree c.args.top c.args.cap s.entries (entries_of c.cap_at-self-inside.new.nodes.slots)) c.self.view_is
+    (view_tree c.self.inside.nodes.slots c.cap_below-doomed.new.nodes.slots c.cap_at-self-inside.new.nodes.slots c.self.inside.first c.self.inside.stamp c.self.inside.walk c.args.top c.args.cap
+    c.self.invariant.sound c.cap_below-doomed.ensures.caps c.cap_at-self-inside.ensures.caps)

@@ -1,8 +1,9 @@
 use Rattle.std.proofs.Common.{sym, subst, ◌∙◌}
-use Rattle.l4_links.specs.Entries.{Linked, Clears}
+use Rattle.l4_links.specs.Entries.{Linked, Clears, HaveRights}
 use Rattle.l4_links.specs.Inside.Keeping.{entries_of}
 use Rattle.l4_links.proofs.Kept.{sound_cleared}
 use Rattle.l4_links.proofs.Views.{view_clears, clears_none}
+use Rattle.l4_links.proofs.Stacking.{stack_cleared}
 use Rattle.l4_links.proofs.Links.clear.Goals as goal
 
 pub returns-in_default-clause-clears : goal.returns-in_default-clause-clears
@@ -16,6 +17,9 @@ invariant_of-self c = record {
       sound_cleared c.self.inside.nodes.slots c.clear-self-inside.new.nodes.slots c.self.inside.first c.clear-self-inside.result c.self.inside.stamp c.fresh-self-inside.result c.self.inside.walk c.args.key
       c.self.invariant.sound c.clear-self-inside.ensures.clears c.fresh-self-inside.ensures;
   indexed = c.clear-self-inside.ensures.indexed c.self.invariant.indexed;
+  stack =
+      stack_cleared c.args.key c.self.inside.first c.clear-self-inside.result c.self.inside.nodes.slots c.clear-self-inside.new.nodes.slots c.self.inside.doomed
+      (subst (λ (s : Linked). HaveRights s.entries) (sym c.self.view_is) c.requires.some) c.clear-self-inside.ensures.clears c.self.invariant.stack;
 }
 
 pub returns-clause-clears : goal.returns-clause-clears

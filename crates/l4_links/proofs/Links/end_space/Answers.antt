@@ -9,4 +9,5 @@ invariant_of-self c = record {
   indexed =
       indexed_without c.self.inside.nodes.slots c.self.inside.pages c.remove.new.self c.args.space c.self.invariant.indexed
       (subst (λ (s : Linked). NoKeyFrom s.entries c.args.space 0) (sym c.self.view_is) c.requires.empty) c.remove.ensures.pages c.remove.ensures.spaces;
+  stack = c.self.invariant.stack;
 }

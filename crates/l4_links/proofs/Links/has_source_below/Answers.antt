@@ -4,6 +4,7 @@ use Rattle.l4_links.specs.Inside.Keeping.{entries_of}
 use Rattle.l4_links.proofs.Kept.{seen_for, sound_found, sound_sought}
 use Rattle.l4_links.proofs.Views.{view_same, view_meets, view_none, nothing_below}
 use Rattle.l4_links.proofs.Naming.{indexed_same}
+use Rattle.l4_links.proofs.Stacking.{stack_same}
 use Rattle.l4_links.proofs.Links.has_source_below.Goals as goal
 
 pub returns-in_default-clause-no : goal.returns-in_default-clause-no
@@ -25,6 +26,7 @@ invariant_of-self c = record {
       sound_found c.self.inside.nodes.slots c.has_source.new.nodes.slots c.self.inside.first c.self.inside.stamp c.self.inside.walk c.stamp_for-stamp.result c.fresh-self-inside.result 8
       c.self.invariant.sound c.has_source.ensures.same c.has_source.ensures.stamped c.fresh-self-inside.ensures;
   indexed = indexed_same c.self.inside.nodes.slots c.has_source.new.nodes.slots c.self.inside.pages c.self.inside.pages c.has_source.ensures.same.spots_same refl refl c.self.invariant.indexed;
+  stack = stack_same c.self.inside.nodes.slots c.has_source.new.nodes.slots c.self.inside.doomed c.has_source.ensures.same.dooms_same c.self.invariant.stack;
 }
 
 pub returns-then-has_source-clause-same : goal.returns-then-has_source-clause-same
@@ -41,6 +43,7 @@ invariant_of-self-else-has_source c = record {
       sound_sought c.self.inside.nodes.slots c.has_source.new.nodes.slots c.self.inside.first c.self.inside.stamp c.self.inside.walk c.stamp_for-stamp.result
       c.self.invariant.sound c.has_source.ensures.same (c.has_source.ensures.no c.if-has_source.false).1 c.has_source.ensures.stamped;
   indexed = indexed_same c.self.inside.nodes.slots c.has_source.new.nodes.slots c.self.inside.pages c.self.inside.pages c.has_source.ensures.same.spots_same refl refl c.self.invariant.indexed;
+  stack = stack_same c.self.inside.nodes.slots c.has_source.new.nodes.slots c.self.inside.doomed c.has_source.ensures.same.dooms_same c.self.invariant.stack;
 }
 
 pub returns-clause-same : goal.returns-clause-same

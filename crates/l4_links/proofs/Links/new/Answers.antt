@@ -1,12 +1,15 @@
-use Rattle.std.proofs.Common.{None, subst, sym}
+use Rattle.std.proofs.Common.{[], None, refl, subst, sym}
 use Rattle.l4_links.specs.Inside.Nodes.{Slots}
+use Rattle.l4_links.specs.Inside.Stacks.{HasStack}
 use Rattle.l4_links.specs.Inside.Keeping.{IsSound, sources_walk}
 use Rattle.l4_links.proofs.Kept.{sound_empty}
 use Rattle.l4_links.proofs.Naming.{indexed_empty}
+use Rattle.l4_links.proofs.Stacking.{stack_empty, no_right}
 use Rattle.l4_links.proofs.Links.new.Goals as goal
 
 pub invariant_of-result : goal.invariant_of-result
 invariant_of-result c = record {
   sound = subst (λ (s : Slots). IsSound s None 1 sources_walk) (sym c.new.ensures.empty) (sound_empty sources_walk);
   indexed = indexed_empty c.new.result.slots c.new-2.result c.new.ensures.empty c.new-2.ensures.pages;
+  stack = subst (λ (s : Slots). HasStack s None) (sym c.new.ensures.empty) (stack_empty [] (λ k. no_right [] k refl));
 }

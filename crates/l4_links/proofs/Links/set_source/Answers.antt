@@ -4,6 +4,7 @@ use Rattle.l4_links.specs.Inside.Keeping.{entries_of}
 use Rattle.l4_links.proofs.Noting.{quiet_source, less_source, sound_quiet, sound_noted}
 use Rattle.l4_links.proofs.Naming.{indexed_same}
 use Rattle.l4_links.proofs.Views.{view_source}
+use Rattle.l4_links.proofs.Stacking.{stack_quiet}
 use Rattle.l4_links.proofs.Links.set_source.Goals as goal
 
 -- where the mark was taken away
@@ -13,6 +14,7 @@ invariant_of-self c = record {
       sound_quiet c.self.inside.nodes.slots c.set_source.new.nodes.slots (quiet_source c.self.inside.nodes.slots c.set_source.new.nodes.slots c.args.key c.args.source c.set_source.ensures)
       c.self.inside.first c.self.inside.stamp c.self.inside.walk (less_source c.self.inside.nodes.slots c.set_source.new.nodes.slots c.args.key c.args.source c.if-not-source.true c.set_source.ensures) c.self.invariant.sound;
   indexed = indexed_same c.self.inside.nodes.slots c.set_source.new.nodes.slots c.self.inside.pages c.self.inside.pages c.set_source.ensures.spots_same refl refl c.self.invariant.indexed;
+  stack = stack_quiet c.self.inside.nodes.slots c.set_source.new.nodes.slots c.self.inside.doomed (quiet_source c.self.inside.nodes.slots c.set_source.new.nodes.slots c.args.key c.args.source c.set_source.ensures) c.self.invariant.stack;
 }
 
 pub returns-then-not-source-clause-sets : goal.returns-then-not-source-clause-sets
@@ -26,6 +28,7 @@ invariant_of-self-2 c = record {
       sound_noted c.self.inside.nodes.slots c.set_source.new.nodes.slots (quiet_source c.self.inside.nodes.slots c.set_source.new.nodes.slots c.args.key c.args.source c.set_source.ensures)
       c.self.inside.first c.self.inside.stamp c.fresh-self-inside.result c.self.inside.walk c.self.invariant.sound c.fresh-self-inside.ensures;
   indexed = indexed_same c.self.inside.nodes.slots c.set_source.new.nodes.slots c.self.inside.pages c.self.inside.pages c.set_source.ensures.spots_same refl refl c.self.invariant.indexed;
+  stack = stack_quiet c.self.inside.nodes.slots c.set_source.new.nodes.slots c.self.inside.doomed (quiet_source c.self.inside.nodes.slots c.set_source.new.nodes.slots c.args.key c.args.source c.set_source.ensures) c.self.invariant.stack;
 }
 
 pub returns-clause-sets : goal.returns-clause-sets

@@ -1,9 +1,10 @@
-use Rattle.std.proofs.Common.{refl, subst}
+use Rattle.std.proofs.Common.{subst}
 use Rattle.l4_links.specs.Entries.{Linked, SetsWanted}
 use Rattle.l4_links.specs.Inside.Keeping.{entries_of}
 use Rattle.l4_links.proofs.Kept.{nodes_wanted, sound_nodes}
 use Rattle.l4_links.proofs.Naming.{places_wanted, indexed_wanted}
 use Rattle.l4_links.proofs.Views.{view_wanted}
+use Rattle.l4_links.proofs.Stacking.{stack_nodes}
 use Rattle.l4_links.proofs.Links.set_wanted.Goals as goal
 
 pub invariant_of-self : goal.invariant_of-self
@@ -14,6 +15,9 @@ invariant_of-self c = record {
   indexed =
       indexed_wanted c.self.inside.nodes.slots c.set_wanted.new.nodes.slots c.self.inside.pages
       (places_wanted c.self.inside.nodes.slots c.set_wanted.new.nodes.slots c.args.key c.args.wanted c.set_wanted.ensures) c.self.invariant.indexed;
+  stack =
+      stack_nodes c.self.inside.nodes.slots c.set_wanted.new.nodes.slots c.self.inside.doomed
+      (nodes_wanted c.self.inside.nodes.slots c.set_wanted.new.nodes.slots c.args.key c.args.wanted c.set_wanted.ensures) c.self.invariant.stack;
 }
 
 pub returns-clause-sets : goal.returns-clause-sets

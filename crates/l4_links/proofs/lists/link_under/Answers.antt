@@ -1,4 +1,4 @@
-use Rattle.std.proofs.Common.{ℕ, ◌+◌, arith, refl, subst, Some, None, false}
+use Rattle.std.proofs.Common.{ℕ, arith, refl, subst, Some, None, false}
 use Rattle.l4_fpage.specs.Rights.{RightsSet}
 use Rattle.l4_links.specs.declared.nodes.Node.{Node}
 use Rattle.l4_links.specs.Inside.Nodes.{Comes}
@@ -19,6 +19,7 @@ child above rights depth parent = record {
   mark = 0;
   end = None;
   seen = 0;
+  doomed = None;
 }
 
 pub child_depth-requires : goal.child_depth-requires

@@ -1,0 +1,238 @@
+-- The burial of the nodes without rights.
+use Rattle.std.proofs.Common.{◌≡◌, ◌≢◌, ◌⊎◌, ℕ, ◌+◌, ◌≤◌, List, [], ◌∷◌, ◌++◌, length, Option, Some, None, refl, sym, ap, ◌∙◌, subst, arith, inl, inr}
+use Rattle.std.proofs.lemmas.Bool.{cases_eq}
+use Rattle.std.specs.Option.{option_map, option_and_then}
+use Rattle.l4_fpage.specs.Rights.{RightsSet, common, no_rights}
+use Rattle.l4_links.specs.declared.Standing.{Standing}
+use Rattle.l4_links.specs.declared.nodes.Node.{Node}
+use Rattle.l4_links.specs.declared.nodes.Slot.{Slot}
+use Rattle.l4_links.specs.Inside.Trees.{Limb, Sheds, SameOrder}
+use Rattle.l4_links.specs.Inside.Orders.{IsIn, first_of, last_of, position}
+use Rattle.l4_links.specs.Inside.Nodes.{Slots, slot_at, node_at, limbs, Marks, Doom, dooms, IsOrder, IsForest, TakesSlot}
+use Rattle.l4_links.specs.Inside.Stacks.{IsStack, HasStack, IsBuried, IsLeft, Buries}
+use Rattle.l4_links.specs.Inside.Keeping.{standing_of, entries_of, IsWithin, IsFresh, IsSound}
+use Rattle.l4_links.specs.Entries.{standing_at, entry_at}
+use Rattle.l4_links.specs.Entries as entries
+use Rattle.l4_links.proofs.Writes.{no_slot, doom_of, spot_of}
+use Rattle.l4_links.proofs.Linking.{parted}
+use Rattle.l4_links.proofs.Positions.{same_order_out}
+use Rattle.l4_links.proofs.Neighbours.{worth_of, neighbours_at}
+use Rattle.l4_links.proofs.Growing.{tree_sheds}
+use Rattle.l4_links.proofs.Cutting.{once_fits, node_within}
+use Rattle.l4_links.proofs.Depths.{order_on}
+use Rattle.l4_links.proofs.Walking.{node_from_limb}
+use Rattle.l4_links.proofs.Kept.{first_unique, within_kept, sound_fresh}
+use Rattle.l4_links.proofs.Seen.{entry_same, standing_is}
+use Rattle.l4_links.proofs.Views.{view_gone}
+use Rattle.l4_links.proofs.Stacking.{common_none, doom_node, doom_at, same_doom, stacked_none, stack_popped}
+
+abbrev limb_of : Node → Limb
+limb_of n = record { parent = n.parent; depth = n.depth }
+
+abbrev marks_of : Node → Marks
+marks_of n = record { mark = n.mark; seen = n.seen }
+
+-- what a piece of a slot that has gone is
+piece_gone : {X : Type 0} (F : Node → X) (slots : Slots) (k : ℕ) → slot_at slots k ≡ None → option_map F (node_at slots k) ≡ None
+piece_gone F slots k gone = ap (λ (o : Option Slot). option_map F (option_and_then (λ (z : Slot). z.node) o)) gone
+
+no_some : {X Y : Type 0} (x : X) → ◌≡◌ {A = Option X} None (Some x) → Y
+no_some {X} x e = absurd (let w : ◌≡◌ {A = Option X} None (Some x) = e in cc)
+
+-- the first keys of the stack have been buried, and it goes on at this key
+pub record BuriedSoFar (old cur : Slots) (first begin at : Option ℕ) (count : ℕ) : Type 0 where
+  pub all : List ℕ
+  pub stack : List ℕ
+  pub before : List ℕ
+  pub left : List ℕ
+  pub was_stack : IsStack (dooms old) all
+  pub is_stack : IsStack (dooms cur) stack
+  pub at_is : first_of stack None ≡ at
+  pub count_is : length stack + count ≡ length all
+  pub was : IsForest old before
+  pub within : IsWithin old
+  pub order : IsOrder cur left
+  pub same : SameOrder (limbs cur) (position before) (position left)
+  pub first_is : first_of before None ≡ first → first_of left None ≡ begin
+  pub each : (key : ℕ) → IsBuried old cur key ⊎ IsLeft old cur key
+
+pub buried_first : (old : Slots) (ks : List ℕ) (first doomed : Option ℕ) → IsForest old ks → IsWithin old → HasStack old doomed → BuriedSoFar old old first first doomed 0
+buried_first old ks first doomed forest within s = record {
+  all = s.keys;
+  stack = s.keys;
+  before = ks;
+  left = ks;
+  was_stack = s.stack;
+  is_stack = s.stack;
+  at_is = s.head_is;
+  count_is = omega arith;
+  was = forest;
+  within = within;
+  order = forest.order;
+  same = record { onward = λ a b x y is_a is_b lt. lt; back = λ a b x y is_a is_b lt. lt };
+  first_is = λ e. e;
+  each = λ k. inr (record { limb = refl; value = refl; mark = refl; doom = refl; spot = refl });
+}
+
+-- the key of the loop has a node
+pub buried_there : (old cur : Slots) (first begin : Option ℕ) (count key : ℕ) → BuriedSoFar old cur first begin (Some key) count → node_at cur key ≢ None
+buried_there old cur first begin count key c none =
+    let d = head_doom cur c.stack key c.is_stack c.at_is in
+    let w : ◌≡◌ {A = Option Doom} None (Some d.0) = sym (ap (option_map doom_of) none) ∙ d.1 in cc
+  where
+    head_doom : (cur : Slots) (ks : List ℕ) (key : ℕ) → IsStack (dooms cur) ks → first_of ks None ≡ Some key → (d : Doom) × (dooms cur key ≡ Some d)
+    head_doom cur [] key s e = absurd (let w : ◌≡◌ {A = Option ℕ} None (Some key) = e in cc)
+    head_doom cur (k ∷ ks) key s e =
+        let w : ◌≡◌ {A = Option ℕ} (Some k) (Some key) = e in
+        let kk : k ≡ key = cc in
+        let n = stacked_none (dooms cur) (k ∷ ks) s.stacked key (inl kk) in
+        (n.0, n.1)
+
+-- where the list begins without a key
+first_left : (front back : List ℕ) (key : ℕ) (prev next begin after : Option ℕ) → prev ≡ last_of None front → next ≡ first_of back None → (prev ≡ None → after ≡ next) → (prev ≢ None → after ≡ begin)
+    → first_of (front ++ key ∷ back) None ≡ begin → first_of (front ++ back) None ≡ after
+first_left [] back key prev next begin after p n onto stay f = sym n ∙ sym (onto p)
+first_left (x ∷ xs) back key prev next begin after p n onto stay f = f ∙ sym (stay (λ none. last_some x xs (sym p ∙ none)))
+  where
+    last_some : (b : ℕ) (xs : List ℕ) → last_of (Some b) xs ≢ None
+    last_some b [] e = let w : ◌≡◌ {A = Option ℕ} (Some b) None = e in absurd (let z : ◌≡◌ {A = Option ℕ} (Some b) None = w in cc)
+    last_some b (x ∷ xs) e = last_some x xs e
+
+-- one more node is buried
+buried_step : (old cur new : Slots) (first begin after at : Option ℕ) (count key : ℕ) (node : Node) (c : BuriedSoFar old cur first begin at count) (rest : List ℕ) → c.stack ≡ key ∷ rest → node_at cur key ≡ Some node
+    → (node.prev ≡ None → after ≡ node.next) → (node.prev ≢ None → after ≡ begin) → ((xs ys : List ℕ) → IsOrder cur (xs ++ key ∷ ys) → IsOrder new (xs ++ ys)) → TakesSlot key cur new
+    → BuriedSoFar old new first after node.doomed (count + 1)
+buried_step old cur new first begin after at count key node c rest e is_key onto stay out t =
+    let st : IsStack (dooms cur) (key ∷ rest) = subst (λ (z : List ℕ). IsStack (dooms cur) z) e c.is_stack in
+    let doom_is : doom_of node ≡ record { rights = no_rights; next = first_of rest None } = same_doom (sym (doom_at cur key node is_key) ∙ st.stacked.0) in
+    let p = parted c.left key (c.order.all key node is_key) in
+    let here : IsOrder cur (p.front ++ key ∷ p.back) = subst (λ (z : List ℕ). IsOrder cur z) p.is c.order in
+    let near = neighbours_at cur p.front key p.back node here is_key in
+    let none_new : limbs new key ≡ None = piece_gone limb_of new key t.gone in
+    let was_limb : (a : ℕ) (x : Limb) → limbs new a ≡ Some x → limbs cur a ≡ Some x = λ a x is. elim (cases_eq a key) [
+      | inl ak ↦ no_some x (sym none_new ∙ sym (ap (limbs new) ak) ∙ is)
+      | inr ne ↦ sym (t.limbs_same a ne) ∙ is
+    ] in
+    record {
+      all = c.all;
+      stack = rest;
+      before = c.before;
+      left = p.front ++ p.back;
+      was_stack = c.was_stack;
+      is_stack = stack_popped cur new key rest st (piece_gone doom_of new key t.gone) t.dooms_same;
+      at_is = sym (ap (λ (z : Doom). z.next) doom_is);
+      count_is = (let n = c.count_is in let l : length c.stack ≡ length (key ∷ rest) = ap length e in let m : length (key ∷ rest) ≡ length rest + 1 = omega arith in omega (arith, n, l, m));
+      was = c.was;
+      within = c.within;
+      order = out p.front p.back here;
+      same =
+          order_on (limbs cur) (limbs new) (position c.before) (position (p.front ++ key ∷ p.back)) (position (p.front ++ p.back)) was_limb
+          (subst (λ (z : List ℕ). SameOrder (limbs cur) (position c.before) (position z)) p.is c.same) (same_order_out (limbs new) p.front key p.back none_new);
+      first_is = λ f. first_left p.front p.back key node.prev node.next begin after near.0 near.1 onto stay (sym (ap (λ (z : List ℕ). first_of z None) p.is) ∙ c.first_is f);
+      each = λ k. elim (cases_eq k key) [
+        | inl ke ↦ inl (subst (λ (z : ℕ). IsBuried old new z) (sym ke) (elim (c.each key) [
+          | inl b ↦ no_some node (sym (ap (option_and_then (λ (z : Slot). z.node)) b.gone) ∙ is_key)
+          | inr l ↦ record { doom = record { rights = no_rights; next = first_of rest None }; was = sym l.doom ∙ st.stacked.0; none = refl; gone = t.gone }
+        ]))
+        | inr ne ↦ elim (c.each k) [
+          | inl b ↦ inl (record { doom = b.doom; was = b.was; none = b.none; gone = no_slot new k (t.spots_same k ne ∙ ap (option_map spot_of) b.gone) })
+          | inr l ↦ inr (record {
+            limb = t.limbs_same k ne ∙ l.limb;
+            value = t.values_same k ne ∙ l.value;
+            mark = t.marks_same k ne ∙ l.mark;
+            doom = t.dooms_same k ne ∙ l.doom;
+            spot = t.spots_same k ne ∙ l.spot;
+          })
+        ]
+      ];
+    }
+
+pub buried_more : (old cur new : Slots) (first begin after : Option ℕ) (count key : ℕ) (node : Node) → BuriedSoFar old cur first begin (Some key) count → node_at cur key ≡ Some node
+    → (node.prev ≡ None → after ≡ node.next) → (node.prev ≢ None → after ≡ begin) → ((xs ys : List ℕ) → IsOrder cur (xs ++ key ∷ ys) → IsOrder new (xs ++ ys)) → TakesSlot key cur new
+    → BuriedSoFar old new first after node.doomed (count + 1)
+buried_more old cur new first begin after count key node c is_key onto stay out t =
+    elim c.stack as (λ (ks : List ℕ). c.stack ≡ ks → BuriedSoFar old new first after node.doomed (count + 1)) [
+      | [] ↦ λ e. no_some key (sym (ap (λ (z : List ℕ). first_of z None) e) ∙ c.at_is)
+      | k ∷ ks ↦ λ e.
+          let w : ◌≡◌ {A = Option ℕ} (Some k) (Some key) = sym (ap (λ (z : List ℕ). first_of z None) e) ∙ c.at_is in
+          let kk : k ≡ key = cc in
+          buried_step old cur new first begin after (Some key) count key node c ks (e ∙ ap (λ (z : ℕ). z ∷ ks) kk) is_key onto stay out t
+    ] refl
+
+-- what lies within no rights has none
+within_none : (low high : RightsSet) → common low high ≡ low → high ≡ no_rights → low ≡ no_rights
+within_none low high e none = sym e ∙ ap (λ (z : RightsSet). common low z) none ∙ common_none low
+
+-- the whole stack has been buried
+pub buried_done : (old cur : Slots) (first begin : Option ℕ) (count : ℕ) → BuriedSoFar old cur first begin None count → Buries first begin old cur
+buried_done old cur first begin count c =
+    let empty : (k : ℕ) (d : Doom) → dooms cur k ≡ Some d → d.rights ≢ no_rights = λ k d is none. none_in c.stack k (c.is_stack.all k d is none) c.at_is in
+    let sheds : Sheds (limbs old) (limbs cur) = record {
+      left = λ a. elim (c.each a) [ inl b ↦ inl (piece_gone limb_of cur a b.gone) | inr l ↦ inr l.limb ];
+      closed = λ a p x is up. elim (c.each p) [
+        | inr l ↦ l.limb
+        | inl b ↦ absurd (elim (c.each a) [
+          | inl g ↦ no_some x (sym (piece_gone limb_of cur a g.gone) ∙ is)
+          | inr l ↦
+              let was : limbs old a ≡ Some x = sym l.limb ∙ is in
+              let n = node_from_limb old a x was in
+              let m = doom_node old p b.doom b.was in
+              let lies = c.within a p x (worth_of n.0) (worth_of m.0) was up (ap (option_map worth_of) n.1) (ap (option_map worth_of) m.1) in
+              let none : n.0.rights ≡ no_rights = within_none n.0.rights m.0.rights lies.rights (ap (λ (z : Doom). z.rights) m.2 ∙ b.none) in
+              empty a (doom_of n.0) (l.doom ∙ doom_at old a n.0 n.1) none
+        ])
+      ];
+    } in
+    record {
+      each = c.each;
+      empty = empty;
+      before = c.before;
+      left = c.left;
+      was = c.was;
+      forest = record { order = c.order; tree = tree_sheds (limbs old) (limbs cur) (position c.before) (position c.left) c.was.tree sheds c.same };
+      first_is = c.first_is;
+    }
+  where
+    none_in : (ks : List ℕ) (k : ℕ) → IsIn ks k → first_of ks None ≡ None → ⊥
+    none_in [] k i e = i
+    none_in (x ∷ xs) k i e = let w : ◌≡◌ {A = Option ℕ} (Some x) None = e in absurd (let z : ◌≡◌ {A = Option ℕ} (Some x) None = w in cc)
+
+-- after as many steps as there are slots nothing is left of the stack
+pub buried_ends : (old cur : Slots) (first begin at : Option ℕ) (count : ℕ) → BuriedSoFar old cur first begin at count → length old ≤ count → at ≡ None
+buried_ends old cur first begin at count c all =
+    let fit = once_fits (length old) c.all c.was_stack.once (λ k i.
+    let d = stacked_none (dooms old) c.all c.was_stack.stacked k i in
+    let n = doom_node old k d.0 d.1 in
+    node_within old k n.0 n.1) in
+    let n = c.count_is in
+    sym c.at_is ∙ none_left c.stack (omega (arith, fit, n, all))
+  where
+    none_left : (ks : List ℕ) → length ks ≤ 0 → first_of ks None ≡ None
+    none_left [] le = refl
+    none_left (k ∷ ks) le = absurd (let l : length (k ∷ ks) ≡ length ks + 1 = omega arith in omega (arith, l, le))
+
+-- the nodes that are left are sound
+pub sound_buried : (old new : Slots) (first after : Option ℕ) (stamp fresh walk : ℕ) → IsSound old first stamp walk → Buries first after old new → IsFresh stamp fresh → IsSound new after fresh walk
+sound_buried old new first after stamp fresh walk s b f =
+    sound_fresh new after stamp fresh walk b.left b.forest (b.first_is (first_unique old b.before s.keys b.was.order s.forest.order ∙ s.first_is))
+    (within_kept old new b.left b.forest s.within (λ k x is. elim (b.each k) [ inl g ↦ no_some x (sym (piece_gone limb_of new k g.gone) ∙ is) | inr l ↦ (l.limb, l.value) ]))
+    (λ some k m is. s.stamped some k m (elim (b.each k) [ inl g ↦ no_some m (sym (piece_gone marks_of new k g.gone) ∙ is) | inr l ↦ sym l.mark ∙ is ])) f
+
+-- what a contract sees of the burial
+pub view_buries : (old new : Slots) (first after : Option ℕ) → Buries first after old new → entries.Buries (entries_of old) (entries_of new)
+view_buries old new first after b = record {
+  gone = λ k t at none. elim (b.each k) [
+    | inl g ↦ view_gone new k g.gone
+    | inr l ↦ absurd (let n = standing_node old k t at in b.empty k (doom_of n.0) (l.doom ∙ doom_at old k n.0 n.1) (ap (λ (z : Standing). z.rights) n.2 ∙ none))
+  ];
+  kept = λ k some. elim (b.each k) [
+    | inl g ↦ absurd (let n = doom_node old k g.doom g.was in some (standing_of n.0) (standing_is old k ∙ ap (option_map standing_of) n.1) (ap (λ (z : Doom). z.rights) n.2 ∙ g.none))
+    | inr l ↦ entry_same old new k l.spot l.limb l.value
+  ];
+}
+  where
+    standing_node : (slots : Slots) (k : ℕ) (t : Standing) → standing_at (entries_of slots) k ≡ Some t → (n : Node) × (node_at slots k ≡ Some n) × (standing_of n ≡ t)
+    standing_node slots k t is = elim (node_at slots k) as (λ o. node_at slots k ≡ o → option_map standing_of o ≡ Some t → (n : Node) × (node_at slots k ≡ Some n) × (standing_of n ≡ t)) [
+      | None ↦ λ e w. absurd (let z : ◌≡◌ {A = Option Standing} None (Some t) = w in cc)
+      | Some n ↦ λ e w. (n, e, (let z : ◌≡◌ {A = Option Standing} (Some (standing_of n)) (Some t) = w in cc))
+    ] refl (sym (standing_is slots k) ∙ is)

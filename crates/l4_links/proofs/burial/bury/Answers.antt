@@ -1,0 +1,51 @@
+use Rattle.std.proofs.Common.{ℕ, refl, sym, ◌∙◌, subst, arith, Option}
+use Rattle.l4_links.proofs.Burying.{BuriedSoFar, buried_first, buried_there, buried_more, buried_done, buried_ends}
+use Rattle.l4_links.proofs.burial.bury.Goals as goal
+
+pub loop-init : goal.loop-init
+loop-init c = record {
+  buried = buried_first c.args.nodes.now.slots c.requires.forest.0 c.args.first c.args.doomed c.requires.forest.1 c.requires.within c.requires.stack;
+  indexed = λ i. i;
+  spaces = refl;
+}
+
+pub returns-in_default : goal.returns-in_default
+returns-in_default c = record {
+  buries =
+      buried_done c.args.nodes.now.slots c.loop.nodes.slots c.args.first c.loop.begin c.loop.counter
+      (subst (λ (o : Option ℕ). BuriedSoFar c.args.nodes.now.slots c.loop.nodes.slots c.args.first c.loop.begin o c.loop.counter) c.in_default.is c.loop.invariant.buried);
+  indexed = c.loop.invariant.indexed;
+  spaces = c.loop.invariant.spaces;
+}
+
+pub unreachable-requires : goal.unreachable-requires
+unreachable-requires c =
+    buried_there c.args.nodes.now.slots c.loop.nodes.slots c.args.first c.loop.begin c.loop.counter c.in-Some.key
+    (subst (λ (o : Option ℕ). BuriedSoFar c.args.nodes.now.slots c.loop.nodes.slots c.args.first c.loop.begin o c.loop.counter) c.in-Some.is c.loop.invariant.buried)
+    (sym c.node_of.ensures ∙ c.in_default-node_of.is)
+
+pub take_out-requires-clause-order : goal.take_out-requires-clause-order
+take_out-requires-clause-order c = (c.loop.invariant.buried.left, c.loop.invariant.buried.order)
+
+pub loop-preserved : goal.loop-preserved
+loop-preserved c = record {
+  buried =
+      buried_more c.args.nodes.now.slots c.loop.nodes.slots c.take_out.new.nodes.slots c.args.first c.loop.begin c.first_without-begin.result c.loop.counter c.in-Some.key c.in-Some-node_of.node
+      (subst (λ (o : Option ℕ). BuriedSoFar c.args.nodes.now.slots c.loop.nodes.slots c.args.first c.loop.begin o c.loop.counter) c.in-Some.is c.loop.invariant.buried)
+      (sym c.node_of.ensures ∙ c.in-Some-node_of.is) c.first_without-begin.ensures.begins c.first_without-begin.ensures.stays c.take_out.ensures.order c.take_out.ensures.out;
+  indexed = λ i. c.take_out.ensures.indexed (c.loop.invariant.indexed i);
+  spaces = c.take_out.ensures.spaces ∙ c.loop.invariant.spaces;
+}
+
+pub returns : goal.returns
+returns c =
+    let full = c.capacity-end.ensures.slots in
+    let ended = c.loop-test.false in
+    let at = buried_ends c.args.nodes.now.slots c.loop.nodes.slots c.args.first c.loop.begin c.loop.at c.loop.counter c.loop.invariant.buried (omega (arith, full, ended)) in
+    record {
+      buries =
+          buried_done c.args.nodes.now.slots c.loop.nodes.slots c.args.first c.loop.begin c.loop.counter
+          (subst (λ (o : Option ℕ). BuriedSoFar c.args.nodes.now.slots c.loop.nodes.slots c.args.first c.loop.begin o c.loop.counter) at c.loop.invariant.buried);
+      indexed = c.loop.invariant.indexed;
+      spaces = c.loop.invariant.spaces;
+    }

@@ -1,0 +1,55 @@
+//! The burial of nodes without rights: they leave the list in the order of the stack that they stand on. Between two of them the
+//! list is whole and the trees needn't be, since a child may be left of a parent that has gone. Once all have gone the trees are
+//! whole again: what descends from a node without rights has none either.
+
+ghost use Rattle.std.specs.Prelude.{◌≡◌, ◌≢◌, ℕ, List, Some, None};
+ghost use Rattle.l4_links.specs.Inside.Nodes.{IsForest};
+ghost use Rattle.l4_links.specs.Inside.Keeping.{IsIndexed, IsWithin};
+ghost use Rattle.l4_links.specs.Inside.Stacks.{HasStack, Buries};
+
+use crate::lists::take_out;
+use crate::nodes::{Node, Slot, node_of};
+use l4_spaces::Spaces;
+use slab::Slab;
+
+/// The key that a list begins with once the node has left it, if it began with `first`.
+fn first_without(node: &Node, first: Option<usize>) -> Option<usize>
+    ensures begins { node.now.prev ≡ None → result ≡ node.now.next }
+    ensures stays { node.now.prev ≢ None → result ≡ first }
+{
+    let Some(_) = node.prev else {
+        return node.next;
+    };
+    first
+}
+
+/// Takes the nodes of the stack, which begins with the key `doomed`, out of the list, and their slots away with their
+/// pages' names. The list begins with the key that is given then.
+pub(crate) fn bury(
+    nodes: &mut Slab<Slot>,
+    pages: &mut Spaces,
+    first: Option<usize>,
+    doomed: Option<usize>,
+) -> Option<usize>
+    requires forest { (ks : List ℕ) × IsForest nodes.old.slots ks }
+    requires within { IsWithin nodes.old.slots }
+    requires stack { HasStack nodes.old.slots doomed }
+    ensures buries { Buries first result nodes.old.slots nodes.new.slots }
+    ensures indexed { IsIndexed nodes.old.slots pages.old → IsIndexed nodes.new.slots pages.new }
+    ensures spaces { pages.new.spaces ≡ pages.old.spaces }
+{
+    let mut begin = first;
+    let mut at = doomed;
+    for _ in 0..nodes.capacity() {
+        let Some(key) = at else {
+            return begin;
+        };
+        let Some(node) = node_of(nodes, key) else {
+            unreachable!()
+        };
+        at = node.doomed;
+        begin = first_without(&node, begin);
+        take_out(nodes, pages, key);
+    }
+    begin
+}
