@@ -299,7 +299,12 @@ class Shell:
             running = [n for n in sorted(self.served) if self.machine.threads[n].phase is None]
             if not running:
                 break
-            self.tell(self.machine.start(running[0], self.act(running[0])))
+            try:
+                answer = self.machine.start(running[0], self.act(running[0]))
+            except Refused as refusal:
+                self.out.append(f"{running[0]} refused {refusal.text()}")
+                break
+            self.tell(answer)
             self.go_on()
         if self.waiting is not None:
             self.out.append(f"{number} waits")
