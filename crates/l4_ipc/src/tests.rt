@@ -337,6 +337,35 @@ fn delegates_what_is_there_at_the_transfer(rt: HostRuntime) -> Result<(), Fail> 
     Ok(())
 }
 
+/// A receive, a send to it and their transfer, again and again.
+fn many_messages(alloc: Global, rounds: u32) -> Result<Vec<Step>, Fail> {
+    let mut steps = Vec::new(alloc);
+    for round in 0..rounds {
+        steps.push(receive(2, ANYBODY, 0))?;
+        steps.push(send(1, ROOT, &[1, round]))?;
+        steps.push(Step::Transfer(1, 2))?;
+    }
+    Ok(steps)
+}
+
+#[test]
+fn a_hundred_thousand_steps(rt: HostRuntime) -> Result<(), Fail> {
+    let mut kernel = Kernel::boot(rt.alloc(), 1)?;
+    let steps = many_messages(rt.alloc(), 33_334)?;
+    let answers = kernel.run(steps.as_slice())?;
+    assert_eq!(rt; answers.len(), 100_002);
+    for (place, answer) in answers.iter().enumerate() {
+        let want = if place % 3 == 2 {
+            Outcome::Done
+        } else {
+            Outcome::Started
+        };
+        assert_eq!(rt; outcome(answer), Some(want), "of step {place}");
+    }
+    assert!(rt; replied(&kernel, 2, 1, 0, SIGMA0, &[33_333]));
+    Ok(())
+}
+
 #[test]
 fn a_page_and_its_way_from_sigma0(rt: HostRuntime) -> Result<(), Fail> {
     let mut kernel = with_page(rt.alloc())?;
