@@ -1,7 +1,7 @@
 use crate::{RunFault, check_lines, plan_lines};
 use l4_fpage::Rights;
 use l4_msg::Region;
-use std::io::{self, Read, Write};
+use l4_text::{Drip, Sip};
 use std::test::Fail;
 
 /// A region with all rights.
@@ -137,31 +137,11 @@ fn refuses_the_first_line_past_64(rt: HostRuntime) -> Result<(), Fail> {
     Ok(())
 }
 
-/// A reader whose reads fail.
-#[derive(Drop)]
-struct Broken;
-
-impl Read for Broken {
-    fn read(&mut self, _buffer: &mut [u8]) -> io::Result<usize> {
-        Err(io::Error::from(io::ErrorKind::Other))
-    }
-}
-
-/// A writer that takes so many bytes, one at a time.
-#[derive(Drop)]
-struct Narrow(u8);
-
-impl Write for Narrow {
-    fn write(&mut self, bytes: &[u8]) -> io::Result<usize> {
-        if self.0 == 0 || bytes.is_empty() {
-            return Ok(0);
-        }
-        self.0 -= 1;
-        Ok(1)
-    }
-
-    fn flush(&mut self) -> io::Result<()> {
-        Ok(())
+/// A writer that takes so many bytes.
+fn taking(rt: &HostRuntime, calls: usize) -> Sip {
+    Sip {
+        taken: Vec::new(rt.alloc()),
+        calls,
     }
 }
 
@@ -169,16 +149,26 @@ impl Write for Narrow {
 fn faults_of_reader_and_writer(rt: HostRuntime) -> Result<(), Fail> {
     let whole = region(4, 12, 12);
     let mut out = Vec::new(rt.alloc());
+    let mut broken = Drip {
+        bytes: b"",
+        calls: 0,
+    };
     assert_eq!(rt;
-        check_lines(&whole, &mut Broken, &mut out),
+        check_lines(&whole, &mut broken, &mut out),
         Err(RunFault::Read)
     );
     assert!(rt; out.is_empty());
-    assert_eq!(rt; plan_lines(&whole, &mut Narrow(40)), Err(RunFault::Write));
-    assert_eq!(rt; plan_lines(&region(0, 0, 0), &mut Narrow(11)), Ok(false));
+    assert_eq!(rt;
+        plan_lines(&whole, &mut taking(&rt, 40)),
+        Err(RunFault::Write)
+    );
+    assert_eq!(rt;
+        plan_lines(&region(0, 0, 0), &mut taking(&rt, 11)),
+        Ok(false)
+    );
     let mut reader = b"".as_slice();
     assert_eq!(rt;
-        check_lines(&whole, &mut reader, &mut Narrow(3)),
+        check_lines(&whole, &mut reader, &mut taking(&rt, 3)),
         Err(RunFault::Write)
     );
     Ok(())
