@@ -14,6 +14,9 @@ use std::marker::Model;
 /// sigma0's thread.
 const SIGMA0: u32 = 1;
 
+// sigma0's table has room for the frames of each kernel.
+const _: () = prove!(l4_sigma0::MAX_FRAMES == l4_ipc::MAX_FRAMES as usize);
+
 /// The space that a sender who is no longer there counts as.
 const GONE_SPACE: u64 = u64::MAX;
 
