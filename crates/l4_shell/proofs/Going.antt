@@ -211,12 +211,3 @@ refuses_on old new sv later line thread call asked written b before t is same r 
   record { refusal = r.refusal; refused = subst (λ (c : Call). Steps old (Start thread c) (Err r.refusal) new) is r.refused; servers = same; text_is = refl },
   r.tells,
 )
-
--- one of two, told
-pub told_left : (A B : List ℕ → Type 0) (written b : Option (List ℕ)) (before t : List ℕ × Bool) → (text : List ℕ) × A text × Tells written b before t text
-    → (text : List ℕ) × (A text ⊎ B text) × Tells written b before t text
-told_left A B written b before t x = (x.0, inl x.1, x.2)
-
-pub told_right : (A B : List ℕ → Type 0) (written b : Option (List ℕ)) (before t : List ℕ × Bool) → (text : List ℕ) × B text × Tells written b before t text
-    → (text : List ℕ) × (A text ⊎ B text) × Tells written b before t text
-told_right A B written b before t x = (x.0, inr x.1, x.2)
