@@ -104,9 +104,10 @@ others_kept es es' m new books later n place call y b same j ne =
     ∙ ap (option_map plain) (set_other books place b.former opened j b.former_at refl (λ e. ne (e ∙ b.former_number)))
 
 pub enters : (frames : ℕ) (es es' : List Entry) (m new : Machine) (books later : List Book) (board board' : TableId) (published published' n k place : ℕ) (call : Call) (y : Book)
-    → Begins n call m new es es' books later place → n ≡ k → board' ≡ board → y.number ≡ n → Enters (lock frames m es books board published) (lock frames new es' (slice_set later place y) board' published') k call
-enters frames es es' m new books later board board' published published' n k place call y b same same_board numbered =
+    → length es ≤ 999871 → Begins n call m new es es' books later place → n ≡ k → board' ≡ board → y.number ≡ n → Enters (lock frames m es books board published) (lock frames new es' (slice_set later place y) board' published') k call
+enters frames es es' m new books later board board' published published' n k place call y room b same same_board numbered =
     subst (λ (j : ℕ). Enters (lock frames m es books board published) (lock frames new es' (slice_set later place y) board' published') j call) same (record {
+      room = room;
       answer = b.answer;
       started = b.started;
       starts = b.starts;

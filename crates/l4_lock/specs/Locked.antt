@@ -55,9 +55,10 @@ pub record IsKept (l : Lock) : Type 0 where
 abbrev pub start_entry : ℕ → Call → Answer → Entry
 start_entry n call answer = record { seat = n; step = Start n call; answer = answer }
 
--- The call was entered: the history goes on by its start and by the steps that come next, at most 128, until there is none. What is kept of
--- other numbers stays, but for what is known of the ends of their calls.
+-- The call was entered, for which there was room: the history goes on by its start and by the steps that come next, at most 128, until there
+-- is none. What is kept of other numbers stays, but for what is known of the ends of their calls.
 pub record Enters (old new : Lock) (n : ℕ) (call : Call) : Type 0 where
+  pub room : length old.history ≤ last_start
   pub answer : Answer
   pub started : Machine
   pub starts : Steps old.kernel (Start n call) (Ok answer) started

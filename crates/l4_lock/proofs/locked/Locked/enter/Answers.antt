@@ -62,7 +62,8 @@ returns-in-Some-finish-clause-ok c =
     c.self.inside.publisher.shown c.publish.new.self.shown c.number-number.result c.in-Some.at c.args.call c.self.invariant
     (let no_more = c.if-len-gt-LAST_START.false in let l = c.len.ensures in omega (arith, no_more, l)) b (ap (λ (p : Publishing). p.shown) c.publish.ensures ∙ c.len-2.ensures) in (
       subst (λ (l : Lock). Enters l (lock c.self.inside.frames c.begin.new.kernel c.begin.new.history.entries (slice_set c.begin.new.accounts.items c.in-Some.at c.finish.new.account) c.publish.new.self.board c.publish.new.self.shown) c.args.seat.now.number c.args.call) c.self.view_is
-          (enters c.self.inside.frames c.self.inside.history.entries c.begin.new.history.entries c.self.inside.kernel c.begin.new.kernel c.self.inside.accounts.items c.begin.new.accounts.items c.self.inside.publisher.board c.publish.new.self.board c.self.inside.publisher.shown c.publish.new.self.shown c.number-number.result c.args.seat.now.number c.in-Some.at c.args.call c.finish.new.account b c.number-number.ensures
+          (enters c.self.inside.frames c.self.inside.history.entries c.begin.new.history.entries c.self.inside.kernel c.begin.new.kernel c.self.inside.accounts.items c.begin.new.accounts.items c.self.inside.publisher.board c.publish.new.self.board c.self.inside.publisher.shown c.publish.new.self.shown c.number-number.result c.args.seat.now.number c.in-Some.at c.args.call c.finish.new.account
+          (let no_more = c.if-len-gt-LAST_START.false in let l = c.len.ensures in omega (arith, no_more, l)) b c.number-number.ensures
           (ap (λ (p : Publishing). p.board) c.publish.ensures)
           (ap (λ (z : Book). z.number) c.in-Some-finish.ensures.some.book_is ∙ numbered c.self.inside.history.entries c.begin.new.history.entries c.self.inside.kernel c.begin.new.kernel c.self.inside.accounts.items c.begin.new.accounts.items c.number-number.result c.in-Some.at c.args.call c.index_mut.result.now b c.index_mut.ensures.value)),
       subst (λ (l : Lock). EndsAtOnce l (lock c.self.inside.frames c.begin.new.kernel c.begin.new.history.entries (slice_set c.begin.new.accounts.items c.in-Some.at c.finish.new.account) c.publish.new.self.board c.publish.new.self.shown) c.args.seat.now c.finish.new.seat c.args.call c.in-Some-finish.reply) c.self.view_is
@@ -89,7 +90,8 @@ returns-clause-ok c =
     c.self.inside.publisher.shown c.publish.new.self.shown c.number-number.result c.in-Some.at c.args.call c.self.invariant
     (let no_more = c.if-len-gt-LAST_START.false in let l = c.len.ensures in omega (arith, no_more, l)) b (ap (λ (p : Publishing). p.shown) c.publish.ensures ∙ c.len-2.ensures) in (
       subst (λ (l : Lock). Enters l (lock c.self.inside.frames c.begin.new.kernel c.begin.new.history.entries (slice_set c.begin.new.accounts.items c.in-Some.at c.finish.new.account) c.publish.new.self.board c.publish.new.self.shown) c.args.seat.now.number c.args.call) c.self.view_is
-          (enters c.self.inside.frames c.self.inside.history.entries c.begin.new.history.entries c.self.inside.kernel c.begin.new.kernel c.self.inside.accounts.items c.begin.new.accounts.items c.self.inside.publisher.board c.publish.new.self.board c.self.inside.publisher.shown c.publish.new.self.shown c.number-number.result c.args.seat.now.number c.in-Some.at c.args.call c.finish.new.account b c.number-number.ensures
+          (enters c.self.inside.frames c.self.inside.history.entries c.begin.new.history.entries c.self.inside.kernel c.begin.new.kernel c.self.inside.accounts.items c.begin.new.accounts.items c.self.inside.publisher.board c.publish.new.self.board c.self.inside.publisher.shown c.publish.new.self.shown c.number-number.result c.args.seat.now.number c.in-Some.at c.args.call c.finish.new.account
+          (let no_more = c.if-len-gt-LAST_START.false in let l = c.len.ensures in omega (arith, no_more, l)) b c.number-number.ensures
           (ap (λ (p : Publishing). p.board) c.publish.ensures)
           (ap (λ (z : Book). z.number) c.in_default-finish.ensures.none.0 ∙ numbered c.self.inside.history.entries c.begin.new.history.entries c.self.inside.kernel c.begin.new.kernel c.self.inside.accounts.items c.begin.new.accounts.items c.number-number.result c.in-Some.at c.args.call c.index_mut.result.now b c.index_mut.ensures.value)),
       subst (λ (l : Lock). IsLeft l (lock c.self.inside.frames c.begin.new.kernel c.begin.new.history.entries (slice_set c.begin.new.accounts.items c.in-Some.at c.finish.new.account) c.publish.new.self.board c.publish.new.self.shown) c.args.seat.now c.finish.new.seat) c.self.view_is

@@ -1,0 +1,362 @@
+-- Seats and the books of their numbers, as calls are entered and replies are taken.
+use Rattle.std.proofs.Common.{◌≡◌, ◌≢◌, ℕ, suc, zero, ◌+◌, ◌<◌, ◌≤◌, ◌⊎◌, inl, inr, ◌||◌, nat_eq, true, false, is_some, if◌then◌else◌, List, [], ◌∷◌, ◌++◌, length, drop, get_or, slice_get, slice_set, Option, Some, None, Result, Ok, Err, IfOk, IfErr, IfSome, IfNone, MatchOption, refl, sym, ap, ◌∙◌, subst, eq-eqb, arith}
+use Rattle.std.specs.Option.{option_map, option_map_or, option_and_then}
+use Rattle.std.proofs.lemmas.Bool.{false≢true}
+use Rattle.std.proofs.lemmas.Bool.Decides.{eqb_tells}
+use Rattle.std.proofs.lemmas.Option.{slice_get-get_or, slice_get_within}
+use Rattle.std.proofs.lemmas.List.{set-get_or}
+use Rattle.l4_threads.specs.declared.Reply.{Reply}
+use Rattle.l4_ipc.specs.declared.calls.Call.{Call}
+use Rattle.l4_ipc.specs.declared.steps.Step.TheVariants.{Start}
+use Rattle.l4_ipc.specs.Machine.{Machine}
+use Rattle.l4_ipc.specs.Steps.{IsIdle}
+use Rattle.l4_lock.specs.declared.entries.Entry.{Entry}
+use Rattle.l4_lock.specs.declared.entries.Receipt.{Receipt}
+use Rattle.l4_lock.specs.History.{GoesOn}
+use Rattle.l4_lock.specs.declared.entries.Pending.{Pending}
+use Rattle.l4_lock.specs.declared.refusals.Entered.{Entered}
+use Rattle.l4_lock.specs.declared.refusals.Entered.TheVariants.{Done as HasEnded, Waiting as IsWaiting}
+use Rattle.l4_lock.specs.declared.refusals.LockRefusal.{LockRefusal}
+use Rattle.l4_lock.specs.declared.refusals.LockRefusal.TheVariants.{ReplyWaiting, HistoryFull, NoMemory, SeatTaken, Kernel as ByKernel}
+use Rattle.l4_lock.specs.Books.{SeatState, seat_state, Book, book, is_among, has_ended, unended, plain, book_at, pending_at, receipts_at, reply_waits}
+use Rattle.l4_lock.specs.Locked.{Lock, Enters, Tells, Takes, Refuses, start_entry}
+use Rattle.l4_lock.proofs.Openings.{none_of}
+use Rattle.l4_seats.specs.Seated.{Seated, seated, with_number, Refuses as Declines, Enters as Entering}
+use Rattle.l4_seats.specs.Inside.Keeping.{numbers_of, seat_at, AreTheirs, AreSeats, HaveTaken, OnlyTakes, EntersAndTakes}
+use Rattle.l4_seats.proofs.Staying.{Walked, walked, lasts}
+
+-- SEATS BY PLACE AND BY NUMBER
+
+pub at_first : (xs : List SeatState) (n i : ℕ) (d : SeatState) → i < length xs → (get_or xs i d).number ≡ n → seat_at (drop i xs) n ≡ slice_get xs i
+at_first [] n i d lt is = absurd (omega (arith, lt))
+at_first (x ∷ xs) n zero d lt is = ap (λ b. if b then Some x else seat_at xs n) (eq-eqb x.number n is)
+at_first (x ∷ xs) n (suc i) d lt is = at_first xs n i d (omega (arith, lt)) is
+
+pub among_at : (xs : List SeatState) (n : ℕ) → is_among n (numbers_of xs) ≡ is_some (seat_at xs n)
+among_at [] n = refl
+among_at (x ∷ xs) n =
+    elim (nat_eq x.number n) as (λ b. (b || is_among n (numbers_of xs)) ≡ is_some (if b then Some x else seat_at xs n)) [
+      | true ↦ refl
+      | false ↦ among_at xs n
+    ]
+
+at_number : (xs : List SeatState) (n : ℕ) (s : SeatState) → seat_at xs n ≡ Some s → s.number ≡ n
+at_number [] n s is = absurd (let k : ◌≡◌ {A = Option SeatState} None (Some s) = is in cc)
+at_number (x ∷ xs) n s is =
+    elim (eqb_tells x.number n) [
+      | inl same ↦
+          let e : ◌≡◌ {A = Option SeatState} (Some x) (Some s) = sym (ap (λ b. if b then Some x else seat_at xs n) same.0) ∙ is in
+          let v : x ≡ s = cc in
+          ap (λ (y : SeatState). y.number) (sym v) ∙ same.1
+      | inr ne ↦ at_number xs n s (sym (ap (λ b. if b then Some x else seat_at xs n) ne.0) ∙ is)
+    ]
+
+set_here : (xs : List SeatState) (i : ℕ) (c : SeatState) → i < length xs → slice_get (slice_set xs i c) i ≡ Some c
+set_here [] i c lt = absurd (omega (arith, lt))
+set_here (x ∷ xs) zero c lt = refl
+set_here (x ∷ xs) (suc i) c lt = set_here xs i c (omega (arith, lt))
+
+set_there : (xs : List SeatState) (i : ℕ) (c : SeatState) (k : ℕ) → k ≢ i → slice_get (slice_set xs i c) k ≡ slice_get xs k
+set_there [] i c k ne = refl
+set_there (x ∷ xs) zero c zero ne = absurd (ne refl)
+set_there (x ∷ xs) zero c (suc k) ne = refl
+set_there (x ∷ xs) (suc i) c zero ne = refl
+set_there (x ∷ xs) (suc i) c (suc k) ne = set_there xs i c k (λ e. ne (ap suc e))
+
+numbers_set : (xs : List SeatState) (i : ℕ) (c d : SeatState) → i < length xs → c.number ≡ (get_or xs i d).number → numbers_of (slice_set xs i c) ≡ numbers_of xs
+numbers_set [] i c d lt is = absurd (omega (arith, lt))
+numbers_set (x ∷ xs) zero c d lt is = ap (λ n. n ∷ numbers_of xs) is
+numbers_set (x ∷ xs) (suc i) c d lt is = ap (λ (l : List ℕ). x.number ∷ l) (numbers_set xs i c d (omega (arith, lt)) is)
+
+pub length_numbers : (xs : List SeatState) → length xs ≡ length (numbers_of xs)
+length_numbers [] = refl
+length_numbers (x ∷ xs) = ap suc (length_numbers xs)
+
+-- what stands at the place
+there : (xs : List SeatState) (i : ℕ) (s : SeatState) → i < length xs → s ≡ get_or xs i s → slice_get xs i ≡ Some s
+there xs i s lt read = slice_get-get_or xs i s lt ∙ ap (λ (x : SeatState). Some x) (sym read)
+
+same_seat : (x y : SeatState) → ◌≡◌ {A = Option SeatState} (Some x) (Some y) → x ≡ y
+same_seat x y e = cc
+
+-- a seat of another number stands at another place
+apart : (xs : List SeatState) (i k : ℕ) (s x : SeatState) → slice_get xs i ≡ Some s → slice_get xs k ≡ Some x → x.number ≢ s.number → k ≢ i
+apart xs i k s x at at' ne same = ne (ap (λ (y : SeatState). y.number) (same_seat x s (sym at' ∙ ap (slice_get xs) same ∙ at)))
+
+-- BOOKS
+
+abbrev pending_in : Option Book → Option Pending
+pending_in o = option_and_then (λ (b : Book). b.pending) o
+
+none_waits : (books : List Book) (n : ℕ) → pending_at books n ≡ None → reply_waits books n ≡ false
+none_waits books n none = ap (λ (o : Option Pending). option_map_or has_ended o false) none
+
+some_plain : (o : Option Book) → is_some (option_map plain o) ≡ is_some o
+some_plain None = refl
+some_plain (Some b) = refl
+
+some_receipts : (o : Option Book) → is_some (option_map (λ (b : Book). b.receipts) o) ≡ is_some o
+some_receipts None = refl
+some_receipts (Some b) = refl
+
+some_more : (f : List Receipt → List Receipt) (o : Option (List Receipt)) → is_some (option_map f o) ≡ is_some o
+some_more f None = refl
+some_more f (Some rs) = refl
+
+some_unended : (o : Option Pending) → is_some (option_map unended o) ≡ is_some o
+some_unended None = refl
+some_unended (Some p) = refl
+
+pending_plain : (o : Option Book) → is_some (pending_in (option_map plain o)) ≡ is_some (pending_in o)
+pending_plain None = refl
+pending_plain (Some b) = some_unended b.pending
+
+-- ONE SEAT CHANGES
+
+-- a call of the seat's number was entered or taken: the book is there as before, and where its call isn't taken the seat waits
+changed : (books later : List Book) (xs : List SeatState) (i : ℕ) (s after : SeatState) → i < length xs → s ≡ get_or xs i s → after.number ≡ s.number
+    → is_some (book_at later s.number) ≡ is_some (book_at books s.number) → (pending_at later s.number ≡ None) ⊎ (after.waiting ≢ 0)
+    → ((m : ℕ) → m ≢ s.number → option_map plain (book_at later m) ≡ option_map plain (book_at books m))
+    → AreTheirs books xs → AreTheirs later (slice_set xs i after)
+changed books later xs i s after lt read number there_too own others h =
+    let at : slice_get xs i ≡ Some s = there xs i s lt read in
+    let same_numbers : numbers_of (slice_set xs i after) ≡ numbers_of xs = numbers_set xs i after s lt (number ∙ ap (λ (x : SeatState). x.number) read) in
+    record {
+      given = λ m.
+          elim (eqb_tells m s.number) [
+            | inl same ↦ ap (λ k. is_some (book_at later k)) same.1 ∙ there_too ∙ ap (λ k. is_some (book_at books k)) (sym same.1) ∙ h.given m ∙ ap (is_among m) (sym same_numbers)
+            | inr ne ↦ sym (some_plain (book_at later m)) ∙ ap is_some (others m ne.1) ∙ some_plain (book_at books m) ∙ h.given m ∙ ap (is_among m) (sym same_numbers)
+          ];
+      held = λ m.
+          elim (eqb_tells m s.number) [
+            | inl same ↦ elim own [
+              | inl none ↦ inl (ap (pending_at later) same.1 ∙ none)
+              | inr waits ↦ inr (record { place = i; seat = after; at = set_here xs i after lt; number = number ∙ sym same.1; waits = waits })
+            ]
+            | inr ne ↦ elim (h.held m) [
+              | inl none ↦ inl (none_of (pending_at later m) (sym (pending_plain (book_at later m)) ∙ ap (λ (o : Option Book). is_some (pending_in o)) (others m ne.1) ∙ pending_plain (book_at books m) ∙ ap is_some none))
+              | inr w ↦ inr (record {
+                place = w.place;
+                seat = w.seat;
+                at = set_there xs i after w.place (apart xs i w.place s w.seat at w.at (λ e. ne.1 (sym w.number ∙ e))) ∙ w.at;
+                number = w.number;
+                waits = w.waits;
+              })
+            ]
+          ];
+    }
+
+-- TAKING
+
+-- so far the first seats have taken their replies
+pub record Taking (old : Lock) (first : List SeatState) (l : Lock) (seats : List SeatState) (i : ℕ) : Type 0 where
+  pub theirs : AreTheirs l.books seats
+  pub have : HaveTaken l.books seats i
+  pub numbers : numbers_of seats ≡ numbers_of first
+  pub same : OnlyTakes old l
+
+pub taking_none : (l : Lock) (seats : List SeatState) → AreTheirs l.books seats → Taking l seats l seats 0
+taking_none l seats theirs = record { theirs = theirs; have = λ k s lt. absurd (omega (arith, lt)); numbers = refl; same = (refl, refl, refl, refl) }
+
+last_or : (k i : ℕ) → k < i + 1 → (k < i) ⊎ (k ≡ i)
+last_or k i lt = elim (eqb_tells k i) [ inl same ↦ inr same.1 | inr ne ↦ inl (let n = ne.1 in omega (arith, lt, n)) ]
+
+pub taking_more : (old l new : Lock) (first seats : List SeatState) (i : ℕ) (s after : SeatState) (r : Option Reply) → i < length seats → s ≡ get_or seats i s
+    → IfSome r (λ reply. Takes l new s after (λ call. call) reply)
+    → IfNone r ((new ≡ l) × (after ≡ s) × ((s.waiting ≡ 0) ⊎ (reply_waits l.books s.number ≡ false)))
+    → Taking old first l seats i → Taking old first new (slice_set seats i after) (i + 1)
+taking_more old l new first seats i s after None lt read some none t =
+    let at : slice_get seats i ≡ Some s = there seats i s lt read in
+    let back : slice_set seats i after ≡ seats = ap (slice_set seats i) (none.1 ∙ read) ∙ set-get_or seats i s in
+    let more : HaveTaken l.books seats (i + 1) = λ k x less at' waits.
+    elim (last_or k i less) [
+      | inl before ↦ t.have k x before at' waits
+      | inr same ↦
+          let is : x ≡ s = same_seat x s (sym at' ∙ ap (slice_get seats) same ∙ at) in
+          elim none.2 [
+            | inl nothing ↦ absurd (waits (ap (λ (y : SeatState). y.waiting) is ∙ nothing))
+            | inr quiet ↦ ap (λ (y : SeatState). reply_waits l.books y.number) is ∙ quiet
+          ]
+    ] in
+    subst (λ (x : Lock). Taking old first x (slice_set seats i after) (i + 1)) (sym none.0)
+    (subst (λ (xs : List SeatState). Taking old first l xs (i + 1)) (sym back) (record { theirs = t.theirs; have = more; numbers = t.numbers; same = t.same }))
+taking_more old l new first seats i s after (Some reply) lt read x none t =
+    let at : slice_get seats i ≡ Some s = there seats i s lt read in
+    let number : after.number ≡ s.number = x.settles.number in
+    let cleared : pending_at new.books s.number ≡ None = ap pending_in x.settled ∙ ap (λ (b : Book). b.pending) x.settles.book_is in
+    let theirs : AreTheirs new.books (slice_set seats i after) =
+    changed l.books new.books seats i s after lt read number (ap is_some x.settled ∙ sym (ap is_some x.at)) (inl cleared) (λ m ne. ap (option_map plain) (x.others m ne)) t.theirs in
+    record {
+      theirs = theirs;
+      have = λ k y less at' waits.
+          elim (eqb_tells y.number s.number) [
+            | inl same ↦ ap (reply_waits new.books) same.1 ∙ none_waits new.books s.number cleared
+            | inr ne ↦
+                let other : k ≢ i = λ e. ne.1 (ap (λ (z : SeatState). z.number) (same_seat y after (sym at' ∙ ap (slice_get (slice_set seats i after)) e ∙ set_here seats i after lt)) ∙ number) in
+                ap (λ (o : Option Book). option_map_or has_ended (pending_in o) false) (x.others y.number ne.1)
+                ∙ t.have k y (omega (arith, less, other)) (sym (set_there seats i after k other) ∙ at') waits
+          ];
+      numbers = numbers_set seats i after s lt (number ∙ ap (λ (z : SeatState). z.number) read) ∙ t.numbers;
+      same = (x.same.0 ∙ t.same.0, x.same.1 ∙ t.same.1, x.same.2 ∙ t.same.2, x.same.3 ∙ t.same.3);
+    }
+
+pub taking_done : (old l : Lock) (first seats : List SeatState) (i : ℕ) → length seats ≤ i → Taking old first l seats i → AreSeats l.books seats
+taking_done old l first seats i all t = record {
+  theirs = t.theirs;
+  taken = λ n.
+      elim (t.theirs.held n) [
+        | inl none ↦ none_waits l.books n none
+        | inr w ↦ ap (reply_waits l.books) (sym w.number)
+            ∙ t.have w.place w.seat (let lt = slice_get_within seats w.place w.seat w.at in omega (arith, lt, all)) w.at w.waits
+      ];
+}
+
+-- ENTERING
+
+pub entered : (old new : Lock) (seats : List SeatState) (i : ℕ) (s after : SeatState) (n : ℕ) (call : Call) (e : Entered) → i < length seats → s ≡ get_or seats i s → s.number ≡ n
+    → AreTheirs old.books seats → Enters old new n call → Tells old new s after call e
+    → AreTheirs new.books (slice_set seats i after) × (numbers_of (slice_set seats i after) ≡ numbers_of seats)
+entered old new seats i s after n call (HasEnded reply) lt read is h x t =
+    let own : is_some (book_at new.books s.number) ≡ is_some (book_at old.books s.number) =
+    sym (some_receipts (book_at new.books s.number)) ∙ ap is_some t.kept ∙ some_more _ (receipts_at old.books s.number) ∙ some_receipts (book_at old.books s.number) in (
+      changed old.books new.books seats i s after lt read t.gains.number own (inl t.taken) (λ m ne. x.others m (λ e. ne (e ∙ sym is))) h,
+      numbers_set seats i after s lt (t.gains.number ∙ ap (λ (z : SeatState). z.number) read),
+    )
+entered old new seats i s after n call IsWaiting lt read is h x t =
+    let own : is_some (book_at new.books s.number) ≡ is_some (book_at old.books s.number) =
+    sym (some_receipts (book_at new.books s.number)) ∙ ap is_some t.kept ∙ some_receipts (book_at old.books s.number) in
+    let number : after.number ≡ s.number = ap (λ (z : SeatState). z.number) t.seat in
+    let waits : after.waiting ≢ 0 = λ nothing. (let w = ap (λ (z : SeatState). z.waiting) t.seat in absurd (omega (arith, w, nothing))) in (
+      changed old.books new.books seats i s after lt read number own (inr waits) (λ m ne. x.others m (λ e. ne (e ∙ sym is))) h,
+      numbers_set seats i after s lt (number ∙ ap (λ (z : SeatState). z.number) read),
+    )
+
+-- the seat at the place of its number
+pub numbered : (seats : List SeatState) (i n : ℕ) (s : SeatState) → i < length seats → s ≡ get_or seats i s → seat_at seats n ≡ slice_get seats i → s.number ≡ n
+numbered seats i n s lt read at = at_number seats n s (at ∙ there seats i s lt read)
+
+-- and it is among the numbers
+pub among : (seats : List SeatState) (i n : ℕ) → i < length seats → seat_at seats n ≡ slice_get seats i → is_among n (numbers_of seats) ≡ true
+among [] i n lt at = absurd (omega (arith, lt))
+among (x ∷ xs) i n lt at = among_at (x ∷ xs) n ∙ ap is_some (at ∙ slice_get-get_or (x ∷ xs) i x lt)
+
+pub not_among : (seats : List SeatState) (n : ℕ) → seat_at seats n ≡ None → is_among n (numbers_of seats) ≡ false
+not_among seats n none = among_at seats n ∙ ap is_some none
+
+-- why a call of a number that has its seat is refused
+pub declines : (l : Lock) (seats : List SeatState) (n : ℕ) (call : Call) (e : LockRefusal) → AreSeats l.books seats → is_among n (numbers_of seats) ≡ true → Refuses l n call e
+    → Declines l.kernel (length l.history) (numbers_of seats) n call e
+declines l seats n call ReplyWaiting h has x = absurd (false≢true (sym (h.taken n) ∙ x))
+declines l seats n call HistoryFull h has x = (has, x.1)
+declines l seats n call NoMemory h has x = (has, x.1)
+declines l seats n call SeatTaken h has x = x
+declines l seats n call (ByKernel e) h has x =
+    elim x.2 [
+      | inl none ↦ absurd (false≢true (sym (ap is_some none.0) ∙ h.theirs.given n ∙ has))
+      | inr k ↦ inr ((has, x.1), k.1)
+    ]
+
+pub entering : (old between new : Lock) (first : List SeatState) (n seen : ℕ) (numbers : List ℕ) (call : Call) → is_among n (numbers_of first) ≡ true → Enters old between n call → OnlyTakes between new
+    → IsIdle new.kernel → numbers ≡ numbers_of first → Entering (seated old.kernel old.history (numbers_of first) seen) (seated new.kernel new.history numbers seen) n call
+entering old between new first n seen numbers call has x takes idle same =
+    let goes : GoesOn x.started n x.rest new.kernel = subst (λ (m : Machine). GoesOn x.started n x.rest m) (sym takes.1) x.goes in
+    let w : Walked x.started n x.rest new.kernel = walked x.started n x.rest new.kernel goes in
+    record {
+      can = (has, x.room);
+      answer = x.answer;
+      started = x.started;
+      starts = x.starts;
+      steps = w.steps;
+      next = w.next;
+      idle = idle;
+      history = takes.2 ∙ x.history ∙ (λ i. old.history ++ start_entry n call x.answer ∷ w.are i);
+      same = (same, refl);
+      start_lasts = lasts old.kernel x.started (Start n call) x.answer n x.rest new.kernel x.starts goes;
+      steps_last = w.last;
+    }
+
+-- the clauses of a call, by the value that its holder sees
+pub ok_enters : {T : Type 0} (r : Result T LockRefusal) (s : Seated) (old new : Lock) (first seats : List SeatState) (n seen : ℕ) (call : Call) → is_among n (numbers_of first) ≡ true
+    → seated old.kernel old.history (numbers_of first) seen ≡ s
+    → IfOk r (λ _. EntersAndTakes old new n call × IsIdle new.kernel × AreSeats new.books seats × (numbers_of seats ≡ numbers_of first))
+    → IfOk r (λ _. Entering s (seated new.kernel new.history (numbers_of seats) seen) n call)
+ok_enters (Ok x) s old new first seats n seen call has is h =
+    subst (λ (v : Seated). Entering v (seated new.kernel new.history (numbers_of seats) seen) n call) is (entering old h.0.0 new first n seen (numbers_of seats) call has h.0.1 h.0.2 h.1 h.3)
+ok_enters (Err e) s old new first seats n seen call has is h = h
+
+pub err_enters : {T : Type 0} (r : Result T LockRefusal) (s : Seated) (old new : Lock) (first seats : List SeatState) (n seen : ℕ) (call : Call) → AreSeats old.books first → is_among n (numbers_of first) ≡ true
+    → seated old.kernel old.history (numbers_of first) seen ≡ s
+    → IfErr r (λ e. Refuses old n call e × (new ≡ old) × (seats ≡ first))
+    → IfErr r (λ e. Declines s.machine (length s.history) s.numbers n call e × (seated new.kernel new.history (numbers_of seats) seen ≡ s))
+err_enters (Ok x) s old new first seats n seen call right has is h = h
+err_enters (Err e) s old new first seats n seen call right has is h = (
+  subst (λ (v : Seated). Declines v.machine (length v.history) v.numbers n call e) is (declines old first n call e right has h.0),
+  (λ i. seated (h.1 i).kernel (h.1 i).history (numbers_of (h.2 i)) seen) ∙ is,
+)
+
+-- GIVING
+
+pub found : (xs : List SeatState) (n : ℕ) (r : Option ℕ) → MatchOption r (seat_at xs n ≡ None) (λ at. (at < length xs) × (seat_at xs n ≡ slice_get xs at)) → is_some r ≡ true
+    → is_among n (numbers_of xs) ≡ true
+found xs n None h is = absurd (false≢true is)
+found xs n (Some at) h is = among xs at n h.0 h.1
+
+pub not_found : (xs : List SeatState) (n : ℕ) (r : Option ℕ) → MatchOption r (seat_at xs n ≡ None) (λ at. (at < length xs) × (seat_at xs n ≡ slice_get xs at)) → is_some r ≡ false
+    → is_among n (numbers_of xs) ≡ false
+not_found xs n None h is = not_among xs n h
+not_found xs n (Some at) h is = absurd (false≢true (sym is))
+
+-- a number that has its seat is given none
+pub given_already : (s : Seated) (n : ℕ) → is_among n s.numbers ≡ true → s ≡ record s { numbers = with_number s.numbers n }
+given_already s n has = λ i. record s { numbers = (ap (λ b. if b then s.numbers else s.numbers ++ n ∷ []) (sym has)) i }
+
+pub given_now : (m : Machine) (es : List Entry) (xs : List SeatState) (n seen : ℕ) (s : SeatState) → is_among n (numbers_of xs) ≡ false → s.number ≡ n
+    → seated m es (numbers_of (xs ++ s ∷ [])) seen ≡ seated m es (with_number (numbers_of xs) n) seen
+given_now m es xs n seen s none is =
+    ap (λ (l : List ℕ). seated m es l seen) (numbers_more xs s ∙ ap (λ k. numbers_of xs ++ k ∷ []) is ∙ ap (λ b. if b then numbers_of xs else numbers_of xs ++ n ∷ []) (sym none)) where
+      numbers_more : (ys : List SeatState) (y : SeatState) → numbers_of (ys ++ y ∷ []) ≡ numbers_of ys ++ y.number ∷ []
+      numbers_more [] y = refl
+      numbers_more (x ∷ ys) y = ap (λ (l : List ℕ). x.number ∷ l) (numbers_more ys y)
+
+among_more : (xs : List SeatState) (s : SeatState) (m : ℕ) → is_among m (numbers_of (xs ++ s ∷ [])) ≡ (is_among m (numbers_of xs) || (nat_eq s.number m || false))
+among_more [] s m = refl
+among_more (x ∷ xs) s m =
+    elim (nat_eq x.number m) as (λ b. (b || is_among m (numbers_of (xs ++ s ∷ []))) ≡ ((b || is_among m (numbers_of xs)) || (nat_eq s.number m || false))) [
+      | true ↦ refl
+      | false ↦ among_more xs s m
+    ]
+
+book_more : (books : List Book) (b : Book) (m : ℕ) → is_some (book_at (books ++ b ∷ []) m) ≡ (is_some (book_at books m) || (nat_eq b.number m || false))
+book_more [] b m = elim (nat_eq b.number m) as (λ v. is_some (if v then Some b else None) ≡ (v || false)) [ true ↦ refl | false ↦ refl ]
+book_more (x ∷ books) b m =
+    elim (nat_eq x.number m) as (λ v. is_some (if v then Some x else book_at (books ++ b ∷ []) m) ≡ (is_some (if v then Some x else book_at books m) || (nat_eq b.number m || false))) [
+      | true ↦ refl
+      | false ↦ book_more books b m
+    ]
+
+pending_more : (books : List Book) (n m : ℕ) → pending_at (books ++ book n None [] ∷ []) m ≡ pending_at books m
+pending_more [] n m = elim (nat_eq n m) as (λ v. pending_in (if v then Some (book n None []) else None) ≡ None) [ true ↦ refl | false ↦ refl ]
+pending_more (x ∷ books) n m =
+    elim (nat_eq x.number m) as (λ v. pending_in (if v then Some x else book_at (books ++ book n None [] ∷ []) m) ≡ pending_in (if v then Some x else book_at books m)) [
+      | true ↦ refl
+      | false ↦ pending_more books n m
+    ]
+
+get_front : (xs ys : List SeatState) (k : ℕ) (s : SeatState) → slice_get xs k ≡ Some s → slice_get (xs ++ ys) k ≡ Some s
+get_front [] ys k s is = absurd (let e : ◌≡◌ {A = Option SeatState} None (Some s) = is in cc)
+get_front (x ∷ xs) ys zero s is = is
+get_front (x ∷ xs) ys (suc k) s is = get_front xs ys k s is
+
+-- one seat more, which has entered nothing
+pub one_more : (books : List Book) (xs : List SeatState) (n : ℕ) → AreSeats books xs → AreSeats (books ++ book n None [] ∷ []) (xs ++ seat_state n 0 [] ∷ [])
+one_more books xs n h = record {
+  theirs = record {
+    given = λ m. book_more books (book n None []) m ∙ ap (λ b. b || (nat_eq n m || false)) (h.theirs.given m) ∙ sym (among_more xs (seat_state n 0 []) m);
+    held = λ m.
+        elim (h.theirs.held m) [
+          | inl none ↦ inl (pending_more books n m ∙ none)
+          | inr w ↦ inr (record { place = w.place; seat = w.seat; at = get_front xs (seat_state n 0 [] ∷ []) w.place w.seat w.at; number = w.number; waits = w.waits })
+        ];
+  };
+  taken = λ m. ap (λ (o : Option Pending). option_map_or has_ended o false) (pending_more books n m) ∙ h.taken m;
+}
