@@ -1,0 +1,25 @@
+-- What is so or isn't.
+use Rattle.std.proofs.Common.{◌≡◌, ◌≢◌, ℕ, ◌<◌, ◌≤◌, ◌==◌, Bool, true, false, ◌⊎◌, inl, inr, refl, ap, arith}
+use Rattle.std.proofs.lemmas.Bool.Decides.{nat_tests}
+use Rattle.std.proofs.lemmas.Bool.{cases_lt}
+use Rattle.l4_fpage.specs.Rights.{RightsSet, no_rights}
+
+-- two numbers are one or not
+pub same_or : (a b : ℕ) → (a ≡ b) ⊎ (a ≢ b)
+same_or a b = elim (a == b) as (λ t. (a == b) ≡ t → (a ≡ b) ⊎ (a ≢ b)) [
+  | true ↦ λ t. inl (grind (arith, nat_tests))
+  | false ↦ λ t. inr (grind (arith, nat_tests))
+] refl
+
+-- one number is below another or not
+pub less_or : (a b : ℕ) → (a < b) ⊎ (b ≤ a)
+less_or a b = cases_lt a b
+
+-- a set of rights is empty or not
+pub none_or : (a : RightsSet) → (a ≡ no_rights) ⊎ (a ≢ no_rights)
+none_or a = by_bits a.r a.w a.x where
+  by_bits : (r w x : Bool) → ◌≡◌ {A = RightsSet} (record { r = r; w = w; x = x }) no_rights ⊎ ◌≢◌ {A = RightsSet} (record { r = r; w = w; x = x }) no_rights
+  by_bits true w x = inr (λ e. let k : true ≡ false = ap (λ (a : RightsSet). a.r) e in cc)
+  by_bits false true x = inr (λ e. let k : true ≡ false = ap (λ (a : RightsSet). a.w) e in cc)
+  by_bits false false true = inr (λ e. let k : true ≡ false = ap (λ (a : RightsSet). a.x) e in cc)
+  by_bits false false false = inl refl

@@ -1,0 +1,11 @@
+pub mod Buried
+pub mod Capped
+pub mod Cut
+pub mod Deciding
+pub mod FirstPlaces
+pub mod Leading
+pub mod Lost
+pub mod Presence
+pub mod SpaceGone
+pub mod Taken
+pub mod View

@@ -1,0 +1,150 @@
+//! The mapping database over the list of nodes: which page of which space shows which frame, with which rights, and from which page
+//! it was mapped. Each operation touches only the nodes and pages that it moves.
+#![tactic(auto)]
+
+ghost use Rattle.std.specs.Prelude.{◌≡◌, ◌↔◌, ◌≢◌, ◌≤◌, ◌∷◌, [], IsTrue, IsOk, OnOk, OnErr, IfOk, IfErr, MatchOption, Some, None};
+ghost use Rattle.std.specs.FinSet as set;
+
+mod booting;
+mod ending;
+mod reading;
+mod revoking;
+#[cfg(test)]
+mod tests;
+
+use l4_fpage::{Block, Rights};
+use l4_links::Links;
+use l4_mapdb::{Mapping, NoMemory, Place};
+use std::alloc::Global;
+use std::marker::Model;
+
+/// The mappings of all spaces, and the spaces that there are.
+#[derive(Drop)]
+pub struct Forest {
+    links: Links,
+    /// The key of each frame's root, also once what stood under it is gone.
+    roots: Vec<Option<usize>>,
+}
+
+impl Model for Forest {
+    ghost use Rattle.l4_mapdb.specs.Mappings.{Mappings, mappings_code};
+
+    ghost Value = { Mappings };
+
+    ghost coded = { mappings_code };
+
+    ghost use Rattle.l4_forest.specs.Inside.Kept.{seen, IsKept};
+
+    ghost view = { seen };
+
+    ghost invariant = { IsKept };
+}
+
+impl Forest {
+    ghost use Rattle.l4_mapdb.specs.Mappings.{Mappings, shown, IsForest, IsRoot};
+    ghost use Rattle.l4_mapdb.specs.Boot.{IsFirst};
+    ghost use Rattle.l4_mapdb.specs.Places.{NonePresentFrom, IsNextPresent};
+    ghost use Rattle.l4_mapdb.specs.Losing.{Revokes, RevokesBlock, EndsSpace};
+
+    /// The mappings at the start: space 0 shows each frame below `frames` at the page of its number
+    /// with all rights, and there is no other space. `frames` is from 1 to 4,096.
+    pub fn new(alloc: Global, frames: u32) -> Result<Forest, NoMemory>
+        requires some { 1 ≤ frames }
+        requires fit { frames ≤ 4096 }
+        ensures { IfOk result (IsFirst frames) }
+    {
+        let mut links = Links::new(alloc);
+        links.add_space(0)?;
+        let mut roots = Vec::new(alloc);
+        booting::own_places(&mut links, &mut roots, frames)?;
+        Ok(Forest { links, roots })
+    }
+
+    /// Begins an empty space. Nothing changes if it is there.
+    pub fn new_space(&mut self, space: u64) -> Result<(), NoMemory>
+        ensures ok { OnOk result (self.new ≡ record self.old { spaces = set.insert self.old.spaces space }) }
+        ensures err { OnErr result (self.new ≡ self.old) }
+        ensures succeeds { IsTrue (set.contains self.old.spaces space) → IsOk result }
+        ensures there { IsTrue (set.contains self.old.spaces space) → self.new ≡ self.old }
+    {
+        self.links.add_space(space)
+    }
+
+    /// What the page of the space shows, None if it is not present.
+    pub fn at(&self, space: u64, page: u32) -> Option<Mapping>
+        ensures shown { result ≡ shown self.now (record { space = space; page = page }) }
+        ensures forest { IsForest self.now }
+    {
+        reading::shown_at(&self.links, Place { space, page })
+    }
+
+    /// What holds of the mappings at all times: they are trees, one for each frame that is shown. It does nothing.
+    pub fn law_forest(&self)
+        ensures { IsForest self.now }
+    {
+        let _ = &self.links;
+    }
+
+    /// The least present page of the space that is not below `page`, None where there is none.
+    pub fn next_present(&self, space: u64, page: u32) -> Option<u32>
+        ensures { MatchOption result (NonePresentFrom self.now space page) (IsNextPresent self.now space page) }
+    {
+        self.links.law_places();
+        self.links.next_key(space, page)
+    }
+
+    /// Takes the rights from all that descends from the page of the space, and from that page too
+    /// where that is asked. A place goes with its last right. Nothing changes if the page is not
+    /// present.
+    pub fn revoke(&mut self, from: Place, rights: Rights, with_self: bool)
+        ensures revokes { Revokes from rights with_self self.old self.new }
+        ensures absent { shown self.old from ≡ None → self.new ≡ self.old }
+    {
+        self.links.law_places();
+        self.links.law_trees();
+        let page = l4_links::Place {
+            space: from.space,
+            page: from.page,
+        };
+        let Some(key) = self.links.find(page) else {
+            return;
+        };
+        revoking::revoke_key(&mut self.links, key, rights, with_self);
+    }
+
+    /// Takes the rights from all that descends from a page of the block in the space, and from these pages too
+    /// where that is asked. A place goes with its last right. Nothing changes if no page of the block is present.
+    pub fn revoke_block(&mut self, space: u64, block: Block, rights: Rights, with_self: bool)
+        ensures { RevokesBlock space block.first block.log rights with_self self.old self.new }
+    {
+        self.links.law_places();
+        self.links.law_trees();
+        let end = block.first + (1 << block.log);
+        revoking::revoke_pages(&mut self.links, space, block.first, end, rights, with_self);
+    }
+
+    /// Ends a space: its places go with all that descends from them, and the space is there no longer. Nothing changes if it isn't there.
+    pub fn end_space(&mut self, space: u64)
+        ensures ends { EndsSpace space self.old self.new }
+        ensures absent { ¬ (IsTrue (set.contains self.old.spaces space)) → self.new ≡ self.old }
+    {
+        self.links.law_places();
+        self.links.law_trees();
+        ending::clear(&mut self.links, space);
+        self.links.end_space(space);
+        self.links.law_places();
+        self.links.law_trees();
+    }
+
+    /// The place without a parent that shows the frame, None if there is none.
+    pub fn root(&self, frame: u32) -> Option<Place>
+        ensures { MatchOption result ((place : Place) → ¬ (IsRoot self.now frame place)) (IsRoot self.now frame) }
+    {
+        self.links.law_places();
+        self.links.law_trees();
+        let Some(key) = reading::kept_key(&self.roots, frame) else {
+            return None;
+        };
+        reading::root_under(&self.links, frame, key)
+    }
+}
