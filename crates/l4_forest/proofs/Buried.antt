@@ -1,13 +1,12 @@
 -- What is left of keys that were capped, once those without rights have gone.
-use Rattle.std.proofs.Common.{◌≡◌, ◌≢◌, ℕ, true, false, Bool, Option, Some, None, IsTrue, ◌↔◌, ◌⊎◌, inl, inr, refl, sym, ap, ◌∙◌, option_and_then, option_map}
-use Rattle.l4_fpage.specs.Rights.{RightsSet, Right, has, common, without, no_rights, all_rights}
-use Rattle.l4_links.specs.declared.Place.{Place as LinkPlace}
+use Rattle.std.proofs.Common.{◌≡◌, ◌≢◌, ℕ, Option, Some, None, IsTrue, ◌⊎◌, inl, inr, refl, sym, ap, ◌∙◌, option_and_then, option_map}
+use Rattle.l4_fpage.specs.Rights.{RightsSet, has, common, without, no_rights, all_rights}
 use Rattle.l4_links.specs.declared.Standing.{Standing}
 use Rattle.l4_links.specs.declared.Entry.{Entry}
 use Rattle.l4_links.specs.Entries.{Entries, Linked, entry_at, standing_at, Buries, capped}
 use Rattle.l4_mapdb.proofs.Unique.{same_value, same_rights}
 use Rattle.l4_mapdb.proofs.Revoking.{has-without}
-use Rattle.l4_forest.specs.Inside.Kept.{IsClean, IsPlain, RootsKnown}
+use Rattle.l4_forest.specs.Inside.Kept.{IsClean, IsPlain}
 use Rattle.l4_forest.specs.Inside.Cuts.{CapsKeys, CutsKeys}
 use Rattle.l4_forest.proofs.Lost.{HasLost, KeysLose}
 use Rattle.l4_forest.proofs.View.{some_standing, no_standing}

@@ -1,16 +1,13 @@
 -- Caps of the rights of keys, one after another, and what is left once those without rights have gone.
-use Rattle.std.proofs.Common.{◌≡◌, ◌≢◌, ℕ, ◌+◌, ◌<◌, ◌≤◌, ◌==◌, Bool, true, false, ◌&&◌, Option, Some, None, IsTrue, ◌↔◌, ◌⊎◌, inl, inr, refl, sym, ap, ◌∙◌, subst, option_and_then, option_map, arith}
-use Rattle.l4_fpage.specs.Rights.{RightsSet, Right, has, common, without, no_rights, all_rights}
+use Rattle.std.proofs.Common.{◌≡◌, ℕ, ◌+◌, ◌≤◌, Bool, true, false, ◌&&◌, Option, Some, None, IsTrue, ◌⊎◌, inl, inr, refl, sym, ap, ◌∙◌, subst, option_and_then, option_map, arith}
+use Rattle.l4_fpage.specs.Rights.{RightsSet, common}
 use Rattle.l4_links.specs.declared.Place.{Place as LinkPlace}
 use Rattle.l4_links.specs.declared.Standing.{Standing}
 use Rattle.l4_links.specs.declared.Entry.{Entry}
 use Rattle.l4_links.specs.Leads.{Leads, step, steps}
-use Rattle.l4_links.specs.Entries.{Entries, Linked, entry_at, standing_at, parent_of, Descends, IsAt, HavePlaces, AreTrees, CapsBelow, CapsTree, Buries, NoKeyIn, IsNextKeyIn, capped}
-use Rattle.l4_mapdb.proofs.Unique.{same_value}
-use Rattle.l4_forest.specs.Inside.Kept.{IsClean}
-use Rattle.l4_forest.specs.Inside.Cuts.{IsPageKey, IsOver, IsCovered, CapsKeys, CutsKeys}
+use Rattle.l4_links.specs.Entries.{Entries, Linked, entry_at, parent_of, Descends, IsAt, HavePlaces, AreTrees, CapsBelow, CapsTree, NoKeyIn, IsNextKeyIn, capped}
+use Rattle.l4_forest.specs.Inside.Cuts.{IsPageKey, IsOver, IsCovered, CapsKeys}
 use Rattle.l4_forest.proofs.Deciding.{same_or, less_or}
-use Rattle.l4_forest.proofs.View.{stands_at}
 
 -- chains go along equal parents
 pub leads_along : (f g : ℕ → Option ℕ) → ((key : ℕ) → f key ≡ g key) → {low high : ℕ} → Leads f low high → Leads g low high

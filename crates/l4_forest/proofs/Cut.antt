@@ -1,22 +1,20 @@
 -- A revocation of keys is one of places, and leaves a forest.
-use Rattle.std.proofs.Common.{◌≡◌, ◌≢◌, ℕ, ◌+◌, ◌^◌, Bool, Option, Some, None, IsTrue, ◌↔◌, ◌⊎◌, inl, inr, refl, sym, ap, ◌∙◌, subst, slice_get, List, arith, option_map}
+use Rattle.std.proofs.Common.{◌≡◌, ℕ, ◌+◌, ◌^◌, Bool, Option, Some, IsTrue, ◌↔◌, ◌⊎◌, inl, inr, sym, ap, ◌∙◌, slice_get, List, arith, option_map}
 use Rattle.l4_fpage.specs.Rights.{RightsSet, Right, has}
-use Rattle.l4_fpage.specs.Pages.{InBlock}
 use Rattle.l4_links.specs.declared.Place.{Place as LinkPlace}
-use Rattle.l4_links.specs.declared.Standing.{Standing}
 use Rattle.l4_links.specs.declared.Entry.{Entry}
-use Rattle.l4_links.specs.Entries.{Entries, Linked, entry_at, standing_at, IsAt, HavePlaces, AreTrees}
+use Rattle.l4_links.specs.Entries.{Entries, Linked, entry_at, IsAt, HavePlaces, AreTrees}
 use Rattle.l4_mapdb.specs.declared.Place.{Place}
 use Rattle.l4_mapdb.specs.declared.Mapping.{Mapping}
 use Rattle.l4_mapdb.specs.Mappings.{Mappings, shown, Descends, child, further, IsForest}
-use Rattle.l4_mapdb.specs.Losing.{LosesRights, RevokedAt, Revokes, RevokedInBlock, RevokesBlock}
+use Rattle.l4_mapdb.specs.Losing.{RevokedAt, Revokes, RevokedInBlock, RevokesBlock}
 use Rattle.l4_mapdb.proofs.ForestKept.{forest_kept, forest_loose}
 use Rattle.l4_mapdb.proofs.Nothing.{loses_none}
 use Rattle.l4_mapdb.proofs.Unique.{same_value}
 use Rattle.l4_forest.specs.declared.Forest.TheInside.{Inside}
 use Rattle.l4_forest.specs.Inside.View.{link_place, map_place, mappings_of}
 use Rattle.l4_forest.specs.Inside.Kept.{IsClean, RootsKnown, IsKept}
-use Rattle.l4_forest.specs.Inside.Cuts.{IsPageKey, IsOver, IsCovered, CutsKeys}
+use Rattle.l4_forest.specs.Inside.Cuts.{IsOver, IsCovered, CutsKeys}
 use Rattle.l4_forest.proofs.Lost.{view_loses}
 use Rattle.l4_forest.proofs.Buried.{cut_clean, cut_loses}
 use Rattle.l4_forest.proofs.View.{at_place, some_standing, stands_at, descends_by_key, key_above, shown_by_key}

@@ -1,21 +1,20 @@
 -- The places at the start, frame by frame.
-use Rattle.std.proofs.Common.{◌≡◌, ◌≢◌, ℕ, zero, suc, ◌+◌, ◌<◌, ◌≤◌, ◌++◌, [], ◌∷◌, length, List, true, false, Option, Some, None, IsTrue, ◌⊎◌, inl, inr, refl, sym, ap, ◌∙◌, subst, slice_get, option_and_then, option_map, arith}
+use Rattle.std.proofs.Common.{◌≡◌, ◌≢◌, ℕ, zero, suc, ◌+◌, ◌≤◌, ◌++◌, [], ◌∷◌, length, List, true, false, Option, Some, None, inl, inr, refl, sym, ap, ◌∙◌, slice_get, option_map, arith}
 use Rattle.std.specs.Ordering.{nat_cmp}
 use Rattle.std.specs.FinSet as set
-use Rattle.l4_fpage.specs.Rights.{RightsSet, all_rights, no_rights}
+use Rattle.l4_fpage.specs.Rights.{RightsSet, all_rights}
 use Rattle.l4_links.specs.declared.Place.{Place as LinkPlace}
 use Rattle.l4_links.specs.declared.Standing.{Standing}
 use Rattle.l4_links.specs.declared.Entry.{Entry}
-use Rattle.l4_links.specs.Entries.{Entries, Linked, entry_at, standing_at, IsAt, HavePlaces, AddsBlank, Stands}
-use Rattle.l4_mapdb.specs.declared.Place.{Place}
+use Rattle.l4_links.specs.Entries.{Entries, Linked, entry_at, IsAt, HavePlaces, AddsBlank, Stands}
 use Rattle.l4_mapdb.specs.declared.Mapping.{Mapping}
-use Rattle.l4_mapdb.specs.Mappings.{Mappings, shown}
+use Rattle.l4_mapdb.specs.Mappings.{shown}
 use Rattle.l4_mapdb.specs.Boot.{IsFirst}
 use Rattle.l4_mapdb.proofs.ForestEnds.{first_forest}
 use Rattle.l4_mapdb.proofs.Unique.{same_value}
 use Rattle.l4_forest.specs.declared.Forest.TheInside.{Inside}
-use Rattle.l4_forest.specs.Inside.View.{link_place, map_place, mapping_of, mappings_of}
-use Rattle.l4_forest.specs.Inside.Kept.{IsKept, IsPlain, IsClean, RootsKnown, OwnsFirst, own_entry}
+use Rattle.l4_forest.specs.Inside.View.{link_place, mapping_of, mappings_of}
+use Rattle.l4_forest.specs.Inside.Kept.{IsKept, IsClean, RootsKnown, OwnsFirst, own_entry}
 use Rattle.l4_forest.proofs.View.{some_entry, some_standing, shown_by_key, key_shows}
 use Rattle.l4_forest.proofs.Deciding.{same_or}
 

@@ -1,6 +1,11 @@
 -- Chains of keys.
-use Rattle.std.proofs.Common.{◌≡◌, ℕ, Option, Some, None, sym, ap, ◌∙◌}
+use Rattle.std.proofs.Common.{◌≡◌, ℕ, Option, sym, ◌∙◌}
 use Rattle.l4_links.specs.Leads.{Leads, step, steps}
+
+-- chains go along equal parents
+pub leads_along : (f g : ℕ → Option ℕ) → ((key : ℕ) → f key ≡ g key) → {low high : ℕ} → Leads f low high → Leads g low high
+leads_along f g same {low} (step is) = step (sym (same low) ∙ is)
+leads_along f g same {low} (steps is rest) = steps (sym (same low) ∙ is) (leads_along f g same rest)
 
 -- chains one after another are a chain
 pub leads_on : (f : ℕ → Option ℕ) {low middle high : ℕ} → Leads f low middle → Leads f middle high → Leads f low high

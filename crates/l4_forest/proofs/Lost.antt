@@ -7,11 +7,11 @@ use Rattle.l4_links.specs.declared.Entry.{Entry}
 use Rattle.l4_links.specs.Entries.{Entries, Linked, entry_at, HavePlaces, AreTrees}
 use Rattle.l4_mapdb.specs.declared.Place.{Place}
 use Rattle.l4_mapdb.specs.declared.Mapping.{Mapping}
-use Rattle.l4_mapdb.specs.Mappings.{Mappings, shown}
+use Rattle.l4_mapdb.specs.Mappings.{shown}
 use Rattle.l4_mapdb.specs.Losing.{IsLeft, LosesRights}
 use Rattle.l4_mapdb.proofs.Unique.{same_rights}
-use Rattle.l4_forest.specs.Inside.View.{link_place, map_place, place_at, mapping_of, mappings_of, IsShown}
-use Rattle.l4_forest.proofs.View.{shown_by_key, key_shows, stands_at, some_standing}
+use Rattle.l4_forest.specs.Inside.View.{link_place, map_place, place_at, mapping_of, mappings_of}
+use Rattle.l4_forest.proofs.View.{shown_by_key, stands_at, some_standing}
 
 -- the second is the first without these rights, of which there is one
 pub record HasLost (Lost : Right → Type 0) (old : Entry) (had : Standing) (new : Entry) (has_now : Standing) : Type 0 where

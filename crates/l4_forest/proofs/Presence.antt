@@ -1,14 +1,14 @@
 -- Which places are present, and where the roots stand, by the keys.
-use Rattle.std.proofs.Common.{◌≡◌, ◌≢◌, ℕ, ◌≤◌, true, false, Bool, List, Option, Some, None, is_some, IsTrue, ◌↔◌, refl, sym, ap, ◌∙◌, subst, slice_get, option_and_then, option_map, MatchOption, OnOk, OnErr, Result, Ok, Err, length, ◌<◌, slice_index_or}
+use Rattle.std.proofs.Common.{◌≡◌, ℕ, ◌≤◌, true, false, List, Option, Some, None, is_some, IsTrue, refl, sym, ap, ◌∙◌, subst, slice_get, option_and_then, option_map, MatchOption, OnOk, OnErr, Result, Ok, Err, length, ◌<◌, slice_index_or}
 use Rattle.std.proofs.lemmas.Option.{slice_get_past, slice_get-get_or}
 use Rattle.std.specs.FinSet as set
 use Rattle.l4_links.specs.declared.Place.{Place as LinkPlace}
 use Rattle.l4_links.specs.declared.Standing.{Standing}
 use Rattle.l4_links.specs.declared.Entry.{Entry}
-use Rattle.l4_links.specs.Entries.{Entries, Linked, entry_at, standing_at, IsAt, HaveRights, HasKey, NoKeyFrom, IsNextKey, HavePlaces, AreTrees}
+use Rattle.l4_links.specs.Entries.{Linked, standing_at, IsAt, HaveRights, HasKey, NoKeyFrom, IsNextKey, HavePlaces, AreTrees}
 use Rattle.l4_mapdb.specs.declared.Place.{Place}
 use Rattle.l4_mapdb.specs.declared.Mapping.{Mapping}
-use Rattle.l4_mapdb.specs.Mappings.{Mappings, shown, IsPresent, IsRoot}
+use Rattle.l4_mapdb.specs.Mappings.{shown, IsPresent, IsRoot}
 use Rattle.l4_mapdb.specs.Places.{NonePresentFrom, IsNextPresent}
 use Rattle.l4_mapdb.proofs.ForestEnds.{begins_keeps}
 use Rattle.l4_mapdb.proofs.Unique.{same_value}

@@ -1,21 +1,19 @@
 -- The end of a space, by keys and by places.
-use Rattle.std.proofs.Common.{◌≡◌, ◌≢◌, ℕ, ◌<◌, ◌^◌, true, Option, Some, None, IsTrue, ◌⊎◌, inl, inr, refl, sym, ap, ◌∙◌, subst, option_and_then, option_map, List, arith}
+use Rattle.std.proofs.Common.{◌≡◌, ℕ, ◌<◌, true, Option, Some, None, inl, inr, refl, sym, ap, ◌∙◌, subst, option_and_then, option_map, List, arith}
 use Rattle.std.specs.FinSet as set
 use Rattle.l4_spaces.specs.Tables.{space_pages}
 use Rattle.l4_links.specs.declared.Place.{Place as LinkPlace}
 use Rattle.l4_links.specs.declared.Standing.{Standing}
 use Rattle.l4_links.specs.declared.Entry.{Entry}
-use Rattle.l4_links.specs.Entries.{Entries, Linked, entry_at, standing_at, IsAt, HavePlaces, AreTrees}
+use Rattle.l4_links.specs.Entries.{Linked, entry_at, IsAt, HavePlaces, AreTrees}
 use Rattle.l4_mapdb.specs.declared.Place.{Place}
-use Rattle.l4_mapdb.specs.declared.Mapping.{Mapping}
-use Rattle.l4_mapdb.specs.Mappings.{Mappings, shown, Descends, IsOrDescends, IsForest}
 use Rattle.l4_mapdb.specs.Losing.{EndsSpace, GoesWithSpace}
 use Rattle.l4_mapdb.proofs.ForestEnds.{ends_keeps}
 use Rattle.l4_mapdb.proofs.Unique.{same_value}
 use Rattle.l4_forest.specs.declared.Forest.TheInside.{Inside}
 use Rattle.l4_forest.specs.Inside.View.{link_place, map_place, place_at, mapping_of, mappings_of}
 use Rattle.l4_forest.specs.Inside.Kept.{IsClean, RootsKnown, IsKept}
-use Rattle.l4_forest.specs.Inside.Cuts.{IsPageKey, IsOver, IsCovered, TakesKeys}
+use Rattle.l4_forest.specs.Inside.Cuts.{IsPageKey, IsCovered, TakesKeys}
 use Rattle.l4_forest.proofs.View.{at_place, some_entry, some_standing, stands_at, shown_by_key, key_above, descends_by_key}
 
 module _ (space : ℕ) (old new : Linked) (have : HavePlaces old) (trees : AreTrees old.entries) (have_new : HavePlaces new) (trees_new : AreTrees new.entries) (clean : IsClean old)

@@ -1,13 +1,12 @@
 -- Pages that go with all that descends from them, one after another.
-use Rattle.std.proofs.Common.{◌≡◌, ◌≢◌, ℕ, ◌+◌, ◌<◌, ◌≤◌, true, false, Bool, Option, Some, None, IsTrue, ◌⊎◌, inl, inr, refl, sym, ap, ◌∙◌, subst, option_and_then, option_map, cond, arith}
+use Rattle.std.proofs.Common.{◌≡◌, ◌≢◌, ℕ, ◌+◌, ◌<◌, ◌≤◌, true, Bool, Option, Some, None, ◌⊎◌, inl, inr, refl, sym, ap, ◌∙◌, subst, option_and_then, option_map, cond, arith}
 use Rattle.l4_spaces.specs.Tables.{space_pages}
 use Rattle.l4_links.specs.declared.Place.{Place as LinkPlace}
 use Rattle.l4_links.specs.declared.Standing.{Standing}
 use Rattle.l4_links.specs.declared.Entry.{Entry}
 use Rattle.l4_links.specs.Leads.{step, steps}
-use Rattle.l4_links.specs.Entries.{Entries, Linked, entry_at, standing_at, parent_of, Descends, IsAt, IsBlank, HavePlaces, AreTrees, Clears, NoKeyFrom, IsNextKey, cut_off}
-use Rattle.l4_mapdb.proofs.Unique.{same_value}
-use Rattle.l4_forest.specs.Inside.Kept.{IsClean, IsPlain}
+use Rattle.l4_links.specs.Entries.{Entries, Linked, entry_at, parent_of, Descends, IsAt, IsBlank, HavePlaces, AreTrees, Clears, NoKeyFrom, IsNextKey, cut_off}
+use Rattle.l4_forest.specs.Inside.Kept.{IsClean}
 use Rattle.l4_forest.specs.Inside.Cuts.{IsPageKey, IsOver, IsCovered, TakesKeys}
 use Rattle.l4_forest.proofs.Leading.{leads_on}
 use Rattle.l4_forest.proofs.Deciding.{same_or, less_or}

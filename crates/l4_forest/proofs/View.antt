@@ -1,5 +1,5 @@
 -- What places show, by the keys that stand there.
-use Rattle.std.proofs.Common.{◌≡◌, ◌≢◌, ℕ, zero, suc, true, false, cond, List, [], ◌∷◌, filter_map, Option, Some, None, option_and_then, option_map, ◌↔◌, refl, sym, ap, ◌∙◌, subst}
+use Rattle.std.proofs.Common.{◌≡◌, ℕ, zero, suc, true, false, cond, List, [], ◌∷◌, filter_map, Option, Some, None, option_and_then, option_map, ◌↔◌, refl, sym, ap, ◌∙◌}
 use Rattle.std.specs.FinMap.{find, get-from_entries}
 use Rattle.std.specs.List.{cons_option}
 use Rattle.std.specs.Ordering.{eq_by_cmp}
@@ -11,8 +11,8 @@ use Rattle.l4_links.specs.Entries.{Entries, Linked, entry_at, standing_at, IsAt,
 use Rattle.l4_links.specs.Entries as links
 use Rattle.l4_mapdb.specs.declared.Place.{Place}
 use Rattle.l4_mapdb.specs.declared.Mapping.{Mapping}
-use Rattle.l4_mapdb.specs.Mappings.{place_cmp, Mappings, shown, parent_of, Descends, child, further}
-use Rattle.l4_mapdb.proofs.Places.{places_total}
+use Rattle.l4_mapdb.specs.Mappings.{place_cmp, shown, parent_of, Descends, child, further}
+use Rattle.l4_mapdb.proofs.Places.{places_total, same_option, same_mappings}
 use Rattle.l4_mapdb.proofs.EntriesLemmas.{tie, untie}
 use Rattle.l4_mapdb.proofs.Unique.{same_value}
 use Rattle.l4_forest.specs.Inside.View.{link_place, map_place, place_at, mapping_of, shown_by, shown_in, mappings_of, IsShown}
@@ -240,3 +240,12 @@ descends_by_key s have trees low high p q at_low at_high = (
   λ d. down_by_key s have d low high at_low at_high,
   λ d. up_by_key s have trees d p q at_low at_high,
 )
+
+-- mappings are one where each place shows the same by its key
+pub same_view : (a b : Linked) → HavePlaces a → HavePlaces b → a.spaces ≡ b.spaces
+    → ((place : Place) (m : Mapping) → IsShown a.entries place m ↔ IsShown b.entries place m) → mappings_of a ≡ mappings_of b
+same_view a b have_a have_b spaces same =
+    same_mappings (mappings_of a) (mappings_of b) spaces
+    (λ place. same_option (IsShown b.entries place) (shown (mappings_of a) place) (shown (mappings_of b) place)
+    (λ m. (λ h. (same place m).0 ((shown_by_key a have_a place m).0 h), λ h. (shown_by_key a have_a place m).1 ((same place m).1 h)))
+    (λ m. shown_by_key b have_b place m))

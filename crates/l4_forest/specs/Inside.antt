@@ -1,3 +1,8 @@
 pub mod Cuts
+pub mod Cutting
 pub mod Kept
+pub mod Messages
+pub mod Placing
+pub mod Settling
+pub mod Tangles
 pub mod View

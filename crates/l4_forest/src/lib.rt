@@ -6,15 +6,23 @@ ghost use Rattle.std.specs.Prelude.{◌≡◌, ◌↔◌, ◌≢◌, ◌≤◌, 
 ghost use Rattle.std.specs.FinSet as set;
 
 mod booting;
+mod clearing;
+mod cutting;
 mod ending;
+mod moving;
+mod preparing;
 mod reading;
 mod revoking;
+mod room;
+mod sources;
+mod tangles;
 #[cfg(test)]
 mod tests;
+mod unmarking;
 
 use l4_fpage::{Block, Rights};
 use l4_links::Links;
-use l4_mapdb::{Mapping, NoMemory, Place};
+use l4_mapdb::{ItemMove, Mapping, NoMemory, Place};
 use std::alloc::Global;
 use std::marker::Model;
 
@@ -44,6 +52,7 @@ impl Forest {
     ghost use Rattle.l4_mapdb.specs.Mappings.{Mappings, shown, IsForest, IsRoot};
     ghost use Rattle.l4_mapdb.specs.Boot.{IsFirst};
     ghost use Rattle.l4_mapdb.specs.Places.{NonePresentFrom, IsNextPresent};
+    ghost use Rattle.l4_mapdb.specs.Transfer.{IsUsed, IsEntangled};
     ghost use Rattle.l4_mapdb.specs.Losing.{Revokes, RevokesBlock, EndsSpace};
 
     /// The mappings at the start: space 0 shows each frame below `frames` at the page of its number
@@ -91,6 +100,17 @@ impl Forest {
     {
         self.links.law_places();
         self.links.next_key(space, page)
+    }
+
+    /// Whether the used moves of a message from the one space to the other contradict each other: two
+    /// have the same target, a granted page is moved twice, or a present target is moved too or is an
+    /// ancestor of a page that is (this profile's own). It takes no memory.
+    pub fn is_entangled(&self, from: u64, to: u64, moves: &[ItemMove]) -> bool
+        ensures { IsTrue result ↔ IsEntangled (IsUsed self.now from to moves.now) self.now }
+    {
+        self.links.law_places();
+        self.links.law_trees();
+        tangles::has_tangle(&self.links, from, to, moves)
     }
 
     /// Takes the rights from all that descends from the page of the space, and from that page too

@@ -1,5 +1,5 @@
 -- What keys lose where rights are taken or a space ends. (this profile's own)
-use Rattle.std.specs.Prelude.{◌≡◌, ◌≢◌, ◌⊎◌, ℕ, ◌<◌, ◌≤◌, Bool, IsTrue, Option, Some, None, option_map}
+use Rattle.std.specs.Prelude.{◌≡◌, ◌≢◌, ◌⊎◌, ℕ, ◌<◌, ◌≤◌, Bool, IsTrue, Some, None, option_map}
 use Rattle.l4_fpage.specs.Rights.{RightsSet, without, all_rights, no_rights}
 use Rattle.l4_links.specs.declared.Standing.{Standing}
 use Rattle.l4_links.specs.declared.Entry.{Entry}

@@ -1,4 +1,4 @@
-use Rattle.std.proofs.Common.{◌≡◌, ◌∙◌, ℕ, Option, Some, None, refl, ap, sym}
+use Rattle.std.proofs.Common.{◌≡◌, ℕ, Option, Some, None, refl}
 use Rattle.l4_mapdb.specs.Losing.{Revokes}
 use Rattle.l4_mapdb.proofs.Absent.{revoked_absent}
 use Rattle.l4_forest.specs.Inside.View.{mappings_of}

@@ -1,7 +1,6 @@
 use Rattle.std.proofs.Common.{arith}
 use Rattle.l4_mapdb.specs.Losing.{RevokesBlock}
 use Rattle.l4_forest.specs.Inside.View.{mappings_of}
-use Rattle.l4_forest.specs.Inside.Cuts.{IsCovered}
 use Rattle.l4_forest.proofs.Cut.{revokes_pages, forest_block, kept_cut}
 use Rattle.l4_forest.proofs.Forest.revoke_block.Goals as goal
 

@@ -1,5 +1,4 @@
-use Rattle.std.proofs.Common.{◌≡◌, ◌∙◌, ℕ, refl, sym, ap, subst, arith}
-use Rattle.l4_forest.specs.Inside.Kept.{OwnsFirst}
+use Rattle.std.proofs.Common.{◌∙◌, refl}
 use Rattle.l4_forest.proofs.FirstPlaces.{owns_none, owns_free, owns_more}
 use Rattle.l4_forest.proofs.booting.own_places.Goals as goal
 

@@ -1,5 +1,5 @@
-use Rattle.std.proofs.Common.{arith, sym}
-use Rattle.l4_forest.proofs.Presence.{kept_beyond, kept_within}
+use Rattle.std.proofs.Common.{arith}
+use Rattle.l4_forest.proofs.Presence.{kept_within}
 use Rattle.l4_forest.proofs.reading.kept_key.Goals as goal
 
 pub returns : goal.returns

@@ -1,6 +1,5 @@
 use Rattle.std.proofs.Common.{◌≡◌, ◌∙◌, ℕ, Option, Some, None, refl, sym, ap}
 use Rattle.l4_mapdb.specs.declared.Place.{Place}
-use Rattle.l4_mapdb.specs.declared.Mapping.{Mapping}
 use Rattle.l4_forest.proofs.View.{none_shows}
 use Rattle.l4_forest.proofs.Presence.{shows_standing, shows_blank}
 use Rattle.l4_forest.proofs.reading.shown_at.Goals as goal
