@@ -74,6 +74,8 @@ are skipped.
                          pages from FIRST on
   parent N PAGE          the parent of a page of N's space: the page that it was
                          mapped from, or that a granted page brought with it
+  steps                  how many calls were started, and how many steps followed
+                         them: transfers and waits that ended
 
 N is a thread's number, below 262144. Thread 1 is sigma0, which holds frame i at
 page i; thread 2 is root. Numbers are decimal, or hexadecimal after 0x.
@@ -97,6 +99,7 @@ page i; thread 2 is root. Numbers are decimal, or hexadecimal after 0x.
   parent SPACE PAGE                the page's parent (parent none: it has none;
                                    absent: it isn't present)
   region ok                        the table has one region more
+  steps K                          K steps so far, served threads' too
   line L refused CODE              the line changed nothing
 
 The codes, each with the number that it carries; l4 plan, l4 check and l4_steps
@@ -117,6 +120,7 @@ print them too:
   H6         sigma0, root and the caller itself can't be deleted
   U1 WORD    this word of an unmap, from 0, is no fpage
   U2         an unmap has fewer words than its control word says
+  L1         the history is full: after 999871 steps no call is started
   K1         nobody waits so: this transfer or expiry can't be done now
   K2         there is no thread of this number
   K3         the thread's last call goes on

@@ -16,8 +16,8 @@ use Rattle.std.specs.Prelude.{MatchOption}
 use Rattle.l4_answers.specs.Refusals.{refused_text, kernel_refusal}
 use Rattle.l4_ipc.specs.declared.steps.Refused.TheVariants.{UnknownThread}
 use Rattle.l4_shell.specs.declared.requests.Request.{Request}
-use Rattle.l4_shell.specs.declared.requests.Request.TheVariants.{TellParent}
-use Rattle.l4_shell.specs.Sessions.{place_in, place_text, ListsBelow, ListsPages, Shows, parent_answer, Session, CarriesOut}
+use Rattle.l4_shell.specs.declared.requests.Request.TheVariants.{TellParent, TellSteps}
+use Rattle.l4_shell.specs.Sessions.{place_in, place_text, ListsBelow, ListsPages, Shows, parent_answer, Session, TellsCount, CarriesOut}
 use Rattle.l4_text.proofs.Telling.{tells_more, tells_is}
 
 below_or : (a b : ℕ) → (a < b) ⊎ (b ≤ a)
@@ -127,7 +127,15 @@ pub end_of : (first count sum end : ℕ) → sum ≡ min (first + count) 4294967
 end_of first count sum end a b page = (λ lt. (omega (arith, a, b), omega (arith, a, b)), λ h. let c = h.0 in let d = h.1 in omega (arith, a, b))
 
 -- the parent of a page was told, and nothing else was done
-pub carries_parent : (m : Session) (line thread page : ℕ) (request : Request) (written b : Option (List ℕ)) (before t : List ℕ × Bool) → request ≡ TellParent thread page
-    → Tells written b before t (parent_answer m.machine line thread page) → (text : List ℕ) × CarriesOut m line request text m × Tells written b before t text
-carries_parent m line thread page request written b before t is tells =
-    (parent_answer m.machine line thread page, subst (λ (r : Request). CarriesOut m line r (parent_answer m.machine line thread page) m) (sym is) (refl, refl), tells)
+pub carries_parent : (m : Session) (read : Machine) (line thread page : ℕ) (request : Request) (written b : Option (List ℕ)) (before t : List ℕ × Bool) → request ≡ TellParent thread page → read ≡ m.machine
+    → Tells written b before t (parent_answer read line thread page) → (text : List ℕ) × CarriesOut m line request text m × Tells written b before t text
+carries_parent m read line thread page request written b before t is same tells = (
+  parent_answer m.machine line thread page,
+  subst (λ (r : Request). CarriesOut m line r (parent_answer m.machine line thread page) m) (sym is) (refl, refl),
+  subst (λ (x : Machine). Tells written b before t (parent_answer x line thread page)) same tells,
+)
+
+-- how many entries there are was told
+pub carries_count : (old new : Session) (line : ℕ) (request : Request) (written b : Option (List ℕ)) (before t : List ℕ × Bool) → request ≡ TellSteps
+    → (text : List ℕ) × TellsCount old text new × Tells written b before t text → (text : List ℕ) × CarriesOut old line request text new × Tells written b before t text
+carries_count old new line request written b before t is e = (e.0, subst (λ (r : Request). CarriesOut old line r e.0 new) (sym is) e.1, e.2)

@@ -14,9 +14,10 @@ use Rattle.l4_text.specs.Lines.{NoNewline, kept_of, TakesLine, TakesRest, GivesL
 use Rattle.l4_shell.specs.Lines.{ScriptLine, in_front, lines_of}
 use Rattle.l4_shell.specs.Requests.{asked_at, asked_of}
 use Rattle.l4_text.specs.Streams.{WentOut, HasTold, Tells}
-use Rattle.l4_shell.specs.Sessions.{Session, session, AnswersLine, AnswersLines}
+use Rattle.l4_shell.specs.Sessions.{Session, session, first_session, AnswersLine, AnswersLines}
+use Rattle.l4_seats.specs.Seated.{Seated}
 use Rattle.l4_shell.specs.Scripts.{Runs}
-use Rattle.l4_shell.specs.Inside.Scripts.{TellsBeginning, TellsAll, TellsWhole, TellsScript}
+use Rattle.l4_shell.specs.Inside.Scripts.{HasFirstSeats, TellsBeginning, TellsAll, TellsWhole, TellsScript}
 use Rattle.l4_text.specs.declared.lines.Ending.{Ending}
 use Rattle.l4_text.specs.declared.lines.Ending.TheVariants.{Whole, Long, Cut}
 use Rattle.l4_text.specs.contracts.lines.Ending.{the_type}
@@ -305,13 +306,17 @@ answered_on Cut m next old new after number written out before t a cut = absurd 
 
 -- THE RUN
 
+-- the session at the start
+pub first_is : (frames : ℕ) (kernel : Seated) (sv : Servers) → HasFirstSeats frames kernel → sv ≡ no_servers frames → session kernel sv ≡ first_session frames kernel.machine
+first_is frames kernel sv has none = λ i. record { machine = kernel.machine; servers = none i; entries = length (has.1 i); numbers = has.2 i; seen = has.3 i }
+
 -- nobody was served at the start
-from_none : (frames : ℕ) (m : Machine) (sv : Servers) (lines : List ScriptLine) (text : List ℕ) (last : Session) → sv ≡ no_servers frames
-    → AnswersLines (session m sv) 1 lines text last → AnswersLines (session m (no_servers frames)) 1 lines text last
-from_none frames m sv lines text last none answers = subst (λ (x : Servers). AnswersLines (session m x) 1 lines text last) none answers
+from_none : (frames : ℕ) (m : Seated) (sv : Servers) (lines : List ScriptLine) (text : List ℕ) (last : Session) → session m sv ≡ first_session frames m.machine
+    → AnswersLines (session m sv) 1 lines text last → AnswersLines (first_session frames m.machine) 1 lines text last
+from_none frames m sv lines text last none answers = subst (λ (x : Session). AnswersLines x 1 lines text last) none answers
 
 -- all that was told went out
-pub runs_on : (frames : ℕ) (m : Machine) (sv : Servers) (old new written out now : Option (List ℕ)) (before after : List ℕ × Bool) (result : Result ℕ RunFault) → IsBoot frames m → sv ≡ no_servers frames → before ≡ ([], false)
+pub runs_on : (frames : ℕ) (m : Seated) (sv : Servers) (old new written out now : Option (List ℕ)) (before after : List ℕ × Bool) (result : Result ℕ RunFault) → IsBoot frames m.machine → session m sv ≡ first_session frames m.machine → before ≡ ([], false)
     → TellsScript (session m sv) old new written out before after result
     → ((start : Option (List ℕ)) (told : List ℕ) → HasTold start out after.0 after.1 told → Appends start now told) → Runs frames old new written now result
 runs_on frames m sv old new written out now before after (Ok count) boots none is t sent =
@@ -322,7 +327,7 @@ runs_on frames m sv old new written out now before after (Ok count) boots none i
       end = t.end;
       lines = t.number;
       text = told.text;
-      is_text = record { boot = m; boots = boots; last = told.last; answers = subst (λ (ls : List ScriptLine). AnswersLines (session m (no_servers frames)) 1 ls told.text told.last) t.all (from_none frames m sv _ _ _ none told.answers) };
+      is_text = record { boot = m.machine; boots = boots; last = told.last; answers = subst (λ (ls : List ScriptLine). AnswersLines (first_session frames m.machine) 1 ls told.text told.last) t.all (from_none frames m sv _ _ _ none told.answers) };
       out = sent written told.text (told.tells written [] (nothing_told written before is));
     }
 runs_on frames m sv old new written out now before after (Err Read) boots none is t sent =
@@ -331,7 +336,7 @@ runs_on frames m sv old new written out now before after (Err Read) boots none i
       read = t.some.read;
       «from» = t.some.from;
       text = told.text;
-      is_text = record { boot = m; boots = boots; last = told.last; answers = subst (λ (ls : List ScriptLine). AnswersLines (session m (no_servers frames)) 1 ls told.text told.last) t.whole (from_none frames m sv _ _ _ none told.answers) };
+      is_text = record { boot = m.machine; boots = boots; last = told.last; answers = subst (λ (ls : List ScriptLine). AnswersLines (first_session frames m.machine) 1 ls told.text told.last) t.whole (from_none frames m sv _ _ _ none told.answers) };
       out = sent written told.text (told.tells written [] (nothing_told written before is));
     }
 runs_on frames m sv old new written out now before after (Err Write) boots none is t sent =
@@ -344,7 +349,7 @@ runs_on frames m sv old new written out now before after (Err Write) boots none 
       parts = t.parts;
       sure = t.sure;
       text = told.text;
-      is_text = record { boot = m; boots = boots; last = told.last; answers = from_none frames m sv _ _ _ none told.answers };
+      is_text = record { boot = m.machine; boots = boots; last = told.last; answers = from_none frames m sv _ _ _ none told.answers };
       out = record { front = told.text; rest = []; whole = sym (append-nil told.text); out = sent written told.text (told.tells written [] (nothing_told written before is)) };
     }
 runs_on frames m sv old new written out now before after (Err Memory) boots none is t sent = absurd t
@@ -358,7 +363,7 @@ some_told m old new written out before after (Err Write) t = t
 some_told m old new written out before after (Err Memory) t = absurd t
 
 -- a write failed
-pub runs_not : (frames : ℕ) (m : Machine) (sv : Servers) (old new written out now : Option (List ℕ)) (before after : List ℕ × Bool) (result : Result ℕ RunFault) → IsBoot frames m → sv ≡ no_servers frames → before ≡ ([], false)
+pub runs_not : (frames : ℕ) (m : Seated) (sv : Servers) (old new written out now : Option (List ℕ)) (before after : List ℕ × Bool) (result : Result ℕ RunFault) → IsBoot frames m.machine → session m sv ≡ first_session frames m.machine → before ≡ ([], false)
     → TellsScript (session m sv) old new written out before after result
     → ((start : Option (List ℕ)) (told : List ℕ) → HasTold start out after.0 after.1 told → WentOut start now told) → Runs frames old new written now (Err Write)
 runs_not frames m sv old new written out now before after result boots none is tells sent =
@@ -372,7 +377,7 @@ runs_not frames m sv old new written out now before after result boots none is t
       parts = t.parts;
       sure = t.sure;
       text = told.text;
-      is_text = record { boot = m; boots = boots; last = told.last; answers = from_none frames m sv _ _ _ none told.answers };
+      is_text = record { boot = m.machine; boots = boots; last = told.last; answers = from_none frames m sv _ _ _ none told.answers };
       out = sent written told.text (told.tells written [] (nothing_told written before is));
     }
 

@@ -8,7 +8,7 @@ use Rattle.l4_shell.specs.declared.partners.Partner.TheVariants.{Nil, Any, Threa
 use Rattle.l4_shell.specs.declared.partners.NewSpace.{NewSpace}
 use Rattle.l4_shell.specs.declared.partners.NewSpace.TheVariants.{New, Of}
 use Rattle.l4_shell.specs.declared.commands.Command.{Command}
-use Rattle.l4_shell.specs.declared.commands.Command.TheVariants.{Thread, SetPager, Delete, Receive, Send, Ipc, Fault, Delegate, Unmap, Show, Parent, Region, Serve}
+use Rattle.l4_shell.specs.declared.commands.Command.TheVariants.{Thread, SetPager, Delete, Receive, Send, Ipc, Fault, Delegate, Unmap, Show, Parent, Region, Serve, Steps}
 use Rattle.l4_shell.specs.declared.commands.ScriptFault.{ScriptFault}
 use Rattle.l4_shell.specs.declared.commands.ScriptFault.TheVariants.{UnknownCommand, BadTokens}
 use Rattle.l4_text.specs.Numbers.{below, number_of}
@@ -217,13 +217,19 @@ serve_asked tokens = do
   number ← thread_of token
   Some (Serve number)
 
--- the commands of page faults and pagers
+-- no more tokens
+abbrev pub steps_asked : List (List ℕ) → Option Command
+steps_asked [] = Some Steps
+steps_asked (token ∷ tokens) = None
+
+-- the commands of page faults and pagers, and of the history
 abbrev pub pager_command_of : List ℕ → List (List ℕ) → Result Command ScriptFault
 pager_command_of name tokens =
     if is_word (codes "fault") name then ok_or (fault_asked tokens) BadTokens
     else (if is_word (codes "region") name then ok_or (region_asked tokens) BadTokens
     else (if is_word (codes "serve") name then ok_or (serve_asked tokens) BadTokens
-    else Err UnknownCommand))
+    else (if is_word (codes "steps") name then ok_or (steps_asked tokens) BadTokens
+    else Err UnknownCommand)))
 
 -- what the tokens of a line that has some ask for, or why they can't be read
 unfoldable pub command_of : List (List ℕ) → Result Command ScriptFault

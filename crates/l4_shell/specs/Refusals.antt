@@ -1,6 +1,8 @@
 -- The codes of what a script's line is refused for before it reaches the kernel (this profile's own).
 use Rattle.std.specs.Prelude.{codes}
-use Rattle.l4_answers.specs.Refusals.{Refusal, plainly}
+use Rattle.l4_answers.specs.Refusals.{Refusal, plainly, kernel_refusal}
+use Rattle.l4_lock.specs.declared.refusals.LockRefusal.{LockRefusal}
+use Rattle.l4_lock.specs.declared.refusals.LockRefusal.TheVariants.{HistoryFull, NoMemory as WantOfMemory, ReplyWaiting, SeatTaken, Kernel as ByKernel}
 use Rattle.l4_pager.specs.declared.regions.PagerRefusal.{PagerRefusal}
 use Rattle.l4_pager.specs.declared.regions.PagerRefusal.TheVariants.{Overlap, NoRegion, Full, BadRegion}
 use Rattle.l4_servers.specs.declared.servers.RegionRefusal.{RegionRefusal}
@@ -27,6 +29,14 @@ plan_refusal (TooLong pages) = plainly (codes "N4")
 -- want of memory
 abbrev pub lacks_memory : Refusal
 lacks_memory = plainly (codes "NoMemory")
+
+-- the code of what the locked kernel refuses; of the kernel's own refusals the innermost one
+abbrev pub lock_refusal : LockRefusal → Refusal
+lock_refusal HistoryFull = plainly (codes "L1")
+lock_refusal WantOfMemory = lacks_memory
+lock_refusal ReplyWaiting = plainly (codes "L3")
+lock_refusal SeatTaken = plainly (codes "L4")
+lock_refusal (ByKernel refusal) = kernel_refusal refusal
 
 -- the code of what a pager's table refuses
 abbrev pub pager_refusal : PagerRefusal → Refusal

@@ -10,9 +10,9 @@ use Rattle.l4_shell.specs.declared.partners.Partner.TheVariants.{Nil, Any, Threa
 use Rattle.l4_shell.specs.declared.partners.NewSpace.{NewSpace}
 use Rattle.l4_shell.specs.declared.partners.NewSpace.TheVariants.{New, Of}
 use Rattle.l4_shell.specs.declared.commands.Command.{Command}
-use Rattle.l4_shell.specs.declared.commands.Command.TheVariants.{Thread, SetPager, Delete, Receive, Send, Ipc, Fault, Delegate, Unmap, Show, Parent, Region, Serve}
+use Rattle.l4_shell.specs.declared.commands.Command.TheVariants.{Thread, SetPager, Delete, Receive, Send, Ipc, Fault, Delegate, Unmap, Show, Parent, Region, Serve, Steps}
 use Rattle.l4_shell.specs.declared.requests.Request.{Request}
-use Rattle.l4_shell.specs.declared.requests.Request.TheVariants.{Enter, EndThread, SendPlan, ListPages, TellParent, AddRegion, ServeThread}
+use Rattle.l4_shell.specs.declared.requests.Request.TheVariants.{Enter, CreateThread, EndThread, SendPlan, ListPages, TellParent, AddRegion, ServeThread, TellSteps}
 use Rattle.l4_shell.specs.declared.commands.ScriptFault.{ScriptFault}
 use Rattle.l4_shell.specs.declared.commands.ScriptFault.TheVariants.{LineTooLong, CutLine}
 use Rattle.l4_text.specs.declared.lines.Ending.{Ending}
@@ -73,7 +73,7 @@ root = 2
 
 -- what a command comes to
 abbrev pub request_of : Command → Request
-request_of (Thread number space pager) = Enter root (create_call number space pager)
+request_of (Thread number space pager) = CreateThread number (create_call number space pager)
 request_of (SetPager number pager) = Enter root (set_pager_call number pager)
 request_of (Delete number) = EndThread number
 request_of (Receive number partner window) = Enter number (receive_call partner window)
@@ -86,6 +86,7 @@ request_of (Show number first count) = ListPages number first count
 request_of (Parent number page) = TellParent number page
 request_of (Region number entry) = AddRegion number entry
 request_of (Serve number) = ServeThread number
+request_of Steps = TellSteps
 
 -- WHAT A LINE ASKS FOR
 

@@ -1,5 +1,5 @@
 -- What is told of a line's call and of the steps that follow it, and what a script's lines are answered (this profile's own).
-use Rattle.std.specs.Prelude.{◌≡◌, ℕ, ◌+◌, ◌<◌, ◌≤◌, ◌^◌, ◌⊎◌, ◌↔◌, Bool, nat_eq, List, [], ◌∷◌, ◌++◌, length, Contains, Option, Some, None, Result, Ok, Err, MatchOption, if◌then◌else◌}
+use Rattle.std.specs.Prelude.{◌≡◌, ℕ, ◌+◌, ◌<◌, ◌≤◌, ◌^◌, ◌⊎◌, ◌↔◌, Bool, false, nat_eq, List, [], ◌∷◌, ◌++◌, length, Contains, Option, Some, None, Result, Ok, Err, MatchOption, if◌then◌else◌}
 use Rattle.std.specs.Option.{option_map_or}
 use Rattle.std.specs.List.{flat_map, list_any, AllPairs}
 use Rattle.l4_mapdb.specs.Mappings.{shown, IsPresent}
@@ -10,24 +10,25 @@ use Rattle.l4_ipc.specs.declared.steps.Step.{Step}
 use Rattle.l4_ipc.specs.declared.steps.Step.TheVariants.{Start, Transfer, Expire}
 use Rattle.l4_ipc.specs.declared.steps.Outcome.{Outcome}
 use Rattle.l4_ipc.specs.declared.steps.Answer.{Answer}
-use Rattle.l4_ipc.specs.declared.steps.Refused.{Refused}
 use Rattle.l4_ipc.specs.declared.steps.Refused.TheVariants.{UnknownThread}
 use Rattle.l4_ipc.specs.Machine.{Machine, IsBoot}
 use Rattle.l4_ipc.specs.Reading.{reply_of}
 use Rattle.l4_ipc.specs.Steps.{Steps, IsIdle}
 use Rattle.l4_ipc.specs.Following.{Done, AreNext}
+use Rattle.l4_lock.specs.declared.refusals.LockRefusal.{LockRefusal}
+use Rattle.l4_seats.specs.Seated.{Seated, with_number, CanEnter, Refuses as RefusesCall}
 use Rattle.l4_shell.specs.declared.commands.Command.{Command}
 use Rattle.l4_shell.specs.declared.commands.ScriptFault.{ScriptFault}
 use Rattle.l4_shell.specs.declared.requests.Request.{Request}
-use Rattle.l4_shell.specs.declared.requests.Request.TheVariants.{Enter, EndThread, SendPlan, ListPages, TellParent, AddRegion, ServeThread}
+use Rattle.l4_shell.specs.declared.requests.Request.TheVariants.{Enter, CreateThread, EndThread, SendPlan, ListPages, TellParent, AddRegion, ServeThread, TellSteps}
 use Rattle.l4_answers.specs.Replies.{transfer_text, expire_text, reply_text, waits_text}
 use Rattle.l4_answers.specs.Pages.{page_text, shown_text, parent_text}
 use Rattle.l4_answers.specs.Refusals.{kernel_refusal, refused_text}
-use Rattle.l4_shell.specs.Refusals.{script_refusal, plan_refusal, lacks_memory, region_refusal}
+use Rattle.l4_shell.specs.Refusals.{script_refusal, plan_refusal, lacks_memory, lock_refusal, region_refusal}
 use Rattle.l4_shell.specs.Lines.{ScriptLine}
 use Rattle.l4_text.specs.Streams.{Tells}
 use Rattle.l4_shell.specs.Requests.{request_of, asked_of, root, send_call, delete_call}
-use Rattle.l4_shell.specs.Texts.{region_text, refused_act_text}
+use Rattle.l4_shell.specs.Texts.{region_text, steps_text, refused_act_text}
 use Rattle.l4_shell.specs.Delegations.{ArePlanWords, HasNoPlan}
 use Rattle.l4_shell.specs.declared.partners.Partner.{Partner}
 use Rattle.l4_msg.specs.declared.regions.Region.{Region}
@@ -72,13 +73,27 @@ waiting_text thread ended = if ended then [] else waits_text thread
 
 -- SESSIONS
 
--- what a script has: the kernel, and the servers
+-- What a script has: the kernel, the servers, how many entries the history has, the numbers that have their seats, and the count that was
+-- told last. An entry is the start of a call, or a step that followed one.
 pub record Session : Type 0 where
   pub machine : Machine
   pub servers : Servers
+  pub entries : ℕ
+  pub numbers : List ℕ
+  pub seen : ℕ
 
-abbrev pub session : Machine → Servers → Session
-session machine servers = record { machine = machine; servers = servers }
+-- the session of a kernel with its seats, and of its servers
+abbrev pub session : Seated → Servers → Session
+session kernel servers =
+    record { machine = kernel.machine; servers = servers; entries = length kernel.history; numbers = kernel.numbers; seen = kernel.seen }
+
+-- at the start sigma0 and root have their seats
+abbrev pub first_session : ℕ → Machine → Session
+first_session frames boot = record { machine = boot; servers = no_servers frames; entries = 0; numbers = 1 ∷ 2 ∷ []; seen = 0 }
+
+-- once a call was entered and so many steps followed its start
+abbrev pub gone_on : Session → Servers → ℕ → Machine → Session
+gone_on old servers steps settled = record old { machine = settled; servers = servers; entries = old.entries + 1 + steps }
 
 -- SERVED THREADS
 
@@ -95,6 +110,7 @@ pub record Act : Type 0 where
 -- the served thread that acts next entered its call, and the step that comes next was done, again and again until there was none
 pub record IsAct (old : Session) (act : Act) : Type 0 where
   pub acts : ActsNext old.machine.threads old.servers act.thread act.call act.servers
+  pub can : CanEnter old.entries old.numbers act.thread
   pub starts : Steps old.machine (Start act.thread act.call) (Ok act.answer) act.started
   pub next : AreNext act.started act.steps act.after
   pub idle : IsIdle act.after
@@ -109,7 +125,7 @@ ended_by acts = flat_map (λ act. act.answer.ended.items ++ ended_in act.steps) 
 -- one act after another
 abbrev pub AreActs : Session → List Act → Session → Type 0
 AreActs old [] new = new ≡ old
-AreActs old (act ∷ acts) new = IsAct old act × AreActs (session act.after act.servers) acts new
+AreActs old (act ∷ acts) new = IsAct old act × AreActs (gone_on old act.servers (length act.steps) act.after) acts new
 
 -- the acts of a line, at most
 abbrev pub most_acts : ℕ
@@ -129,9 +145,10 @@ pub record RefusesAct (old : Session) (count : ℕ) (text : List ℕ) (new : Ses
   pub thread : ℕ
   pub call : Call
   pub acts : ActsNext old.machine.threads old.servers thread call new.servers
-  pub refusal : Refused
-  pub refused : Steps old.machine (Start thread call) (Err refusal) new.machine
-  pub text_is : text ≡ refused_act_text thread (kernel_refusal refusal)
+  pub refusal : LockRefusal
+  pub refused : RefusesCall old.machine old.entries old.numbers thread call refusal
+  pub same : new ≡ record old { servers = new.servers }
+  pub text_is : text ≡ refused_act_text thread (lock_refusal refusal)
 
 -- why no served thread acts further on a line that has had so many acts
 abbrev pub StopsActing : Session → ℕ → List ℕ → Session → Type 0
@@ -139,37 +156,38 @@ StopsActing old count text new = IsQuiet old text new ⊎ (IsSpent old count tex
 
 -- ONE CALL
 
--- The step that comes next was done, again and again until there was none; then the served threads acted, one after another; and all of
--- it is told; at last that the caller waits, where its call had not ended before and did not end then.
+-- The served threads acted, one after another, and that is told; at last that the caller waits, where its call had not ended before and did
+-- not end then.
 pub record GoesOn (old : Session) (thread : ℕ) (ended text : List ℕ) (new : Session) : Type 0 where
-  pub steps : List Done
-  pub settled : Machine
-  pub next : AreNext old.machine steps settled
-  pub idle : IsIdle settled
   pub acts : List Act
   pub between : Session
-  pub are : AreActs (session settled old.servers) acts between
+  pub are : AreActs old acts between
   pub few : length acts ≤ most_acts
   pub last : List ℕ
   pub stops : StopsActing between (length acts) last new
-  pub text_is :
-      text ≡ flat_map done_text steps ++ ((flat_map act_text acts ++ last) ++ waiting_text thread (is_among thread (ended ++ (ended_in steps ++ ended_by acts))))
+  pub text_is : text ≡ (flat_map act_text acts ++ last) ++ waiting_text thread (is_among thread (ended ++ ended_by acts))
 
--- the call was started and its start told, the servers are these since, and then what follows
+-- The call was started, and the step that comes next was done, again and again until there was none, and all of it is told; the servers
+-- are these since; and then what follows.
 pub record Follows (old : Session) (thread : ℕ) (call : Call) (servers : Servers) (text : List ℕ) (new : Session) : Type 0 where
+  pub can : CanEnter old.entries old.numbers thread
   pub answer : Answer
   pub started : Machine
   pub starts : Steps old.machine (Start thread call) (Ok answer) started
+  pub steps : List Done
+  pub settled : Machine
+  pub next : AreNext started steps settled
+  pub idle : IsIdle settled
   pub rest : List ℕ
-  pub goes_on : GoesOn (session started servers) thread answer.ended.items rest new
-  pub text_is : text ≡ step_text (Start thread call) answer started ++ rest
+  pub goes_on : GoesOn (gone_on old servers (length steps) settled) thread (answer.ended.items ++ ended_in steps) rest new
+  pub text_is : text ≡ (step_text (Start thread call) answer started ++ flat_map done_text steps) ++ rest
 
 -- the call of this line was refused, and the text is its refusal
 pub record Refuses (old : Session) (line thread : ℕ) (call : Call) (text : List ℕ) (new : Session) : Type 0 where
-  pub refusal : Refused
-  pub refused : Steps old.machine (Start thread call) (Err refusal) new.machine
-  pub servers : new.servers ≡ old.servers
-  pub text_is : text ≡ refused_text line (kernel_refusal refusal)
+  pub refusal : LockRefusal
+  pub refused : RefusesCall old.machine old.entries old.numbers thread call refusal
+  pub same : new ≡ old
+  pub text_is : text ≡ refused_text line (lock_refusal refusal)
 
 abbrev pub Enters : Session → ℕ → ℕ → Call → List ℕ → Session → Type 0
 Enters old line thread call text new = Follows old thread call old.servers text new ⊎ Refuses old line thread call text new
@@ -179,11 +197,17 @@ abbrev pub Deletes : Session → ℕ → ℕ → List ℕ → Session → Type 0
 Deletes old line thread text new =
     Follows old root (delete_call thread) (without old.servers thread) text new ⊎ Refuses old line root (delete_call thread) text new
 
--- PAGERS
-
 -- there was no memory, and nothing was done
 abbrev pub LacksMemory : Session → ℕ → List ℕ → Session → Type 0
 LacksMemory old line text new = (text ≡ refused_text line lacks_memory) × (new ≡ old)
+
+-- Root creates a thread, whose number has its seat from then on, also where the call is refused. Memory is wanted for a number that had none.
+abbrev pub Creates : Session → ℕ → ℕ → Call → List ℕ → Session → Type 0
+Creates old line number call text new =
+    Enters (record old { numbers = with_number old.numbers number }) line root call text new
+    ⊎ ((is_among number old.numbers ≡ false) × LacksMemory old line text new)
+
+-- PAGERS
 
 -- a thread waits for anybody's message, and is served from then on
 abbrev pub ServesThread : Session → ℕ → ℕ → List ℕ → Session → Type 0
@@ -193,7 +217,7 @@ ServesThread old line thread text new =
 -- the region was added
 abbrev pub RegionAdded : Session → ℕ → Entry → List ℕ → Session → Type 0
 RegionAdded old thread entry text new =
-    CanAdd (regions_of old.servers thread) entry × (text ≡ region_text) × (new ≡ session old.machine (with_region old.servers thread entry))
+    CanAdd (regions_of old.servers thread) entry × (text ≡ region_text) × (new ≡ record old { servers = with_region old.servers thread entry })
 
 -- the region was refused
 abbrev pub RegionRefused : Session → ℕ → ℕ → Entry → List ℕ → Session → Type 0
@@ -258,17 +282,26 @@ abbrev pub parent_answer : Machine → ℕ → ℕ → ℕ → List ℕ
 parent_answer m line thread page =
     option_map_or (λ space. parent_text (shown m.mappings (place_in space page))) (space_of m.threads thread) (refused_text line (kernel_refusal UnknownThread))
 
+-- COUNTS
+
+-- How many entries the history has, as its board shows it: of the number that the board gives at that moment it is known that it is not below the
+-- number that it gave before.
+abbrev pub TellsCount : Session → List ℕ → Session → Type 0
+TellsCount old text new = (count : ℕ) × (old.seen ≤ count) × (text ≡ steps_text count) × (new ≡ record old { seen = count })
+
 -- LINES
 
 -- a line's request was carried out, and the text is what was told of it
 abbrev pub CarriesOut : Session → ℕ → Request → List ℕ → Session → Type 0
 CarriesOut old line (Enter thread call) text new = Enters old line thread call text new
+CarriesOut old line (CreateThread number call) text new = Creates old line number call text new
 CarriesOut old line (EndThread thread) text new = Deletes old line thread text new
 CarriesOut old line (SendPlan thread to region) text new = Delegates old line thread to region text new
 CarriesOut old line (ListPages thread first count) text new = Shows old.machine line thread first count text × (new ≡ old)
 CarriesOut old line (TellParent thread page) text new = (text ≡ parent_answer old.machine line thread page) × (new ≡ old)
 CarriesOut old line (AddRegion thread entry) text new = AddsRegion old line thread entry text new
 CarriesOut old line (ServeThread thread) text new = ServesThread old line thread text new
+CarriesOut old line TellSteps text new = TellsCount old text new
 
 -- the answer to a line of this number that asks for this
 abbrev pub AnswersLine : Session → ℕ → Result (Option Command) ScriptFault → List ℕ → Session → Type 0
@@ -288,4 +321,4 @@ pub record IsScriptText (frames : ℕ) (lines : List ScriptLine) (text : List �
   pub boot : Machine
   pub boots : IsBoot frames boot
   pub last : Session
-  pub answers : AnswersLines (session boot (no_servers frames)) 1 lines text last
+  pub answers : AnswersLines (first_session frames boot) 1 lines text last

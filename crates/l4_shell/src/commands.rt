@@ -1,7 +1,7 @@
 //! What a script line asks for.
 ghost use Rattle.std.specs.Prelude.{◌≡◌, [], length};
 ghost use Rattle.l4_text.specs.Tokens.{tokens_of};
-ghost use Rattle.l4_shell.specs.Commands.{thread_asked, set_pager_asked, delete_asked, receive_asked, show_asked, parent_asked, send_asked, delegate_asked, ipc_asked, unmap_asked, fault_asked, region_asked, serve_asked, pager_command_of, words_of, command_of};
+ghost use Rattle.l4_shell.specs.Commands.{thread_asked, set_pager_asked, delete_asked, receive_asked, show_asked, parent_asked, send_asked, delegate_asked, ipc_asked, unmap_asked, fault_asked, region_asked, serve_asked, steps_asked, pager_command_of, words_of, command_of};
 
 use crate::partners::{NewSpace, Partner, any_or_thread, new_space, nil_or_thread, thread_number};
 use crate::regions::{region, rights};
@@ -129,6 +129,8 @@ pub(crate) enum Command {
     Region(u32, Entry),
     /// A thread is served.
     Serve(u32),
+    /// How many entries the history has.
+    Steps,
 }
 
 const THREAD: &[u8] = b"thread";
@@ -156,6 +158,8 @@ const PARENT: &[u8] = b"parent";
 const REGION: &[u8] = b"region";
 
 const SERVE: &[u8] = b"serve";
+
+const STEPS: &[u8] = b"steps";
 
 /// `N SPACE PAGER`
 #[tactic(auto, unfolding(crate::specs::Commands::thread_asked))]
@@ -346,7 +350,17 @@ fn serve(line: &[u8]) -> Option<Command>
     Some(Command::Serve(thread_number(one(line)?)?))
 }
 
-/// A command of page faults or pagers, by its name and the tokens after it.
+/// No tokens
+fn steps(line: &[u8]) -> Option<Command>
+    ensures { result ≡ steps_asked (tokens_of line.now) }
+{
+    match next_token(line) {
+        None => Some(Command::Steps),
+        Some(_) => None,
+    }
+}
+
+/// A command of page faults or pagers, or of the history, by its name and the tokens after it.
 fn pager_command(name: &[u8], rest: &[u8]) -> Result<Command, ScriptFault>
     ensures { result ≡ pager_command_of name.now (tokens_of rest.now) }
 {
@@ -358,6 +372,9 @@ fn pager_command(name: &[u8], rest: &[u8]) -> Result<Command, ScriptFault>
     }
     if name == SERVE {
         return serve(rest).ok_or(ScriptFault::BadTokens);
+    }
+    if name == STEPS {
+        return steps(rest).ok_or(ScriptFault::BadTokens);
     }
     Err(ScriptFault::UnknownCommand)
 }

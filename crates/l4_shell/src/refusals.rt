@@ -1,9 +1,10 @@
 //! The codes of what a script's line is refused for before it reaches the kernel.
 ghost use Rattle.std.specs.Prelude.{◌≡◌};
-ghost use Rattle.l4_shell.specs.Refusals.{script_refusal, plan_refusal, lacks_memory, pager_refusal, region_refusal};
+ghost use Rattle.l4_shell.specs.Refusals.{script_refusal, plan_refusal, lacks_memory, lock_refusal, pager_refusal, region_refusal};
 
 use crate::commands::ScriptFault;
-use l4_answers::Code;
+use l4_answers::{Code, refused_code};
+use l4_lock::LockRefusal;
 use l4_pager::PagerRefusal;
 use l4_plan::PlanRefusal;
 use l4_servers::RegionRefusal;
@@ -37,6 +38,19 @@ pub(crate) fn memory_code() -> Code
     ensures { result ≡ lacks_memory }
 {
     Code::plain(b"NoMemory")
+}
+
+/// The code of what the locked kernel refuses, of the kernel's own refusals the innermost one.
+pub(crate) fn lock_code(refusal: LockRefusal) -> Code
+    ensures { result ≡ lock_refusal refusal }
+{
+    match refusal {
+        LockRefusal::HistoryFull => Code::plain(b"L1"),
+        LockRefusal::NoMemory => memory_code(),
+        LockRefusal::ReplyWaiting => Code::plain(b"L3"),
+        LockRefusal::SeatTaken => Code::plain(b"L4"),
+        LockRefusal::Kernel(refused) => refused_code(refused),
+    }
 }
 
 /// The code of what a pager's table refuses.

@@ -17,6 +17,8 @@ pub(crate) const ROOT: u32 = 2;
 pub(crate) enum Request {
     /// The thread enters the call.
     Enter(u32, Call),
+    /// Root enters the call that creates the thread of this number.
+    CreateThread(u32, Call),
     /// Root deletes the thread.
     EndThread(u32),
     /// The thread sends the message of the region's plan.
@@ -29,6 +31,8 @@ pub(crate) enum Request {
     AddRegion(u32, Entry),
     /// The thread waits for anybody's message, and is served from then on.
     ServeThread(u32),
+    /// How many entries the history has is told.
+    TellSteps,
 }
 
 /// The id of a script's thread: its number, and version 1.
@@ -133,7 +137,7 @@ pub(crate) fn request_of(command: Command) -> Request
             number,
             space,
             pager,
-        } => Request::Enter(ROOT, create_call(number, space, pager)),
+        } => Request::CreateThread(number, create_call(number, space, pager)),
         Command::SetPager { number, pager } => Request::Enter(ROOT, set_pager_call(number, pager)),
         Command::Delete { number } => Request::EndThread(number),
         Command::Receive {
@@ -161,5 +165,6 @@ pub(crate) fn request_of(command: Command) -> Request
         Command::Parent { number, page } => Request::TellParent(number, page),
         Command::Region(number, entry) => Request::AddRegion(number, entry),
         Command::Serve(number) => Request::ServeThread(number),
+        Command::Steps => Request::TellSteps,
     }
 }

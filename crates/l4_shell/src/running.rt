@@ -1,19 +1,39 @@
 //! Scripts from a reader to a writer.
-ghost use Rattle.std.specs.Prelude.{◌≡◌, ◌≤◌};
+ghost use Rattle.std.specs.Prelude.{◌≡◌, ◌≤◌, IfSome};
 ghost use Rattle.l4_shell.specs.Scripts.{Runs};
-ghost use Rattle.l4_shell.specs.Inside.Scripts.{TellsScript};
+ghost use Rattle.l4_shell.specs.Inside.Scripts.{TellsScript, HasFirstSeats};
 ghost use Rattle.l4_shell.specs.Sessions.{session};
 
+use crate::requests::ROOT;
 use crate::session::answer_line;
-use l4_ipc::Kernel;
+use l4_seats::SeatedKernel;
 use l4_servers::Servers;
 use l4_text::{Ending, Line, Output, RunFault, Source, next_line};
 use std::alloc::Global;
 use std::io::{Read, Write};
 
+/// sigma0's thread.
+const SIGMA0: u32 = 1;
+
+/// A kernel as it boots, in which sigma0 and root have their seats.
+fn booted(alloc: Global, frames: u32) -> Option<SeatedKernel>
+    ensures { IfSome result (HasFirstSeats frames) }
+{
+    let Ok(mut kernel) = SeatedKernel::new(alloc, frames) else {
+        return None;
+    };
+    if kernel.give(SIGMA0).is_err() {
+        return None;
+    }
+    if kernel.give(ROOT).is_err() {
+        return None;
+    }
+    Some(kernel)
+}
+
 /// Answers line after line, to the end of the script. Answers their number.
 fn answer_all<R: Read, W: Write>(
-    kernel: &mut Kernel,
+    kernel: &mut SeatedKernel,
     servers: &mut Servers,
     reader: &mut R,
     out: &mut Output,
@@ -75,7 +95,7 @@ pub fn run<R: Read, W: Write>(
     ensures { Runs frames (R.remaining reader.old) (R.remaining reader.new)
         (W.contents writer.old) (W.contents writer.new) result }
 {
-    let Ok(mut kernel) = Kernel::boot(alloc, frames) else {
+    let Some(mut kernel) = booted(alloc, frames) else {
         return Err(RunFault::Memory);
     };
     let mut servers = Servers::new(alloc, frames);

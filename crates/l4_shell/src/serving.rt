@@ -1,12 +1,15 @@
 //! What follows a call's start: the steps that come next, and the acts of served threads.
-ghost use Rattle.std.specs.Prelude.{◌≡◌, ℕ, List};
+ghost use Rattle.std.specs.Prelude.{◌≡◌, ℕ, List, MatchResult, drop};
 ghost use Rattle.l4_text.specs.Streams.{Tells};
 ghost use Rattle.l4_shell.specs.Sessions.{session, step_line, ended_text, step_text, is_among, waiting_text, GoesOn};
-ghost use Rattle.l4_shell.specs.Inside.Telling.{TellsSteps, TellsActs};
+ghost use Rattle.l4_shell.specs.Inside.Telling.{TellsEntries, TellsCall, TellsNothing, TellsActs};
 
+use crate::refusals::lock_code;
 use crate::texts::refused_act_text;
-use l4_answers::{expire_text, put_reply, refused_code, transfer_text, waits_text};
-use l4_ipc::{Answer, Kernel, Outcome, Step};
+use l4_answers::{expire_text, put_reply, transfer_text, waits_text};
+use l4_ipc::{Answer, Call, Kernel, Outcome, Step};
+use l4_lock::LockRefusal;
+use l4_seats::SeatedKernel;
 use l4_servers::Servers;
 use l4_text::Output;
 use std::io::Write;
@@ -37,13 +40,7 @@ fn tell_step<W: Write>(step: &Step, outcome: Outcome, out: &mut Output, writer: 
 }
 
 /// Tells a step, and how the calls ended that ended in it.
-pub(crate) fn tell<W: Write>(
-    kernel: &Kernel,
-    step: &Step,
-    answer: &Answer,
-    out: &mut Output,
-    writer: &mut W,
-)
+fn tell<W: Write>(kernel: &Kernel, step: &Step, answer: &Answer, out: &mut Output, writer: &mut W)
     ensures { Tells (W.contents writer.old) (W.contents writer.new) out.old out.new
         (step_text step.now answer.now kernel.now) }
 {
@@ -68,22 +65,53 @@ fn tell_waiting<W: Write>(thread: u32, ended: bool, out: &mut Output, writer: &m
     }
 }
 
-/// Does the steps that come next until there is none, and tells them. Answers whether the thread's call ended in one of them.
-fn settle<W: Write>(kernel: &mut Kernel, thread: u32, out: &mut Output, writer: &mut W) -> bool
-    ensures { TellsSteps kernel.old thread result kernel.new (W.contents writer.old) (W.contents writer.new) out.old out.new }
+/// Tells the entries from a place on. Answers whether the thread's call ended in one of them.
+fn tell_entries<W: Write>(
+    kernel: &SeatedKernel,
+    first: usize,
+    thread: u32,
+    out: &mut Output,
+    writer: &mut W,
+) -> bool
+    ensures { TellsEntries kernel.now.machine (drop first kernel.now.history) thread result
+        (W.contents writer.old) (W.contents writer.new) out.old out.new }
 {
     let mut ended = false;
-    while let Some((step, answer)) = kernel.step_next() {
-        tell(kernel, &step, &answer, out, writer);
-        ended = ended | has_ended(&answer, thread);
+    for place in first..kernel.history().len() {
+        let Some(entry) = kernel.history().get(place) else {
+            return ended;
+        };
+        tell(kernel.kernel(), &entry.step, &entry.answer, out, writer);
+        ended = ended | has_ended(&entry.answer, thread);
     }
     ended
+}
+
+/// Enters a call, and tells its start and the steps that follow it. Answers whether the thread's call ended in one of these. After a
+/// refusal nothing is told.
+pub(crate) fn enter_call<W: Write>(
+    kernel: &mut SeatedKernel,
+    entry: (u32, Call),
+    thread: u32,
+    out: &mut Output,
+    writer: &mut W,
+) -> Result<bool, LockRefusal>
+    ensures { MatchResult result
+        (λ ended. TellsCall kernel.old entry.0 entry.1 thread ended kernel.new (W.contents writer.old) (W.contents writer.new) out.old out.new)
+        (λ e. TellsNothing kernel.old entry.0 entry.1 e kernel.new (W.contents writer.old) (W.contents writer.new) out.old out.new) }
+{
+    let (caller, call) = entry;
+    let first = kernel.history().len();
+    match kernel.enter(caller, call) {
+        Ok(()) => Ok(tell_entries(kernel, first, thread, out, writer)),
+        Err(refusal) => Err(refusal),
+    }
 }
 
 /// Served threads act, one after another, until none runs, one is refused or there were as many acts as a line may have; and all is
 /// told. Answers whether the thread's call ended in one of the acts.
 fn serve<W: Write>(
-    kernel: &mut Kernel,
+    kernel: &mut SeatedKernel,
     servers: &mut Servers,
     thread: u32,
     out: &mut Output,
@@ -94,44 +122,33 @@ fn serve<W: Write>(
 {
     let mut ended = false;
     for _ in 0..MOST_ACTS {
-        let Some((server, call)) = servers.next_act(kernel) else {
+        let Some((server, call)) = servers.next_act(kernel.kernel()) else {
             return ended;
         };
-        let step = Step::Start(server, call);
-        let answer = match kernel.step(&step) {
-            Ok(answer) => answer,
-            Err(refused) => {
-                out.put(writer, &refused_act_text(server, &refused_code(refused)));
+        match enter_call(kernel, (server, call), thread, out, writer) {
+            Ok(own) => ended = ended | own,
+            Err(refusal) => {
+                out.put(writer, &refused_act_text(server, &lock_code(refusal)));
                 return ended;
             }
-        };
-        tell(kernel, &step, &answer, out, writer);
-        let settled = settle(kernel, thread, out, writer);
-        let own = has_ended(&answer, thread);
-        ended = ended | (own | settled);
+        }
     }
     ended
 }
 
-/// Does what follows a call's start: the steps that come next, then the acts of served threads; and tells it all, and at last whether
-/// the caller waits.
+/// Does what follows a call and its steps: the acts of served threads; and tells them, and at last whether the caller waits.
 pub(crate) fn follow<W: Write>(
-    kernel: &mut Kernel,
+    kernel: &mut SeatedKernel,
     servers: &mut Servers,
     thread: u32,
-    start: &Answer,
+    ended: bool,
     out: &mut Output,
     writer: &mut W,
 )
-    ensures { (text : List ℕ) × GoesOn (session kernel.old servers.old) thread start.now.ended.items text (session kernel.new servers.new)
+    ensures { (had : List ℕ) → ended ≡ is_among thread had
+        → (text : List ℕ) × GoesOn (session kernel.old servers.old) thread had text (session kernel.new servers.new)
         × Tells (W.contents writer.old) (W.contents writer.new) out.old out.new text }
 {
-    let settled = settle(kernel, thread, out, writer);
     let acted = serve(kernel, servers, thread, out, writer);
-    tell_waiting(
-        thread,
-        has_ended(start, thread) | (settled | acted),
-        out,
-        writer,
-    );
+    tell_waiting(thread, ended | acted, out, writer);
 }

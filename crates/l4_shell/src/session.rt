@@ -3,20 +3,22 @@ ghost use Rattle.std.specs.Prelude.{◌≡◌, ℕ, List, MatchOption};
 ghost use Rattle.l4_text.specs.Streams.{Tells};
 ghost use Rattle.l4_text.specs.Tokens.{tokens_of};
 ghost use Rattle.l4_shell.specs.Requests.{is_comment, is_empty, asked_at};
-ghost use Rattle.l4_shell.specs.Sessions.{session, Enters, Deletes, ServesThread, AddsRegion, place_text, ListsBelow, Shows, parent_answer, Delegates, CarriesOut, AnswersLine};
-ghost use Rattle.l4_shell.specs.Inside.Telling.{TellsStart, TellsRefusal};
+ghost use Rattle.l4_shell.specs.Sessions.{session, Enters, Creates, Deletes, ServesThread, AddsRegion, place_text, ListsBelow, Shows, parent_answer, Delegates, TellsCount, CarriesOut, AnswersLine};
+ghost use Rattle.l4_shell.specs.Inside.Telling.{TellsCall, TellsRefusal};
+ghost use Rattle.l4_servers.specs.Servers.{Servers as AllServers};
 
 use crate::commands::{Command, ScriptFault, read_command};
 use crate::delegations::plan_words;
 use crate::partners::Partner;
-use crate::refusals::{memory_code, plan_code, region_code, script_code};
+use crate::refusals::{lock_code, memory_code, plan_code, region_code, script_code};
 use crate::requests::{ROOT, Request, delete_call, request_of, send_call};
-use crate::serving::{follow, tell};
-use crate::texts::region_text;
+use crate::serving::{enter_call, follow};
+use crate::texts::{region_text, steps_text};
 use l4_answers::{page_text, parent_text, refused_code, refused_text, shown_text};
-use l4_ipc::{Answer, Call, Kernel, Refused, SPACE_PAGES, Step};
+use l4_ipc::{Call, Kernel, Refused, SPACE_PAGES};
 use l4_msg::Region;
 use l4_pager::{Entry, wait};
+use l4_seats::SeatedKernel;
 use l4_servers::Servers;
 use l4_text::{Ending, Output, next_token};
 use std::io::Write;
@@ -56,27 +58,23 @@ fn asked(ending: Ending, line: &[u8]) -> Result<Option<Command>, ScriptFault>
     }
 }
 
-/// Starts a call and tells it. Where it is refused, tells why; None then.
+/// Enters a call, and tells its start and the steps that follow it. Answers whether it has ended. Where it is refused, tells why; None then.
 fn start<W: Write>(
-    kernel: &mut Kernel,
+    kernel: &mut SeatedKernel,
     line: u64,
     thread: u32,
     call: Call,
     out: &mut Output,
     writer: &mut W,
-) -> Option<Answer>
+) -> Option<bool>
     ensures { MatchOption result
         (TellsRefusal kernel.old line thread call kernel.new (W.contents writer.old) (W.contents writer.new) out.old out.new)
-        (λ answer. TellsStart kernel.old thread call answer kernel.new (W.contents writer.old) (W.contents writer.new) out.old out.new) }
+        (λ ended. TellsCall kernel.old thread call thread ended kernel.new (W.contents writer.old) (W.contents writer.new) out.old out.new) }
 {
-    let step = Step::Start(thread, call);
-    match kernel.step(&step) {
-        Ok(answer) => {
-            tell(kernel, &step, &answer, out, writer);
-            Some(answer)
-        }
-        Err(refused) => {
-            out.put(writer, &refused_text(line, &refused_code(refused)));
+    match enter_call(kernel, (thread, call), thread, out, writer) {
+        Ok(ended) => Some(ended),
+        Err(refusal) => {
+            out.put(writer, &refused_text(line, &lock_code(refusal)));
             None
         }
     }
@@ -84,7 +82,7 @@ fn start<W: Write>(
 
 /// Enters a call, and does what follows.
 fn enter<W: Write>(
-    kernel: &mut Kernel,
+    kernel: &mut SeatedKernel,
     servers: &mut Servers,
     line: u64,
     entry: (u32, Call),
@@ -95,15 +93,34 @@ fn enter<W: Write>(
         × Tells (W.contents writer.old) (W.contents writer.new) out.old out.new text }
 {
     let (thread, call) = entry;
-    let Some(answer) = start(kernel, line, thread, call, out, writer) else {
+    let Some(ended) = start(kernel, line, thread, call, out, writer) else {
         return;
     };
-    follow(kernel, servers, thread, &answer, out, writer);
+    follow(kernel, servers, thread, ended, out, writer);
+}
+
+/// Root creates a thread, whose number has its seat from then on.
+fn create_thread<W: Write>(
+    kernel: &mut SeatedKernel,
+    servers: &mut Servers,
+    line: u64,
+    creation: (u32, Call),
+    out: &mut Output,
+    writer: &mut W,
+)
+    ensures { (text : List ℕ) × Creates (session kernel.old servers.old) line creation.0 creation.1 text (session kernel.new servers.new)
+        × Tells (W.contents writer.old) (W.contents writer.new) out.old out.new text }
+{
+    let (number, call) = creation;
+    let Ok(()) = kernel.give(number) else {
+        return out.put(writer, &refused_text(line, &memory_code()));
+    };
+    enter(kernel, servers, line, (ROOT, call), out, writer);
 }
 
 /// Root deletes a thread, which is served no longer and has no table.
 fn end_thread<W: Write>(
-    kernel: &mut Kernel,
+    kernel: &mut SeatedKernel,
     servers: &mut Servers,
     line: u64,
     thread: u32,
@@ -113,16 +130,16 @@ fn end_thread<W: Write>(
     ensures { (text : List ℕ) × Deletes (session kernel.old servers.old) line thread text (session kernel.new servers.new)
         × Tells (W.contents writer.old) (W.contents writer.new) out.old out.new text }
 {
-    let Some(answer) = start(kernel, line, ROOT, delete_call(thread), out, writer) else {
+    let Some(ended) = start(kernel, line, ROOT, delete_call(thread), out, writer) else {
         return;
     };
     servers.forget(thread);
-    follow(kernel, servers, ROOT, &answer, out, writer);
+    follow(kernel, servers, ROOT, ended, out, writer);
 }
 
 /// A thread waits for anybody's message, and is served from then on.
 fn serve_thread<W: Write>(
-    kernel: &mut Kernel,
+    kernel: &mut SeatedKernel,
     servers: &mut Servers,
     line: u64,
     thread: u32,
@@ -135,18 +152,18 @@ fn serve_thread<W: Write>(
     let Ok(begins) = servers.serve(thread) else {
         return out.put(writer, &refused_text(line, &memory_code()));
     };
-    let Some(answer) = start(kernel, line, thread, wait(), out, writer) else {
+    let Some(ended) = start(kernel, line, thread, wait(), out, writer) else {
         if begins {
             return servers.take_back(thread);
         }
         return;
     };
-    follow(kernel, servers, thread, &answer, out, writer);
+    follow(kernel, servers, thread, ended, out, writer);
 }
 
 /// Adds a region to a thread's table.
 fn add_region<W: Write>(
-    kernel: &Kernel,
+    kernel: &SeatedKernel,
     servers: &mut Servers,
     line: u64,
     region: (u32, Entry),
@@ -157,7 +174,7 @@ fn add_region<W: Write>(
         × Tells (W.contents writer.old) (W.contents writer.new) out.old out.new text }
 {
     let (thread, entry) = region;
-    let Some(_) = kernel.space_of(thread) else {
+    let Some(_) = kernel.kernel().space_of(thread) else {
         let code = refused_code(Refused::UnknownThread);
         return out.put(writer, &refused_text(line, &code));
     };
@@ -169,7 +186,7 @@ fn add_region<W: Write>(
 
 /// Sends the message of a region's plan. Where there is none, tells why and does nothing.
 fn delegate<W: Write>(
-    kernel: &mut Kernel,
+    kernel: &mut SeatedKernel,
     servers: &mut Servers,
     line: u64,
     delegation: (u32, Partner, Region),
@@ -271,9 +288,18 @@ fn tell_parent<W: Write>(
     out.put(writer, &parent_text(kernel.mapping(space, page)));
 }
 
+/// Tells how many entries the history has.
+fn tell_count<W: Write>(kernel: &mut SeatedKernel, out: &mut Output, writer: &mut W)
+    ensures { (s : AllServers) → (text : List ℕ) × TellsCount (session kernel.old s) text (session kernel.new s)
+        × Tells (W.contents writer.old) (W.contents writer.new) out.old out.new text }
+{
+    let count = kernel.steps();
+    out.put(writer, &steps_text(count));
+}
+
 /// Carries out what a line asks for.
 fn carry_out<W: Write>(
-    kernel: &mut Kernel,
+    kernel: &mut SeatedKernel,
     servers: &mut Servers,
     line: u64,
     request: Request,
@@ -285,24 +311,30 @@ fn carry_out<W: Write>(
 {
     match request {
         Request::Enter(thread, call) => enter(kernel, servers, line, (thread, call), out, writer),
+        Request::CreateThread(number, call) => {
+            create_thread(kernel, servers, line, (number, call), out, writer)
+        }
         Request::EndThread(thread) => end_thread(kernel, servers, line, thread, out, writer),
         Request::SendPlan(thread, to, region) => {
             delegate(kernel, servers, line, (thread, to, region), out, writer)
         }
         Request::ListPages(thread, first, count) => {
-            show(kernel, line, thread, (first, count), out, writer)
+            show(kernel.kernel(), line, thread, (first, count), out, writer)
         }
-        Request::TellParent(thread, page) => tell_parent(kernel, line, thread, page, out, writer),
+        Request::TellParent(thread, page) => {
+            tell_parent(kernel.kernel(), line, thread, page, out, writer)
+        }
         Request::AddRegion(thread, entry) => {
             add_region(kernel, servers, line, (thread, entry), out, writer)
         }
         Request::ServeThread(thread) => serve_thread(kernel, servers, line, thread, out, writer),
+        Request::TellSteps => tell_count(kernel, out, writer),
     }
 }
 
 /// Answers one line.
 pub(crate) fn answer_line<W: Write>(
-    kernel: &mut Kernel,
+    kernel: &mut SeatedKernel,
     servers: &mut Servers,
     line: (u64, Ending),
     bytes: &[u8],

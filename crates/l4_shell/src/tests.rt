@@ -152,6 +152,7 @@ fn entered(line: &[u8]) -> Result<(u32, Call), Fail> {
     };
     match request_of(command) {
         Request::Enter(caller, call) => Ok((caller, call)),
+        Request::CreateThread(_, call) => Ok((ROOT, call)),
         Request::EndThread(thread) => Ok((ROOT, delete_call(thread))),
         _ => Err("no call".into()),
     }

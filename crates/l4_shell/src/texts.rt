@@ -1,6 +1,6 @@
-//! The texts of regions and of served threads.
+//! The texts of regions, of counts and of served threads.
 ghost use Rattle.std.specs.Prelude.{◌≡◌};
-ghost use Rattle.l4_shell.specs.Texts.{region_text, refused_act_text};
+ghost use Rattle.l4_shell.specs.Texts.{region_text, steps_text, refused_act_text};
 
 use l4_answers::{Code, add_code};
 use l4_text::Text;
@@ -11,6 +11,17 @@ pub(crate) fn region_text() -> Text
 {
     let mut text = Text::new();
     text.add(b"region ok\n");
+    text
+}
+
+/// `steps K`
+pub(crate) fn steps_text(count: u64) -> Text
+    ensures { result ≡ steps_text count }
+{
+    let mut text = Text::new();
+    text.add(b"steps ");
+    text.add_number(count);
+    text.push(b'\n');
     text
 }
 

@@ -1,9 +1,11 @@
 -- The answers to a script's lines before what is held back goes out.
-use Rattle.std.specs.Prelude.{ℕ, ◌≡◌, ◌⊎◌, Bool, true, List, ◌++◌, length, filter, Option, Result, Ok, Err}
+use Rattle.std.specs.Prelude.{ℕ, ◌≡◌, ◌⊎◌, Bool, true, List, [], ◌∷◌, ◌++◌, length, filter, Option, Result, Ok, Err}
 use Rattle.std.specs.List.{All}
 use Rattle.std.specs.Io.KnownBytes.{Consumes, IsAtEnd}
 use Rattle.l4_shell.specs.Lines.{ScriptLine, lines_of}
 use Rattle.l4_text.specs.Streams.{Tells}
+use Rattle.l4_ipc.specs.Machine.{IsBoot}
+use Rattle.l4_seats.specs.Seated.{Seated}
 use Rattle.l4_shell.specs.Sessions.{Session, AnswersLines}
 use Rattle.l4_text.specs.declared.faults.RunFault.{RunFault}
 use Rattle.l4_text.specs.declared.faults.RunFault.TheVariants.{Read, Write, Memory}
@@ -43,3 +45,7 @@ TellsScript m old new written now before after (Ok count) = TellsAll m old new w
 TellsScript m old new written now before after (Err Read) = TellsWhole m old new written now before after
 TellsScript m old new written now before after (Err Write) = TellsBeginning m old new written now before after
 TellsScript m old new written now before after (Err Memory) = ⊥
+
+-- a kernel as it boots, in which sigma0 and root have their seats
+abbrev pub HasFirstSeats : ℕ → Seated → Type 0
+HasFirstSeats frames kernel = IsBoot frames kernel.machine × (kernel.history ≡ []) × (kernel.numbers ≡ 1 ∷ 2 ∷ []) × (kernel.seen ≡ 0)

@@ -1,35 +1,47 @@
 -- What parts of a line's carrying out do and tell, before what is held back goes out.
-use Rattle.std.specs.Prelude.{◌≡◌, ℕ, ◌≤◌, Bool, List, ◌++◌, length, Option, Ok, Err}
+use Rattle.std.specs.Prelude.{◌≡◌, ℕ, ◌≤◌, Bool, List, ◌++◌, length, Option}
 use Rattle.std.specs.List.{flat_map}
 use Rattle.l4_ipc.specs.Machine.{Machine}
 use Rattle.l4_ipc.specs.declared.calls.Call.{Call}
 use Rattle.l4_ipc.specs.declared.steps.Step.TheVariants.{Start}
-use Rattle.l4_ipc.specs.declared.steps.Answer.{Answer}
-use Rattle.l4_ipc.specs.declared.steps.Refused.{Refused}
-use Rattle.l4_ipc.specs.Steps.{Steps, IsIdle}
-use Rattle.l4_ipc.specs.Following.{Done, AreNext}
+use Rattle.l4_lock.specs.declared.entries.Entry.{Entry}
+use Rattle.l4_lock.specs.declared.refusals.LockRefusal.{LockRefusal}
+use Rattle.l4_seats.specs.Seated.{Seated, Enters as EntersCall, Refuses as RefusesCall}
 use Rattle.l4_text.specs.Streams.{Tells}
-use Rattle.l4_answers.specs.Refusals.{kernel_refusal, refused_text}
+use Rattle.l4_answers.specs.Refusals.{refused_text}
+use Rattle.l4_shell.specs.Refusals.{lock_refusal}
 use Rattle.l4_shell.specs.Sessions.{Session, session, step_text, done_text, is_among, ended_in, Act, act_text, ended_by, AreActs, most_acts, StopsActing}
 
--- a call was started, and its start told
-pub record TellsStart (old : Machine) (thread : ℕ) (call : Call) (answer : Answer) (new : Machine) (written now : Option (List ℕ)) (before after : List ℕ × Bool) : Type 0 where
-  pub starts : Steps old (Start thread call) (Ok answer) new
-  pub tells : Tells written now before after (step_text (Start thread call) answer new)
+-- what is told of an entry, where the replies of the calls that ended in it are read later
+abbrev pub entry_text : Machine → Entry → List ℕ
+entry_text m entry = step_text entry.step entry.answer m
+
+-- the threads whose calls ended in these entries
+abbrev pub ended_at : List Entry → List ℕ
+ended_at entries = flat_map (λ entry. entry.answer.ended.items) entries
+
+-- entries were told; the thread's call ended in one or not
+pub record TellsEntries (m : Machine) (entries : List Entry) (thread : ℕ) (ended : Bool) (written now : Option (List ℕ)) (before after : List ℕ × Bool) : Type 0 where
+  pub ended_is : ended ≡ is_among thread (ended_at entries)
+  pub tells : Tells written now before after (flat_map (entry_text m) entries)
+
+-- a call was entered, and its start told and the steps that followed; another thread's call ended in one of them or not
+pub record TellsCall (old : Seated) (caller : ℕ) (call : Call) (thread : ℕ) (ended : Bool) (new : Seated) (written now : Option (List ℕ)) (before after : List ℕ × Bool) : Type 0 where
+  pub enters : EntersCall old new caller call
+  pub ended_is : ended ≡ is_among thread (enters.answer.ended.items ++ ended_in enters.steps)
+  pub tells : Tells written now before after (step_text (Start caller call) enters.answer enters.started ++ flat_map done_text enters.steps)
 
 -- a call was refused, and that told
-pub record TellsRefusal (old : Machine) (line thread : ℕ) (call : Call) (new : Machine) (written now : Option (List ℕ)) (before after : List ℕ × Bool) : Type 0 where
-  pub refusal : Refused
-  pub refused : Steps old (Start thread call) (Err refusal) new
-  pub tells : Tells written now before after (refused_text line (kernel_refusal refusal))
+pub record TellsRefusal (old : Seated) (line thread : ℕ) (call : Call) (new : Seated) (written now : Option (List ℕ)) (before after : List ℕ × Bool) : Type 0 where
+  pub refusal : LockRefusal
+  pub refused : RefusesCall old.machine (length old.history) old.numbers thread call refusal
+  pub same : new ≡ old
+  pub tells : Tells written now before after (refused_text line (lock_refusal refusal))
 
--- the step that comes next was done, again and again until there was none, and told; the thread's call ended in one or not
-pub record TellsSteps (old : Machine) (thread : ℕ) (ended : Bool) (new : Machine) (written now : Option (List ℕ)) (before after : List ℕ × Bool) : Type 0 where
-  pub steps : List Done
-  pub next : AreNext old steps new
-  pub idle : IsIdle new
-  pub ended_is : ended ≡ is_among thread (ended_in steps)
-  pub tells : Tells written now before after (flat_map done_text steps)
+-- a call was refused, and nothing was told
+abbrev pub TellsNothing : Seated → ℕ → Call → LockRefusal → Seated → Option (List ℕ) → Option (List ℕ) → List ℕ × Bool → List ℕ × Bool → Type 0
+TellsNothing old thread call refusal new written now before after =
+    RefusesCall old.machine (length old.history) old.numbers thread call refusal × (new ≡ old) × (now ≡ written) × (after ≡ before)
 
 -- served threads acted until none does further, and that was told; the thread's call ended in one of the acts or not
 pub record TellsActs (old : Session) (thread : ℕ) (ended : Bool) (new : Session) (written now : Option (List ℕ)) (before after : List ℕ × Bool) : Type 0 where

@@ -7,16 +7,16 @@ pub loop-init : goal.loop-init
 loop-init g c = acting_none _ _ _ _
 
 pub returns-in_default : goal.returns-in_default
-returns-in_default g c = acting_quiet _ _ _ _ _ _ _ _ _ _ _ (omega (arith, c.loop-test.true)) c.loop.invariant c.in_default.ensures
+returns-in_default g c = acting_quiet _ _ _ _ _ _ _ _ _ _ _ _ (omega (arith, c.loop-test.true)) c.loop.invariant c.kernel.ensures c.in_default.ensures
 
 pub returns-in-Err : goal.returns-in-Err
 returns-in-Err g c =
-    acting_refused _ _ _ _ _ _ _ _ _ _ _ _ _ _ _ _ _ _ c.loop-test.true c.loop.invariant c.in-Some.ensures c.in-Err.ensures
-    (c.refused_act_text.ensures ∙ ap (refused_act_text _) c.refused_code.ensures) c.put.ensures
+    acting_refused _ _ _ _ _ _ _ _ _ _ _ _ _ _ _ _ _ _ _ _ _ c.loop-test.true c.loop.invariant c.kernel.ensures c.in-Some.ensures c.in-Err.ensures
+    (c.refused_act_text.ensures ∙ ap (refused_act_text _) c.lock_code.ensures) c.put.ensures
 
 pub loop-preserved : goal.loop-preserved
 loop-preserved g c =
-    acting_more _ _ _ _ _ _ _ _ _ _ _ _ _ _ _ _ _ _ _ _ _ _ c.loop.invariant c.in-Some.ensures c.in-Ok.ensures c.tell.ensures c.settle-settled.ensures c.has_ended-own.ensures
+    acting_more _ _ _ _ _ _ _ _ _ _ _ _ _ _ _ _ _ _ c.loop.invariant c.kernel.ensures c.in-Some.ensures c.in-Ok.ensures
 
 pub returns : goal.returns
 returns g c = acting_spent _ _ _ _ _ _ _ _ _ (omega (arith, c.loop-test.false, c.loop.auto)) c.loop.invariant
