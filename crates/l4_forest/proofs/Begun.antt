@@ -56,6 +56,11 @@ module _ (start now : Linked) (from to : ℕ) (items : List ItemMove) (way : Cle
           source = λ move used place.
               let both : record e { stands = Some (record t { source = true }) } ≡ record e { stands = Some (record t { source = l.0 }) } = same_value (sym (way.source move used key e t at (sym place) stands) ∙ l.1) in
               sym (ap marked_in both);
+          plain = λ none.
+              let both : e ≡ record e { stands = Some (record t { source = l.0 }) } = same_value (sym (way.stays key e at stays (λ t. none t.0 t.1 (sym t.2))) ∙ l.1) in
+              let p = ready.clean key e at in
+              let unmarked : t.source ≡ false = ap (λ (x : Standing). x.source) (same_value (sym stands ∙ p.stands)) ∙ p.no_source in
+              sym (ap marked_in both) ∙ ap (λ (o : Option Standing). unwrap_or (option_map (λ (x : Standing). x.source) o) false) stands ∙ unmarked;
         };
     only = λ key e at. only_left ready.clean key e at (entry_at start.entries key) refl;
   }

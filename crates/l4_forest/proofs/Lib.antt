@@ -1,10 +1,13 @@
+pub mod AllDone
 pub mod Begun
 pub mod Buried
 pub mod CapLoops
 pub mod Capped
 pub mod Caps
 pub mod Cut
+pub mod CutLoss
 pub mod Deciding
+pub mod Finished
 pub mod FirstPlaces
 pub mod Gone
 pub mod GrantWalk

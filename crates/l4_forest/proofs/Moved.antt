@@ -82,11 +82,11 @@ module _ (start now : Linked) (from to : ℕ) (items : List ItemMove) (ready : I
   apart : (u : PageMove) → Moves u → u.target ≢ u.source
   apart u used e = source_stays start now from to items ready Done placed have u used (record { move = u; used = used; present = ap is_some (ap (shown before_all) e ∙ used.present); below = inl (sym e) })
 
-  granted_to : (u : PageMove) → Moves u → IsTrue u.grant → GrantedTo start now from to items ready Done placed have u
+  pub granted_to : (u : PageMove) → Moves u → IsTrue u.grant → GrantedTo start now from to items ready Done placed have u
   granted_to u used grant = granted_place start now from to items ready Done placed have u used (all u used) grant
 
   -- a place that a move has granted is not where an entry of that key and that place stands
-  not_granted_here : (key : ℕ) (e before : Entry) → entry_at now.entries key ≡ Some e → entry_at start.entries key ≡ Some before → before.place ≡ e.place → ¬ (HasGone start from to items Done before.place)
+  pub not_granted_here : (key : ℕ) (e before : Entry) → entry_at now.entries key ≡ Some e → entry_at start.entries key ≡ Some before → before.place ≡ e.place → ¬ (HasGone start from to items Done before.place)
   not_granted_here key e before at at_start same g =
       let p = granted_to g.move g.used g.grant in
       let key_is : p.key ≡ key = ready.places.once (link_place g.move.source) p.key key p.at_start (ap (option_map {T = Entry} (λ x. x.place)) at_start ∙ ap Some (sym g.source)) in

@@ -96,6 +96,7 @@ module _ (start : Linked) (from to : ℕ) (items : List ItemMove) where
               marked = l.marked;
               at = s.stands.others k (stands_elsewhere k (record e { stands = Some (record t { source = l.marked }) }) (record t { source = l.marked }) l.at refl) ∙ l.at;
               source = l.source;
+              plain = l.plain;
             };
         only = λ k e at. elim (same_or_not k key) [
           | inl same ↦
@@ -161,6 +162,7 @@ module _ (start : Linked) (from to : ℕ) (items : List ItemMove) where
                   (λ same. gone (record { move = u; used = used; done = inr refl; grant = grant; source = sym place_start ∙ ap (λ (x : Entry). x.place) (same_entry start.entries source k before e at_start at (sym same)) }))
                   (stands_elsewhere k (record e { stands = Some (record t { source = l.marked }) }) (record t { source = l.marked }) l.at refl) ∙ l.at;
               source = l.source;
+              plain = l.plain;
             };
         only = λ k e at. elim (same_or_not k source) [
           | inl same ↦

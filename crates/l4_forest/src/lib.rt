@@ -8,6 +8,7 @@ ghost use Rattle.std.specs.FinSet as set;
 mod booting;
 mod clearing;
 mod cutting;
+mod delivering;
 mod ending;
 mod moving;
 mod preparing;
@@ -22,7 +23,7 @@ mod unmarking;
 
 use l4_fpage::{Block, Rights};
 use l4_links::Links;
-use l4_mapdb::{ItemMove, Mapping, NoMemory, Place};
+use l4_mapdb::{Cause, ItemMove, Mapping, NoMemory, Place};
 use std::alloc::Global;
 use std::marker::Model;
 
@@ -52,7 +53,8 @@ impl Forest {
     ghost use Rattle.l4_mapdb.specs.Mappings.{Mappings, shown, IsForest, IsRoot};
     ghost use Rattle.l4_mapdb.specs.Boot.{IsFirst};
     ghost use Rattle.l4_mapdb.specs.Places.{NonePresentFrom, IsNextPresent};
-    ghost use Rattle.l4_mapdb.specs.Transfer.{IsUsed, IsEntangled};
+    ghost use Rattle.l4_mapdb.specs.Transfer.{IsUsed, IsEntangled, TargetsPresent, Delivers};
+    ghost use Rattle.l4_mapdb.specs.Causes.{HasCause};
     ghost use Rattle.l4_mapdb.specs.Losing.{Revokes, RevokesBlock, EndsSpace};
 
     /// The mappings at the start: space 0 shows each frame below `frames` at the page of its number
@@ -111,6 +113,38 @@ impl Forest {
         self.links.law_places();
         self.links.law_trees();
         tangles::has_tangle(&self.links, from, to, moves)
+    }
+
+    /// Moves what a message maps and grants from the one space to the other, and these are two spaces that are there, or one. Used are
+    /// the moves of pages that are present and share a right with their item. All is read before anything is changed. Each present
+    /// target of a used move goes with all its descendants. A mapped page shows the source's frame with the common rights, and has the
+    /// source as parent. A granted page takes its source's place, with the common rights: it has its parent and its children, and all that
+    /// descends from it loses the rights that the source had and it has not (L4 X.2 manual, IPC: map item, grant item).
+    ///
+    /// `Entangled` comes where the used moves contradict each other, and else `NoMemory` may come, but only where a used target is not
+    /// present. After either, every mapping is as before.
+    pub fn map_all(&mut self, from: u64, to: u64, moves: &[ItemMove]) -> Result<(), Cause>
+        requires from_there { IsTrue (set.contains self.old.spaces from) }
+        requires to_there { IsTrue (set.contains self.old.spaces to) }
+        ensures ok { OnOk result (Delivers from to moves.now self.old self.new) }
+        ensures free { OnOk result (¬ (IsEntangled (IsUsed self.old from to moves.now) self.old)) }
+        ensures err { OnErr result (self.new ≡ self.old) }
+
+        // Only a used target that is not present needs memory.
+        ensures cause { IfErr result (HasCause (IsUsed self.old from to moves.now) self.old) }
+        ensures succeeds { TargetsPresent (IsUsed self.old from to moves.now) self.old → ¬ (IsEntangled (IsUsed self.old from to moves.now) self.old) → IsOk result }
+    {
+        self.links.law_places();
+        self.links.law_trees();
+        match preparing::make_way(&mut self.links, from, to, moves) {
+            Ok(()) => {}
+            Err(cause) => {
+                self.links.law_places();
+                return Err(cause);
+            }
+        }
+        delivering::carry_out(&mut self.links, from, to, moves);
+        Ok(())
     }
 
     /// Takes the rights from all that descends from the page of the space, and from that page too

@@ -43,11 +43,12 @@ module _ (start : Linked) (from to : ℕ) (items : List ItemMove) where
     pub grant : IsTrue move.grant
     pub source : link_place move.source ≡ place
 
-  -- what stood at the place stands there, perhaps marked as a source, and surely so if a used move has it as source
+  -- what stood at the place stands there, marked as a source if a used move has it as source, and unmarked if none has
   pub record IsLeftAt (now : Linked) (key : ℕ) (e : Entry) (t : Standing) : Type 0 where
     pub marked : Bool
     pub at : entry_at now.entries key ≡ Some (record e { stands = Some (record t { source = marked }) })
     pub source : (move : PageMove) → Used move → link_place move.source ≡ e.place → marked ≡ true
+    pub plain : ((move : PageMove) → Used move → link_place move.source ≢ e.place) → marked ≡ false
 
   -- what the map item moves stands at the target as a child of the source
   pub record HasChild (now : Linked) (move : PageMove) : Type 0 where
