@@ -161,6 +161,7 @@ class Shell:
         self.sigma0 = Sigma0(frames)
         self.served = set()
         self.regions = {}
+        self.steps = 0
         self.line = 0
         self.out = []
 
@@ -279,6 +280,10 @@ class Shell:
         else:
             self.out.append(f"parent {mapping.parent[0]} {mapping.parent[1]}")
 
+    def do_steps(self, tokens):
+        tokens.end()
+        self.out.append(f"steps {self.steps}")
+
     def known(self, number):
         thread = self.machine.threads.get(number)
         if thread is None:
@@ -289,7 +294,9 @@ class Shell:
 
     def enter(self, number, call, serves=False):
         self.waiting = number
-        self.tell(self.machine.start(number, call))
+        answer = self.machine.start(number, call)
+        self.steps += 1
+        self.tell(answer)
         if serves:
             self.served.add(number)
         if call[0] == "delete":
@@ -304,6 +311,7 @@ class Shell:
             except Refused as refusal:
                 self.out.append(f"{running[0]} refused {refusal.text()}")
                 break
+            self.steps += 1
             self.tell(answer)
             self.go_on()
         if self.waiting is not None:
@@ -328,6 +336,7 @@ class Shell:
         while (step := self.machine.enabled()) is not None:
             kind, *numbers = step
             outcome, ended = getattr(self.machine, kind)(*numbers)
+            self.steps += 1
             self.out.append(" ".join(map(str, step)) + (f" {outcome}" if kind == "transfer" else ""))
             self.tell((outcome, ended))
 
@@ -343,7 +352,7 @@ class Shell:
 
     def questions(self):
         """The lines that ask for everything that is to be seen."""
-        lines = []
+        lines = ["steps"]
         told = set()
         for number in sorted(self.machine.threads):
             space = self.machine.threads[number].space
