@@ -5,6 +5,7 @@
 #![tactic(auto)]
 
 ghost use Rattle.std.specs.Prelude.{◌≤◌};
+ghost use Rattle.l4_fpage.specs.Pages.{max_frames};
 
 use l4_msg::Region;
 use l4_options::{Options, command_words, misread, show, status_of, stopped};
@@ -17,7 +18,7 @@ const NOT_PROVED: u8 = 1;
 /// Answers the script on standard input.
 fn answer_script<R: AllocGlobal + Input + Print + Eprint>(rt: &R, frames: u32) -> u8
     requires some { 1 ≤ frames }
-    requires fit { frames ≤ 4096 }
+    requires fit { frames ≤ max_frames }
 {
     match run(rt.alloc(), frames, &mut rt.reader(), &mut io::writer(rt)) {
         Ok(_) => 0,

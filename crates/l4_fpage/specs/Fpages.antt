@@ -4,6 +4,7 @@ use Rattle.std.specs.Prelude.{◌≡◌, ℕ, ◌+◌, ◌*◌, ◌/◌, ◌%◌
 use Rattle.l4_fpage.specs.Rights.{RightsSet, no_rights, set_of_bits, bits_of}
 use Rattle.l4_fpage.specs.declared.fpages.Fpage.{Fpage}
 use Rattle.l4_fpage.specs.declared.fpages.Fpage.TheVariants.{Nil, Complete, Sized}
+use Rattle.l4_fpage.specs.Pages.{page_bytes, address_log}
 
 -- 2 ^ log bytes from base on
 pub record Bytes : Type 0 where
@@ -13,7 +14,7 @@ pub record Bytes : Type 0 where
 -- the bytes that an fpage names, if any; the complete one names all 2 ^ 32
 abbrev pub bytes_of : Fpage → Option Bytes
 bytes_of Nil = None
-bytes_of (Complete r) = Some (record { base = 0; log = 32 })
+bytes_of (Complete r) = Some (record { base = 0; log = address_log })
 bytes_of (Sized e) = Some (record { base = e.base; log = e.log })
 
 -- the set of rights that an fpage names
@@ -22,10 +23,10 @@ rights_of Nil = no_rights
 rights_of (Complete r) = r
 rights_of (Sized e) = e.rights
 
--- page by page: a page is named where all its 4,096 bytes are
+-- page by page: a page is named where all its bytes are
 pub record HasPage (b : Bytes) (page : ℕ) : Type 0 where
-  pub from : b.base ≤ page * 4096
-  pub below : page * 4096 + 4096 ≤ b.base + 2 ^ b.log
+  pub from : b.base ≤ page * page_bytes
+  pub below : page * page_bytes + page_bytes ≤ b.base + 2 ^ b.log
 
 -- the fpage names the page
 abbrev pub HoldsPage : Fpage → ℕ → Type 0

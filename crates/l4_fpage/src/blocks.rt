@@ -1,5 +1,5 @@
 ghost use Rattle.std.specs.Prelude.{◌≡◌, ℕ, ◌+◌, ◌%◌, ◌^◌, ◌<◌, ◌≤◌, ◌↔◌, ◌⊎◌, IsTrue, IsSome, IfSome, MatchOption};
-ghost use Rattle.l4_fpage.specs.Pages.{IsBlock, InBlock};
+ghost use Rattle.l4_fpage.specs.Pages.{IsBlock, InBlock, space_pages};
 
 /// The binary logarithm of the bytes of a page: 4,096 bytes (this profile's own).
 pub const PAGE_LOG: u8 = 12;
@@ -9,6 +9,9 @@ pub const SPACE_LOG: u8 = 20;
 
 /// The pages of a space: 1,048,576.
 pub const SPACE_PAGES: u32 = 1 << SPACE_LOG;
+
+/// The frames of a machine, at most (this profile's own).
+pub const MAX_FRAMES: u32 = 4096;
 
 /// A block of pages: 2^log of them, `log` from 0 to 20, the first page a multiple of 2^log, all of
 /// them below 2^20 (this profile's own).
@@ -65,8 +68,8 @@ impl Block {
 
     /// The smallest block that holds both pages.
     pub fn join(a: u32, b: u32) -> Block
-        requires a { a < 2 ^ 20 }
-        requires b { b < 2 ^ 20 }
+        requires a { a < space_pages }
+        requires b { b < space_pages }
         ensures holds_a { InBlock result.first result.log a }
         ensures holds_b { InBlock result.first result.log b }
         ensures smallest { (first log : ℕ) → IsBlock first log → InBlock first log a → InBlock first log b → result.log ≤ log }

@@ -1,5 +1,5 @@
 ghost use Rattle.std.specs.Prelude.{◌≡◌, ℕ, ◌+◌, ◌-◌, ◌*◌, ◌/◌, ◌%◌, ◌^◌, ◌<◌, ◌≤◌, ◌↔◌, IsTrue, IsSome, IfSome, MatchOption, IfOk, IsErr};
-ghost use Rattle.l4_fpage.specs.Pages.{InBlock};
+ghost use Rattle.l4_fpage.specs.Pages.{InBlock, page_bytes, page_log};
 
 use crate::{Block, PAGE_LOG, Rights, SPACE_LOG};
 
@@ -32,7 +32,7 @@ impl Fpage {
 
     /// The fpage of a block's pages: the complete one for the block of the whole space.
     pub fn of_block(block: Block, rights: Rights) -> Fpage
-        ensures bytes { bytes_of result ≡ Some (record { base = block.first * 4096; log = block.log + 12 }) }
+        ensures bytes { bytes_of result ≡ Some (record { base = block.first * page_bytes; log = block.log + page_log }) }
         ensures rights { rights_of result ≡ rights }
     {
         if block.log == SPACE_LOG {
@@ -102,7 +102,7 @@ impl Fpage {
     /// page: for the nil fpage and for one of 1 or 2 KiB.
     pub fn pages(&self) -> Option<Block>
         ensures none { IsSome result ↔ MatchOption (bytes_of self.now) ⊥ (λ b. 12 ≤ b.log) }
-        ensures exact { IfSome result (λ block. MatchOption (bytes_of self.now) ⊥ (λ b. (block.first ≡ b.base / 4096) × (block.log ≡ b.log - 12))) }
+        ensures exact { IfSome result (λ block. MatchOption (bytes_of self.now) ⊥ (λ b. (block.first ≡ b.base / page_bytes) × (block.log ≡ b.log - page_log))) }
         ensures pages { (page : ℕ) → MatchOption result ⊥ (λ block. InBlock block.first block.log page) ↔ HoldsPage self.now page }
     {
         match self {

@@ -6,7 +6,7 @@ mod blocks;
 mod fpages;
 
 pub use bits::{RightBits, Rights};
-pub use blocks::{Block, PAGE_LOG, SPACE_LOG, SPACE_PAGES};
+pub use blocks::{Block, MAX_FRAMES, PAGE_LOG, SPACE_LOG, SPACE_PAGES};
 pub use fpages::{BadFpage, Extent, Fpage};
 
 #[cfg(test)]

@@ -5,6 +5,7 @@ use Rattle.std.specs.Option.{option_map_or}
 use Rattle.l4_fpage.specs.Rights.{RightsSet, is_none, without, all_rights}
 use Rattle.l4_fpage.specs.declared.fpages.Fpage.{Fpage}
 use Rattle.l4_fpage.specs.declared.fpages.Fpage.TheVariants.{Nil, Complete}
+use Rattle.l4_fpage.specs.Pages.{page_bytes}
 use Rattle.l4_msg.specs.Tags.{untyped_of, typed_of}
 use Rattle.l4_msg.specs.Words.{WindowReads, IsBadWindow}
 use Rattle.l4_msg.specs.Messages.{MessageReads, MessageFails, tag_of, message_words}
@@ -145,7 +146,7 @@ ipc_next t n call sent window =
 
 -- the space shows the page, with all rights of the access
 abbrev pub has_page : Mappings → ℕ → FaultCall → Bool
-has_page s space call = holds (rights_at s (record { space = space; page = call.address / 2 ^ 12 })) where
+has_page s space call = holds (rights_at s (record { space = space; page = call.address / page_bytes })) where
   holds : RightsSet → Bool
   holds rights = is_none (without call.access rights) && not (is_none rights)
 

@@ -4,12 +4,9 @@ use Rattle.std.specs.Ordering.{eq_by_cmp, is_eq}
 use Rattle.std.specs.Cmp.{tied_itself}
 use Rattle.std.specs.declared.cmp.Ordering.{Ordering}
 use Rattle.std.specs.declared.cmp.Ordering.TheVariants.{Less, Equal, Greater}
-use Rattle.std.specs.FinMap.{find}
 use Rattle.std.proofs.lemmas.Bool.Decides.{nat_tests}
 use Rattle.l4_mapdb.specs.declared.Place.{Place}
-use Rattle.l4_mapdb.specs.declared.Mapping.{Mapping}
 use Rattle.l4_mapdb.specs.Mappings.{place_cmp, Chain, child, further}
-use Rattle.l4_mapdb.specs.Inside.Entries.{Entries}
 use Rattle.l4_mapdb.proofs.Places.{places_total, exact_places}
 
 pub tie : (p q : Place) → p ≡ q → eq_by_cmp place_cmp p q ≡ true
@@ -29,15 +26,6 @@ apart p q ne =
       | true ↦ λ h. absurd (ne (untie p q h))
       | false ↦ λ h. refl
     ] refl
-
--- what is found stands somewhere
-pub found_at : (es : Entries) (q : Place) (m : Mapping) → find place_cmp q es ≡ Some m → (i : ℕ) × (slice_get es i ≡ Some (q, m))
-found_at [] q m h = absurd (let k : ◌≡◌ {A = Option Mapping} None (Some m) = h in cc)
-found_at (e ∷ es) q m h =
-    elim (eq_by_cmp place_cmp q e.0) as (λ b. eq_by_cmp place_cmp q e.0 ≡ b → cond b (Some e.1) (find place_cmp q es) ≡ Some m → (i : ℕ) × (slice_get (e ∷ es) i ≡ Some (q, m))) [
-      | true ↦ λ t is. (0, let k : q ≡ e.0 = untie q e.0 t in let v : e.1 ≡ m = cc in (λ i. Some (sym k i, v i)))
-      | false ↦ λ t is. let r = found_at es q m is in (suc r.0, r.1)
-    ] refl h
 
 -- no chain leads up from a place without a parent
 pub no_chain : (parent : Place → Option Place) {low high : Place} → parent low ≡ None → Chain parent low high → ⊥

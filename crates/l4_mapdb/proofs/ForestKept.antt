@@ -4,11 +4,9 @@ use Rattle.std.specs.FinSet as set
 use Rattle.l4_fpage.specs.Rights.{RightsSet, Right, Read, Write, Execute, has, no_rights}
 use Rattle.l4_mapdb.specs.declared.Place.{Place}
 use Rattle.l4_mapdb.specs.declared.Mapping.{Mapping}
-use Rattle.l4_mapdb.specs.declared.losing.Pages.{Pages}
 use Rattle.l4_mapdb.specs.Mappings.{Mappings, shown, parent_of, child, further, Descends, IsOrDescends, IsRoot, IsForest, ParentHolds}
 use Rattle.l4_mapdb.proofs.Unique.{same_value, same_rights}
 use Rattle.l4_mapdb.specs.Losing.{IsLeft, LosesRights}
-use Rattle.l4_mapdb.specs.Inside.Records.{RevokedIn}
 
 -- what follows from a decision follows, where it is a contradiction
 pub decide : (P : Type 0) → (P ⊎ ¬ P → ⊥) → ⊥
@@ -150,15 +148,3 @@ module _ (Lost : Place → Right → Type 0) (old new : Mappings)
         ];
     one_root = λ f a b x y. forest.one_root f a b (root_was f a x) (root_was f b y);
   }
-
--- a revocation leaves a forest
-pub revokes_keeps : (pages : Pages) (rights : RightsSet) (with_self : Bool) (old new : Mappings) → IsForest old → LosesRights (RevokedIn old pages rights with_self) old new → IsForest new
-revokes_keeps pages rights with_self old new forest loses =
-    forest_kept (RevokedIn old pages rights with_self) old new
-    (λ low high k up lost. (
-      lost.0,
-      inr (elim lost.1 [
-        | inl self ↦ (high, (self.1, child up))
-        | inr below ↦ (below.0, (below.1.0, further up below.1.1))
-      ]),
-    )) (forest_loose (RevokedIn old pages rights with_self) old forest) loses

@@ -1,20 +1,13 @@
--- Chains of parents that lead to one of some pages.
-use Rattle.std.proofs.Common.{◌≡◌, Option, Some, None, subst, ◌↔◌, inl, inr, sym}
-use Rattle.l4_mapdb.specs.declared.Place.{Place}
-use Rattle.l4_mapdb.specs.declared.losing.Pages.{Pages}
-use Rattle.l4_mapdb.specs.Mappings.{further}
-use Rattle.l4_mapdb.specs.Inside.Entries.{Entries, parent_in, IsAmong, LeadsInto}
-use Rattle.l4_mapdb.proofs.EntriesLemmas.{chain_up, no_chain}
+-- Chains of keys.
+use Rattle.std.proofs.Common.{◌≡◌, ℕ, Option, sym, ◌∙◌}
+use Rattle.l4_links.specs.Leads.{Leads, step, steps}
 
--- the parent is none of the pages, so the question is passed on to it
-pub passes_into : (es : Entries) (pages : Pages) (at next : Place) → parent_in es at ≡ Some next → ¬ (IsAmong pages next) → LeadsInto es pages at ↔ LeadsInto es pages next
-passes_into es pages at next up apart = (
-  λ h. elim (chain_up (parent_in es) next up h.1.1) [
-    | inl e ↦ absurd (apart (subst (λ (x : Place). IsAmong pages x) (sym e) h.1.0))
-    | inr r ↦ (h.0, (h.1.0, r))
-  ],
-  λ h. (h.0, (h.1.0, further up h.1.1)),
-)
+-- chains go along equal parents
+pub leads_along : (f g : ℕ → Option ℕ) → ((key : ℕ) → f key ≡ g key) → {low high : ℕ} → Leads f low high → Leads g low high
+leads_along f g same {low} (step is) = step (sym (same low) ∙ is)
+leads_along f g same {low} (steps is rest) = steps (sym (same low) ∙ is) (leads_along f g same rest)
 
-pub leads_nowhere : (es : Entries) (pages : Pages) (at : Place) → parent_in es at ≡ None → ¬ (LeadsInto es pages at)
-leads_nowhere es pages at top h = no_chain (parent_in es) top h.1.1
+-- chains one after another are a chain
+pub leads_on : (f : ℕ → Option ℕ) {low middle high : ℕ} → Leads f low middle → Leads f middle high → Leads f low high
+leads_on f (step is) rest = steps is rest
+leads_on f (steps is more) rest = steps is (leads_on f more rest)

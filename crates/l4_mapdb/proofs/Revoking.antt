@@ -1,13 +1,6 @@
--- What is left of rights, and the mappings of a list.
+-- What is left of rights.
 use Rattle.std.proofs.Common.{◌≡◌, ◌≢◌, ℕ, Bool, true, false, not, ◌&&◌, List, IsTrue, refl, ap, ◌↔◌}
-use Rattle.std.specs.FinMap as map
-use Rattle.std.specs.FinMap.{find, get-from_entries}
-use Rattle.std.specs.FinSet as set
 use Rattle.l4_fpage.specs.Rights.{RightsSet, Right, has, Read, Write, Execute, without, no_rights, is_none}
-use Rattle.l4_mapdb.specs.declared.Place.{Place}
-use Rattle.l4_mapdb.specs.Mappings.{place_cmp, Mappings, shown}
-use Rattle.l4_mapdb.specs.Inside.Entries.{Entries}
-use Rattle.l4_mapdb.proofs.Places.{places_total}
 
 and_not : (a b : Bool) → IsTrue (a && not b) ↔ (IsTrue a × ¬ (IsTrue b))
 and_not true true = (λ h. (refl, λ _. let k : false ≡ true = h in cc), λ h. absurd (h.1 refl))
@@ -28,10 +21,3 @@ from_rights false false false = (λ h. absurd (let k : false ≡ true = h in cc)
 
 pub none_is : (a : RightsSet) → (not (is_none a) ≡ true) ↔ (a ≢ no_rights)
 none_is a = from_rights a.r a.w a.x
-
--- the mappings of the lists
-abbrev pub of_lists : Entries → List ℕ → Mappings
-of_lists es spaces = record { places = map.from_entries es; spaces = set.from_list spaces }
-
-pub shown_in : (es : Entries) (spaces : List ℕ) (q : Place) → shown (of_lists es spaces) q ≡ find place_cmp q es
-shown_in es spaces q = get-from_entries places_total es q

@@ -1,8 +1,8 @@
-pub mod Covering
-pub mod Entries
-pub mod Forest
-pub mod Records
-pub mod Sheets
-pub mod Shown
-pub mod Stores
+pub mod Cuts
+pub mod Cutting
+pub mod Kept
+pub mod Messages
+pub mod Placing
+pub mod Settling
 pub mod Tangles
+pub mod View

@@ -1,55 +1,42 @@
 //! The end of a space.
 
-ghost use Rattle.std.specs.Prelude.{◌≡◌, ◌↔◌, ℕ, IsTrue};
-ghost use Rattle.l4_mapdb.specs.Inside.Entries.{IsAcyclic};
-ghost use Rattle.l4_mapdb.specs.Inside.Sheets.{slot_at, now_in, RecordedOnce};
-ghost use Rattle.l4_mapdb.specs.Inside.Records.{GoesIn, EndsSlot};
+ghost use Rattle.std.specs.Prelude.{◌≡◌, true};
+ghost use Rattle.l4_spaces.specs.Tables.{space_pages};
+ghost use Rattle.l4_links.specs.Entries.{HavePlaces, HaveRights, AreTrees, NoKeyFrom};
+ghost use Rattle.l4_mapdb.specs.Inside.Kept.{IsClean};
+ghost use Rattle.l4_mapdb.specs.Inside.Cuts.{IsCovered, TakesKeys};
 
-use crate::store::{Node, Store};
-use crate::{Mapping, Place};
+use l4_links::{Links, Place};
 
-/// Whether the place is of the space or descends from a place of it. A chain of parents meets no place twice.
-fn goes(places: &Store, space: u64, place: Place) -> bool
-    requires { IsAcyclic (now_in places.now.slots) }
-    ensures { IsTrue result ↔ GoesIn (now_in places.now.slots) space place }
+/// Where nothing is marked and there is no blank, what stands has a right. It does nothing.
+fn law_rights(links: &Links)
+    requires { IsClean links.now }
+    ensures { HaveRights links.now.entries }
 {
-    let mut at = place;
-    for _ in 0..places.bound() {
-        if at.space == space {
-            return true;
-        }
-        let Some(parent) = places.parent(at) else {
-            return false;
+    let _ = links;
+}
+
+/// Takes all pages of the space away, with all that descends from them.
+pub(crate) fn clear(links: &mut Links, space: u64)
+    requires { IsClean links.old }
+    ensures takes { TakesKeys (IsCovered links.old.entries space 0 space_pages true) links.old.entries links.new.entries }
+    ensures empty { NoKeyFrom links.new.entries space 0 }
+    ensures spaces { links.new.spaces ≡ links.old.spaces }
+{
+    links.law_places();
+    links.law_trees();
+    let mut next = 0;
+    loop {
+        let Some(page) = links.next_key(space, next) else {
+            return;
         };
-        at = parent;
-    }
-    at.space == space
-}
-
-/// What the record shows, or nothing if its place goes with the space.
-fn left(places: &Store, node: &Node, space: u64) -> Option<Mapping>
-    requires { IsAcyclic (now_in places.now.slots) }
-    ensures gone { GoesIn (now_in places.now.slots) space node.now.place → result ≡ None }
-    ensures kept { ¬ (GoesIn (now_in places.now.slots) space node.now.place) → result ≡ node.now.shows }
-{
-    if goes(places, space, node.place) {
-        return None;
-    }
-    node.shows
-}
-
-/// Lets each record be to show what it shows, or nothing if its place goes with the space.
-pub(crate) fn clear(places: &mut Store, space: u64)
-    requires acyclic { IsAcyclic (now_in places.old.slots) }
-    requires once { RecordedOnce places.old.slots }
-    ensures ends { (key : ℕ) → EndsSlot (GoesIn (now_in places.old.slots) space) (slot_at places.old.slots key) (slot_at places.new.slots key) }
-    ensures once { RecordedOnce places.new.slots }
-    ensures spaces { places.new.spaces ≡ places.old.spaces }
-{
-    for key in 0..places.bound() {
-        if let Some(node) = places.at(key) {
-            let later = left(places, &node, space);
-            places.plan(key, later);
-        }
+        let Some(key) = links.find(Place { space, page }) else {
+            return;
+        };
+        links.law_places();
+        law_rights(links);
+        links.clear(key);
+        links.take_blank(key);
+        next = page + 1;
     }
 }

@@ -1,31 +1,34 @@
-//! The mapping database: which page of which space shows which frame, with which rights, and from
-//! which page it was mapped (L4 X.2 manual, IPC: map and grant items).
+//! The mapping database: which page of which space shows which frame, with which rights, and from which page
+//! it was mapped (L4 X.2 manual, IPC: map and grant items). Each operation touches only the nodes and pages that it moves.
 #![tactic(auto)]
 
 ghost use Rattle.std.specs.Prelude.{◌≡◌, ◌↔◌, ◌≢◌, ◌≤◌, ◌∷◌, [], IsTrue, IsOk, OnOk, OnErr, IfOk, IfErr, MatchOption, Some, None};
 ghost use Rattle.std.specs.FinSet as set;
+ghost use Rattle.l4_fpage.specs.Pages.{max_frames};
 
-mod building;
+mod booting;
+mod clearing;
+mod cutting;
+mod delivering;
 mod ending;
-mod losing;
 mod moving;
-mod replacing;
-mod store;
+mod preparing;
+mod reading;
+mod revoking;
+mod room;
+mod sources;
 mod tangles;
 #[cfg(test)]
 mod tests;
-mod trees;
+mod unmarking;
 
+pub use l4_fpage::MAX_FRAMES;
 use l4_fpage::{Block, Rights};
+use l4_links::Links;
 use l4_msg::Move;
 pub use l4_spaces::NoMemory;
-use losing::Pages;
 use std::alloc::Global;
 use std::marker::Model;
-use store::Store;
-
-/// The greatest number of frames (this profile's own).
-pub const MAX_FRAMES: u32 = 4096;
 
 /// A page of a space.
 #[derive(Clone, Copy, Debug, PartialEq, Eq)]
@@ -92,7 +95,9 @@ pub enum Cause {
 /// The mappings of all spaces, and the spaces that there are.
 #[derive(Drop)]
 pub struct Forest {
-    store: Store,
+    links: Links,
+    /// The key of each frame's root, also once what stood under it is gone.
+    roots: Vec<Option<usize>>,
 }
 
 impl Model for Forest {
@@ -102,7 +107,7 @@ impl Model for Forest {
 
     ghost coded = { mappings_code };
 
-    ghost use Rattle.l4_mapdb.specs.Inside.Forest.{seen, IsKept};
+    ghost use Rattle.l4_mapdb.specs.Inside.Kept.{seen, IsKept};
 
     ghost view = { seen };
 
@@ -115,20 +120,20 @@ impl Forest {
     ghost use Rattle.l4_mapdb.specs.Places.{NonePresentFrom, IsNextPresent};
     ghost use Rattle.l4_mapdb.specs.Transfer.{IsUsed, IsEntangled, TargetsPresent, Delivers};
     ghost use Rattle.l4_mapdb.specs.Causes.{HasCause};
-    ghost use Rattle.l4_mapdb.specs.Losing.{LosesRights, Revokes, RevokesBlock, EndsSpace};
-    ghost use Rattle.l4_mapdb.specs.Inside.Records.{RevokedIn};
+    ghost use Rattle.l4_mapdb.specs.Losing.{Revokes, RevokesBlock, EndsSpace};
 
     /// The mappings at the start: space 0 shows each frame below `frames` at the page of its number
     /// with all rights, and there is no other space. `frames` is from 1 to 4,096.
     pub fn new(alloc: Global, frames: u32) -> Result<Forest, NoMemory>
         requires some { 1 ≤ frames }
-        requires fit { frames ≤ 4096 }
+        requires fit { frames ≤ max_frames }
         ensures { IfOk result (IsFirst frames) }
     {
-        let mut store = Store::new(alloc);
-        store.add_space(0)?;
-        trees::own_places(&mut store, frames)?;
-        Ok(Forest { store })
+        let mut links = Links::new(alloc);
+        links.add_space(0)?;
+        let mut roots = Vec::new(alloc);
+        booting::own_places(&mut links, &mut roots, frames)?;
+        Ok(Forest { links, roots })
     }
 
     /// Begins an empty space. Nothing changes if it is there.
@@ -138,7 +143,7 @@ impl Forest {
         ensures succeeds { IsTrue (set.contains self.old.spaces space) → IsOk result }
         ensures there { IsTrue (set.contains self.old.spaces space) → self.new ≡ self.old }
     {
-        self.store.add_space(space)
+        self.links.add_space(space)
     }
 
     /// What the page of the space shows, None if it is not present.
@@ -146,21 +151,22 @@ impl Forest {
         ensures shown { result ≡ shown self.now (record { space = space; page = page }) }
         ensures forest { IsForest self.now }
     {
-        self.store.shown(Place { space, page })
+        reading::shown_at(&self.links, Place { space, page })
     }
 
     /// What holds of the mappings at all times: they are trees, one for each frame that is shown. It does nothing.
     pub fn law_forest(&self)
         ensures { IsForest self.now }
     {
-        let _ = &self.store;
+        let _ = &self.links;
     }
 
     /// The least present page of the space that is not below `page`, None where there is none.
     pub fn next_present(&self, space: u64, page: u32) -> Option<u32>
         ensures { MatchOption result (NonePresentFrom self.now space page) (IsNextPresent self.now space page) }
     {
-        self.store.next_page(space, page)
+        self.links.law_places();
+        self.links.next_key(space, page)
     }
 
     /// Whether the used moves of a message from the one space to the other contradict each other: two
@@ -169,7 +175,9 @@ impl Forest {
     pub fn is_entangled(&self, from: u64, to: u64, moves: &[ItemMove]) -> bool
         ensures { IsTrue result ↔ IsEntangled (IsUsed self.now from to moves.now) self.now }
     {
-        tangles::has_tangle(&self.store, from, to, moves)
+        self.links.law_places();
+        self.links.law_trees();
+        tangles::has_tangle(&self.links, from, to, moves)
     }
 
     /// Moves what a message maps and grants from the one space to the other, and these are two spaces that are there, or one. Used are
@@ -191,17 +199,17 @@ impl Forest {
         ensures cause { IfErr result (HasCause (IsUsed self.old from to moves.now) self.old) }
         ensures succeeds { TargetsPresent (IsUsed self.old from to moves.now) self.old → ¬ (IsEntangled (IsUsed self.old from to moves.now) self.old) → IsOk result }
     {
-        self.law_forest();
-        if building::moves_nothing(moves) {
-            return Ok(());
+        self.links.law_places();
+        self.links.law_trees();
+        match preparing::make_way(&mut self.links, from, to, moves) {
+            Ok(()) => {}
+            Err(cause) => {
+                self.links.law_places();
+                return Err(cause);
+            }
         }
-        if self.is_entangled(from, to, moves) {
-            return Err(Cause::Entangled);
-        }
-        match building::transfer(&mut self.store, from, to, moves) {
-            Ok(()) => Ok(()),
-            Err(_) => Err(Cause::NoMemory),
-        }
+        delivering::carry_out(&mut self.links, from, to, moves);
+        Ok(())
     }
 
     /// Takes the rights from all that descends from the page of the space, and from that page too
@@ -211,13 +219,16 @@ impl Forest {
         ensures revokes { Revokes from rights with_self self.old self.new }
         ensures absent { shown self.old from ≡ None → self.new ≡ self.old }
     {
-        self.law_forest();
-        let pages = Pages {
+        self.links.law_places();
+        self.links.law_trees();
+        let page = l4_links::Place {
             space: from.space,
-            first: from.page,
-            last: from.page,
+            page: from.page,
         };
-        self.revoke_pages(&pages, rights, with_self);
+        let Some(key) = self.links.find(page) else {
+            return;
+        };
+        revoking::revoke_key(&mut self.links, key, rights, with_self);
     }
 
     /// Takes the rights from all that descends from a page of the block in the space, and from these pages too
@@ -225,25 +236,10 @@ impl Forest {
     pub fn revoke_block(&mut self, space: u64, block: Block, rights: Rights, with_self: bool)
         ensures { RevokesBlock space block.first block.log rights with_self self.old self.new }
     {
-        self.law_forest();
+        self.links.law_places();
+        self.links.law_trees();
         let end = block.first + (1 << block.log);
-        let Some(_) = self.store.next_in(space, block.first, end) else {
-            return;
-        };
-        let pages = Pages {
-            space,
-            first: block.first,
-            last: end - 1,
-        };
-        self.revoke_pages(&pages, rights, with_self);
-    }
-
-    /// Takes the rights from all that descends from these pages, and from the pages too where they are meant.
-    fn revoke_pages(&mut self, pages: &Pages, rights: Rights, with_self: bool)
-        ensures { LosesRights (RevokedIn self.old pages.now rights with_self) self.old self.new }
-    {
-        losing::cut(&mut self.store, pages, rights, with_self);
-        self.store.settle();
+        revoking::revoke_pages(&mut self.links, space, block.first, end, rights, with_self);
     }
 
     /// Ends a space: its places go with all that descends from them, and the space is there no longer. Nothing changes if it isn't there.
@@ -251,15 +247,23 @@ impl Forest {
         ensures ends { EndsSpace space self.old self.new }
         ensures absent { ¬ (IsTrue (set.contains self.old.spaces space)) → self.new ≡ self.old }
     {
-        ending::clear(&mut self.store, space);
-        self.store.settle();
-        self.store.end_space(space);
+        self.links.law_places();
+        self.links.law_trees();
+        ending::clear(&mut self.links, space);
+        self.links.end_space(space);
+        self.links.law_places();
+        self.links.law_trees();
     }
 
     /// The place without a parent that shows the frame, None if there is none.
     pub fn root(&self, frame: u32) -> Option<Place>
         ensures { MatchOption result ((place : Place) → ¬ (IsRoot self.now frame place)) (IsRoot self.now frame) }
     {
-        trees::root_in(&self.store, frame)
+        self.links.law_places();
+        self.links.law_trees();
+        let Some(key) = reading::kept_key(&self.roots, frame) else {
+            return None;
+        };
+        reading::root_under(&self.links, frame, key)
     }
 }

@@ -1,289 +1,152 @@
-//! What each place shows once the used moves of a message are done. All is read from the places before them.
+//! The used moves of a message are carried out: pages that are mapped get children, pages that are granted another place.
 
-ghost use Rattle.std.specs.Prelude.{◌≡◌, ◌≢◌, ◌↔◌, ◌<◌, length, Some, IsTrue, MatchOption};
-ghost use Rattle.l4_fpage.specs.Rights.{Right, has};
-ghost use Rattle.l4_mapdb.specs.Mappings.{Mappings, IsForest};
-ghost use Rattle.l4_mapdb.specs.Transfer.{PageMove, IsUsed, IsGranted, IsGone, IsCut, IsEntangled, SharesTarget, ParentLater, Becomes};
-ghost use Rattle.l4_mapdb.specs.Inside.Entries.{IsAcyclic};
-ghost use Rattle.l4_mapdb.specs.Inside.Sheets.{now_in, later_in};
-ghost use Rattle.l4_mapdb.specs.Inside.Shown.{IsShownBy, IsClimbedBy, LosesAt, page_move};
-ghost use Rattle.l4_mapdb.specs.Inside.Records.{ReplacesNone};
+ghost use Rattle.std.specs.Prelude.{MatchOption, ◌≡◌, ◌+◌, ◌^◌, ◌⊎◌, ◌<◌, ◌≤◌, ℕ, List, length, slice_get, Some};
+ghost use Rattle.l4_links.specs.Entries.{Linked};
+ghost use Rattle.l4_mapdb.specs.Inside.Placing.{IsStart, Placed, MapsDone, GrantsDone, MapsPage, GrantsPage, IsSourceAt, MovesNone, HasBlank};
 
-use crate::store::Store;
-use crate::trees::child;
-use crate::{ItemMove, Mapping, Place};
+use crate::cutting::end_of;
 use l4_fpage::Rights;
+use l4_links::{Links, Place};
+use crate::ItemMove;
 
-/// What one item of a message does to one page.
-#[derive(Clone, Copy)]
-pub(crate) struct UsedMove {
-    /// The item's number.
-    pub item: usize,
-    pub source: Place,
-    pub target: Place,
-    pub grant: bool,
-    /// What the source shows before the message.
-    pub shows: Mapping,
-    /// The rights that source and item have in common.
-    pub rights: Rights,
+/// The key of a page that a message moves: what stands there is marked and was not granted, and shares a right with the item.
+fn source_at(links: &Links, place: Place, rights: Rights) -> Option<usize>
+    ensures { MatchOption result (MovesNone place rights links.now.entries) (IsSourceAt links.now.entries place rights) }
+{
+    let Some(key) = links.find(place) else {
+        return None;
+    };
+    let Some(standing) = links.standing(key) else {
+        return None;
+    };
+    if !standing.source || standing.granted.is_some() {
+        return None;
+    }
+    if standing.rights.intersection(rights).is_empty() {
+        return None;
+    }
+    Some(key)
 }
 
-/// The used move of the item of this number out of the place.
-pub(crate) fn move_out(
-    places: &Store,
-    from: u64,
-    to: u64,
-    items: &[ItemMove],
-    item: usize,
-    place: Place,
-) -> Option<UsedMove>
-    requires { item < length items.now }
-    ensures { (s : Mappings) → IsShownBy s (now_in places.now.slots) → MatchOption result
-        ((move : PageMove) → IsUsed s from to items.now move → move.item ≡ item → move.source ≢ place)
-        (λ m. IsUsed s from to items.now (page_move m) × (m.item ≡ item) × (m.source ≡ place)) }
+/// Lets a child of the source stand at the target's blank, if the source is moved.
+fn map_page(links: &mut Links, source: Place, target: Place, rights: Rights)
+    requires blank { HasBlank source target rights links.old.entries }
+    ensures maps { MapsPage source target rights links.old.entries links.new.entries ⊎ (MovesNone source rights links.old.entries × (links.new ≡ links.old)) }
+    ensures spaces { links.new.spaces ≡ links.old.spaces }
+{
+    let Some(key) = source_at(links, source, rights) else {
+        return;
+    };
+    let Some(blank) = links.find(target) else {
+        return;
+    };
+    links.stand_under(key, blank, rights);
+}
+
+/// Lets what stands at the source stand at the target, if the source is moved.
+fn grant_page(links: &mut Links, source: Place, target: Place, rights: Rights)
+    requires blank { HasBlank source target rights links.old.entries }
+    ensures grants { GrantsPage source target rights links.old.entries links.new.entries ⊎ (MovesNone source rights links.old.entries × (links.new ≡ links.old)) }
+    ensures spaces { links.new.spaces ≡ links.old.spaces }
+{
+    let Some(key) = source_at(links, source, rights) else {
+        return;
+    };
+    let Some(blank) = links.find(target) else {
+        return;
+    };
+    links.take_over(key, blank, rights);
+}
+
+/// Carries out the used moves of the item of this number, if it is a map item.
+fn map_item(links: &mut Links, from: u64, to: u64, items: &[ItemMove], item: usize)
+    requires within { item < length items.now }
+    requires ready { (start : Linked) × IsStart start from to items.now × Placed start from to items.now (MapsDone start from to items.now item 0) links.old }
+    ensures maps { (start : Linked) → IsStart start from to items.now → Placed start from to items.now (MapsDone start from to items.now item 0) links.old
+        → Placed start from to items.now (MapsDone start from to items.now (item + 1) 0) links.new }
+    ensures spaces { links.new.spaces ≡ links.old.spaces }
 {
     let by = &items[item];
-    if place.space != from || !by.mv.source.contains(place.page) {
-        return None;
+    if by.grant {
+        return;
     }
-    let Some(shows) = places.shown(place) else {
-        return None;
-    };
-    let entry = (place, shows);
-    let Some((target, mapping)) = child(from, to, by, &entry) else {
-        return None;
-    };
-    Some(UsedMove {
-        item,
-        source: place,
-        target,
-        grant: by.grant,
-        shows: entry.1,
-        rights: mapping.rights,
-    })
+    let end = end_of(by.mv.source);
+    let mut begin = by.mv.source.first;
+    loop {
+        links.law_places();
+        let Some(page) = links.next_key_in(from, begin, end) else {
+            return;
+        };
+        let source = Place { space: from, page };
+        let target = Place {
+            space: to,
+            page: page - by.mv.source.first + by.mv.target.first,
+        };
+        map_page(links, source, target, by.rights);
+        begin = page + 1;
+    }
 }
 
-/// The used move of the item of this number into the place.
-pub(crate) fn move_into(
-    places: &Store,
-    from: u64,
-    to: u64,
-    items: &[ItemMove],
-    item: usize,
-    place: Place,
-) -> Option<UsedMove>
-    requires { item < length items.now }
-    ensures { (s : Mappings) → IsShownBy s (now_in places.now.slots) → MatchOption result
-        ((move : PageMove) → IsUsed s from to items.now move → move.item ≡ item → move.target ≢ place)
-        (λ m. IsUsed s from to items.now (page_move m) × (m.item ≡ item) × (m.target ≡ place)) }
+/// Carries out the used moves of the item of this number, if it is a grant item.
+fn grant_item(links: &mut Links, from: u64, to: u64, items: &[ItemMove], item: usize)
+    requires within { item < length items.now }
+    requires ready { (start : Linked) × IsStart start from to items.now × Placed start from to items.now (GrantsDone start from to items.now item 0) links.old }
+    ensures grants { (start : Linked) → IsStart start from to items.now → Placed start from to items.now (GrantsDone start from to items.now item 0) links.old
+        → Placed start from to items.now (GrantsDone start from to items.now (item + 1) 0) links.new }
+    ensures spaces { links.new.spaces ≡ links.old.spaces }
 {
     let by = &items[item];
-    if place.space != to || !by.mv.target.contains(place.page) {
-        return None;
+    if !by.grant {
+        return;
     }
-    let source = Place {
-        space: from,
-        page: place.page - by.mv.target.first + by.mv.source.first,
-    };
-    move_out(places, from, to, items, item, source)
+    let end = end_of(by.mv.source);
+    let mut begin = by.mv.source.first;
+    loop {
+        links.law_places();
+        let Some(page) = links.next_key_in(from, begin, end) else {
+            return;
+        };
+        let source = Place { space: from, page };
+        let target = Place {
+            space: to,
+            page: page - by.mv.source.first + by.mv.target.first,
+        };
+        grant_page(links, source, target, by.rights);
+        begin = page + 1;
+    }
 }
 
-/// A used move into the place.
-pub(crate) fn into_place(
-    places: &Store,
-    from: u64,
-    to: u64,
-    items: &[ItemMove],
-    place: Place,
-) -> Option<UsedMove>
-    ensures { (s : Mappings) → IsShownBy s (now_in places.now.slots) → MatchOption result
-        ((move : PageMove) → IsUsed s from to items.now move → move.target ≢ place)
-        (λ m. IsUsed s from to items.now (page_move m) × (m.target ≡ place)) }
+/// Carries out the used moves of all items: first those of map items, then those of grant items.
+pub(crate) fn move_all(links: &mut Links, from: u64, to: u64, items: &[ItemMove])
+    requires ready { (start : Linked) × IsStart start from to items.now × Placed start from to items.now (MapsDone start from to items.now 0 0) links.old }
+    ensures moves { (start : Linked) → IsStart start from to items.now → Placed start from to items.now (MapsDone start from to items.now 0 0) links.old
+        → Placed start from to items.now (GrantsDone start from to items.now (length items.now) 0) links.new }
+    ensures spaces { links.new.spaces ≡ links.old.spaces }
+{
+    map_all(links, from, to, items);
+    grant_all(links, from, to, items);
+}
+
+/// Carries out the used moves of all map items.
+fn map_all(links: &mut Links, from: u64, to: u64, items: &[ItemMove])
+    requires ready { (start : Linked) × IsStart start from to items.now × Placed start from to items.now (MapsDone start from to items.now 0 0) links.old }
+    ensures maps { (start : Linked) → IsStart start from to items.now → Placed start from to items.now (MapsDone start from to items.now 0 0) links.old
+        → Placed start from to items.now (GrantsDone start from to items.now 0 0) links.new }
+    ensures spaces { links.new.spaces ≡ links.old.spaces }
 {
     for item in 0..items.len() {
-        if let Some(used) = move_into(places, from, to, items, item, place) {
-            return Some(used);
-        }
+        map_item(links, from, to, items, item);
     }
-    None
 }
 
-/// The used move of the item of this number out of the place, if it is a grant item.
-fn grant_out(
-    places: &Store,
-    from: u64,
-    to: u64,
-    items: &[ItemMove],
-    item: usize,
-    place: Place,
-) -> Option<UsedMove>
-    requires { item < length items.now }
-    ensures { (s : Mappings) → IsShownBy s (now_in places.now.slots) → MatchOption result
-        ((move : PageMove) → IsUsed s from to items.now move → move.item ≡ item → IsTrue move.grant → move.source ≢ place)
-        (λ m. IsUsed s from to items.now (page_move m) × IsTrue m.grant × (m.source ≡ place)) }
-{
-    if !items[item].grant {
-        return None;
-    }
-    move_out(places, from, to, items, item, place)
-}
-
-/// A used move of a grant item out of the place.
-pub(crate) fn granted_out(
-    places: &Store,
-    from: u64,
-    to: u64,
-    items: &[ItemMove],
-    place: Place,
-) -> Option<UsedMove>
-    ensures { (s : Mappings) → IsShownBy s (now_in places.now.slots) → MatchOption result
-        (¬ (IsGranted (IsUsed s from to items.now) place))
-        (λ m. IsUsed s from to items.now (page_move m) × IsTrue m.grant × (m.source ≡ place)) }
+/// Carries out the used moves of all grant items.
+fn grant_all(links: &mut Links, from: u64, to: u64, items: &[ItemMove])
+    requires ready { (start : Linked) × IsStart start from to items.now × Placed start from to items.now (GrantsDone start from to items.now 0 0) links.old }
+    ensures grants { (start : Linked) → IsStart start from to items.now → Placed start from to items.now (GrantsDone start from to items.now 0 0) links.old
+        → Placed start from to items.now (GrantsDone start from to items.now (length items.now) 0) links.new }
+    ensures spaces { links.new.spaces ≡ links.old.spaces }
 {
     for item in 0..items.len() {
-        if let Some(used) = grant_out(places, from, to, items, item, place) {
-            return Some(used);
-        }
+        grant_item(links, from, to, items, item);
     }
-    None
-}
-
-/// The parent afterwards: a granted place is renamed.
-fn renamed(
-    places: &Store,
-    from: u64,
-    to: u64,
-    items: &[ItemMove],
-    parent: Option<Place>,
-) -> Option<Place>
-    ensures { (s : Mappings) → IsShownBy s (now_in places.now.slots) → ParentLater (IsUsed s from to items.now) parent result }
-{
-    let Some(parent) = parent else {
-        return None;
-    };
-    match granted_out(places, from, to, items, parent) {
-        Some(used) => Some(used.target),
-        None => Some(parent),
-    }
-}
-
-/// Whether a used move replaces the place, or one that it descends from.
-pub(crate) fn is_gone(places: &Store, from: u64, to: u64, items: &[ItemMove], place: Place) -> bool
-    ensures { (s : Mappings) → IsShownBy s (now_in places.now.slots) → IsForest s → IsTrue result ↔ IsGone (IsUsed s from to items.now) s place }
-{
-    let mut at = place;
-    for _ in 0..places.bound() {
-        let Some(mapping) = places.shown(at) else {
-            return false;
-        };
-        if let Some(_) = into_place(places, from, to, items, at) {
-            return true;
-        }
-        let Some(parent) = mapping.parent else {
-            return false;
-        };
-        at = parent;
-    }
-    false
-}
-
-/// The same, where it is known whether any used move has a present target at all: where none has, no parent is followed.
-fn is_replaced(
-    places: &Store,
-    from: u64,
-    to: u64,
-    items: &[ItemMove],
-    replaces: bool,
-    place: Place,
-) -> bool
-    requires { ¬ (IsTrue replaces) → ReplacesNone from to items.now places.now.slots }
-    ensures { (s : Mappings) → IsShownBy s (now_in places.now.slots) → IsForest s → IsTrue result ↔ IsGone (IsUsed s from to items.now) s place }
-{
-    if replaces {
-        return is_gone(places, from, to, items, place);
-    }
-    false
-}
-
-/// What the target of the used move shows.
-fn arrived(places: &Store, from: u64, to: u64, items: &[ItemMove], used: &UsedMove) -> Mapping
-    ensures { (s : Mappings) → IsShownBy s (now_in places.now.slots) → IsUsed s from to items.now (page_move used.now) → Becomes (IsUsed s from to items.now) s used.now.target result }
-{
-    if !used.grant {
-        return Mapping {
-            frame: used.shows.frame,
-            rights: used.rights,
-            parent: Some(used.source),
-        };
-    }
-    let parent = renamed(places, from, to, items, used.shows.parent);
-    Mapping {
-        frame: used.shows.frame,
-        rights: used.rights,
-        parent,
-    }
-}
-
-/// What the place shows once the used moves are done and before granted places' descendants are cut. It is known whether any used
-/// move has a present target.
-pub(crate) fn later(
-    places: &Store,
-    from: u64,
-    to: u64,
-    items: &[ItemMove],
-    replaces: bool,
-    place: Place,
-) -> Option<Mapping>
-    requires { ¬ (IsTrue replaces) → ReplacesNone from to items.now places.now.slots }
-    ensures { (s : Mappings) → IsShownBy s (now_in places.now.slots) → IsForest s → MatchOption result
-        ((m : Mapping) → ¬ (Becomes (IsUsed s from to items.now) s place m))
-        (Becomes (IsUsed s from to items.now) s place) }
-{
-    if let Some(used) = into_place(places, from, to, items, place) {
-        return Some(arrived(places, from, to, items, &used));
-    }
-    let Some(mapping) = places.shown(place) else {
-        return None;
-    };
-    if let Some(_) = granted_out(places, from, to, items, place) {
-        return None;
-    }
-    if is_replaced(places, from, to, items, replaces, place) {
-        return None;
-    }
-    Some(Mapping {
-        parent: renamed(places, from, to, items, mapping.parent),
-        ..mapping
-    })
-}
-
-/// The rights that the place loses with the granted places that it descends from. What the places are to show is what they show once the used moves are done.
-pub(crate) fn lost(places: &Store, from: u64, to: u64, items: &[ItemMove], place: Place) -> Rights
-    ensures { (s middle : Mappings) → IsShownBy s (now_in places.now.slots) → IsClimbedBy middle (later_in places.now.slots) → ¬ (SharesTarget (IsUsed s from to items.now)) → IsAcyclic (later_in places.now.slots) →
-        (right : Right) → IsTrue (has result right) ↔ IsCut (IsUsed s from to items.now) middle place right }
-{
-    let mut rights = Rights::of_bits(0);
-    let mut at = place;
-    for _ in 0..places.bound() {
-        let Some(parent) = places.parent_later(at) else {
-            return rights;
-        };
-        rights = rights.union(lost_at(places, from, to, items, parent));
-        at = parent;
-    }
-    rights
-}
-
-/// The rights that a granted place had and its target has not; none where no used move of a grant item fills the place.
-fn lost_at(places: &Store, from: u64, to: u64, items: &[ItemMove], place: Place) -> Rights
-    ensures { (s : Mappings) → IsShownBy s (now_in places.now.slots) → ¬ (SharesTarget (IsUsed s from to items.now)) →
-        (right : Right) → IsTrue (has result right) ↔ LosesAt (IsUsed s from to items.now) place right }
-{
-    let Some(used) = into_place(places, from, to, items, place) else {
-        return Rights::of_bits(0);
-    };
-    if used.grant {
-        return used.shows.rights.difference(used.rights);
-    }
-    Rights::of_bits(0)
 }

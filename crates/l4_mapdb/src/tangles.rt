@@ -1,19 +1,60 @@
 //! Whether what a message does would depend on the order of its items.
 
-ghost use Rattle.std.specs.Prelude.{◌≡◌, ◌≢◌, ◌↔◌, ◌<◌, length, IsTrue, MatchOption};
-ghost use Rattle.l4_mapdb.specs.Mappings.{Mappings, IsForest};
-ghost use Rattle.l4_mapdb.specs.Transfer.{PageMove, IsUsed, IsEntangled};
-ghost use Rattle.l4_mapdb.specs.Inside.Sheets.{now_in};
-ghost use Rattle.l4_mapdb.specs.Inside.Shown.{IsShownBy, page_move};
-ghost use Rattle.l4_mapdb.specs.Inside.Tangles.{FillsToo, MovesToo, Tangles, ItemTangles, PlaceTangles, KeyTangles};
+ghost use Rattle.std.specs.Prelude.{◌≡◌, ◌≢◌, ◌↔◌, ◌<◌, ◌≤◌, ◌⊎◌, ℕ, length, IsTrue, MatchOption};
+ghost use Rattle.l4_links.specs.Entries.{entry_at, IsAt, IsStanding, IsSource, Descends};
+ghost use Rattle.l4_mapdb.specs.Inside.Messages.{IsMoved};
+ghost use Rattle.l4_mapdb.specs.Inside.Tangles.{FillsToo, MovesToo, IsTaken, Clashes, Tangles, TanglesFrom, HasTangle, AboveSource, SourcesAre};
+ghost use Rattle.l4_mapdb.specs.declared.sources.UsedMove.{UsedMove as AUsedMove};
 
-use crate::moving::{UsedMove, is_gone, move_into, move_out};
-use crate::store::Store;
-use crate::{ItemMove, Place};
+use crate::sources::{UsedMove, move_out, next_move};
+use l4_links::{Entry, Links, Place};
+use crate::ItemMove;
+
+/// The used move of the item of this number into the place.
+fn move_into(
+    links: &Links,
+    from: u64,
+    to: u64,
+    items: &[ItemMove],
+    item: usize,
+    place: Place,
+) -> Option<UsedMove>
+    requires { item < length items.now }
+    ensures { MatchOption result
+        ((move : AUsedMove) → IsMoved links.now.entries from to items.now move → move.item ≡ item → move.target ≢ place)
+        (λ m. IsMoved links.now.entries from to items.now m × (m.item ≡ item) × (m.target ≡ place)) }
+{
+    let by = &items[item];
+    if place.space != to || !by.mv.target.contains(place.page) {
+        return None;
+    }
+    let page = place.page - by.mv.target.first + by.mv.source.first;
+    move_out(links, from, to, items, item, page)
+}
+
+/// A used move into the place.
+fn into_place(
+    links: &Links,
+    from: u64,
+    to: u64,
+    items: &[ItemMove],
+    place: Place,
+) -> Option<UsedMove>
+    ensures { MatchOption result
+        ((move : AUsedMove) → IsMoved links.now.entries from to items.now move → move.target ≢ place)
+        (λ m. IsMoved links.now.entries from to items.now m × (m.target ≡ place)) }
+{
+    for item in 0..items.len() {
+        if let Some(used) = move_into(links, from, to, items, item, place) {
+            return Some(used);
+        }
+    }
+    None
+}
 
 /// The used move of the item `other` into the place, None too if that is this item.
 fn other_into(
-    places: &Store,
+    links: &Links,
     from: u64,
     to: u64,
     items: &[ItemMove],
@@ -22,146 +63,190 @@ fn other_into(
     place: Place,
 ) -> Option<UsedMove>
     requires { other < length items.now }
-    ensures { (s : Mappings) → IsShownBy s (now_in places.now.slots) → MatchOption result
-        ((move : PageMove) → IsUsed s from to items.now move → move.item ≡ other → item ≢ move.item → move.target ≢ place)
-        (λ m. IsUsed s from to items.now (page_move m) × (item ≢ m.item) × (m.target ≡ place)) }
+    ensures { MatchOption result
+        ((move : AUsedMove) → IsMoved links.now.entries from to items.now move → move.item ≡ other → item ≢ move.item → move.target ≢ place)
+        (λ m. IsMoved links.now.entries from to items.now m × (item ≢ m.item) × (m.target ≡ place)) }
 {
     if other == item {
         return None;
     }
-    move_into(places, from, to, items, other, place)
+    move_into(links, from, to, items, other, place)
 }
 
-/// The used move of the item `other` out of the place, None too if that is this item.
+/// The used move of the item `other` out of the page, None too if that is this item.
 fn other_out(
-    places: &Store,
+    links: &Links,
     from: u64,
     to: u64,
     items: &[ItemMove],
     item: usize,
     other: usize,
-    place: Place,
+    page: u32,
 ) -> Option<UsedMove>
     requires { other < length items.now }
-    ensures { (s : Mappings) → IsShownBy s (now_in places.now.slots) → MatchOption result
-        ((move : PageMove) → IsUsed s from to items.now move → move.item ≡ other → item ≢ move.item → move.source ≢ place)
-        (λ m. IsUsed s from to items.now (page_move m) × (item ≢ m.item) × (m.source ≡ place)) }
+    ensures { MatchOption result
+        ((move : AUsedMove) → IsMoved links.now.entries from to items.now move → move.item ≡ other → item ≢ move.item → move.page ≢ page)
+        (λ m. IsMoved links.now.entries from to items.now m × (item ≢ m.item) × (m.page ≡ page)) }
 {
     if other == item {
         return None;
     }
-    move_out(places, from, to, items, other, place)
+    move_out(links, from, to, items, other, page)
 }
 
 /// Whether another item than this one fills the place.
 fn is_filled_too(
-    places: &Store,
+    links: &Links,
     from: u64,
     to: u64,
     items: &[ItemMove],
     item: usize,
     place: Place,
 ) -> bool
-    ensures { (s : Mappings) → IsShownBy s (now_in places.now.slots) → IsTrue result ↔ FillsToo (IsUsed s from to items.now) item place }
+    ensures { IsTrue result ↔ FillsToo (IsMoved links.now.entries from to items.now) item place }
 {
     for other in 0..items.len() {
-        if let Some(_) = other_into(places, from, to, items, item, other, place) {
+        if let Some(_) = other_into(links, from, to, items, item, other, place) {
             return true;
         }
     }
     false
 }
 
-/// Whether another item than this one moves the place.
+/// Whether another item than this one moves the page.
 fn is_moved_too(
-    places: &Store,
+    links: &Links,
     from: u64,
     to: u64,
     items: &[ItemMove],
     item: usize,
-    place: Place,
+    page: u32,
 ) -> bool
-    ensures { (s : Mappings) → IsShownBy s (now_in places.now.slots) → IsTrue result ↔ MovesToo (IsUsed s from to items.now) item place }
+    ensures { IsTrue result ↔ MovesToo (IsMoved links.now.entries from to items.now) item page }
 {
     for other in 0..items.len() {
-        if let Some(_) = other_out(places, from, to, items, item, other, place) {
+        if let Some(_) = other_out(links, from, to, items, item, other, page) {
             return true;
         }
     }
     false
 }
 
-/// Whether the used move grants what another item moves too.
-fn grants_twice(places: &Store, from: u64, to: u64, items: &[ItemMove], used: &UsedMove) -> bool
-    ensures { (s : Mappings) → IsShownBy s (now_in places.now.slots) → IsTrue result ↔ (IsTrue used.now.grant × MovesToo (IsUsed s from to items.now) used.now.item used.now.source) }
+/// Whether another item fills what the used move fills, or moves what it grants.
+fn clashes(links: &Links, from: u64, to: u64, items: &[ItemMove], used: &UsedMove) -> bool
+    ensures { IsTrue result ↔ Clashes (IsMoved links.now.entries from to items.now) used.now }
 {
+    if is_filled_too(links, from, to, items, used.item, used.target) {
+        return true;
+    }
     if !used.grant {
         return false;
     }
-    is_moved_too(places, from, to, items, used.item, used.source)
+    is_moved_too(links, from, to, items, used.item, used.page)
 }
 
-/// Whether the used move entangles the message.
-fn move_tangles(places: &Store, from: u64, to: u64, items: &[ItemMove], used: &UsedMove) -> bool
-    ensures { (s : Mappings) → IsShownBy s (now_in places.now.slots) → IsForest s → IsTrue result ↔ Tangles (IsUsed s from to items.now) s (page_move used.now) }
+/// Whether a used move fills the page of what stands under the key, or of what it descends from.
+fn is_taken(links: &Links, from: u64, to: u64, items: &[ItemMove], key: usize) -> bool
+    ensures { IsTrue result ↔ IsTaken (IsMoved links.now.entries from to items.now) links.now.entries key }
 {
-    if is_filled_too(places, from, to, items, used.item, used.target) {
-        return true;
-    }
-    if grants_twice(places, from, to, items, used) {
-        return true;
-    }
-    is_gone(places, from, to, items, used.source)
-}
-
-/// Whether the used move of the item of this number out of the place entangles the message.
-fn item_tangles(
-    places: &Store,
-    from: u64,
-    to: u64,
-    items: &[ItemMove],
-    item: usize,
-    place: Place,
-) -> bool
-    requires { item < length items.now }
-    ensures { (s : Mappings) → IsShownBy s (now_in places.now.slots) → IsForest s → IsTrue result ↔ ItemTangles (IsUsed s from to items.now) s item place }
-{
-    let Some(used) = move_out(places, from, to, items, item, place) else {
-        return false;
-    };
-    move_tangles(places, from, to, items, &used)
-}
-
-/// Whether a used move out of the place entangles the message.
-fn place_tangles(places: &Store, from: u64, to: u64, items: &[ItemMove], place: Place) -> bool
-    ensures { (s : Mappings) → IsShownBy s (now_in places.now.slots) → IsForest s → IsTrue result ↔ PlaceTangles (IsUsed s from to items.now) s place }
-{
-    for item in 0..items.len() {
-        if item_tangles(places, from, to, items, item, place) {
+    links.law_trees();
+    let mut at = key;
+    for _ in 0..links.bound() {
+        let Some(Entry { place, stands, .. }) = links.at(at) else {
+            return false;
+        };
+        let Some(standing) = stands else {
+            return false;
+        };
+        if let Some(_) = into_place(links, from, to, items, place) {
             return true;
         }
+        let Some(parent) = standing.parent else {
+            return false;
+        };
+        at = parent;
     }
     false
 }
 
-/// Whether a used move out of the place of this key entangles the message.
-fn key_tangles(places: &Store, from: u64, to: u64, items: &[ItemMove], key: usize) -> bool
-    ensures { (s : Mappings) → IsShownBy s (now_in places.now.slots) → IsForest s → IsTrue result ↔ KeyTangles (IsUsed s from to items.now) s places.now.slots key }
+/// Whether the used move contradicts another one, or its source goes.
+fn tangles_from(links: &Links, from: u64, to: u64, items: &[ItemMove], used: &UsedMove) -> bool
+    ensures { IsTrue result ↔ TanglesFrom (IsMoved links.now.entries from to items.now) links.now.entries used.now }
 {
-    let Some(node) = places.at(key) else {
-        return false;
-    };
-    place_tangles(places, from, to, items, node.place)
+    if clashes(links, from, to, items, used) {
+        return true;
+    }
+    is_taken(links, from, to, items, used.source)
 }
 
-/// Whether the used moves contradict each other.
-pub(crate) fn has_tangle(places: &Store, from: u64, to: u64, items: &[ItemMove]) -> bool
-    ensures { (s : Mappings) → IsShownBy s (now_in places.now.slots) → IsForest s → IsTrue result ↔ IsEntangled (IsUsed s from to items.now) s }
+/// Whether the used moves contradict each other. It changes nothing, and climbs up from each source.
+pub(crate) fn has_tangle(links: &Links, from: u64, to: u64, items: &[ItemMove]) -> bool
+    ensures { IsTrue result ↔ HasTangle (IsMoved links.now.entries from to items.now) links.now.entries }
 {
-    for key in 0..places.bound() {
-        if key_tangles(places, from, to, items, key) {
+    links.law_places();
+    let mut item = 0;
+    let mut page = 0;
+    loop {
+        let Some(used) = next_move(links, from, to, items, item, page) else {
+            return false;
+        };
+        if tangles_from(links, from, to, items, &used) {
             return true;
         }
+        item = used.item;
+        page = used.page + 1;
     }
-    false
+}
+
+/// Whether what stands at the place is a source, or above one.
+fn is_above_source(links: &mut Links, place: Place) -> bool
+    ensures same { (key : ℕ) → entry_at links.new.entries key ≡ entry_at links.old.entries key }
+    ensures answer { IsTrue result ↔ AboveSource links.old.entries place }
+    ensures spaces { links.new.spaces ≡ links.old.spaces }
+{
+    let Some(key) = links.find(place) else {
+        return false;
+    };
+    let Some(standing) = links.standing(key) else {
+        return false;
+    };
+    if standing.source {
+        return true;
+    }
+    links.has_source_below(key)
+}
+
+/// Whether the used move contradicts another one, or its target is above a source. The sources of all used moves are marked.
+fn tangles(links: &mut Links, from: u64, to: u64, items: &[ItemMove], used: &UsedMove) -> bool
+    requires { SourcesAre (IsMoved links.old.entries from to items.now) links.old.entries }
+    ensures same { (key : ℕ) → entry_at links.new.entries key ≡ entry_at links.old.entries key }
+    ensures answer { IsTrue result ↔ Tangles (IsMoved links.old.entries from to items.now) links.old.entries used.now }
+    ensures spaces { links.new.spaces ≡ links.old.spaces }
+{
+    if clashes(links, from, to, items, used) {
+        return true;
+    }
+    is_above_source(links, used.target)
+}
+
+/// Whether the used moves contradict each other, where the sources of all are marked. Each node is visited once.
+pub(crate) fn marked_tangle(links: &mut Links, from: u64, to: u64, items: &[ItemMove]) -> bool
+    requires { SourcesAre (IsMoved links.old.entries from to items.now) links.old.entries }
+    ensures same { (key : ℕ) → entry_at links.new.entries key ≡ entry_at links.old.entries key }
+    ensures answer { IsTrue result ↔ HasTangle (IsMoved links.old.entries from to items.now) links.old.entries }
+    ensures spaces { links.new.spaces ≡ links.old.spaces }
+{
+    links.law_places();
+    let mut item = 0;
+    let mut page = 0;
+    loop {
+        let Some(used) = next_move(links, from, to, items, item, page) else {
+            return false;
+        };
+        if tangles(links, from, to, items, &used) {
+            return true;
+        }
+        item = used.item;
+        page = used.page + 1;
+    }
 }

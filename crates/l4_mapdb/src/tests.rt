@@ -1,5 +1,6 @@
-use crate::{Cause, Forest, ItemMove, Mapping, NoMemory, Place};
+use crate::Forest;
 use l4_fpage::{Block, Rights};
+use crate::{Cause, ItemMove, Mapping, NoMemory, Place};
 use l4_msg::Move;
 use std::test::Fail;
 
@@ -16,6 +17,7 @@ fn starts_with_frames(rt: HostRuntime) -> Result<(), Fail> {
     assert_eq!(rt; forest.next_present(0, 16), Some(16));
     assert_eq!(rt; forest.next_present(0, 256), None);
     assert_eq!(rt; forest.next_present(2, 0), None);
+    forest.law_forest();
     Ok(())
 }
 
@@ -113,5 +115,45 @@ fn ends_a_space(rt: HostRuntime) -> Result<(), Fail> {
     assert_eq!(rt; forest.at(3, 5), None);
     assert_eq!(rt; forest.next_present(2, 0), None);
     assert_eq!(rt; forest.next_present(3, 0), None);
+    Ok(())
+}
+
+/// An item that moves page 5 to page 9.
+fn page(grant: bool, rights: Rights) -> ItemMove {
+    ItemMove {
+        mv: Move {
+            source: Block { first: 5, log: 0 },
+            target: Block { first: 9, log: 0 },
+        },
+        rights,
+        grant,
+    }
+}
+
+/// A page of space 0 granted to space 2 leaves its children with the rights of the item.
+#[test]
+fn grants_a_page_with_a_child(rt: HostRuntime) -> Result<(), Fail> {
+    let mut forest = Forest::new(rt.alloc(), 256)?;
+    forest.new_space(2)?;
+    forest.new_space(3)?;
+    match forest.map_all(0, 3, &[page(false, Rights::all())]) {
+        Ok(()) => {}
+        Err(_) => return Err(NoMemory.into()),
+    }
+    match forest.map_all(0, 2, &[page(true, Rights::of_bits(5))]) {
+        Ok(()) => {}
+        Err(_) => return Err(NoMemory.into()),
+    }
+    let granted = Place { space: 2, page: 9 };
+    assert_eq!(rt; forest.at(0, 5), None);
+    assert_eq!(rt; forest.root(5), Some(granted));
+    assert_eq!(rt;
+        forest.at(3, 9),
+        Some(Mapping {
+            frame: 5,
+            rights: Rights::of_bits(5),
+            parent: Some(granted)
+        })
+    );
     Ok(())
 }

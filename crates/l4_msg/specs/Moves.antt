@@ -4,6 +4,7 @@ use Rattle.l4_fpage.specs.Fpages.{Bytes, bytes_of}
 use Rattle.l4_fpage.specs.declared.fpages.Fpage.{Fpage}
 use Rattle.l4_fpage.specs.declared.fpages.Fpage.TheVariants.{Complete}
 use Rattle.l4_fpage.specs.Rights.{no_rights}
+use Rattle.l4_fpage.specs.Pages.{page_bytes, page_log}
 use Rattle.l4_msg.specs.declared.items.Item.{Item}
 use Rattle.l4_msg.specs.declared.items.Item.TheVariants.{Map, Grant}
 use Rattle.l4_msg.specs.declared.items.Move.{Move}
@@ -36,7 +37,7 @@ pub record Shifts (from to count source target : ℕ) : Type 0 where
 
 -- the part takes this page to that page; a part of less than a page takes none
 abbrev pub Takes : Part → ℕ → ℕ → Type 0
-Takes p source target = (12 ≤ p.log) × Shifts (p.from / 4096) (p.to / 4096) (2 ^ (p.log - 12)) source target
+Takes p source target = (page_log ≤ p.log) × Shifts (p.from / page_bytes) (p.to / page_bytes) (2 ^ (p.log - page_log)) source target
 
 -- an item's send base, in bytes
 abbrev pub base_of : Item → ℕ

@@ -5,6 +5,7 @@ use Rattle.l4_fpage.specs.Rights.{RightsSet, bits_of}
 use Rattle.l4_fpage.specs.Fpages.{bytes_of, rights_of}
 use Rattle.l4_fpage.specs.declared.fpages.Fpage.{Fpage}
 use Rattle.l4_fpage.specs.declared.fpages.Fpage.TheVariants.{Nil}
+use Rattle.l4_fpage.specs.Pages.{page_bytes, page_log}
 use Rattle.l4_msg.specs.Words.{WindowReads}
 use Rattle.l4_msg.specs.declared.items.Item.{Item}
 use Rattle.l4_msg.specs.declared.items.Item.TheVariants.{Map}
@@ -53,6 +54,6 @@ nothing = one_item (Map 0 Nil)
 -- the answer is one map item: 2 ^ log pages from `source` on, with these rights, for the bytes from the page `target` on
 pub record GivesPages (source target log : ℕ) (rights : RightsSet) (answer : Message) : Type 0 where
   pub fpage : Fpage
-  pub bytes : bytes_of fpage ≡ Some (record { base = source * 4096; log = log + 12 })
+  pub bytes : bytes_of fpage ≡ Some (record { base = source * page_bytes; log = log + page_log })
   pub rights_are : rights_of fpage ≡ rights
   pub is : answer ≡ one_item (Map (target * 4096) fpage)

@@ -2,7 +2,7 @@
 -- this profile's own.
 use Rattle.std.specs.Prelude.{◌≡◌, ℕ, ◌+◌, ◌-◌, ◌*◌, ◌^◌, ◌<◌, ◌≤◌, Some, List, ◌↔◌, ◌⊎◌, length, IsTrue}
 use Rattle.std.specs.List.{Any, All, AllPairs, AllZip}
-use Rattle.l4_fpage.specs.Pages.{IsBlock, InBlock}
+use Rattle.l4_fpage.specs.Pages.{IsBlock, InBlock, page_bytes, space_pages}
 use Rattle.l4_fpage.specs.Fpages.{bytes_of, rights_of}
 use Rattle.l4_fpage.specs.Rights.{is_none}
 use Rattle.l4_msg.specs.Moves.{ItemMoves, RegionMoves, IsMap, base_of, fpage_of, complete}
@@ -15,12 +15,12 @@ IsEmpty r = r.count ≡ 0
 
 -- source and target lie in the space
 pub record InSpace (r : Region) : Type 0 where
-  pub source : r.source + r.count ≤ 2 ^ 20
-  pub target : r.target + r.count ≤ 2 ^ 20
+  pub source : r.source + r.count ≤ space_pages
+  pub target : r.target + r.count ≤ space_pages
 
 -- one of them does not
 abbrev pub IsOutOfSpace : Region → Type 0
-IsOutOfSpace r = (2 ^ 20 < r.source + r.count) ⊎ (2 ^ 20 < r.target + r.count)
+IsOutOfSpace r = (space_pages < r.source + r.count) ⊎ (space_pages < r.target + r.count)
 
 -- the region names no right
 abbrev pub HasNoRights : Region → Type 0
@@ -55,9 +55,9 @@ pub record IsCertificate (r : Region) (pages : List ℕ) : Type 0 where
 pub record StartsAt (r : Region) (page : ℕ) (item : Item) : Type 0 where
   pub map : IsMap item
   pub rights : rights_of (fpage_of item) ≡ r.rights
-  pub base : base_of item ≡ moved r page * 4096
+  pub base : base_of item ≡ moved r page * page_bytes
   pub log : ℕ
-  pub bytes : bytes_of (fpage_of item) ≡ Some (record { base = page * 4096; log = log })
+  pub bytes : bytes_of (fpage_of item) ≡ Some (record { base = page * page_bytes; log = log })
 
 -- items in rising order that move exactly the region, and their first pages, which are a certificate
 pub record IsPlan (r : Region) (items : List Item) (pages : List ℕ) : Type 0 where
@@ -72,9 +72,13 @@ pub record IsSound (r : Region) : Type 0 where
   pub space : InSpace r
   pub rights : ¬ HasNoRights r
 
--- 31 map items, or fewer, move exactly the region
+-- the items of a plan, at most: what a message of 62 words of items and a tag line has
+abbrev pub max_plan_items : ℕ
+max_plan_items = 31
+
+-- as many map items as a plan has at most, or fewer, move exactly the region
 abbrev pub HasShortRival : Region → Type 0
-HasShortRival r = (items : List Item) × IsRival r items × (length items ≤ 31)
+HasShortRival r = (items : List Item) × IsRival r items × (length items ≤ max_plan_items)
 
 -- a list of map items that moves exactly the region has more than n items
 abbrev pub NeedsMoreThan : Region → ℕ → Type 0

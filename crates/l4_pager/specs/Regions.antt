@@ -2,6 +2,7 @@
 use Rattle.std.specs.Prelude.{◌≡◌, ℕ, ◌+◌, ◌-◌, ◌*◌, ◌/◌, ◌^◌, ◌<◌, ◌≤◌, ◌⊎◌, ◌&&◌, Bool, nat_le, nat_lt, List, [], ◌∷◌, Option, Some, None, MatchOption, IsTrue, length}
 use Rattle.std.specs.List.{All, Any, AllPairs, find}
 use Rattle.l4_fpage.specs.Rights.{RightsSet, is_none, without}
+use Rattle.l4_fpage.specs.Pages.{page_bytes, space_pages}
 use Rattle.l4_msg.specs.declared.messages.Message.{Message}
 use Rattle.l4_msg.specs.declared.protocols.PageFault.{PageFault}
 use Rattle.l4_msg.specs.Protocols.{FaultReads, nothing, GivesPages}
@@ -12,10 +13,6 @@ use Rattle.l4_pager.specs.declared.regions.PagerRefusal.TheVariants.{Overlap, No
 -- the entries of a table, at most
 abbrev pub max_regions : ℕ
 max_regions = 64
-
--- the pages of a space
-abbrev pub space_pages : ℕ
-space_pages = 2 ^ 20
 
 -- the entry has no page, a page or source page beyond the space, or no right
 abbrev pub IsBad : Entry → Type 0
@@ -62,8 +59,8 @@ source_of e page = e.source + (page - e.first)
 -- what is answered to a fault: its page, from the entry for it, with the entry's rights; or nothing
 abbrev pub AnswersFault : List Entry → PageFault → Message → Type 0
 AnswersFault es fault answer =
-    MatchOption (entry_for es (fault.address / 4096) fault.access) (answer ≡ nothing)
-    (λ e. GivesPages (source_of e (fault.address / 4096)) (fault.address / 4096) 0 e.rights answer)
+    MatchOption (entry_for es (fault.address / page_bytes) fault.access) (answer ≡ nothing)
+    (λ e. GivesPages (source_of e (fault.address / page_bytes)) (fault.address / page_bytes) 0 e.rights answer)
 
 -- what is answered to a message: a fault message as its fault, and nothing to any other
 abbrev pub Answers : List Entry → Message → Message → Type 0

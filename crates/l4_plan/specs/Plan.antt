@@ -2,6 +2,7 @@
 use Rattle.std.specs.Prelude.{◌≡◌, ℕ, ◌*◌, ◌%◌, ◌<◌, ◌≤◌, List, length, Some}
 use Rattle.std.specs.List.{All, AllPairs, AllZip}
 use Rattle.l4_fpage.specs.Fpages.{bytes_of}
+use Rattle.l4_msg.specs.Regions.{max_plan_items}
 use Rattle.l4_msg.specs.Moves.{base_of, fpage_of}
 use Rattle.l4_msg.specs.declared.items.Item.{Item}
 
@@ -18,7 +19,7 @@ BeginsAt page item = (log : ℕ) × (bytes_of (fpage_of item) ≡ Some (record {
 -- at; and each send base a multiple of 1 KiB, as an item's first word can say it (L4 X.2 manual, IPC: map item).
 pub record FitsMessage (items : List Item) (pages : List ℕ) : Type 0 where
   pub some : 0 < length items
-  pub few : length items ≤ 31
+  pub few : length items ≤ max_plan_items
   pub one_each : length pages ≡ length items
   pub begins : AllZip BeginsAt pages items
   pub rising : AllPairs ◌<◌ pages

@@ -1,5 +1,6 @@
 ghost use Rattle.std.specs.Prelude.{◌≡◌, ℕ, ◌+◌, ◌-◌, ◌*◌, ◌%◌, ◌^◌, ◌<◌, ◌≤◌, ◌↔◌, length, IfOk, IfErr, MatchResult, IsOk, Some};
 ghost use Rattle.arrayvec.specs.ArrayVec.{array_vec_len};
+ghost use Rattle.l4_fpage.specs.Pages.{page_bytes, page_log};
 ghost use Rattle.l4_fpage.specs.Fpages.{bytes_of};
 ghost use Rattle.l4_msg.specs.Moves.{fpage_of};
 ghost use Rattle.l4_msg.specs.Regions.{IsEmpty, InSpace, IsOutOfSpace, HasNoRights, IsSound, IsAllowed, IsCertificate, IsPlan, StartsAt, HasShortRival, NeedsAtLeast, NeedsMoreThan};
@@ -37,7 +38,7 @@ fn largest_allowed(region: &Region, page: u32) -> u8
 fn item_of_block(region: &Region, page: u32, log: u8) -> Item
     requires { IsAllowed region.now page log }
     ensures starts { StartsAt region.now page result }
-    ensures bytes { bytes_of (fpage_of result) ≡ Some (record { base = page * 4096; log = log + 12 }) }
+    ensures bytes { bytes_of (fpage_of result) ≡ Some (record { base = page * page_bytes; log = log + page_log }) }
 {
     let base = (region.target + (page - region.source)) << PAGE_LOG;
     Item::Map {

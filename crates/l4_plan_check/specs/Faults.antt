@@ -1,6 +1,6 @@
 -- Which faults a claim has, and which of them is named (own).
 use Rattle.std.specs.Prelude.{◌≢◌, ℕ, ◌<◌, List, length, ◌⊎◌}
-use Rattle.l4_msg.specs.Regions.{IsSound}
+use Rattle.l4_msg.specs.Regions.{IsSound, max_plan_items}
 use Rattle.l4_msg.specs.declared.items.Item.{Item}
 use Rattle.l4_msg.specs.declared.regions.Region.{Region}
 use Rattle.l4_plan_check.specs.Claims.{IsFirstBad, IsLeastGap, IsFirstOutside, IsFirstPair}
@@ -12,7 +12,7 @@ abbrev pub Holds : Region → List Item → List ℕ → AFault → Type 0
 Holds r items pages InRegion = IsSound r → ⊥
 Holds r items pages (InItem i) = IsFirstBad r items i
 Holds r items pages (Gap page) = IsLeastGap r items page
-Holds r items pages Count = (31 < length items) ⊎ (length pages ≢ length items)
+Holds r items pages Count = (max_plan_items < length items) ⊎ (length pages ≢ length items)
 Holds r items pages (Page i) = IsFirstOutside r pages i
 Holds r items pages (Pair i) = IsFirstPair r pages i
 

@@ -3,6 +3,7 @@ use Rattle.std.specs.Prelude.{◌≡◌, ℕ, ◌*◌, ◌≤◌, ◌⊎◌, Boo
 use Rattle.std.specs.Io.KnownBytes.{Consumes, IsAtEnd}
 use Rattle.l4_plan_lines.specs.Lines.{ended}
 use Rattle.std.specs.Fmt.{decimal}
+use Rattle.l4_msg.specs.Regions.{max_plan_items}
 use Rattle.l4_msg.specs.declared.regions.Region.{Region}
 use Rattle.l4_plan_check.specs.declared.faults.Fault.{Fault}
 use Rattle.l4_plan_check.specs.declared.faults.Fault.TheVariants.{Region as InRegion, Item as InItem, Gap, Count, Page, Pair}
@@ -19,7 +20,7 @@ use Rattle.l4_plan_lines.specs.declared.found.LineFault.TheVariants.{BadTokens, 
 -- a message with so many map items, label 0 and no untyped words has this tag; of more items than a message holds
 -- any tag passes (L4 X.2 manual, IPC: message tag)
 abbrev pub IsTagOf : ℕ → ℕ → Type 0
-IsTagOf tag items = items ≤ 31 → tag ≡ 128 * items
+IsTagOf tag items = items ≤ max_plan_items → tag ≡ 128 * items
 
 -- the input claims that these items are a plan, in a message with the right tag
 pub record ClaimsPlan (input : List ℕ) (claim : Claim) : Type 0 where

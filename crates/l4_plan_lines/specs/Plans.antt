@@ -1,7 +1,7 @@
 -- What is written of the plan of a region (own).
 use Rattle.std.specs.Prelude.{◌≡◌, ℕ, ◌*◌, ◌<◌, ◌≤◌, ◌⊎◌, Bool, true, false, List, [], ◌∷◌, ◌++◌, length, codes}
 use Rattle.std.specs.List.{flat_map}
-use Rattle.l4_msg.specs.Regions.{IsEmpty, InSpace, IsOutOfSpace, HasNoRights, IsSound, IsPlan, IsCertificate, NeedsAtLeast, NeedsMoreThan}
+use Rattle.l4_msg.specs.Regions.{IsEmpty, InSpace, IsOutOfSpace, HasNoRights, IsSound, IsPlan, IsCertificate, NeedsAtLeast, NeedsMoreThan, max_plan_items}
 use Rattle.l4_msg.specs.Words.{items_words}
 use Rattle.l4_msg.specs.declared.regions.Region.{Region}
 use Rattle.l4_plan.specs.Plan.{Listing}
@@ -34,7 +34,7 @@ pub record IsShortest (r : Region) (p : Listing) : Type 0 where
   pub sound : IsSound r
   pub plan : IsPlan r p.items p.pages
   pub one_each : length p.pages ≡ length p.items
-  pub few : length p.items ≤ 31
+  pub few : length p.items ≤ max_plan_items
   pub starts : AreStarts r r.source p.pages
   pub shortest : NeedsAtLeast r (length p.items)
 

@@ -60,7 +60,7 @@ fn space_of_sender(kernel: &Kernel, sender: ThreadId) -> u64
 ghost use Rattle.l4_servers.specs.Acting.{space_of_sender};
 
 impl Servers {
-    ghost use Rattle.l4_sigma0.specs.Owners.{max_frames};
+    ghost use Rattle.l4_fpage.specs.Pages.{max_frames};
     ghost use Rattle.l4_pager.specs.Regions.{Answers as AnswersByRegion};
     ghost use Rattle.l4_servers.specs.Servers.{no_servers, regions_of, is_served, with_region, with_served, without, RegionFails};
     ghost use Rattle.l4_servers.specs.Servers.{Servers as TheServers};

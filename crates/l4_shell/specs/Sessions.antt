@@ -2,6 +2,7 @@
 use Rattle.std.specs.Prelude.{◌≡◌, ℕ, ◌+◌, ◌<◌, ◌≤◌, ◌^◌, ◌⊎◌, ◌↔◌, Bool, false, nat_eq, List, [], ◌∷◌, ◌++◌, length, Contains, Option, Some, None, Result, Ok, Err, MatchOption, if◌then◌else◌}
 use Rattle.std.specs.Option.{option_map_or}
 use Rattle.std.specs.List.{flat_map, list_any, AllPairs}
+use Rattle.l4_fpage.specs.Pages.{space_pages}
 use Rattle.l4_mapdb.specs.Mappings.{shown, IsPresent}
 use Rattle.l4_mapdb.specs.declared.Place.{Place}
 use Rattle.l4_threads.specs.Threads.{space_of}
@@ -256,7 +257,7 @@ place_text m space page = option_map_or (page_text page) (shown m.mappings (plac
 pub record ArePages (m : Machine) (space first count : ℕ) (pages : List ℕ) : Type 0 where
   pub rising : AllPairs (λ a b. a < b) pages
   pub each : (page : ℕ) → Contains pages page
-      ↔ ((first ≤ page) × (page < first + count) × (page < 2 ^ 20) × IsPresent m.mappings (place_in space page))
+      ↔ ((first ≤ page) × (page < first + count) × (page < space_pages) × IsPresent m.mappings (place_in space page))
 
 -- the present pages of the space from the first on and below an end were told, and there are so many
 pub record ListsBelow (m : Machine) (space first end shown : ℕ) (written now : Option (List ℕ)) (before after : List ℕ × Bool) : Type 0 where

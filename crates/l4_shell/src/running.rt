@@ -1,5 +1,6 @@
 //! Scripts from a reader to a writer.
 ghost use Rattle.std.specs.Prelude.{◌≡◌, ◌≤◌, IfSome};
+ghost use Rattle.l4_fpage.specs.Pages.{max_frames};
 ghost use Rattle.l4_shell.specs.Scripts.{Runs};
 ghost use Rattle.l4_shell.specs.Inside.Scripts.{TellsScript, HasFirstSeats};
 ghost use Rattle.l4_shell.specs.Sessions.{session};
@@ -87,7 +88,7 @@ pub fn run<R: Read, W: Write>(
     writer: &mut W,
 ) -> Result<u64, RunFault>
     requires some { 1 ≤ frames }
-    requires fit { frames ≤ 4096 }
+    requires fit { frames ≤ max_frames }
 
     // What goes out is the script text of what was read: to its end, of the whole lines before a
     // read that failed, or a beginning of it where a write failed. Want of memory comes before all

@@ -5,15 +5,11 @@ use Rattle.std.specs.Coded.{Coded, code_by, coded×, coded_ℕ}
 use Rattle.std.specs.FinMap as fin
 use Rattle.l4_fpage.specs.Fpages.{bytes_of}
 use Rattle.l4_fpage.specs.Rights.{all_rights}
-use Rattle.l4_fpage.specs.Pages.{InBlock}
+use Rattle.l4_fpage.specs.Pages.{InBlock, page_bytes, page_log}
 use Rattle.l4_fpage.specs.declared.fpages.Fpage.{Fpage}
 use Rattle.l4_msg.specs.declared.messages.Message.{Message}
 use Rattle.l4_msg.specs.declared.protocols.PageFault.{PageFault}
 use Rattle.l4_msg.specs.Protocols.{FaultReads, RequestReads, nothing, GivesPages}
-
--- the frames of a machine, at most
-abbrev pub max_frames : ℕ
-max_frames = 4096
 
 -- the number of frames, and the spaces that own some of them, by frame
 pub record Owners : Type 0 where
@@ -32,13 +28,13 @@ owner_of t frame = fin.get t.owner frame
 
 -- the fpage's whole pages are 2 ^ log pages from the first on
 abbrev pub NamesPages : Fpage → ℕ → ℕ → Type 0
-NamesPages fpage first log = MatchOption (bytes_of fpage) ⊥ (λ b. (12 ≤ b.log) × (first ≡ b.base / 4096) × (log ≡ b.log - 12))
+NamesPages fpage first log = MatchOption (bytes_of fpage) ⊥ (λ b. (page_log ≤ b.log) × (first ≡ b.base / page_bytes) × (log ≡ b.log - page_log))
 
 -- The message asks for 2 ^ log frames from the first on: a fault for its page, a request without attributes for the pages of its
 -- fpage. The frame of a page is the one of its number.
 abbrev pub Wants : Message → ℕ → ℕ → Type 0
 Wants m first log =
-    ((fault : PageFault) × FaultReads m fault × (first ≡ fault.address / 4096) × (log ≡ 0))
+    ((fault : PageFault) × FaultReads m fault × (first ≡ fault.address / page_bytes) × (log ≡ 0))
     ⊎ ((fpage : Fpage) × RequestReads m (record { fpage = fpage; attributes = 0 }) × NamesPages fpage first log)
 
 -- there is such a frame, and it is free or the space's

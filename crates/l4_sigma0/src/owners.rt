@@ -1,12 +1,13 @@
 //! The owners of frames.
 ghost use Rattle.std.specs.Prelude.{◌≡◌, ℕ, ◌+◌, ◌^◌, ◌<◌, ◌≤◌, ◌↔◌, MatchOption, IsTrue, length};
+ghost use Rattle.l4_fpage.specs.Pages.{max_frames};
 
 use l4_fpage::{Block, Fpage, PAGE_LOG, Rights};
 use l4_msg::{FrameRequest, Message, PageFault, map_answer};
 use std::marker::Model;
 
 /// The frames of a machine, at most (this profile's own).
-pub const MAX_FRAMES: usize = 4096;
+pub const MAX_FRAMES: usize = l4_fpage::MAX_FRAMES as usize;
 
 /// sigma0's table: which space owns which frame. A frame that is given to a space is that space's for good (L4 X.2 manual, sigma0
 /// protocol; what is granted is this profile's own).
@@ -18,7 +19,7 @@ pub struct Sigma0 {
 
 impl Model for Sigma0 {
     ghost use Rattle.std.specs.Prelude.{◌≤◌};
-    ghost use Rattle.l4_sigma0.specs.Owners.{Owners, owners_code, max_frames};
+    ghost use Rattle.l4_sigma0.specs.Owners.{Owners, owners_code};
     ghost use Rattle.l4_sigma0.specs.Inside.Tables.{map_of};
 
     ghost Value = { Owners };
@@ -85,7 +86,7 @@ fn fill(owners: &mut [Option<u64>], space: u64, first: usize, end: usize)
 impl Sigma0 {
     ghost use Rattle.std.specs.FinMap as fin;
     ghost use Rattle.l4_msg.specs.Messages.{CanBeWritten};
-    ghost use Rattle.l4_sigma0.specs.Owners.{Answers, max_frames};
+    ghost use Rattle.l4_sigma0.specs.Owners.{Answers};
 
     /// The table of the frames 0 to `frames` - 1, of which none has an owner. `frames` is at most `MAX_FRAMES`.
     pub fn new(frames: u32) -> Sigma0

@@ -1,47 +1,70 @@
--- When a used move entangles its message, seen from the one move. (this profile's own)
-use Rattle.std.specs.Prelude.{◌≡◌, ◌≢◌, ℕ, List, Option, Some, IsTrue, ◌⊎◌}
-use Rattle.l4_mapdb.specs.declared.Place.{Place}
-use Rattle.l4_mapdb.specs.declared.store.Node.{Node}
-use Rattle.l4_mapdb.specs.Inside.Sheets.{slot_at}
-use Rattle.l4_mapdb.specs.Mappings.{Mappings}
-use Rattle.l4_mapdb.specs.Transfer.{PageMove, IsGone}
+-- When the used moves of a message contradict each other, by keys. (this profile's own)
+use Rattle.std.specs.Prelude.{◌≡◌, ◌≢◌, ℕ, ◌⊎◌, IsTrue}
+use Rattle.l4_links.specs.declared.Place.{Place as LinkPlace}
+use Rattle.l4_links.specs.Entries.{Entries, IsAt, IsStanding, IsSource, Descends}
+use Rattle.l4_mapdb.specs.declared.sources.UsedMove.{UsedMove}
 
-module _ (Used : PageMove → Type 0) where
+module _ (Used : UsedMove → Type 0) where
   -- a used move of another item than this one fills the place
-  pub record FillsToo (item : ℕ) (place : Place) : Type 0 where
-    pub other : PageMove
+  pub record FillsToo (item : ℕ) (place : LinkPlace) : Type 0 where
+    pub other : UsedMove
     pub used : Used other
     pub differ : item ≢ other.item
     pub target : other.target ≡ place
 
-  -- a used move of another item than this one is out of the place
-  pub record MovesToo (item : ℕ) (place : Place) : Type 0 where
-    pub other : PageMove
+  -- a used move of another item than this one is out of the page
+  pub record MovesToo (item page : ℕ) : Type 0 where
+    pub other : UsedMove
     pub used : Used other
     pub differ : item ≢ other.item
-    pub source : other.source ≡ place
+    pub page_is : other.page ≡ page
 
-  -- another item fills the move's target, or moves what the move grants, or the move's source goes
-  abbrev pub Tangles : Mappings → PageMove → Type 0
-  Tangles old move = FillsToo move.item move.target ⊎ ((IsTrue move.grant × MovesToo move.item move.source) ⊎ IsGone Used old move.source)
+  -- what stands at the place is a source of a used move, or an ancestor of one
+  pub record Replaces (s : Entries) (place : LinkPlace) : Type 0 where
+    pub key : ℕ
+    pub at : IsAt s place key
+    pub stands : IsStanding s key
+    pub other : UsedMove
+    pub used : Used other
+    pub above : (other.source ≡ key) ⊎ Descends s other.source key
 
-  -- a used move of the item out of the place entangles the message
-  pub record ItemTangles (old : Mappings) (item : ℕ) (place : Place) : Type 0 where
-    pub move : PageMove
+  -- a used move fills the page of what stands under the key, or of what it descends from
+  pub record IsTaken (s : Entries) (low : ℕ) : Type 0 where
+    pub key : ℕ
+    pub stands : IsStanding s key
+    pub other : UsedMove
+    pub used : Used other
+    pub at : IsAt s other.target key
+    pub above : (low ≡ key) ⊎ Descends s low key
+
+  -- another item fills the move's target, or moves what the move grants
+  abbrev pub Clashes : UsedMove → Type 0
+  Clashes move = FillsToo move.item move.target ⊎ (IsTrue move.grant × MovesToo move.item move.page)
+
+  -- the used move has a target that another one fills, or is out of what is granted and moved twice, or its target is above a source
+  abbrev pub Tangles : Entries → UsedMove → Type 0
+  Tangles s move = Clashes move ⊎ Replaces s move.target
+
+  -- the same, where the move's source is seen to go
+  abbrev pub TanglesFrom : Entries → UsedMove → Type 0
+  TanglesFrom s move = Clashes move ⊎ IsTaken s move.source
+
+  -- a used move tangles
+  pub record HasTangle (s : Entries) : Type 0 where
+    pub move : UsedMove
     pub used : Used move
-    pub item_is : move.item ≡ item
-    pub source : move.source ≡ place
-    pub tangles : Tangles old move
+    pub tangles : Tangles s move
 
-  -- a used move out of the place entangles the message
-  pub record PlaceTangles (old : Mappings) (place : Place) : Type 0 where
-    pub move : PageMove
-    pub used : Used move
-    pub source : move.source ≡ place
-    pub tangles : Tangles old move
+-- what stands at the place is a source, or above one
+pub record AboveSource (s : Entries) (place : LinkPlace) : Type 0 where
+  pub key : ℕ
+  pub at : IsAt s place key
+  pub stands : IsStanding s key
+  pub low : ℕ
+  pub source : IsSource s low
+  pub above : (low ≡ key) ⊎ Descends s low key
 
-  -- a used move out of the place of this key entangles the message
-  pub record KeyTangles (old : Mappings) (slots : List (Option Node)) (key : ℕ) : Type 0 where
-    pub node : Node
-    pub at : slot_at slots key ≡ Some node
-    pub tangles : PlaceTangles old node.place
+-- the sources are those of the used moves
+pub record SourcesAre (Used : UsedMove → Type 0) (s : Entries) : Type 0 where
+  pub marked : (move : UsedMove) → Used move → IsSource s move.source
+  pub used : (key : ℕ) → IsSource s key → (move : UsedMove) × Used move × (move.source ≡ key)

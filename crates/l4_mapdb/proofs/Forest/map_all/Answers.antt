@@ -1,76 +1,66 @@
-use Rattle.std.proofs.Common.{◌≡◌, false, true, refl}
-use Rattle.l4_mapdb.specs.Transfer.{IsUsed, IsEntangled, NeedsPlace}
-use Rattle.l4_mapdb.proofs.Nothing.{transfers_none, free_none}
-use Rattle.l4_mapdb.proofs.Delivered.{can_transfer, receiver_there, needs_place, delivered, kept_delivered, unchanged, kept_unchanged}
-use Rattle.l4_mapdb.proofs.Forest.map_all.Goals.{in-Ok, in-Err}
+use Rattle.std.proofs.Common.{◌≡◌, ℕ, Some, List, Option, IsTrue, sym, ap, ◌∙◌, subst, option_and_then}
+use Rattle.std.specs.FinSet as set
+use Rattle.l4_links.specs.declared.Entry.{Entry}
+use Rattle.l4_links.specs.Entries.{Linked, entry_at, standing_at}
+use Rattle.l4_mapdb.specs.Mappings.{Mappings, IsForest}
+use Rattle.l4_mapdb.proofs.UsedMoves.{delivers_keep}
+use Rattle.l4_mapdb.specs.Inside.View.{mappings_of}
+use Rattle.l4_mapdb.specs.Inside.Placing.{IsStart}
+use Rattle.l4_mapdb.proofs.Unchanged.{unchanged}
 use Rattle.l4_mapdb.proofs.Forest.map_all.Goals as goal
 
-pub returns-then-moves_nothing-clause-ok : goal.returns-then-moves_nothing-clause-ok
-returns-then-moves_nothing-clause-ok c =
-    transfers_none (IsUsed c.args.self.now c.args.from c.args.to c.args.moves.now) (c.moves_nothing.ensures c.if-moves_nothing.true c.args.self.now c.args.from c.args.to) c.args.self.now c.law_forest.ensures
-
-pub returns-then-moves_nothing-clause-free : goal.returns-then-moves_nothing-clause-free
-returns-then-moves_nothing-clause-free c =
-    free_none (IsUsed c.args.self.now c.args.from c.args.to c.args.moves.now) (c.moves_nothing.ensures c.if-moves_nothing.true c.args.self.now c.args.from c.args.to) c.args.self.now
-
-pub returns-then-is_entangled-clause-succeeds : goal.returns-then-is_entangled-clause-succeeds
-returns-then-is_entangled-clause-succeeds c = λ present free. absurd (free (c.is_entangled.ensures.0 c.if-is_entangled.true))
-
-pub transfer-requires-clause-ready : goal.transfer-requires-clause-ready
-transfer-requires-clause-ready c =
-    can_transfer c.args.from c.args.to c.args.moves.now c.self.inside.store c.args.self.now c.self.view_is c.self.invariant c.requires.to_there
-    (λ e. let k : false ≡ true = c.if-is_entangled.ensures.1 e in cc)
-
-pub transfer-requires-clause-there : goal.transfer-requires-clause-there
-transfer-requires-clause-there c =
-    receiver_there c.args.from c.args.to c.args.moves.now c.self.inside.store c.args.self.now c.self.view_is c.self.invariant c.requires.to_there
-    (λ e. let k : false ≡ true = c.if-is_entangled.ensures.1 e in cc)
-
-free : (c : goal.Joined-transfer) → ¬ (IsEntangled (IsUsed c.args.self.now c.args.from c.args.to c.args.moves.now) c.args.self.now)
-free c e = let k : false ≡ true = c.if-is_entangled.ensures.1 e in cc
+same_view : (c : goal.After-law_places-in-Err) → mappings_of c.make_way.new.links ≡ mappings_of c.self.inside.links
+same_view c = unchanged c.self.inside.links c.make_way.new.links c.law_places.ensures c.law_places-in-Err.ensures c.make_way.ensures.spaces c.in-Err.ensures.err
 
 pub invariant_of-self : goal.invariant_of-self
-invariant_of-self c = elim c.match-transfer.branch [
-  | in-Ok w ↦
-      kept_delivered c.args.from c.args.to c.args.moves.now c.self.inside.store c.args.self.now c.self.view_is c.self.invariant c.requires.to_there (free c) c.transfer.new.places c.transfer.ensures.spaces
-      w.in-Ok.ensures.ok c.transfer.ensures.once c.transfer.ensures.whole
-  | in-Err w ↦
-      kept_unchanged c.args.from c.args.to c.args.moves.now c.self.inside.store c.args.self.now c.self.view_is c.self.invariant c.requires.to_there (free c) c.transfer.new.places c.transfer.ensures.spaces
-      w.in-Err.ensures.err c.transfer.ensures.once c.transfer.ensures.whole
-]
+invariant_of-self c = record {
+  clean = λ key e at. c.self.invariant.clean key e (sym (c.in-Err.ensures.err key) ∙ at);
+  known = λ key t at top. c.self.invariant.known key t (sym (ap (option_and_then (λ (x : Entry). x.stands)) (c.in-Err.ensures.err key)) ∙ at) top;
+  forest = subst IsForest (sym (same_view c)) c.self.invariant.forest;
+}
+
+pub returns-in-Err-clause-err : goal.returns-in-Err-clause-err
+returns-in-Err-clause-err c = same_view c ∙ c.self.view_is
+
+pub returns-in-Err-clause-cause : goal.returns-in-Err-clause-cause
+returns-in-Err-clause-cause c = rw (← c.self.view_is) c.in-Err.ensures.cause
+
+pub returns-in-Err-clause-succeeds : goal.returns-in-Err-clause-succeeds
+returns-in-Err-clause-succeeds c = rw (← c.self.view_is) c.in-Err.ensures.succeeds
+
+pub carry_out-requires : goal.carry_out-requires
+carry_out-requires c = record {
+  ready = (
+    c.self.inside.links,
+    record {
+      places = c.law_places.ensures;
+      trees = c.law_trees.ensures;
+      there = subst (λ (m : Mappings). IsTrue (set.contains m.spaces c.args.to)) (sym c.self.view_is) c.requires.to_there;
+      clean = c.self.invariant.clean;
+      forest = c.self.invariant.forest;
+      free = c.in-Ok.ensures.free;
+    },
+    c.in-Ok.ensures.ok,
+  );
+}
+
+start : (c : goal.After-carry_out) → IsStart c.self.inside.links c.args.from c.args.to c.args.moves.now
+start c = record {
+  places = c.law_places.ensures;
+  trees = c.law_trees.ensures;
+  there = subst (λ (m : Mappings). IsTrue (set.contains m.spaces c.args.to)) (sym c.self.view_is) c.requires.to_there;
+  clean = c.self.invariant.clean;
+  forest = c.self.invariant.forest;
+  free = c.in-Ok.ensures.free;
+}
+
+pub invariant_of-self-2 : goal.invariant_of-self-2
+invariant_of-self-2 c = record {
+  clean = c.carry_out.ensures.clean;
+  known = c.carry_out.ensures.roots c.self.inside.links (start c) c.in-Ok.ensures.ok c.self.inside.roots.items c.self.invariant.known;
+  forest = delivers_keep (mappings_of c.self.inside.links) c.args.from c.args.to c.args.moves.now (start c).there (mappings_of c.carry_out.new.links) c.self.invariant.forest c.in-Ok.ensures.free
+      (c.carry_out.ensures.delivers c.self.inside.links (start c) c.in-Ok.ensures.ok);
+}
 
 pub returns-clause-ok : goal.returns-clause-ok
-returns-clause-ok c = elim c.match-transfer.branch [
-  | in-Ok w ↦
-      rw w.result-is
-      (delivered c.args.from c.args.to c.args.moves.now c.self.inside.store c.args.self.now c.self.view_is c.self.invariant c.requires.to_there (free c) c.transfer.new.places c.transfer.ensures.spaces w.in-Ok.ensures.ok)
-  | in-Err w ↦ rw w.result-is tt
-]
-
-pub returns-clause-free : goal.returns-clause-free
-returns-clause-free c = elim c.match-transfer.branch [ in-Ok w ↦ rw w.result-is (free c) | in-Err w ↦ rw w.result-is tt ]
-
-pub returns-clause-err : goal.returns-clause-err
-returns-clause-err c = elim c.match-transfer.branch [
-  | in-Ok w ↦ rw w.result-is tt
-  | in-Err w ↦
-      rw w.result-is
-      (unchanged c.args.from c.args.to c.args.moves.now c.self.inside.store c.args.self.now c.self.view_is c.self.invariant c.requires.to_there (free c) c.transfer.new.places c.transfer.ensures.spaces w.in-Err.ensures.err)
-]
-
-pub returns-clause-cause : goal.returns-clause-cause
-returns-clause-cause c = elim c.match-transfer.branch [
-  | in-Ok w ↦ rw w.result-is tt
-  | in-Err w ↦
-      rw w.result-is
-      (free c, needs_place c.args.from c.args.to c.args.moves.now c.self.inside.store c.args.self.now c.self.view_is c.self.invariant c.requires.to_there (free c) w.in-Err.ensures.no_memory)
-]
-
-pub returns-clause-succeeds : goal.returns-clause-succeeds
-returns-clause-succeeds c = elim c.match-transfer.branch [
-  | in-Ok w ↦ λ present apart. rw w.result-is refl
-  | in-Err w ↦ λ present apart.
-      let needs : NeedsPlace (IsUsed c.args.self.now c.args.from c.args.to c.args.moves.now) c.args.self.now =
-      needs_place c.args.from c.args.to c.args.moves.now c.self.inside.store c.args.self.now c.self.view_is c.self.invariant c.requires.to_there (free c) w.in-Err.ensures.no_memory in
-      absurd (needs.absent (present needs.move needs.used))
-]
+returns-clause-ok c = rw (← c.self.view_is) (c.carry_out.ensures.delivers c.self.inside.links (start c) c.in-Ok.ensures.ok)

@@ -1,11 +1,19 @@
 use Rattle.std.proofs.Common.{arith}
-use Rattle.std.proofs.lemmas.Nat.{pow_pos}
-use Rattle.l4_mapdb.proofs.Ranges.{revokes_block, block_empty}
+use Rattle.l4_mapdb.specs.Losing.{RevokesBlock}
+use Rattle.l4_mapdb.specs.Inside.View.{mappings_of}
+use Rattle.l4_mapdb.proofs.Cut.{revokes_pages, forest_block, kept_cut}
 use Rattle.l4_mapdb.proofs.Forest.revoke_block.Goals as goal
 
-pub returns : goal.returns
-returns c = revokes_block c.args.space c.args.block.first c.args.block.log _ c.args.rights c.args.with_self c.args.self.now c.revoke_pages.new.self c.revoke_pages.ensures (omega (arith, pow_pos c.args.block.log))
+revokes : (c : goal.After-revoke_pages) → RevokesBlock c.args.space c.args.block.first c.args.block.log c.args.rights c.args.with_self (mappings_of c.self.inside.links) (mappings_of c.revoke_pages.new.links)
+revokes c =
+    revokes_pages c.self.inside.links c.law_places.ensures c.law_trees.ensures c.revoke_pages.new.links c.revoke_pages.ensures.places c.revoke_pages.ensures.trees c.args.rights c.args.with_self
+    c.self.invariant.clean c.revoke_pages.ensures.spaces c.args.space c.args.block.first c.args.block.log _ (omega arith) c.revoke_pages.ensures.cuts
 
-pub returns-in_default : goal.returns-in_default
-returns-in_default c =
-    rw (← c.self.view_is) (block_empty c.args.space c.args.block.first c.args.block.log _ c.args.rights c.args.with_self c.self.inside.store c.self.invariant c.in_default.ensures (omega arith))
+pub invariant_of-self : goal.invariant_of-self
+invariant_of-self c =
+    kept_cut c.self.inside c.revoke_pages.new.links _ c.args.rights c.self.invariant c.revoke_pages.ensures.cuts
+    (forest_block c.self.inside.links c.law_places.ensures c.law_trees.ensures c.args.space c.args.block.first c.args.block.log c.args.rights c.args.with_self (mappings_of c.revoke_pages.new.links)
+    c.self.invariant.forest (revokes c))
+
+pub returns : goal.returns
+returns c = rw (← c.self.view_is) (revokes c)

@@ -1,5 +1,13 @@
-use Rattle.l4_mapdb.proofs.Kept.{root_of}
+use Rattle.std.proofs.Common.{◌∙◌, sym, ap, ℕ, List, Option}
+use Rattle.l4_mapdb.specs.Inside.Kept.{kept_at}
+use Rattle.l4_mapdb.proofs.Presence.{no_root, root_is}
 use Rattle.l4_mapdb.proofs.Forest.root.Goals as goal
 
+pub returns-in_default : goal.returns-in_default
+returns-in_default c = rw (← c.self.view_is)
+    (no_root c.self.inside.links c.law_places.ensures c.law_trees.ensures c.self.inside.roots.items c.args.frame c.self.invariant.known (ap (λ (r : List (Option ℕ)). kept_at r c.args.frame) (sym c.deref.ensures.value) ∙ sym c.kept_key.ensures ∙ c.in_default.is))
+
 pub returns : goal.returns
-returns c = rw (← c.self.view_is) (root_of c.self.inside.store c.self.invariant.once c.args.frame c.root_in.result c.root_in.ensures)
+returns c = rw (← c.self.view_is)
+    (root_is c.self.inside.links c.law_places.ensures c.law_trees.ensures c.self.inside.roots.items c.args.frame c.in-Some.key c.root_under.result c.self.invariant.known
+    (ap (λ (r : List (Option ℕ)). kept_at r c.args.frame) (sym c.deref.ensures.value) ∙ sym c.kept_key.ensures ∙ c.in-Some.is) c.root_under.ensures)

@@ -1,26 +1,27 @@
-use Rattle.std.proofs.Common.{◌+◌, sym, subst, arith}
-use Rattle.l4_mapdb.specs.Inside.Sheets.{Sheet}
-use Rattle.l4_mapdb.proofs.Ended.{EndedSoFar, ended_first, ended_none, ended_some, ended_all, ended_acyclic}
-use Rattle.l4_mapdb.proofs.ending.clear.Goals.{in-Some, in_default}
+use Rattle.std.proofs.Common.{◌∙◌, refl}
+use Rattle.l4_mapdb.proofs.Taken.{taken_first, taken_more, taken_all, taken_empty, taken_clean, leaves_blank}
 use Rattle.l4_mapdb.proofs.ending.clear.Goals as goal
 
-pub loop-key-init : goal.loop-key-init
-loop-key-init c = ended_first c.args.space c.args.places.now c.requires.once
+pub loop-page-init : goal.loop-page-init
+loop-page-init c = taken_first c.args.space c.args.links.now
 
-pub left-later-requires : goal.left-later-requires
-left-later-requires c = ended_acyclic c.args.space c.args.places.now c.loop-key.key c.loop-key.places c.loop-key.invariant c.requires.acyclic
+pub returns-in_default-clause-takes : goal.returns-in_default-clause-takes
+returns-in_default-clause-takes c = taken_all c.args.space c.args.links.now c.loop-page.links c.loop-page.next c.loop-page.invariant c.in_default.ensures c.law_places.ensures
 
-pub loop-key-preserved : goal.loop-key-preserved
-loop-key-preserved c = elim c.match-at.branch [
-  | in-Some w ↦
-      subst (λ (x : Sheet). EndedSoFar c.args.space c.args.places.now (c.loop-key.key + 1) x) (sym w.places-is)
-      (ended_some c.args.space c.args.places.now c.loop-key.key c.loop-key.places c.loop-key.invariant w.left-later.result w.plan.new.self w.in-Some.node
-      (sym w.in-Some.ensures) w.plan.ensures.plans w.plan.ensures.spaces w.plan.ensures.once w.left-later.ensures.gone w.left-later.ensures.kept)
-  | in_default w ↦
-      subst (λ (x : Sheet). EndedSoFar c.args.space c.args.places.now (c.loop-key.key + 1) x) (sym w.places-is)
-      (ended_none c.args.space c.args.places.now c.loop-key.key c.loop-key.places c.loop-key.invariant (sym w.in_default.ensures))
-]
+pub returns-in_default-clause-empty : goal.returns-in_default-clause-empty
+returns-in_default-clause-empty c = taken_empty c.args.space c.args.links.now c.loop-page.links c.loop-page.next c.loop-page.invariant c.in_default.ensures c.law_places.ensures
 
-pub returns-clause-ends : goal.returns-clause-ends
-returns-clause-ends c =
-    ended_all c.args.space c.args.places.now c.loop-key.key c.loop-key.places c.loop-key.invariant (omega (arith, c.loop-key-test.false, c.bound-key-end.ensures))
+pub law_rights-requires : goal.law_rights-requires
+law_rights-requires c = taken_clean c.args.space c.args.links.now c.loop-page.links c.loop-page.next c.loop-page.invariant c.requires
+
+pub take_blank-requires : goal.take_blank-requires
+take_blank-requires c = record {
+  blank = leaves_blank c.args.space c.args.links.now c.loop-page.links c.loop-page.next c.loop-page.invariant c.in-Some.page c.in-Some-find.key c.law_places.ensures c.law_trees.ensures
+      c.in-Some.ensures ((c.in-Some-find.ensures c.in-Some-find.key).0 refl) c.clear.new.self.entries c.clear.ensures.clears;
+}
+
+pub loop-page-preserved : goal.loop-page-preserved
+loop-page-preserved c =
+    taken_more c.args.space c.args.links.now c.loop-page.links c.loop-page.next c.loop-page.invariant c.in-Some.page c.in-Some-find.key c.law_places.ensures c.law_trees.ensures
+    c.in-Some.ensures ((c.in-Some-find.ensures c.in-Some-find.key).0 refl) c.requires c.clear.new.self.entries c.take_blank.new.self c.clear.ensures.clears
+    c.take_blank.ensures.gone c.take_blank.ensures.others (c.take_blank.ensures.spaces ∙ c.clear.ensures.spaces)

@@ -1,5 +1,11 @@
-use Rattle.l4_mapdb.proofs.Ended.{EndedSoFar}
+use Rattle.std.proofs.Common.{◌-◌}
+use Rattle.l4_spaces.specs.Tables.{space_pages}
+use Rattle.l4_mapdb.proofs.Taken.{TakenTo}
 use Rattle.l4_mapdb.proofs.ending.clear.Given as goal
 
-abbrev pub invariant-loop-key : goal.invariant-loop-key
-invariant-loop-key l = EndedSoFar l.space l.fn.places l.key l.places
+-- the pages before this one have gone, with what descends from them
+abbrev pub invariant-loop-page : goal.invariant-loop-page
+invariant-loop-page l = TakenTo l.space l.fn.links l.links l.next
+
+abbrev pub decreases-loop-page : goal.decreases-loop-page
+decreases-loop-page l = space_pages - l.next

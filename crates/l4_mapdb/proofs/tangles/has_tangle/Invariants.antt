@@ -1,11 +1,15 @@
-use Rattle.std.proofs.Common.{ℕ, ◌<◌}
-use Rattle.l4_mapdb.specs.Mappings.{Mappings, IsForest}
-use Rattle.l4_mapdb.specs.Transfer.{IsUsed}
-use Rattle.l4_mapdb.specs.Inside.Sheets.{now_in}
-use Rattle.l4_mapdb.specs.Inside.Shown.{IsShownBy}
-use Rattle.l4_mapdb.specs.Inside.Tangles.{KeyTangles}
+use Rattle.std.proofs.Common.{◌-◌, ◌≤◌, ◌<◌, ◌*◌, length}
+use Rattle.l4_mapdb.specs.declared.sources.UsedMove.{UsedMove}
+use Rattle.l4_mapdb.specs.Inside.Messages.{IsMoved, turn, turn_of}
+use Rattle.l4_mapdb.specs.Inside.Tangles.{TanglesFrom}
 use Rattle.l4_mapdb.proofs.tangles.has_tangle.Given as goal
 
--- no used move out of the place of a key before this one entangles the message
-abbrev pub invariant-loop-key : goal.invariant-loop-key
-invariant-loop-key l = (s : Mappings) → IsShownBy s (now_in l.places.slots) → IsForest s → (k : ℕ) → k < l.key → ¬ (KeyTangles (IsUsed s l.from l.to l.items) s l.places.slots k)
+-- no used move before this turn tangles
+abbrev pub invariant-loop-used : goal.invariant-loop-used
+invariant-loop-used l = record {
+  fits : l.page ≤ 1048576;
+  none : (move : UsedMove) → IsMoved l.links.entries l.from l.to l.items move → turn_of move < turn l.item l.page → ¬ (TanglesFrom (IsMoved l.links.entries l.from l.to l.items) l.links.entries move);
+}
+
+abbrev pub decreases-loop-used : goal.decreases-loop-used
+decreases-loop-used l = length l.items * 1048576 - turn l.item l.page

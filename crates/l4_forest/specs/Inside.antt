@@ -1,8 +1,0 @@
-pub mod Cuts
-pub mod Cutting
-pub mod Kept
-pub mod Messages
-pub mod Placing
-pub mod Settling
-pub mod Tangles
-pub mod View

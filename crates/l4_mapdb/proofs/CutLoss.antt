@@ -1,0 +1,413 @@
+-- What is cut below granted pages is what the transfer's definition cuts.
+use Rattle.std.proofs.Common.{◌≡◌, ◌≢◌, ℕ, ◌+◌, ◌<◌, ◌≤◌, ◌^◌, Bool, true, false, List, length, Option, Some, None, option_and_then, option_map, ◌↔◌, ◌⊎◌, inl, inr, IsTrue, refl, sym, ap, ◌∙◌, subst, slice_get, arith}
+use Rattle.std.proofs.lemmas.Option.{slice_get_within}
+use Rattle.l4_fpage.specs.Rights.{RightsSet, Right, has, common, no_rights}
+use Rattle.l4_links.specs.declared.Place.{Place as LinkPlace}
+use Rattle.l4_links.specs.declared.Standing.{Standing}
+use Rattle.l4_links.specs.declared.Entry.{Entry}
+use Rattle.l4_links.specs.Leads.{Leads, step, steps}
+use Rattle.l4_links.specs.Entries.{Entries, Linked, entry_at, standing_at, IsAt, Descends, HavePlaces, AreTrees, Buries}
+use Rattle.l4_links.specs.Entries as links
+use Rattle.l4_mapdb.specs.declared.Place.{Place}
+use Rattle.l4_mapdb.specs.declared.Mapping.{Mapping}
+use Rattle.l4_mapdb.specs.declared.ItemMove.{ItemMove}
+use Rattle.l4_mapdb.specs.Mappings.{Mappings, shown, parent_of, Chain}
+use Rattle.l4_mapdb.specs.Mappings as map
+use Rattle.l4_mapdb.specs.Losing.{LosesRights}
+use Rattle.l4_mapdb.specs.Transfer.{PageMove, IsGone, IsCut}
+use Rattle.l4_mapdb.proofs.Unique.{same_value, same_rights}
+use Rattle.l4_mapdb.specs.Inside.View.{link_place, map_place, place_at, mapping_of, mappings_of, IsShown}
+use Rattle.l4_mapdb.specs.Inside.Cutting.{bare, IsGrantedAt, IsOrBelow, Capped, IsGrantBelow}
+use Rattle.l4_mapdb.specs.Inside.Placing.{IsStart, Used, HasGone, IsTarget, HasChild, Placed}
+use Rattle.l4_mapdb.specs.Inside.Settling.{left_by, settled_standing, settled_entry, settled}
+use Rattle.l4_mapdb.proofs.View.{shown_by_key, key_shows, some_standing, stands_at, one_entry, descends_by_key, parent_is, some_parent, at_place}
+use Rattle.l4_mapdb.proofs.Deciding.{none_or}
+use Rattle.l4_mapdb.proofs.Caps.{has_common}
+use Rattle.l4_mapdb.proofs.Lost.{HasLost, KeysLose, view_loses}
+use Rattle.l4_mapdb.proofs.Sourced.{stood, GrantedTo, granted_place}
+use Rattle.l4_mapdb.proofs.Moved.{at_settled, was_settled, places_settled, place_at_settled, granted_to, not_granted_here}
+
+-- a right of what stands below is a right of what stands above
+pub right_up : (s : Entries) → AreTrees s → (low high : ℕ) → Descends s low high → (t u : Standing) → standing_at s low ≡ Some t → standing_at s high ≡ Some u → (k : Right) → IsTrue (has t.rights k) → IsTrue (has u.rights k)
+right_up s trees low high (step is) t u at_t at_u k h =
+    let p = trees.parents low t high at_t (sym (parent_is s low t at_t) ∙ is) in
+    let both : Some p.above ≡ Some u = sym p.at ∙ at_u in
+    let same : p.above ≡ u = same_value both in
+    subst (λ (x : Standing). IsTrue (has x.rights k)) same ((has_common t.rights p.above.rights k).0 (subst (λ (r : RightsSet). IsTrue (has r k)) (sym p.within) h)).1
+right_up s trees low high (steps {middle = middle} is rest) t u at_t at_u k h =
+    let p = trees.parents low t middle at_t (sym (parent_is s low t at_t) ∙ is) in
+    right_up s trees middle high rest p.above u p.at at_u k ((has_common t.rights p.above.rights k).0 (subst (λ (r : RightsSet). IsTrue (has r k)) (sym p.within) h)).1
+
+-- the parents of places, with the rights of grants settled or not
+parents_settled : (s : Linked) → HavePlaces s → (place : Place) → parent_of (mappings_of (settled s)) place ≡ parent_of (mappings_of s) place
+parents_settled s have place = by_shown (shown (mappings_of s) place) refl
+  where
+    ups : (o : Option ℕ) → option_and_then (place_at (settled s).entries) o ≡ option_and_then (place_at s.entries) o
+    ups None = refl
+    ups (Some p) = place_at_settled s p
+
+    by_shown : (o : Option Mapping) → shown (mappings_of s) place ≡ o → parent_of (mappings_of (settled s)) place ≡ parent_of (mappings_of s) place
+    by_shown (Some m) h =
+        let u = (shown_by_key s have place m).0 h in
+        let there : shown (mappings_of (settled s)) place ≡ Some (mapping_of (settled s).entries (settled_standing u.standing)) =
+        (shown_by_key (settled s) (places_settled s have) place (mapping_of (settled s).entries (settled_standing u.standing))).1 (record {
+          key = u.key;
+          entry = record u.entry { stands = option_map settled_standing u.entry.stands };
+          standing = settled_standing u.standing;
+          at = at_settled s u.key ∙ ap settled_entry u.at;
+          place_is = u.place_is;
+          stands = ap (option_map settled_standing) u.stands;
+          mapping = refl;
+        }) in
+        ap (option_and_then (λ (x : Mapping). x.parent)) there ∙ ups u.standing.parent ∙ sym (ap (option_and_then (λ (x : Mapping). x.parent)) h ∙ ap (λ (x : Mapping). x.parent) (sym u.mapping))
+    by_shown None h = none_there (shown (mappings_of (settled s)) place) refl
+      where
+        none_there : (o : Option Mapping) → shown (mappings_of (settled s)) place ≡ o → parent_of (mappings_of (settled s)) place ≡ parent_of (mappings_of s) place
+        none_there None g = ap (option_and_then (λ (x : Mapping). x.parent)) (g ∙ sym h)
+        none_there (Some m) g =
+            let u = (shown_by_key (settled s) (places_settled s have) place m).0 g in
+            let w = was_settled (entry_at s.entries u.key) u.entry (sym (at_settled s u.key) ∙ u.at) in
+            let stands : option_map settled_standing w.entry.stands ≡ Some u.standing = ap (λ (x : Entry). x.stands) (sym w.is) ∙ u.stands in
+            absurd (standing_there w.entry.stands u.standing w.entry u.key stands refl w.was (ap (λ (x : Entry). x.place) (sym w.is) ∙ u.place_is))
+          where
+            standing_there : (o : Option Standing) (v : Standing) (e : Entry) (key : ℕ) → option_map settled_standing o ≡ Some v → e.stands ≡ o → entry_at s.entries key ≡ Some e → e.place ≡ link_place place → ⊥
+            standing_there None v e key is stands at here = let z : ◌≡◌ {A = Option Standing} None (Some v) = is in cc
+            standing_there (Some t) v e key is stands at here =
+                let z : ◌≡◌ {A = Option Mapping} None (Some (mapping_of s.entries t)) = sym h ∙ ap (shown (mappings_of s)) (ap map_place (sym here)) ∙ key_shows s have key e t at stands in
+                cc
+
+module _ (start now : Linked) (from to : ℕ) (items : List ItemMove) (ready : IsStart start from to items) (Done : PageMove → Type 0) (placed : Placed start from to items Done now) (have : HavePlaces now)
+    (trees : AreTrees now.entries) (all : (move : PageMove) → Used start from to items move → Done move) where
+  abbrev Moves : PageMove → Type 0
+  Moves = Used start from to items
+
+  abbrev IsGoneHere : LinkPlace → Type 0
+  IsGoneHere p = IsGone Moves (mappings_of start) (map_place p)
+
+  -- the used move that granted what stands under a key
+  pub record GrantHere (top : ℕ) (cap : RightsSet) : Type 0 where
+    pub move : PageMove
+    pub used : Moves move
+    pub grant : IsTrue move.grant
+    pub standing : Standing
+    pub at : entry_at now.entries top ≡ Some (record { place = link_place move.target; wanted = false; stands = Some (record standing { source = true; granted = Some cap }) })
+    pub shows : move.shows ≡ mapping_of start.entries standing
+    pub by_is : used.by.rights ≡ cap
+
+  pub grant_here : (top : ℕ) (e : Entry) (t : Standing) (cap : RightsSet) → entry_at now.entries top ≡ Some e → e.stands ≡ Some t → t.granted ≡ Some cap → GrantHere top cap
+  grant_here top e t cap at stands granted = elim (placed.only top e at) [
+    | inl v ↦ by_kind v v.move.grant refl
+    | inr o ↦ absurd (left o.0 o.1 o.2 o.3)
+  ]
+    where
+      noted : option_and_then (λ (y : Standing). y.granted) e.stands ≡ Some cap
+      noted = ap (option_and_then (λ (y : Standing). y.granted)) stands ∙ granted
+
+      left : (before : Entry) → entry_at start.entries top ≡ Some before → before.place ≡ e.place → ¬ (IsGoneHere e.place) → ⊥
+      left before at_start same there =
+          let plain = ready.clean top before at_start in
+          let l = placed.kept top before plain.standing at_start plain.stands (λ g. there (subst IsGoneHere same g)) (not_granted_here start now from to items ready Done placed have all top e before at at_start same) in
+          let both : Some e ≡ Some (record before { stands = Some (record plain.standing { source = l.marked }) }) = sym at ∙ l.at in
+          let is : e ≡ record before { stands = Some (record plain.standing { source = l.marked }) } = same_value both in
+          let z : ◌≡◌ {A = Option RightsSet} (Some cap) None = sym noted ∙ ap (λ (x : Entry). option_and_then (λ (y : Standing). y.granted) x.stands) is ∙ plain.not_granted in
+          cc
+
+      by_kind : (v : IsTarget start from to items e.place) (b : Bool) → v.move.grant ≡ b → GrantHere top cap
+      by_kind v true grant =
+          let p = granted_to start now from to items ready Done placed have all v.move v.used grant in
+          let top_is : p.key ≡ top = have.once (link_place v.move.target) p.key top (ap (option_map {T = Entry} (λ x. x.place)) p.at) (ap (option_map {T = Entry} (λ x. x.place)) at ∙ ap Some (sym v.target)) in
+          let here : entry_at now.entries top ≡ Some (record { place = link_place v.move.target; wanted = false; stands = Some (record p.standing { source = true; granted = Some p.by.rights }) }) = ap (entry_at now.entries) (sym top_is) ∙ p.at in
+          let is : e ≡ record { place = link_place v.move.target; wanted = false; stands = Some (record p.standing { source = true; granted = Some p.by.rights }) } = same_value (sym at ∙ here) in
+          let cap_is : p.by.rights ≡ cap = same_value (sym (sym noted ∙ ap (λ (x : Entry). option_and_then (λ (y : Standing). y.granted) x.stands) is)) in
+          let before = stood start now from to items ready Done placed have v.move v.used in
+          let key_is : before.key ≡ p.key = ready.places.once (link_place v.move.source) before.key p.key (ap (option_map {T = Entry} (λ x. x.place)) before.at ∙ ap Some before.place_is) p.at_start in
+          let entry_is : before.entry ≡ p.stood_as.0 = same_value (sym before.at ∙ ap (entry_at start.entries) key_is ∙ p.stood_as.1) in
+          let standing_is : before.standing ≡ p.standing = same_value (sym before.stands ∙ ap (λ (x : Entry). x.stands) entry_is ∙ p.stood_as.2) in
+          let bys : v.used.by ≡ p.by = same_value (sym v.used.item ∙ p.by_is) in
+          record {
+            move = v.move;
+            used = v.used;
+            grant = grant;
+            standing = p.standing;
+            at = here ∙ ap (λ (r : RightsSet). Some (record { place = link_place v.move.target; wanted = false; stands = Some (record p.standing { source = true; granted = Some r }) })) cap_is;
+            shows = sym before.mapping ∙ ap (mapping_of start.entries) standing_is;
+            by_is = ap (λ (x : ItemMove). x.rights) bys ∙ cap_is;
+          }
+      by_kind v false map =
+          let c = placed.mapped v.move v.used (all v.move v.used) (λ g. let z : false ≡ true = sym map ∙ g in cc) in
+          let is : e ≡ record { place = link_place v.move.target; wanted = true; stands = Some (record { frame = v.move.shows.frame; rights = v.move.rights; source = false; granted = None; parent = Some c.parent }) } =
+          one_entry now have top c.key e (record { place = link_place v.move.target; wanted = true; stands = Some (record { frame = v.move.shows.frame; rights = v.move.rights; source = false; granted = None; parent = Some c.parent }) }) at c.at (sym v.target) in
+          absurd (let z : ◌≡◌ {A = Option RightsSet} (Some cap) None = sym noted ∙ ap (λ (x : Entry). option_and_then (λ (y : Standing). y.granted) x.stands) is in cc)
+
+  -- each grant is of an item of the message
+  pub grant_below : (top : ℕ) (cap : RightsSet) → IsGrantedAt now.entries top cap → IsGrantBelow now.entries to items (length items) top
+  grant_below top cap granted = by_standing (standing_at now.entries top) refl
+    where
+      by_standing : (o : Option Standing) → standing_at now.entries top ≡ o → IsGrantBelow now.entries to items (length items) top
+      by_standing None h = absurd (let z : ◌≡◌ {A = Option RightsSet} None (Some cap) = sym (ap (option_and_then (λ (y : Standing). y.granted)) h) ∙ granted in cc)
+      by_standing (Some t) h =
+          let s = some_standing now.entries top t h in
+          let g = grant_here top s.0 t cap s.1 s.2 (sym (ap (option_and_then (λ (y : Standing). y.granted)) h) ∙ granted) in
+          let w = g.used.pages.within in
+          let ti = g.used.pages.target_is in
+          let size : 2 ^ g.used.by.mv.target.log ≡ 2 ^ g.used.by.mv.source.log = ap (λ (n : ℕ). 2 ^ n) (sym g.used.by.mv.same_size) in
+          record {
+            item = g.move.item;
+            less = slice_get_within items g.move.item g.used.by g.used.item;
+            by = g.used.by;
+            at = g.used.item;
+            is = record {
+              grant = sym g.used.grant ∙ g.grant;
+              is = record {
+                page = g.move.target.page;
+                from = omega (arith, ti);
+                before = omega (arith, ti, w, size);
+                at = ap (option_map {T = Entry} (λ x. x.place)) g.at ∙ (λ i. Some (record { space = g.used.to_space i; page = g.move.target.page }));
+                granted = granted ∙ ap Some (sym g.by_is);
+              };
+            };
+          }
+
+  -- a right that is lost under a key, by a grant above it
+  pub record LostKey (key : ℕ) (right : Right) : Type 0 where
+    pub top : ℕ
+    pub cap : RightsSet
+    pub above : Standing
+    pub at : standing_at now.entries top ≡ Some above
+    pub granted : above.granted ≡ Some cap
+    pub had : IsTrue (has above.rights right)
+    pub lacks : ¬ (IsTrue (has cap right))
+    pub below : Descends now.entries key top
+
+  -- what is lost under a key is what the definition cuts at its place
+  module _ (key : ℕ) (e : Entry) (at_key : entry_at now.entries key ≡ Some e) (right : Right) where
+    abbrev middle : Mappings
+    middle = mappings_of (settled now)
+
+    chains_same : (p q : Place) → map.Descends (mappings_of now) p q → map.Descends middle p q
+    chains_same p q d = subst (λ (f : Place → Option Place). Chain f p q) (λ i x. sym (parents_settled now have x) i) d
+
+    chains_back : (p q : Place) → map.Descends middle p q → map.Descends (mappings_of now) p q
+    chains_back p q d = subst (λ (f : Place → Option Place). Chain f p q) (λ i x. parents_settled now have x i) d
+
+    at_its_place : IsAt now.entries (link_place (map_place e.place)) key
+    at_its_place = ap (option_map {T = Entry} (λ x. x.place)) at_key
+
+    cut_of : LostKey key right → IsCut Moves middle (map_place e.place) right
+    cut_of l =
+        let s = some_standing now.entries l.top l.above l.at in
+        let g = grant_here l.top s.0 l.above l.cap s.1 s.2 l.granted in
+        let above_is : l.above ≡ record g.standing { source = true; granted = Some l.cap } = same_value (sym l.at ∙ ap (option_and_then (λ (x : Entry). x.stands)) g.at) in
+        let had : IsTrue (has g.move.shows.rights right) = subst (λ (r : RightsSet). IsTrue (has r right)) (ap (λ (x : Standing). x.rights) above_is ∙ ap (λ (m : Mapping). m.rights) (sym g.shows)) l.had in
+        record {
+          move = g.move;
+          used = g.used;
+          grant = g.grant;
+          had = had;
+          lacks = λ h. l.lacks (subst (λ (r : RightsSet). IsTrue (has r right)) g.by_is ((has_common g.move.shows.rights g.used.by.rights right).0 (subst (λ (r : RightsSet). IsTrue (has r right)) g.used.rights h)).1);
+          below = chains_same (map_place e.place) g.move.target ((descends_by_key now have trees key l.top (map_place e.place) g.move.target at_its_place (ap (option_map {T = Entry} (λ x. x.place)) g.at)).1 l.below);
+        }
+
+    lost_of : IsCut Moves middle (map_place e.place) right → LostKey key right
+    lost_of c =
+        let p = granted_to start now from to items ready Done placed have all c.move c.used c.grant in
+        let before = stood start now from to items ready Done placed have c.move c.used in
+        let key_is : before.key ≡ p.key = ready.places.once (link_place c.move.source) before.key p.key (ap (option_map {T = Entry} (λ x. x.place)) before.at ∙ ap Some before.place_is) p.at_start in
+        let entry_is : before.entry ≡ p.stood_as.0 = same_value (sym before.at ∙ ap (entry_at start.entries) key_is ∙ p.stood_as.1) in
+        let standing_is : before.standing ≡ p.standing = same_value (sym before.stands ∙ ap (λ (x : Entry). x.stands) entry_is ∙ p.stood_as.2) in
+        let shows : c.move.shows ≡ mapping_of start.entries p.standing = sym before.mapping ∙ ap (mapping_of start.entries) standing_is in
+        let bys : c.used.by ≡ p.by = same_value (sym c.used.item ∙ p.by_is) in
+        record {
+          top = p.key;
+          cap = p.by.rights;
+          above = record p.standing { source = true; granted = Some p.by.rights };
+          at = ap (option_and_then (λ (x : Entry). x.stands)) p.at;
+          granted = refl;
+          had = subst (λ (m : Mapping). IsTrue (has m.rights right)) shows c.had;
+          lacks = λ h. c.lacks (subst (λ (r : RightsSet). IsTrue (has r right)) (sym c.used.rights)
+              ((has_common c.move.shows.rights c.used.by.rights right).1 (c.had, subst (λ (x : ItemMove). IsTrue (has x.rights right)) (sym bys) h)));
+          below = (descends_by_key now have trees key p.key (map_place e.place) c.move.target at_its_place (ap (option_map {T = Entry} (λ x. x.place)) p.at)).0 (chains_back (map_place e.place) c.move.target c.below);
+        }
+
+    pub lost_is_cut : LostKey key right ↔ IsCut Moves middle (map_place e.place) right
+    lost_is_cut = (cut_of, lost_of)
+
+  -- the right stood there, and each item names it that granted what stands there or what it descends from
+  abbrev KeepsRight : ℕ → Standing → Right → Type 0
+  KeepsRight key t right =
+      IsTrue (has t.rights right) × ((top : ℕ) (cap : RightsSet) → IsGrantBelow now.entries to items (length items) top → IsGrantedAt now.entries top cap → IsOrBelow now.entries key top → IsTrue (has cap right))
+
+  -- the rights of what is capped
+  rights_left : (cur : Entries) → Capped (IsGrantBelow now.entries to items (length items)) now.entries cur → (key : ℕ) (t u : Standing) → standing_at now.entries key ≡ Some t → standing_at cur key ≡ Some u
+      → (right : Right) → IsTrue (has u.rights right) ↔ (IsTrue (has (settled_standing t).rights right) × ¬ (LostKey key right))
+  rights_left cur capped key t u at_t at_u right =
+      let r = capped.rights key t u at_t at_u right in
+      (λ h. (own t.granted refl (r.0 h), not_lost (r.0 h)), λ h. r.1 (back t.granted refl h.0, λ top cap done granted below. above top cap granted below h))
+    where
+      noted : (cap : RightsSet) → t.granted ≡ Some cap → IsGrantedAt now.entries key cap
+      noted cap g = ap (option_and_then (λ (y : Standing). y.granted)) at_t ∙ g
+
+      own : (o : Option RightsSet) → t.granted ≡ o → KeepsRight key t right → IsTrue (has (left_by t.granted t.rights) right)
+      own None g h = subst (λ (o : Option RightsSet). IsTrue (has (left_by o t.rights) right)) (sym g) h.0
+      own (Some cap) g h = subst (λ (o : Option RightsSet). IsTrue (has (left_by o t.rights) right)) (sym g)
+          ((has_common t.rights cap right).1 (h.0, h.1 key cap (grant_below key cap (noted cap g)) (noted cap g) (inl refl)))
+
+      back : (o : Option RightsSet) → t.granted ≡ o → IsTrue (has (left_by t.granted t.rights) right) → IsTrue (has t.rights right)
+      back None g h = subst (λ (o : Option RightsSet). IsTrue (has (left_by o t.rights) right)) g h
+      back (Some cap) g h = ((has_common t.rights cap right).0 (subst (λ (o : Option RightsSet). IsTrue (has (left_by o t.rights) right)) g h)).0
+
+      not_lost : KeepsRight key t right → ¬ (LostKey key right)
+      not_lost h l = l.lacks (h.1 l.top l.cap (grant_below l.top l.cap (ap (option_and_then (λ (y : Standing). y.granted)) l.at ∙ l.granted)) (ap (option_and_then (λ (y : Standing). y.granted)) l.at ∙ l.granted) (inr l.below))
+
+      has_or : (cap : RightsSet) (k : Right) → IsTrue (has cap k) ⊎ ¬ (IsTrue (has cap k))
+      has_or cap k = by_bool (has cap k)
+        where
+          by_bool : (b : Bool) → IsTrue b ⊎ ¬ (IsTrue b)
+          by_bool true = inl refl
+          by_bool false = inr (λ h. let z : false ≡ true = h in cc)
+
+      above : (top : ℕ) (cap : RightsSet) → IsGrantedAt now.entries top cap → IsOrBelow now.entries key top → IsTrue (has (left_by t.granted t.rights) right) × ¬ (LostKey key right) → IsTrue (has cap right)
+      above top cap granted (inl same) h =
+          let g : t.granted ≡ Some cap = sym (ap (option_and_then (λ (y : Standing). y.granted)) at_t) ∙ ap (λ (k : ℕ). option_and_then (λ (y : Standing). y.granted) (standing_at now.entries k)) same ∙ granted in
+          ((has_common t.rights cap right).0 (subst (λ (o : Option RightsSet). IsTrue (has (left_by o t.rights) right)) g h.0)).1
+      above top cap granted (inr d) h = elim (has_or cap right) [
+        | inl there ↦ there
+        | inr lacks ↦ absurd (by_standing (standing_at now.entries top) refl lacks)
+      ]
+        where
+          by_standing : (o : Option Standing) → standing_at now.entries top ≡ o → ¬ (IsTrue (has cap right)) → ⊥
+          by_standing None n lacks = let z : ◌≡◌ {A = Option RightsSet} None (Some cap) = sym (ap (option_and_then (λ (y : Standing). y.granted)) n) ∙ granted in cc
+          by_standing (Some u) at_top lacks = h.1 (record {
+            top = top;
+            cap = cap;
+            above = u;
+            at = at_top;
+            granted = sym (ap (option_and_then (λ (y : Standing). y.granted)) at_top) ∙ granted;
+            had = right_up now.entries trees key top d t u at_t at_top right (back t.granted refl h.0);
+            lacks = lacks;
+            below = d;
+          })
+
+  -- what stands and its page are the same but for the rights
+  record Bare (key : ℕ) (e f : Entry) (t u : Standing) : Type 0 where
+    place : f.place ≡ e.place
+    frame : u.frame ≡ t.frame
+    parent : u.parent ≡ t.parent
+
+  bare_of : (key : ℕ) (e f : Entry) (t u : Standing) → bare (Some f) ≡ bare (Some e) → e.stands ≡ Some t → f.stands ≡ Some u → Bare key e f t u
+  bare_of key e f t u same at_t at_u =
+      let stands : ◌≡◌ {A = Option Standing} (Some (record u { rights = no_rights })) (Some (record t { rights = no_rights })) =
+      sym (ap (option_map (λ (x : Standing). record x { rights = no_rights })) at_u) ∙ ap (option_and_then (λ (x : Entry). x.stands)) same ∙ ap (option_map (λ (x : Standing). record x { rights = no_rights })) at_t in
+      let is : record u { rights = no_rights } ≡ record t { rights = no_rights } = same_value stands in
+      record {
+        place = same_value (ap (option_map {T = Entry} (λ x. x.place)) same);
+        frame = ap (λ (x : Standing). x.frame) is;
+        parent = ap (λ (x : Standing). x.parent) is;
+      }
+
+  module _ (cur : Entries) (new : Linked) (capped : Capped (IsGrantBelow now.entries to items (length items)) now.entries cur) (buries : Buries cur new.entries) where
+    -- an entry before the caps for one after them
+    pub had_before : (key : ℕ) (f : Entry) (u : Standing) → entry_at cur key ≡ Some f → f.stands ≡ Some u → (e : Entry) × (t : Standing) × (entry_at now.entries key ≡ Some e) × (e.stands ≡ Some t)
+    had_before key f u at stands = go (entry_at now.entries key) refl
+      where
+        go : (o : Option Entry) → entry_at now.entries key ≡ o → (e : Entry) × (t : Standing) × (entry_at now.entries key ≡ Some e) × (e.stands ≡ Some t)
+        go None n = absurd (let z : ◌≡◌ {A = Option Entry} (bare (Some f)) None = ap bare (sym at) ∙ capped.same key ∙ ap bare n in cc)
+        go (Some e) is = inside e.stands refl
+          where
+            inside : (o : Option Standing) → e.stands ≡ o → (e : Entry) × (t : Standing) × (entry_at now.entries key ≡ Some e) × (e.stands ≡ Some t)
+            inside (Some t) s = (e, t, is, s)
+            inside None s = absurd (let z : ◌≡◌ {A = Option Standing} (Some (record u { rights = no_rights })) None =
+                sym (ap (option_map (λ (x : Standing). record x { rights = no_rights })) stands) ∙ ap (option_and_then (λ (x : Entry). x.stands)) (ap bare (sym at) ∙ capped.same key ∙ ap bare is) ∙ ap (option_map (λ (x : Standing). record x { rights = no_rights })) s in cc)
+
+    has_after : (key : ℕ) (e : Entry) (t : Standing) → entry_at now.entries key ≡ Some e → e.stands ≡ Some t → (f : Entry) × (u : Standing) × (entry_at cur key ≡ Some f) × (f.stands ≡ Some u)
+    has_after key e t at stands = go (entry_at cur key) refl
+      where
+        go : (o : Option Entry) → entry_at cur key ≡ o → (f : Entry) × (u : Standing) × (entry_at cur key ≡ Some f) × (f.stands ≡ Some u)
+        go None n = absurd (let z : ◌≡◌ {A = Option Entry} None (bare (Some e)) = sym (ap bare n) ∙ capped.same key ∙ ap bare at in cc)
+        go (Some f) is = inside f.stands refl
+          where
+            inside : (o : Option Standing) → f.stands ≡ o → (f : Entry) × (u : Standing) × (entry_at cur key ≡ Some f) × (f.stands ≡ Some u)
+            inside (Some u) s = (f, u, is, s)
+            inside None s = absurd (let z : ◌≡◌ {A = Option Standing} None (Some (record t { rights = no_rights })) =
+                sym (ap (option_map (λ (x : Standing). record x { rights = no_rights })) s) ∙ ap (option_and_then (λ (x : Entry). x.stands)) (ap bare (sym is) ∙ capped.same key ∙ ap bare at) ∙ ap (option_map (λ (x : Standing). record x { rights = no_rights })) stands in cc)
+
+    -- what stands after the burial, stood before it with the same rights, of which there is one
+    pub not_buried : (key : ℕ) (f : Entry) (u : Standing) → entry_at new.entries key ≡ Some f → f.stands ≡ Some u → (entry_at cur key ≡ Some f) × (u.rights ≢ no_rights)
+    not_buried key f u at stands = go (entry_at cur key) refl
+      where
+        go : (o : Option Entry) → entry_at cur key ≡ o → (entry_at cur key ≡ Some f) × (u.rights ≢ no_rights)
+        go None n =
+            let kept = buries.kept key (λ t is. let z : ◌≡◌ {A = Option Standing} None (Some t) = sym (ap (option_and_then (λ (x : Entry). x.stands)) n) ∙ is in absurd cc) in
+            absurd (let z : ◌≡◌ {A = Option Entry} (Some f) None = sym at ∙ kept ∙ n in cc)
+        go (Some g) is = inside g.stands refl
+          where
+            inside : (o : Option Standing) → g.stands ≡ o → (entry_at cur key ≡ Some f) × (u.rights ≢ no_rights)
+            inside None s =
+                let kept = buries.kept key (λ t st. let z : ◌≡◌ {A = Option Standing} None (Some t) = sym (ap (option_and_then (λ (x : Entry). x.stands)) is ∙ s) ∙ st in absurd cc) in
+                let same : f ≡ g = same_value (sym at ∙ kept ∙ is) in
+                absurd (let z : ◌≡◌ {A = Option Standing} (Some u) None = sym stands ∙ ap (λ (x : Entry). x.stands) same ∙ s in cc)
+            inside (Some w) s = elim (none_or w.rights) [
+              | inl none ↦ absurd (let z : ◌≡◌ {A = Option Entry} (Some f) None = sym at ∙ buries.gone key w (ap (option_and_then (λ (x : Entry). x.stands)) is ∙ s) none in cc)
+              | inr some ↦
+                  let at_w : standing_at cur key ≡ Some w = ap (option_and_then (λ (x : Entry). x.stands)) is ∙ s in
+                  let kept = buries.kept key (λ t st. subst (λ (x : Standing). x.rights ≢ no_rights) (same_value (sym at_w ∙ st)) some) in
+                  let same : f ≡ g = same_value (sym at ∙ kept ∙ is) in
+                  let u_is : w ≡ u = same_value (sym s ∙ ap (λ (x : Entry). x.stands) (sym same) ∙ stands) in
+                  (sym kept ∙ at, subst (λ (x : Standing). x.rights ≢ no_rights) u_is some)
+            ]
+
+    settled_at : (key : ℕ) (e : Entry) → entry_at now.entries key ≡ Some e → entry_at (settled now).entries key ≡ Some (record e { stands = option_map settled_standing e.stands })
+    settled_at key e at = at_settled now key ∙ ap settled_entry at
+
+    lost_between : (key : ℕ) (e f : Entry) (t u : Standing) → entry_at now.entries key ≡ Some e → e.stands ≡ Some t → entry_at cur key ≡ Some f → f.stands ≡ Some u → u.rights ≢ no_rights
+        → HasLost (LostKey key) (record e { stands = option_map settled_standing e.stands }) (settled_standing t) f u
+    lost_between key e f t u at_e at_t at_f at_u some =
+        let b = bare_of key e f t u (ap bare (sym at_f) ∙ capped.same key ∙ ap bare at_e) at_t at_u in
+        record {
+          place = b.place;
+          frame = b.frame;
+          parent = b.parent;
+          rights = rights_left cur capped key t u (ap (option_and_then (λ (x : Entry). x.stands)) at_e ∙ at_t) (ap (option_and_then (λ (x : Entry). x.stands)) at_f ∙ at_u);
+          some_right = some;
+        }
+
+    keys_lose : KeysLose LostKey (settled now).entries new.entries
+    keys_lose = record {
+      from = λ key f u at stands.
+          let n = not_buried key f u at stands in
+          let h = had_before key f u n.0 stands in
+          (record h.0 { stands = option_map settled_standing h.0.stands }, settled_standing h.1, settled_at key h.0 h.2, ap (option_map settled_standing) h.3, lost_between key h.0 f h.1 u h.2 h.3 n.0 stands n.1);
+      to = λ key was had at stands rights rights_are some.
+          let w = was_settled (entry_at now.entries key) was (sym (at_settled now key) ∙ at) in
+          let s = settled_from w.entry.stands had (ap (λ (x : Entry). x.stands) (sym w.is) ∙ stands) in
+          let a = has_after key w.entry s.0 w.was s.1 in
+          let left = rights_left cur capped key s.0 a.1 (ap (option_and_then (λ (x : Entry). x.stands)) w.was ∙ s.1) (ap (option_and_then (λ (x : Entry). x.stands)) a.2 ∙ a.3) in
+          let same : a.1.rights ≡ rights = same_rights a.1.rights rights (λ k. (
+            λ h. (rights_are k).1 (let l = (left k).0 h in (subst (λ (x : Standing). IsTrue (has x.rights k)) (sym s.2) l.0, l.1)),
+            λ h. (left k).1 (let l = (rights_are k).0 h in (subst (λ (x : Standing). IsTrue (has x.rights k)) s.2 l.0, l.1)),
+          )) in
+          let some_right : a.1.rights ≢ no_rights = λ none. some (sym same ∙ none) in
+          let at_a : standing_at cur key ≡ Some a.1 = ap (option_and_then (λ (x : Entry). x.stands)) a.2 ∙ a.3 in
+          let kept = buries.kept key (λ t st. subst (λ (x : Standing). x.rights ≢ no_rights) (same_value (sym at_a ∙ st)) some_right) in (
+            a.0,
+            a.1,
+            kept ∙ a.2,
+            a.3,
+            subst (λ (x : Entry). HasLost (LostKey key) x had a.0 a.1) (sym w.is)
+                (subst (λ (x : Standing). HasLost (LostKey key) (record w.entry { stands = option_map settled_standing w.entry.stands }) x a.0 a.1) (sym s.2) (lost_between key w.entry a.0 s.0 a.1 w.was s.1 a.2 a.3 some_right)),
+          );
+    }
+      where
+        settled_from : (o : Option Standing) (had : Standing) → option_map settled_standing o ≡ Some had → (t : Standing) × (o ≡ Some t) × (had ≡ settled_standing t)
+        settled_from None had h = absurd (let z : ◌≡◌ {A = Option Standing} None (Some had) = h in cc)
+        settled_from (Some t) had h = (t, refl, sym (same_value h))
+
+    -- below granted places just the rights go that their items don't name
+    pub cut_loses : HavePlaces new → AreTrees new.entries → new.spaces ≡ now.spaces → LosesRights (IsCut Moves (mappings_of (settled now))) (mappings_of (settled now)) (mappings_of new)
+    cut_loses have_new trees_new spaces =
+        view_loses (IsCut Moves (mappings_of (settled now))) LostKey (settled now) new (places_settled now have) have_new trees_new keys_lose spaces (λ key e at right. same_cut key e at right)
+      where
+        same_cut : (key : ℕ) (e : Entry) → entry_at (settled now).entries key ≡ Some e → (right : Right) → LostKey key right ↔ IsCut Moves (mappings_of (settled now)) (map_place e.place) right
+        same_cut key e at right =
+            let w = was_settled (entry_at now.entries key) e (sym (at_settled now key) ∙ at) in
+            subst (λ (p : LinkPlace). LostKey key right ↔ IsCut Moves (mappings_of (settled now)) (map_place p) right) (ap (λ (x : Entry). x.place) (sym w.is)) (lost_is_cut key w.entry w.was right)

@@ -1,0 +1,349 @@
+-- What is left once a message is carried out and its marks are taken away.
+use Rattle.std.proofs.Common.{◌≡◌, ◌≢◌, ℕ, ◌+◌, ◌<◌, ◌≤◌, ◌^◌, Bool, true, false, List, length, Option, Some, None, option_and_then, option_map, ◌↔◌, ◌⊎◌, inl, inr, IsTrue, refl, sym, ap, ◌∙◌, subst, slice_get, arith}
+use Rattle.std.proofs.lemmas.Option.{slice_get_within}
+use Rattle.l4_fpage.specs.Rights.{RightsSet, no_rights}
+use Rattle.l4_links.specs.declared.Place.{Place as LinkPlace}
+use Rattle.l4_links.specs.declared.Standing.{Standing}
+use Rattle.l4_links.specs.declared.Entry.{Entry}
+use Rattle.l4_links.specs.Entries.{Entries, Linked, entry_at, standing_at, IsAt, HavePlaces, AreTrees, Buries}
+use Rattle.l4_mapdb.specs.declared.Place.{Place}
+use Rattle.l4_mapdb.specs.declared.Mapping.{Mapping}
+use Rattle.l4_mapdb.specs.declared.ItemMove.{ItemMove}
+use Rattle.l4_mapdb.specs.Mappings.{Mappings}
+use Rattle.l4_mapdb.specs.Losing.{LosesRights}
+use Rattle.l4_mapdb.specs.Transfer.{PageMove, IsGone, IsCut, Delivers}
+use Rattle.l4_mapdb.proofs.Unique.{same_value}
+use Rattle.l4_mapdb.specs.Inside.View.{link_place, map_place, place_at, mapping_of, mappings_of, IsShown}
+use Rattle.l4_mapdb.specs.Inside.Kept.{IsPlain, IsClean, RootsKnown}
+use Rattle.l4_mapdb.specs.Inside.Cutting.{bare, Capped, IsGrantBelow}
+use Rattle.l4_mapdb.specs.Inside.Messages.{plain, tidied, Tidies, InPages, OfItem, OfItems}
+use Rattle.l4_mapdb.specs.Inside.Placing.{IsStart, Used, IsTarget, Placed}
+use Rattle.l4_mapdb.specs.Inside.Settling.{settled}
+use Rattle.l4_mapdb.proofs.View.{some_standing, stands_at, one_entry, same_view}
+use Rattle.l4_mapdb.proofs.Deciding.{none_or}
+use Rattle.l4_mapdb.proofs.Moved.{moved, granted_to, not_granted_here}
+use Rattle.l4_mapdb.proofs.CutLoss.{cut_loses, had_before, not_buried}
+
+-- an entry that was tidied
+record WasTidied (o : Option Entry) (e : Entry) : Type 0 where
+  entry : Entry
+  standing : Standing
+  was : o ≡ Some entry
+  stood : entry.stands ≡ Some standing
+  is : e ≡ record entry { wanted = false; stands = Some (plain standing) }
+
+was_tidied : (o : Option Entry) (e : Entry) → tidied o ≡ Some e → WasTidied o e
+was_tidied None e h = absurd (let z : ◌≡◌ {A = Option Entry} None (Some e) = h in cc)
+was_tidied (Some x) e h = inside x.stands refl
+  where
+    inside : (s : Option Standing) → x.stands ≡ s → WasTidied (Some x) e
+    inside None n = absurd (let z : ◌≡◌ {A = Option Entry} None (Some e) = sym (ap (option_map (λ (t : Standing). record x { wanted = false; stands = Some (plain t) })) n) ∙ h in cc)
+    inside (Some t) s = record {
+      entry = x;
+      standing = t;
+      was = refl;
+      stood = s;
+      is = sym (same_value (sym (ap (option_map (λ (t : Standing). record x { wanted = false; stands = Some (plain t) })) s) ∙ h));
+    }
+
+-- taking marks away changes no mapping
+module _ (old new : Linked) (have_old : HavePlaces old) (have_new : HavePlaces new) (trees : AreTrees old.entries) (spaces : new.spaces ≡ old.spaces)
+    (Touched : LinkPlace → Type 0) (tidies : Tidies Touched old.entries new.entries) where
+  -- what stands keeps its page
+  place_kept : (key : ℕ) (t : Standing) → standing_at old.entries key ≡ Some t → place_at new.entries key ≡ place_at old.entries key
+  place_kept key t at = elim (tidies.each key) [
+    | inl same ↦ ap (option_map {T = Entry} (λ e. map_place e.place)) same
+    | inr tidy ↦
+        let s = some_standing old.entries key t at in
+        let is : entry_at new.entries key ≡ Some (record s.0 { wanted = false; stands = Some (plain t) }) = tidy ∙ ap tidied s.1 ∙ ap (option_map (λ (t : Standing). record s.0 { wanted = false; stands = Some (plain t) })) s.2 in
+        ap (option_map {T = Entry} (λ e. map_place e.place)) is ∙ sym (ap (option_map {T = Entry} (λ e. map_place e.place)) s.1)
+  ]
+
+  ups_kept : (key : ℕ) (t : Standing) → standing_at old.entries key ≡ Some t → (o : Option ℕ) → t.parent ≡ o → option_and_then (place_at new.entries) o ≡ option_and_then (place_at old.entries) o
+  ups_kept key t at None up = refl
+  ups_kept key t at (Some p) up = let above = trees.parents key t p at up in place_kept p above.above above.at
+
+  shows_old : (place : Place) (m : Mapping) → IsShown new.entries place m → IsShown old.entries place m
+  shows_old place m u = elim (tidies.each u.key) [
+    | inl same ↦
+        let at : entry_at old.entries u.key ≡ Some u.entry = sym same ∙ u.at in
+        let ups = ups_kept u.key u.standing (stands_at old.entries u.key u.entry u.standing at u.stands) u.standing.parent refl in
+        record { key = u.key; entry = u.entry; standing = u.standing; at = at; place_is = u.place_is; stands = u.stands; mapping = (λ i. record { frame = u.standing.frame; rights = u.standing.rights; parent = sym ups i }) ∙ u.mapping }
+    | inr tidy ↦
+        let w = was_tidied (entry_at old.entries u.key) u.entry (sym tidy ∙ u.at) in
+        let ups = ups_kept u.key w.standing (stands_at old.entries u.key w.entry w.standing w.was w.stood) w.standing.parent refl in
+        let stands_is : u.standing ≡ plain w.standing = same_value (sym u.stands ∙ ap (λ (x : Entry). x.stands) w.is) in
+        record {
+          key = u.key;
+          entry = w.entry;
+          standing = w.standing;
+          at = w.was;
+          place_is = ap (λ (x : Entry). x.place) (sym w.is) ∙ u.place_is;
+          stands = w.stood;
+          mapping = (λ i. record { frame = w.standing.frame; rights = w.standing.rights; parent = sym ups i }) ∙ ap (mapping_of new.entries) (sym stands_is) ∙ u.mapping;
+        }
+  ]
+
+  shows_new : (place : Place) (m : Mapping) → IsShown old.entries place m → IsShown new.entries place m
+  shows_new place m u =
+      let ups = ups_kept u.key u.standing (stands_at old.entries u.key u.entry u.standing u.at u.stands) u.standing.parent refl in
+      elim (tidies.each u.key) [
+        | inl same ↦ record { key = u.key; entry = u.entry; standing = u.standing; at = same ∙ u.at; place_is = u.place_is; stands = u.stands; mapping = (λ i. record { frame = u.standing.frame; rights = u.standing.rights; parent = ups i }) ∙ u.mapping }
+        | inr tidy ↦ record {
+          key = u.key;
+          entry = record u.entry { wanted = false; stands = Some (plain u.standing) };
+          standing = plain u.standing;
+          at = tidy ∙ ap tidied u.at ∙ ap (option_map (λ (t : Standing). record u.entry { wanted = false; stands = Some (plain t) })) u.stands;
+          place_is = u.place_is;
+          stands = refl;
+          mapping = (λ i. record { frame = u.standing.frame; rights = u.standing.rights; parent = ups i }) ∙ u.mapping;
+        }
+      ]
+
+  pub tidied_view : mappings_of new ≡ mappings_of old
+  tidied_view = same_view new old have_new have_old spaces (λ place m. (shows_old place m, shows_new place m))
+
+module _ (start now : Linked) (from to : ℕ) (items : List ItemMove) (ready : IsStart start from to items) (Done : PageMove → Type 0) (placed : Placed start from to items Done now) (have : HavePlaces now)
+    (trees : AreTrees now.entries) (all : (move : PageMove) → Used start from to items move → Done move)
+    (cur : Entries) (buried new : Linked) (capped : Capped (IsGrantBelow now.entries to items (length items)) now.entries cur) (buries : Buries cur buried.entries)
+    (tidies : Tidies (OfItems from to items (length items)) buried.entries new.entries) where
+  abbrev Moves : PageMove → Type 0
+  Moves = Used start from to items
+
+  -- what stands in the end, stood when all moves were done
+  record Stood (key : ℕ) (e : Entry) (t : Standing) : Type 0 where
+    entry : Entry
+    standing : Standing
+    at : entry_at now.entries key ≡ Some entry
+    stands : entry.stands ≡ Some standing
+    place : e.place ≡ entry.place
+    wanted : e.wanted ≡ entry.wanted
+    source : t.source ≡ standing.source
+    granted : t.granted ≡ standing.granted
+    frame : t.frame ≡ standing.frame
+    parent : t.parent ≡ standing.parent
+    some_right : t.rights ≢ no_rights
+
+  stood_before : (key : ℕ) (e : Entry) (t : Standing) → entry_at buried.entries key ≡ Some e → e.stands ≡ Some t → Stood key e t
+  stood_before key e t at stands =
+      let n = not_buried start now from to items ready Done placed have trees all cur buried capped buries key e t at stands in
+      let h = had_before start now from to items ready Done placed have trees all cur buried capped buries key e t n.0 stands in
+      let same : bare (Some e) ≡ bare (Some h.0) = ap bare (sym n.0) ∙ capped.same key ∙ ap bare h.2 in
+      let both : ◌≡◌ {A = Option Standing} (Some (record t { rights = no_rights })) (Some (record h.1 { rights = no_rights })) =
+      sym (ap (option_map (λ (x : Standing). record x { rights = no_rights })) stands) ∙ ap (option_and_then (λ (x : Entry). x.stands)) same ∙ ap (option_map (λ (x : Standing). record x { rights = no_rights })) h.3 in
+      let is : record t { rights = no_rights } ≡ record h.1 { rights = no_rights } = same_value both in
+      record {
+        entry = h.0;
+        standing = h.1;
+        at = h.2;
+        stands = h.3;
+        place = same_value (ap (option_map {T = Entry} (λ x. x.place)) same);
+        wanted = same_value (ap (option_map {T = Entry} (λ x. x.wanted)) same);
+        source = ap (λ (x : Standing). x.source) is;
+        granted = ap (λ (x : Standing). x.granted) is;
+        frame = ap (λ (x : Standing). x.frame) is;
+        parent = ap (λ (x : Standing). x.parent) is;
+        some_right = n.1;
+      }
+
+  -- the pages of used moves are named by the items
+  target_named : (u : PageMove) → Moves u → OfItems from to items (length items) (link_place u.target)
+  target_named u used =
+      let w = used.pages.within in
+      let t = used.pages.target_is in
+      let size : 2 ^ used.by.mv.target.log ≡ 2 ^ used.by.mv.source.log = ap (λ (n : ℕ). 2 ^ n) (sym used.by.mv.same_size) in
+      (u.item, used.by, slice_get_within items u.item used.by used.item, used.item, inr (used.to_space, omega (arith, t), omega (arith, t, w, size)))
+
+  source_named : (u : PageMove) → Moves u → OfItems from to items (length items) (link_place u.source)
+  source_named u used =
+      let w = used.pages.within in
+      let t = used.pages.source_is in
+      (u.item, used.by, slice_get_within items u.item used.by used.item, used.item, inl (used.from_space, omega (arith, t), omega (arith, t, w)))
+
+  -- a page that was tidied
+  plain_tidied : (key : ℕ) (e : Entry) → entry_at new.entries key ≡ tidied (entry_at buried.entries key) → entry_at new.entries key ≡ Some e → IsPlain e
+  plain_tidied key e tidy at =
+      let w = was_tidied (entry_at buried.entries key) e (sym tidy ∙ at) in
+      let s = stood_before key w.entry w.standing w.was w.stood in
+      record {
+        standing = plain w.standing;
+        stands = ap (λ (x : Entry). x.stands) w.is;
+        some_right = s.some_right;
+        unwanted = ap (λ (x : Entry). x.wanted) w.is;
+        no_source = refl;
+        not_granted = refl;
+      }
+
+  -- a page that the items name is tidied
+  tidied_here : (key : ℕ) (e : Entry) → entry_at buried.entries key ≡ Some e → OfItems from to items (length items) e.place → entry_at new.entries key ≡ tidied (entry_at buried.entries key)
+  tidied_here key e at named = tidies.here key e at named ∙ sym (ap tidied at)
+
+  -- where all moves are done there is no blank
+  all_stand : (key : ℕ) (e : Entry) → entry_at now.entries key ≡ Some e → e.stands ≡ None → ⊥
+  all_stand key e at blank = elim (placed.only key e at) [
+    | inl v ↦ at_target v v.move.grant refl
+    | inr o ↦ left o.0 o.1 o.2 o.3
+  ]
+    where
+      at_target : (v : IsTarget start from to items e.place) (b : Bool) → v.move.grant ≡ b → ⊥
+      at_target v true grant =
+          let p = granted_to start now from to items ready Done placed have all v.move v.used grant in
+          let is = one_entry now have key p.key e (record { place = link_place v.move.target; wanted = false; stands = Some (record p.standing { source = true; granted = Some p.by.rights }) }) at p.at (sym v.target) in
+          let z : ◌≡◌ {A = Option Standing} None (Some (record p.standing { source = true; granted = Some p.by.rights })) = sym blank ∙ ap (λ (x : Entry). x.stands) is in
+          cc
+      at_target v false map =
+          let c = placed.mapped v.move v.used (all v.move v.used) (λ g. let z : false ≡ true = sym map ∙ g in cc) in
+          let child : Standing = record { frame = v.move.shows.frame; rights = v.move.rights; source = false; granted = None; parent = Some c.parent } in
+          let is = one_entry now have key c.key e (record { place = link_place v.move.target; wanted = true; stands = Some child }) at c.at (sym v.target) in
+          let z : ◌≡◌ {A = Option Standing} None (Some child) = sym blank ∙ ap (λ (x : Entry). x.stands) is in
+          cc
+
+      left : (before : Entry) → entry_at start.entries key ≡ Some before → before.place ≡ e.place → ¬ (IsGone Moves (mappings_of start) (map_place e.place)) → ⊥
+      left before at_start same there =
+          let p = ready.clean key before at_start in
+          let l = placed.kept key before p.standing at_start p.stands (λ g. there (subst (λ (q : LinkPlace). IsGone Moves (mappings_of start) (map_place q)) same g)) (not_granted_here start now from to items ready Done placed have all key e before at at_start same) in
+          let is : e ≡ record before { stands = Some (record p.standing { source = l.marked }) } = same_value (sym at ∙ l.at) in
+          let z : ◌≡◌ {A = Option Standing} None (Some (record p.standing { source = l.marked })) = sym blank ∙ ap (λ (x : Entry). x.stands) is in
+          cc
+
+  -- nor is there one after the burial
+  no_blank : (key : ℕ) (e : Entry) → entry_at buried.entries key ≡ Some e → e.stands ≡ None → ⊥
+  no_blank key e at blank = go (entry_at cur key) refl
+    where
+      stands_of : Option Entry → Option Standing
+      stands_of o = option_and_then (λ (x : Entry). x.stands) o
+
+      not_now : (o : Option Entry) → entry_at now.entries key ≡ o → (g : Entry) → entry_at cur key ≡ Some g → g.stands ≡ None → ⊥
+      not_now None n g is s = let z : ◌≡◌ {A = Option Entry} (bare (Some g)) None = ap bare (sym is) ∙ capped.same key ∙ ap bare n in cc
+      not_now (Some f) n g is s = not_standing f.stands refl
+        where
+          not_standing : (o : Option Standing) → f.stands ≡ o → ⊥
+          not_standing None b = all_stand key f n b
+          not_standing (Some t) b =
+              let same : bare (Some g) ≡ bare (Some f) = ap bare (sym is) ∙ capped.same key ∙ ap bare n in
+              let z : ◌≡◌ {A = Option Standing} None (Some (record t { rights = no_rights })) =
+              sym (ap (option_map (λ (x : Standing). record x { rights = no_rights })) s) ∙ ap (option_and_then (λ (x : Entry). x.stands)) same ∙ ap (option_map (λ (x : Standing). record x { rights = no_rights })) b in
+              cc
+
+      go : (o : Option Entry) → entry_at cur key ≡ o → ⊥
+      go None n =
+          let kept = buries.kept key (λ t st. let z : ◌≡◌ {A = Option Standing} None (Some t) = sym (ap (option_and_then (λ (x : Entry). x.stands)) n) ∙ st in absurd cc) in
+          let z : ◌≡◌ {A = Option Entry} (Some e) None = sym at ∙ kept ∙ n in
+          cc
+      go (Some g) is = inside g.stands refl
+        where
+          inside : (o : Option Standing) → g.stands ≡ o → ⊥
+          inside None s = not_now (entry_at now.entries key) refl g is s
+          inside (Some w) s = elim (none_or w.rights) [
+            | inl none ↦ let z : ◌≡◌ {A = Option Entry} (Some e) None = sym at ∙ buries.gone key w (ap (option_and_then (λ (x : Entry). x.stands)) is ∙ s) none in cc
+            | inr some ↦
+                let at_w : standing_at cur key ≡ Some w = ap (option_and_then (λ (x : Entry). x.stands)) is ∙ s in
+                let kept = buries.kept key (λ t st. subst (λ (x : Standing). x.rights ≢ no_rights) (same_value (sym at_w ∙ st)) some) in
+                let same : e ≡ g = same_value (sym at ∙ kept ∙ is) in
+                let z : ◌≡◌ {A = Option Standing} None (Some w) = sym blank ∙ ap (λ (x : Entry). x.stands) same ∙ s in
+                cc
+          ]
+
+  -- what stands where it stood is unmarked, or was tidied
+  kept_plain : (key : ℕ) (e : Entry) (t : Standing) → entry_at buried.entries key ≡ Some e → e.stands ≡ Some t → entry_at new.entries key ≡ Some e → (s : Stood key e t)
+      → (before : Entry) → entry_at start.entries key ≡ Some before → before.place ≡ s.entry.place → ¬ (IsGone Moves (mappings_of start) (map_place s.entry.place)) → IsPlain e
+  kept_plain key e t at_old stands at s before at_start same there =
+      let p = ready.clean key before at_start in
+      let l = placed.kept key before p.standing at_start p.stands (λ g. there (subst (λ (q : LinkPlace). IsGone Moves (mappings_of start) (map_place q)) same g)) (not_granted_here start now from to items ready Done placed have all key s.entry before s.at at_start same) in
+      let is : s.entry ≡ record before { stands = Some (record p.standing { source = l.marked }) } = same_value (sym s.at ∙ l.at) in
+      let standing_is : s.standing ≡ record p.standing { source = l.marked } = same_value (sym s.stands ∙ ap (λ (x : Entry). x.stands) is) in
+      let source_is : t.source ≡ l.marked = s.source ∙ ap (λ (x : Standing). x.source) standing_is in
+      record {
+        standing = t;
+        stands = stands;
+        some_right = s.some_right;
+        unwanted = s.wanted ∙ ap (λ (x : Entry). x.wanted) is ∙ p.unwanted;
+        no_source = source_is ∙ unmarked l.marked source_is (λ none. l.plain none) (λ v used place. source_named_here v used (place ∙ same ∙ sym s.place));
+        not_granted = s.granted ∙ ap (λ (x : Standing). x.granted) standing_is ∙ p.not_granted;
+      }
+    where
+      source_named_here : (v : PageMove) → Moves v → link_place v.source ≡ e.place → OfItems from to items (length items) e.place
+      source_named_here v used place = subst (OfItems from to items (length items)) place (source_named v used)
+
+      unmarked : (marked : Bool) → t.source ≡ marked → (((v : PageMove) → Moves v → link_place v.source ≢ before.place) → marked ≡ false)
+          → ((v : PageMove) → Moves v → link_place v.source ≡ before.place → OfItems from to items (length items) e.place) → marked ≡ false
+      unmarked false source_is plain_if named = refl
+      unmarked true source_is plain_if named = plain_if (λ v used place.
+          let w = was_tidied (entry_at buried.entries key) e (sym (tidied_here key e at_old (named v used place)) ∙ at) in
+          let t_is : t ≡ plain w.standing = same_value (sym stands ∙ ap (λ (x : Entry). x.stands) w.is) in
+          let z : true ≡ false = sym source_is ∙ ap (λ (x : Standing). x.source) t_is in
+          cc)
+
+  -- nothing is marked or blank in the end
+  pub clean_in_the_end : IsClean new
+  clean_in_the_end key e at = elim (tidies.each key) [
+    | inr tidy ↦ plain_tidied key e tidy at
+    | inl same ↦ untouched (sym same ∙ at) e.stands refl
+  ]
+    where
+      untouched : entry_at buried.entries key ≡ Some e → (o : Option Standing) → e.stands ≡ o → IsPlain e
+      untouched at_old None blank = absurd (no_blank key e at_old blank)
+      untouched at_old (Some t) stands =
+          let s = stood_before key e t at_old stands in
+          elim (placed.only key s.entry s.at) [
+            | inl v ↦ plain_tidied key e (tidied_here key e at_old (subst (OfItems from to items (length items)) (v.target ∙ sym s.place) (target_named v.move v.used))) at
+            | inr o ↦ kept_plain key e t at_old stands at s o.0 o.1 o.2 o.3
+          ]
+
+  -- what is left without a parent stood under its key at the start
+  root_now : (key : ℕ) (e : Entry) (t : Standing) → entry_at now.entries key ≡ Some e → e.stands ≡ Some t → t.parent ≡ None → (roots : List (Option ℕ)) → RootsKnown start.entries roots → slice_get roots t.frame ≡ Some (Some key)
+  root_now key e t at stands top roots known = elim (placed.only key e at) [
+    | inl v ↦ at_target v v.move.grant refl
+    | inr o ↦ left o.0 o.1 o.2 o.3
+  ]
+    where
+      at_target : (v : IsTarget start from to items e.place) (b : Bool) → v.move.grant ≡ b → slice_get roots t.frame ≡ Some (Some key)
+      at_target v true grant =
+          let p = granted_to start now from to items ready Done placed have all v.move v.used grant in
+          let key_is : p.key ≡ key = have.once (link_place v.move.target) p.key key (ap (option_map {T = Entry} (λ x. x.place)) p.at) (ap (option_map {T = Entry} (λ x. x.place)) at ∙ ap Some (sym v.target)) in
+          let is : e ≡ record { place = link_place v.move.target; wanted = false; stands = Some (record p.standing { source = true; granted = Some p.by.rights }) } = same_value (sym at ∙ ap (entry_at now.entries) (sym key_is) ∙ p.at) in
+          let standing_is : t ≡ record p.standing { source = true; granted = Some p.by.rights } = same_value (sym stands ∙ ap (λ (x : Entry). x.stands) is) in
+          let was : standing_at start.entries p.key ≡ Some p.standing = ap (option_and_then (λ (x : Entry). x.stands)) p.stood_as.1 ∙ p.stood_as.2 in
+          ap (slice_get roots) (ap (λ (x : Standing). x.frame) standing_is) ∙ known p.key p.standing was (ap (λ (x : Standing). x.parent) (sym standing_is) ∙ top) ∙ ap (λ (k : ℕ). Some (Some k)) key_is
+      at_target v false map =
+          let c = placed.mapped v.move v.used (all v.move v.used) (λ g. let z : false ≡ true = sym map ∙ g in cc) in
+          let child : Standing = record { frame = v.move.shows.frame; rights = v.move.rights; source = false; granted = None; parent = Some c.parent } in
+          let is = one_entry now have key c.key e (record { place = link_place v.move.target; wanted = true; stands = Some child }) at c.at (sym v.target) in
+          let standing_is : t ≡ child = same_value (sym stands ∙ ap (λ (x : Entry). x.stands) is) in
+          absurd (let z : ◌≡◌ {A = Option ℕ} (Some c.parent) None = ap (λ (x : Standing). x.parent) (sym standing_is) ∙ top in cc)
+
+      left : (before : Entry) → entry_at start.entries key ≡ Some before → before.place ≡ e.place → ¬ (IsGone Moves (mappings_of start) (map_place e.place)) → slice_get roots t.frame ≡ Some (Some key)
+      left before at_start same there =
+          let p = ready.clean key before at_start in
+          let l = placed.kept key before p.standing at_start p.stands (λ g. there (subst (λ (q : LinkPlace). IsGone Moves (mappings_of start) (map_place q)) same g)) (not_granted_here start now from to items ready Done placed have all key e before at at_start same) in
+          let is : e ≡ record before { stands = Some (record p.standing { source = l.marked }) } = same_value (sym at ∙ l.at) in
+          let standing_is : t ≡ record p.standing { source = l.marked } = same_value (sym stands ∙ ap (λ (x : Entry). x.stands) is) in
+          ap (slice_get roots) (ap (λ (x : Standing). x.frame) standing_is)
+          ∙ known key p.standing (ap (option_and_then (λ (x : Entry). x.stands)) at_start ∙ p.stands) (ap (λ (x : Standing). x.parent) (sym standing_is) ∙ top)
+
+  -- the keys of roots that are kept are right in the end
+  pub roots_in_the_end : (roots : List (Option ℕ)) → RootsKnown start.entries roots → RootsKnown new.entries roots
+  roots_in_the_end roots known key t at top =
+      let s = some_standing new.entries key t at in
+      elim (tidies.each key) [
+        | inl same ↦ from_buried s.0 t (sym same ∙ s.1) s.2 top
+        | inr tidy ↦
+            let w = was_tidied (entry_at buried.entries key) s.0 (sym tidy ∙ s.1) in
+            let t_is : t ≡ plain w.standing = same_value (sym s.2 ∙ ap (λ (x : Entry). x.stands) w.is) in
+            ap (slice_get roots) (ap (λ (x : Standing). x.frame) t_is) ∙ from_buried w.entry w.standing w.was w.stood (ap (λ (x : Standing). x.parent) (sym t_is) ∙ top)
+      ]
+    where
+      from_buried : (e : Entry) (t : Standing) → entry_at buried.entries key ≡ Some e → e.stands ≡ Some t → t.parent ≡ None → slice_get roots t.frame ≡ Some (Some key)
+      from_buried e t at stands top =
+          let s = stood_before key e t at stands in
+          ap (slice_get roots) s.frame ∙ root_now key s.entry s.standing s.at s.stands (sym s.parent ∙ top) roots known
+
+  -- the message is delivered
+  pub delivers_in_the_end : HavePlaces buried → AreTrees buried.entries → HavePlaces new → buried.spaces ≡ now.spaces → new.spaces ≡ buried.spaces → Delivers from to items (mappings_of start) (mappings_of new)
+  delivers_in_the_end have_buried trees_buried have_new spaces spaces_new = record {
+    middle = mappings_of (settled now);
+    moved = moved start now from to items ready Done placed have all;
+    cut = subst (λ (m : Mappings). LosesRights (IsCut Moves (mappings_of (settled now))) (mappings_of (settled now)) m)
+        (sym (tidied_view buried new have_buried have_new trees_buried spaces_new (OfItems from to items (length items)) tidies))
+        (cut_loses start now from to items ready Done placed have trees all cur buried capped buries have_buried trees_buried spaces);
+  }

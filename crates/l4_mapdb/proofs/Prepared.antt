@@ -1,0 +1,325 @@
+-- What a message has made way for.
+use Rattle.std.proofs.Common.{◌≡◌, ℕ, Bool, true, false, if◌then◌else◌, List, Option, Some, None, option_and_then, option_map, refl, sym, ap, ◌∙◌, subst, inl, inr}
+use Rattle.l4_links.specs.declared.Place.{Place as LinkPlace}
+use Rattle.l4_links.specs.declared.Standing.{Standing}
+use Rattle.l4_links.specs.declared.Entry.{Entry}
+use Rattle.l4_links.specs.Leads.{Leads, step, steps}
+use Rattle.l4_links.specs.Entries.{Entries, Linked, entry_at, standing_at, IsStanding, parent_of, HavePlaces, AreTrees, HaveRights, IsAt, IsSource, cut_off}
+use Rattle.l4_mapdb.specs.declared.Place.{Place}
+use Rattle.l4_mapdb.specs.declared.ItemMove.{ItemMove}
+use Rattle.l4_mapdb.specs.declared.Cause.{Cause}
+use Rattle.l4_mapdb.specs.declared.Cause.TheVariants.{Entangled, NoMemory}
+use Rattle.l4_mapdb.specs.Mappings.{Mappings}
+use Rattle.l4_mapdb.specs.Causes.{HasCause}
+use Rattle.l4_mapdb.specs.Transfer.{PageMove, IsUsed, IsGone, IsEntangled, TargetsPresent}
+use Rattle.l4_mapdb.proofs.Unique.{same_value}
+use Rattle.l4_mapdb.specs.declared.sources.UsedMove.{UsedMove}
+use Rattle.l4_mapdb.specs.Inside.View.{link_place, map_place, mappings_of}
+use Rattle.l4_mapdb.specs.Inside.Kept.{IsClean}
+use Rattle.l4_mapdb.specs.Inside.Messages.{plain, stand_at, StandAlike, IsMoved, IsWanted, Goes, IsClearedAt, Roomed, IsTargetOf, Cleared, LacksKey}
+use Rattle.l4_mapdb.specs.Inside.Tangles.{HasTangle}
+use Rattle.l4_mapdb.proofs.Moves.{with_place, stand_of, stands_as, found_of, is_at, entry_of, move_at}
+use Rattle.l4_mapdb.proofs.Marking.{moved_alike, moved_still, source_of}
+use Rattle.l4_mapdb.proofs.Restored.{by_bool, alike_at, alike_descends, tangle_alike}
+use Rattle.l4_mapdb.proofs.Keyed.{page_move, used_of, key_of, source_is, key_present, present_key, above_place, above_key, entangled_places, entangled_keys}
+
+abbrev opposite : (a b : Entries) → StandAlike a b → StandAlike b a
+opposite a b alike key = sym (alike key)
+
+-- something stands at the end of a chain
+leads_stands : (s : Entries) → AreTrees s → {low high : ℕ} → Leads (parent_of s) low high → IsStanding s high
+leads_stands s trees {low} {high} (step is) none =
+    elim (standing_at s low) as (λ (o : Option Standing). standing_at s low ≡ o → option_and_then (λ (t : Standing). t.parent) o ≡ Some high → ⊥) [
+      | None ↦ λ _ h. (let k : ◌≡◌ {A = Option ℕ} None (Some high) = h in cc)
+      | Some t ↦ λ at h.
+          let p = trees.parents low t high at h in
+          let k : ◌≡◌ {A = Option Standing} None (Some p.above) = sym none ∙ p.at in
+          cc
+    ] refl is
+leads_stands s trees (steps is rest) none = leads_stands s trees rest none
+
+-- a clean key keeps its page where the same stands
+pub clean_at : (old : Linked) → IsClean old → (b : Entries) → StandAlike old.entries b → (place : LinkPlace) (key : ℕ) → IsAt old.entries place key → IsAt b place key
+clean_at old clean b alike place key at =
+    let e = entry_of old.entries key place at in
+    let p = clean key e.0 e.1 in
+    (alike_at b old.entries (opposite old.entries b alike) place key at
+    (λ none. let k : ◌≡◌ {A = Option Standing} None (Some p.standing) = sym none ∙ ap (option_and_then (λ (x : Entry). x.stands)) e.1 ∙ p.stands in cc)).0
+
+-- nothing stands in an entry that shows nothing
+stand_none : (s : Entries) (key : ℕ) (e : Entry) → entry_at s key ≡ Some e → stand_at s key ≡ None → e.stands ≡ None
+stand_none s key e at none = elim e.stands as (λ (o : Option Standing). e.stands ≡ o → o ≡ None) [
+  | None ↦ λ _. refl
+  | Some t ↦ λ is. absurd (let k : ◌≡◌ {A = Option (LinkPlace × Standing)} None (Some (e.place, plain t)) = sym none ∙ stands_as s key e t at is in cc)
+] refl
+
+-- an entry that is cut off and wanted is a blank
+wanted_cut : (e : Entry) → e.wanted ≡ true → cut_off (Some e) ≡ Some (record { place = e.place; wanted = true; stands = None })
+wanted_cut e wanted = ap (λ (b : Bool). if b then Some (record e { stands = None }) else None) wanted ∙ (λ i. Some (record { place = e.place; wanted = wanted i; stands = None }))
+
+unwanted_cut : (e : Entry) → e.wanted ≡ false → cut_off (Some e) ≡ None
+unwanted_cut e unwanted = ap (λ (b : Bool). if b then Some (record e { stands = None }) else None) unwanted
+
+-- a mark is all that differs
+marked_is : (t u : Standing) → plain t ≡ plain u → t.granted ≡ None → u.granted ≡ None → t ≡ record u { source = t.source }
+marked_is t u same granted was = λ i. record {
+  frame = (same i).frame;
+  rights = (same i).rights;
+  source = t.source;
+  granted = (granted ∙ sym was) i;
+  parent = (same i).parent;
+}
+
+module _ (old : Linked) (clean : IsClean old) (from to : ℕ) (items : List ItemMove) (cur : Entries) (room : Roomed (IsMoved old.entries from to items) old.entries cur) where
+  abbrev Moves : UsedMove → Type 0
+  Moves = IsMoved old.entries from to items
+
+  -- what stands has rights still
+  pub room_rights : HaveRights cur
+  room_rights key t stands none =
+      let f = found_of cur key t stands in
+      let o = stand_of old.entries key f.entry.place (plain t) (sym (room.marks.alike key) ∙ stands_as cur key f.entry t f.at f.stands) in
+      let p = clean key o.entry o.at in
+      let same : p.standing ≡ o.standing = same_value (sym p.stands ∙ o.stands) in
+      p.some_right (ap (λ (x : Standing). x.rights) same ∙ ap (λ (x : Standing). x.rights) o.plain_is ∙ none)
+
+  pub room_wanted : (m : UsedMove) → IsMoved cur from to items m → IsWanted cur m.target
+  room_wanted m used = room.targets m (moved_alike old.entries cur from to items room.marks.alike m used)
+
+  -- no source goes
+  pub room_stay : AreTrees cur → ¬ (HasTangle Moves old.entries) → (m : UsedMove) → IsMoved cur from to items m → ¬ (Goes (IsMoved cur from to items) cur m.source)
+  room_stay trees free m used g =
+      let o = stand_of cur m.source (record { space = from; page = m.page }) used.standing used.stands in
+      let stands : IsStanding cur g.top = elim g.below [
+        | inl e ↦ λ none. (let k : ◌≡◌ {A = Option Standing} None (Some o.standing) = sym none ∙ ap (standing_at cur) (sym e) ∙ ap (option_and_then (λ (x : Entry). x.stands)) o.at ∙ o.stands in cc)
+        | inr d ↦ leads_stands cur trees d
+      ] in
+      free (tangle_alike old.entries cur room.marks.alike from to items (record {
+        move = g.move;
+        used = g.used;
+        tangles = inr (record { key = g.top; at = g.at; stands = stands; other = m; used = used; above = g.below });
+      }))
+
+module _ (old : Linked) (clean : IsClean old) (have : HavePlaces old) (trees : AreTrees old.entries) (from to : ℕ) (items : List ItemMove) (cur : Linked) (have_cur : HavePlaces cur) (trees_cur : AreTrees cur.entries)
+    (room : Roomed (IsMoved old.entries from to items) old.entries cur.entries) (free : ¬ (HasTangle (IsMoved old.entries from to items) old.entries)) where
+  abbrev KeyMoves : UsedMove → Type 0
+  KeyMoves = IsMoved old.entries from to items
+
+  abbrev CurMoves : UsedMove → Type 0
+  CurMoves = IsMoved cur.entries from to items
+
+  abbrev Used : PageMove → Type 0
+  Used = IsUsed (mappings_of old) from to items
+
+  abbrev IsLost : ℕ → Type 0
+  IsLost key = Goes CurMoves cur.entries key
+
+  still : (m : UsedMove) → KeyMoves m → CurMoves m
+  still = moved_still old.entries cur.entries from to items room.marks.alike
+
+  was : (m : UsedMove) → CurMoves m → KeyMoves m
+  was = moved_alike old.entries cur.entries from to items room.marks.alike
+
+  -- what became of an entry
+  record Became (key : ℕ) (e : Entry) : Type 0 where
+    entry : Entry
+    now : Standing
+    before : Standing
+    at : entry_at cur.entries key ≡ Some entry
+    place_is : entry.place ≡ e.place
+    stands : entry.stands ≡ Some now
+    stood : e.stands ≡ Some before
+    unwanted : e.wanted ≡ false
+    plain_before : before.source ≡ false
+    not_granted : before.granted ≡ None
+    is : now ≡ record before { source = now.source }
+
+  became : (key : ℕ) (e : Entry) → entry_at old.entries key ≡ Some e → Became key e
+  became key e at =
+      let p = clean key e at in
+      let o = stand_of cur.entries key e.place (plain p.standing) (room.marks.alike key ∙ stands_as old.entries key e p.standing at p.stands) in
+      record {
+        entry = o.entry;
+        now = o.standing;
+        before = p.standing;
+        at = o.at;
+        place_is = o.place_is;
+        stands = o.stands;
+        stood = p.stands;
+        unwanted = p.unwanted;
+        plain_before = p.no_source;
+        not_granted = p.not_granted;
+        is = marked_is o.standing p.standing o.plain_is (room.marks.not_granted key o.standing (ap (option_and_then (λ (x : Entry). x.stands)) o.at ∙ o.stands)) p.not_granted;
+      }
+
+  -- the page of a used move's target goes
+  target_lost : (m : UsedMove) → KeyMoves m → (key : ℕ) → IsAt cur.entries m.target key → IsLost key
+  target_lost m used key at = record { move = m; used = still m used; top = key; at = at; below = inl refl }
+
+  -- what is wanted is the target of a used move
+  wanted_target : (key : ℕ) (e : Entry) → entry_at cur.entries key ≡ Some e → e.wanted ≡ true → (m : UsedMove) × KeyMoves m × (m.target ≡ e.place)
+  wanted_target key e at wanted = room.marks.targets key e at (inl wanted)
+
+  pub gone_of : (key : ℕ) (e : Entry) → entry_at old.entries key ≡ Some e → IsLost key → IsGone Used (mappings_of old) (map_place e.place)
+  gone_of key e at g =
+      let b = became key e at in
+      let m = was g.move g.used in
+      let stands : IsStanding cur.entries g.top = elim g.below [
+        | inl same ↦ λ none. (let k : ◌≡◌ {A = Option Standing} None (Some b.now) = sym none ∙ ap (standing_at cur.entries) (sym same) ∙ ap (option_and_then (λ (x : Entry). x.stands)) b.at ∙ b.stands in cc)
+        | inr d ↦ leads_stands cur.entries trees_cur d
+      ] in
+      let top = alike_at old.entries cur.entries room.marks.alike g.move.target g.top g.at stands in
+      record {
+        move = page_move old have trees from to items g.move m;
+        used = used_of old have trees from to items g.move m;
+        present = key_present old have trees from to items g.move.target g.top top.0 top.1;
+        below = above_place old have trees from to items key g.top (map_place e.place) (map_place g.move.target) (is_at old.entries key e e.place at refl) top.0
+            (elim g.below [ inl same ↦ inl same | inr d ↦ inr (alike_descends old.entries cur.entries room.marks.alike key g.top d) ]);
+      }
+
+  pub lost_of : (key : ℕ) (e : Entry) → entry_at old.entries key ≡ Some e → IsGone Used (mappings_of old) (map_place e.place) → IsLost key
+  lost_of key e at g =
+      let k = key_of old have trees from to items g.move g.used in
+      let p = present_key old have trees from to items g.move.target g.present in
+      let top = alike_at cur.entries old.entries (opposite old.entries cur.entries room.marks.alike) (link_place g.move.target) p.key p.at p.stands in
+      record {
+        move = k.move;
+        used = still k.move k.moves;
+        top = p.key;
+        at = subst (λ (q : LinkPlace). IsAt cur.entries q p.key) (sym k.target) top.0;
+        below = elim (above_key old have trees from to items key p.key (map_place e.place) g.move.target (is_at old.entries key e e.place at refl) p.at g.below) [
+          | inl same ↦ inl same
+          | inr d ↦ inr (alike_descends cur.entries old.entries (opposite old.entries cur.entries room.marks.alike) key p.key d)
+        ];
+      }
+
+  module _ (new : Linked) (spaces : new.spaces ≡ old.spaces) (clears : (key : ℕ) → IsClearedAt (Goes CurMoves cur.entries key) (entry_at cur.entries key) (entry_at new.entries key)) where
+    -- what goes and is wanted is a blank
+    blank_left : (key : ℕ) (e : Entry) → entry_at cur.entries key ≡ Some e → e.wanted ≡ true → IsLost key → entry_at new.entries key ≡ Some (record { place = e.place; wanted = true; stands = None })
+    blank_left key e at wanted lost = elim (clears key) [
+      | inl g ↦ g.1 ∙ ap cut_off at ∙ wanted_cut e wanted
+      | inr k ↦ absurd (k.0 lost)
+    ]
+
+    kept : (key : ℕ) → ¬ (IsLost key) → entry_at new.entries key ≡ entry_at cur.entries key
+    kept key out = elim (clears key) [ inl g ↦ absurd (out g.0) | inr k ↦ k.1 ]
+
+    cut : (key : ℕ) → IsLost key → entry_at new.entries key ≡ cut_off (entry_at cur.entries key)
+    cut key lost = elim (clears key) [ inl g ↦ g.1 | inr k ↦ absurd (k.0 lost) ]
+
+    -- what doesn't go isn't wanted
+    unwanted_kept : (key : ℕ) (e : Entry) → entry_at cur.entries key ≡ Some e → ¬ (IsLost key) → e.wanted ≡ false
+    unwanted_kept key e at out = by_bool e.wanted
+        (λ wanted.
+        let t = wanted_target key e at wanted in
+        absurd (out (target_lost t.0 t.1 key (is_at cur.entries key e t.0.target at (sym t.2)))))
+        (λ unwanted. unwanted)
+
+    target_blank : (m : UsedMove) → KeyMoves m → (key : ℕ) × (entry_at new.entries key ≡ Some (record { place = m.target; wanted = true; stands = None }))
+    target_blank m used =
+        let w = room.targets m used in (
+          w.key,
+          blank_left w.key w.entry w.at w.wanted (target_lost m used w.key (is_at cur.entries w.key w.entry m.target w.at w.place_is))
+              ∙ ap (λ (p : LinkPlace). Some (record { place = p; wanted = true; stands = None })) w.place_is,
+        )
+
+    -- a page with a key of its own is the target's
+    target_filled : (m : UsedMove) → KeyMoves m → (key : ℕ) (e : Entry) → entry_at cur.entries key ≡ Some e → m.target ≡ e.place → entry_at new.entries key ≡ Some (record { place = e.place; wanted = true; stands = None })
+    target_filled m used key e at target =
+        let w = room.targets m used in
+        let same : w.key ≡ key = have_cur.once m.target w.key key (is_at cur.entries w.key w.entry m.target w.at w.place_is) (is_at cur.entries key e m.target at (sym target)) in
+        let one : w.entry ≡ e = same_value (sym w.at ∙ ap (entry_at cur.entries) same ∙ at) in
+        blank_left key e at (ap (λ (x : Entry). x.wanted) (sym one) ∙ w.wanted) (target_lost m used key (is_at cur.entries key e m.target at (sym target)))
+
+    nothing_new : (key : ℕ) (e : Entry) → entry_at cur.entries key ≡ None → entry_at new.entries key ≡ Some e → ⊥
+    nothing_new key e none at =
+        let left : entry_at new.entries key ≡ None = elim (clears key) [ inl g ↦ g.1 ∙ ap cut_off none | inr k ↦ k.1 ∙ none ] in
+        let k : ◌≡◌ {A = Option Entry} None (Some e) = sym left ∙ at in
+        cc
+
+    pub cleared : Cleared Used old new
+    cleared = record {
+      spaces = spaces;
+      target = λ u used.
+          let k = key_of old have trees from to items u used in
+          let b = target_blank k.move k.moves in
+          (b.0, b.1 ∙ ap (λ (p : LinkPlace). Some (record { place = p; wanted = true; stands = None })) k.target);
+      source = λ u used key e t at place stands.
+          let k = key_of old have trees from to items u used in
+          let b = became key e at in
+          let same : k.move.source ≡ key =
+          have.once (link_place u.source) k.move.source key (subst (λ (p : Place). IsAt old.entries (link_place p) k.move.source) (source_is old have trees from to items u k) (move_at old.entries from to items k.move k.moves))
+          (is_at old.entries key e (link_place u.source) at place) in
+          let s = source_of cur.entries k.move.source (room.sources k.move k.moves) in
+          let one : b.now ≡ s.0 = same_value (sym (ap (option_and_then (λ (x : Entry). x.stands)) b.at ∙ b.stands) ∙ ap (standing_at cur.entries) (sym same) ∙ s.1) in
+          let source : b.now.source ≡ true = ap (λ (x : Standing). x.source) one ∙ s.2 in
+          let before : b.before ≡ t = same_value (sym b.stood ∙ stands) in
+          let stay : ¬ (IsLost key) = subst (λ (n : ℕ). ¬ (IsLost n)) same (room_stay old clean from to items cur.entries room trees_cur free k.move (still k.move k.moves)) in
+          let unwanted = unwanted_kept key b.entry b.at stay in
+          let now_is : b.now ≡ record t { source = true } = b.is ∙ (λ i. record (before i) { source = source i }) in
+          kept key stay ∙ b.at ∙ (λ i. Some (record { place = b.place_is i; wanted = (unwanted ∙ sym b.unwanted) i; stands = (b.stands ∙ ap (λ (x : Standing). Some x) now_is) i }));
+      filled = λ key e at target.
+          let k = key_of old have trees from to items target.0 target.1 in
+          let b = became key e at in
+          target_filled k.move k.moves key b.entry b.at (k.target ∙ sym target.2 ∙ sym b.place_is) ∙ ap (λ (p : LinkPlace). Some (record { place = p; wanted = true; stands = None })) b.place_is;
+      stays = λ key e at not_gone not_source.
+          let b = became key e at in
+          let stay : ¬ (IsLost key) = λ lost. not_gone (gone_of key e at lost) in
+          let unwanted = unwanted_kept key b.entry b.at stay in
+          let source : b.now.source ≡ false = by_bool b.now.source
+          (λ marked.
+          let is : IsSource cur.entries key = ap (option_map (λ (x : Standing). x.source)) (ap (option_and_then (λ (x : Entry). x.stands)) b.at ∙ b.stands) ∙ ap (λ (v : Bool). Some v) marked in
+          let m = room.marks.sources key is in
+          let o = stand_of old.entries m.0.source (record { space = from; page = m.0.page }) m.1.standing m.1.stands in
+          let one : o.entry ≡ e = same_value (sym o.at ∙ ap (entry_at old.entries) m.2 ∙ at) in
+          absurd (not_source (page_move old have trees from to items m.0 m.1, used_of old have trees from to items m.0 m.1, sym (ap (λ (x : Entry). x.place) one) ∙ o.place_is)))
+          (λ unmarked. unmarked) in
+          let now_is : b.now ≡ b.before = b.is ∙ (λ i. record { frame = b.before.frame; rights = b.before.rights; source = (source ∙ sym b.plain_before) i; granted = b.before.granted; parent = b.before.parent }) in
+          kept key stay ∙ b.at ∙ (λ i. Some (record { place = b.place_is i; wanted = (unwanted ∙ sym b.unwanted) i; stands = (b.stands ∙ ap (λ (x : Standing). Some x) now_is ∙ sym b.stood) i }));
+      left = λ key e t at stands not_gone.
+          let b = became key e at in
+          let stay : ¬ (IsLost key) = λ lost. not_gone (gone_of key e at lost) in
+          let unwanted = unwanted_kept key b.entry b.at stay in
+          let before : b.before ≡ t = same_value (sym b.stood ∙ stands) in
+          let now_is : b.now ≡ record t { source = b.now.source } = b.is ∙ (λ i. record (before i) { source = b.now.source }) in
+          (b.now.source, kept key stay ∙ b.at ∙ (λ i. Some (record { place = b.place_is i; wanted = (unwanted ∙ sym b.unwanted) i; stands = (b.stands ∙ ap (λ (x : Standing). Some x) now_is) i })));
+      gone = λ key e at gone.
+          let b = became key e at in
+          by_bool b.entry.wanted
+          (λ wanted.
+          let t = wanted_target key b.entry b.at wanted in
+          inr (page_move old have trees from to items t.0 t.1, used_of old have trees from to items t.0 t.1, sym (t.2 ∙ b.place_is)))
+          (λ unwanted. inl (cut key (lost_of key e at gone) ∙ ap cut_off b.at ∙ unwanted_cut b.entry unwanted));
+      only = λ key e none at. elim (entry_at cur.entries key) as (λ (o : Option Entry). entry_at cur.entries key ≡ o → (e ≡ record { place = e.place; wanted = true; stands = None }) × IsTargetOf Used e.place) [
+        | None ↦ λ here. absurd (nothing_new key e here at)
+        | Some blank ↦ λ here.
+            let bare : blank.stands ≡ None = stand_none cur.entries key blank here (room.marks.alike key ∙ ap (option_and_then (λ (x : Entry). option_map (with_place x.place) x.stands)) none) in
+            let t = room.marks.targets key blank here (inr bare) in
+            let one : e ≡ record { place = blank.place; wanted = true; stands = None } = same_value (sym at ∙ target_filled t.0 t.1 key blank here t.2) in
+            let place : e.place ≡ blank.place = ap (λ (x : Entry). x.place) one in (
+              one ∙ (λ i. record { place = (sym place) i; wanted = true; stands = None }),
+              (page_move old have trees from to items t.0 t.1, used_of old have trees from to items t.0 t.1, place ∙ sym t.2),
+            )
+      ] refl;
+      decided = λ key e at. elim (clears key) [
+        | inl g ↦ inl (gone_of key e at g.0)
+        | inr k ↦ inr (λ gone. k.0 (lost_of key e at gone))
+      ];
+    }
+
+-- why a message isn't delivered, by keys and by places
+pub cause_of : (old : Linked) (have : HavePlaces old) (trees : AreTrees old.entries) (from to : ℕ) (items : List ItemMove) (cause : Cause) → LacksKey (IsMoved old.entries from to items) old.entries cause
+    → HasCause (IsUsed (mappings_of old) from to items) (mappings_of old) cause
+cause_of old have trees from to items Entangled tangle = entangled_places old have trees from to items tangle
+cause_of old have trees from to items NoMemory lacks = (
+  λ e. lacks.0 (entangled_keys old have trees from to items e),
+  record {
+    move = page_move old have trees from to items lacks.1.0 lacks.1.1;
+    used = used_of old have trees from to items lacks.1.0 lacks.1.1;
+    absent = λ present. let p = present_key old have trees from to items (map_place lacks.1.0.target) present in lacks.1.2 p.key p.at;
+  },
+)
+
+pub none_refused : (Used : PageMove → Type 0) (s : Mappings) (cause : Cause) → HasCause Used s cause → TargetsPresent Used s → ¬ (IsEntangled Used s) → ⊥
+none_refused Used s Entangled cause present free = free cause
+none_refused Used s NoMemory cause present free = cause.1.absent (present cause.1.move cause.1.used)

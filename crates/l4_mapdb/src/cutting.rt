@@ -1,0 +1,67 @@
+//! What descends from granted pages is left with the rights that their items name.
+
+ghost use Rattle.std.specs.Prelude.{◌≡◌, ◌+◌, ◌^◌, ◌≤◌, ◌<◌, ℕ, length};
+ghost use Rattle.l4_links.specs.Entries.{IsAt};
+ghost use Rattle.l4_mapdb.specs.Inside.Cutting.{Capped, IsGrantedAt, IsGrantOf, IsGrantBy, IsGrantBelow};
+
+use l4_fpage::{Block, Rights};
+use l4_links::{Links, Place};
+use crate::ItemMove;
+
+/// The page after a block's last one.
+pub(crate) fn end_of(block: Block) -> u32
+    ensures is { result ≡ block.first + 2 ^ block.log }
+    ensures small { result ≤ 2 ^ 20 }
+{
+    block.first + (1 << block.log)
+}
+
+/// Cuts what stands at the page and what descends from it, if an item of these rights granted it there.
+fn cut_page(links: &mut Links, place: Place, rights: Rights)
+    ensures capped { Capped (λ key. IsAt links.old.entries place key × IsGrantedAt links.old.entries key rights) links.old.entries links.new.entries }
+    ensures spaces { links.new.spaces ≡ links.old.spaces }
+{
+    links.law_trees();
+    let Some(key) = links.find(place) else {
+        return;
+    };
+    let Some(standing) = links.standing(key) else {
+        return;
+    };
+    let Some(granted) = standing.granted else {
+        return;
+    };
+    if granted != rights {
+        return;
+    }
+    links.cap_tree(key, rights);
+}
+
+/// Cuts what the item granted, with what descends from it.
+fn cut_item(links: &mut Links, to: u64, by: &ItemMove)
+    ensures capped { Capped (IsGrantBy links.old.entries to by.now) links.old.entries links.new.entries }
+    ensures spaces { links.new.spaces ≡ links.old.spaces }
+{
+    if !by.grant {
+        return;
+    }
+    let end = end_of(by.mv.target);
+    let mut start = by.mv.target.first;
+    loop {
+        let Some(page) = links.next_key_in(to, start, end) else {
+            return;
+        };
+        cut_page(links, Place { space: to, page }, by.rights);
+        start = page + 1;
+    }
+}
+
+/// Cuts what the items granted, with what descends from it.
+pub(crate) fn cut(links: &mut Links, to: u64, items: &[ItemMove])
+    ensures capped { Capped (IsGrantBelow links.old.entries to items.now (length items.now)) links.old.entries links.new.entries }
+    ensures spaces { links.new.spaces ≡ links.old.spaces }
+{
+    for item in 0..items.len() {
+        cut_item(links, to, &items[item]);
+    }
+}

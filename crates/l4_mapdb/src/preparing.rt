@@ -1,0 +1,73 @@
+//! What a message needs before its pages are moved: it is tested, room is made, and what its targets show goes.
+
+ghost use Rattle.std.specs.Prelude.{◌≡◌, ℕ, IsTrue, IsOk, OnOk, OnErr, IfErr};
+ghost use Rattle.std.specs.FinSet as set;
+ghost use Rattle.l4_links.specs.Entries.{entry_at};
+ghost use Rattle.l4_mapdb.specs.Transfer.{IsUsed, IsEntangled, TargetsPresent};
+ghost use Rattle.l4_mapdb.specs.Causes.{HasCause};
+ghost use Rattle.l4_mapdb.specs.Inside.View.{mappings_of};
+ghost use Rattle.l4_mapdb.specs.Inside.Kept.{IsClean};
+ghost use Rattle.l4_mapdb.specs.Inside.Messages.{IsMoved, Roomed, LacksKey, Cleared};
+ghost use Rattle.l4_mapdb.specs.Inside.Tangles.{HasTangle};
+
+use crate::clearing::clear_targets;
+use crate::room::make_room;
+use crate::sources::mark_sources;
+use crate::tangles::marked_tangle;
+use crate::unmarking::unmark;
+use l4_links::Links;
+use crate::{Cause, ItemMove};
+
+/// Marks the sources of the used moves and gives each target a key, unless the used moves contradict each other or memory is refused.
+fn make_ready(links: &mut Links, from: u64, to: u64, items: &[ItemMove]) -> Result<(), Cause>
+    requires clean { IsClean links.old }
+    requires there { IsTrue (set.contains links.old.spaces to) }
+    ensures ok { OnOk result (Roomed (IsMoved links.old.entries from to items.now) links.old.entries links.new.entries) }
+    ensures free { OnOk result (¬ (HasTangle (IsMoved links.old.entries from to items.now) links.old.entries)) }
+    ensures err { OnErr result ((key : ℕ) → entry_at links.new.entries key ≡ entry_at links.old.entries key) }
+    ensures cause { IfErr result (LacksKey (IsMoved links.old.entries from to items.now) links.old.entries) }
+    ensures spaces { links.new.spaces ≡ links.old.spaces }
+{
+    mark_sources(links, from, to, items);
+    if marked_tangle(links, from, to, items) {
+        unmark(links, from, to, items);
+        return Err(Cause::Entangled);
+    }
+    match make_room(links, from, to, items) {
+        Ok(()) => Ok(()),
+        Err(_) => {
+            unmark(links, from, to, items);
+            Err(Cause::NoMemory)
+        }
+    }
+}
+
+/// Makes way for the used moves of a message: their sources are marked, what their targets show has gone with all that descends from it,
+/// and each target is a blank. `Entangled` comes where the used moves contradict each other, and else `NoMemory` may come, but only
+/// where a used target is not present. After either, all is as before.
+pub(crate) fn make_way(
+    links: &mut Links,
+    from: u64,
+    to: u64,
+    items: &[ItemMove],
+) -> Result<(), Cause>
+    requires clean { IsClean links.old }
+    requires there { IsTrue (set.contains links.old.spaces to) }
+    ensures ok { OnOk result (Cleared (IsUsed (mappings_of links.old) from to items.now) links.old links.new) }
+    ensures free { OnOk result (¬ (IsEntangled (IsUsed (mappings_of links.old) from to items.now) (mappings_of links.old))) }
+    ensures err { OnErr result ((key : ℕ) → entry_at links.new.entries key ≡ entry_at links.old.entries key) }
+    ensures cause { IfErr result (HasCause (IsUsed (mappings_of links.old) from to items.now) (mappings_of links.old)) }
+    ensures succeeds { TargetsPresent (IsUsed (mappings_of links.old) from to items.now) (mappings_of links.old) → ¬ (IsEntangled (IsUsed (mappings_of links.old) from to items.now) (mappings_of links.old)) → IsOk result }
+    ensures spaces { links.new.spaces ≡ links.old.spaces }
+{
+    links.law_places();
+    links.law_trees();
+    match make_ready(links, from, to, items) {
+        Ok(()) => {}
+        Err(cause) => return Err(cause),
+    }
+    links.law_places();
+    links.law_trees();
+    clear_targets(links, from, to, items);
+    Ok(())
+}

@@ -1,0 +1,147 @@
+//! The used moves of a message, one after another by item and page, and the marks of their sources.
+
+ghost use Rattle.std.specs.Prelude.{◌≡◌, ◌≢◌, ◌<◌, ◌≤◌, ◌⊎◌, length, IsTrue, MatchOption, ℕ, Some, None};
+ghost use Rattle.l4_links.specs.Entries.{IsSource, entry_at};
+ghost use Rattle.l4_mapdb.specs.Inside.Kept.{IsClean};
+ghost use Rattle.l4_mapdb.specs.Inside.Messages.{IsMoved, turn, turn_of, IsNextMove, IsNextOfItem, Marks};
+
+use crate::cutting::end_of;
+use l4_links::{Links, Place};
+use crate::ItemMove;
+
+/// What one item of a message does to one page.
+#[derive(Clone, Copy)]
+pub(crate) struct UsedMove {
+    /// The item's number.
+    pub item: usize,
+    /// The page of the sender.
+    pub page: u32,
+    /// The key of what stands there.
+    pub source: usize,
+    /// The page of the receiver.
+    pub target: Place,
+    pub grant: bool,
+}
+
+/// The used move of the item of this number out of the page.
+pub(crate) fn move_out(
+    links: &Links,
+    from: u64,
+    to: u64,
+    items: &[ItemMove],
+    item: usize,
+    page: u32,
+) -> Option<UsedMove>
+    requires { item < length items.now }
+    ensures { MatchOption result
+        ((move : UsedMove) → IsMoved links.now.entries from to items.now move → move.item ≡ item → move.page ≢ page)
+        (λ m. IsMoved links.now.entries from to items.now m × (m.item ≡ item) × (m.page ≡ page)) }
+{
+    let by = &items[item];
+    if !by.mv.source.contains(page) {
+        return None;
+    }
+    let Some(key) = links.find(Place { space: from, page }) else {
+        return None;
+    };
+    let Some(standing) = links.standing(key) else {
+        return None;
+    };
+    if standing.rights.intersection(by.rights).is_empty() {
+        return None;
+    }
+    Some(UsedMove {
+        item,
+        page,
+        source: key,
+        target: Place {
+            space: to,
+            page: page - by.mv.source.first + by.mv.target.first,
+        },
+        grant: by.grant,
+    })
+}
+
+/// The greater of two pages.
+fn later_page(a: u32, b: u32) -> u32
+    ensures first { a ≤ result }
+    ensures second { b ≤ result }
+    ensures one { (result ≡ a) ⊎ (result ≡ b) }
+{
+    if a < b {
+        return b;
+    }
+    a
+}
+
+/// The first used move of the item from this page on.
+fn next_of_item(
+    links: &Links,
+    from: u64,
+    to: u64,
+    items: &[ItemMove],
+    item: usize,
+    page: u32,
+) -> Option<UsedMove>
+    requires { item < length items.now }
+    ensures { MatchOption result
+        ((move : UsedMove) → IsMoved links.now.entries from to items.now move → move.item ≡ item → move.page < page)
+        (IsNextOfItem links.now.entries from to items.now item page) }
+{
+    let by = &items[item];
+    let end = end_of(by.mv.source);
+    let mut start = later_page(page, by.mv.source.first);
+    loop {
+        let Some(next) = links.next_key_in(from, start, end) else {
+            return None;
+        };
+        if let Some(used) = move_out(links, from, to, items, item, next) {
+            return Some(used);
+        }
+        start = next + 1;
+    }
+}
+
+/// The first used move from this page of this item on, in the order of items and of their pages.
+pub(crate) fn next_move(
+    links: &Links,
+    from: u64,
+    to: u64,
+    items: &[ItemMove],
+    item: usize,
+    page: u32,
+) -> Option<UsedMove>
+    requires { page ≤ 1048576 }
+    ensures { MatchOption result
+        ((move : UsedMove) → IsMoved links.now.entries from to items.now move → turn_of move < turn item page)
+        (IsNextMove links.now.entries from to items.now (turn item page)) }
+{
+    let mut start = page;
+    for number in item..items.len() {
+        if let Some(used) = next_of_item(links, from, to, items, number, start) {
+            return Some(used);
+        }
+        start = 0;
+    }
+    None
+}
+
+/// Marks the source of each used move.
+pub(crate) fn mark_sources(links: &mut Links, from: u64, to: u64, items: &[ItemMove])
+    requires { IsClean links.old }
+    ensures marks { Marks (IsMoved links.old.entries from to items.now) links.old.entries links.new.entries }
+    ensures sources { (move : UsedMove) → IsMoved links.old.entries from to items.now move → IsSource links.new.entries move.source }
+    ensures spaces { links.new.spaces ≡ links.old.spaces }
+{
+    links.law_places();
+    let mut item = 0;
+    let mut page = 0;
+    loop {
+        let Some(used) = next_move(links, from, to, items, item, page) else {
+            return;
+        };
+        links.set_source(used.source, true);
+        item = used.item;
+        page = used.page + 1;
+    }
+}

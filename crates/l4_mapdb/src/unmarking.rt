@@ -1,0 +1,55 @@
+//! Marks and blanks are taken away, once what they were for is done or given up.
+
+ghost use Rattle.std.specs.Prelude.{◌≡◌, ◌≢◌, ◌<◌, ◌≤◌, ◌+◌, ◌^◌, ◌⊎◌, length};
+ghost use Rattle.l4_fpage.specs.Pages.{InBlock};
+ghost use Rattle.l4_links.specs.declared.Place.{Place as ALinkPlace};
+ghost use Rattle.l4_mapdb.specs.Inside.Messages.{Tidies, InPages, OfItem, OfItems};
+
+use crate::cutting::end_of;
+use l4_fpage::Block;
+use l4_links::{Links, Place};
+use crate::ItemMove;
+
+/// Takes the marks from the page, and its key if nothing stands there.
+fn tidy_page(links: &mut Links, place: Place)
+    ensures tidies { Tidies (λ p. p ≡ place) links.old.entries links.new.entries }
+    ensures spaces { links.new.spaces ≡ links.old.spaces }
+{
+    let Some(key) = links.find(place) else {
+        return;
+    };
+    let Some(_) = links.standing(key) else {
+        links.take_blank(key);
+        return;
+    };
+    links.set_plain(key);
+    links.set_wanted(key, false);
+}
+
+/// Takes the marks from the pages of the block in the space, and the keys of those where nothing stands.
+fn tidy_block(links: &mut Links, space: u64, block: Block)
+    ensures tidies { Tidies (InPages space block.first (block.first + 2 ^ block.log)) links.old.entries links.new.entries }
+    ensures spaces { links.new.spaces ≡ links.old.spaces }
+{
+    let end = end_of(block);
+    let mut start = block.first;
+    loop {
+        let Some(page) = links.next_key_in(space, start, end) else {
+            return;
+        };
+        tidy_page(links, Place { space, page });
+        start = page + 1;
+    }
+}
+
+/// Takes the marks from the pages that the items name, and the keys of those where nothing stands.
+pub(crate) fn unmark(links: &mut Links, from: u64, to: u64, items: &[ItemMove])
+    ensures tidies { Tidies (OfItems from to items.now (length items.now)) links.old.entries links.new.entries }
+    ensures spaces { links.new.spaces ≡ links.old.spaces }
+{
+    for item in 0..items.len() {
+        let by = &items[item];
+        tidy_block(links, from, by.mv.source);
+        tidy_block(links, to, by.mv.target);
+    }
+}
