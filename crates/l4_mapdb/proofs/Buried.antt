@@ -5,7 +5,7 @@ use Rattle.l4_links.specs.declared.Standing.{Standing}
 use Rattle.l4_links.specs.declared.Entry.{Entry}
 use Rattle.l4_links.specs.Entries.{Entries, Linked, entry_at, standing_at, Buries, capped}
 use Rattle.l4_mapdb.proofs.Unique.{same_value, same_rights}
-use Rattle.l4_mapdb.proofs.Revoking.{has-without}
+use Rattle.l4_mapdb.proofs.RightsLeft.{has-without}
 use Rattle.l4_mapdb.specs.Inside.Kept.{IsClean, IsPlain}
 use Rattle.l4_mapdb.specs.Inside.Cuts.{CapsKeys, CutsKeys}
 use Rattle.l4_mapdb.proofs.Lost.{HasLost, KeysLose}

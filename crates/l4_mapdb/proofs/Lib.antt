@@ -10,7 +10,7 @@ pub mod ForestMoved
 pub mod Nothing
 pub mod Places
 pub mod Ranges
-pub mod Revoking
+pub mod RightsLeft
 pub mod Single
 pub mod Unique
 pub mod UsedMoves

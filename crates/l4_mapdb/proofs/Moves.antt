@@ -8,7 +8,7 @@ use Rattle.l4_links.specs.declared.Standing.{Standing}
 use Rattle.l4_links.specs.declared.Entry.{Entry}
 use Rattle.l4_links.specs.Entries.{Entries, entry_at, standing_at, IsAt, NoKeyIn, IsNextKeyIn}
 use Rattle.l4_mapdb.specs.declared.ItemMove.{ItemMove}
-use Rattle.l4_mapdb.proofs.Revoking.{none_is}
+use Rattle.l4_mapdb.proofs.RightsLeft.{none_is}
 use Rattle.l4_mapdb.proofs.Unique.{same_value}
 use Rattle.l4_mapdb.specs.declared.sources.UsedMove.{UsedMove}
 use Rattle.l4_mapdb.specs.Inside.Messages.{plain, stand_at, IsMoved, turn, turn_of, IsNextMove, IsNextOfItem}
