@@ -1,6 +1,5 @@
 //! The owners of frames.
 ghost use Rattle.std.specs.Prelude.{◌≡◌, ℕ, ◌+◌, ◌^◌, ◌<◌, ◌≤◌, ◌↔◌, MatchOption, IsTrue, length};
-ghost use Rattle.l4_fpage.specs.Pages.{max_frames};
 
 use l4_fpage::{Block, Fpage, PAGE_LOG, Rights};
 use l4_msg::{FrameRequest, Message, PageFault, map_answer};
@@ -19,6 +18,7 @@ pub struct Sigma0 {
 
 impl Model for Sigma0 {
     ghost use Rattle.std.specs.Prelude.{◌≤◌};
+    ghost use Rattle.l4_fpage.specs.Pages.{max_frames};
     ghost use Rattle.l4_sigma0.specs.Owners.{Owners, owners_code};
     ghost use Rattle.l4_sigma0.specs.Inside.Tables.{map_of};
 
@@ -86,6 +86,7 @@ fn fill(owners: &mut [Option<u64>], space: u64, first: usize, end: usize)
 impl Sigma0 {
     ghost use Rattle.std.specs.FinMap as fin;
     ghost use Rattle.l4_msg.specs.Messages.{CanBeWritten};
+    ghost use Rattle.l4_fpage.specs.Pages.{max_frames};
     ghost use Rattle.l4_sigma0.specs.Owners.{Answers};
 
     /// The table of the frames 0 to `frames` - 1, of which none has an owner. `frames` is at most `MAX_FRAMES`.
