@@ -20,3 +20,4 @@ pub mod Capping
 pub mod Naming
 pub mod Noting
 pub mod Laws
+pub mod Low

@@ -275,15 +275,18 @@ impl Links {
         take_over(&mut self.nodes, &mut self.pages, key, blank, rights);
     }
 
-    /// Lets all that descends from the key have no other rights than these. Calls with the same rights one after another visit
-    /// no run twice.
+    /// Lets all that descends from the key have no other rights than these. Nothing is visited where what stands under the key has
+    /// no others, as its descendants have none then, and calls with the same rights one after another visit no run twice.
     pub fn cap_below(&mut self, top: usize, cap: Rights)
         ensures caps { CapsBelow top cap self.old.entries self.new.entries }
         ensures spaces { self.new.spaces ≡ self.old.spaces }
     {
-        let Some(_) = node_of(&self.nodes, top) else {
+        let Some(node) = node_of(&self.nodes, top) else {
             return;
         };
+        if cap.contains(node.rights) {
+            return;
+        }
         let walk = cap.bits();
         let stamp = stamp_for(self.stamp, self.walk, walk);
         self.stamp = stamp;
@@ -296,9 +299,12 @@ impl Links {
         ensures caps { CapsTree top cap self.old.entries self.new.entries }
         ensures spaces { self.new.spaces ≡ self.old.spaces }
     {
-        let Some(_) = node_of(&self.nodes, top) else {
+        let Some(node) = node_of(&self.nodes, top) else {
             return;
         };
+        if cap.contains(node.rights) {
+            return;
+        }
         let walk = cap.bits();
         let stamp = stamp_for(self.stamp, self.walk, walk);
         self.stamp = stamp;

@@ -4,7 +4,13 @@ use Rattle.l4_links.specs.Inside.Keeping.{entries_of, IsFresh, IsSound}
 use Rattle.l4_links.proofs.Kept.{marks_for}
 use Rattle.l4_links.proofs.Capping.{sound_tree, view_tree, tree_none}
 use Rattle.l4_links.proofs.Naming.{indexed_same}
+use Rattle.l4_links.proofs.Low.{tree_low}
 use Rattle.l4_links.proofs.Links.cap_tree.Goals as goal
+
+pub returns-then-contains-clause-caps : goal.returns-then-contains-clause-caps
+returns-then-contains-clause-caps c =
+    subst (λ (s : Linked). CapsTree c.args.top c.args.cap s.entries s.entries) c.self.view_is
+    (tree_low c.self.inside.nodes.slots c.self.inside.first c.self.inside.stamp c.self.inside.walk c.args.top c.args.cap c.in-Some.node c.self.invariant.sound (sym c.node_of.ensures ∙ c.in-Some.is) (c.if-contains.ensures.within.0 refl))
 
 pub returns-in_default-clause-caps : goal.returns-in_default-clause-caps
 returns-in_default-clause-caps c =
