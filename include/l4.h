@@ -1,0 +1,316 @@
+/*
+ * An L4 X.2 kernel core in user space, for C99 and C++. Link with the one archive libl4.a (pkg-config --cflags --libs l4).
+ *
+ * WHAT EACH CALL OWES AND IS OWED
+ *
+ * A handle (l4_kernel, l4_sigma0, l4_pager) is one pointer into what C can't look into. Begin it as L4_EMPTY. From then on it is the
+ * library's: never write into it, and never use a copy of it once the first has been used again. It may be moved in memory between
+ * calls. A handle that is empty, before its making and after its freeing, is refused by B1, and freeing it does nothing.
+ *
+ * Every pointer that a call is given is aligned, points to what its type says for the whole call, and is never NULL: also a pointer
+ * beside a count or a room of 0, which may then be any aligned address. What a call writes (a handle, and what is passed without
+ * const) overlaps nothing else that the call is given.
+ *
+ * One call at a time for a handle, also for those calls that only ask. Nothing is global: calls on two handles don't meet, and may be
+ * made from two threads. A handle may be handed from thread to thread, by a lock, a join or the like. No call may be made from a signal
+ * handler, or between fork and exec in a process with threads.
+ *
+ * Memory comes from the program's malloc, realloc and free, which are of one allocator, and align a block to each power of two up to
+ * 16 that divides its size. Want of memory is an answer like others (NoMemory), and the handle goes on.
+ *
+ * Results are values. The first member of each, refusal, is L4_OK or says why the call did nothing. After a refusal of a step nothing
+ * has changed, and the other members are 0, but for detail, the number that some refusals carry.
+ *
+ * Threads go by their numbers (uint32_t thread) as callers, and by whole thread ids (number in bits 31 to 14, version below) as
+ * partners, as in the kernel's own words. Pages are 4,096 bytes and are counted from 0, below 1,048,576 in a space; rights are the sum
+ * of L4_READ, L4_WRITE and L4_EXECUTE, and further bits mean nothing.
+ */
+#ifndef L4_H
+#define L4_H
+
+#include <stddef.h>
+#include <stdint.h>
+
+#ifdef __cplusplus
+extern "C" {
+#endif
+
+/* The greatest number of threads, of words of a message, of its map and grant items, of pages that show that a plan is too long, of
+ * frames, of pages of a space, and of regions of a pager's table. */
+#define L4_MAX_THREADS 64
+#define L4_MAX_WORDS 64
+#define L4_MAX_ITEMS 31
+#define L4_TOO_MANY 32
+#define L4_MAX_FRAMES UINT32_C(4096)
+#define L4_SPACE_PAGES UINT32_C(1048576)
+#define L4_MAX_REGIONS 64
+
+/* The ids of nobody and of anybody, and a timeout of zero (0 is never): the send timeout in bits 31 to 16, the receive timeout in bits
+ * 15 to 0 of a call's timeouts. */
+#define L4_NILTHREAD UINT32_C(0)
+#define L4_ANYTHREAD UINT32_C(0xFFFFFFFF)
+#define L4_ZERO_TIMEOUT UINT32_C(0x400)
+
+/* Rights. */
+#define L4_READ UINT32_C(4)
+#define L4_WRITE UINT32_C(2)
+#define L4_EXECUTE UINT32_C(1)
+
+/* REFUSALS. A number is the first two bytes of the code that the programs print: 0x4B31 is "K1". The number that a refusal carries is in detail. */
+#define L4_OK UINT32_C(0)
+#define L4_B1 UINT32_C(0x4231) /* the handle is empty */
+#define L4_B2 UINT32_C(0x4232) /* the handle isn't empty: free it before it is made anew */
+#define L4_B3 UINT32_C(0x4233) /* there is no such kind of call */
+#define L4_K1 UINT32_C(0x4B31) /* nobody waits so: the transfer or expiry can't be done now */
+#define L4_K2 UINT32_C(0x4B32) /* there is no thread of this number */
+#define L4_K3 UINT32_C(0x4B33) /* the thread's last call goes on */
+#define L4_K4 UINT32_C(0x4B34) /* a timeout is neither never nor zero */
+#define L4_K6 UINT32_C(0x4B36) /* a machine has 1 to 4,096 frames */
+#define L4_M1 UINT32_C(0x4D31) /* the message tag counts more than 63 words after it */
+#define L4_M2 UINT32_C(0x4D32) /* the tag counts an odd number of words for the items */
+#define L4_M3 UINT32_C(0x4D33) /* the item (detail, from 0) has an unknown kind or is no fpage */
+#define L4_M4 UINT32_C(0x4D34) /* the item (detail, from 0) is a string or CtrlXfer item, which are left out here */
+#define L4_M5 UINT32_C(0x4D35) /* a flag of the tag is set */
+#define L4_M6 UINT32_C(0x4D36) /* the receive window is no fpage */
+#define L4_M7 UINT32_C(0x4D37) /* there is no tag, or there are fewer words than it counts */
+#define L4_H1 UINT32_C(0x4831) /* the caller isn't in root's space */
+#define L4_H2 UINT32_C(0x4832) /* no thread can have this id */
+#define L4_H3 UINT32_C(0x4833) /* there is a thread of this number */
+#define L4_H4 UINT32_C(0x4834) /* no thread has this id */
+#define L4_H5 UINT32_C(0x4835) /* there are 64 threads, or no number is left for a space */
+#define L4_H6 UINT32_C(0x4836) /* sigma0, root and the caller itself can't be deleted */
+#define L4_U1 UINT32_C(0x5531) /* the word (detail, from 0) of an Unmap is no fpage */
+#define L4_U2 UINT32_C(0x5532) /* an Unmap has fewer words than its control word says */
+#define L4_N1 UINT32_C(0x4E31) /* the region has no page */
+#define L4_N2 UINT32_C(0x4E32) /* the region goes beyond the pages of a space */
+#define L4_N3 UINT32_C(0x4E33) /* the region has no rights */
+#define L4_N4 UINT32_C(0x4E34) /* no 31 map items, as many as a message holds, move just the region */
+#define L4_C1 UINT32_C(0x4331) /* the item (detail, from 0) of a plan is none of the region's */
+#define L4_C2 UINT32_C(0x4332) /* no item moves the page (detail) */
+#define L4_C3 UINT32_C(0x4333) /* the page at this place (detail, from 0) isn't one of the region's */
+#define L4_C4 UINT32_C(0x4334) /* one map item could move the page at this place (detail, from 0) together with an earlier one */
+#define L4_C5 UINT32_C(0x4335) /* more than 31 items, or not one page an item; or not 32 pages */
+#define L4_C6 UINT32_C(0x4336) /* the region is refused by N1, N2 or N3 */
+#define L4_P1 UINT32_C(0x5031) /* a page of the region is one of another region of the table */
+#define L4_P2 UINT32_C(0x5032) /* no region of the table has the page with this access */
+#define L4_P3 UINT32_C(0x5033) /* the table has 64 regions */
+#define L4_P4 UINT32_C(0x5034) /* the region has no page, a page or source page beyond the space, or no right */
+#define L4_NO_MEMORY UINT32_C(0x4E6F) /* there was no memory for it */
+
+/* The printed code of a refusal ("K1", "NoMemory"), and a line of text that says what it means. Of its bytes the first `room` - 1 at
+ * most are written to out, and a 0 after them; nothing where the room is 0. The answer is the length of the whole text, without the 0:
+ * below 160, and 0 for a number that is no refusal. */
+size_t l4_refusal_code(uint32_t refusal, char *out, size_t room);
+size_t l4_refusal_text(uint32_t refusal, char *out, size_t room);
+
+/* KERNELS */
+
+typedef struct l4_kernel {
+    void *hidden;
+} l4_kernel;
+
+/* An empty handle, as an initializer. */
+#define L4_EMPTY {NULL}
+
+/* Makes a kernel as it boots, with 1 to 4,096 frames: sigma0 is thread 1 in space 0, which shows each frame at the page of its number
+ * with all rights, and root is thread 2 in space 1, which shows none. The handle is empty, and holds the kernel from then on; after a
+ * refusal it is as before. Refusals in this order: B2, K6, NoMemory. */
+uint32_t l4_boot(l4_kernel *kernel, uint32_t frames);
+
+/* Frees a kernel with all its memory. The handle is empty then. */
+void l4_free(l4_kernel *kernel);
+
+/* Kinds of calls. */
+#define L4_IPC UINT32_C(1)
+#define L4_FAULT UINT32_C(2)
+#define L4_UNMAP UINT32_C(3)
+#define L4_CREATE UINT32_C(4)
+#define L4_SET_PAGER UINT32_C(5)
+#define L4_DELETE UINT32_C(6)
+
+/* A call of a thread. Only the members of its kind are read; begin with all 0. */
+typedef struct l4_call {
+    uint32_t kind;
+    /* L4_IPC: a send phase unless to is L4_NILTHREAD, then a receive phase unless from is; the window as an acceptor word. The words
+     * are the message registers from the tag on. */
+    uint32_t to;
+    uint32_t from;
+    uint32_t timeouts;
+    uint32_t acceptor;
+    /* L4_FAULT: a page fault at this address by the instruction at ip, both in bytes, and the rights that the access needs. */
+    uint32_t address;
+    uint32_t ip;
+    uint32_t access;
+    /* L4_UNMAP: bit 6 means the caller's own pages too; bits 5 to 0 are k, and the words 0 to k are fpages with the rights to take. */
+    uint32_t control;
+    /* L4_CREATE: a new thread of this id in the space of the thread `space`, or in a new one where that is its own id.
+     * L4_SET_PAGER: the thread id has this pager from now on. L4_DELETE: the thread id goes. */
+    uint32_t id;
+    uint32_t space;
+    uint32_t pager;
+} l4_call;
+
+/* What a step did. */
+#define L4_STARTED UINT32_C(1)    /* a call was entered */
+#define L4_DELIVERED UINT32_C(2)  /* a transfer: the message was delivered, and its used moves were done */
+#define L4_NO_WINDOW UINT32_C(3)  /* a transfer: the message has items and the receiver's window is nil; both calls failed */
+#define L4_ENTANGLED UINT32_C(4)  /* a transfer: the message's moves contradict each other; both calls failed */
+#define L4_WANTS_MEMORY UINT32_C(5) /* a transfer: a growth was refused; both calls failed, and no page moved */
+#define L4_EXPIRED UINT32_C(6)    /* a wait with a timeout of zero ended */
+
+/* What a step did, and the threads whose calls ended in it: of a transfer the sender and then the receiver; of a Delete the caller and
+ * then the others by rising number. */
+typedef struct l4_answer {
+    uint32_t refusal;
+    uint32_t detail;
+    uint32_t outcome;
+    uint32_t ended_count;
+    uint32_t ended[L4_MAX_THREADS];
+} l4_answer;
+
+/* Starts a call of a thread. An Ipc and an Unmap read `count` words at words; other calls none. Words beyond the first 64 mean nothing.
+ * Refusals in this order: B1, B3, K2, K3, K4, then those of the message (M7, M1, M5, M2, M4 or M3) and of the window (M6), of an Unmap
+ * (U2, U1), or of a control of threads (H1 to H6; NoMemory of a Create in a new space). */
+l4_answer l4_start(l4_kernel *kernel, uint32_t thread, const l4_call *call, const uint32_t *words, size_t count);
+
+/* The message of the sender goes to the receiver. Refusals in this order: B1, K1. */
+l4_answer l4_transfer(l4_kernel *kernel, uint32_t sender, uint32_t receiver);
+
+/* The thread's wait with a timeout of zero ends. Refusals in this order: B1, K1. */
+l4_answer l4_expire(l4_kernel *kernel, uint32_t thread);
+
+/* Kinds of enabled steps. */
+#define L4_NONE UINT32_C(0)
+#define L4_TRANSFER UINT32_C(1) /* from thread to receiver */
+#define L4_EXPIRE UINT32_C(2)   /* of thread */
+
+/* A step that is enabled, and once it was done, what it did (else outcome and ended_count are 0), and the threads whose calls ended. */
+typedef struct l4_step {
+    uint32_t refusal;
+    uint32_t kind;
+    uint32_t thread;
+    uint32_t receiver;
+    uint32_t outcome;
+    uint32_t ended_count;
+    uint32_t ended[2];
+} l4_step;
+
+/* The step that comes next where no call is started: the enabled transfer whose sender waits longest, and where there is none the
+ * enabled expiry of the least number; L4_NONE where no step is enabled. Refusals: B1. */
+l4_step l4_enabled(l4_kernel *kernel);
+
+/* Does that step. Refusals: B1. */
+l4_step l4_next(l4_kernel *kernel);
+
+/* A call that was started, and how many steps followed it. */
+typedef struct l4_entered {
+    l4_answer start;
+    uint32_t step_count;
+} l4_entered;
+
+/* Starts a call as l4_start does, and then does the steps that come next until there is none. The first `room` of them are written to
+ * steps; there are at most 64. After a refusal nothing is written. Refusals as of l4_start. */
+l4_entered l4_enter(l4_kernel *kernel, uint32_t thread, const l4_call *call, const uint32_t *words, size_t count, l4_step *steps, size_t room);
+
+/* Kinds of replies. */
+#define L4_REPLY_IPC UINT32_C(1)
+#define L4_REPLY_HIT UINT32_C(2)       /* a fault: the page is there with the rights that the access needs */
+#define L4_REPLY_ANSWERED UINT32_C(3)  /* a fault that the pager answered */
+#define L4_REPLY_FAILED UINT32_C(4)    /* a fault that failed: error says why */
+#define L4_REPLY_UNMAPPED UINT32_C(5)
+#define L4_REPLY_CONTROLLED UINT32_C(6)
+#define L4_REPLY_GONE UINT32_C(7)
+
+/* How a call ended; L4_NONE where there is no reply. Of an Ipc: the tag of its message (0x8000 where the call failed), the ErrorCode or
+ * 0, the sender's id or L4_NILTHREAD, and how many words follow the tag, at most 63. */
+typedef struct l4_reply {
+    uint32_t refusal;
+    uint32_t kind;
+    uint32_t tag;
+    uint32_t error;
+    uint32_t from;
+    uint32_t word_count;
+} l4_reply;
+
+/* The reply of the last ended call of a thread that runs. The first `room` words of the message after its tag are written to words.
+ * Refusals: B1. */
+l4_reply l4_reply_of(l4_kernel *kernel, uint32_t thread, uint32_t *words, size_t room);
+
+/* The number of a thread's space; there is 0 where there is no such thread. */
+typedef struct l4_space {
+    uint32_t refusal;
+    uint32_t there;
+    uint64_t space;
+} l4_space;
+
+/* The space of a thread. Refusals: B1. */
+l4_space l4_space_of(l4_kernel *kernel, uint32_t thread);
+
+/* What a page of a space shows; there is 0 where it isn't present. The parent is the page that it was mapped from, or the parent that a
+ * granted page brought with it. */
+typedef struct l4_mapping {
+    uint32_t refusal;
+    uint32_t there;
+    uint32_t frame;
+    uint32_t rights;
+    uint32_t has_parent;
+    uint32_t parent_page;
+    uint64_t parent_space;
+} l4_mapping;
+
+/* What a page of a space shows. Refusals: B1. */
+l4_mapping l4_mapping_of(l4_kernel *kernel, uint64_t space, uint32_t page);
+
+/* A page; there is 0 where there is none. */
+typedef struct l4_page {
+    uint32_t refusal;
+    uint32_t there;
+    uint32_t page;
+} l4_page;
+
+/* The least present page of a space that is not below `page`. Refusals: B1. */
+l4_page l4_next_page(l4_kernel *kernel, uint64_t space, uint32_t page);
+
+/* PLANS. No handle is needed. */
+
+/* The pages from `source` on go to the pages from `target` on, `count` pages, with these rights. */
+typedef struct l4_region {
+    uint32_t source;
+    uint32_t target;
+    uint32_t count;
+    uint32_t rights;
+} l4_region;
+
+/* A plan: the words of the message, from the tag on, that sends its items, and with each item a page of its own. */
+typedef struct l4_plan {
+    uint32_t refusal;
+    uint32_t word_count;
+    uint32_t page_count;
+    uint32_t words[L4_MAX_WORDS];
+    uint32_t pages[L4_TOO_MANY];
+} l4_plan;
+
+/* The shortest list of map items that moves exactly the region, with the pages that show that no list is shorter. Refusals in this
+ * order: N1, N2, N3, N4; after N4 the pages are 32 that show that each list has more than 31 items. */
+l4_plan l4_plan_region(const l4_region *region);
+
+/* Why a claim about a region doesn't hold; L4_OK where it is proved. */
+typedef struct l4_verdict {
+    uint32_t refusal;
+    uint32_t detail;
+} l4_verdict;
+
+/* Checks that the items of this message move exactly the region, and that these pages, one an item, show that no list of map items that
+ * does is shorter. The label and the untyped words aren't looked at. Refusals in this order: M7, M1, M5, M2, M4 or M3; C6, C1, C2, C5,
+ * C3, C4. */
+l4_verdict l4_check_plan(const l4_region *region, const uint32_t *words, size_t count, const uint32_t *pages, size_t page_count);
+
+/* Checks that these are 32 pages which show that each list of map items that moves exactly the region has more than 31. Refusals in
+ * this order: C6, C5, C3, C4. */
+l4_verdict l4_check_too_long(const l4_region *region, const uint32_t *pages, size_t page_count);
+
+#ifdef __cplusplus
+}
+#endif
+
+#endif
