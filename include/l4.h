@@ -222,7 +222,7 @@ l4_entered l4_enter(l4_kernel *kernel, uint32_t thread, const l4_call *call, con
 #define L4_REPLY_GONE UINT32_C(7)
 
 /* How a call ended; L4_NONE where there is no reply. Of an Ipc: the tag of its message (0x8000 where the call failed), the ErrorCode or
- * 0, the sender's id or L4_NILTHREAD, and how many words follow the tag, at most 63. */
+ * 0, the sender's id or L4_NILTHREAD, how many words follow the tag, at most 63, and those. */
 typedef struct l4_reply {
     uint32_t refusal;
     uint32_t kind;
@@ -230,11 +230,11 @@ typedef struct l4_reply {
     uint32_t error;
     uint32_t from;
     uint32_t word_count;
+    uint32_t words[L4_MAX_WORDS];
 } l4_reply;
 
-/* The reply of the last ended call of a thread that runs. The first `room` words of the message after its tag are written to words.
- * Refusals: B1. */
-l4_reply l4_reply_of(l4_kernel *kernel, uint32_t thread, uint32_t *words, size_t room);
+/* The reply of the last ended call of a thread that runs. Refusals: B1. */
+l4_reply l4_reply_of(l4_kernel *kernel, uint32_t thread);
 
 /* The number of a thread's space; there is 0 where there is no such thread. */
 typedef struct l4_space {

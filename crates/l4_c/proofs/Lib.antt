@@ -1,2 +1,5 @@
+pub mod Few
 pub mod Holding
+pub mod Lists
+pub mod Steps
 pub mod Values

@@ -1,11 +1,16 @@
 -- What calls from C do (this profile's own).
-use Rattle.std.specs.Prelude.{◌≡◌, ◌⊎◌, ℕ, ◌<◌, ◌≤◌, codes, Option, None, Some, Result}
+use Rattle.std.specs.Prelude.{◌≡◌, ◌⊎◌, ℕ, ◌<◌, ◌≤◌, List, codes, Option, None, Some, Result, Ok}
 use Rattle.l4_ipc.specs.Machine.{Machine, IsBoot}
-use Rattle.l4_ipc.specs.Steps.{Steps}
+use Rattle.l4_ipc.specs.Steps.{Steps, IsNext, IsIdle}
+use Rattle.l4_ipc.specs.declared.calls.Call.{Call}
+use Rattle.l4_ipc.specs.declared.steps.Step.TheVariants.{Start}
 use Rattle.l4_ipc.specs.declared.steps.Refused.{Refused}
 use Rattle.l4_ipc.specs.declared.steps.Answer.{Answer}
 use Rattle.l4_ipc.specs.declared.steps.Step.{Step}
-use Rattle.l4_c.specs.Told.{spelled, TellsRefusal, TellsStep}
+use Rattle.l4_c.specs.Called.{IsCall, IsNoKind}
+use Rattle.l4_c.specs.Told.{spelled, TellsRefusal, TellsStep, TellsNext, TellsDone}
+use Rattle.l4_c.specs.declared.calls.CallGiven.{CallGiven}
+use Rattle.l4_c.specs.declared.results.NextResult.{NextResult}
 use Rattle.l4_c.specs.declared.results.StepResult.{StepResult}
 
 -- a kernel that is held does the step, and what it gave is told; an empty handle is refused (B1)
@@ -22,3 +27,23 @@ Boots None frames number new =
     ((m : Machine) × (1 ≤ frames) × (frames ≤ 4096) × IsBoot frames m × (number ≡ 0) × (new ≡ Some m))
     ⊎ (((frames ≡ 0) ⊎ (4096 < frames)) × (number ≡ spelled (codes "K6")) × (new ≡ None))
     ⊎ ((1 ≤ frames) × (frames ≤ 4096) × (number ≡ spelled (codes "NoMemory")) × (new ≡ None))
+
+-- a thread of a kernel that is held starts the call that is given; an empty handle is refused (B1), and then a kind that is none (B3)
+abbrev pub Starts : Option Machine → ℕ → CallGiven → List ℕ → StepResult → Option Machine → Type 0
+Starts None thread g words r new = TellsRefusal (spelled (codes "B1")) 0 r × (new ≡ None)
+Starts (Some old) thread g words r new =
+    (IsNoKind g × TellsRefusal (spelled (codes "B3")) 0 r × (new ≡ Some old))
+    ⊎ ((call : Call) × IsCall g words call × Answers (Some old) (Start thread call) r new)
+
+-- the step that comes next, or none where none is enabled
+abbrev pub Names : Option Machine → NextResult → Type 0
+Names None r = (r.refusal ≡ spelled (codes "B1")) × (r.kind ≡ 0)
+Names (Some m) r = (r.refusal ≡ 0) × (((r.kind ≡ 0) × IsIdle m) ⊎ ((step : Step) × IsNext m step × TellsNext step r))
+
+-- the step that comes next is done, where one is enabled
+abbrev pub GoesOn : Option Machine → NextResult → Option Machine → Type 0
+GoesOn None r new = (r.refusal ≡ spelled (codes "B1")) × (r.kind ≡ 0) × (new ≡ None)
+GoesOn (Some old) r new =
+    ((r.refusal ≡ 0) × (r.kind ≡ 0) × IsIdle old × (new ≡ Some old))
+    ⊎ ((step : Step) × (answer : Answer) × (after : Machine)
+    × IsNext old step × Steps old step (Ok answer) after × TellsDone step answer r × (new ≡ Some after))

@@ -1,3 +1,5 @@
+pub mod Asked
+pub mod Called
 pub mod Exports
 pub mod Held
 pub mod Told

@@ -2,10 +2,13 @@
 use Rattle.std.specs.Prelude.{◌≡◌, ℕ, ◌+◌, ◌*◌, List, length, take, slice_index_or, Option, None, Some, Result, Ok, Err}
 use Rattle.l4_ipc.specs.declared.steps.Refused.{Refused}
 use Rattle.l4_ipc.specs.declared.steps.Answer.{Answer}
+use Rattle.l4_ipc.specs.declared.steps.Step.{Step}
+use Rattle.l4_ipc.specs.declared.steps.Step.TheVariants.{Start, Transfer, Expire}
 use Rattle.l4_ipc.specs.declared.steps.Outcome.{Outcome}
 use Rattle.l4_ipc.specs.declared.steps.Outcome.TheVariants.{Started, Done, NoWindow, Entangled, NoMemory, Expired}
 use Rattle.l4_answers.specs.Refusals.{kernel_refusal}
 use Rattle.l4_c.specs.declared.results.StepResult.{StepResult}
+use Rattle.l4_c.specs.declared.results.NextResult.{NextResult}
 
 -- a refusal's number is the first two bytes of its printed code
 abbrev pub spelled : List ℕ → ℕ
@@ -43,3 +46,17 @@ pub record TellsAnswer (answer : Answer) (r : StepResult) : Type 0 where
 abbrev pub TellsStep : Result Answer Refused → StepResult → Type 0
 TellsStep (Ok answer) r = TellsAnswer answer r
 TellsStep (Err e) r = TellsRefusal (spelled (kernel_refusal e).name) (carried (kernel_refusal e).number) r
+
+-- the step is told; no Start comes next
+abbrev pub TellsNext : Step → NextResult → Type 0
+TellsNext (Start n call) r = ⊥
+TellsNext (Transfer sender receiver) r = (r.kind ≡ 1) × (r.thread ≡ sender) × (r.receiver ≡ receiver)
+TellsNext (Expire n) r = (r.kind ≡ 2) × (r.thread ≡ n)
+
+-- a step that came next, and what it did
+pub record TellsDone (which : Step) (answer : Answer) (r : NextResult) : Type 0 where
+  pub step : TellsNext which r
+  pub refusal : r.refusal ≡ 0
+  pub outcome : r.outcome ≡ outcome_number answer.outcome
+  pub ended : take r.ended_count r.ended ≡ answer.ended.items
+  pub count : r.ended_count ≡ length answer.ended.items

@@ -1,14 +1,22 @@
 //! The kernel, plans and checks for C: `include/l4.h` declares these functions.
 #![tactic(auto)]
 
+mod asking;
+mod calls;
 mod kernels;
 mod loose;
 mod numbers;
 mod owning;
+mod replies;
 mod results;
 mod stepping;
 
+pub use asking::{l4_mapping_of, l4_next_page, l4_space_of};
+pub use calls::CallGiven;
 pub use kernels::KernelHandle;
 pub use owning::{l4_boot, l4_free};
-pub use results::StepResult;
-pub use stepping::{l4_expire, l4_transfer};
+pub use replies::l4_reply_of;
+pub use results::{
+    EnterResult, MappingResult, NextResult, PageResult, ReplyResult, SpaceResult, StepResult,
+};
+pub use stepping::{l4_enabled, l4_expire, l4_next, l4_start, l4_transfer};

@@ -1,10 +1,13 @@
 //! What calls give to C.
 ghost use Rattle.std.specs.Prelude.{◌≡◌, ◌≤◌, length, take};
 ghost use Rattle.l4_answers.specs.Refusals.{kernel_refusal};
-ghost use Rattle.l4_c.specs.Told.{spelled, carried, outcome_number, TellsRefusal, TellsAnswer, TellsStep};
+ghost use Rattle.std.specs.Prelude.{Ok};
+ghost use Rattle.l4_ipc.specs.Machine.{Machine};
+ghost use Rattle.l4_ipc.specs.Steps.{Steps, IsNext};
+ghost use Rattle.l4_c.specs.Told.{spelled, carried, outcome_number, TellsRefusal, TellsAnswer, TellsStep, TellsNext, TellsDone};
 
 use crate::numbers::{kernel_detail, kernel_number, outcome_number};
-use l4_ipc::{Answer, MAX_THREADS, Refused};
+use l4_ipc::{Answer, MAX_THREADS, MAX_WORDS, Refused, Step};
 
 /// What a step did, or why it was refused.
 #[repr(C)]
@@ -15,6 +18,71 @@ pub struct StepResult {
     pub outcome: u32,
     pub ended_count: u32,
     pub ended: [u32; MAX_THREADS],
+}
+
+/// A step that comes next, and what it did once it was done.
+#[repr(C)]
+#[derive(Clone, Copy)]
+pub struct NextResult {
+    pub refusal: u32,
+    pub kind: u32,
+    pub thread: u32,
+    pub receiver: u32,
+    pub outcome: u32,
+    pub ended_count: u32,
+    pub ended: [u32; 2],
+}
+
+/// A call that was entered.
+#[repr(C)]
+#[derive(Clone, Copy)]
+pub struct EnterResult {
+    pub start: StepResult,
+    pub step_count: u32,
+}
+
+/// How a call ended.
+#[repr(C)]
+#[derive(Clone, Copy)]
+pub struct ReplyResult {
+    pub refusal: u32,
+    pub kind: u32,
+    pub tag: u32,
+    pub error: u32,
+    pub from: u32,
+    pub word_count: u32,
+    pub words: [u32; MAX_WORDS],
+}
+
+/// The space of a thread.
+#[repr(C)]
+#[derive(Clone, Copy)]
+pub struct SpaceResult {
+    pub refusal: u32,
+    pub there: u32,
+    pub space: u64,
+}
+
+/// What a page shows.
+#[repr(C)]
+#[derive(Clone, Copy)]
+pub struct MappingResult {
+    pub refusal: u32,
+    pub there: u32,
+    pub frame: u32,
+    pub rights: u32,
+    pub has_parent: u32,
+    pub parent_page: u32,
+    pub parent_space: u64,
+}
+
+/// A page.
+#[repr(C)]
+#[derive(Clone, Copy)]
+pub struct PageResult {
+    pub refusal: u32,
+    pub there: u32,
+    pub page: u32,
 }
 
 /// A refusal.
@@ -30,16 +98,77 @@ pub fn refused(refusal: u32, detail: u32) -> StepResult
     }
 }
 
-/// The threads, and 0 after them.
-fn ended_array(threads: &[u32]) -> [u32; MAX_THREADS]
-    requires { length threads.now ≤ 64 }
+/// No step.
+pub fn no_step(refusal: u32) -> NextResult
+    ensures refusal { result.refusal ≡ refusal }
+    ensures kind { result.kind ≡ 0 }
+{
+    NextResult {
+        refusal,
+        kind: 0,
+        thread: 0,
+        receiver: 0,
+        outcome: 0,
+        ended_count: 0,
+        ended: [0; 2],
+    }
+}
+
+/// A step that comes next.
+pub fn step_told(step: &Step) -> NextResult
+    ensures step { (m : Machine) → IsNext m step.now → TellsNext step.now result }
+    ensures refusal { result.refusal ≡ 0 }
+{
+    let mut told = no_step(0);
+    match step {
+        Step::Transfer(sender, receiver) => {
+            told.kind = 1;
+            told.thread = *sender;
+            told.receiver = *receiver;
+        }
+        Step::Expire(thread) => {
+            told.kind = 2;
+            told.thread = *thread;
+        }
+        Step::Start(_, _) => {}
+    }
+    told
+}
+
+/// The threads whose calls ended in a step that came next, and 0 after them.
+fn ended_pair(threads: &[u32]) -> [u32; 2]
+    requires { length threads.now ≤ 2 }
     ensures { take (length threads.now) result ≡ threads.now }
 {
-    let mut ended = [0; MAX_THREADS];
-    for i in 0..threads.len() {
-        ended[i] = threads[i];
+    match threads {
+        [first, second] => [*first, *second],
+        [first] => [*first, 0],
+        _ => [0, 0],
     }
-    ended
+}
+
+/// A step that came next, and what it did.
+pub fn done_told(step: &Step, answer: &Answer) -> NextResult
+    requires { (old : Machine) × (new : Machine) × IsNext old step.now × Steps old step.now (Ok answer.now) new }
+    ensures { TellsDone step.now answer.now result }
+{
+    let mut told = step_told(step);
+    told.outcome = outcome_number(answer.outcome);
+    told.ended_count = answer.ended.len() as u32;
+    told.ended = ended_pair(answer.ended.as_slice());
+    told
+}
+
+/// The numbers, and 0 after them.
+pub fn padded<const N: usize>(numbers: &[u32]) -> [u32; N]
+    requires { length numbers.now ≤ N }
+    ensures { take (length numbers.now) result ≡ numbers.now }
+{
+    let mut all = [0; N];
+    for i in 0..numbers.len() {
+        all[i] = numbers[i];
+    }
+    all
 }
 
 /// An answer.
@@ -51,7 +180,7 @@ fn answered(answer: &Answer) -> StepResult
         detail: 0,
         outcome: outcome_number(answer.outcome),
         ended_count: answer.ended.len() as u32,
-        ended: ended_array(answer.ended.as_slice()),
+        ended: padded(answer.ended.as_slice()),
     }
 }
 

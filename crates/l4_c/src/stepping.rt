@@ -1,14 +1,16 @@
 //! Steps.
-ghost use Rattle.std.specs.Prelude.{◌≡◌, None, Some, Result, MatchOption};
+ghost use Rattle.std.specs.Prelude.{◌≡◌, ℕ, List, None, Some, Result, MatchOption};
 ghost use Rattle.l4_ipc.specs.Machine.{Machine};
 ghost use Rattle.l4_ipc.specs.Steps.{Steps};
 ghost use Rattle.l4_ipc.specs.declared.steps.Step.TheVariants.{Transfer, Expire};
 ghost use Rattle.l4_c.specs.Told.{spelled, TellsRefusal};
-ghost use Rattle.l4_c.specs.Exports.{Answers};
+ghost use Rattle.l4_c.specs.Called.{IsNoKind};
+ghost use Rattle.l4_c.specs.Exports.{Answers, Starts, Names, GoesOn};
 
+use crate::calls::{CallGiven, call_of};
 use crate::kernels::KernelHandle;
-use crate::numbers::EMPTY;
-use crate::results::{StepResult, refused, told};
+use crate::numbers::{EMPTY, NO_SUCH_CALL};
+use crate::results::{NextResult, StepResult, done_told, no_step, refused, step_told, told};
 use l4_ipc::Step;
 use std::alloc::Global;
 
@@ -43,4 +45,65 @@ pub extern "C" fn l4_expire(alloc: Global, handle: &mut KernelHandle, thread: u3
     ensures { Answers handle.old.value (Expire thread) result handle.new.value }
 {
     step(alloc, handle, &Step::Expire(thread))
+}
+
+/// Refuses a call of no kind.
+fn refuse_kind(alloc: Global, handle: &mut KernelHandle) -> StepResult
+    ensures { (thread : ℕ) (g : CallGiven) (words : List ℕ) → IsNoKind g → Starts handle.old.value thread g words result handle.new.value }
+{
+    let Some(kernel) = handle.take(alloc) else {
+        return refused(EMPTY, 0);
+    };
+    handle.put(kernel);
+    refused(NO_SUCH_CALL, 0)
+}
+
+/// Starts a call of a thread.
+#[unsafe(no_mangle)]
+pub extern "C" fn l4_start(
+    alloc: Global,
+    handle: &mut KernelHandle,
+    thread: u32,
+    call: &CallGiven,
+    words: &[u32],
+) -> StepResult
+    ensures { Starts handle.old.value thread call.now words.now result handle.new.value }
+{
+    match call_of(call, words) {
+        Some(entered) => step(alloc, handle, &Step::Start(thread, entered)),
+        None => refuse_kind(alloc, handle),
+    }
+}
+
+/// The step that comes next.
+#[unsafe(no_mangle)]
+pub extern "C" fn l4_enabled(alloc: Global, handle: &mut KernelHandle) -> NextResult
+    ensures kept { handle.new.value ≡ handle.old.value }
+    ensures named { Names handle.old.value result }
+{
+    let Some(kernel) = handle.take(alloc) else {
+        return no_step(EMPTY);
+    };
+    let enabled = kernel.enabled();
+    handle.put(kernel);
+    match enabled {
+        Some(step) => step_told(&step),
+        None => no_step(0),
+    }
+}
+
+/// Does the step that comes next.
+#[unsafe(no_mangle)]
+pub extern "C" fn l4_next(alloc: Global, handle: &mut KernelHandle) -> NextResult
+    ensures { GoesOn handle.old.value result handle.new.value }
+{
+    let Some(mut kernel) = handle.take(alloc) else {
+        return no_step(EMPTY);
+    };
+    let done = kernel.step_next();
+    handle.put(kernel);
+    match done {
+        Some((step, answer)) => done_told(&step, &answer),
+        None => no_step(0),
+    }
 }

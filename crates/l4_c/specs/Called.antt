@@ -1,0 +1,22 @@
+-- The calls that C gives (this profile's own).
+use Rattle.std.specs.Prelude.{◌≡◌, ◌⊎◌, ℕ, ◌<◌, List, take}
+use Rattle.l4_fpage.specs.Rights.{set_of_bits}
+use Rattle.l4_ipc.specs.declared.calls.Call.{Call}
+use Rattle.l4_ipc.specs.declared.calls.Call.TheVariants.{Ipc, Fault, Unmap, Control as Controls}
+use Rattle.l4_ipc.specs.declared.calls.Control.TheVariants.{Create, SetPager, Delete}
+use Rattle.l4_c.specs.declared.calls.CallGiven.{CallGiven}
+
+-- the kind is none of the six
+abbrev pub IsNoKind : CallGiven → Type 0
+IsNoKind g = (g.kind ≡ 0) ⊎ (6 < g.kind)
+
+-- The call that is given by its kind, its members and the words, of which those beyond the first 64 mean nothing.
+abbrev pub IsCall : CallGiven → List ℕ → Call → Type 0
+IsCall g words (Ipc call) =
+    (g.kind ≡ 1) × (call.to.0 ≡ g.to) × (call.«from».0 ≡ g.«from») × (call.timeouts ≡ g.timeouts) × (call.acceptor ≡ g.acceptor)
+    × (call.words.items ≡ take 64 words)
+IsCall g words (Fault call) = (g.kind ≡ 2) × (call.address ≡ g.address) × (call.ip ≡ g.ip) × (call.access ≡ set_of_bits g.access)
+IsCall g words (Unmap call) = (g.kind ≡ 3) × (call.control ≡ g.control) × (call.words.items ≡ take 64 words)
+IsCall g words (Controls (Create c)) = (g.kind ≡ 4) × (c.id.0 ≡ g.id) × (c.space.0 ≡ g.space) × (c.pager.0 ≡ g.pager)
+IsCall g words (Controls (SetPager c)) = (g.kind ≡ 5) × (c.id.0 ≡ g.id) × (c.pager.0 ≡ g.pager)
+IsCall g words (Controls (Delete id)) = (g.kind ≡ 6) × (id.0 ≡ g.id)

@@ -1,0 +1,146 @@
+//! Questions about a kernel.
+ghost use Rattle.std.specs.Prelude.{◌≡◌, None, Some, MatchOption};
+ghost use Rattle.l4_threads.specs.Threads.{space_of};
+ghost use Rattle.l4_mapdb.specs.Mappings.{shown};
+ghost use Rattle.l4_mapdb.specs.Places.{NonePresentFrom, IsNextPresent};
+ghost use Rattle.l4_c.specs.Asked.{TellsSpace, TellsMapping, TellsPage, IsSpaceOf, IsMappingOf};
+
+use crate::kernels::KernelHandle;
+use crate::numbers::EMPTY;
+use crate::results::{MappingResult, PageResult, SpaceResult};
+use l4_ipc::Mapping;
+use std::alloc::Global;
+
+/// A space that was found.
+fn space_told(found: Option<u64>) -> SpaceResult
+    ensures { IsSpaceOf found result }
+{
+    match found {
+        Some(space) => SpaceResult {
+            refusal: 0,
+            there: 1,
+            space,
+        },
+        None => SpaceResult {
+            refusal: 0,
+            there: 0,
+            space: 0,
+        },
+    }
+}
+
+/// The space of a thread.
+#[unsafe(no_mangle)]
+pub extern "C" fn l4_space_of(alloc: Global, handle: &mut KernelHandle, thread: u32) -> SpaceResult
+    ensures kept { handle.new.value ≡ handle.old.value }
+    ensures told { TellsSpace handle.old.value thread result }
+{
+    let Some(kernel) = handle.take(alloc) else {
+        return SpaceResult {
+            refusal: EMPTY,
+            there: 0,
+            space: 0,
+        };
+    };
+    let found = kernel.space_of(thread);
+    handle.put(kernel);
+    space_told(found)
+}
+
+/// A mapping.
+fn mapping_there(mapping: &Mapping) -> MappingResult
+    ensures { IsMappingOf (Some mapping.now) result }
+{
+    let (has_parent, parent_page, parent_space) = match mapping.parent {
+        Some(place) => (1, place.page, place.space),
+        None => (0, 0, 0),
+    };
+    MappingResult {
+        refusal: 0,
+        there: 1,
+        frame: mapping.frame,
+        rights: u32::from(mapping.rights.bits()),
+        has_parent,
+        parent_page,
+        parent_space,
+    }
+}
+
+/// No mapping.
+fn no_mapping(refusal: u32) -> MappingResult
+    ensures refusal { result.refusal ≡ refusal }
+    ensures there { result.there ≡ 0 }
+{
+    MappingResult {
+        refusal,
+        there: 0,
+        frame: 0,
+        rights: 0,
+        has_parent: 0,
+        parent_page: 0,
+        parent_space: 0,
+    }
+}
+
+/// A mapping that was found.
+fn mapping_told(found: Option<Mapping>) -> MappingResult
+    ensures { IsMappingOf found result }
+{
+    match found {
+        Some(mapping) => mapping_there(&mapping),
+        None => no_mapping(0),
+    }
+}
+
+/// What a page of a space shows.
+#[unsafe(no_mangle)]
+pub extern "C" fn l4_mapping_of(
+    alloc: Global,
+    handle: &mut KernelHandle,
+    space: u64,
+    page: u32,
+) -> MappingResult
+    ensures kept { handle.new.value ≡ handle.old.value }
+    ensures told { TellsMapping handle.old.value space page result }
+{
+    let Some(kernel) = handle.take(alloc) else {
+        return no_mapping(EMPTY);
+    };
+    let found = kernel.mapping(space, page);
+    handle.put(kernel);
+    mapping_told(found)
+}
+
+/// The least present page of a space that is not below this one.
+#[unsafe(no_mangle)]
+pub extern "C" fn l4_next_page(
+    alloc: Global,
+    handle: &mut KernelHandle,
+    space: u64,
+    page: u32,
+) -> PageResult
+    ensures kept { handle.new.value ≡ handle.old.value }
+    ensures told { TellsPage handle.old.value space page result }
+{
+    let Some(kernel) = handle.take(alloc) else {
+        return PageResult {
+            refusal: EMPTY,
+            there: 0,
+            page: 0,
+        };
+    };
+    let found = kernel.next_page(space, page);
+    handle.put(kernel);
+    match found {
+        Some(page) => PageResult {
+            refusal: 0,
+            there: 1,
+            page,
+        },
+        None => PageResult {
+            refusal: 0,
+            there: 0,
+            page: 0,
+        },
+    }
+}
