@@ -35,7 +35,7 @@ impl Model for Kernel {
 }
 
 impl Kernel {
-    ghost use Rattle.l4_threads.specs.Threads.{space_of, IsConsistent};
+    ghost use Rattle.l4_threads.specs.Threads.{runs, space_of, IsConsistent};
     ghost use Rattle.l4_mapdb.specs.Mappings.{shown, IsForest};
     ghost use Rattle.l4_mapdb.specs.Places.{NonePresentFrom, IsNextPresent};
     ghost use Rattle.l4_ipc.specs.Machine.{IsBoot};
@@ -165,6 +165,16 @@ impl Kernel {
         match self.threads.state(number)? {
             State::Running(Some(reply)) => Some(reply),
             _ => None,
+        }
+    }
+
+    /// Whether there is a thread of this number that runs: it waits for nobody.
+    pub fn runs(&self, number: u32) -> bool
+        ensures { result ≡ runs self.now.threads number }
+    {
+        match self.threads.state(number) {
+            Some(state) => state.is_running(),
+            None => false,
         }
     }
 

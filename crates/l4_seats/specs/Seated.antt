@@ -1,7 +1,8 @@
 -- A locked kernel whose seats are all in one hand, as one value, and what its calls do. (this profile's own)
-use Rattle.std.specs.Prelude.{◌≡◌, ℕ, ◌<◌, ◌≤◌, ◌⊎◌, true, false, if◌then◌else◌, List, [], ◌∷◌, ◌++◌, length, map, Ok, Err, Contains, refl}
+use Rattle.std.specs.Prelude.{◌≡◌, ℕ, ◌<◌, ◌≤◌, ◌⊎◌, true, false, if◌then◌else◌, List, [], ◌∷◌, ◌++◌, length, map, Ok, Err, Contains, IsTrue, refl}
 use Rattle.std.specs.Coded.{Coded, code_by, coded×, coded_ℕ, coded_list}
 use Rattle.l4_threads.specs.declared.Thread.{Thread}
+use Rattle.l4_threads.specs.Threads.{runs}
 use Rattle.l4_ipc.specs.declared.calls.Call.{Call}
 use Rattle.l4_ipc.specs.declared.steps.Step.TheVariants.{Start}
 use Rattle.l4_ipc.specs.declared.steps.Answer.{Answer}
@@ -43,6 +44,10 @@ with_number numbers n = if is_among n numbers then numbers else numbers ++ n ∷
 -- the number has its seat, and a history of so many entries has room for another call
 abbrev pub CanEnter : ℕ → List ℕ → ℕ → Type 0
 CanEnter entries numbers n = (is_among n numbers ≡ true) × (entries ≤ last_start)
+
+-- a call of the number's thread may be entered: the thread runs besides
+abbrev pub MayEnter : Machine → ℕ → List ℕ → ℕ → Type 0
+MayEnter m entries numbers n = CanEnter entries numbers n × IsTrue (runs m.threads n)
 
 -- Why a call is not entered: its number has no seat, else the history is full, else a growth was refused or the kernel refuses it. That a
 -- reply waits to be taken or that a seat was given before never comes.

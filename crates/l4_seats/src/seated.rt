@@ -1,12 +1,12 @@
 //! The kernel with its history, its board's watch and all its seats.
-ghost use Rattle.std.specs.Prelude.{◌≡◌, ◌≤◌, ◌<◌, ◌++◌, ◌∷◌, [], false, IfOk, IfErr, MatchResult, length};
+ghost use Rattle.std.specs.Prelude.{◌≡◌, ◌≤◌, ◌<◌, ◌++◌, ◌∷◌, [], ◌↔◌, false, IsTrue, IfOk, IfErr, MatchResult, length};
 ghost use Rattle.l4_lock.specs.Books.{is_among};
 ghost use Rattle.l4_lock.specs.Locked.{RefusesBoot};
-ghost use Rattle.l4_seats.specs.Seated.{IsNew, with_number, Refuses, Enters};
+ghost use Rattle.l4_seats.specs.Seated.{IsNew, with_number, MayEnter, Refuses, Enters};
 
 use crate::keeping::{enter_at, position};
 use l4_ipc::{Call, Kernel, NoMemory, Refused};
-use l4_lock::{Board, History, LockRefusal, Locked, Seat, Watch};
+use l4_lock::{Board, History, LockRefusal, Locked, MAX_ENTRIES, MAX_STEPS, Seat, Watch};
 use std::alloc::Global;
 use std::marker::Model;
 
@@ -89,6 +89,20 @@ impl SeatedKernel {
         };
         self.seats.push_reserved(seat);
         Ok(())
+    }
+
+    /// Whether a call of the number's thread may be entered now: the number has its seat, the history has room for the call, and the thread
+    /// runs.
+    pub fn may_enter(&self, number: u32) -> bool
+        ensures { IsTrue result ↔ MayEnter self.now.machine (length self.now.history) self.now.numbers number }
+    {
+        let Some(_) = position(self.seats.as_slice(), number) else {
+            return false;
+        };
+        if self.locked.history().len() >= MAX_ENTRIES - MAX_STEPS {
+            return false;
+        }
+        self.locked.kernel().runs(number)
     }
 
     /// Enters a call of the number's thread: its start and then the steps that come next, until there is none. The replies of the calls

@@ -1,5 +1,5 @@
 -- Who is served, and by which tables (this profile's own).
-use Rattle.std.specs.Prelude.{ℕ, Bool, List, [], ◌∷◌, ◌++◌, refl}
+use Rattle.std.specs.Prelude.{◌≡◌, ℕ, Bool, List, [], ◌∷◌, ◌++◌, None, refl}
 use Rattle.std.specs.Option.{unwrap_or}
 use Rattle.std.specs.Ordering.{nat_cmp}
 use Rattle.std.specs.Coded.{Coded, code_by, coded×, coded_ℕ, coded_list}
@@ -48,7 +48,11 @@ with_served s thread = servers s.owners s.tables (set.insert s.served thread)
 abbrev pub without : Servers → ℕ → Servers
 without s thread = servers s.owners (fin.remove s.tables thread) (set.remove s.served thread)
 
--- why a region isn't added; want of memory comes last
+-- the thread has no table
+abbrev pub HasNoTable : Servers → ℕ → Type 0
+HasNoTable s thread = fin.get s.tables thread ≡ None
+
+-- why a region isn't added; want of memory comes last, and only where the thread's first region needs a table
 abbrev pub RegionFails : Servers → ℕ → Entry → RegionRefusal → Type 0
 RegionFails s thread entry (Pager refusal) = AddFails (regions_of s thread) entry refusal
-RegionFails s thread entry NoMemory = CanAdd (regions_of s thread) entry
+RegionFails s thread entry NoMemory = CanAdd (regions_of s thread) entry × HasNoTable s thread

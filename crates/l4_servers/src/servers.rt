@@ -80,8 +80,8 @@ impl Servers {
         }
     }
 
-    /// Adds a region to a thread's table. The refusals are the table's, in its order, and then want of memory. A region that is
-    /// refused changes nothing.
+    /// Adds a region to a thread's table. The refusals are the table's, in its order, and then want of memory, which comes for the
+    /// thread's first region alone. A region that is refused changes nothing.
     pub fn add_region(&mut self, thread: u32, entry: Entry) -> Result<(), RegionRefusal>
         ensures { MatchResult result
             (λ _. CanAdd (regions_of self.old thread) entry × (self.new ≡ with_region self.old thread entry))
@@ -103,11 +103,12 @@ impl Servers {
         Ok(())
     }
 
-    /// The thread is served from now on. Answers whether it was not before.
+    /// The thread is served from now on. Answers whether it was not before. Want of memory comes only where it was not, and then nothing
+    /// changes.
     pub fn serve(&mut self, thread: u32) -> Result<bool, NoMemory>
         ensures { MatchResult result
             (λ begins. (begins ≡ not (is_served self.old thread)) × (self.new ≡ with_served self.old thread) × (begins ≡ false → self.new ≡ self.old))
-            (λ _. self.new ≡ self.old) }
+            (λ _. (is_served self.old thread ≡ false) × (self.new ≡ self.old)) }
     {
         let Ok(begins) = self.served.insert(thread) else {
             return Err(NoMemory);

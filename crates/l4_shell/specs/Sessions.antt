@@ -17,7 +17,7 @@ use Rattle.l4_ipc.specs.Reading.{reply_of}
 use Rattle.l4_ipc.specs.Steps.{Steps, IsIdle}
 use Rattle.l4_ipc.specs.Following.{Done, AreNext}
 use Rattle.l4_lock.specs.declared.refusals.LockRefusal.{LockRefusal}
-use Rattle.l4_seats.specs.Seated.{Seated, with_number, CanEnter, Refuses as RefusesCall}
+use Rattle.l4_seats.specs.Seated.{Seated, with_number, CanEnter, MayEnter, Refuses as RefusesCall}
 use Rattle.l4_shell.specs.declared.commands.Command.{Command}
 use Rattle.l4_shell.specs.declared.commands.ScriptFault.{ScriptFault}
 use Rattle.l4_shell.specs.declared.requests.Request.{Request}
@@ -37,7 +37,7 @@ use Rattle.l4_plan.specs.declared.plans.PlanRefusal.{PlanRefusal}
 use Rattle.l4_pager.specs.Regions.{CanAdd}
 use Rattle.l4_pager.specs.Serving.{waiting}
 use Rattle.l4_pager.specs.declared.regions.Entry.{Entry}
-use Rattle.l4_servers.specs.Servers.{Servers, no_servers, regions_of, with_region, with_served, without, RegionFails}
+use Rattle.l4_servers.specs.Servers.{Servers, no_servers, regions_of, is_served, with_region, with_served, without, RegionFails}
 use Rattle.l4_servers.specs.Acting.{NoneReady, ActsNext}
 use Rattle.l4_servers.specs.declared.servers.RegionRefusal.{RegionRefusal}
 
@@ -210,10 +210,16 @@ Creates old line number call text new =
 
 -- PAGERS
 
+-- There was no memory for one more served thread, whose call would else have been entered: so whatever else it is refused for comes before.
+pub record LacksRoom (old : Session) (line thread : ℕ) (text : List ℕ) (new : Session) : Type 0 where
+  pub first : is_served old.servers thread ≡ false
+  pub may : MayEnter old.machine old.entries old.numbers thread
+  pub lacks : LacksMemory old line text new
+
 -- a thread waits for anybody's message, and is served from then on
 abbrev pub ServesThread : Session → ℕ → ℕ → List ℕ → Session → Type 0
 ServesThread old line thread text new =
-    Follows old thread waiting (with_served old.servers thread) text new ⊎ (Refuses old line thread waiting text new ⊎ LacksMemory old line text new)
+    Follows old thread waiting (with_served old.servers thread) text new ⊎ (Refuses old line thread waiting text new ⊎ LacksRoom old line thread text new)
 
 -- the region was added
 abbrev pub RegionAdded : Session → ℕ → Entry → List ℕ → Session → Type 0

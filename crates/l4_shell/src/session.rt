@@ -1,11 +1,12 @@
 //! Script lines over a kernel.
-ghost use Rattle.std.specs.Prelude.{◌≡◌, ℕ, List, MatchOption};
+ghost use Rattle.std.specs.Prelude.{◌≡◌, ◌⊎◌, ℕ, List, false, MatchOption};
 ghost use Rattle.l4_text.specs.Streams.{Tells};
 ghost use Rattle.l4_text.specs.Tokens.{tokens_of};
 ghost use Rattle.l4_shell.specs.Requests.{is_comment, is_empty, asked_at};
-ghost use Rattle.l4_shell.specs.Sessions.{session, Enters, Creates, Deletes, ServesThread, AddsRegion, place_text, ListsBelow, Shows, parent_answer, Delegates, TellsCount, CarriesOut, AnswersLine};
+ghost use Rattle.l4_shell.specs.Sessions.{session, Enters, Creates, Deletes, ServesThread, AddsRegion, place_text, ListsBelow, Shows, parent_answer, Delegates, TellsCount, CarriesOut, AnswersLine, Refuses, LacksRoom};
 ghost use Rattle.l4_shell.specs.Inside.Telling.{TellsCall, TellsRefusal};
-ghost use Rattle.l4_servers.specs.Servers.{Servers as AllServers};
+ghost use Rattle.l4_pager.specs.Serving.{waiting};
+ghost use Rattle.l4_servers.specs.Servers.{Servers as AllServers, is_served};
 
 use crate::commands::{Command, ScriptFault, read_command};
 use crate::delegations::plan_words;
@@ -137,6 +138,24 @@ fn end_thread<W: Write>(
     follow(kernel, servers, ROOT, ended, out, writer);
 }
 
+/// Refuses to serve a thread for which there is no memory: by whatever its call is refused for, and last for want of memory.
+fn refuse_to_serve<W: Write>(
+    kernel: &mut SeatedKernel,
+    line: u64,
+    thread: u32,
+    out: &mut Output,
+    writer: &mut W,
+)
+    ensures { (s : AllServers) → is_served s thread ≡ false → (text : List ℕ)
+        × (Refuses (session kernel.old s) line thread waiting text (session kernel.new s) ⊎ LacksRoom (session kernel.old s) line thread text (session kernel.new s))
+        × Tells (W.contents writer.old) (W.contents writer.new) out.old out.new text }
+{
+    if kernel.may_enter(thread) {
+        return out.put(writer, &refused_text(line, &memory_code()));
+    }
+    let _ = start(kernel, line, thread, wait(), out, writer);
+}
+
 /// A thread waits for anybody's message, and is served from then on.
 fn serve_thread<W: Write>(
     kernel: &mut SeatedKernel,
@@ -150,7 +169,7 @@ fn serve_thread<W: Write>(
         × Tells (W.contents writer.old) (W.contents writer.new) out.old out.new text }
 {
     let Ok(begins) = servers.serve(thread) else {
-        return out.put(writer, &refused_text(line, &memory_code()));
+        return refuse_to_serve(kernel, line, thread, out, writer);
     };
     let Some(ended) = start(kernel, line, thread, wait(), out, writer) else {
         if begins {

@@ -1,11 +1,10 @@
-use Rattle.std.proofs.Common.{◌≡◌, true, false, rules, refl, inl, inr, ◌∙◌, ap}
-use Rattle.l4_answers.specs.Refusals.{refused_text}
+use Rattle.std.proofs.Common.{◌≡◌, true, false, rules, inl, inr}
 use Rattle.l4_shell.proofs.Going.{follows_on, refuses_on}
-use Rattle.l4_shell.proofs.Served.{lacks, not_served}
+use Rattle.l4_shell.proofs.Served.{serves_not, not_served}
 use Rattle.l4_shell.proofs.session.serve_thread.Goals as goal
 
 pub returns-in_default : goal.returns-in_default
-returns-in_default g c = lacks _ _ _ _ _ _ _ _ _ _ c.in_default.ensures (c.refused_text.ensures ∙ ap (refused_text c.args.line) c.memory_code.ensures) c.put.ensures
+returns-in_default g c = serves_not _ _ c.args.servers.now _ _ _ _ _ _ _ c.in_default.ensures.1 (c.refuse_to_serve.ensures c.args.servers.now c.in_default.ensures.0)
 
 pub returns-then-begins : goal.returns-then-begins
 returns-then-begins g c =

@@ -6,7 +6,7 @@ use Rattle.std.specs.BTreeMap.{BTreeMap, is_at}
 use Rattle.std.proofs.lemmas.Map.Steps.{set_value_same}
 use Rattle.l4_pager.specs.declared.regions.Entry.{Entry}
 use Rattle.l4_pager.specs.Regions.{AddFails, CanAdd}
-use Rattle.l4_servers.proofs.Kept.{has_regions, no_regions, region_added, same_tables}
+use Rattle.l4_servers.proofs.Kept.{has_regions, no_regions, no_table, region_added, same_tables}
 use Rattle.l4_servers.proofs.servers.Servers.add_region.Goals as goal
 
 pub returns-in_default-add : goal.returns-in_default-add
@@ -34,7 +34,10 @@ returns-in-Err-add c = (
 
 pub returns-in_default-insert : goal.returns-in_default-insert
 returns-in_default-insert c = (
-  subst (λ (es : List Entry). CanAdd es c.args.entry) (c.new-table.ensures ∙ no_regions _ _ _ _ _ c.self.view_is c.in_default.ensures.value) c.in_default-add-2.ensures.0,
+  (
+    subst (λ (es : List Entry). CanAdd es c.args.entry) (c.new-table.ensures ∙ no_regions _ _ _ _ _ c.self.view_is c.in_default.ensures.value) c.in_default-add-2.ensures.0,
+    no_table _ _ _ _ _ c.self.view_is c.in_default.ensures.value,
+  ),
   same_tables _ _ _ _ _ c.self.view_is (c.in_default-insert.ensures.err ∙ ap (λ (m : BTreeMap ℕ (List Entry)). m.entries) c.get_mut.follows.holds-at-none),
 )
 
