@@ -151,6 +151,9 @@ pub(crate) fn next_page(tables: &Vec<Vec<Option<usize>>>, page: u32, end: u32) -
     requires full { length tables.now.items ≤ space_tables }
     ensures { MatchOption result (NoneIn tables.now.items page end) (IsFirstIn tables.now.items page end) }
 {
+    if page >= end {
+        return None;
+    }
     let first = (page / TABLE_PAGES) as usize;
     for high in first..tables.len() {
         let start = high as u32 * TABLE_PAGES;
