@@ -5,7 +5,6 @@ pub mod Deletes
 pub mod Items
 pub mod Faults
 pub mod SoundKept
-pub mod Running
 pub mod Work
 pub mod Waiting
 pub mod Unmaps

@@ -20,9 +20,6 @@ use Rattle.l4_links.proofs.Walking.{low_stays, node_from_limb, limb_in}
 abbrev limb_of : Node → Limb
 limb_of n = record { parent = n.parent; depth = n.depth }
 
-abbrev link_of : Node → Link
-link_of n = record { prev = n.prev; next = n.next }
-
 abbrev worth_of : Node → Worth
 worth_of n = record { frame = n.frame; rights = n.rights; source = n.source; granted = n.granted }
 
@@ -186,10 +183,6 @@ within_root old new ks worth key f within r c k p x l h is up v w = elim (cases_
       let pk : p ≢ key = λ e. (let z : ◌≡◌ {A = Option Limb} None (Some above.0) = sym r.vacant ∙ sym (ap (limbs old) e) ∙ above.1 in absurd (let q : ◌≡◌ {A = Option Limb} None (Some above.0) = z in cc)) in
       within k p x l h was up (sym (c.values_same k ne) ∙ v) (sym (c.values_same p pk) ∙ w)
 ]
-
-all_same : (b : Bool) → b && b ≡ b
-all_same true = refl
-all_same false = refl
 
 all_with : (a c : Bool) → (a && c) && a ≡ a && c
 all_with true true = refl
@@ -406,9 +399,6 @@ sound_cleared old new first after stamp fresh walk top s p f =
       λ e. no_some x (sym (ap (option_map F) (ap (node_at new) e ∙ p.here)) ∙ is),
       λ l. no_some x (sym (ap (option_map F) (p.gone k l)) ∙ is),
     )
-
-pub some_node : {o : Option Node} {n : Node} → o ≡ Some n → o ≢ None
-some_node {o} {n} e none = let w : ◌≡◌ {A = Option Node} (Some n) None = sym e ∙ none in absurd (let z : ◌≡◌ {A = Option Node} (Some n) None = w in cc)
 
 -- a slot whose page is wanted or not has the same node
 pub nodes_wanted : (old new : Slots) (key : ℕ) (wanted : Bool) → SetsWanted key wanted old new → (k : ℕ) → node_at new k ≡ node_at old k

@@ -7,7 +7,6 @@ pub mod Linking
 pub mod Neighbours
 pub mod Cutting
 pub mod Walking
-pub mod Places
 pub mod Seeking
 pub mod Clearing
 pub mod Depths

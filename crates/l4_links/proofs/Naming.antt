@@ -10,7 +10,7 @@ use Rattle.std.specs.FinMap as map
 use Rattle.std.specs.FinSet as set
 use Rattle.l4_fpage.specs.Rights.{RightsSet}
 use Rattle.l4_spaces.specs.Tables as tables
-use Rattle.l4_spaces.specs.Tables.{Tables, NonePresentFrom, IsNextPresent, NonePresentIn, IsNextIn, IsSpace, IsPage}
+use Rattle.l4_spaces.specs.Tables.{Tables, NonePresentFrom, IsNextPresent, NonePresentIn, IsNextIn, IsPage}
 use Rattle.l4_spaces.proofs.Below.{places_total, tie, untie, apart, decided, is_equal}
 use Rattle.l4_links.specs.declared.Place.{Place}
 use Rattle.l4_links.specs.declared.Entry.{Entry}
@@ -177,9 +177,6 @@ named_moved old new before between after from to key blank names other was was_t
         ]
       ],
     )))
-
-no_spot : {X : Type 0} (s : Spot) → ◌≡◌ {A = Option Spot} None (Some s) → X
-no_spot s e = absurd (let w : ◌≡◌ {A = Option Spot} None (Some s) = e in cc)
 
 -- what is known of the spots, known of the places
 spot_from : (slots : Slots) (k : ℕ) (s : Spot) → spots slots k ≡ Some s → places slots k ≡ Some s.place

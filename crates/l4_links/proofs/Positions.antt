@@ -20,22 +20,6 @@ position_within (x ∷ xs) a i = elim (cases_eq x a) [
       omega (arith, h, r)
 ]
 
--- two keys of the list don't stand in one place
-pub position_apart : (xs : List ℕ) (a b : ℕ) → IsIn xs a → position xs a ≡ position xs b → a ≡ b
-position_apart [] a b i e = absurd i
-position_apart (x ∷ xs) a b i e = elim (cases_eq x a) [
-  | inl xa ↦ elim (cases_eq x b) [
-    | inl xb ↦ sym xa ∙ xb
-    | inr nb ↦ absurd (let p = position_here x xs a xa in let q = position_further x xs b nb in omega (arith, e, p, q))
-  ]
-  | inr na ↦ elim (cases_eq x b) [
-    | inl xb ↦ absurd (let p = position_further x xs a na in let q = position_here x xs b xb in omega (arith, e, p, q))
-    | inr nb ↦
-        position_apart xs a b (elim i [ inl y ↦ absurd (na y) | inr j ↦ j ])
-        (let p = position_further x xs a na in let q = position_further x xs b nb in omega (arith, e, p, q))
-  ]
-]
-
 pub position_parted : (xs : List ℕ) (k : ℕ) (ys : List ℕ) → ¬ (IsIn xs k) → position (xs ++ k ∷ ys) k ≡ length xs
 position_parted [] k ys out = position_here k ys k refl
 position_parted (x ∷ xs) k ys out =

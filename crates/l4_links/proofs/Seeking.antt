@@ -372,12 +372,3 @@ seek_at_key old cur top depth stamp count key head low c at d at_low le = record
   at_top = at;
   depth_is = d;
 }
-
-pub sought_stamped : (old cur middle new : Slots) (top depth stamp count : ℕ) (at : Option ℕ) → HasSought old cur top depth stamp at count → Closes top stamp at cur middle → Sees top stamp middle new → IsStamped stamp new
-sought_stamped old cur middle new top depth stamp count at h w z =
-    stamped_at (λ (n : Node). record n { seen = stamp }) stamp (λ n m s. (m, omega arith)) top middle new z.here z.others
-    (stamped_at (λ (n : Node). record n { mark = stamp; end = at }) stamp (λ n m s. (omega arith, s)) top cur middle w.here w.others h.walk.stamped)
-
-pub sought_same : (old cur middle new : Slots) (top depth stamp count : ℕ) (at : Option ℕ) → HasSought old cur top depth stamp at count → Closes top stamp at cur middle → Sees top stamp middle new → IsSame old new
-sought_same old cur middle new top depth stamp count at h w z =
-    same_on old middle new (same_on old cur middle h.walk.still (closes_same top stamp at cur middle w)) (sees_same top stamp middle new z)

@@ -1,5 +1,5 @@
 -- What a contract sees of the slots, piece by piece.
-use Rattle.std.proofs.Common.{◌≡◌, ◌≢◌, ℕ, Bool, true, false, if◌then◌else◌, Option, Some, None, refl, sym, ap, ◌∙◌, subst}
+use Rattle.std.proofs.Common.{◌≡◌, ℕ, Bool, true, false, if◌then◌else◌, Option, Some, None, refl, sym, ap, ◌∙◌, subst}
 use Rattle.std.proofs.Math.ListN.{get_or-map}
 use Rattle.std.specs.Option.{option_map, option_and_then}
 use Rattle.l4_fpage.specs.Rights.{RightsSet}
@@ -10,7 +10,7 @@ use Rattle.l4_links.specs.declared.nodes.Slot.{Slot}
 use Rattle.l4_links.specs.Leads.{Leads}
 use Rattle.l4_links.specs.Inside.Trees.{Limb, parent_at}
 use Rattle.l4_links.specs.Inside.Nodes.{Slots, Spot, left_spot, slot_at, node_at, spots, limbs, values, sources, Worth, capped_worth}
-use Rattle.l4_links.specs.Entries.{entry_at, standing_at, IsStanding, IsBlank, parent_of, Descends, capped, cut_off}
+use Rattle.l4_links.specs.Entries.{entry_at, standing_at, IsBlank, parent_of, Descends, capped, cut_off}
 use Rattle.l4_links.specs.Inside.Keeping.{standing_of, entry_of, entries_of}
 use Rattle.l4_links.proofs.Writes.{spot_of}
 
@@ -67,18 +67,12 @@ leads_of slots {low} {high} d = subst (λ (f : ℕ → Option ℕ). Leads f low 
 pub descends_of : (slots : Slots) {low high : ℕ} → Leads (parent_at (limbs slots)) low high → Descends (entries_of slots) low high
 descends_of slots {low} {high} l = subst (λ (f : ℕ → Option ℕ). Leads f low high) (λ i k. sym (parent_same slots k) i) l
 
-pub node_there : (slots : Slots) (k : ℕ) → IsStanding (entries_of slots) k → node_at slots k ≢ None
-node_there slots k there none = there (standing_is slots k ∙ ap (option_map standing_of) none)
-
 pub no_standing : (o : Option Node) → option_map standing_of o ≡ None → o ≡ None
 no_standing None e = refl
 no_standing (Some n) e = absurd (let z : ◌≡◌ {A = Option Standing} (Some (standing_of n)) None = e in cc)
 
 pub blank_node : (slots : Slots) (k : ℕ) → IsBlank (entries_of slots) k → node_at slots k ≡ None
 blank_node slots k b = no_standing (node_at slots k) (sym (standing_is slots k) ∙ b.blank)
-
-pub blank_slot : (slots : Slots) (k : ℕ) → IsBlank (entries_of slots) k → slot_at slots k ≢ None
-blank_slot slots k b none = b.there (at_seen slots k ∙ ap (option_map entry_of) none)
 
 pub source_is : (slots : Slots) (k : ℕ) → option_map (λ (t : Standing). t.source) (standing_at (entries_of slots) k) ≡ sources slots k
 source_is slots k = ap (option_map (λ (t : Standing). t.source)) (standing_is slots k) ∙ over (node_at slots k)

@@ -30,13 +30,6 @@ map_at F f same key old new here others k = elim (cases_eq k key) [
 pub stamped_same : (stamp : ℕ) (old new : Slots) → ((k : ℕ) → marks new k ≡ marks old k) → IsStamped stamp old → IsStamped stamp new
 stamped_same stamp old new same s some k m is = s some k m (sym (same k) ∙ is)
 
--- a key that has marks has a node
-marked_node : (slots : Slots) (k : ℕ) (m : Marks) → marks slots k ≡ Some m → (n : Node) × (node_at slots k ≡ Some n) × (marks_of n ≡ m)
-marked_node slots k m is = elim (node_at slots k) as (λ o. node_at slots k ≡ o → option_map marks_of o ≡ Some m → (n : Node) × (node_at slots k ≡ Some n) × (marks_of n ≡ m)) [
-  | None ↦ λ e w. absurd (let z : ◌≡◌ {A = Option Marks} None (Some m) = w in cc)
-  | Some n ↦ λ e w. (n, e, (let z : ◌≡◌ {A = Option Marks} (Some (marks_of n)) (Some m) = w in cc))
-] refl is
-
 pub stamped_at : (f : Node → Node) (stamp : ℕ) → ((n : Node) → n.mark ≤ stamp → n.seen ≤ stamp → ((f n).mark ≤ stamp) × ((f n).seen ≤ stamp)) → (key : ℕ) (old new : Slots) → node_at new key ≡ option_map f (node_at old key)
     → ((o : ℕ) → o ≢ key → node_at new o ≡ node_at old o) → IsStamped stamp old → IsStamped stamp new
 stamped_at f stamp fits key old new here others s some k m is = elim (cases_eq k key) [

@@ -118,6 +118,15 @@ fn caps_a_chain(rt: HostRuntime) -> Result<(), Fail> {
     Ok(())
 }
 
+/// The entry of a page where nothing stands.
+fn blank_entry(page: u32, wanted: bool) -> Option<Entry> {
+    Some(Entry {
+        place: place(page),
+        wanted,
+        stands: None,
+    })
+}
+
 #[test]
 fn clears_a_node_in_the_middle(rt: HostRuntime) -> Result<(), Fail> {
     let mut links = Links::new(rt.alloc());
@@ -129,33 +138,27 @@ fn clears_a_node_in_the_middle(rt: HostRuntime) -> Result<(), Fail> {
     let first = child(&mut links, top, 14)?;
     links.set_wanted(lowest, true);
     clear(&mut links, gone);
-    assert_eq!(rt;
-        links.at(gone),
-        Some(Entry {
-            place: place(11),
-            wanted: false,
-            stands: None
-        })
-    );
+    assert_eq!(rt; links.at(gone), blank_entry(11, false));
     assert_eq!(rt; links.at(low), None);
     assert_eq!(rt; links.find(place(12)), None);
     // a wanted page is left as a blank
-    assert_eq!(rt;
-        links.at(lowest),
-        Some(Entry {
-            place: place(13),
-            wanted: true,
-            stands: None
-        })
-    );
+    assert_eq!(rt; links.at(lowest), blank_entry(13, true));
     assert_eq!(rt; links.find(place(13)), Some(lowest));
     // the list goes on from the node before the run to the one after it
     links.cap_below(top, Rights::of_bits(4));
     assert_eq!(rt; shown(&links, first), Some((Rights::of_bits(4), Some(top))));
     assert_eq!(rt; shown(&links, last), Some((Rights::of_bits(4), Some(top))));
-    // a root goes from the list's beginning, and another comes
+    Ok(())
+}
+
+#[test]
+fn clears_a_root_at_the_beginning(rt: HostRuntime) -> Result<(), Fail> {
+    let mut links = Links::new(rt.alloc());
+    let top = root(&mut links, 5)?;
+    let first = child(&mut links, top, 14)?;
     clear(&mut links, top);
     assert_eq!(rt; links.at(first), None);
+    // another root comes in its place
     let second = root(&mut links, 6)?;
     let below = child(&mut links, second, 20)?;
     let shows = Standing {

@@ -84,26 +84,27 @@ fn answer<R: Wait + Clock>(rt: &R, lock: &KernelLock, signs: &Signs, seat: Seat)
     gate.into_seat()
 }
 
-/// Starts the thread that raises the fault.
-fn start_raise<R: Threads + Wait + Copy + Send + Drop + 'static>(
-    rt: &R,
-    lock: &Shared<KernelLock>,
-    signs: &Shared<Signs>,
-    seat: Seat,
-) -> Result<JoinHandle<Seat>, AllocError> {
-    let (own, lock, signs) = (*rt, Arc::try_clone(lock)?, Arc::try_clone(signs)?);
-    Ok(spawn(rt, move || raise(&own, &lock, &signs, seat))?)
+/// What a thread does with its seat.
+#[derive(Clone, Copy)]
+enum Part {
+    Raise,
+    Answer,
 }
 
-/// Starts the thread that serves the pager.
-fn start_answer<R: Threads + Wait + Clock + Copy + Send + Drop + 'static>(
+/// Starts a thread that plays this part.
+fn start<R: Threads + Wait + Clock + Copy + Send + Drop + 'static>(
     rt: &R,
     lock: &Shared<KernelLock>,
     signs: &Shared<Signs>,
     seat: Seat,
+    part: Part,
 ) -> Result<JoinHandle<Seat>, AllocError> {
     let (own, lock, signs) = (*rt, Arc::try_clone(lock)?, Arc::try_clone(signs)?);
-    Ok(spawn(rt, move || answer(&own, &lock, &signs, seat))?)
+    let play = move || match part {
+        Part::Raise => raise(&own, &lock, &signs, seat),
+        Part::Answer => answer(&own, &lock, &signs, seat),
+    };
+    Ok(spawn(rt, play)?)
 }
 
 /// Sigma0 maps the frame into the pager's space.
@@ -158,8 +159,8 @@ fn run<R: Threads + Wait + Clock + Abort + AllocGlobal + Copy + Send + Drop + 's
         served: AtomicBool::new(false),
     };
     let signs = Arc::new(rt.alloc(), signs).expect(rt, "memory");
-    let raising = start_raise(rt, lock, &signs, faulter).expect(rt, "a thread");
-    let answering = start_answer(rt, lock, &signs, pager).expect(rt, "a thread");
+    let raising = start(rt, lock, &signs, faulter, Part::Raise).expect(rt, "a thread");
+    let answering = start(rt, lock, &signs, pager, Part::Answer).expect(rt, "a thread");
     assert!(rt; comes(rt, &signs.answered), "the fault is answered");
     assert!(rt; comes(rt, &signs.served), "the pager's turn ends");
     (answering.join(rt), raising.join(rt))

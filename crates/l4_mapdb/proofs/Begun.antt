@@ -10,12 +10,16 @@ use Rattle.l4_mapdb.proofs.Unique.{same_value}
 use Rattle.l4_mapdb.specs.Inside.View.{map_place, mappings_of}
 use Rattle.l4_mapdb.specs.Inside.Kept.{IsClean}
 use Rattle.l4_mapdb.specs.Inside.Messages.{IsTargetOf, Cleared}
-use Rattle.l4_mapdb.specs.Inside.Placing.{IsStart, Placed, MapsDone, IsTarget, IsBefore, earlier, same}
+use Rattle.l4_mapdb.specs.Inside.Placing.{IsStart, Placed, IsDone, IsTarget, IsBefore, earlier, same}
 
 module _ (start now : Linked) (from to : ℕ) (items : List ItemMove) (way : Cleared (IsUsed (mappings_of start) from to items) start now) where
   none_before : (m : PageMove) → ¬ (IsBefore start from to items 0 0 m)
   none_before m (earlier lt) = absurd (omega (arith, lt))
   none_before m (same is lt) = absurd (omega (arith, lt))
+
+  not_yet : (m : PageMove) → ¬ (IsDone start from to items false 0 0 m)
+  not_yet m (inl n) = let z : false ≡ true = n.0 in cc
+  not_yet m (inr d) = none_before m d.1
 
   is_target : (place : LinkPlace) → IsTargetOf (IsUsed (mappings_of start) from to items) place → IsTarget start from to items place
   is_target place t = record { move = t.0; used = t.1; target = sym t.2 }
@@ -42,12 +46,12 @@ module _ (start now : Linked) (from to : ℕ) (items : List ItemMove) (way : Cle
   abbrev marked_in : Entry → Bool
   marked_in e = unwrap_or (option_map (λ (t : Standing). t.source) e.stands) false
 
-  pub begun : IsStart start from to items → Placed start from to items (MapsDone start from to items 0 0) now
+  pub begun : IsStart start from to items → Placed start from to items (IsDone start from to items false 0 0) now
   begun ready = record {
     spaces = way.spaces;
     blank = λ move used _. way.target move used;
-    mapped = λ move used done map. absurd (none_before move done.1);
-    granted = λ move by used done grant. absurd (none_before move done.1);
+    mapped = λ move used done map. absurd (not_yet move done);
+    granted = λ move by used done grant. absurd (not_yet move done);
     kept = λ key e t at stands stays _.
         let l = way.left key e t at stands stays in
         record {

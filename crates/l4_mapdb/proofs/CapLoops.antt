@@ -1,5 +1,5 @@
 -- The caps of granted pages, page by page and item by item.
-use Rattle.std.proofs.Common.{◌≡◌, ℕ, ◌+◌, ◌≤◌, ◌^◌, List, length, Some, true, false, ◌↔◌, ◌⊎◌, inl, inr, refl, sym, ap, ◌∙◌, subst, slice_get, arith}
+use Rattle.std.proofs.Common.{◌≡◌, ℕ, ◌+◌, ◌≤◌, ◌^◌, List, length, Some, true, ◌↔◌, ◌⊎◌, inl, inr, refl, sym, ap, ◌∙◌, subst, slice_get, arith}
 use Rattle.std.proofs.lemmas.Bool.{cases_lt}
 use Rattle.std.proofs.lemmas.Option.{slice_get_within}
 use Rattle.l4_fpage.specs.Rights.{RightsSet}
@@ -63,10 +63,6 @@ module _ (old now : Entries) (space first start end : ℕ) (rights : RightsSet) 
         | inl lt ↦ record { page = d.page; from = d.from; before = lt; at = d.at; granted = d.granted }
         | inr ge ↦ absurd (none d.page (omega (arith, ge)) d.before (key, place_same old now so_far.capped.same (record { space = space; page = d.page }) key d.at))
       ]
-
--- an item that maps grants nothing
-pub cut_map : (old : Entries) (to : ℕ) (by : ItemMove) → by.grant ≡ false → Capped (IsGrantBy old to by) old old
-cut_map old to by map = capped_none (IsGrantBy old to by) old old refl (λ key cap d granted. let e : false ≡ true = sym map ∙ d.grant in cc)
 
 pub grants_by : (old : Entries) (to : ℕ) (by : ItemMove) → by.grant ≡ true → (key : ℕ) → IsGrantBy old to by key ↔ IsGrantOf old to by.mv.target.first (by.mv.target.first + 2 ^ by.mv.target.log) by.rights key
 grants_by old to by grant key = (λ d. d.is, λ d. record { grant = grant; is = d })

@@ -1,13 +1,13 @@
 -- Caps of the rights of keys, one after another, and what is left once those without rights have gone.
-use Rattle.std.proofs.Common.{◌≡◌, ℕ, ◌+◌, ◌≤◌, Bool, true, false, ◌&&◌, Option, Some, None, IsTrue, ◌⊎◌, inl, inr, refl, sym, ap, ◌∙◌, subst, option_and_then, option_map, arith}
+use Rattle.std.proofs.Common.{◌≡◌, ℕ, ◌+◌, ◌≤◌, Bool, true, false, ◌&&◌, Option, Some, None, ◌⊎◌, inl, inr, refl, sym, ap, ◌∙◌, subst, option_and_then, option_map, arith}
 use Rattle.l4_fpage.specs.Rights.{RightsSet, common}
 use Rattle.l4_links.specs.declared.Place.{Place as LinkPlace}
 use Rattle.l4_links.specs.declared.Standing.{Standing}
 use Rattle.l4_links.specs.declared.Entry.{Entry}
 use Rattle.l4_links.specs.Leads.{Leads, step, steps}
-use Rattle.l4_links.specs.Entries.{Entries, Linked, entry_at, parent_of, Descends, IsAt, HavePlaces, AreTrees, CapsBelow, CapsTree, NoKeyIn, IsNextKeyIn, capped}
+use Rattle.l4_links.specs.Entries.{Entries, Linked, entry_at, parent_of, Descends, IsAt, HavePlaces, NoKeyIn, IsNextKeyIn, capped}
 use Rattle.l4_mapdb.specs.Inside.Cuts.{IsPageKey, IsOver, IsCovered, CapsKeys}
-use Rattle.l4_mapdb.proofs.Deciding.{same_or, less_or}
+use Rattle.l4_mapdb.proofs.Deciding.{less_or}
 
 -- chains go along equal parents
 pub leads_along : (f g : ℕ → Option ℕ) → ((key : ℕ) → f key ≡ g key) → {low high : ℕ} → Leads f low high → Leads g low high
@@ -66,37 +66,6 @@ module _ (Covered : ℕ → Type 0) (cap : RightsSet) (old new : Entries) (caps 
 
   pub caps_back : {low high : ℕ} → Descends old low high → Descends new low high
   caps_back d = leads_along (parent_of old) (parent_of new) (λ key. sym (caps_parent key)) d
-
--- one cap of a tree
-pub cap_one : (old new : Entries) (top : ℕ) (cap : RightsSet) (with_self : Bool) → AreTrees old → IsTrue with_self → CapsTree top cap old new → CapsKeys (IsOver old with_self top) cap old new
-cap_one old new top cap with_self trees self caps = record {
-  decided = λ key. elim (same_or key top) [
-    | inl e ↦ inl (inl (self, e))
-    | inr ne ↦ elim (trees.decided key top) [
-      | inl d ↦ inl (inr d)
-      | inr n ↦ inr (λ h. elim h [ inl e ↦ ne e.1 | inr d ↦ n d ])
-    ]
-  ];
-  here = λ key h. elim h [
-    | inl e ↦ ap (entry_at new) e.1 ∙ caps.top_capped ∙ ap (λ (k : ℕ). option_map (capped cap) (entry_at old k)) (sym e.1)
-    | inr d ↦ caps.below_capped key d
-  ];
-  kept = λ key n. caps.kept key (λ e. n (inl (self, e))) (λ d. n (inr d));
-}
-
--- one cap of what descends from a key
-pub cap_under : (old new : Entries) (top : ℕ) (cap : RightsSet) (with_self : Bool) → AreTrees old → ¬ (IsTrue with_self) → CapsBelow top cap old new → CapsKeys (IsOver old with_self top) cap old new
-cap_under old new top cap with_self trees self caps = record {
-  decided = λ key. elim (trees.decided key top) [
-    | inl d ↦ inl (inr d)
-    | inr n ↦ inr (λ h. elim h [ inl e ↦ self e.0 | inr d ↦ n d ])
-  ];
-  here = λ key h. elim h [
-    | inl e ↦ absurd (self e.0)
-    | inr d ↦ caps.capped key d
-  ];
-  kept = λ key n. caps.kept key (λ d. n (inr d));
-}
 
 -- two caps one after another are one
 pub caps_both : (A B C : ℕ → Type 0) (cap : RightsSet) (old mid new : Entries) → ((key : ℕ) → C key → A key ⊎ B key) → ((key : ℕ) → A key ⊎ B key → C key)

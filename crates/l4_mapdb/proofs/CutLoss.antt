@@ -1,13 +1,12 @@
 -- What is cut below granted pages is what the transfer's definition cuts.
-use Rattle.std.proofs.Common.{◌≡◌, ◌≢◌, ℕ, ◌+◌, ◌<◌, ◌≤◌, ◌^◌, Bool, true, false, List, length, Option, Some, None, option_and_then, option_map, ◌↔◌, ◌⊎◌, inl, inr, IsTrue, refl, sym, ap, ◌∙◌, subst, slice_get, arith}
+use Rattle.std.proofs.Common.{◌≡◌, ◌≢◌, ℕ, ◌^◌, Bool, true, false, List, length, Option, Some, None, option_and_then, option_map, ◌↔◌, ◌⊎◌, inl, inr, IsTrue, refl, sym, ap, ◌∙◌, subst, arith}
 use Rattle.std.proofs.lemmas.Option.{slice_get_within}
-use Rattle.l4_fpage.specs.Rights.{RightsSet, Right, has, common, no_rights}
+use Rattle.l4_fpage.specs.Rights.{RightsSet, Right, has, no_rights}
 use Rattle.l4_links.specs.declared.Place.{Place as LinkPlace}
 use Rattle.l4_links.specs.declared.Standing.{Standing}
 use Rattle.l4_links.specs.declared.Entry.{Entry}
-use Rattle.l4_links.specs.Leads.{Leads, step, steps}
+use Rattle.l4_links.specs.Leads.{step, steps}
 use Rattle.l4_links.specs.Entries.{Entries, Linked, entry_at, standing_at, IsAt, Descends, HavePlaces, AreTrees, Buries}
-use Rattle.l4_links.specs.Entries as links
 use Rattle.l4_mapdb.specs.declared.Place.{Place}
 use Rattle.l4_mapdb.specs.declared.Mapping.{Mapping}
 use Rattle.l4_mapdb.specs.declared.ItemMove.{ItemMove}
@@ -16,15 +15,15 @@ use Rattle.l4_mapdb.specs.Mappings as map
 use Rattle.l4_mapdb.specs.Losing.{LosesRights}
 use Rattle.l4_mapdb.specs.Transfer.{PageMove, IsGone, IsCut}
 use Rattle.l4_mapdb.proofs.Unique.{same_value, same_rights}
-use Rattle.l4_mapdb.specs.Inside.View.{link_place, map_place, place_at, mapping_of, mappings_of, IsShown}
+use Rattle.l4_mapdb.specs.Inside.View.{link_place, map_place, place_at, mapping_of, mappings_of}
 use Rattle.l4_mapdb.specs.Inside.Cutting.{bare, IsGrantedAt, IsOrBelow, Capped, IsGrantBelow}
-use Rattle.l4_mapdb.specs.Inside.Placing.{IsStart, Used, HasGone, IsTarget, HasChild, Placed}
+use Rattle.l4_mapdb.specs.Inside.Placing.{IsStart, Used, IsTarget, Placed}
 use Rattle.l4_mapdb.specs.Inside.Settling.{left_by, settled_standing, settled_entry, settled}
-use Rattle.l4_mapdb.proofs.View.{shown_by_key, key_shows, some_standing, stands_at, one_entry, descends_by_key, parent_is, some_parent, at_place}
+use Rattle.l4_mapdb.proofs.View.{shown_by_key, key_shows, some_standing, one_entry, descends_by_key, parent_is}
 use Rattle.l4_mapdb.proofs.Deciding.{none_or}
 use Rattle.l4_mapdb.proofs.Caps.{has_common}
 use Rattle.l4_mapdb.proofs.Lost.{HasLost, KeysLose, view_loses}
-use Rattle.l4_mapdb.proofs.Sourced.{stood, GrantedTo, granted_place}
+use Rattle.l4_mapdb.proofs.Sourced.{stood}
 use Rattle.l4_mapdb.proofs.Moved.{at_settled, was_settled, places_settled, place_at_settled, granted_to, not_granted_here}
 
 -- a right of what stands below is a right of what stands above

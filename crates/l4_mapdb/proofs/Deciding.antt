@@ -1,5 +1,6 @@
 -- What is so or isn't.
-use Rattle.std.proofs.Common.{◌≡◌, ◌≢◌, ℕ, ◌<◌, ◌≤◌, ◌==◌, Bool, true, false, ◌⊎◌, inl, inr, refl, ap, arith}
+use Rattle.std.proofs.Common.{◌≡◌, ◌≢◌, ℕ, ◌<◌, ◌≤◌, ◌==◌, Bool, true, false, not, ◌⊎◌, inl, inr, refl, ap, arith}
+use Rattle.std.specs.Bool.{beq}
 use Rattle.std.proofs.lemmas.Bool.Decides.{nat_tests}
 use Rattle.std.proofs.lemmas.Bool.{cases_lt}
 use Rattle.l4_fpage.specs.Rights.{RightsSet, no_rights}
@@ -23,3 +24,16 @@ none_or a = by_bits a.r a.w a.x where
   by_bits false true x = inr (λ e. let k : true ≡ false = ap (λ (a : RightsSet). a.w) e in cc)
   by_bits false false true = inr (λ e. let k : true ≡ false = ap (λ (a : RightsSet). a.x) e in cc)
   by_bits false false false = inl refl
+
+-- what a test of two truth values says
+pub truths_agree : (a b : Bool) → not (beq a b) ≡ false → a ≡ b
+truths_agree true true h = refl
+truths_agree true false h = let z : true ≡ false = h in cc
+truths_agree false true h = let z : true ≡ false = h in cc
+truths_agree false false h = refl
+
+pub truths_differ : (a b : Bool) → not (beq a b) ≡ true → a ≢ b
+truths_differ true true h e = let z : false ≡ true = h in cc
+truths_differ true false h e = cc
+truths_differ false true h e = cc
+truths_differ false false h e = let z : false ≡ true = h in cc

@@ -1,18 +1,15 @@
 -- The end of a space that is not there.
-use Rattle.std.proofs.Common.{◌≡◌, ◌≢◌, ℕ, ◌+◌, ◌≤◌, ◌==◌, true, false, cond, length, Option, Some, None, IsTrue, refl, sym, ap, ◌∙◌, ◌↔◌, subst, inl, inr, option_and_then, arith}
-use Rattle.std.specs.FinMap.{find}
+use Rattle.std.proofs.Common.{◌≡◌, ℕ, false, Some, IsTrue, sym, ap, ◌∙◌, inl, inr, arith}
 use Rattle.std.specs.FinSet as set
 use Rattle.std.proofs.lemmas.Bool.Decides.{nat_tests}
 use Rattle.l4_spaces.proofs.Showing.{set_without}
 use Rattle.l4_mapdb.specs.declared.Place.{Place}
 use Rattle.l4_mapdb.specs.declared.Mapping.{Mapping}
-use Rattle.l4_mapdb.specs.Mappings.{place_cmp, Mappings, shown, parent_of, Descends, child, further, IsForest}
-use Rattle.l4_mapdb.specs.Losing.{EndsSpace, GoesWithSpace}
+use Rattle.l4_mapdb.specs.Mappings.{Mappings, shown, Descends, child, further, IsForest}
+use Rattle.l4_mapdb.specs.Losing.{EndsSpace}
 use Rattle.l4_mapdb.proofs.Places.{same_option, same_mappings}
-use Rattle.l4_mapdb.proofs.EntriesLemmas.{chain_up, no_chain, decided}
+use Rattle.l4_mapdb.proofs.EntriesLemmas.{decided}
 use Rattle.l4_mapdb.proofs.Climbing.{shows_parent}
-use Rattle.l4_mapdb.proofs.ForestEnds.{ends_keeps}
-use Rattle.l4_mapdb.proofs.Unique.{same_value}
 
 -- where the space isn't there nothing changes
 module _ (space : ℕ) (old new : Mappings) (forest : IsForest old) (absent : ¬ (IsTrue (set.contains old.spaces space))) where

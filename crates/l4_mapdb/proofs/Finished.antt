@@ -1,11 +1,11 @@
 -- What is left once a message is carried out and its marks are taken away.
-use Rattle.std.proofs.Common.{◌≡◌, ◌≢◌, ℕ, ◌+◌, ◌<◌, ◌≤◌, ◌^◌, Bool, true, false, List, length, Option, Some, None, option_and_then, option_map, ◌↔◌, ◌⊎◌, inl, inr, IsTrue, refl, sym, ap, ◌∙◌, subst, slice_get, arith}
+use Rattle.std.proofs.Common.{◌≡◌, ◌≢◌, ℕ, ◌^◌, Bool, true, false, List, length, Option, Some, None, option_and_then, option_map, inl, inr, refl, sym, ap, ◌∙◌, subst, slice_get, arith}
 use Rattle.std.proofs.lemmas.Option.{slice_get_within}
-use Rattle.l4_fpage.specs.Rights.{RightsSet, no_rights}
+use Rattle.l4_fpage.specs.Rights.{no_rights}
 use Rattle.l4_links.specs.declared.Place.{Place as LinkPlace}
 use Rattle.l4_links.specs.declared.Standing.{Standing}
 use Rattle.l4_links.specs.declared.Entry.{Entry}
-use Rattle.l4_links.specs.Entries.{Entries, Linked, entry_at, standing_at, IsAt, HavePlaces, AreTrees, Buries}
+use Rattle.l4_links.specs.Entries.{Entries, Linked, entry_at, standing_at, HavePlaces, AreTrees, Buries}
 use Rattle.l4_mapdb.specs.declared.Place.{Place}
 use Rattle.l4_mapdb.specs.declared.Mapping.{Mapping}
 use Rattle.l4_mapdb.specs.declared.ItemMove.{ItemMove}
@@ -16,7 +16,7 @@ use Rattle.l4_mapdb.proofs.Unique.{same_value}
 use Rattle.l4_mapdb.specs.Inside.View.{link_place, map_place, place_at, mapping_of, mappings_of, IsShown}
 use Rattle.l4_mapdb.specs.Inside.Kept.{IsPlain, IsClean, RootsKnown}
 use Rattle.l4_mapdb.specs.Inside.Cutting.{bare, Capped, IsGrantBelow}
-use Rattle.l4_mapdb.specs.Inside.Messages.{plain, tidied, Tidies, InPages, OfItem, OfItems}
+use Rattle.l4_mapdb.specs.Inside.Messages.{plain, tidied, Tidies, OfItems}
 use Rattle.l4_mapdb.specs.Inside.Placing.{IsStart, Used, IsTarget, Placed}
 use Rattle.l4_mapdb.specs.Inside.Settling.{settled}
 use Rattle.l4_mapdb.proofs.View.{some_standing, stands_at, one_entry, same_view}

@@ -4,7 +4,7 @@ use Rattle.std.specs.FinSet as set
 use Rattle.l4_fpage.specs.Rights.{RightsSet, Right, has, Within}
 use Rattle.l4_mapdb.specs.declared.Place.{Place}
 use Rattle.l4_mapdb.specs.declared.Mapping.{Mapping}
-use Rattle.l4_mapdb.specs.Mappings.{Mappings, shown, parent_of, Chain, child, further, Descends, IsOrDescends, IsPresent, IsRoot, IsForest}
+use Rattle.l4_mapdb.specs.Mappings.{Mappings, shown, parent_of, Chain, child, further, Descends, IsOrDescends, IsRoot, IsForest}
 use Rattle.l4_mapdb.specs.Transfer.{PageMove, IsGranted, IsEntangled, IsGone, StandsAt, ParentLater, IsMapped, Becomes, Moved, IsCut, Transfers}
 use Rattle.l4_mapdb.proofs.EntriesLemmas.{decided}
 use Rattle.l4_mapdb.proofs.Single.{KnownMoves, one_target, one_grant, one_place}
@@ -28,9 +28,6 @@ module _ (Used : PageMove → Type 0) (old mid : Mappings) (known : KnownMoves U
   -- no source is gone
   source_stays : (u : PageMove) → Used u → ¬ (IsGone Used old u.source)
   source_stays u a g = free (inr (inr (record { one = g.move; other = u; one_used = g.used; other_used = a; present = g.present; above = g.below })))
-
-  present_of : (s : Mappings) (q : Place) (m : Mapping) → shown s q ≡ Some m → IsPresent s q
-  present_of s q m at = ap is_some at
 
   -- a place that is there and is a target is gone
   target_gone : (u : PageMove) → Used u → (q : Place) (b : Mapping) → u.target ≡ q → shown old q ≡ Some b → IsGone Used old q
@@ -253,15 +250,6 @@ module _ (Used : PageMove → Type 0) (old mid : Mappings) (known : KnownMoves U
       stood = o.stood;
     }
   ]
-
-  -- a chain to a place leads, from where its low end stands now, to where its high end stands now
-  chain_moved : {c p : Place} → Chain (parent_of old) c p → (q p' : Place) (b m : Mapping) → Stands c q b m → StandsAt Used p p' → Descends mid q p'
-  chain_moved {c} {p} (child up) q p' b m s stood =
-      let t = step_up c q b m p s (sym (ap (option_and_then (λ (x : Mapping). x.parent)) s.was) ∙ up) in
-      child (parent_is q m s.now ∙ t.up ∙ ap (λ (x : Place). Some x) (same_place p t.later p' t.stood stood))
-  chain_moved {c} {p} (further {middle = c'} up rest) q p' b m s stood =
-      let t = step_up c q b m c' s (sym (ap (option_and_then (λ (x : Mapping). x.parent)) s.was) ∙ up) in
-      further (parent_is q m s.now ∙ t.up) (chain_moved rest t.later p' t.a t.k t.stands stood)
 
   pub moved_loose : IsLoose Cut mid
   moved_loose = record {

@@ -1,10 +1,10 @@
 -- The used moves by keys are those of the mappings, and what they entangle and take with them is the same.
-use Rattle.std.proofs.Common.{◌≡◌, ℕ, true, false, List, Option, Some, None, is_some, option_map, refl, sym, ap, ◌∙◌, ◌↔◌, subst, inl, inr, ◌⊎◌}
+use Rattle.std.proofs.Common.{◌≡◌, ℕ, true, false, List, Option, Some, None, is_some, option_map, refl, sym, ap, ◌∙◌, subst, inl, inr, ◌⊎◌}
 use Rattle.l4_fpage.specs.Rights.{common}
 use Rattle.l4_links.specs.declared.Place.{Place as LinkPlace}
 use Rattle.l4_links.specs.declared.Standing.{Standing}
 use Rattle.l4_links.specs.declared.Entry.{Entry}
-use Rattle.l4_links.specs.Entries.{Entries, Linked, entry_at, standing_at, IsStanding, HavePlaces, AreTrees, IsAt}
+use Rattle.l4_links.specs.Entries.{Linked, entry_at, standing_at, IsStanding, HavePlaces, AreTrees, IsAt}
 use Rattle.l4_links.specs.Entries as links
 use Rattle.l4_mapdb.specs.declared.Place.{Place}
 use Rattle.l4_mapdb.specs.declared.Mapping.{Mapping}
@@ -89,9 +89,6 @@ module _ (s : Linked) (have : HavePlaces s) (trees : AreTrees s.entries) (from t
 
   pub source_is : (u : PageMove) (k : KeyMove u) → record { space = from; page = k.move.page } ≡ u.source
   source_is u k = λ i. record { space = (sym k.space) i; page = k.page i }
-
-  target_is : (u : PageMove) (k : KeyMove u) → map_place k.move.target ≡ u.target
-  target_is u k = ap map_place k.target
 
   -- what stands under a key is present
   pub key_present : (place : LinkPlace) (key : ℕ) → IsAt s.entries place key → IsStanding s.entries key → IsPresent (mappings_of s) (map_place place)
@@ -216,6 +213,3 @@ module _ (s : Linked) (have : HavePlaces s) (trees : AreTrees s.entries) (from t
           above = above_key b.move.source k.key e.other.source e.one.target low k.at e.above;
         });
       }
-
-  pub entangled_is : HasTangle Moves s.entries ↔ IsEntangled Used (mappings_of s)
-  entangled_is = (entangled_places, entangled_keys)

@@ -26,15 +26,14 @@ pub mod Deciding
 pub mod Finished
 pub mod FirstPlaces
 pub mod Gone
-pub mod GrantWalk
 pub mod ItemWalk
 pub mod Keyed
 pub mod Leading
 pub mod Lost
-pub mod MapWalk
 pub mod Marking
 pub mod Moved
 pub mod Moves
+pub mod PageWalk
 pub mod Placed
 pub mod Prepared
 pub mod Presence

@@ -75,9 +75,6 @@ module _ (start now : Linked) (from to : ℕ) (items : List ItemMove) (ready : I
   known : KnownMoves Moves before_all
   known = known_moves before_all from to items ready.there
 
-  gone_place : (u : PageMove) → Moves u → IsTrue u.grant → HasGone start from to items Done (link_place u.source)
-  gone_place u used grant = record { move = u; used = used; done = all u used; grant = grant; source = refl }
-
   -- no used move has its own source as target
   apart : (u : PageMove) → Moves u → u.target ≢ u.source
   apart u used e = source_stays start now from to items ready Done placed have u used (record { move = u; used = used; present = ap is_some (ap (shown before_all) e ∙ used.present); below = inl (sym e) })

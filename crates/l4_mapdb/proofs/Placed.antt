@@ -20,9 +20,6 @@ same_or_not a b = elim (a == b) as (λ v. (a == b) ≡ v → (a ≡ b) ⊎ (a �
   | false ↦ λ h. inr (grind (arith, nat_tests))
 ] refl
 
-stands_in : Option Entry → Option Standing
-stands_in o = option_and_then (λ (e : Entry). e.stands) o
-
 -- where something stands is no blank
 pub not_blank : (s : Entries) (a b : ℕ) (e f : Entry) (t : Standing) → entry_at s a ≡ Some e → entry_at s b ≡ Some f → e.stands ≡ Some t → f.stands ≡ None → a ≢ b
 not_blank s a b e f t at_a at_b stands blank same =

@@ -1,6 +1,6 @@
 -- Which places are present, and where the roots stand, by the keys.
-use Rattle.std.proofs.Common.{◌≡◌, ℕ, ◌≤◌, true, false, List, Option, Some, None, is_some, IsTrue, refl, sym, ap, ◌∙◌, subst, slice_get, option_and_then, option_map, MatchOption, OnOk, OnErr, Result, Ok, Err, length, ◌<◌, slice_index_or}
-use Rattle.std.proofs.lemmas.Option.{slice_get_past, slice_get-get_or}
+use Rattle.std.proofs.Common.{◌≡◌, ℕ, true, false, List, Option, Some, None, is_some, IsTrue, refl, sym, ap, ◌∙◌, subst, slice_get, option_and_then, option_map, MatchOption, OnOk, OnErr, Result, Ok, Err, length, ◌<◌, slice_index_or}
+use Rattle.std.proofs.lemmas.Option.{slice_get-get_or}
 use Rattle.std.specs.FinSet as set
 use Rattle.l4_links.specs.declared.Place.{Place as LinkPlace}
 use Rattle.l4_links.specs.declared.Standing.{Standing}
@@ -109,10 +109,6 @@ pub kept_begun : {A E : Type 0} (a : Inside) (new : Linked) (space : ℕ) (resul
 kept_begun a new space (Ok _) ok err kept = subst (λ (s : Linked). IsKept (record { links = s; roots = a.roots })) (sym ok)
     (record { clean = kept.clean; known = kept.known; forest = begins_keeps (mappings_of a.links) space kept.forest })
 kept_begun a new space (Err _) ok err kept = subst (λ (s : Linked). IsKept (record { links = s; roots = a.roots })) (sym err) kept
-
--- reading the keys of the roots
-pub kept_beyond : (roots : List (Option ℕ)) (frame : ℕ) → length roots ≤ frame → kept_at roots frame ≡ None
-kept_beyond roots frame le = ap (option_and_then (λ (k : Option ℕ). k)) (slice_get_past roots frame le)
 
 pub kept_within : (roots : List (Option ℕ)) (frame : ℕ) → frame < length roots → slice_index_or roots frame None ≡ kept_at roots frame
 kept_within roots frame less = sym (ap (option_and_then (λ (k : Option ℕ). k)) (slice_get-get_or roots frame None less))

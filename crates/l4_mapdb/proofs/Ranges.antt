@@ -1,10 +1,9 @@
 -- Losses of the same rights.
-use Rattle.std.proofs.Common.{◌≡◌, ℕ, ◌+◌, ◌-◌, ◌<◌, ◌≤◌, ◌^◌, Bool, Some, IsTrue, refl, sym, ap, subst, inl, inr, arith}
-use Rattle.l4_fpage.specs.Rights.{RightsSet, Right}
+use Rattle.l4_fpage.specs.Rights.{Right}
 use Rattle.l4_mapdb.specs.declared.Place.{Place}
 use Rattle.l4_mapdb.specs.declared.Mapping.{Mapping}
-use Rattle.l4_mapdb.specs.Mappings.{Mappings, shown, Descends, child, further, IsForest}
-use Rattle.l4_mapdb.specs.Losing.{IsLeft, LosesRights, RevokedAt, Revokes, RevokedInBlock, RevokesBlock}
+use Rattle.l4_mapdb.specs.Mappings.{Mappings}
+use Rattle.l4_mapdb.specs.Losing.{IsLeft, LosesRights}
 
 -- losing the same rights is the same loss
 pub loses_along : (Lost Other : Place → Right → Type 0) (old new : Mappings) → ((q : Place) (k : Right) → Lost q k → Other q k) → ((q : Place) (k : Right) → Other q k → Lost q k)

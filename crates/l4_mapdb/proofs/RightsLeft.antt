@@ -1,5 +1,5 @@
 -- What is left of rights.
-use Rattle.std.proofs.Common.{◌≡◌, ◌≢◌, ℕ, Bool, true, false, not, ◌&&◌, List, IsTrue, refl, ap, ◌↔◌}
+use Rattle.std.proofs.Common.{◌≡◌, ◌≢◌, Bool, true, false, not, ◌&&◌, IsTrue, refl, ap, ◌↔◌}
 use Rattle.l4_fpage.specs.Rights.{RightsSet, Right, has, Read, Write, Execute, without, no_rights, is_none}
 
 and_not : (a b : Bool) → IsTrue (a && not b) ↔ (IsTrue a × ¬ (IsTrue b))

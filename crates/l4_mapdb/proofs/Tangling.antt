@@ -11,7 +11,7 @@ use Rattle.l4_mapdb.specs.declared.ItemMove.{ItemMove}
 use Rattle.l4_mapdb.proofs.Unique.{same_value}
 use Rattle.l4_mapdb.specs.declared.sources.UsedMove.{UsedMove}
 use Rattle.l4_mapdb.specs.Inside.Messages.{StandAlike, IsMoved}
-use Rattle.l4_mapdb.specs.Inside.Tangles.{FillsToo, MovesToo, Replaces, IsTaken, Clashes, Tangles, TanglesFrom, HasTangle, AboveSource, SourcesAre}
+use Rattle.l4_mapdb.specs.Inside.Tangles.{Replaces, IsTaken, Clashes, ClashesWith, Tangles, TanglesFrom, HasTangle, AboveSource, SourcesAre}
 use Rattle.l4_mapdb.proofs.Leading.{leads_along}
 use Rattle.l4_mapdb.proofs.Moves.{one_by, move_item, is_at, entry_of}
 use Rattle.l4_mapdb.proofs.Marking.{by_key, moved_alike, moved_still, source_of}
@@ -45,22 +45,17 @@ module _ (s : Entries) (from to : ℕ) (items : List ItemMove) where
       let space : m.target.space ≡ place.space = used.to_space ∙ sym here in
       (used, h.1, λ i. record { space = space i; page = page i })
 
-  -- the answer for another item says the same of the items that are not this one
-  pub others : (At : UsedMove → Type 0) (item other : ℕ) (answer : Option UsedMove) → other ≢ item
-      → MatchOption answer ((u : UsedMove) → Used u → u.item ≡ other → ¬ (At u)) (λ m. Used m × (m.item ≡ other) × At m)
-      → MatchOption answer ((u : UsedMove) → Used u → u.item ≡ other → item ≢ u.item → ¬ (At u)) (λ m. Used m × (item ≢ m.item) × At m)
-  others At item other None ne h = λ u used is _. h u used is
-  others At item other (Some m) ne h = (h.0, (λ e. ne (sym (e ∙ h.1))), h.2)
+  -- no used move of the item has the target, and none of it is out of what is granted
+  pub no_clash : (m : UsedMove) (item : ℕ) → ((u : UsedMove) → Used u → u.item ≡ item → u.target ≢ m.target) → (IsTrue m.grant → (u : UsedMove) → Used u → u.item ≡ item → u.page ≢ m.page) → ¬ (ClashesWith Used m item)
+  no_clash m item none out c = elim c.meets [
+    | inl t ↦ none c.other c.used c.item_is t
+    | inr g ↦ out g.0 c.other c.used c.item_is g.1
+  ]
 
-  pub not_filled : (n item : ℕ) (place : LinkPlace) → length items ≤ n → ((u : UsedMove) → Used u → u.item < n → item ≢ u.item → u.target ≢ place) → ¬ (FillsToo Used item place)
-  not_filled n item place all below f =
-      let lt = move_item s from to items f.other f.used in
-      below f.other f.used (omega (arith, lt, all)) f.differ f.target
-
-  pub not_moved_too : (n item page : ℕ) → length items ≤ n → ((u : UsedMove) → Used u → u.item < n → item ≢ u.item → u.page ≢ page) → ¬ (MovesToo Used item page)
-  not_moved_too n item page all below f =
-      let lt = move_item s from to items f.other f.used in
-      below f.other f.used (omega (arith, lt, all)) f.differ f.page_is
+  -- who clashes does so with one of the items
+  pub clashes_in : (m : UsedMove) → Clashes Used m → (item : ℕ) × (item < length items) × ClashesWith Used m item
+  clashes_in m (inl f) = (f.other.item, move_item s from to items f.other f.used, record { other = f.other; used = f.used; item_is = refl; differ = f.differ; meets = inl f.target })
+  clashes_in m (inr g) = (g.1.other.item, move_item s from to items g.1.other g.1.used, record { other = g.1.other; used = g.1.used; item_is = refl; differ = g.1.differ; meets = inr (g.0, g.1.page_is) })
 
   pub passed_all : (P : UsedMove → Type 0) (n : ℕ) → length items ≤ n → ((u : UsedMove) → Used u → u.item < n → ¬ (P u)) → (u : UsedMove) → Used u → ¬ (P u)
   passed_all P n all below u used =
@@ -285,9 +280,6 @@ module _ (Used : UsedMove → Type 0) (s : Entries) where
         record { key = a.key; at = a.at; stands = a.stands; other = u.0; used = u.1; above = subst (λ (k : ℕ). (k ≡ a.key) ⊎ Descends s k a.key) (sym u.2) a.above },
     λ r. record { key = r.key; at = r.at; stands = r.stands; low = r.other.source; source = are.marked r.other r.used; above = r.above },
   )
-
-  pub tangles_clash : (m : UsedMove) → Clashes Used m → IsTrue true ↔ Tangles Used s m
-  tangles_clash m clash = so (inl clash)
 
   pub tangles_above : SourcesAre Used s → (m : UsedMove) (answer : Bool) → ¬ (Clashes Used m) → IsTrue answer ↔ AboveSource s m.target → IsTrue answer ↔ Tangles Used s m
   tangles_above are m answer free is = (

@@ -1,11 +1,10 @@
 -- The definitions determine the new mappings.
-use Rattle.std.proofs.Common.{◌≡◌, Bool, true, false, Some, refl, sym, ap, ◌∙◌, ◌↔◌, IsTrue, subst, unwrap_or}
+use Rattle.std.proofs.Common.{◌≡◌, Bool, true, false, Some, refl, sym, ap, ◌∙◌, ◌↔◌, IsTrue, unwrap_or}
 use Rattle.l4_fpage.specs.Rights.{RightsSet, Right, has, Read, Write, Execute}
 use Rattle.l4_mapdb.specs.declared.Place.{Place}
 use Rattle.l4_mapdb.specs.declared.Mapping.{Mapping}
 use Rattle.l4_mapdb.specs.Mappings.{Mappings, shown}
 use Rattle.l4_mapdb.specs.Losing.{IsLeft, LosesRights}
-use Rattle.l4_mapdb.specs.Transfer.{PageMove, Moved, Transfers, Becomes, IsCut}
 use Rattle.l4_mapdb.proofs.Places.{same_option, same_mappings}
 
 -- what two values hold that are one is one

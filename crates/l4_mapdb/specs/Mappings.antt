@@ -1,6 +1,6 @@
 -- The mappings of all spaces as one value: what each place shows, and which spaces there are.
 -- (L4 X.2 manual: recursive mapping by map and grant items; the one value is this profile's own.)
-use Rattle.std.specs.Prelude.{◌≡◌, ℕ, ◌<◌, ◌^◌, Option, Some, None, IsTrue, is_some, option_and_then, ◌⊎◌, refl}
+use Rattle.std.specs.Prelude.{◌≡◌, ℕ, ◌<◌, Option, Some, None, IsTrue, is_some, option_and_then, ◌⊎◌, refl}
 use Rattle.std.specs.Ordering.{nat_cmp, ordering_then}
 use Rattle.std.specs.Option.{option_map_or}
 use Rattle.std.specs.declared.cmp.Ordering.{Ordering}

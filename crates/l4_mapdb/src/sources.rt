@@ -1,6 +1,7 @@
 //! The used moves of a message, one after another by item and page, and the marks of their sources.
 
 ghost use Rattle.std.specs.Prelude.{◌≡◌, ◌≢◌, ◌<◌, ◌≤◌, ◌⊎◌, length, IsTrue, MatchOption, ℕ, Some, None};
+ghost use Rattle.l4_fpage.specs.Pages.{space_pages};
 ghost use Rattle.l4_links.specs.Entries.{IsSource, entry_at};
 ghost use Rattle.l4_mapdb.specs.Inside.Kept.{IsClean};
 ghost use Rattle.l4_mapdb.specs.Inside.Messages.{IsMoved, turn, turn_of, IsNextMove, IsNextOfItem, Marks};
@@ -111,7 +112,7 @@ pub(crate) fn next_move(
     item: usize,
     page: u32,
 ) -> Option<UsedMove>
-    requires { page ≤ 1048576 }
+    requires { page ≤ space_pages }
     ensures { MatchOption result
         ((move : UsedMove) → IsMoved links.now.entries from to items.now move → turn_of move < turn item page)
         (IsNextMove links.now.entries from to items.now (turn item page)) }

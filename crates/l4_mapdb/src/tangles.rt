@@ -3,7 +3,7 @@
 ghost use Rattle.std.specs.Prelude.{◌≡◌, ◌≢◌, ◌↔◌, ◌<◌, ◌≤◌, ◌⊎◌, ℕ, length, IsTrue, MatchOption};
 ghost use Rattle.l4_links.specs.Entries.{entry_at, IsAt, IsStanding, IsSource, Descends};
 ghost use Rattle.l4_mapdb.specs.Inside.Messages.{IsMoved};
-ghost use Rattle.l4_mapdb.specs.Inside.Tangles.{FillsToo, MovesToo, IsTaken, Clashes, Tangles, TanglesFrom, HasTangle, AboveSource, SourcesAre};
+ghost use Rattle.l4_mapdb.specs.Inside.Tangles.{IsTaken, Clashes, ClashesWith, Tangles, TanglesFrom, HasTangle, AboveSource, SourcesAre};
 ghost use Rattle.l4_mapdb.specs.declared.sources.UsedMove.{UsedMove as AUsedMove};
 
 use crate::sources::{UsedMove, move_out, next_move};
@@ -52,82 +52,29 @@ fn into_place(
     None
 }
 
-/// The used move of the item `other` into the place, None too if that is this item.
-fn other_into(
+/// Whether the item `other`, if it is another one, fills what the used move fills, or moves what it grants.
+fn clashes_with(
     links: &Links,
     from: u64,
     to: u64,
     items: &[ItemMove],
-    item: usize,
+    used: &UsedMove,
     other: usize,
-    place: Place,
-) -> Option<UsedMove>
-    requires { other < length items.now }
-    ensures { MatchOption result
-        ((move : AUsedMove) → IsMoved links.now.entries from to items.now move → move.item ≡ other → item ≢ move.item → move.target ≢ place)
-        (λ m. IsMoved links.now.entries from to items.now m × (item ≢ m.item) × (m.target ≡ place)) }
-{
-    if other == item {
-        return None;
-    }
-    move_into(links, from, to, items, other, place)
-}
-
-/// The used move of the item `other` out of the page, None too if that is this item.
-fn other_out(
-    links: &Links,
-    from: u64,
-    to: u64,
-    items: &[ItemMove],
-    item: usize,
-    other: usize,
-    page: u32,
-) -> Option<UsedMove>
-    requires { other < length items.now }
-    ensures { MatchOption result
-        ((move : AUsedMove) → IsMoved links.now.entries from to items.now move → move.item ≡ other → item ≢ move.item → move.page ≢ page)
-        (λ m. IsMoved links.now.entries from to items.now m × (item ≢ m.item) × (m.page ≡ page)) }
-{
-    if other == item {
-        return None;
-    }
-    move_out(links, from, to, items, other, page)
-}
-
-/// Whether another item than this one fills the place.
-fn is_filled_too(
-    links: &Links,
-    from: u64,
-    to: u64,
-    items: &[ItemMove],
-    item: usize,
-    place: Place,
 ) -> bool
-    ensures { IsTrue result ↔ FillsToo (IsMoved links.now.entries from to items.now) item place }
+    requires { other < length items.now }
+    ensures { IsTrue result ↔ ClashesWith (IsMoved links.now.entries from to items.now) used.now other }
 {
-    for other in 0..items.len() {
-        if let Some(_) = other_into(links, from, to, items, item, other, place) {
-            return true;
-        }
+    if other == used.item {
+        return false;
     }
-    false
-}
-
-/// Whether another item than this one moves the page.
-fn is_moved_too(
-    links: &Links,
-    from: u64,
-    to: u64,
-    items: &[ItemMove],
-    item: usize,
-    page: u32,
-) -> bool
-    ensures { IsTrue result ↔ MovesToo (IsMoved links.now.entries from to items.now) item page }
-{
-    for other in 0..items.len() {
-        if let Some(_) = other_out(links, from, to, items, item, other, page) {
-            return true;
-        }
+    if let Some(_) = move_into(links, from, to, items, other, used.target) {
+        return true;
+    }
+    if !used.grant {
+        return false;
+    }
+    if let Some(_) = move_out(links, from, to, items, other, used.page) {
+        return true;
     }
     false
 }
@@ -136,13 +83,12 @@ fn is_moved_too(
 fn clashes(links: &Links, from: u64, to: u64, items: &[ItemMove], used: &UsedMove) -> bool
     ensures { IsTrue result ↔ Clashes (IsMoved links.now.entries from to items.now) used.now }
 {
-    if is_filled_too(links, from, to, items, used.item, used.target) {
-        return true;
+    for other in 0..items.len() {
+        if clashes_with(links, from, to, items, used, other) {
+            return true;
+        }
     }
-    if !used.grant {
-        return false;
-    }
-    is_moved_too(links, from, to, items, used.item, used.page)
+    false
 }
 
 /// Whether a used move fills the page of what stands under the key, or of what it descends from.

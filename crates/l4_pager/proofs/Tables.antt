@@ -1,13 +1,13 @@
 -- Entries that meet, and the entry for a page.
-use Rattle.std.proofs.Common.{◌≡◌, ℕ, zero, suc, ◌+◌, ◌-◌, ◌^◌, ◌<◌, ◌≤◌, ◌⊎◌, ◌&&◌, Bool, true, false, cond, nat_le, nat_lt, List, [], ◌∷◌, ◌++◌, Option, Some, None, length, drop, get_or, inl, inr, refl, sym, ap, ◌∙◌, subst, arith, IsTrue}
+use Rattle.std.proofs.Common.{◌≡◌, ℕ, zero, suc, ◌+◌, ◌-◌, ◌^◌, ◌<◌, ◌≤◌, ◌⊎◌, ◌&&◌, Bool, true, false, cond, nat_lt, List, [], ◌∷◌, ◌++◌, Some, length, get_or, inl, inr, refl, sym, ap, ◌∙◌, subst, arith}
 use Rattle.std.proofs.lemmas.Bool.Decides.{nat_tests}
-use Rattle.std.proofs.lemmas.List.{at_drop_more, at_drop_all, get_or_default}
-use Rattle.std.specs.List.{find, All, AllPairs}
+use Rattle.std.proofs.lemmas.List.{get_or_default}
+use Rattle.std.specs.List.{find, All}
 use Rattle.std.proofs.lemmas.List.Elements.{All-push}
 use Rattle.std.proofs.lemmas.List.Quantifiers.{all_pairs_push}
 use Rattle.l4_fpage.specs.Rights.{RightsSet}
 use Rattle.l4_pager.specs.declared.regions.Entry.{Entry}
-use Rattle.l4_pager.specs.Regions.{IsBad, is_for, Meet, serves, entry_for, IsTable, AddFails, CanAdd}
+use Rattle.l4_pager.specs.Regions.{IsBad, is_for, Meet, serves, entry_for, IsTable, CanAdd}
 
 pub for_page : (e : Entry) (page : ℕ) → e.first ≤ page → page < e.first + e.count → is_for e page ≡ true
 for_page e page from below = grind (arith, nat_tests, from, below)
@@ -47,17 +47,6 @@ true_lt a b h = grind (arith, nat_tests, h)
 
 pub lt_true : (a b : ℕ) → nat_lt a b ≡ true → a < b
 lt_true a b h = grind (arith, nat_tests, h)
-
-pub find_here : (p : Entry → Bool) (xs : List Entry) (i : ℕ) (d : Entry) → i < length xs → find p xs ≡ find p (drop i xs) → p (get_or xs i d) ≡ true → find p xs ≡ Some (get_or xs i d)
-find_here p xs i d lt so_far passes =
-    so_far ∙ at_drop_more (find p) xs i d lt ∙ ap (λ b. cond b (Some (get_or xs i d)) (find p (drop (i + 1) xs))) passes
-
-pub find_further : (p : Entry → Bool) (xs : List Entry) (i : ℕ) (d : Entry) → i < length xs → find p xs ≡ find p (drop i xs) → p (get_or xs i d) ≡ false → find p xs ≡ find p (drop (i + 1) xs)
-find_further p xs i d lt so_far fails =
-    so_far ∙ at_drop_more (find p) xs i d lt ∙ ap (λ b. cond b (Some (get_or xs i d)) (find p (drop (i + 1) xs))) fails
-
-pub find_end : (p : Entry → Bool) (xs : List Entry) (i : ℕ) → length xs ≤ i → find p xs ≡ find p (drop i xs) → find p xs ≡ None
-find_end p xs i le so_far = so_far ∙ at_drop_all (find p) xs i le
 
 pub find_passes : (p : Entry → Bool) (P : Entry → Type 0) (xs : List Entry) (e : Entry) → All P xs → find p xs ≡ Some e → (p e ≡ true) × P e
 find_passes p P [] e all h = absurd (cc)

@@ -209,10 +209,6 @@ told ss k (Some i) h = sym (stands_has k ss i h)
 pub next_absent : (ss : Live) (s : Tables) (k page : ℕ) → shown ss ≡ s → has ss k ≡ false → NonePresentFrom s k page
 next_absent ss s k page view h other le here = let e : false ≡ true = sym (ap is_some (absent_key ss s k other view h)) ∙ here in cc
 
-some_of : (o : Option ℕ) → is_some o ≡ true → (key : ℕ) × (o ≡ Some key)
-some_of None h = absurd (let k : false ≡ true = h in cc)
-some_of (Some key) h = (key, refl)
-
 none_at : (ss : Live) (s : Tables) (k : ℕ) (ts : Rows) (other : ℕ) → shown ss ≡ s → tables_of ss k ≡ ts → entry ts other ≡ None → ¬ (IsPresent s k other)
 none_at ss s k ts other view is none here =
     let n : key_of s k other ≡ None = found ss s k other view ∙ ap (λ (t : Rows). entry t other) is ∙ none in

@@ -43,9 +43,6 @@ is_in-push (x ∷ xs) n q = ap (λ b. (q == x) || b) (is_in-push xs n q) ∙ reg
 abbrev pub left_by : ℕ → List ℕ → List ℕ
 left_by n xs = filter (λ m. not (m == n)) xs
 
-turn : (a b : ℕ) → (a == b) ≡ (b == a)
-turn a b = elim (same_or a b) [ inl is ↦ eq-eqb a b is ∙ sym (eq-eqb b a (sym is)) | inr ne ↦ differ a b ne ∙ sym (differ b a (λ is. ne (sym is))) ]
-
 pub is_in-left_by : (n : ℕ) (xs : List ℕ) (q : ℕ) → is_in (left_by n xs) q ≡ (is_in xs q && not (q == n))
 is_in-left_by n [] q = refl
 is_in-left_by n (x ∷ xs) q =

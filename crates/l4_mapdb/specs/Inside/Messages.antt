@@ -1,5 +1,6 @@
 -- What a message moves, by keys, and what is done to pages before they are moved. (this profile's own)
 use Rattle.std.specs.Prelude.{◌≡◌, ◌≢◌, ◌⊎◌, ◌<◌, ◌≤◌, ◌+◌, ◌*◌, ◌^◌, ℕ, Bool, List, Option, Some, None, true, false, slice_get, option_and_then, option_map}
+use Rattle.l4_fpage.specs.Pages.{space_pages}
 use Rattle.l4_fpage.specs.Rights.{common, no_rights}
 use Rattle.l4_msg.specs.Moves.{MovePairs}
 use Rattle.l4_links.specs.declared.Place.{Place as LinkPlace}
@@ -39,7 +40,7 @@ pub record IsMoved (s : Entries) (from to : ℕ) (items : List ItemMove) (move :
 
 -- where a page of an item stands in the order of items and of their pages
 abbrev pub turn : ℕ → ℕ → ℕ
-turn item page = item * 1048576 + page
+turn item page = item * space_pages + page
 
 abbrev pub turn_of : UsedMove → ℕ
 turn_of move = turn move.item move.page
@@ -79,10 +80,6 @@ pub record IsWanted (s : Entries) (place : LinkPlace) : Type 0 where
 -- the sources of the used moves before this turn are marked
 abbrev pub SourcesMarked : ℕ → ℕ → List ItemMove → Entries → Entries → ℕ → Type 0
 SourcesMarked from to items old new next = (move : UsedMove) → IsMoved old from to items move → turn_of move < next → IsSource new move.source
-
--- the targets of the used moves before this turn are wanted
-abbrev pub TargetsWanted : ℕ → ℕ → List ItemMove → Entries → Entries → ℕ → Type 0
-TargetsWanted from to items old new next = (move : UsedMove) → IsMoved old from to items move → turn_of move < next → IsWanted new move.target
 
 -- an entry without its marks, nothing where it was a blank
 abbrev pub tidied : Option Entry → Option Entry

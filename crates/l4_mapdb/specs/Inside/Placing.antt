@@ -75,13 +75,10 @@ module _ (start : Linked) (from to : ℕ) (items : List ItemMove) where
     earlier : move.item < item → IsBefore item page move
     same : move.item ≡ item → move.source.page < page → IsBefore item page move
 
-  -- the moves of map items that were come by
-  abbrev pub MapsDone : ℕ → ℕ → PageMove → Type 0
-  MapsDone item page move = (¬ (IsTrue move.grant)) × IsBefore item page move
-
-  -- all moves of map items, and those of grant items that were come by
-  abbrev pub GrantsDone : ℕ → ℕ → PageMove → Type 0
-  GrantsDone item page move = (¬ (IsTrue move.grant)) ⊎ IsBefore item page move
+  -- Moves of map items are carried out first, and then those of grant items. Of the kind whose moves are carried out those are done that were come by,
+  -- and where that is granting, all that map.
+  abbrev pub IsDone : Bool → ℕ → ℕ → PageMove → Type 0
+  IsDone grants item page move = (IsTrue grants × ¬ (IsTrue move.grant)) ⊎ ((move.grant ≡ grants) × IsBefore item page move)
 
 -- a page that a message moves from here: what stands there is marked and was not granted, and shares a right with the item
 pub record IsSourceAt (s : Entries) (place : LinkPlace) (rights : RightsSet) (key : ℕ) : Type 0 where
@@ -107,6 +104,10 @@ pub record GrantsPage (source target : LinkPlace) (rights : RightsSet) (old new 
   pub blank : ℕ
   pub at : IsAt old target blank
   pub takes : TakesOver key blank rights old new
+
+-- the page is moved as an item of this kind moves it
+abbrev pub MovesPage : Bool → LinkPlace → LinkPlace → RightsSet → Entries → Entries → Type 0
+MovesPage grants source target rights old new = ((grants ≡ false) × MapsPage source target rights old new) ⊎ ((grants ≡ true) × GrantsPage source target rights old new)
 
 -- no page is moved from here
 abbrev pub MovesNone : LinkPlace → RightsSet → Entries → Type 0

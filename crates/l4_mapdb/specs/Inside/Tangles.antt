@@ -37,6 +37,18 @@ module _ (Used : UsedMove → Type 0) where
     pub at : IsAt s other.target key
     pub above : (low ≡ key) ⊎ Descends s low key
 
+  -- the other move fills the move's target, or is out of what the move grants
+  abbrev pub Meets : UsedMove → UsedMove → Type 0
+  Meets move other = (other.target ≡ move.target) ⊎ (IsTrue move.grant × (other.page ≡ move.page))
+
+  -- a used move of this other item does
+  pub record ClashesWith (move : UsedMove) (item : ℕ) : Type 0 where
+    pub other : UsedMove
+    pub used : Used other
+    pub item_is : other.item ≡ item
+    pub differ : move.item ≢ other.item
+    pub meets : Meets move other
+
   -- another item fills the move's target, or moves what the move grants
   abbrev pub Clashes : UsedMove → Type 0
   Clashes move = FillsToo move.item move.target ⊎ (IsTrue move.grant × MovesToo move.item move.page)

@@ -1,7 +1,6 @@
-use Rattle.std.proofs.Common.{◌≡◌, ℕ, Some, List, Option, IsTrue, sym, ap, ◌∙◌, subst, option_and_then}
+use Rattle.std.proofs.Common.{◌≡◌, IsTrue, sym, ap, ◌∙◌, subst, option_and_then}
 use Rattle.std.specs.FinSet as set
 use Rattle.l4_links.specs.declared.Entry.{Entry}
-use Rattle.l4_links.specs.Entries.{Linked, entry_at, standing_at}
 use Rattle.l4_mapdb.specs.Mappings.{Mappings, IsForest}
 use Rattle.l4_mapdb.proofs.UsedMoves.{delivers_keep}
 use Rattle.l4_mapdb.specs.Inside.View.{mappings_of}

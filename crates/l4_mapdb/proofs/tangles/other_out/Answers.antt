@@ -1,9 +1,0 @@
-use Rattle.std.proofs.Common.{◌≡◌, ◌≢◌, arith}
-use Rattle.std.proofs.lemmas.Bool.Decides.{nat_tests}
-use Rattle.l4_mapdb.proofs.Tangling.{others}
-use Rattle.l4_mapdb.proofs.tangles.other_out.Goals as goal
-
-pub returns : goal.returns
-returns c =
-    let ne : c.args.other ≢ c.args.item = grind (arith, nat_tests, c.if-other-item.false) in
-    others c.args.links.now.entries c.args.from c.args.to c.args.items.now (λ u. u.page ≡ c.args.page) c.args.item c.args.other c.move_out.result ne c.move_out.ensures
