@@ -1,5 +1,5 @@
 -- What the registers hold.
-use Rattle.std.proofs.Common.{◌≡◌, ℕ, ◌+◌, ◌<◌, ◌≤◌, ◌++◌, ◌∷◌, [], List, length, length-append, get_or, refl, subst, inl, inr, arith}
+use Rattle.std.proofs.Common.{◌≡◌, ℕ, ◌+◌, ◌<◌, ◌++◌, ◌∷◌, [], List, length, length-append, get_or, subst, inl, inr, arith}
 use Rattle.std.proofs.lemmas.Bool.{cases_lt}
 use Rattle.std.proofs.lemmas.List.{get_or_push}
 use Rattle.std.proofs.Math.ListN.{get_or-append}
@@ -8,7 +8,7 @@ use Rattle.l4_fpage.specs.Fpages.{ReadsAs, IsMalformed}
 use Rattle.l4_fpage.specs.declared.fpages.Fpage.{Fpage}
 use Rattle.l4_fpage.specs.declared.fpages.Fpage.TheVariants.{Nil}
 use Rattle.l4_fpage.proofs.Same.{malformed_reads_none}
-use Rattle.l4_unmap.specs.Unmap.{fpage_count, UnmapReads, UnmapFails}
+use Rattle.l4_unmap.specs.Unmap.{UnmapReads, UnmapFails}
 use Rattle.l4_unmap.specs.declared.UnmapFault.{UnmapFault}
 use Rattle.l4_unmap.specs.declared.UnmapFault.TheVariants.{BadFpage, TooFew}
 

@@ -1,9 +1,9 @@
 -- Rights that are lost in two steps are lost in one.
-use Rattle.std.proofs.Common.{◌≡◌, ◌≢◌, Bool, true, false, Option, Some, None, IsTrue, refl, sym, ap, ◌∙◌, ◌↔◌, subst, inl, inr, ◌⊎◌, unwrap_or}
+use Rattle.std.proofs.Common.{◌≡◌, ◌≢◌, Option, Some, None, IsTrue, refl, sym, ◌∙◌, ◌↔◌, subst, inl, inr, ◌⊎◌}
 use Rattle.l4_fpage.specs.Rights.{RightsSet, Right, Read, Write, Execute, has, no_rights}
 use Rattle.l4_mapdb.specs.declared.Place.{Place}
 use Rattle.l4_mapdb.specs.declared.Mapping.{Mapping}
-use Rattle.l4_mapdb.specs.Mappings.{Mappings, shown, IsForest}
+use Rattle.l4_mapdb.specs.Mappings.{Mappings, shown}
 use Rattle.l4_mapdb.specs.Losing.{IsLeft, LosesRights}
 use Rattle.l4_mapdb.proofs.ForestKept.{decide, left, left_is, no_right}
 use Rattle.l4_mapdb.proofs.Unique.{same_value, same_rights}

@@ -1,14 +1,12 @@
 -- What is under a page of a space stays under it as long as it is there.
-use Rattle.std.proofs.Common.{◌≡◌, ℕ, Bool, Some, sym, ap, ◌∙◌, subst, inl, inr, ◌⊎◌, option_and_then}
+use Rattle.std.proofs.Common.{◌≡◌, ℕ, Bool, Some, sym, ap, ◌∙◌, subst, inl, inr, option_and_then}
 use Rattle.l4_fpage.specs.Rights.{Right}
 use Rattle.l4_mapdb.specs.declared.Place.{Place}
 use Rattle.l4_mapdb.specs.declared.Mapping.{Mapping}
 use Rattle.l4_mapdb.specs.Mappings.{Mappings, shown, parent_of, child, further, Descends, IsForest}
 use Rattle.l4_mapdb.specs.Losing.{LosesRights}
 use Rattle.l4_mapdb.proofs.Climbing.{shows_parent}
-use Rattle.l4_mapdb.proofs.ForestKept.{forest_kept, forest_loose}
-use Rattle.l4_unmap.specs.Inside.Taking.{IsUnder, GoesWith, Takes}
-use Rattle.l4_unmap.proofs.Together.{loses_both}
+use Rattle.l4_unmap.specs.Inside.Taking.{IsUnder}
 
 -- the page of the space
 abbrev pub page_of : ℕ → ℕ → Place
