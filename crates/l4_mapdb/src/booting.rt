@@ -6,9 +6,9 @@ ghost use Rattle.l4_spaces.specs.Tables.{space_pages};
 ghost use Rattle.l4_links.specs.Entries.{HavePlaces};
 ghost use Rattle.l4_mapdb.specs.Inside.Kept.{OwnsFirst};
 
+use crate::NoMemory;
 use l4_fpage::Rights;
 use l4_links::{Links, Place};
-use crate::NoMemory;
 
 /// Lets space 0 show each frame at the page of its number, and keeps the key of each.
 pub(crate) fn own_places(

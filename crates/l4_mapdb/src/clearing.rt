@@ -5,9 +5,9 @@ ghost use Rattle.l4_links.specs.Entries.{entry_at, IsAt, HaveRights, Clears};
 ghost use Rattle.l4_mapdb.specs.declared.sources.UsedMove.{UsedMove as AUsedMove};
 ghost use Rattle.l4_mapdb.specs.Inside.Messages.{IsMoved, IsWanted, IsClearedAt, Goes};
 
+use crate::ItemMove;
 use crate::sources::next_move;
 use l4_links::{Links, Place};
-use crate::ItemMove;
 
 /// Clears what stands at the place, if it has a key.
 fn clear_page(links: &mut Links, place: Place)

@@ -5,9 +5,9 @@ ghost use Rattle.l4_fpage.specs.Pages.{space_pages};
 ghost use Rattle.l4_links.specs.Entries.{IsAt};
 ghost use Rattle.l4_mapdb.specs.Inside.Cutting.{Capped, IsGrantedAt, IsGrantOf, IsGrantBy, IsGrantBelow};
 
+use crate::ItemMove;
 use l4_fpage::{Block, Rights};
 use l4_links::{Links, Place};
-use crate::ItemMove;
 
 /// The page after a block's last one.
 pub(crate) fn end_of(block: Block) -> u32

@@ -8,11 +8,11 @@ ghost use Rattle.l4_mapdb.specs.Inside.Kept.{IsClean, RootsKnown};
 ghost use Rattle.l4_mapdb.specs.Inside.Messages.{Cleared};
 ghost use Rattle.l4_mapdb.specs.Inside.Placing.{IsStart};
 
+use crate::ItemMove;
 use crate::cutting::cut;
 use crate::moving::move_all;
 use crate::unmarking::unmark;
 use l4_links::Links;
-use crate::ItemMove;
 
 /// Carries out the used moves of a message that has made way, cuts what descends from granted pages, and takes all marks away.
 pub(crate) fn carry_out(links: &mut Links, from: u64, to: u64, items: &[ItemMove])

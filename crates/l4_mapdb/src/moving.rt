@@ -4,10 +4,10 @@ ghost use Rattle.std.specs.Prelude.{MatchOption, ◌≡◌, ◌+◌, ◌^◌, �
 ghost use Rattle.l4_links.specs.Entries.{Linked};
 ghost use Rattle.l4_mapdb.specs.Inside.Placing.{IsStart, Placed, IsDone, MovesPage, IsSourceAt, MovesNone, HasBlank};
 
+use crate::ItemMove;
 use crate::cutting::end_of;
 use l4_fpage::Rights;
 use l4_links::{Links, Place};
-use crate::ItemMove;
 
 /// The key of a page that a message moves: what stands there is marked and was not granted, and shares a right with the item.
 fn source_at(links: &Links, place: Place, rights: Rights) -> Option<usize>

@@ -15,8 +15,8 @@ use crate::room::make_room;
 use crate::sources::mark_sources;
 use crate::tangles::marked_tangle;
 use crate::unmarking::unmark;
-use l4_links::Links;
 use crate::{Cause, ItemMove};
+use l4_links::Links;
 
 /// Marks the sources of the used moves and gives each target a key, unless the used moves contradict each other or memory is refused.
 fn make_ready(links: &mut Links, from: u64, to: u64, items: &[ItemMove]) -> Result<(), Cause>

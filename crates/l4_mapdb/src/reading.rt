@@ -5,8 +5,8 @@ ghost use Rattle.l4_mapdb.specs.Mappings.{shown};
 ghost use Rattle.l4_mapdb.specs.Inside.View.{place_at, mappings_of};
 ghost use Rattle.l4_mapdb.specs.Inside.Kept.{IsRootKey, NoRootKey, kept_at};
 
-use l4_links::{Entry, Links};
 use crate::{Mapping, Place};
+use l4_links::{Entry, Links};
 
 /// The place of the key.
 fn place_of(links: &Links, key: Option<usize>) -> Option<Place>

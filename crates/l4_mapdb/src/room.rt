@@ -7,9 +7,9 @@ ghost use Rattle.l4_links.specs.Entries.{entry_at, IsAt};
 ghost use Rattle.l4_mapdb.specs.declared.sources.UsedMove.{UsedMove as AUsedMove};
 ghost use Rattle.l4_mapdb.specs.Inside.Messages.{IsMoved, IsWanted, IsFilled, Wants};
 
+use crate::ItemMove;
 use crate::sources::next_move;
 use l4_links::{Links, NoMemory, Place};
-use crate::ItemMove;
 
 /// Gives the page a key if it has none, and notes that it is wanted.
 fn want_page(links: &mut Links, place: Place) -> Result<(), NoMemory>

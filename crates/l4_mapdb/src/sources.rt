@@ -6,9 +6,9 @@ ghost use Rattle.l4_links.specs.Entries.{IsSource, entry_at};
 ghost use Rattle.l4_mapdb.specs.Inside.Kept.{IsClean};
 ghost use Rattle.l4_mapdb.specs.Inside.Messages.{IsMoved, turn, turn_of, IsNextMove, IsNextOfItem, Marks};
 
+use crate::ItemMove;
 use crate::cutting::end_of;
 use l4_links::{Links, Place};
-use crate::ItemMove;
 
 /// What one item of a message does to one page.
 #[derive(Clone, Copy)]

@@ -6,9 +6,9 @@ ghost use Rattle.l4_mapdb.specs.Inside.Messages.{IsMoved};
 ghost use Rattle.l4_mapdb.specs.Inside.Tangles.{IsTaken, Clashes, ClashesWith, Tangles, TanglesFrom, HasTangle, AboveSource, SourcesAre};
 ghost use Rattle.l4_mapdb.specs.declared.sources.UsedMove.{UsedMove as AUsedMove};
 
+use crate::ItemMove;
 use crate::sources::{UsedMove, move_out, next_move};
 use l4_links::{Entry, Links, Place};
-use crate::ItemMove;
 
 /// The used move of the item of this number into the place.
 fn move_into(

@@ -1,6 +1,5 @@
-use crate::Forest;
+use crate::{Cause, Forest, ItemMove, Mapping, NoMemory, Place};
 use l4_fpage::{Block, Rights};
-use crate::{Cause, ItemMove, Mapping, NoMemory, Place};
 use l4_msg::Move;
 use std::test::Fail;
 

@@ -5,10 +5,10 @@ ghost use Rattle.l4_fpage.specs.Pages.{InBlock};
 ghost use Rattle.l4_links.specs.declared.Place.{Place as ALinkPlace};
 ghost use Rattle.l4_mapdb.specs.Inside.Messages.{Tidies, InPages, OfItem, OfItems};
 
+use crate::ItemMove;
 use crate::cutting::end_of;
 use l4_fpage::Block;
 use l4_links::{Links, Place};
-use crate::ItemMove;
 
 /// Takes the marks from the page, and its key if nothing stands there.
 fn tidy_page(links: &mut Links, place: Place)
