@@ -5,6 +5,7 @@
  *   WRITE_BYTES=N, WRITE_FAILS=K    the same of writes to standard output
  *   WRITE_NONE=K    write K and all after it take nothing
  *   MEMORY_FAILS=K  growth K of the memory fails, and no other
+ *   MEMORY_ENDS=K   from read K on every growth of the memory fails
  */
 #define _GNU_SOURCE
 #include <errno.h>
@@ -17,6 +18,8 @@ static long setting(const char *name) {
     return text ? atol(text) : 0;
 }
 
+static int memory_ended;
+
 static size_t at_most(size_t count, long most) {
     return most > 0 && (size_t)most < count ? (size_t)most : count;
 }
@@ -25,8 +28,10 @@ ssize_t read(int file, void *bytes, size_t count) {
     static long calls;
     const char *endless = getenv("READ_ENDLESS");
     if (file == STDIN_FILENO) {
-        long fails = setting("READ_FAILS");
+        long fails = setting("READ_FAILS"), ends = setting("MEMORY_ENDS");
         calls++;
+        if (ends && calls >= ends)
+            memory_ended = 1;
         if (fails && calls >= fails) {
             errno = EIO;
             return -1;
@@ -62,7 +67,7 @@ extern void *__libc_realloc(void *, size_t);
 static int growth_fails(void) {
     static long growths;
     long fails = setting("MEMORY_FAILS");
-    return fails && ++growths == fails;
+    return memory_ended || (fails && ++growths == fails);
 }
 
 void *malloc(size_t size) {
