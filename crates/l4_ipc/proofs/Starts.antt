@@ -1,6 +1,7 @@
 -- Starts, as the machine says them.
 use Rattle.std.proofs.Common.{◌≡◌, ◌≢◌, ℕ, ◌==◌, Bool, true, false, if◌then◌else◌, not, Option, Some, None, [], ◌∷◌, Ok, MatchOption, IsTrue, IsSome, refl, sym, ap, ◌∙◌, subst}
 use Rattle.std.specs.Option.{option_map_or, option_map}
+use Rattle.std.proofs.lemmas.Bool.{false≢true}
 use Rattle.l4_fpage.specs.declared.fpages.Fpage.{Fpage}
 use Rattle.l4_mapdb.specs.Mappings.{Mappings}
 use Rattle.l4_threads.specs.declared.Later.{Later}
@@ -27,7 +28,7 @@ use Rattle.l4_ipc.specs.declared.steps.Refused.{Refused}
 use Rattle.l4_ipc.specs.declared.steps.Refused.TheVariants.{UnknownThread}
 use Rattle.l4_ipc.specs.declared.steps.Step.TheVariants.{Start, Expire}
 use Rattle.l4_ipc.specs.Machine.{Machine, machine}
-use Rattle.l4_ipc.specs.Start.{IsAccepted, CallRefuses, RefusesIn, StartRefuses, ipc_next, going_on, enters, ended_by}
+use Rattle.l4_ipc.specs.Start.{has_send, IsSent, IsAccepted, CallRefuses, RefusesIn, StartRefuses, later_of, ipc_next, going_on, enters, ended_by}
 use Rattle.l4_ipc.specs.Inside.Entering.{CanEnter}
 use Rattle.l4_ipc.specs.Steps.{expiry, Meets, sender_next, Steps}
 use Rattle.l4_ipc.proofs.Threads.{running_thread, put_there, pager_there, has_state, state_other}
@@ -104,3 +105,30 @@ can_enter_after t after sender receiver «from» to sends takes meets done reply
       enters_next : (done : Bool) → IsSome (state_of after sender) → IsTrue (may_receive after sender) → CanEnter after sender (sender_next done t sends)
       enters_next true there may = can_go_on after t sender sends.«then» sends.fault there may
       enters_next false there may = there
+
+-- A CALL WITHOUT A SEND PHASE
+
+-- what it sends
+abbrev pub nothing : Sent
+nothing = record { words = record { items = [] }; items = record { items = [] } }
+
+pub sends_nothing : (call : IpcCall) → has_send call ≡ false → IsSent (has_send call) call.words.items nothing
+sends_nothing call h = subst (λ b. IsSent b call.words.items nothing) (sym h) (refl, refl)
+
+else_of : {A : Type 0} (b : Bool) (x y : A) → b ≡ false → (if b then x else y) ≡ y
+else_of b x y h = ap (λ b. if b then x else y) h
+
+pub receives_next : (t : Threads) (n : ℕ) (call : IpcCall) (window : Fpage) → has_send call ≡ false → ipc_next t n call nothing window ≡ going_on t (later_of call window) false
+receives_next t n call window h = else_of (has_send call) _ (going_on t (later_of call window) false) h
+
+-- a running thread can go on
+pub can_receive : (t : Threads) (n : ℕ) (later : Option Later) (next : Next) → IsTrue (runs t n) → next ≡ going_on t later false → CanEnter t n next
+can_receive t n later next runs is =
+    let there = running_thread t n runs in
+    subst (CanEnter t n) (sym is)
+    (can_go_on t t n later false (has_state t n (running_there t n runs))
+    (subst (λ (o : Option Thread). IsTrue (option_map_or (λ x. not (is_receiving x)) (option_map (λ (x : Thread). x.state) o) false)) (sym there.1.0) (quiet there.0.state there.1.1))) where
+      quiet : (s : State) → IsTrue (is_running s) → IsTrue (not (is_receiving s))
+      quiet (Running reply) h = refl
+      quiet (IsSender sends) h = refl
+      quiet (IsReceiver takes) h = absurd (false≢true h)

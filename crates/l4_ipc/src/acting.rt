@@ -1,11 +1,12 @@
 //! The steps on the kernel's parts.
-ghost use Rattle.std.specs.Prelude.{◌≡◌, ◌∷◌, [], ℕ, IsTrue, IsSome, OnOk, OnErr};
+ghost use Rattle.std.specs.Prelude.{◌≡◌, ◌∷◌, [], ℕ, false, IsTrue, IsSome, OnOk, OnErr};
 ghost use Rattle.l4_mapdb.specs.Mappings.{Mappings};
 ghost use Rattle.l4_threads.specs.Threads.{state_of, runs, end_call};
 ghost use Rattle.l4_threads.specs.declared.Reply.TheVariants.{Controlled};
 ghost use Rattle.l4_ipc.specs.Machine.{machine};
 ghost use Rattle.l4_threads.specs.Control.{asks_new};
 ghost use Rattle.l4_ipc.specs.Inside.Sound.{HaveSpaces};
+ghost use Rattle.l4_ipc.specs.Start.{has_send};
 ghost use Rattle.l4_ipc.specs.Steps.{expiry, with_space, Steps};
 ghost use Rattle.l4_ipc.specs.declared.steps.Step.TheVariants.{Start, Transfer as Transfers, Expire as Expires};
 ghost use Rattle.l4_ipc.specs.declared.steps.Outcome.TheVariants.{Started};
@@ -16,7 +17,7 @@ use crate::calls::{Call, Control, Create, FaultCall, IpcCall, SetPager, UnmapCal
 use crate::deleting::delete;
 use crate::delivering::{deliver, is_done, meet, receiver_reply, sender_next};
 use crate::faulting::fault_next;
-use crate::starting::{enter, ipc_next};
+use crate::starting::{enter, going_on, ipc_next};
 use crate::steps::{Answer, Lower, Outcome, Refused};
 use arrayvec::ArrayVec;
 use l4_mapdb::{Forest, NoMemory};
@@ -32,11 +33,35 @@ fn only(number: u32) -> ArrayVec<u32, MAX_THREADS>
     list
 }
 
+/// Starts an Ipc without a send phase of a running thread: of the message, nothing is read.
+fn start_receive(threads: &mut Threads, number: u32, call: &IpcCall) -> Result<Answer, Refused>
+    requires running { IsTrue (runs threads.old number) }
+    requires receives { has_send call.now ≡ false }
+    ensures { (s : Mappings) → Steps (machine threads.old s) (Start number (Ipc call.now)) result (machine threads.new s) }
+{
+    if call.has_bad_timeout() {
+        return Err(Refused::BadTimeout);
+    }
+    let window = match call.window() {
+        Ok(window) => window,
+        Err(fault) => return Err(Refused::Lower(Lower::Message(fault))),
+    };
+    let next = going_on(threads, call.later(window), false);
+    let ended = enter(threads, number, next);
+    Ok(Answer {
+        outcome: Outcome::Started,
+        ended,
+    })
+}
+
 /// Starts an Ipc of a running thread.
 fn start_ipc(threads: &mut Threads, number: u32, call: &IpcCall) -> Result<Answer, Refused>
     requires { IsTrue (runs threads.old number) }
     ensures { (s : Mappings) → Steps (machine threads.old s) (Start number (Ipc call.now)) result (machine threads.new s) }
 {
+    if !call.has_send() {
+        return start_receive(threads, number, call);
+    }
     let (sent, window) = match call.read() {
         Ok(read) => read,
         Err(refused) => return Err(refused),

@@ -61,7 +61,7 @@ impl IpcCall {
     }
 
     /// Whether the timeout of a phase that the call has is neither never nor zero.
-    fn has_bad_timeout(&self) -> bool
+    pub(crate) fn has_bad_timeout(&self) -> bool
         ensures { result ≡ has_bad_timeout self.now }
     {
         (self.has_send() && !is_timeout(self.send_timeout()))
@@ -98,7 +98,7 @@ impl IpcCall {
     }
 
     /// The receive window; nil without a receive phase.
-    fn window(&self) -> Result<Fpage, MsgFault>
+    pub(crate) fn window(&self) -> Result<Fpage, MsgFault>
         ensures ok { IfOk result (IsWindow (has_receive self.now) self.now.acceptor) }
         ensures err { IfErr result (λ fault. (has_receive self.now ≡ true) × IsBadWindow self.now.acceptor × (fault ≡ MsgFault.BadWindow)) }
         ensures only { (window : AnFpage) → IsWindow (has_receive self.now) self.now.acceptor window → IsOk result }

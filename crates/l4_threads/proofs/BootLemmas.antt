@@ -20,7 +20,7 @@ use Rattle.l4_threads.proofs.QueueLemmas.{once-push}
 abbrev pub new_thread : ThreadId → ℕ → ThreadId → Thread
 new_thread id space pager = record { id = id; space = space; pager = pager; state = Running None }
 
-numbers-push : (es : Entries) (e : ℕ × Thread) → map (λ x. x.0) (es ++ e ∷ []) ≡ map (λ x. x.0) es ++ e.0 ∷ []
+pub numbers-push : (es : Entries) (e : ℕ × Thread) → map (λ x. x.0) (es ++ e ∷ []) ≡ map (λ x. x.0) es ++ e.0 ∷ []
 numbers-push [] e = refl
 numbers-push (x ∷ es) e = ap (λ rest. x.0 ∷ rest) (numbers-push es e)
 

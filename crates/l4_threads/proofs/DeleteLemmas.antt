@@ -232,11 +232,11 @@ found-without_in_other (e ∷ es) n q other =
       | inr ne ↦ ap (λ b. found (cond (not b) (e ∷ without_in es n) (without_in es n)) q) (differ e.0 n ne) ∙ ap (λ rest. cond (eq_by_cmp nat_cmp q e.0) (Some e.1) rest) (found-without_in_other es n q other)
     ]
 
-numbers-freed_in : (es : Entries) (n : ℕ) → map (λ e. e.0) (freed_in es n) ≡ map (λ e. e.0) es
+pub numbers-freed_in : (es : Entries) (n : ℕ) → map (λ e. e.0) (freed_in es n) ≡ map (λ e. e.0) es
 numbers-freed_in [] n = refl
 numbers-freed_in (e ∷ es) n = ap (λ rest. e.0 ∷ rest) (numbers-freed_in es n)
 
-numbers-without_in : (es : Entries) (n : ℕ) → map (λ e. e.0) (without_in es n) ≡ left_by n (map (λ e. e.0) es)
+pub numbers-without_in : (es : Entries) (n : ℕ) → map (λ e. e.0) (without_in es n) ≡ left_by n (map (λ e. e.0) es)
 numbers-without_in [] n = refl
 numbers-without_in (e ∷ es) n =
     elim (not (e.0 == n)) as (λ b. map (λ x. x.0) (cond b (e ∷ without_in es n) (without_in es n)) ≡ cond b (e.0 ∷ left_by n (map (λ x. x.0) es)) (left_by n (map (λ x. x.0) es))) [

@@ -171,7 +171,7 @@ none_such such es queue next t is none n = elim (option_map_or such (state_of t 
 ] refl
 
 -- an offer is to a thread that receives
-offer_receives : (a b : Option State) (s r : ℕ) → offers_to a b s r ≡ true → option_map_or is_receiving b false ≡ true
+pub offer_receives : (a b : Option State) (s r : ℕ) → offers_to a b s r ≡ true → option_map_or is_receiving b false ≡ true
 offer_receives a (Some (Receives y)) s r h = refl
 offer_receives None None s r h = absurd (false≢true h)
 offer_receives None (Some (Running y)) s r h = absurd (false≢true h)

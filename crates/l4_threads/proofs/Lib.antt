@@ -1,8 +1,10 @@
 pub mod QueuePairs
 pub mod TableLemmas
+pub mod NumberLemmas
 pub mod QueueLemmas
 pub mod ViewLemmas
 pub mod EnabledLemmas
+pub mod TransferLemmas
 pub mod BootLemmas
 pub mod ControlLemmas
 pub mod DeleteLemmas

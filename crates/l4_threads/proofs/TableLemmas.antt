@@ -146,28 +146,6 @@ map-length (e ∷ es) once =
     ∙ ap (λ (o : Option Thread). cond (is_some o) (fin.len (fin.from_entries {R = nat_cmp} es)) (fin.len (fin.from_entries {R = nat_cmp} es) + 1)) none
     ∙ omega arith
 
--- where an entry has another number, and none before it has the number, none does up to it
-pub none_further : (es : Entries) (i n : ℕ) (x : ℕ × Thread) → slice_get es i ≡ Some x → x.0 ≢ n
-    → ((k : ℕ) (e : ℕ × Thread) → k < i → slice_get es k ≡ Some e → e.0 ≢ n)
-    → (k : ℕ) (e : ℕ × Thread) → k < i + 1 → slice_get es k ≡ Some e → e.0 ≢ n
-none_further es i n x there ne before k e lt at =
-    elim (same_or k i) [
-      | inl is ↦
-          let both : ◌≡◌ {A = Option (ℕ × Thread)} (Some e) (Some x) = sym at ∙ ap (slice_get es) is ∙ there in
-          let v : e ≡ x = cc in
-          λ h. ne (ap (λ (y : ℕ × Thread). y.0) (sym v) ∙ h)
-      | inr other ↦ before k e (omega arith) at
-    ]
-
--- where none before has the number, this entry is the first
-pub first_here : (es : Entries) (i n : ℕ) (x : ℕ × Thread) → slice_get es i ≡ Some x → x.0 ≡ n
-    → ((k : ℕ) (e : ℕ × Thread) → k < i → slice_get es k ≡ Some e → e.0 ≢ n) → IsAt es n i
-first_here es i n x there is before = record {
-  thread = x.1;
-  there = there ∙ (λ j. Some (is j, x.1));
-  first = before;
-}
-
 -- a slice that was lent and keeps its length is what the list has afterwards
 pub refill_same : (es ws : Entries) → length ws ≡ length es → refill (length es) es ws ≡ ws
 refill_same es ws same = grind (arith, common_steps)

@@ -1,45 +1,13 @@
-//! The threads with their numbers, in the order of their creation.
-ghost use Rattle.std.specs.Prelude.{◌≡◌, ◌≢◌, ◌==◌, not, filter, nat_lt, if◌then◌else◌, MatchOption, IfSome, Some, None, length, insert, ◌+◌, ◌<◌, ◌≤◌, []};
+//! Lists of threads with their numbers, and of numbers.
+ghost use Rattle.std.specs.Prelude.{◌≡◌, ◌==◌, not, filter, nat_lt, if◌then◌else◌, length, insert, ◌+◌, ◌<◌, ◌≤◌, []};
 ghost use Rattle.arrayvec.specs.ArrayVec.{array_vec_len};
 ghost use Rattle.std.specs.Option.{option_map_or};
-ghost use Rattle.l4_threads.specs.Inside.Entries.{found, IsAt, changed_in, in_state, in_pager, freed_in, without_in, ends_with, ended_in, rising_with, has_space, sends_in, is_receiving, any_state};
+ghost use Rattle.l4_threads.specs.Inside.Entries.{freed_in, ends_with, ended_in, rising_with, has_space, is_receiving, any_state};
+ghost use Rattle.l4_threads.specs.Inside.Transfers.{sender_to, with_transfer, expires_beside};
 ghost use Rattle.l4_threads.specs.Enabled.{expires};
 
-use crate::{MAX_THREADS, State, Thread, ThreadId};
+use crate::{MAX_THREADS, State, Thread};
 use arrayvec::ArrayVec;
-
-/// Where the thread of this number stands.
-pub fn position(entries: &[(u32, Thread)], number: u32) -> Option<usize>
-    ensures place { MatchOption result (found entries.now number ≡ None) (IsAt entries.now number) }
-    ensures within { IfSome result (λ at. at < length entries.now) }
-{
-    for (i, entry) in entries.iter().enumerate() {
-        if entry.0 == number {
-            return Some(i);
-        }
-    }
-    None
-}
-
-/// Gives the thread of this number another state.
-pub fn put_state(entries: &mut ArrayVec<(u32, Thread), MAX_THREADS>, number: u32, state: State)
-    requires { found entries.old.items number ≢ None }
-    ensures { entries.new.items ≡ changed_in entries.old.items number (in_state state) }
-{
-    if let Some(at) = position(entries.as_slice(), number) {
-        entries[at].1.state = state;
-    }
-}
-
-/// Gives the thread of this number another pager.
-pub fn put_pager(entries: &mut ArrayVec<(u32, Thread), MAX_THREADS>, number: u32, pager: ThreadId)
-    requires { found entries.old.items number ≢ None }
-    ensures { entries.new.items ≡ changed_in entries.old.items number (in_pager pager) }
-{
-    if let Some(at) = position(entries.as_slice(), number) {
-        entries[at].1.pager = pager;
-    }
-}
 
 /// Takes the number out of the queue.
 pub fn leave(queue: &mut ArrayVec<u32, MAX_THREADS>, number: u32)
@@ -55,6 +23,38 @@ pub fn lesser(least: Option<u32>, number: u32) -> u32
     match least {
         Some(other) => { if other < number { other } else { number } }
         None => number,
+    }
+}
+
+/// Who sends in the transfer to this receiver.
+fn sender_to(transfers: &[(u32, u32)], receiver: u32) -> Option<u32>
+    ensures { result ≡ sender_to transfers.now receiver }
+{
+    let transfer = transfers.iter().find(|transfer| transfer.1 == receiver)?;
+    Some(transfer.0)
+}
+
+/// Adds a transfer, where there is none to this receiver.
+pub fn add_transfer(transfers: &mut ArrayVec<(u32, u32), MAX_THREADS>, sender: u32, receiver: u32)
+    requires { array_vec_len transfers.old < 64 }
+    ensures items { transfers.new.items ≡ with_transfer transfers.old.items sender receiver }
+    ensures len { array_vec_len transfers.new ≤ array_vec_len transfers.old + 1 }
+{
+    if sender_to(transfers.as_slice(), receiver).is_none() {
+        transfers.push((sender, receiver));
+    }
+}
+
+/// Whether the thread waits with a timeout of zero, and takes part in none of these transfers.
+pub fn expires_beside(transfers: &[(u32, u32)], entry: &(u32, Thread)) -> bool
+    ensures { result ≡ expires_beside transfers.now entry.now.0 entry.now.1.state }
+{
+    match &entry.1.state {
+        State::Running(_) => false,
+        State::Sending(sending) => {
+            sending.expires && sender_to(transfers, sending.to) != Some(entry.0)
+        }
+        State::Receiving(receiving) => receiving.expires && sender_to(transfers, entry.0).is_none(),
     }
 }
 
@@ -112,30 +112,6 @@ pub fn free_all(entries: &mut [(u32, Thread)], victim: u32)
             entries[i].1.state = State::Running(Some(reply));
         }
     }
-}
-
-/// Takes the thread of this number out of the table.
-pub fn remove_thread(entries: &mut ArrayVec<(u32, Thread), MAX_THREADS>, number: u32)
-    ensures { entries.new.items ≡ without_in entries.old.items number }
-{
-    entries.retain(|entry| entry.0 != number);
-}
-
-/// Whether the table has a sending thread of this number.
-fn is_sender(entries: &[(u32, Thread)], number: u32) -> bool
-    ensures { result ≡ sends_in entries.now number }
-{
-    match position(entries, number) {
-        Some(at) => entries[at].1.state.is_sending(),
-        None => false,
-    }
-}
-
-/// Keeps in the queue those that send.
-pub fn keep_senders(queue: &mut ArrayVec<u32, MAX_THREADS>, entries: &[(u32, Thread)])
-    ensures { queue.new.items ≡ filter (sends_in entries.now) queue.old.items }
-{
-    queue.retain(|m| is_sender(entries, *m));
 }
 
 /// Whether a thread is in this space.

@@ -2,6 +2,7 @@
 #![tactic(auto)]
 
 mod entries;
+mod roster;
 mod table;
 
 use arrayvec::ArrayVec;

@@ -5,9 +5,9 @@ ghost use Rattle.std.specs.FinSet as set;
 ghost use Rattle.std.specs.List.Sorted.{IsStrictlyIncreasing};
 
 use crate::entries::{
-    any_expires, any_receives, ended_by, free_all, is_inhabited, keep_senders, leave, lesser,
-    position, put_pager, put_state, remove_thread,
+    add_transfer, any_expires, any_receives, ended_by, expires_beside, is_inhabited, leave, lesser,
 };
+use crate::roster::{Roster, keep_senders};
 use crate::{
     Deleted, MAX_THREADS, Receiving, Reply, Sending, State, Thread, ThreadFault, ThreadId,
 };
@@ -23,7 +23,7 @@ const LAST_SPACE: u64 = u64::MAX - 1;
 /// At most 64 threads, and the queue of those that are sending.
 #[derive(Drop)]
 pub struct Threads {
-    threads: ArrayVec<(u32, Thread), MAX_THREADS>,
+    threads: Roster,
     queue: ArrayVec<u32, MAX_THREADS>,
     next_space: u64,
 }
@@ -44,10 +44,26 @@ impl Model for Threads {
     ghost invariant = { IsKept };
 }
 
+ghost use Rattle.l4_threads.specs.Enabled.{offers_to};
+
+/// Whether the one state sends to the thread of the other, which takes its message.
+fn offers(sends: Option<&State>, takes: Option<&State>, sender: u32, receiver: u32) -> bool
+    ensures { result ≡ offers_to (option_copied sends.entry) (option_copied takes.entry) sender receiver }
+{
+    let Some(State::Sending(sending)) = sends else {
+        return false;
+    };
+    let Some(State::Receiving(receiving)) = takes else {
+        return false;
+    };
+    sending.to == receiver && receiving.from.takes(sender)
+}
+
 impl Threads {
     ghost use Rattle.l4_threads.specs.Threads.{thread_at, state_of, space_of, pager_of, named, number_of, runs, sends, may_receive, with_state, start_send, start_receive, end_call, first_threads, IsConsistent, Before};
-    ghost use Rattle.l4_threads.specs.Enabled.{offers_to, Offers, IsFirstSender, IsNextTransfer, CanExpire, IsNextExpiry};
+    ghost use Rattle.l4_threads.specs.Enabled.{Offers, IsFirstSender, IsNextTransfer, CanExpire, IsNextExpiry};
     ghost use Rattle.l4_threads.specs.Inside.Taker.{taker};
+    ghost use Rattle.l4_threads.specs.Inside.Transfers.{AreTransfers};
     ghost use Rattle.l4_threads.specs.Control.{is_privileged, space_for, is_full, create_test, CanCreate, created, set_pager_test, with_pager, delete_test, Deletes, IsEndedList, HasEnded, TellsEnd};
     ghost use Rattle.l4_threads.specs.Inside.Ending.{ends_at};
     ghost use Rattle.l4_threads.specs.Queue.{pairs_of, IsOnce, is_in};
@@ -57,8 +73,8 @@ impl Threads {
     pub fn boot() -> Threads
         ensures { result ≡ first_threads }
     {
-        let mut threads = ArrayVec::new();
-        threads.push((
+        let mut threads = Roster::new();
+        threads.push(
             1,
             Thread {
                 id: ThreadId(0x4001),
@@ -66,8 +82,8 @@ impl Threads {
                 pager: ThreadId(0),
                 state: State::Running(None),
             },
-        ));
-        threads.push((
+        );
+        threads.push(
             2,
             Thread {
                 id: ThreadId(0x8001),
@@ -75,7 +91,7 @@ impl Threads {
                 pager: ThreadId(0x4001),
                 state: State::Running(None),
             },
-        ));
+        );
         Threads {
             threads,
             queue: ArrayVec::new(),
@@ -87,9 +103,7 @@ impl Threads {
     pub fn thread(&self, number: u32) -> Option<&Thread>
         ensures { option_copied result ≡ thread_at self.now number }
     {
-        let entries = self.threads.as_slice();
-        let at = position(entries, number)?;
-        Some(&entries[at].1)
+        self.threads.thread(number)
     }
 
     /// What the thread of this number does.
@@ -129,25 +143,13 @@ impl Threads {
         }
     }
 
-    /// Whether the thread sends to the other, which receives from it.
-    fn offers(&self, sender: u32, receiver: u32) -> bool
-        ensures { result ≡ offers_to (state_of self.now sender) (state_of self.now receiver) sender receiver }
-    {
-        let Some(State::Sending(sending)) = self.state(sender) else {
-            return false;
-        };
-        let Some(State::Receiving(receiving)) = self.state(receiver) else {
-            return false;
-        };
-        sending.to == receiver && receiving.from.takes(sender)
-    }
-
     /// The number of the first thread in the queue whose message the receiver would take.
     pub fn first_sender(&self, receiver: u32) -> Option<u32>
         ensures { MatchOption result ((s : ℕ) → ¬ (Offers self.now s receiver)) (IsFirstSender self.now receiver) }
     {
+        let takes = self.state(receiver);
         for sender in self.queue.as_slice() {
-            if self.offers(*sender, receiver) {
+            if offers(self.state(*sender), takes, *sender, receiver) {
                 return Some(*sender);
             }
         }
@@ -166,11 +168,12 @@ impl Threads {
     fn taker(&self, sender: u32) -> Option<u32>
         ensures { result ≡ taker self.now sender }
     {
-        let Some(State::Sending(sending)) = self.state(sender) else {
+        let sends = self.state(sender);
+        let Some(State::Sending(sending)) = sends else {
             return None;
         };
         let receiver = sending.to;
-        if self.offers(sender, receiver) {
+        if offers(sends, self.state(receiver), sender, receiver) {
             Some(receiver)
         } else {
             None
@@ -207,6 +210,19 @@ impl Threads {
         }
     }
 
+    /// The enabled transfers: of each, the sender's number and the receiver's.
+    fn transfers(&self) -> ArrayVec<(u32, u32), MAX_THREADS>
+        ensures { AreTransfers self.now result.items }
+    {
+        let mut transfers = ArrayVec::new();
+        for sender in self.queue.as_slice() {
+            if let Some(receiver) = self.taker(*sender) {
+                add_transfer(&mut transfers, *sender, receiver);
+            }
+        }
+        transfers
+    }
+
     /// The least number of a thread that can expire.
     pub fn next_expiry(&self) -> Option<u32>
         ensures { MatchOption result ((n : ℕ) → ¬ (CanExpire self.now n)) (IsNextExpiry self.now) }
@@ -214,9 +230,11 @@ impl Threads {
         if !any_expires(self.threads.as_slice()) {
             return None;
         }
+        self.law_consistent();
+        let transfers = self.transfers();
         let mut least = None;
         for entry in self.threads.as_slice() {
-            if self.can_expire(entry.0) {
+            if expires_beside(transfers.as_slice(), entry) {
                 least = Some(lesser(least, entry.0));
             }
         }
@@ -244,7 +262,7 @@ impl Threads {
         requires { IsTrue (runs self.old number) }
         ensures { self.new ≡ start_send self.old number sending }
     {
-        put_state(&mut self.threads, number, State::Sending(sending));
+        self.threads.send(number, sending);
         self.queue.push(number);
     }
 
@@ -254,7 +272,7 @@ impl Threads {
         ensures { self.new ≡ start_receive self.old number receiving }
     {
         leave(&mut self.queue, number);
-        put_state(&mut self.threads, number, State::Receiving(receiving));
+        self.threads.receive(number, receiving);
     }
 
     /// The call of a thread ends with this reply, whatever the thread does. It is in the queue no longer.
@@ -263,7 +281,7 @@ impl Threads {
         ensures { self.new ≡ end_call self.old number reply }
     {
         leave(&mut self.queue, number);
-        put_state(&mut self.threads, number, State::Running(Some(reply)));
+        self.threads.run(number, reply);
     }
 
     /// Whether the caller is in the root space.
@@ -334,7 +352,7 @@ impl Threads {
         requires { CanCreate self.old id space }
         ensures { self.new ≡ created self.old id space pager }
     {
-        self.threads.push((
+        self.threads.push(
             id.number(),
             Thread {
                 id,
@@ -342,7 +360,7 @@ impl Threads {
                 pager,
                 state: State::Running(None),
             },
-        ));
+        );
         if space == self.next_space {
             self.next_space += 1;
         }
@@ -391,7 +409,7 @@ impl Threads {
         let Some(number) = self.named(id) else {
             return Err(ThreadFault::Unknown);
         };
-        put_pager(&mut self.threads, number, pager);
+        self.threads.set_pager(number, pager);
         Ok(number)
     }
 
@@ -423,9 +441,9 @@ impl Threads {
     fn take_away(&mut self, number: u32)
         ensures { Deletes number self.old self.new }
     {
-        free_all(self.threads.as_mut_slice(), number);
-        remove_thread(&mut self.threads, number);
-        keep_senders(&mut self.queue, self.threads.as_slice());
+        self.threads.free(number);
+        self.threads.remove(number);
+        keep_senders(&mut self.queue, &self.threads);
     }
 
     /// The space, where no thread is in it.

@@ -12,7 +12,7 @@ abbrev pub threads_of : Entries → List ℕ → ℕ → Seen
 threads_of es queue next = record { threads = fin.from_entries es; before = set.from_list (pairs_of queue); next_space = next }
 
 abbrev pub seen : Inside → Seen
-seen a = threads_of a.threads.items a.queue.items a.next_space
+seen a = threads_of a.threads a.queue.items a.next_space
 
 abbrev pub IsKept : Inside → Type 0
-IsKept a = IsTable a.threads.items a.queue.items a.next_space
+IsKept a = IsTable a.threads a.queue.items a.next_space

@@ -3,19 +3,19 @@ use Rattle.l4_threads.specs.declared.State.TheVariants.{Running}
 use Rattle.l4_threads.proofs.ViewLemmas.{found_some, found_not_none, left_table, seen_left}
 use Rattle.l4_threads.proofs.table.Threads.end_call.Goals as goal
 
-pub put_state-requires : goal.put_state-requires
-put_state-requires c =
-    let there = found_some c.self.inside.threads.items c.self.inside.queue.items c.self.inside.next_space c.args.self.now c.self.view_is c.args.number c.requires in
-    found_not_none c.self.inside.threads.items c.args.number there.0 there.1
+pub run-requires : goal.run-requires
+run-requires c =
+    let there = found_some c.self.inside.threads c.self.inside.queue.items c.self.inside.next_space c.args.self.now c.self.view_is c.args.number c.requires in
+    found_not_none c.self.inside.threads c.args.number there.0 there.1
 
 pub invariant_of-self : goal.invariant_of-self
 invariant_of-self c =
-    let there = found_some c.self.inside.threads.items c.self.inside.queue.items c.self.inside.next_space c.args.self.now c.self.view_is c.args.number c.requires in
-    rw (c.put_state.ensures, c.leave.ensures)
-    (left_table c.self.inside.threads.items c.self.inside.queue.items c.self.inside.next_space c.args.number there.0 (Running (Some c.args.reply)) c.self.invariant there.1 refl)
+    let there = found_some c.self.inside.threads c.self.inside.queue.items c.self.inside.next_space c.args.self.now c.self.view_is c.args.number c.requires in
+    rw (c.run.ensures, c.leave.ensures)
+    (left_table c.self.inside.threads c.self.inside.queue.items c.self.inside.next_space c.args.number there.0 (Running (Some c.args.reply)) c.self.invariant there.1 refl)
 
 pub returns : goal.returns
 returns c =
-    let there = found_some c.self.inside.threads.items c.self.inside.queue.items c.self.inside.next_space c.args.self.now c.self.view_is c.args.number c.requires in
-    rw (← c.self.view_is, c.put_state.ensures, c.leave.ensures)
-    (seen_left c.self.inside.threads.items c.self.inside.queue.items c.self.inside.next_space c.args.number there.0 (Running (Some c.args.reply)) c.self.invariant there.1)
+    let there = found_some c.self.inside.threads c.self.inside.queue.items c.self.inside.next_space c.args.self.now c.self.view_is c.args.number c.requires in
+    rw (← c.self.view_is, c.run.ensures, c.leave.ensures)
+    (seen_left c.self.inside.threads c.self.inside.queue.items c.self.inside.next_space c.args.number there.0 (Running (Some c.args.reply)) c.self.invariant there.1)

@@ -4,19 +4,19 @@ use Rattle.l4_threads.specs.Threads.{is_receiving}
 use Rattle.l4_threads.proofs.ViewLemmas.{found_seen, found_not_none, left_table, seen_left}
 use Rattle.l4_threads.proofs.table.Threads.start_receive.Goals as goal
 
-pub put_state-requires : goal.put_state-requires
-put_state-requires c =
-    let there = found_seen c.self.inside.threads.items c.self.inside.queue.items c.self.inside.next_space c.args.self.now c.self.view_is (λ state. not (is_receiving state)) c.args.number c.requires in
-    found_not_none c.self.inside.threads.items c.args.number there.0 there.1
+pub receive-requires : goal.receive-requires
+receive-requires c =
+    let there = found_seen c.self.inside.threads c.self.inside.queue.items c.self.inside.next_space c.args.self.now c.self.view_is (λ state. not (is_receiving state)) c.args.number c.requires in
+    found_not_none c.self.inside.threads c.args.number there.0 there.1
 
 pub invariant_of-self : goal.invariant_of-self
 invariant_of-self c =
-    let there = found_seen c.self.inside.threads.items c.self.inside.queue.items c.self.inside.next_space c.args.self.now c.self.view_is (λ state. not (is_receiving state)) c.args.number c.requires in
-    rw (c.put_state.ensures, c.leave.ensures)
-    (left_table c.self.inside.threads.items c.self.inside.queue.items c.self.inside.next_space c.args.number there.0 (Receives c.args.receiving) c.self.invariant there.1 refl)
+    let there = found_seen c.self.inside.threads c.self.inside.queue.items c.self.inside.next_space c.args.self.now c.self.view_is (λ state. not (is_receiving state)) c.args.number c.requires in
+    rw (c.receive.ensures, c.leave.ensures)
+    (left_table c.self.inside.threads c.self.inside.queue.items c.self.inside.next_space c.args.number there.0 (Receives c.args.receiving) c.self.invariant there.1 refl)
 
 pub returns : goal.returns
 returns c =
-    let there = found_seen c.self.inside.threads.items c.self.inside.queue.items c.self.inside.next_space c.args.self.now c.self.view_is (λ state. not (is_receiving state)) c.args.number c.requires in
-    rw (← c.self.view_is, c.put_state.ensures, c.leave.ensures)
-    (seen_left c.self.inside.threads.items c.self.inside.queue.items c.self.inside.next_space c.args.number there.0 (Receives c.args.receiving) c.self.invariant there.1)
+    let there = found_seen c.self.inside.threads c.self.inside.queue.items c.self.inside.next_space c.args.self.now c.self.view_is (λ state. not (is_receiving state)) c.args.number c.requires in
+    rw (← c.self.view_is, c.receive.ensures, c.leave.ensures)
+    (seen_left c.self.inside.threads c.self.inside.queue.items c.self.inside.next_space c.args.number there.0 (Receives c.args.receiving) c.self.invariant there.1)

@@ -4,26 +4,26 @@ use Rattle.l4_threads.specs.Threads.{is_running}
 use Rattle.l4_threads.proofs.ViewLemmas.{found_seen, found_not_none, out_of_line, room, joined_table, seen_joined}
 use Rattle.l4_threads.proofs.table.Threads.start_send.Goals as goal
 
-pub put_state-requires : goal.put_state-requires
-put_state-requires c =
-    let there = found_seen c.self.inside.threads.items c.self.inside.queue.items c.self.inside.next_space c.args.self.now c.self.view_is is_running c.args.number c.requires in
-    found_not_none c.self.inside.threads.items c.args.number there.0 there.1
+pub send-requires : goal.send-requires
+send-requires c =
+    let there = found_seen c.self.inside.threads c.self.inside.queue.items c.self.inside.next_space c.args.self.now c.self.view_is is_running c.args.number c.requires in
+    found_not_none c.self.inside.threads c.args.number there.0 there.1
 
 pub push-requires : goal.push-requires
 push-requires c =
-    let there = found_seen c.self.inside.threads.items c.self.inside.queue.items c.self.inside.next_space c.args.self.now c.self.view_is is_running c.args.number c.requires in
-    let out = out_of_line c.self.inside.threads.items c.self.inside.queue.items c.self.inside.next_space c.args.number there.0 c.self.invariant there.1 there.2 in
-    (lit< tt, room c.self.inside.threads.items c.self.inside.queue.items c.self.inside.next_space c.args.number there.0 c.self.invariant there.1 out)
+    let there = found_seen c.self.inside.threads c.self.inside.queue.items c.self.inside.next_space c.args.self.now c.self.view_is is_running c.args.number c.requires in
+    let out = out_of_line c.self.inside.threads c.self.inside.queue.items c.self.inside.next_space c.args.number there.0 c.self.invariant there.1 there.2 in
+    (lit< tt, room c.self.inside.threads c.self.inside.queue.items c.self.inside.next_space c.args.number there.0 c.self.invariant there.1 out)
 
 pub invariant_of-self : goal.invariant_of-self
 invariant_of-self c =
-    let there = found_seen c.self.inside.threads.items c.self.inside.queue.items c.self.inside.next_space c.args.self.now c.self.view_is is_running c.args.number c.requires in
-    let out = out_of_line c.self.inside.threads.items c.self.inside.queue.items c.self.inside.next_space c.args.number there.0 c.self.invariant there.1 there.2 in
-    rw (c.put_state.ensures, c.push.ensures.items)
-    (joined_table c.self.inside.threads.items c.self.inside.queue.items c.self.inside.next_space c.args.number there.0 (Sends c.args.sending) c.self.invariant there.1 out refl)
+    let there = found_seen c.self.inside.threads c.self.inside.queue.items c.self.inside.next_space c.args.self.now c.self.view_is is_running c.args.number c.requires in
+    let out = out_of_line c.self.inside.threads c.self.inside.queue.items c.self.inside.next_space c.args.number there.0 c.self.invariant there.1 there.2 in
+    rw (c.send.ensures, c.push.ensures.items)
+    (joined_table c.self.inside.threads c.self.inside.queue.items c.self.inside.next_space c.args.number there.0 (Sends c.args.sending) c.self.invariant there.1 out refl)
 
 pub returns : goal.returns
 returns c =
-    let there = found_seen c.self.inside.threads.items c.self.inside.queue.items c.self.inside.next_space c.args.self.now c.self.view_is is_running c.args.number c.requires in
-    rw (← c.self.view_is, c.put_state.ensures, c.push.ensures.items)
-    (seen_joined c.self.inside.threads.items c.self.inside.queue.items c.self.inside.next_space c.args.number there.0 c.args.sending c.self.invariant there.1)
+    let there = found_seen c.self.inside.threads c.self.inside.queue.items c.self.inside.next_space c.args.self.now c.self.view_is is_running c.args.number c.requires in
+    rw (← c.self.view_is, c.send.ensures, c.push.ensures.items)
+    (seen_joined c.self.inside.threads c.self.inside.queue.items c.self.inside.next_space c.args.number there.0 c.args.sending c.self.invariant there.1)

@@ -1,0 +1,164 @@
+//! The threads with their numbers, in the order of their creation. A thread is found among the numbers alone.
+ghost use Rattle.std.specs.Prelude.{◌≡◌, ◌≢◌, ◌==◌, ◌++◌, ◌∷◌, ◌<◌, ◌≤◌, [], length, filter, MatchOption, IfSome, Some, None};
+ghost use Rattle.std.specs.Option.{option_copied};
+ghost use Rattle.l4_threads.specs.Inside.Entries.{sends_in};
+ghost use Rattle.l4_threads.specs.Inside.Numbers.{IsFirst, IsNowhere};
+
+use crate::entries::free_all;
+use crate::{MAX_THREADS, Receiving, Reply, Sending, State, Thread, ThreadId};
+use arrayvec::ArrayVec;
+use std::marker::Model;
+
+/// The threads, and their numbers once more on their own.
+#[derive(Drop)]
+pub struct Roster {
+    entries: ArrayVec<(u32, Thread), MAX_THREADS>,
+    numbers: ArrayVec<u32, MAX_THREADS>,
+}
+
+impl Model for Roster {
+    ghost use Rattle.std.specs.Prelude.{◌≡◌, map};
+    ghost use Rattle.std.specs.Coded.{coded×, coded_ℕ, coded_list};
+    ghost use Rattle.l4_threads.specs.contracts.Thread as thread;
+    ghost use Rattle.l4_threads.specs.Inside.Entries.{Entries};
+
+    ghost Value = { Entries };
+
+    ghost coded = { coded_list (coded× coded_ℕ thread.the_row.coded) };
+
+    ghost view = { λ r. r.entries.items };
+
+    ghost invariant = { λ r. r.numbers.items ≡ map (λ e. e.0) r.entries.items };
+}
+
+/// Where the number stands.
+fn place_of(numbers: &[u32], number: u32) -> Option<usize>
+    ensures { MatchOption result (IsNowhere numbers.now number) (IsFirst numbers.now number) }
+{
+    for (i, other) in numbers.iter().enumerate() {
+        if *other == number {
+            return Some(i);
+        }
+    }
+    None
+}
+
+impl Roster {
+    ghost use Rattle.l4_threads.specs.Inside.Entries.{found, changed_in, in_state, in_pager, freed_in, without_in};
+    ghost use Rattle.l4_threads.specs.declared.State.TheVariants.{Running, Sending as Sends, Receiving as Receives};
+
+    /// No thread.
+    pub fn new() -> Roster
+        ensures { result ≡ [] }
+    {
+        Roster {
+            entries: ArrayVec::new(),
+            numbers: ArrayVec::new(),
+        }
+    }
+
+    /// The threads with their numbers.
+    pub fn as_slice(&self) -> &[(u32, Thread)]
+        ensures value { result.now ≡ self.now }
+        ensures fits { length result.now ≤ 64 }
+    {
+        self.entries.as_slice()
+    }
+
+    /// Whether there is no room for a thread.
+    pub fn is_full(&self) -> bool
+        ensures { result ≡ (length self.now == 64) }
+    {
+        self.entries.is_full()
+    }
+
+    /// Adds a thread.
+    pub fn push(&mut self, number: u32, thread: Thread)
+        requires { length self.old < 64 }
+        ensures { self.new ≡ self.old ++ (number, thread) ∷ [] }
+    {
+        self.entries.push((number, thread));
+        self.numbers.push(number);
+    }
+
+    /// The thread of this number.
+    pub fn thread(&self, number: u32) -> Option<&Thread>
+        ensures { option_copied result ≡ found self.now number }
+    {
+        let at = place_of(self.numbers.as_slice(), number)?;
+        let entries = self.entries.as_slice();
+        Some(&entries[at].1)
+    }
+
+    /// The thread of this number runs on with the reply of its call.
+    pub fn run(&mut self, number: u32, reply: Reply)
+        requires { found self.old number ≢ None }
+        ensures { self.new ≡ changed_in self.old number (in_state (Running (Some reply))) }
+    {
+        if let Some(at) = place_of(self.numbers.as_slice(), number) {
+            self.entries[at].1.state = State::Running(Some(reply));
+        }
+    }
+
+    /// The thread of this number sends.
+    pub fn send(&mut self, number: u32, sending: Sending)
+        requires { found self.old number ≢ None }
+        ensures { self.new ≡ changed_in self.old number (in_state (Sends sending)) }
+    {
+        if let Some(at) = place_of(self.numbers.as_slice(), number) {
+            self.entries[at].1.state = State::Sending(sending);
+        }
+    }
+
+    /// The thread of this number receives.
+    pub fn receive(&mut self, number: u32, receiving: Receiving)
+        requires { found self.old number ≢ None }
+        ensures { self.new ≡ changed_in self.old number (in_state (Receives receiving)) }
+    {
+        if let Some(at) = place_of(self.numbers.as_slice(), number) {
+            self.entries[at].1.state = State::Receiving(receiving);
+        }
+    }
+
+    /// Gives the thread of this number another pager.
+    pub fn set_pager(&mut self, number: u32, pager: ThreadId)
+        requires { found self.old number ≢ None }
+        ensures { self.new ≡ changed_in self.old number (in_pager pager) }
+    {
+        if let Some(at) = place_of(self.numbers.as_slice(), number) {
+            self.entries[at].1.pager = pager;
+        }
+    }
+
+    /// Ends each wait for the victim.
+    pub fn free(&mut self, victim: u32)
+        ensures { self.new ≡ freed_in self.old victim }
+    {
+        free_all(self.entries.as_mut_slice(), victim);
+    }
+
+    /// Takes the thread of this number out.
+    pub fn remove(&mut self, number: u32)
+        ensures { self.new ≡ without_in self.old number }
+    {
+        self.entries.retain(|entry| entry.0 != number);
+        self.numbers.retain(|other| *other != number);
+    }
+
+    /// Whether there is a sending thread of this number.
+    fn sends(&self, number: u32) -> bool
+        ensures { result ≡ sends_in self.now number }
+    {
+        match self.thread(number) {
+            Some(thread) => thread.state.is_sending(),
+            None => false,
+        }
+    }
+}
+
+/// Keeps in the queue those that send.
+pub fn keep_senders(queue: &mut ArrayVec<u32, MAX_THREADS>, roster: &Roster)
+    ensures { queue.new.items ≡ filter (sends_in roster.now) queue.old.items }
+{
+    queue.retain(|m| roster.sends(*m));
+}
