@@ -1,6 +1,7 @@
 -- The steps that follow a start, one after another.
 use Rattle.std.proofs.Common.{◌≡◌, ℕ, ◌+◌, ◌≤◌, List, [], ◌∷◌, ◌++◌, length, map, Some, None, Ok, refl, sym, ap, ◌∙◌, subst, arith}
 use Rattle.std.proofs.lemmas.List.{length-append}
+use Rattle.l4_mapdb.specs.Mappings.{IsForest}
 use Rattle.l4_threads.specs.Threads.{IsConsistent}
 use Rattle.l4_ipc.specs.declared.steps.Answer.{Answer}
 use Rattle.l4_ipc.specs.declared.steps.Step.{Step}
@@ -51,10 +52,10 @@ going_first seat m es books len cap consistent room = record {
   append_none (x ∷ l) = ap (λ (r : List Entry). x ∷ r) (append_none l)
 
 pub going_more : (seat : ℕ) (old m new : Machine) (before after after' : List Entry) (books later later' : List Book) (len cap len' cap' : ℕ) (step : Step) (answer : Answer)
-    → Going seat old m before after books later len cap → IsNext m step → Steps m step (Ok answer) new
+    → Going seat old m before after books later len cap → IsNext m step → Steps m step (Ok answer) new → IsForest new.mappings
     → after' ≡ after ++ record { seat = seat; step = step; answer = answer } ∷ [] → later' ≡ map (noted new answer.ended.items (length after)) later
     → len' ≡ len + 1 → cap' ≡ cap → Going seat old new before after' books later' len' cap'
-going_more seat old m new before after after' books later later' len cap len' cap' step answer g next s is changed one same_cap =
+going_more seat old m new before after after' books later later' len cap len' cap' step answer g next s forest is changed one same_cap =
     let e : Entry = record { seat = seat; step = step; answer = answer } in
     let less = fewer m new step answer next s in
     record {
@@ -63,7 +64,7 @@ going_more seat old m new before after after' books later later' len cap len' ca
       longer = is ∙ ap (λ (l : List Entry). l ++ e ∷ []) g.longer ∙ append_one before g.rest e;
       few = (let few = g.few in omega (arith, length-append g.rest (e ∷ []), less, few));
       same = ap (map plain) changed ∙ plain_noted new answer.ended.items (length after) later ∙ g.same;
-      right = λ frames last r. subst (λ (h : List Entry). AreRight frames h new later') (sym is) (subst (AreRight frames (after ++ e ∷ []) new) (sym changed) (next_right frames after m e new later (g.right frames last r) (g.last last) next s));
+      right = λ frames last r. subst (λ (h : List Entry). AreRight frames h new later') (sym is) (subst (AreRight frames (after ++ e ∷ []) new) (sym changed) (next_right frames after m e new later (g.right frames last r) (g.last last) next s forest));
       last = λ last. ap (last_seat None) is ∙ last_is None after e;
       room = (let room = g.room in omega (arith, less, room, one, same_cap));
     }

@@ -1,5 +1,7 @@
 pub mod Boards
 pub mod Replies
+pub mod Laws
+pub mod Examples
 pub mod Right
 pub mod Going
 pub mod Books

@@ -20,12 +20,14 @@ use Rattle.l4_lock.specs.declared.entries.Receipt.{Receipt}
 use Rattle.l4_lock.specs.declared.entries.Ended.{Ended}
 use Rattle.l4_lock.specs.declared.entries.Pending.{Pending}
 use Rattle.l4_lock.specs.History.{IsSeated, Follows, Replays}
+use Rattle.l4_mapdb.specs.Mappings.{IsForest}
 use Rattle.l4_lock.specs.Inside.Entering.{last_seat}
 use Rattle.l4_lock.specs.Receipts.{Proves, StartsCall, Replied}
 use Rattle.l4_lock.specs.Books.{Book, book, pending_count, is_among, unended, plain, receipt_of, one_if, starts_of, IsPending, IsRight, numbers, IsOnce, AreRight}
 use Rattle.l4_lock.specs.Inside.Noting.{reply_in, noted_call, noted}
 use Rattle.l4_ipc.proofs.Waiting.{still_waits, starts_waiting}
 use Rattle.l4_lock.proofs.Replies.{ended_replied}
+use Rattle.l4_lock.proofs.Laws.{events_more}
 
 -- LISTS
 
@@ -80,7 +82,7 @@ follows_more old seat [] m e new here seated step =
 follows_more old seat (x ∷ xs) m e new h seated step =
     (h.0, (h.1.0, h.1.1, follows_more h.1.0 (Some x.seat) xs m e new h.1.2 seated step))
 
-pub replays_more : (frames : ℕ) (es : List Entry) (m : Machine) (e : Entry) (new : Machine)
+abbrev pub replays_more : (frames : ℕ) (es : List Entry) (m : Machine) (e : Entry) (new : Machine)
     → Replays frames es m → IsSeated m (last_seat None es) e.seat e.step → Steps m e.step (Ok e.answer) new → Replays frames (es ++ e ∷ []) new
 replays_more frames es m e new r seated step =
     record { boot = r.boot; boots = r.boots; follows = follows_more r.boot None es m e new r.follows seated step }
@@ -271,12 +273,13 @@ numbers_noted new ended place (b ∷ bs) = ap (λ (l : List ℕ). b.number ∷ l
 -- ONE MORE STEP THAT COMES NEXT
 
 pub next_right : (frames : ℕ) (es : List Entry) (m : Machine) (e : Entry) (new : Machine) (books : List Book) → AreRight frames es m books → last_seat None es ≡ Some e.seat → IsNext m e.step → Steps m e.step (Ok e.answer) new
-    → AreRight frames (es ++ e ∷ []) new (map (noted new e.answer.ended.items (length es)) books)
-next_right frames es m e new books r last next step =
+    → IsForest new.mappings → AreRight frames (es ++ e ∷ []) new (map (noted new e.answer.ended.items (length es)) books)
+next_right frames es m e new books r last next step forest =
     let replays : Replays frames (es ++ e ∷ []) new = replays_more frames es m e new r.replays (subst (λ (o : Option ℕ). IsSeated m o e.seat e.step) (sym last) (seated m e.seat e.step next)) step in
     let same = numbers_noted new e.answer.ended.items (length es) books in
     record {
       replays = replays;
+      events = events_more r.replays.boot es m e new r.events step forest;
       each = All-map (IsRight frames (es ++ e ∷ []) new) (noted new e.answer.ended.items (length es)) books
           (All-weaker (IsRight frames es m) (λ b. IsRight frames (es ++ e ∷ []) new (noted new e.answer.ended.items (length es) b)) (λ b h. right_next frames es m e new b h step (none_own m b.number e.step next) replays) books r.each);
       apart = subst IsOnce (sym same) r.apart;

@@ -8,6 +8,7 @@ use Rattle.std.proofs.lemmas.Option.{slice_get-map}
 use Rattle.std.proofs.lemmas.List.{length-append}
 use Rattle.std.proofs.lemmas.List.Elements.{All-weaker, All-push, All-map, All-cons, All-head, All-tail, All-nil, All-set}
 use Rattle.std.proofs.lemmas.List.Quantifiers.{all_pairs_push}
+use Rattle.l4_mapdb.specs.Mappings.{IsForest}
 use Rattle.l4_ipc.specs.declared.calls.Call.{Call}
 use Rattle.l4_ipc.specs.declared.steps.Answer.{Answer}
 use Rattle.l4_ipc.specs.declared.steps.Step.TheVariants.{Start}
@@ -24,6 +25,7 @@ use Rattle.l4_lock.specs.Inside.Noting.{noted}
 use Rattle.l4_lock.specs.Locked.{start_entry}
 use Rattle.l4_lock.specs.Inside.Entering.{Went, Begins, IsReady}
 use Rattle.l4_lock.proofs.Right.{pend, starts_append, none_starts, replays_more, last_is, right_next, right_start, numbers_noted, numbers_set, number_among, plain_noted}
+use Rattle.l4_lock.proofs.Laws.{events_more}
 
 pub same_book : (x b : Book) → ◌≡◌ {A = Option Book} (Some x) (Some b) → x ≡ b
 same_book x b e = cc
@@ -72,9 +74,9 @@ set_same (x ∷ xs) (suc place) b at = ap (λ (l : List Book). x ∷ l) (set_sam
 -- A START
 
 pub started_right : (frames : ℕ) (es : List Entry) (m new : Machine) (books : List Book) (place : ℕ) (b : Book) (call : Call) (answer : Answer) → AreRight frames es m books → slice_get books place ≡ Some b → b.pending ≡ None
-    → Steps m (Start b.number call) (Ok answer) new
+    → Steps m (Start b.number call) (Ok answer) new → IsForest new.mappings
     → AreRight frames (es ++ start_entry b.number call answer ∷ []) new (map (noted new answer.ended.items (length es)) (slice_set books place (record b { pending = Some (pend call (length es) None) })))
-started_right frames es m new books place b call answer r at none step =
+started_right frames es m new books place b call answer r at none step forest =
     let e : Entry = start_entry b.number call answer in
     let c : Book = record b { pending = Some (pend call (length es) None) } in
     let replays : Replays frames (es ++ e ∷ []) new = replays_more frames es m e new r.replays refl step in
@@ -82,6 +84,7 @@ started_right frames es m new books place b call answer r at none step =
     let P : Book → Type 0 = λ x. IsRight frames (es ++ e ∷ []) new (noted new answer.ended.items (length es) x) in
     record {
       replays = replays;
+      events = events_more r.replays.boot es m e new r.events step forest;
       each = All-map (IsRight frames (es ++ e ∷ []) new) (noted new answer.ended.items (length es)) (slice_set books place c)
           (changed_all P books place b c at r.apart
           (right_start frames es m e new b call (read_all (IsRight frames es m) books place b at r.each) none refl step replays)
@@ -119,6 +122,7 @@ settled_right frames es m books place b c p f r at is ended changed =
       both.0,
       record {
         replays = r.replays;
+        events = r.events;
         each = All-set (IsRight frames es m) books place c (subst (IsRight frames es m) (sym changed) both.1) r.each;
         apart = subst IsOnce (sym same) r.apart;
         others = λ n other. r.others n (ap (is_among n) (sym same) ∙ other);
@@ -237,6 +241,7 @@ given_right frames es m books n r none =
     let same = numbers_more books (book n None []) in
     record {
       replays = r.replays;
+      events = r.events;
       each = All-push (IsRight frames es m) books (book n None []) r.each (record {
         count = r.others n other;
         receipts = All-nil (Proves frames es n);
@@ -262,11 +267,11 @@ same_plain None c is = absurd (let k : ◌≡◌ {A = Option Book} None (Some (p
 same_plain (Some b) c is = (b, refl, same_book (plain b) (plain c) is)
 
 pub begun : (m started new : Machine) (before after after' : List Entry) (books books' later : List Book) (place : ℕ) (b : Book) (call : Call) (answer : Answer)
-    → slice_get books place ≡ Some b → b.pending ≡ None → Steps m (Start b.number call) (Ok answer) started
+    → slice_get books place ≡ Some b → b.pending ≡ None → Steps m (Start b.number call) (Ok answer) started → IsForest started.mappings
     → after ≡ before ++ start_entry b.number call answer ∷ []
     → books' ≡ map (noted started answer.ended.items (length before)) (slice_set books place (record b { pending = Some (pend call (length before) None) }))
     → Went b.number started new after after' books' later → IsIdle new → Begins b.number call m new before after' books later place
-begun m started new before after after' books books' later place b call answer at none step is changed went idle =
+begun m started new before after after' books books' later place b call answer at none step forest is changed went idle =
     let c : Book = record b { pending = Some (pend call (length before) None) } in
     let plainly : map plain later ≡ map plain (slice_set books place c) = went.same ∙ ap (map plain) changed ∙ plain_noted' (slice_set books place c) in
     let there : option_map plain (slice_get later place) ≡ Some (plain c) =
@@ -288,7 +293,7 @@ begun m started new before after after' books books' later place b call answer a
       same = plainly;
       receipts = ap (λ (x : Book). x.receipts) it.2;
       right = λ frames r. went.right frames (ap (last_seat None) is ∙ last_is None before (start_entry b.number call answer))
-          (subst (λ (h : List Entry). AreRight frames h started books') (sym is) (subst (AreRight frames (before ++ start_entry b.number call answer ∷ []) started) (sym changed) (started_right frames before m started books place b call answer r at none step)));
+          (subst (λ (h : List Entry). AreRight frames h started books') (sym is) (subst (AreRight frames (before ++ start_entry b.number call answer ∷ []) started) (sym changed) (started_right frames before m started books place b call answer r at none step forest)));
       book = it.0;
       at = it.1;
       number = ap (λ (x : Book). x.number) it.2;

@@ -12,7 +12,7 @@ use Rattle.l4_lock.specs.declared.entries.Entry.{Entry}
 use Rattle.l4_lock.specs.declared.entries.Receipt.{Receipt}
 use Rattle.l4_lock.specs.declared.entries.Ended.{Ended}
 use Rattle.l4_lock.specs.declared.entries.Pending.{Pending}
-use Rattle.l4_lock.specs.History.{Replays}
+use Rattle.l4_lock.specs.History.{Replays, HasEvents}
 use Rattle.l4_lock.specs.Receipts.{Proves, StartsCall}
 
 -- what a seat keeps: its number, how many of its calls were left waiting and not taken yet, and its receipts
@@ -115,10 +115,11 @@ abbrev pub IsOnce : List ℕ → Type 0
 IsOnce [] = Unit {0}
 IsOnce (n ∷ ns) = (is_among n ns ≡ false) × IsOnce ns
 
--- The history is legal, the machine is its replay, each book is right, each number has one book, and only numbers with a book have
--- started calls.
+-- The history is legal, the machine is its replay, the mappings were a forest at all times, each book is right, each number has one book,
+-- and only numbers with a book have started calls.
 pub record AreRight (frames : ℕ) (history : List Entry) (m : Machine) (books : List Book) : Type 0 where
   pub replays : Replays frames history m
+  pub events : HasEvents replays.boot history m
   pub each : All (IsRight frames history m) books
   pub apart : IsOnce (numbers books)
   pub others : (n : ℕ) → is_among n (numbers books) ≡ false → starts_of n history ≡ 0

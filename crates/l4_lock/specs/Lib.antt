@@ -1,6 +1,7 @@
 pub mod Sizes
 pub mod Board
 pub mod History
+pub mod Laws
 pub mod Receipts
 pub mod Books
 pub mod Locked

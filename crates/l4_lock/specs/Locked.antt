@@ -43,8 +43,8 @@ lock_code thread entry book =
     (λ l. (l.frames, (l.kernel, (l.history, (l.books, (l.board, l.published))))))
     (λ p. lock p.0 p.1.0 p.1.1.0 p.1.1.1.0 p.1.1.1.1.0 p.1.1.1.1.1) (λ _. refl)
 
--- The history is legal, the kernel is its replay from boot, no step is enabled, each receipt that was given is right, and the
--- publisher has shown the length of the history.
+-- The history is legal, the kernel is its replay from boot, the mappings were a forest at all times, no step is enabled, each receipt that was
+-- given is right, and the publisher has shown the length of the history.
 pub record IsKept (l : Lock) : Type 0 where
   pub right : AreRight l.frames l.history l.kernel l.books
   pub idle : IsIdle l.kernel

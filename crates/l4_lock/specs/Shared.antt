@@ -5,6 +5,7 @@ use Rattle.l4_ipc.specs.declared.calls.Call.{Call}
 use Rattle.l4_lock.specs.declared.entries.Receipt.{Receipt}
 use Rattle.l4_pager.specs.declared.serving.GateFault.{GateFault}
 use Rattle.l4_lock.specs.Books.{SeatState}
+use Rattle.l4_lock.specs.Locked.{Lock, IsKept, Refuses}
 use Rattle.l4_lock.specs.declared.refusals.LockRefusal.{LockRefusal}
 use Rattle.l4_lock.specs.declared.refusals.LockRefusal.TheVariants.{HistoryFull, NoMemory, ReplyWaiting, SeatTaken, Kernel as ByKernel}
 
@@ -16,6 +17,10 @@ pub record IsAnswered (before after : SeatState) (call : Call) (reply : Reply) :
   pub receipts : after.receipts ≡ before.receipts ++ receipt ∷ []
   pub gives : receipt.call ≡ call
   pub answers : receipt.reply ≡ reply
+
+-- Why a call is not entered through the shared lock: what stood under it then, of which all holds that the type keeps, refuses it so.
+abbrev pub Declines : ℕ → Call → LockRefusal → Type 0
+Declines n call e = (l : Lock) × IsKept l × Refuses l n call e
 
 -- what a contract sees of a gate: its seat, and how many receipts the seat had when the gate began
 pub record GateState : Type 0 where
@@ -37,6 +42,7 @@ refusal_number ReplyWaiting = 3
 refusal_number SeatTaken = 4
 refusal_number (ByKernel e) = 5
 
--- a gate's fault has the number of a refusal, and leaves the gate as it was
-abbrev pub GateRefuses : GateState → GateFault → GateState → Type 0
-GateRefuses before fault after = (after ≡ before) × ((refusal : LockRefusal) × (fault.code ≡ refusal_number refusal))
+-- a gate's fault has the number of a refusal of this call, and leaves the gate as it was
+abbrev pub GateRefuses : GateState → Call → GateFault → GateState → Type 0
+GateRefuses before call fault after =
+    (after ≡ before) × ((refusal : LockRefusal) × Declines before.seat.number call refusal × (fault.code ≡ refusal_number refusal))

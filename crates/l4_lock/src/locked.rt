@@ -3,6 +3,7 @@ ghost use Rattle.std.specs.Prelude.{◌≡◌, ◌≢◌, ◌⊎◌, ◌+◌, �
 ghost use Rattle.l4_ipc.specs.Machine.{IsBoot};
 ghost use Rattle.l4_lock.specs.Books.{seat_state, book, book_at, reply_waits};
 ghost use Rattle.l4_lock.specs.Closing.{Closes, Mismatches, by_history};
+ghost use Rattle.l4_lock.specs.Laws.{IsWholeRun};
 ghost use Rattle.l4_lock.specs.Locked.{IsKept, RefusesBoot, Enters, Tells, Refuses, Takes};
 ghost use Rattle.l4_lock.specs.declared.refusals.LockRefusal.TheVariants.{SeatTaken, NoMemory as WantOfMemory};
 ghost use Rattle.l4_lock.specs.Board.{IsNewWatch};
@@ -76,6 +77,7 @@ impl Locked {
             Ok(kernel) => kernel,
             Err(refused) => return Err(LockRefusal::Kernel(refused)),
         };
+        kernel.law_forest();
         let Ok(publisher) = Publisher::new(alloc) else {
             return Err(LockRefusal::NoMemory);
         };
@@ -113,6 +115,14 @@ impl Locked {
     /// What holds of the locked kernel at all times. It does nothing.
     pub fn law_kept(&self)
         ensures { IsKept self.now }
+    {
+        let _ = &self.frames;
+    }
+
+    /// What holds of the whole history: it is one run of the machine from boot, each page that is present has its provenance in it, a flush
+    /// ends what came through its pages, and each delegation that was delivered has its whole effect. It does nothing.
+    pub fn law_history(&self)
+        ensures { IsWholeRun self.now.frames self.now.history self.now.kernel }
     {
         let _ = &self.frames;
     }
@@ -210,9 +220,10 @@ impl Locked {
         finish_for(&mut self.accounts[at], seat, call)
     }
 
-    /// Hands out the history and the kernel, where just the seats that were given come back and agree with what was kept of them.
+    /// Hands out the history and the kernel, with what holds of the whole history, where just the seats that were given come back and agree with what was kept of them.
     pub fn close(self, seats: Vec<Seat>) -> Result<(History, Kernel), Unclosed>
         ensures ok { IfOk result (λ r. (r.0.entries ≡ self.history) × (r.1 ≡ self.kernel) × Closes self seats.items) }
+        ensures history { IfOk result (λ r. IsWholeRun self.frames r.0.entries r.1) }
         ensures err { IfErr result (λ u. (u.locked ≡ self) × (u.seats.items ≡ seats.items) × Mismatches (by_history self.history) self.books seats.items u.mismatch) }
     {
         if let Some(mismatch) = first_mismatch(self.accounts.as_slice(), seats.as_slice()) {
@@ -229,7 +240,8 @@ impl Locked {
     /// sees come from the same place.
     #[inline(never)]
     fn opened(self) -> (History, Kernel)
-        ensures { (result.0.entries ≡ self.history) × (result.1 ≡ self.kernel) }
+        ensures same { (result.0.entries ≡ self.history) × (result.1 ≡ self.kernel) }
+        ensures history { IsWholeRun self.frames result.0.entries result.1 }
     {
         let Locked {
             frames: _,

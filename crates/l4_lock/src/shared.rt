@@ -1,11 +1,11 @@
 //! The locked kernel under a lock that threads share.
-ghost use Rattle.std.specs.Prelude.{◌≡◌, ◌⊎◌, ◌+◌, ◌≤◌, ℕ, List, [], ◌∷◌, ◌++◌, drop, length, vec_len, map, IfOk, OnErr, MatchResult};
+ghost use Rattle.std.specs.Prelude.{◌≡◌, ◌⊎◌, ◌+◌, ◌≤◌, ℕ, List, [], ◌∷◌, ◌++◌, drop, length, vec_len, map, IfOk, IfErr, OnErr, MatchResult};
 ghost use Rattle.l4_lock.specs.Board.{IsNewWatch};
 ghost use Rattle.std.specs.List.{All};
 ghost use Rattle.l4_lock.specs.Books.{seat_state};
 ghost use Rattle.l4_lock.specs.Locked.{IsKept, RefusesBoot};
 ghost use Rattle.l4_lock.specs.declared.refusals.LockRefusal.TheVariants.{SeatTaken, NoMemory as WantOfMemory};
-ghost use Rattle.l4_lock.specs.Shared.{IsAnswered, gate_state, pairs_of};
+ghost use Rattle.l4_lock.specs.Shared.{IsAnswered, Declines, gate_state, pairs_of};
 
 use crate::board::{Board, Watch};
 use crate::copies::copy_call;
@@ -79,13 +79,15 @@ impl KernelLock {
 
     /// Enters a call, and waits until it has ended; the lock is free meanwhile. The seat gains a receipt with this call and the reply.
     ///
-    /// Refusals are those of `Locked::enter`, in its order. After any of them the seat is as before.
+    /// Refusals are those of `Locked::enter`, in its order, of what stood under the lock then. After any of them the seat is as before.
     pub fn call<R: Wait>(&self, rt: &R, seat: &mut Seat, call: Call) -> Result<Reply, LockRefusal>
         ensures ok { IfOk result (λ reply. IsAnswered seat.old seat.new call reply) }
         ensures err { OnErr result (seat.new ≡ seat.old) }
+        ensures refuses { IfErr result (λ e. Declines seat.old.number call e) }
     {
         let own = copy_call(&call);
         let mut guard = self.locked.lock(rt);
+        guard.law_kept();
         let entered = match guard.enter(seat, call) {
             Ok(entered) => entered,
             Err(refusal) => return Err(refusal),
@@ -172,14 +174,17 @@ impl<'a, R: Wait> Gate for LockGate<'a, R> {
 
     ghost pairs = { λ g. pairs_of g };
 
-    ghost refuses = { λ before call fault after. GateRefuses before fault after };
+    ghost refuses = { λ before call fault after. GateRefuses before call fault after };
 
     fn enter(&mut self, call: Call) -> Result<Reply, GateFault> {
-        match self.lock.call(self.rt, &mut self.seat, call) {
-            Ok(reply) => Ok(reply),
-            Err(refusal) => Err(GateFault {
-                code: refusal.number(),
-            }),
-        }
+        let reply = match self.lock.call(self.rt, &mut self.seat, call) {
+            Ok(reply) => reply,
+            Err(refusal) => {
+                return Err(GateFault {
+                    code: refusal.number(),
+                });
+            }
+        };
+        Ok(reply)
     }
 }

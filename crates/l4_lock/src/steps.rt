@@ -74,6 +74,7 @@ pub fn follow(kernel: &mut Kernel, history: &mut History, accounts: &mut Vec<Acc
 {
     kernel.law_consistent();
     while let Some((step, answer)) = kernel.step_next() {
+        kernel.law_forest();
         append(kernel, history, accounts, seat, step, answer);
     }
 }
@@ -103,6 +104,7 @@ pub fn begin(
     let step = Step::Start(number, call);
     match kernel.step(&step) {
         Ok(answer) => {
+            kernel.law_forest();
             append(kernel, history, accounts, number, step, answer);
             follow(kernel, history, accounts, number);
             Ok(())

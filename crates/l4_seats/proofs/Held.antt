@@ -22,7 +22,7 @@ use Rattle.l4_lock.specs.Books.{SeatState, seat_state, Book, book, is_among, has
 use Rattle.l4_lock.specs.Locked.{Lock, Enters, Tells, Takes, Refuses, start_entry}
 use Rattle.l4_lock.proofs.Openings.{none_of}
 use Rattle.l4_seats.specs.Seated.{Seated, seated, with_number, Refuses as Declines, Enters as Entering}
-use Rattle.l4_seats.specs.Inside.Keeping.{numbers_of, seat_at, AreTheirs, AreSeats, HaveTaken, OnlyTakes, EntersAndTakes}
+use Rattle.l4_seats.specs.Inside.Keeping.{numbers_of, seat_at, AreTheirs, AreSeats, HaveTaken, still_waits, NoneWaits, OnlyTakes, EntersAndTakes}
 use Rattle.l4_seats.proofs.Staying.{Walked, walked, lasts}
 
 -- SEATS BY PLACE AND BY NUMBER
@@ -153,10 +153,11 @@ pub record Taking (old : Lock) (first : List SeatState) (l : Lock) (seats : List
   pub theirs : AreTheirs l.books seats
   pub have : HaveTaken l.books seats i
   pub numbers : numbers_of seats ≡ numbers_of first
+  pub quiet : NoneWaits l
   pub same : OnlyTakes old l
 
-pub taking_none : (l : Lock) (seats : List SeatState) → AreTheirs l.books seats → Taking l seats l seats 0
-taking_none l seats theirs = record { theirs = theirs; have = λ k s lt. absurd (omega (arith, lt)); numbers = refl; same = (refl, refl, refl, refl) }
+pub taking_none : (l : Lock) (seats : List SeatState) → AreTheirs l.books seats → NoneWaits l → Taking l seats l seats 0
+taking_none l seats theirs quiet = record { theirs = theirs; quiet = quiet; have = λ k s lt. absurd (omega (arith, lt)); numbers = refl; same = (refl, refl, refl, refl) }
 
 last_or : (k i : ℕ) → k < i + 1 → (k < i) ⊎ (k ≡ i)
 last_or k i lt = elim (eqb_tells k i) [ inl same ↦ inr same.1 | inr ne ↦ inl (let n = ne.1 in omega (arith, lt, n)) ]
@@ -179,7 +180,7 @@ taking_more old l new first seats i s after None lt read some none t =
           ]
     ] in
     subst (λ (x : Lock). Taking old first x (slice_set seats i after) (i + 1)) (sym none.0)
-    (subst (λ (xs : List SeatState). Taking old first l xs (i + 1)) (sym back) (record { theirs = t.theirs; have = more; numbers = t.numbers; same = t.same }))
+    (subst (λ (xs : List SeatState). Taking old first l xs (i + 1)) (sym back) (record { theirs = t.theirs; have = more; numbers = t.numbers; quiet = t.quiet; same = t.same }))
 taking_more old l new first seats i s after (Some reply) lt read x none t =
     let at : slice_get seats i ≡ Some s = there seats i s lt read in
     let number : after.number ≡ s.number = x.settles.number in
@@ -197,6 +198,12 @@ taking_more old l new first seats i s after (Some reply) lt read x none t =
                 ∙ t.have k y (omega (arith, less, other)) (sym (set_there seats i after k other) ∙ at') waits
           ];
       numbers = numbers_set seats i after s lt (number ∙ ap (λ (z : SeatState). z.number) read) ∙ t.numbers;
+      quiet = λ m waits.
+          elim (eqb_tells m s.number) [
+            | inl same ↦ absurd (false≢true (sym (ap (reply_waits new.books) same.1 ∙ none_waits new.books s.number cleared) ∙ waits))
+            | inr ne ↦ ap (λ (k : Machine). still_waits k m) x.same.1
+                ∙ t.quiet m (sym (ap (λ (o : Option Book). option_map_or has_ended (pending_in o) false) (x.others m ne.1)) ∙ waits)
+          ];
       same = (x.same.0 ∙ t.same.0, x.same.1 ∙ t.same.1, x.same.2 ∙ t.same.2, x.same.3 ∙ t.same.3);
     }
 

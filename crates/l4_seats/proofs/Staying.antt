@@ -50,7 +50,7 @@ stays m new (Expire k) answer n next x is =
     let other : n ≢ k = λ same. waiting_state x.0.state (subst IsOver (ap (state_of m.threads) same ∙ x.0.at) is) x.0.zero in
     ap (λ (y : Machine). state_of y.threads n) x.3 ∙ elsewhere _ k _ n other
 
-lasting : (m : Machine) (seat : ℕ) (rest : List Entry) (new : Machine) (n : ℕ) → GoesOn m seat rest new → IsOver (state_of m.threads n) → state_of new.threads n ≡ state_of m.threads n
+pub lasting : (m : Machine) (seat : ℕ) (rest : List Entry) (new : Machine) (n : ℕ) → GoesOn m seat rest new → IsOver (state_of m.threads n) → state_of new.threads n ≡ state_of m.threads n
 lasting m seat [] new n g is = ap (λ (y : Machine). state_of y.threads n) g
 lasting m seat (e ∷ es) new n g is =
     let first : state_of g.2.0.threads n ≡ state_of m.threads n = stays m g.2.0 e.step e.answer n g.1 g.2.1 is in

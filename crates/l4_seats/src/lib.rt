@@ -5,3 +5,6 @@ mod keeping;
 mod seated;
 
 pub use seated::SeatedKernel;
+
+#[cfg(test)]
+mod tests;

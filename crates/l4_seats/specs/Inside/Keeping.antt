@@ -1,5 +1,8 @@
 -- What the seats in one hand and the books of the lock have to do with each other. (this profile's own)
-use Rattle.std.specs.Prelude.{◌≡◌, ◌≢◌, ℕ, ◌<◌, ◌⊎◌, false, is_some, if◌then◌else◌, nat_eq, List, [], ◌∷◌, map, Option, Some, None, slice_get}
+use Rattle.std.specs.Prelude.{◌≡◌, ◌≢◌, ℕ, ◌<◌, ◌⊎◌, Bool, true, false, is_some, if◌then◌else◌, nat_eq, List, [], ◌∷◌, map, Option, Some, None, slice_get}
+use Rattle.l4_threads.specs.Threads.{space_of}
+use Rattle.l4_ipc.specs.Machine.{Machine}
+use Rattle.l4_ipc.specs.Reading.{reply_of}
 use Rattle.l4_lock.specs.Books.{SeatState, Book, is_among, book_at, pending_at, reply_waits}
 use Rattle.l4_ipc.specs.declared.calls.Call.{Call}
 use Rattle.l4_lock.specs.Locked.{Lock, Enters}
@@ -29,6 +32,14 @@ pub record AreTheirs (books : List Book) (seats : List SeatState) : Type 0 where
 pub record AreSeats (books : List Book) (seats : List SeatState) : Type 0 where
   pub theirs : AreTheirs books seats
   pub taken : (n : ℕ) → reply_waits books n ≡ false
+
+-- the thread is there and has no reply
+abbrev pub still_waits : Machine → ℕ → Bool
+still_waits m n = if is_some (reply_of m.threads n) then false else is_some (space_of m.threads n)
+
+-- a thread whose ended call isn't taken yet doesn't wait
+abbrev pub NoneWaits : Lock → Type 0
+NoneWaits l = (n : ℕ) → reply_waits l.books n ≡ true → still_waits l.kernel n ≡ false
 
 -- the first seats have taken what could be taken
 abbrev pub HaveTaken : List Book → List SeatState → ℕ → Type 0

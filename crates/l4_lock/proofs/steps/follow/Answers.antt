@@ -19,7 +19,7 @@ loop-step-smaller c = fewer _ _ c.in-Some.step c.in-Some.answer c.in-Some.ensure
 
 pub loop-step-preserved : goal.loop-step-preserved
 loop-step-preserved c =
-    going_more _ _ _ _ _ _ _ _ _ _ _ _ _ _ c.in-Some.step c.in-Some.answer c.loop-step.invariant c.in-Some.ensures.0 c.in-Some.ensures.1
+    going_more _ _ _ _ _ _ _ _ _ _ _ _ _ _ c.in-Some.step c.in-Some.answer c.loop-step.invariant c.in-Some.ensures.0 c.in-Some.ensures.1 c.law_forest.ensures
     c.append.ensures.history c.append.ensures.accounts c.append.ensures.room.0 c.append.ensures.room.1
 
 pub returns-clause-went : goal.returns-clause-went

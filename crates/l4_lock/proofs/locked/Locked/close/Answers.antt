@@ -8,7 +8,7 @@ returns-in-Some-clause-err c =
 
 pub returns-clause-ok : goal.returns-clause-ok
 returns-clause-ok c = (
-  c.opened.ensures.0,
-  c.opened.ensures.1,
+  c.opened.ensures.same.0,
+  c.opened.ensures.same.1,
   told_closed _ _ c.as_slice.result.now c.as_slice-2.result.now c.args.seats.items c.self.view_is c.self.invariant c.as_slice.ensures.value c.as_slice-2.ensures.value c.in_default.ensures,
 )

@@ -12,4 +12,4 @@ invariant_of-locked c =
     let no_books : c.new-3.result.items ≡ [] = search (rules, c.new-3.ensures) in
     subst (λ (h : List Entry). IsKept (lock c.args.frames c.in-Ok.kernel h c.new-3.result.items p.board p.shown)) (sym none)
     (subst (λ (b : List Book). IsKept (lock c.args.frames c.in-Ok.kernel [] b p.board p.shown)) (sym no_books)
-    (begins_kept c.args.frames c.in-Ok.kernel p.board p.shown c.in-Ok.ensures.2 c.in-Ok-new.ensures))
+    (begins_kept c.args.frames c.in-Ok.kernel p.board p.shown c.in-Ok.ensures.2 c.law_forest.ensures c.in-Ok-new.ensures))

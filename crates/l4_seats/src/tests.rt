@@ -1,0 +1,130 @@
+//! Calls of several threads, entered by the seats that are all in one hand.
+
+use crate::SeatedKernel;
+use l4_ipc::{
+    ArrayVec, Call, Fpage, IpcReply, MAX_WORDS, Refused, Reply, Rights, ThreadId, Timeout,
+};
+use l4_lock::LockRefusal;
+use std::process::Abort;
+
+const FRAMES: u32 = 16;
+
+/// The number of root, which may make and end threads.
+const ROOT: u32 = 2;
+
+const ROOT_ID: ThreadId = ThreadId(0x8001);
+
+/// A thread that root makes.
+const THIRD: u32 = 3;
+
+const THIRD_ID: ThreadId = ThreadId(3 * 0x4000 + 1);
+
+/// A number that names no thread.
+const NOBODY: u32 = 4;
+
+/// A message of one word, with a label: its tag, then the word.
+const MESSAGE: [u32; 2] = [0x0005_0001, 0x2a];
+
+/// Makes the third thread in a space of its own.
+fn create() -> Call {
+    Call::create(THIRD_ID, THIRD_ID, ThreadId::nil())
+}
+
+/// Sends the message to the third thread. It waits for as long as it takes.
+fn send() -> Call {
+    let mut words: ArrayVec<u32, MAX_WORDS> = ArrayVec::new();
+    let _ = words.try_extend_from_slice(&MESSAGE);
+    Call::send(THIRD_ID, words, Timeout::Never)
+}
+
+/// Receives anybody's message with a complete window. It waits for as long as it takes.
+fn receive() -> Call {
+    Call::receive(
+        ThreadId::any(),
+        Fpage::Complete(Rights::all()),
+        Timeout::Never,
+    )
+}
+
+/// Whether this is the message, as root sent it.
+fn is_message(reply: Option<&Reply>) -> bool {
+    match reply {
+        Some(
+            Reply::Ipc(
+                IpcReply {
+                    tag,
+                    error,
+                    from,
+                    words,
+                },
+            ),
+        ) => {
+            *tag == MESSAGE[0]
+                && *error == 0
+                && *from == ROOT_ID
+                && words.as_slice() == &MESSAGE[1..]
+        }
+        _ => false,
+    }
+}
+
+/// A thread that was left waiting gets a message, and enters another call: nobody but the kernel keeps its reply.
+#[test]
+fn message(rt: HostRuntime) {
+    let mut kernel = SeatedKernel::new(rt.alloc(), FRAMES).expect(&rt, "a kernel");
+    assert!(rt; kernel.give(ROOT).is_ok() && kernel.give(THIRD).is_ok());
+    assert!(rt; kernel.enter(ROOT, create()).is_ok());
+    assert!(rt; kernel.enter(THIRD, receive()).is_ok());
+    assert!(rt; kernel.kernel().reply(THIRD).is_none());
+    assert_eq!(rt; kernel.steps(), 2);
+    assert!(rt; kernel.enter(ROOT, send()).is_ok());
+    assert!(rt; is_message(kernel.kernel().reply(THIRD)));
+    assert_eq!(rt; kernel.steps(), 4);
+    assert!(rt; kernel.enter(THIRD, receive()).is_ok());
+    assert_eq!(rt; (kernel.history().len(), kernel.steps()), (5, 5));
+}
+
+/// A thread is deleted as it waits, and a new one with its number enters calls at once.
+#[test]
+fn deleted(rt: HostRuntime) {
+    let mut kernel = SeatedKernel::new(rt.alloc(), FRAMES).expect(&rt, "a kernel");
+    assert!(rt; kernel.give(ROOT).is_ok() && kernel.give(THIRD).is_ok());
+    assert!(rt; kernel.enter(ROOT, create()).is_ok());
+    assert!(rt; kernel.enter(THIRD, receive()).is_ok());
+    assert!(rt; kernel.enter(ROOT, Call::delete(THIRD_ID)).is_ok());
+    assert!(rt; kernel.kernel().space_of(THIRD).is_none());
+    assert!(rt; kernel.enter(ROOT, create()).is_ok());
+    assert!(rt; kernel.enter(THIRD, receive()).is_ok());
+    assert_eq!(rt; (kernel.history().len(), kernel.steps()), (5, 5));
+}
+
+/// Calls that are refused: of a number without a seat, of one that names no thread, and of a thread that waits. Another seat of the
+/// same number changes nothing.
+#[test]
+fn refused(rt: HostRuntime) {
+    let mut kernel = SeatedKernel::new(rt.alloc(), FRAMES).expect(&rt, "a kernel");
+    let unknown = Err(LockRefusal::Kernel(Refused::UnknownThread));
+    assert_eq!(rt; kernel.enter(ROOT, create()), unknown);
+    assert!(rt; kernel.give(ROOT).is_ok() && kernel.give(THIRD).is_ok());
+    assert_eq!(rt; kernel.enter(NOBODY, receive()), unknown);
+    assert!(rt; kernel.give(NOBODY).is_ok());
+    assert_eq!(rt; kernel.enter(NOBODY, receive()), unknown);
+    assert!(rt; kernel.enter(ROOT, create()).is_ok());
+    assert!(rt; kernel.enter(THIRD, receive()).is_ok());
+    assert!(rt; kernel.give(THIRD).is_ok());
+    assert_eq!(rt;
+        kernel.enter(THIRD, receive()),
+        Err(LockRefusal::Kernel(Refused::Busy))
+    );
+    assert_eq!(rt; (kernel.history().len(), kernel.steps()), (2, 2));
+}
+
+/// No kernel has no frames.
+#[test]
+fn no_frames(rt: HostRuntime) {
+    let refusal = match SeatedKernel::new(rt.alloc(), 0) {
+        Ok(_) => None,
+        Err(refusal) => Some(refusal),
+    };
+    assert_eq!(rt; refusal, Some(LockRefusal::Kernel(Refused::BadFrames)));
+}
