@@ -1,4 +1,5 @@
 pub mod Few
+pub mod Following
 pub mod Holding
 pub mod Lists
 pub mod Steps

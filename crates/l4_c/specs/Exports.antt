@@ -1,5 +1,5 @@
 -- What calls from C do (this profile's own).
-use Rattle.std.specs.Prelude.{◌≡◌, ◌⊎◌, ℕ, ◌<◌, ◌≤◌, List, codes, Option, None, Some, Result, Ok}
+use Rattle.std.specs.Prelude.{◌≡◌, ◌⊎◌, ℕ, ◌<◌, ◌≤◌, List, length, codes, Option, None, Some, Result, Ok, Err}
 use Rattle.l4_ipc.specs.Machine.{Machine, IsBoot}
 use Rattle.l4_ipc.specs.Steps.{Steps, IsNext, IsIdle}
 use Rattle.l4_ipc.specs.declared.calls.Call.{Call}
@@ -7,9 +7,11 @@ use Rattle.l4_ipc.specs.declared.steps.Step.TheVariants.{Start}
 use Rattle.l4_ipc.specs.declared.steps.Refused.{Refused}
 use Rattle.l4_ipc.specs.declared.steps.Answer.{Answer}
 use Rattle.l4_ipc.specs.declared.steps.Step.{Step}
+use Rattle.l4_ipc.specs.Following.{Done, AreNext}
 use Rattle.l4_c.specs.Called.{IsCall, IsNoKind}
 use Rattle.l4_c.specs.Told.{spelled, TellsRefusal, TellsStep, TellsNext, TellsDone}
 use Rattle.l4_c.specs.declared.calls.CallGiven.{CallGiven}
+use Rattle.l4_c.specs.declared.results.EnterResult.{EnterResult}
 use Rattle.l4_c.specs.declared.results.NextResult.{NextResult}
 use Rattle.l4_c.specs.declared.results.StepResult.{StepResult}
 
@@ -47,3 +49,24 @@ GoesOn (Some old) r new =
     ((r.refusal ≡ 0) × (r.kind ≡ 0) × IsIdle old × (new ≡ Some old))
     ⊎ ((step : Step) × (answer : Answer) × (after : Machine)
     × IsNext old step × Steps old step (Ok answer) after × TellsDone step answer r × (new ≡ Some after))
+
+-- the steps that come next are done until there is none, and counted
+pub record Follows (old : Machine) (count : ℕ) (new : Machine) : Type 0 where
+  pub dones : List Done
+  pub next : AreNext old dones new
+  pub idle : IsIdle new
+  pub counted : count ≡ length dones
+
+-- the call that is given is started, and then the steps that come next are done until there is none; a refused call changes nothing
+abbrev pub Goes : Machine → ℕ → CallGiven → List ℕ → EnterResult → Machine → Type 0
+Goes old thread g words r new =
+    (IsNoKind g × TellsRefusal (spelled (codes "B3")) 0 r.start × (r.step_count ≡ 0) × (new ≡ old))
+    ⊎ ((call : Call) × IsCall g words call
+    × (((e : Refused) × Steps old (Start thread call) (Err e) new × TellsStep (Err e) r.start × (r.step_count ≡ 0))
+    ⊎ ((answer : Answer) × (started : Machine) × Steps old (Start thread call) (Ok answer) started × TellsStep (Ok answer) r.start
+    × Follows started r.step_count new)))
+
+-- the same of a handle, which is refused where it is empty (B1)
+abbrev pub Enters : Option Machine → ℕ → CallGiven → List ℕ → EnterResult → Option Machine → Type 0
+Enters None thread g words r new = TellsRefusal (spelled (codes "B1")) 0 r.start × (r.step_count ≡ 0) × (new ≡ None)
+Enters (Some old) thread g words r new = (after : Machine) × Goes old thread g words r after × (new ≡ Some after)

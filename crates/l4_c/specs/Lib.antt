@@ -2,4 +2,5 @@ pub mod Asked
 pub mod Called
 pub mod Exports
 pub mod Held
+pub mod Planned
 pub mod Told

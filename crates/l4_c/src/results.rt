@@ -172,7 +172,7 @@ pub fn padded<const N: usize>(numbers: &[u32]) -> [u32; N]
 }
 
 /// An answer.
-fn answered(answer: &Answer) -> StepResult
+pub fn answered(answer: &Answer) -> StepResult
     ensures { TellsAnswer answer.now result }
 {
     StepResult {

@@ -1,0 +1,275 @@
+/* Makes every call of l4.h, and fails where one answers otherwise than the rules of the core say. */
+#include <l4.h>
+#include <stdio.h>
+#include <string.h>
+
+static int failures = 0;
+
+static void expect(int holds, const char *what, int line) {
+    if (!holds) {
+        printf("line %d: %s\n", line, what);
+        failures++;
+    }
+}
+
+#define EXPECT(claim) expect((claim) ? 1 : 0, #claim, __LINE__)
+
+/* The id of a thread of this number, version 1. */
+static uint32_t id(uint32_t number) {
+    return number << 14 | 1;
+}
+
+static const uint32_t no_words[1] = {0};
+
+static l4_call kind(uint32_t which) {
+    l4_call call;
+    memset(&call, 0, sizeof call);
+    call.kind = which;
+    return call;
+}
+
+static l4_call create(uint32_t number, uint32_t pager) {
+    l4_call call = kind(L4_CREATE);
+    call.id = id(number);
+    call.space = id(number);
+    call.pager = id(pager);
+    return call;
+}
+
+static l4_call receive(uint32_t window) {
+    l4_call call = kind(L4_IPC);
+    call.from = L4_ANYTHREAD;
+    call.acceptor = window;
+    return call;
+}
+
+static l4_call send(uint32_t number) {
+    l4_call call = kind(L4_IPC);
+    call.to = id(number);
+    return call;
+}
+
+static l4_answer plainly(l4_kernel *kernel, uint32_t thread, l4_call call) {
+    return l4_start(kernel, thread, &call, no_words, 0);
+}
+
+static void empty_handles(void) {
+    l4_kernel kernel = L4_EMPTY;
+    l4_step step;
+    l4_free(&kernel);
+    EXPECT(plainly(&kernel, 2, kind(L4_DELETE)).refusal == L4_B1);
+    EXPECT(plainly(&kernel, 2, kind(7)).refusal == L4_B1);
+    EXPECT(l4_transfer(&kernel, 1, 2).refusal == L4_B1);
+    EXPECT(l4_expire(&kernel, 1).refusal == L4_B1);
+    EXPECT(l4_enabled(&kernel).refusal == L4_B1);
+    EXPECT(l4_next(&kernel).refusal == L4_B1);
+    EXPECT(l4_reply_of(&kernel, 1).refusal == L4_B1);
+    EXPECT(l4_space_of(&kernel, 1).refusal == L4_B1);
+    EXPECT(l4_mapping_of(&kernel, 0, 0).refusal == L4_B1);
+    EXPECT(l4_next_page(&kernel, 0, 0).refusal == L4_B1);
+    {
+        l4_call call = kind(L4_IPC);
+        EXPECT(l4_enter(&kernel, 1, &call, no_words, 0, &step, 1).start.refusal == L4_B1);
+    }
+}
+
+static void boots(void) {
+    l4_kernel kernel = L4_EMPTY, other = L4_EMPTY;
+    EXPECT(l4_boot(&kernel, 0) == L4_K6);
+    EXPECT(l4_boot(&kernel, L4_MAX_FRAMES + 1) == L4_K6);
+    EXPECT(l4_boot(&kernel, L4_MAX_FRAMES) == L4_OK);
+    EXPECT(l4_boot(&kernel, 1) == L4_B2);
+    EXPECT(l4_boot(&other, 1) == L4_OK);
+    EXPECT(l4_next_page(&kernel, 0, 1).there == 1);
+    EXPECT(l4_next_page(&other, 0, 1).there == 0);
+    l4_free(&other);
+    EXPECT(l4_next_page(&kernel, 0, L4_MAX_FRAMES - 1).page == L4_MAX_FRAMES - 1);
+    l4_free(&kernel);
+    l4_free(&kernel);
+    EXPECT(l4_boot(&kernel, 2) == L4_OK);
+    l4_free(&kernel);
+}
+
+/* Thread 1 sends page 16 with all rights to page 32 of thread 3. */
+static void delivers(l4_kernel *kernel) {
+    static const uint32_t words[3] = {0x80, 0x20008, 0x100c7};
+    l4_call call = send(3);
+    l4_answer answer = plainly(kernel, 2, create(3, 2));
+    l4_step step;
+    l4_reply reply;
+    l4_mapping mapping;
+    EXPECT(answer.refusal == L4_OK && answer.outcome == L4_STARTED && answer.ended_count == 1 && answer.ended[0] == 2);
+    EXPECT(l4_reply_of(kernel, 2).kind == L4_REPLY_CONTROLLED);
+    EXPECT(l4_space_of(kernel, 3).there == 1 && l4_space_of(kernel, 3).space == 2);
+    EXPECT(plainly(kernel, 3, receive(0x10)).ended_count == 0);
+    EXPECT(plainly(kernel, 3, receive(0x10)).refusal == L4_K3);
+    EXPECT(l4_enabled(kernel).kind == L4_NONE);
+    answer = l4_start(kernel, 1, &call, words, 3);
+    EXPECT(answer.refusal == L4_OK && answer.ended_count == 0);
+    step = l4_enabled(kernel);
+    EXPECT(step.kind == L4_TRANSFER && step.thread == 1 && step.receiver == 3 && step.outcome == 0);
+    EXPECT(l4_transfer(kernel, 3, 1).refusal == L4_K1);
+    step = l4_next(kernel);
+    EXPECT(step.kind == L4_TRANSFER && step.outcome == L4_DELIVERED && step.ended_count == 2 && step.ended[0] == 1 && step.ended[1] == 3);
+    EXPECT(l4_next(kernel).kind == L4_NONE);
+    reply = l4_reply_of(kernel, 3);
+    EXPECT(reply.kind == L4_REPLY_IPC && reply.tag == 0x80 && reply.error == 0 && reply.from == id(1) && reply.word_count == 2);
+    EXPECT(reply.words[0] == 0x20008 && reply.words[1] == 0x100c7);
+    EXPECT(l4_next_page(kernel, 2, 0).page == 32 && l4_next_page(kernel, 2, 33).there == 0);
+    mapping = l4_mapping_of(kernel, 2, 32);
+    EXPECT(mapping.there == 1 && mapping.frame == 16 && mapping.rights == (L4_READ | L4_WRITE | L4_EXECUTE));
+    EXPECT(mapping.has_parent == 1 && mapping.parent_page == 16 && mapping.parent_space == 0);
+    EXPECT(l4_mapping_of(kernel, 0, 16).has_parent == 0 && l4_mapping_of(kernel, 2, 31).there == 0);
+}
+
+/* The other kinds of calls, on the machine that `delivers` leaves. */
+static void calls(l4_kernel *kernel) {
+    static const uint32_t whole[1] = {0x12};
+    l4_call call = kind(L4_FAULT);
+    call.address = 0x20123;
+    call.access = L4_READ;
+    EXPECT(plainly(kernel, 3, call).ended_count == 1 && l4_reply_of(kernel, 3).kind == L4_REPLY_HIT);
+    call = kind(L4_UNMAP);
+    EXPECT(plainly(kernel, 1, call).refusal == L4_U2);
+    EXPECT(l4_start(kernel, 1, &call, whole, 1).refusal == L4_OK && l4_reply_of(kernel, 1).kind == L4_REPLY_UNMAPPED);
+    EXPECT(l4_mapping_of(kernel, 2, 32).rights == (L4_READ | L4_EXECUTE));
+    call = receive(0);
+    call.timeouts = L4_ZERO_TIMEOUT;
+    EXPECT(plainly(kernel, 3, call).ended_count == 0 && l4_enabled(kernel).kind == L4_EXPIRE && l4_enabled(kernel).thread == 3);
+    EXPECT(l4_expire(kernel, 1).refusal == L4_K1);
+    EXPECT(l4_expire(kernel, 3).outcome == L4_EXPIRED && l4_reply_of(kernel, 3).tag == 0x8000 && l4_reply_of(kernel, 3).error == 3);
+    call = kind(L4_SET_PAGER);
+    call.id = id(3);
+    call.pager = id(1);
+    EXPECT(plainly(kernel, 3, call).refusal == L4_H1);
+    EXPECT(plainly(kernel, 2, call).refusal == L4_OK);
+    call = kind(L4_DELETE);
+    call.id = id(3);
+    EXPECT(plainly(kernel, 2, call).ended_count == 1);
+    EXPECT(l4_space_of(kernel, 3).there == 0 && l4_reply_of(kernel, 3).kind == L4_NONE);
+}
+
+/* What is refused as it comes from C. */
+static void refusals(l4_kernel *kernel) {
+    uint32_t words[70];
+    l4_call call = send(2);
+    memset(words, 0, sizeof words);
+    EXPECT(plainly(kernel, 1, kind(0)).refusal == L4_B3 && plainly(kernel, 1, kind(7)).refusal == L4_B3);
+    EXPECT(plainly(kernel, 9, kind(L4_DELETE)).refusal == L4_K2);
+    EXPECT(plainly(kernel, 1, call).refusal == L4_M7);
+    words[0] = 0xfff;
+    EXPECT(l4_start(kernel, 1, &call, words, 70).refusal == L4_M1);
+    words[0] = 0x1000;
+    EXPECT(l4_start(kernel, 1, &call, words, 1).refusal == L4_M5);
+    words[0] = 0x40;
+    EXPECT(l4_start(kernel, 1, &call, words, 2).refusal == L4_M2);
+    words[0] = 0x100;
+    words[1] = 8;
+    words[3] = 14;
+    EXPECT(l4_start(kernel, 1, &call, words, 5).refusal == L4_M3 && l4_start(kernel, 1, &call, words, 5).detail == 1);
+    words[3] = 0;
+    EXPECT(l4_start(kernel, 1, &call, words, 5).refusal == L4_M4 && l4_start(kernel, 1, &call, words, 5).detail == 1);
+    call = receive(0x20);
+    EXPECT(plainly(kernel, 1, call).refusal == L4_M6);
+    call.timeouts = 1;
+    EXPECT(plainly(kernel, 1, call).refusal == L4_K4);
+}
+
+/* A call that is entered, with its steps. */
+static void enters(l4_kernel *kernel) {
+    static const uint32_t words[70] = {1, 5};
+    l4_call call = receive(0);
+    l4_step steps[2];
+    l4_entered entered = l4_enter(kernel, 2, &call, no_words, 0, steps, 2);
+    EXPECT(entered.start.refusal == L4_OK && entered.step_count == 0);
+    call = send(2);
+    memset(steps, 0, sizeof steps);
+    entered = l4_enter(kernel, 1, &call, words, 70, steps, 2);
+    EXPECT(entered.start.refusal == L4_OK && entered.start.ended_count == 0 && entered.step_count == 1);
+    EXPECT(steps[0].kind == L4_TRANSFER && steps[0].outcome == L4_DELIVERED && steps[0].ended_count == 2 && steps[1].kind == L4_NONE);
+    EXPECT(l4_reply_of(kernel, 2).word_count == 1 && l4_reply_of(kernel, 2).words[0] == 5);
+    entered = l4_enter(kernel, 9, &call, words, 2, steps, 2);
+    EXPECT(entered.start.refusal == L4_K2 && entered.step_count == 0);
+    call = receive(0);
+    EXPECT(l4_enter(kernel, 2, &call, no_words, 0, steps, 0).step_count == 0);
+    call = send(2);
+    EXPECT(l4_enter(kernel, 1, &call, words, 2, steps, 0).step_count == 1);
+    EXPECT(l4_enter(kernel, 1, &call, words, 1, steps, 0).start.refusal == L4_M7);
+}
+
+static void plans(void) {
+    l4_region region = {4, 12, 12, 7}, long_region = {1, 0, 64, 7}, other = {4, 12, 0, 7};
+    l4_plan plan = l4_plan_region(&region);
+    l4_verdict verdict;
+    EXPECT(plan.refusal == L4_OK && plan.word_count == 5 && plan.page_count == 2);
+    EXPECT(plan.words[0] == 0x100 && plan.words[1] == 0xc009 && plan.words[2] == 0x40e7 && plan.words[3] == 0x10008 && plan.words[4] == 0x80f7);
+    EXPECT(plan.pages[0] == 4 && plan.pages[1] == 8);
+    EXPECT(l4_check_plan(&region, plan.words, plan.word_count, plan.pages, plan.page_count).refusal == L4_OK);
+    EXPECT(l4_check_plan(&region, plan.words, plan.word_count, plan.pages, 1).refusal == L4_C5);
+    EXPECT(l4_check_plan(&region, plan.words, 4, plan.pages, 2).refusal == L4_M7);
+    EXPECT(l4_check_plan(&other, plan.words, plan.word_count, plan.pages, 2).refusal == L4_C6);
+    plan.pages[1] = 5;
+    verdict = l4_check_plan(&region, plan.words, plan.word_count, plan.pages, 2);
+    EXPECT(verdict.refusal == L4_C4 && verdict.detail == 1);
+    plan.pages[1] = 16;
+    verdict = l4_check_plan(&region, plan.words, plan.word_count, plan.pages, 2);
+    EXPECT(verdict.refusal == L4_C3 && verdict.detail == 1);
+    region.count = 13;
+    verdict = l4_check_plan(&region, plan.words, plan.word_count, plan.pages, 2);
+    EXPECT(verdict.refusal == L4_C2 && verdict.detail == 16);
+    region.rights = 5;
+    verdict = l4_check_plan(&region, plan.words, plan.word_count, plan.pages, 2);
+    EXPECT(verdict.refusal == L4_C1 && verdict.detail == 0);
+    EXPECT(l4_plan_region(&other).refusal == L4_N1);
+    other.count = 1;
+    other.rights = 8;
+    EXPECT(l4_plan_region(&other).refusal == L4_N3);
+    other.source = L4_SPACE_PAGES;
+    EXPECT(l4_plan_region(&other).refusal == L4_N2);
+    plan = l4_plan_region(&long_region);
+    EXPECT(plan.refusal == L4_N4 && plan.page_count == 32 && plan.word_count == 0);
+    EXPECT(l4_check_too_long(&long_region, plan.pages, plan.page_count).refusal == L4_OK);
+    EXPECT(l4_check_too_long(&long_region, plan.pages, 31).refusal == L4_C5);
+    EXPECT(l4_check_too_long(&region, plan.pages, 32).refusal == L4_C3);
+}
+
+/* Each code with its line, and how texts are cut. */
+static void texts(int shows) {
+    char code[160], line[160], cut[3] = {'x', 'x', 'x'};
+    uint32_t letter, digit, found = 0;
+    for (letter = 'A'; letter <= 'Z'; letter++) {
+        for (digit = '0'; digit <= 'z'; digit++) {
+            uint32_t refusal = letter << 8 | digit;
+            size_t length = l4_refusal_code(refusal, code, sizeof code);
+            EXPECT((length == 0) == (l4_refusal_text(refusal, line, sizeof line) == 0));
+            if (length > 0) {
+                found++;
+                EXPECT(strlen(code) == length && (uint32_t)code[0] == letter && (uint32_t)code[1] == digit);
+                if (shows) {
+                    printf("%s %s\n", code, line);
+                }
+            }
+        }
+    }
+    EXPECT(found == 38);
+    EXPECT(l4_refusal_code(L4_OK, code, sizeof code) == 0 && code[0] == 0);
+    EXPECT(l4_refusal_code(0x10000 | L4_K1, code, sizeof code) == 0);
+    EXPECT(l4_refusal_code(L4_K1, cut, 2) == 2 && cut[0] == 'K' && cut[1] == 0 && cut[2] == 'x');
+    EXPECT(l4_refusal_code(L4_NO_MEMORY, cut, 0) == 8 && cut[0] == 'K');
+}
+
+int main(int count, char **words) {
+    int shows = count > 1 && strcmp(words[1], "codes") == 0;
+    l4_kernel kernel = L4_EMPTY;
+    empty_handles();
+    boots();
+    EXPECT(l4_boot(&kernel, 256) == L4_OK);
+    delivers(&kernel);
+    calls(&kernel);
+    refusals(&kernel);
+    enters(&kernel);
+    l4_free(&kernel);
+    plans();
+    texts(shows);
+    return failures == 0 ? 0 : 1;
+}
