@@ -1,10 +1,12 @@
 -- The texts of steps, and of how calls ended (this profile's own).
-use Rattle.std.specs.Prelude.{ℕ, ◌/◌, ◌==◌, List, [], ◌∷◌, ◌++◌, Option, Some, None, if◌then◌else◌, codes, decimal}
+use Rattle.std.specs.Prelude.{ℕ, ◌==◌, List, [], ◌∷◌, ◌++◌, Option, Some, None, if◌then◌else◌, codes, decimal}
 use Rattle.l4_ipc.specs.declared.steps.Outcome.{Outcome}
 use Rattle.l4_ipc.specs.declared.steps.Outcome.TheVariants.{Started, Done, NoWindow, Entangled, NoMemory, Expired}
+use Rattle.l4_threads.specs.declared.ThreadId.{ThreadId}
 use Rattle.l4_threads.specs.declared.IpcReply.{IpcReply}
 use Rattle.l4_threads.specs.declared.Reply.{Reply}
 use Rattle.l4_threads.specs.declared.Reply.TheVariants.{Ipc, Hit, Answered, FaultFailed, Unmapped, Controlled, Gone}
+use Rattle.l4_threads.specs.Threads.{number_of}
 use Rattle.l4_text.specs.Texts.{word_text, words_text}
 
 abbrev pub space : List ℕ
@@ -36,12 +38,12 @@ numbered_text number rest = decimal number ++ rest ++ newline
 abbrev pub waits_text : ℕ → List ℕ
 waits_text number = numbered_text number (codes " waits")
 
--- a thread by its id: nilthread, or its number, which stands in the bits from 14 on
-abbrev pub from_text : ℕ → List ℕ
-from_text id = if id == 0 then codes "nil" else decimal (id / 16384)
+-- a thread by its id: nilthread, or its number
+abbrev pub from_text : ThreadId → List ℕ
+from_text id = if id.0 == 0 then codes "nil" else decimal (number_of id)
 
 abbrev pub ipc_head : ℕ → IpcReply → List ℕ
-ipc_head number reply = decimal number ++ codes " ipc " ++ word_text reply.tag ++ space ++ decimal reply.error ++ space ++ from_text reply.from.0
+ipc_head number reply = decimal number ++ codes " ipc " ++ word_text reply.tag ++ space ++ decimal reply.error ++ space ++ from_text reply.from
 
 -- how a thread's call ended, but for the words of its message; a thread that is gone has no reply
 abbrev pub reply_head : ℕ → Option Reply → List ℕ

@@ -1,6 +1,7 @@
 //! The texts of pages, of their rights and of their parents.
 ghost use Rattle.std.specs.Prelude.{◌≡◌, ◌≤◌, ◌+◌, ◌++◌, length};
 ghost use Rattle.l4_answers.specs.Pages.{rights_text, page_words, page_text, shown_text, place_or_none, parent_text};
+ghost use Rattle.l4_text.specs.Sizes.{text_bytes};
 
 use l4_fpage::Rights;
 use l4_mapdb::{Mapping, Place};
@@ -20,7 +21,7 @@ pub fn letters(rights: Rights) -> [u8; 3]
 
 /// Adds `page P frame F RIGHTS`.
 pub fn add_page(text: &mut Text, page: u32, mapping: &Mapping)
-    requires { length text.old + 60 ≤ 160 }
+    requires { length text.old + 60 ≤ text_bytes }
     ensures value { text.new ≡ text.old ++ page_words page mapping.now }
     ensures len { length text.new ≤ length text.old + 60 }
 {
@@ -56,7 +57,7 @@ pub fn shown_text(count: u32) -> Text
 
 /// Adds a place's space and page, or `none`.
 pub fn add_place(text: &mut Text, place: Option<Place>)
-    requires { length text.old + 41 ≤ 160 }
+    requires { length text.old + 41 ≤ text_bytes }
     ensures value { text.new ≡ text.old ++ place_or_none place }
     ensures len { length text.new ≤ length text.old + 41 }
 {

@@ -1,6 +1,7 @@
 //! The codes of refusals.
 ghost use Rattle.std.specs.Prelude.{◌≡◌, ◌≤◌, ◌+◌, ◌++◌, length};
 ghost use Rattle.l4_answers.specs.Refusals.{Refusal, plainly, at_place, message_refusal, thread_refusal, unmap_refusal, kernel_refusal, number_text, refused_text};
+ghost use Rattle.l4_text.specs.Sizes.{text_bytes};
 
 use l4_ipc::{Lower, Refused};
 use l4_msg::MsgFault;
@@ -106,7 +107,7 @@ pub fn refused_code(refused: Refused) -> Code
 
 /// Adds the number that a code carries, after a space.
 fn add_code_number(text: &mut Text, number: Option<u32>)
-    requires { length text.old + 21 ≤ 160 }
+    requires { length text.old + 21 ≤ text_bytes }
     ensures value { text.new ≡ text.old ++ number_text number }
     ensures len { length text.new ≤ length text.old + 21 }
 {
@@ -118,7 +119,7 @@ fn add_code_number(text: &mut Text, number: Option<u32>)
 
 /// Adds a code, and the number that it carries.
 pub fn add_code(text: &mut Text, code: &Code)
-    requires { length text.old + 29 ≤ 160 }
+    requires { length text.old + 29 ≤ text_bytes }
     ensures value { text.new ≡ text.old ++ code.now.name ++ number_text code.now.number }
     ensures len { length text.new ≤ length text.old + 29 }
 {

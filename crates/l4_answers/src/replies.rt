@@ -3,6 +3,7 @@ ghost use Rattle.std.specs.Prelude.{◌≡◌, ◌≤◌, ◌+◌, ◌++◌, len
 ghost use Rattle.std.specs.Option.{option_copied};
 ghost use Rattle.l4_answers.specs.Replies.{outcome_word, transfer_text, expire_text, waits_text, from_text, ipc_head, reply_head, reply_words, reply_text, newline};
 ghost use Rattle.l4_text.specs.Streams.{Tells};
+ghost use Rattle.l4_text.specs.Sizes.{text_bytes};
 
 use l4_ipc::Outcome;
 use l4_text::{Output, Text};
@@ -81,14 +82,14 @@ pub fn waits_text(number: u32) -> Text
 
 /// Adds a thread's number, or `nil`.
 fn add_thread(text: &mut Text, id: ThreadId)
-    requires { length text.old + 20 ≤ 160 }
-    ensures value { text.new ≡ text.old ++ from_text id.0 }
+    requires { length text.old + 20 ≤ text_bytes }
+    ensures value { text.new ≡ text.old ++ from_text id }
     ensures len { length text.new ≤ length text.old + 20 }
 {
     if id.0 == 0 {
         text.add(b"nil");
     } else {
-        text.add_number(u64::from(id.0 >> 14));
+        text.add_number(u64::from(id.number()));
     }
 }
 

@@ -1,5 +1,6 @@
 -- The numbers of frames that a command line can ask for (this profile's own).
 use Rattle.std.specs.Prelude.{ℕ, ◌≤◌}
+use Rattle.l4_fpage.specs.Pages.{max_frames}
 use Rattle.l4_options.specs.declared.requests.Options.{Options}
 use Rattle.l4_options.specs.declared.requests.Options.TheVariants.{Run, Plan, Check, Show}
 use Rattle.l4_options.specs.declared.requests.StepOptions.{StepOptions}
@@ -7,7 +8,7 @@ use Rattle.l4_options.specs.declared.requests.StepOptions.TheVariants.{Run as Ru
 
 -- a machine can have so many frames
 abbrev pub IsFrameCount : ℕ → Type 0
-IsFrameCount n = (1 ≤ n) × (n ≤ 4096)
+IsFrameCount n = (1 ≤ n) × (n ≤ max_frames)
 
 -- the number of frames that the command line of l4 asks for is one that a machine can have
 abbrev pub IsInRange : Options → Type 0

@@ -3,7 +3,7 @@ use Rattle.std.proofs.Common.{◌≡◌, ℕ, ◌+◌, ◌-◌, ◌*◌, ◌%◌
 use Rattle.std.proofs.lemmas.Bool.{cases_lt}
 use Rattle.std.proofs.lemmas.List.{get_or_push, length_push}
 use Rattle.std.proofs.lemmas.Nat.{pow_pos}
-use Rattle.std.proofs.lemmas.List.Elements.{All-nil, All-push}
+use Rattle.std.proofs.lemmas.List.Elements.{All-push}
 use Rattle.std.proofs.lemmas.List.Quantifiers.{all_pairs_push, Any-push}
 use Rattle.std.proofs.Math.ListN.{get_or-append}
 use Rattle.std.specs.List.{All, AllPairs, AllZip, Any}
@@ -11,7 +11,7 @@ use Rattle.l4_fpage.specs.Fpages.{bytes_of}
 use Rattle.l4_msg.specs.Moves.{Shifts, ItemMoves, IsMap, base_of, fpage_of, complete}
 use Rattle.l4_msg.specs.declared.items.Item.{Item}
 use Rattle.l4_msg.specs.declared.regions.Region.{Region}
-use Rattle.l4_plan.proofs.Greedy.{NoneCrosses, none_crosses_start, none_crosses_step, apart_from_crosses}
+use Rattle.l4_plan.proofs.Greedy.{NoneCrosses, none_crosses_step, apart_from_crosses}
 use Rattle.l4_plan.proofs.Steps.{item_moves_is}
 use Rattle.l4_msg.specs.Regions.{IsAllowed, IsCertificate, IsPlan, ShareBlock, StartsAt}
 use Rattle.l4_plan.specs.Largest.{IsLargest, AreStarts}

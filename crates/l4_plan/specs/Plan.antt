@@ -1,6 +1,7 @@
 -- What contracts see of a plan (own).
 use Rattle.std.specs.Prelude.{◌≡◌, ℕ, ◌*◌, ◌%◌, ◌<◌, ◌≤◌, List, length, Some}
 use Rattle.std.specs.List.{All, AllPairs, AllZip}
+use Rattle.l4_fpage.specs.Pages.{page_bytes}
 use Rattle.l4_fpage.specs.Fpages.{bytes_of}
 use Rattle.l4_msg.specs.Regions.{max_plan_items}
 use Rattle.l4_msg.specs.Moves.{base_of, fpage_of}
@@ -13,7 +14,7 @@ pub record Listing : Type 0 where
 
 -- the item's fpage begins at this page
 abbrev pub BeginsAt : ℕ → Item → Type 0
-BeginsAt page item = (log : ℕ) × (bytes_of (fpage_of item) ≡ Some (record { base = page * 4096; log = log }))
+BeginsAt page item = (log : ℕ) × (bytes_of (fpage_of item) ≡ Some (record { base = page * page_bytes; log = log }))
 
 -- What a plan keeps: one item at least and as many as a message holds, rising by source, with the page that each begins
 -- at; and each send base a multiple of 1 KiB, as an item's first word can say it (L4 X.2 manual, IPC: map item).

@@ -3,7 +3,7 @@ ghost use Rattle.arrayvec.specs.ArrayVec.{array_vec_len};
 ghost use Rattle.l4_fpage.specs.Pages.{page_bytes, page_log};
 ghost use Rattle.l4_fpage.specs.Fpages.{bytes_of};
 ghost use Rattle.l4_msg.specs.Moves.{fpage_of};
-ghost use Rattle.l4_msg.specs.Regions.{IsEmpty, InSpace, IsOutOfSpace, HasNoRights, IsSound, IsAllowed, IsCertificate, IsPlan, StartsAt, HasShortRival, NeedsAtLeast, NeedsMoreThan};
+ghost use Rattle.l4_msg.specs.Regions.{max_plan_items, IsEmpty, InSpace, IsOutOfSpace, HasNoRights, IsSound, IsAllowed, IsCertificate, IsPlan, StartsAt, HasShortRival, NeedsAtLeast, NeedsMoreThan};
 ghost use Rattle.l4_plan.specs.Refusals.{IfTooLong};
 ghost use Rattle.l4_plan.specs.Largest.{IsLargest, AreStarts};
 
@@ -55,9 +55,9 @@ fn split(region: &Region) -> Result<Plan, ArrayVec<u32, TOO_MANY>>
     ensures plan { IfOk result (λ p. IsPlan region.now p.items p.pages) }
     ensures largest { MatchResult result (λ p. AreStarts region.now region.now.source p.pages) (λ pages. AreStarts region.now region.now.source pages.items) }
     ensures one_each { IfOk result (λ p. length p.pages ≡ length p.items) }
-    ensures few { IfOk result (λ p. length p.items ≤ 31) }
+    ensures few { IfOk result (λ p. length p.items ≤ max_plan_items) }
     ensures too_long { IfErr result (λ pages. IsCertificate region.now pages.items) }
-    ensures many { IfErr result (λ pages. array_vec_len pages ≡ 32) }
+    ensures many { IfErr result (λ pages. array_vec_len pages ≡ max_plan_items + 1) }
 {
     let end = region.source + region.count;
     let mut items = ArrayVec::new();
@@ -85,14 +85,14 @@ pub fn plan(region: &Region) -> Result<Plan, PlanRefusal>
     // The items move exactly the region, and their pages are a certificate with one page an item.
     ensures planned { IfOk result (λ p. IsPlan region.now p.items p.pages) }
     ensures one_each { IfOk result (λ p. length p.pages ≡ length p.items) }
-    ensures few { IfOk result (λ p. length p.items ≤ 31) }
+    ensures few { IfOk result (λ p. length p.items ≤ max_plan_items) }
     ensures largest { IfOk result (λ p. AreStarts region.now region.now.source p.pages) }
     ensures shortest { IfOk result (λ p. NeedsAtLeast region.now (length p.items)) }
 
     // Too long is answered only where each list is, as the pages show.
-    ensures too_long { IfErr result (λ e. IfTooLong e (λ pages. IsSound region.now × (length pages ≡ 32) × IsCertificate region.now pages)) }
+    ensures too_long { IfErr result (λ e. IfTooLong e (λ pages. IsSound region.now × (length pages ≡ max_plan_items + 1) × IsCertificate region.now pages)) }
     ensures first_32 { IfErr result (λ e. IfTooLong e (AreStarts region.now region.now.source)) }
-    ensures none_short { IfErr result (λ e. IfTooLong e (λ _. NeedsMoreThan region.now 31)) }
+    ensures none_short { IfErr result (λ e. IfTooLong e (λ _. NeedsMoreThan region.now max_plan_items)) }
     ensures possible { IsOk result ↔ (IsSound region.now × HasShortRival region.now) }
 {
     if region.count == 0 {

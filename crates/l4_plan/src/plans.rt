@@ -1,6 +1,7 @@
 ghost use Rattle.std.specs.Prelude.{◌≡◌, ◌<◌, ◌≤◌, [], length};
 ghost use Rattle.std.specs.List.{AllPairs};
 ghost use Rattle.l4_msg.specs.Messages.{CanBeWritten};
+ghost use Rattle.l4_msg.specs.Regions.{max_plan_items};
 
 use arrayvec::ArrayVec;
 use l4_msg::{Item, MAX_ITEMS, Message, TOO_MANY};
@@ -54,7 +55,7 @@ impl Plan {
     pub fn items(&self) -> &[Item]
         ensures value { result.now ≡ self.now.items }
         ensures some { 0 < length result.now }
-        ensures few { length result.now ≤ 31 }
+        ensures few { length result.now ≤ max_plan_items }
     {
         self.items.as_slice()
     }

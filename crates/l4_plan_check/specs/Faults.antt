@@ -1,5 +1,5 @@
 -- Which faults a claim has, and which of them is named (own).
-use Rattle.std.specs.Prelude.{◌≢◌, ℕ, ◌<◌, List, length, ◌⊎◌}
+use Rattle.std.specs.Prelude.{◌≢◌, ℕ, ◌+◌, ◌<◌, List, length, ◌⊎◌}
 use Rattle.l4_msg.specs.Regions.{IsSound, max_plan_items}
 use Rattle.l4_msg.specs.declared.items.Item.{Item}
 use Rattle.l4_msg.specs.declared.regions.Region.{Region}
@@ -30,12 +30,12 @@ pub record IsFirstFault (r : Region) (items : List Item) (pages : List ℕ) (fau
   pub holds : Holds r items pages fault
   pub earlier : (other : AFault) → rank other < rank fault → Holds r items pages other → ⊥
 
--- the fault is one of the claim that 32 pages show each list of map items to be too long; none concerns items
+-- the fault is one of the claim that so many pages, one more than a plan has items at most, show each list of map items to be too long; none concerns items
 abbrev pub LongHolds : Region → List ℕ → AFault → Type 0
 LongHolds r pages InRegion = IsSound r → ⊥
 LongHolds r pages (InItem i) = ⊥
 LongHolds r pages (Gap page) = ⊥
-LongHolds r pages Count = length pages ≢ 32
+LongHolds r pages Count = length pages ≢ max_plan_items + 1
 LongHolds r pages (Page i) = IsFirstOutside r pages i
 LongHolds r pages (Pair i) = IsFirstPair r pages i
 

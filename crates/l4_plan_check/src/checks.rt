@@ -1,5 +1,5 @@
 ghost use Rattle.std.specs.Prelude.{◌≡◌, ℕ, ◌+◌, ◌<◌, ◌≤◌, ◌↔◌, IsTrue, OnOk, IfErr, length};
-ghost use Rattle.l4_msg.specs.Regions.{IsSound, IsRival, IsCertificate, NeedsAtLeast, NeedsMoreThan};
+ghost use Rattle.l4_msg.specs.Regions.{max_plan_items, IsSound, IsRival, IsCertificate, NeedsAtLeast, NeedsMoreThan};
 ghost use Rattle.l4_plan_check.specs.Faults.{Holds, IsFirstFault, LongHolds, IsFirstLongFault};
 ghost use Rattle.l4_plan_check.specs.declared.faults.Fault.{Fault as AFault};
 
@@ -31,7 +31,7 @@ pub fn check(region: &Region, items: &[Item], pages: &[u32]) -> Result<Proved, F
     ensures exact { OnOk result (IsRival region.now items.now) }
     ensures certificate { OnOk result (IsCertificate region.now pages.now) }
     ensures one_each { OnOk result (length pages.now ≡ length items.now) }
-    ensures few { OnOk result (length items.now ≤ 31) }
+    ensures few { OnOk result (length items.now ≤ max_plan_items) }
     ensures shortest { OnOk result (NeedsAtLeast region.now (length items.now)) }
 {
     if !is_sound(region) {
@@ -61,8 +61,8 @@ pub fn check_too_long(region: &Region, pages: &[u32]) -> Result<Proved, Fault>
     // Proved is answered only where no fault holds, and then the claim is true.
     ensures none { OnOk result ((fault : AFault) → LongHolds region.now pages.now fault → ⊥) }
     ensures certificate { OnOk result (IsCertificate region.now pages.now) }
-    ensures many { OnOk result (length pages.now ≡ 32) }
-    ensures too_long { OnOk result (NeedsMoreThan region.now 31) }
+    ensures many { OnOk result (length pages.now ≡ max_plan_items + 1) }
+    ensures too_long { OnOk result (NeedsMoreThan region.now max_plan_items) }
 {
     if !is_sound(region) {
         return Err(Fault::Region);

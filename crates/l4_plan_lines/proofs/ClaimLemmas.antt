@@ -14,11 +14,6 @@ tag_not_long line tag t l =
 
 -- ---- the first line
 
-one_line : (line : List ℕ) (head : Option Head) (items : List Item) (pages : List ℕ) → ((tag : ℕ) → IsTagLine line tag → ⊥) → (line ≡ long_line → ⊥) → IsClaim (line ∷ []) head items pages → ⊥
-one_line line None items pages no_tag no_long c = c
-one_line line (Some (Plan tag)) items pages no_tag no_long c = no_tag tag c.0
-one_line line (Some TooLong) items pages no_tag no_long c = no_long c.0
-
 -- ---- item lines
 
 record Counts (lines : List (List ℕ)) (items : List Item) (pages : List ℕ) : Type 0 where
@@ -125,10 +120,6 @@ full_pages (l ∷ ls) items pages line h full b =
     omega (arith, n, m, e, c.1)
 
 -- ---- how many lines
-
-pub no_lines : (lines : List (List ℕ)) (items : List Item) (pages : List ℕ) → IsClaim lines None items pages → length lines ≡ 0
-no_lines [] items pages h = refl
-no_lines (l ∷ ls) items pages h = absurd h
 
 pub some_lines : (lines : List (List ℕ)) (head : Head) (items : List Item) (pages : List ℕ) → IsClaim lines (Some head) items pages → length lines ≡ 1 + length pages
 some_lines [] head items pages h = absurd h

@@ -1,5 +1,6 @@
 -- An input in lines, and its first wrong line (own).
 use Rattle.std.specs.Prelude.{◌≡◌, ℕ, ◌+◌, ◌<◌, ◌≤◌, ◌⊎◌, List, [], ◌∷◌, ◌++◌, length}
+use Rattle.l4_text.specs.Sizes.{line_bytes}
 use Rattle.l4_text.specs.Lines.{NoNewline}
 use Rattle.std.specs.List.{All, flat_map}
 use Rattle.l4_plan_lines.specs.Lines.{ended}
@@ -27,8 +28,8 @@ pub record IsLine (lines : List (List ℕ)) (number : ℕ) : Type 0 where
 -- a whole line is wrong: it is over 4,096 bytes long, or after it the lines are no claim any more
 abbrev pub IsWrongWhole : List (List ℕ) → ℕ → LineFault → Type 0
 IsWrongWhole lines number CutLine = ⊥
-IsWrongWhole lines number LineTooLong = (l : IsLine lines number) × (4096 < length l.line)
-IsWrongWhole lines number BadTokens = (l : IsLine lines number) × (length l.line ≤ 4096) × (IsBeginning (l.before ++ l.line ∷ []) → ⊥)
+IsWrongWhole lines number LineTooLong = (l : IsLine lines number) × (line_bytes < length l.line)
+IsWrongWhole lines number BadTokens = (l : IsLine lines number) × (length l.line ≤ line_bytes) × (IsBeginning (l.before ++ l.line ∷ []) → ⊥)
 
 -- The first wrong line: the one that the input cuts, or a whole one. An empty input counts as one wrong line.
 abbrev pub IsFirstWrong : List (List ℕ) → List ℕ → ℕ → LineFault → Type 0

@@ -1,7 +1,7 @@
 -- What is written of the plan of a region (own).
-use Rattle.std.specs.Prelude.{◌≡◌, ℕ, ◌*◌, ◌<◌, ◌≤◌, ◌⊎◌, Bool, true, false, List, [], ◌∷◌, ◌++◌, length, codes}
+use Rattle.std.specs.Prelude.{◌≡◌, ℕ, ◌+◌, ◌*◌, ◌<◌, ◌≤◌, ◌⊎◌, Bool, true, false, List, [], ◌∷◌, ◌++◌, length, codes}
 use Rattle.std.specs.List.{flat_map}
-use Rattle.l4_msg.specs.Regions.{IsEmpty, InSpace, IsOutOfSpace, HasNoRights, IsSound, IsPlan, IsCertificate, NeedsAtLeast, NeedsMoreThan, max_plan_items}
+use Rattle.l4_msg.specs.Regions.{max_plan_items, IsEmpty, InSpace, IsOutOfSpace, HasNoRights, IsSound, IsPlan, IsCertificate, NeedsAtLeast, NeedsMoreThan, max_plan_items}
 use Rattle.l4_msg.specs.Words.{items_words}
 use Rattle.l4_msg.specs.declared.regions.Region.{Region}
 use Rattle.l4_plan.specs.Plan.{Listing}
@@ -38,13 +38,13 @@ pub record IsShortest (r : Region) (p : Listing) : Type 0 where
   pub starts : AreStarts r r.source p.pages
   pub shortest : NeedsAtLeast r (length p.items)
 
--- 32 pages which show that each such list is too long
+-- one page more than a plan has items, which show that each such list is too long
 pub record IsTooLong (r : Region) (pages : List ℕ) : Type 0 where
   pub sound : IsSound r
-  pub many : length pages ≡ 32
+  pub many : length pages ≡ max_plan_items + 1
   pub certificate : IsCertificate r pages
   pub starts : AreStarts r r.source pages
-  pub none : NeedsMoreThan r 31
+  pub none : NeedsMoreThan r max_plan_items
 
 -- the text of a region's plan; the truth value says whether there is one
 abbrev pub IsPlanText : Region → Bool → List ℕ → Type 0

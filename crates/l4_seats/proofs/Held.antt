@@ -10,7 +10,6 @@ use Rattle.l4_ipc.specs.declared.calls.Call.{Call}
 use Rattle.l4_ipc.specs.declared.steps.Step.TheVariants.{Start}
 use Rattle.l4_ipc.specs.Machine.{Machine}
 use Rattle.l4_ipc.specs.Steps.{IsIdle}
-use Rattle.l4_lock.specs.declared.entries.Entry.{Entry}
 use Rattle.l4_lock.specs.declared.entries.Receipt.{Receipt}
 use Rattle.l4_lock.specs.History.{GoesOn}
 use Rattle.l4_lock.specs.declared.entries.Pending.{Pending}
@@ -316,14 +315,6 @@ not_found xs n (Some at) h is = absurd (false≢true (sym is))
 -- a number that has its seat is given none
 pub given_already : (s : Seated) (n : ℕ) → is_among n s.numbers ≡ true → s ≡ record s { numbers = with_number s.numbers n }
 given_already s n has = λ i. record s { numbers = (ap (λ b. if b then s.numbers else s.numbers ++ n ∷ []) (sym has)) i }
-
-pub given_now : (m : Machine) (es : List Entry) (xs : List SeatState) (n seen : ℕ) (s : SeatState) → is_among n (numbers_of xs) ≡ false → s.number ≡ n
-    → seated m es (numbers_of (xs ++ s ∷ [])) seen ≡ seated m es (with_number (numbers_of xs) n) seen
-given_now m es xs n seen s none is =
-    ap (λ (l : List ℕ). seated m es l seen) (numbers_more xs s ∙ ap (λ k. numbers_of xs ++ k ∷ []) is ∙ ap (λ b. if b then numbers_of xs else numbers_of xs ++ n ∷ []) (sym none)) where
-      numbers_more : (ys : List SeatState) (y : SeatState) → numbers_of (ys ++ y ∷ []) ≡ numbers_of ys ++ y.number ∷ []
-      numbers_more [] y = refl
-      numbers_more (x ∷ ys) y = ap (λ (l : List ℕ). x.number ∷ l) (numbers_more ys y)
 
 among_more : (xs : List SeatState) (s : SeatState) (m : ℕ) → is_among m (numbers_of (xs ++ s ∷ [])) ≡ (is_among m (numbers_of xs) || (nat_eq s.number m || false))
 among_more [] s m = refl

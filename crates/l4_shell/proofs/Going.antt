@@ -1,12 +1,11 @@
 -- The entries of calls and the acts of served threads, told one after another.
-use Rattle.std.proofs.Common.{◌≡◌, ℕ, zero, suc, ◌+◌, ◌<◌, ◌≤◌, ◌⊎◌, Bool, true, false, ◌||◌, length, length-append, map, drop, get_or, slice_get, Contains, arith, List, [], ◌∷◌, ◌++◌, Option, Some, None, Result, Ok, Err, inl, inr, sym, ap, subst, ◌∙◌, refl, nat_eq}
+use Rattle.std.proofs.Common.{◌≡◌, ℕ, zero, suc, ◌+◌, ◌<◌, ◌≤◌, Bool, true, false, ◌||◌, length, length-append, map, drop, slice_get, Contains, arith, List, [], ◌∷◌, ◌++◌, Option, Some, None, Ok, inl, inr, sym, ap, subst, ◌∙◌, refl, nat_eq}
 use Rattle.std.proofs.lemmas.List.{append-nil}
 use Rattle.std.proofs.lemmas.List.Folds.{list_any-append}
 use Rattle.std.proofs.lemmas.Grind.{flat_map-append}
 use Rattle.std.proofs.Math.Seq.{drop-append_seam}
 use mathlib.Core.List.{append_assoc}
 use Rattle.l4_ipc.specs.declared.steps.Step.TheVariants.{Start}
-use Rattle.l4_ipc.specs.declared.steps.Answer.{Answer}
 use Rattle.l4_answers.specs.Refusals.{refused_text}
 use Rattle.l4_answers.specs.Replies.{reply_text}
 use Rattle.l4_ipc.specs.declared.calls.Call.{Call}
@@ -18,7 +17,7 @@ use Rattle.l4_ipc.specs.Following.{Done}
 use Rattle.l4_lock.specs.declared.entries.Entry.{Entry}
 use Rattle.l4_lock.specs.declared.refusals.LockRefusal.{LockRefusal}
 use Rattle.l4_lock.specs.Locked.{start_entry}
-use Rattle.l4_seats.specs.Seated.{Seated, IsNew, entry_of, Lasts, AllLast, Enters as EntersCall, Refuses as RefusesCall, with_number}
+use Rattle.l4_seats.specs.Seated.{Seated, IsNew, entry_of, AllLast, Enters as EntersCall, Refuses as RefusesCall, with_number}
 use Rattle.l4_servers.specs.Servers.{Servers}
 use Rattle.l4_servers.specs.Acting.{NoneReady, ActsNext}
 use Rattle.l4_shell.specs.Refusals.{lock_refusal, lacks_memory}

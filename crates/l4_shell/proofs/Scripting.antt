@@ -8,7 +8,7 @@ use Rattle.std.proofs.lemmas.Bool.Decides.{nat_tests}
 use mathlib.Core.List.{append_assoc}
 use denote.Enum.Bare.{sameb}
 use Rattle.std.proofs.lemmas.Bool.{false≢true}
-use Rattle.l4_ipc.specs.Machine.{Machine, IsBoot}
+use Rattle.l4_ipc.specs.Machine.{IsBoot}
 use Rattle.l4_servers.specs.Servers.{Servers, no_servers}
 use Rattle.l4_text.specs.Lines.{NoNewline, kept_of, TakesLine, TakesRest, GivesLine, left_of}
 use Rattle.l4_shell.specs.Lines.{ScriptLine, in_front, lines_of}
@@ -24,7 +24,6 @@ use Rattle.l4_text.specs.contracts.lines.Ending.{the_type}
 use Rattle.l4_text.specs.declared.faults.RunFault.{RunFault}
 use Rattle.l4_text.specs.declared.faults.RunFault.TheVariants.{Read, Write, Memory}
 use Rattle.l4_text.proofs.LineSteps.{consumes_more, consumes_same, empty_list}
-use Rattle.l4_text.proofs.Gone.{appends_same}
 use Rattle.l4_text.proofs.Telling.{nothing_told, tells_none, tells_more, tells_is}
 
 -- LINES OF BYTES

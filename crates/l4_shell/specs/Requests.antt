@@ -15,6 +15,7 @@ use Rattle.l4_shell.specs.declared.requests.Request.{Request}
 use Rattle.l4_shell.specs.declared.requests.Request.TheVariants.{Enter, CreateThread, EndThread, SendPlan, ListPages, TellParent, AddRegion, ServeThread, TellSteps}
 use Rattle.l4_shell.specs.declared.commands.ScriptFault.{ScriptFault}
 use Rattle.l4_shell.specs.declared.commands.ScriptFault.TheVariants.{LineTooLong, CutLine}
+use Rattle.l4_text.specs.Sizes.{line_bytes}
 use Rattle.l4_text.specs.declared.lines.Ending.{Ending}
 use Rattle.l4_text.specs.declared.lines.Ending.TheVariants.{Whole, Long, Cut}
 use Rattle.l4_shell.specs.Lines.{ScriptLine}
@@ -92,7 +93,7 @@ request_of Steps = TellSteps
 
 -- how a line ends
 abbrev pub ending_of : ScriptLine → Ending
-ending_of line = if line.whole then (if nat_lt 4096 (length line.bytes) then Long else Whole) else Cut
+ending_of line = if line.whole then (if nat_lt line_bytes (length line.bytes) then Long else Whole) else Cut
 
 -- the first byte is #
 abbrev pub is_comment : List ℕ → Bool

@@ -1,5 +1,6 @@
 //! The texts of answers.
 ghost use Rattle.std.specs.Prelude.{◌≤◌, ◌+◌, length};
+ghost use Rattle.l4_text.specs.Sizes.{text_bytes};
 
 use l4_answers::{add_code, add_page, add_place, line_end, refused_code};
 use l4_ipc::{Outcome, Refused, Step};
@@ -41,7 +42,7 @@ pub(crate) fn refused_text(refused: Refused) -> Text {
 
 /// Adds `ipc TAG ERROR FROM`, after which the words stand.
 fn add_ipc(text: &mut Text, reply: &IpcReply)
-    requires { length text.old + 60 ≤ 160 }
+    requires { length text.old + 60 ≤ text_bytes }
     ensures { length text.new ≤ length text.old + 60 }
 {
     text.add(b"ipc ");
@@ -54,7 +55,7 @@ fn add_ipc(text: &mut Text, reply: &IpcReply)
 
 /// Adds `failed CODE`
 fn add_failed(text: &mut Text, code: u32)
-    requires { length text.old + 60 ≤ 160 }
+    requires { length text.old + 60 ≤ text_bytes }
     ensures { length text.new ≤ length text.old + 60 }
 {
     text.add(b"failed ");
@@ -63,7 +64,7 @@ fn add_failed(text: &mut Text, code: u32)
 
 /// Adds how a call ended, but for the words of its message, or this word where there is no reply.
 fn add_reply(text: &mut Text, reply: Option<&Reply>, word: &[u8])
-    requires room { length text.old + 60 ≤ 160 }
+    requires room { length text.old + 60 ≤ text_bytes }
     requires short { length word.now ≤ 8 }
     ensures { length text.new ≤ length text.old + 60 }
 {
@@ -105,7 +106,7 @@ pub(crate) fn put_rest<W: Write>(reply: Option<&Reply>, out: &mut Output, writer
 
 /// Adds `transfer S R`, `expire N` or `none`
 fn add_step(text: &mut Text, step: Option<&Step>)
-    requires { length text.old + 60 ≤ 160 }
+    requires { length text.old + 60 ≤ text_bytes }
     ensures { length text.new ≤ length text.old + 60 }
 {
     match step {
@@ -134,7 +135,7 @@ pub(crate) fn enabled_text(step: Option<&Step>) -> Text {
 
 /// Adds `space K`, or `none`
 fn add_space(text: &mut Text, space: Option<u64>)
-    requires { length text.old + 26 ≤ 160 }
+    requires { length text.old + 26 ≤ text_bytes }
     ensures { length text.new ≤ length text.old + 26 }
 {
     match space {

@@ -1,7 +1,7 @@
 -- A line, read part by part.
 use Rattle.std.proofs.Common.{◌≡◌, ℕ, ◌+◌, ◌-◌, ◌*◌, ◌==◌, ◌<◌, ◌≤◌, suc, Bool, true, false, not, cond, nat_lt, List, [], ◌∷◌, ◌++◌, length, take, drop, get_or, Option, Some, None, Ok, length-append, length-drop, length-take, sym, ap, subst, ◌∙◌, refl, arith}
 use Rattle.std.specs.List.{position_or_len}
-use Rattle.std.specs.Io.KnownBytes.{Consumes, Keeps}
+use Rattle.std.specs.Io.KnownBytes.{Consumes}
 use Rattle.std.proofs.lemmas.List.{append-nil, length-take-le, take-append-le, take_all, drop-drop, drop-take}
 use Rattle.std.proofs.Math.Seq.{take-append-add}
 use Rattle.std.proofs.lemmas.List.Sums.{split_at_first, passes_at_first}
@@ -71,17 +71,6 @@ pub record SoFar (old new : Option (List ℕ)) (before now : List ℕ × ℕ) (k
   pub turns : turn ≤ now.1
   pub few : now.1 ≤ 16777216
   pub no_more : left_of now ≤ left_of before
-
-pub so_far_none : (a : Option (List ℕ)) (before : List ℕ × ℕ) (kept : List ℕ × Bool) → kept ≡ kept_of [] → before.1 ≤ 16777216 → SoFar a a before before kept 0
-so_far_none a before kept is few = record {
-  bytes = [];
-  plain = tt;
-  takes = record { read = []; from = consumes_same a; same = append-nil before.0 };
-  kept_is = is;
-  turns = omega arith;
-  few = few;
-  no_more = omega arith;
-}
 
 -- bytes at the end of what is kept, as many as there is room for
 pub kept_more : (before bytes : List ℕ) (room : ℕ) → room + length (take 4096 before) ≡ 4096 → take 4096 before ++ take room bytes ≡ take 4096 (before ++ bytes)

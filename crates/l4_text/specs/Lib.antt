@@ -1,5 +1,6 @@
 pub mod Lines
 pub mod Numbers
+pub mod Sizes
 pub mod Streams
 pub mod Texts
 pub mod Tokens

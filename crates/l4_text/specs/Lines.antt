@@ -1,6 +1,7 @@
 -- Lines of a stream (this profile's own).
 use Rattle.std.specs.Prelude.{ℕ, ◌≡◌, ◌+◌, ◌-◌, ◌*◌, ◌==◌, ◌<◌, ◌≤◌, nat_lt, Bool, true, false, List, [], ◌∷◌, ◌++◌, length, take, Option, Some, None, Result, Ok, Err}
 use Rattle.std.specs.Io.KnownBytes.{Consumes, IsAtEnd}
+use Rattle.l4_text.specs.Sizes.{line_bytes, most_reads}
 use Rattle.l4_text.specs.declared.faults.RunFault.{RunFault}
 use Rattle.l4_text.specs.declared.faults.RunFault.TheVariants.{Read}
 use Rattle.l4_text.specs.declared.lines.Ending.{Ending}
@@ -13,7 +14,7 @@ NoNewline (byte ∷ bytes) = ((byte == 10) ≡ false) × NoNewline bytes
 
 -- what is kept of a line: its first 4,096 bytes, and whether there are more
 abbrev pub kept_of : List ℕ → List ℕ × Bool
-kept_of bytes = (take 4096 bytes, nat_lt 4096 (length bytes))
+kept_of bytes = (take line_bytes bytes, nat_lt line_bytes (length bytes))
 
 -- what was there and what was read is what was taken and what is there then
 pub record Takes (old new : Option (List ℕ)) (before after taken : List ℕ) : Type 0 where
@@ -23,7 +24,7 @@ pub record Takes (old new : Option (List ℕ)) (before after taken : List ℕ) :
 
 -- how much a stream can still give, which bounds the lines
 abbrev pub left_of : List ℕ × ℕ → ℕ
-left_of source = (16777216 - source.1) * 4097 + length source.0
+left_of source = (most_reads - source.1) * (line_bytes + 1) + length source.0
 
 -- a line that a newline ends
 pub record TakesLine (old new : Option (List ℕ)) (before after : List ℕ × ℕ) (kept : List ℕ × Bool) : Type 0 where
@@ -32,7 +33,7 @@ pub record TakesLine (old new : Option (List ℕ)) (before after : List ℕ × �
   pub takes : Takes old new before.0 after.0 (bytes ++ 10 ∷ [])
   pub kept_is : kept ≡ kept_of bytes
   pub shorter : left_of after < left_of before
-  pub few : after.1 ≤ 16777216
+  pub few : after.1 ≤ most_reads
 
 -- the end, after these bytes
 pub record TakesRest (old new : Option (List ℕ)) (before after : List ℕ × ℕ) (kept : List ℕ × Bool) : Type 0 where

@@ -3,6 +3,7 @@ ghost use Rattle.std.specs.Prelude.{◌≡◌, ◌+◌, ◌-◌, ◌*◌, ◌<�
 ghost use Rattle.std.specs.List.{position, position_or_len};
 ghost use Rattle.l4_text.specs.Inside.Reading.{is_newline, Filled};
 ghost use Rattle.l4_text.specs.Lines.{NoNewline, GivesLine};
+ghost use Rattle.l4_text.specs.Sizes.{most_reads};
 
 use crate::faults::RunFault;
 use arrayvec::ArrayVec;
@@ -38,12 +39,13 @@ pub struct Source {
 
 impl Model for Source {
     ghost use Rattle.std.specs.Prelude.{ℕ, List, ◌≤◌, slice_range};
+    ghost use Rattle.l4_text.specs.Sizes.{line_bytes, most_reads};
 
     ghost Value = { List ℕ × ℕ };
 
     ghost view = { λ a. (slice_range a.chunk a.start a.end, a.reads) };
 
-    ghost invariant = { λ a. (a.start ≤ a.end) × (a.end ≤ 4096) × (a.reads ≤ 16777216) };
+    ghost invariant = { λ a. (a.start ≤ a.end) × (a.end ≤ line_bytes) × (a.reads ≤ most_reads) };
 }
 
 impl Source {
@@ -61,7 +63,7 @@ impl Source {
 
     /// What holds of the number of reads at all times. It does nothing.
     fn law_few_reads(&self)
-        ensures { self.now.1 ≤ 16777216 }
+        ensures { self.now.1 ≤ most_reads }
     {
         let _ = &self.reads;
     }

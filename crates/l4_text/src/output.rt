@@ -5,6 +5,7 @@ ghost use Rattle.std.specs.Prelude.{ℕ, List, Option, false};
 ghost use Rattle.l4_text.specs.Streams.{WentOut, HasTold, Tells, IsOutBeforeRead};
 ghost use Rattle.l4_text.specs.Texts.{words_text};
 ghost use Rattle.l4_text.specs.Inside.Reading.{Puts};
+ghost use Rattle.l4_text.specs.Sizes.{text_bytes, held_bytes};
 
 use crate::faults::RunFault;
 use crate::lines::Source;
@@ -69,7 +70,7 @@ impl Held {
 
     /// Holds these bytes back too.
     fn hold(&mut self, bytes: &[u8])
-        requires { length self.old + length bytes.now ≤ 16384 }
+        requires { length self.old + length bytes.now ≤ held_bytes }
         ensures { self.new ≡ self.old ++ bytes.now }
     {
         let _ = self.bytes.try_extend_from_slice(bytes);
@@ -89,8 +90,8 @@ impl Held {
 
     /// Writes what is held back, where there is no room for so many bytes more.
     fn make_room<W: Write>(&mut self, writer: &mut W, count: usize) -> Result<(), RunFault>
-        requires { count ≤ 160 }
-        ensures ok { OnOk result ((length self.new + count ≤ 16384)
+        requires { count ≤ text_bytes }
+        ensures ok { OnOk result ((length self.new + count ≤ held_bytes)
             × Puts (W.contents writer.old) (W.contents writer.new) self.old self.new []) }
         ensures err { IfErr result (λ e. (e ≡ RunFault.Write)
             × WentOut (W.contents writer.old) (W.contents writer.new) self.old) }
@@ -103,7 +104,7 @@ impl Held {
 
     /// Adds some bytes, after writing what is held where there is no room for them.
     fn put<W: Write>(&mut self, writer: &mut W, bytes: &[u8]) -> Result<(), RunFault>
-        requires { length bytes.now ≤ 160 }
+        requires { length bytes.now ≤ text_bytes }
         ensures ok { OnOk result
             (Puts (W.contents writer.old) (W.contents writer.new) self.old self.new bytes.now) }
         ensures err { IfErr result (λ e. (e ≡ RunFault.Write)
@@ -164,7 +165,7 @@ impl Output {
 
     /// Tells some bytes.
     fn tell<W: Write>(&mut self, writer: &mut W, bytes: &[u8])
-        requires { length bytes.now ≤ 160 }
+        requires { length bytes.now ≤ text_bytes }
         ensures { Tells (W.contents writer.old) (W.contents writer.new) self.old self.new bytes.now }
     {
         if self.failed {

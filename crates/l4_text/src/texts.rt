@@ -1,6 +1,7 @@
 //! Texts of bounded length.
 ghost use Rattle.std.specs.Prelude.{◌≡◌, ◌+◌, ◌/◌, ◌%◌, ◌^◌, ◌≤◌, [], ◌∷◌, ◌++◌, length, decimal};
 ghost use Rattle.l4_text.specs.Texts.{word_text, hex_digit};
+ghost use Rattle.l4_text.specs.Sizes.{text_bytes};
 
 use arrayvec::ArrayVec;
 use itoa::Buffer;
@@ -73,14 +74,14 @@ impl Text {
     /// The bytes themselves.
     pub fn as_slice(&self) -> &[u8]
         ensures value { result.now ≡ self.now }
-        ensures fits { length result.now ≤ 160 }
+        ensures fits { length result.now ≤ text_bytes }
     {
         self.bytes.as_slice()
     }
 
     /// Adds a byte.
     pub fn push(&mut self, byte: u8)
-        requires { length self.old + 1 ≤ 160 }
+        requires { length self.old + 1 ≤ text_bytes }
         ensures value { self.new ≡ self.old ++ byte ∷ [] }
         ensures len { length self.new ≡ length self.old + 1 }
     {
@@ -89,7 +90,7 @@ impl Text {
 
     /// Adds these bytes.
     pub fn add(&mut self, bytes: &[u8])
-        requires { length self.old + length bytes.now ≤ 160 }
+        requires { length self.old + length bytes.now ≤ text_bytes }
         ensures value { self.new ≡ self.old ++ bytes.now }
         ensures len { length self.new ≡ length self.old + length bytes.now }
     {
@@ -98,7 +99,7 @@ impl Text {
 
     /// A number in decimal, without leading zeros.
     pub fn add_number(&mut self, number: u64)
-        requires { length self.old + 20 ≤ 160 }
+        requires { length self.old + 20 ≤ text_bytes }
         ensures value { self.new ≡ self.old ++ decimal number }
         ensures len { length self.new ≤ length self.old + 20 }
     {
@@ -108,7 +109,7 @@ impl Text {
 
     /// A word in eight hexadecimal digits of lower case.
     pub fn add_word(&mut self, word: u32)
-        requires { length self.old + 8 ≤ 160 }
+        requires { length self.old + 8 ≤ text_bytes }
         ensures value { self.new ≡ self.old ++ word_text word }
         ensures len { length self.new ≡ length self.old + 8 }
     {

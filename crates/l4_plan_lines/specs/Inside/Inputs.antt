@@ -1,9 +1,9 @@
 -- What is found in the lines so far. (this profile's own)
-use Rattle.std.specs.Prelude.{◌≡◌, ℕ, ◌+◌, ◌<◌, ◌≤◌, List, [], ◌∷◌, ◌++◌, length, Option, MatchOption}
+use Rattle.std.specs.Prelude.{◌≡◌, ℕ, ◌<◌, ◌≤◌, List, [], ◌∷◌, ◌++◌, length, Option, MatchOption}
 use Rattle.std.specs.Io.KnownBytes.{Consumes, IsAtEnd}
+use Rattle.l4_text.specs.Sizes.{line_bytes}
 use Rattle.l4_text.specs.declared.lines.Ending.{Ending}
 use Rattle.l4_text.specs.declared.lines.Ending.TheVariants.{Whole, Long, Cut}
-use Rattle.l4_plan_lines.specs.Lines.{ended}
 use Rattle.l4_plan_lines.specs.Claims.{IsClaim}
 use Rattle.l4_plan_lines.specs.declared.found.Found.{Found}
 use Rattle.l4_plan_lines.specs.Inputs.{Splits, IsWrongWhole, IsFirstWrong}
@@ -19,8 +19,8 @@ Stops s lines rest =
 
 -- the bytes of a line that ended like this, of which these are kept
 abbrev pub EndsSo : Ending → List ℕ → List ℕ → Type 0
-EndsSo Whole kept bytes = (length bytes ≤ 4096) × (kept ≡ bytes)
-EndsSo Long kept bytes = 4096 < length bytes
+EndsSo Whole kept bytes = (length bytes ≤ line_bytes) × (kept ≡ bytes)
+EndsSo Long kept bytes = line_bytes < length bytes
 EndsSo Cut kept bytes = 0 < length bytes
 
 -- after a line: one that is cut is the last

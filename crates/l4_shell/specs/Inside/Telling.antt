@@ -10,7 +10,7 @@ use Rattle.l4_seats.specs.Seated.{Seated, Enters as EntersCall, Refuses as Refus
 use Rattle.l4_text.specs.Streams.{Tells}
 use Rattle.l4_answers.specs.Refusals.{refused_text}
 use Rattle.l4_shell.specs.Refusals.{lock_refusal}
-use Rattle.l4_shell.specs.Sessions.{Session, session, step_text, done_text, is_among, ended_in, Act, act_text, ended_by, AreActs, most_acts, StopsActing}
+use Rattle.l4_shell.specs.Sessions.{Session, step_text, done_text, is_among, ended_in, Act, act_text, ended_by, AreActs, most_acts, StopsActing}
 
 -- what is told of an entry, where the replies of the calls that ended in it are read later
 abbrev pub entry_text : Machine → Entry → List ℕ

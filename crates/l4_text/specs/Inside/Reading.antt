@@ -1,6 +1,7 @@
 -- How a stream is read, piece by piece, and what goes out at once (this profile's own).
 use Rattle.std.specs.Prelude.{ℕ, ◌≡◌, ◌+◌, ◌==◌, ◌<◌, ◌≤◌, Bool, true, false, List, [], ◌++◌, length, Option, Result, Ok, Err, not}
 use Rattle.std.specs.Io.KnownBytes.{Consumes, IsAtEnd, Appends}
+use Rattle.l4_text.specs.Sizes.{line_bytes, most_reads}
 use Rattle.l4_text.specs.declared.faults.RunFault.{RunFault}
 use Rattle.l4_text.specs.declared.faults.RunFault.TheVariants.{Read}
 
@@ -9,7 +10,7 @@ is_newline byte = byte == 10
 
 -- a read put new bytes in the place of those that were there
 pub record Filled (old new : Option (List ℕ)) (before after : List ℕ × ℕ) (result : Result Bool RunFault) : Type 0 where
-  pub more : result ≡ Ok true → Consumes old new after.0 × (0 < length after.0) × (length after.0 ≤ 4096) × (after.1 ≡ before.1 + 1) × (after.1 ≤ 16777216)
+  pub more : result ≡ Ok true → Consumes old new after.0 × (0 < length after.0) × (length after.0 ≤ line_bytes) × (after.1 ≡ before.1 + 1) × (after.1 ≤ most_reads)
   pub none : result ≡ Ok false → Consumes old new [] × IsAtEnd new × (after.0 ≡ [])
   pub fault : (e : RunFault) → result ≡ Err e → (e ≡ Read) × Consumes old new [] × (before.0 ≡ [] → after.0 ≡ [])
 
