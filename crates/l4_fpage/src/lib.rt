@@ -8,6 +8,3 @@ mod fpages;
 pub use bits::{RightBits, Rights};
 pub use blocks::{Block, MAX_FRAMES, PAGE_LOG, SPACE_LOG, SPACE_PAGES};
 pub use fpages::{BadFpage, Extent, Fpage};
-
-#[cfg(test)]
-mod tests;

@@ -30,6 +30,3 @@ pub use laws::an_answer_leads_to_one_state;
 pub use next::Next;
 pub use sent::Sent;
 pub use steps::{Answer, Lower, Outcome, Refused, Step};
-
-#[cfg(test)]
-mod tests;

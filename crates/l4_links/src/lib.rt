@@ -371,6 +371,3 @@ impl Links {
         set_wanted(&mut self.nodes, key, wanted);
     }
 }
-
-#[cfg(test)]
-mod tests;

@@ -18,8 +18,6 @@ mod revoking;
 mod room;
 mod sources;
 mod tangles;
-#[cfg(test)]
-mod tests;
 mod unmarking;
 
 pub use l4_fpage::MAX_FRAMES;

@@ -19,6 +19,3 @@ pub use protocols::{FrameRequest, PageFault, map_answer};
 pub use regions::Region;
 pub use tags::Tag;
 pub use words::{MAX_ITEMS, TOO_MANY};
-
-#[cfg(test)]
-mod tests;

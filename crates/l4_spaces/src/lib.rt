@@ -9,8 +9,6 @@ ghost use Rattle.l4_spaces.specs.Inside.Seen.{has, StandsAt};
 ghost use Rattle.l4_spaces.specs.Inside.Two.{row};
 
 mod tables;
-#[cfg(test)]
-mod tests;
 
 use std::alloc::{AllocError, AllocFailed, Global};
 use std::fmt;

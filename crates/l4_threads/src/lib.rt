@@ -320,6 +320,3 @@ impl Reply {
         }
     }
 }
-
-#[cfg(test)]
-mod tests;

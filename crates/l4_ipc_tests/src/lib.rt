@@ -1,0 +1,5 @@
+//! Tests of the kernel.
+#![tactic(auto)]
+
+#[cfg(test)]
+mod kernel;

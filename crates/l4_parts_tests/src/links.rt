@@ -1,0 +1,317 @@
+ghost use Rattle.std.specs.Prelude.{◌≡◌, IfOk, true};
+ghost use Rattle.l4_spaces.specs.Tables.{IsPage};
+ghost use Rattle.l4_links.specs.Entries.{IsBlank, HaveRights};
+
+use l4_fpage::Rights;
+use l4_links::{Entry, Links, NoMemory, Place, Standing};
+use std::test::Fail;
+
+/// A page of space 0.
+fn place(page: u32) -> Place {
+    Place { space: 0, page }
+}
+
+/// A blank at the page of space 0, which has no key yet.
+fn blank(links: &mut Links, page: u32) -> Result<usize, NoMemory>
+    requires { IsPage page }
+    ensures { IfOk result (IsBlank links.new.entries) }
+{
+    links.add_space(0)?;
+    let place = Place { space: 0, page };
+    let None = links.find(place) else {
+        return Err(NoMemory);
+    };
+    let key = links.add_blank(place)?;
+    Ok(key)
+}
+
+/// A child with all rights that its parent has, at the page.
+fn child(links: &mut Links, parent: usize, page: u32) -> Result<usize, NoMemory>
+    requires { IsPage page }
+{
+    let key = blank(links, page)?;
+    let Some(above) = links.standing(parent) else {
+        return Err(NoMemory);
+    };
+    if above.rights.is_empty() {
+        return Err(NoMemory);
+    }
+    links.stand_under(parent, key, Rights::all());
+    Ok(key)
+}
+
+/// A root with all rights.
+fn root(links: &mut Links, frame: u32) -> Result<usize, NoMemory>
+    requires { IsPage frame }
+{
+    let key = blank(links, frame)?;
+    links.stand_root(key, frame, Rights::all());
+    Ok(key)
+}
+
+/// Lets what stands under the key take this page, which has no key yet.
+fn grant(links: &mut Links, key: usize, page: u32, rights: Rights) -> Result<(), NoMemory>
+    requires { IsPage page }
+{
+    let blank = blank(links, page)?;
+    let Some(_) = links.standing(key) else {
+        return Err(NoMemory);
+    };
+    links.take_over(key, blank, rights);
+    Ok(())
+}
+
+/// Whether all that stands has a right.
+fn have_rights(links: &Links) -> bool
+    ensures { result ≡ true → HaveRights links.now.entries }
+{
+    for key in 0..links.bound() {
+        if let Some(standing) = links.standing(key) {
+            if standing.rights.is_empty() {
+                return false;
+            }
+        }
+    }
+    true
+}
+
+/// Clears the key, where all that stands has a right.
+fn clear(links: &mut Links, key: usize) {
+    if have_rights(links) {
+        links.clear(key);
+    }
+}
+
+/// The rights under the key, and the parent.
+fn shown(links: &Links, key: usize) -> Option<(Rights, Option<usize>)> {
+    let Some(standing) = links.standing(key) else {
+        return None;
+    };
+    Some((standing.rights, standing.parent))
+}
+
+#[test]
+fn caps_a_chain(rt: HostRuntime) -> Result<(), Fail> {
+    let mut links = Links::new(rt.alloc());
+    let top = root(&mut links, 5)?;
+    let middle = child(&mut links, top, 10)?;
+    let low = child(&mut links, middle, 11)?;
+    links.cap_below(middle, Rights::of_bits(5));
+    assert_eq!(rt; shown(&links, top), Some((Rights::all(), None)));
+    assert_eq!(rt; shown(&links, middle), Some((Rights::all(), Some(top))));
+    assert_eq!(rt;
+        shown(&links, low),
+        Some((Rights::of_bits(5), Some(middle)))
+    );
+    // the second walk passes by the run of the first, and caps what the first left
+    links.cap_below(top, Rights::of_bits(5));
+    assert_eq!(rt;
+        shown(&links, middle),
+        Some((Rights::of_bits(5), Some(top)))
+    );
+    links.cap_tree(top, Rights::of_bits(3));
+    assert_eq!(rt; shown(&links, top), Some((Rights::of_bits(3), None)));
+    assert_eq!(rt;
+        shown(&links, low),
+        Some((Rights::of_bits(1), Some(middle)))
+    );
+    Ok(())
+}
+
+/// The entry of a page where nothing stands.
+fn blank_entry(page: u32, wanted: bool) -> Option<Entry> {
+    Some(Entry {
+        place: place(page),
+        wanted,
+        stands: None,
+    })
+}
+
+#[test]
+fn clears_a_node_in_the_middle(rt: HostRuntime) -> Result<(), Fail> {
+    let mut links = Links::new(rt.alloc());
+    let top = root(&mut links, 5)?;
+    let last = child(&mut links, top, 10)?;
+    let gone = child(&mut links, top, 11)?;
+    let low = child(&mut links, gone, 12)?;
+    let lowest = child(&mut links, low, 13)?;
+    let first = child(&mut links, top, 14)?;
+    links.set_wanted(lowest, true);
+    clear(&mut links, gone);
+    assert_eq!(rt; links.at(gone), blank_entry(11, false));
+    assert_eq!(rt; links.at(low), None);
+    assert_eq!(rt; links.find(place(12)), None);
+    // a wanted page is left as a blank
+    assert_eq!(rt; links.at(lowest), blank_entry(13, true));
+    assert_eq!(rt; links.find(place(13)), Some(lowest));
+    // the list goes on from the node before the run to the one after it
+    links.cap_below(top, Rights::of_bits(4));
+    assert_eq!(rt; shown(&links, first), Some((Rights::of_bits(4), Some(top))));
+    assert_eq!(rt; shown(&links, last), Some((Rights::of_bits(4), Some(top))));
+    Ok(())
+}
+
+#[test]
+fn clears_a_root_at_the_beginning(rt: HostRuntime) -> Result<(), Fail> {
+    let mut links = Links::new(rt.alloc());
+    let top = root(&mut links, 5)?;
+    let first = child(&mut links, top, 14)?;
+    clear(&mut links, top);
+    assert_eq!(rt; links.at(first), None);
+    // another root comes in its place
+    let second = root(&mut links, 6)?;
+    let below = child(&mut links, second, 20)?;
+    let shows = Standing {
+        frame: 6,
+        rights: Rights::all(),
+        source: false,
+        granted: None,
+        parent: Some(second),
+    };
+    assert_eq!(rt;
+        links.at(below),
+        Some(Entry {
+            place: place(20),
+            wanted: false,
+            stands: Some(shows)
+        })
+    );
+    Ok(())
+}
+
+#[test]
+fn grants_a_page(rt: HostRuntime) -> Result<(), Fail> {
+    let mut links = Links::new(rt.alloc());
+    let top = root(&mut links, 5)?;
+    let granted = child(&mut links, top, 10)?;
+    let low = child(&mut links, granted, 11)?;
+    links.set_source(granted, true);
+    grant(&mut links, granted, 12, Rights::of_bits(5))?;
+    assert_eq!(rt; links.find(place(10)), None);
+    assert_eq!(rt; links.find(place(12)), Some(granted));
+    assert_eq!(rt;
+        links.standing(granted),
+        Some(Standing {
+            frame: 5,
+            rights: Rights::all(),
+            source: true,
+            granted: Some(Rights::of_bits(5)),
+            parent: Some(top),
+        })
+    );
+    assert_eq!(rt; shown(&links, low), Some((Rights::all(), Some(granted))));
+    links.set_plain(granted);
+    assert_eq!(rt;
+        links.standing(granted),
+        Some(Standing {
+            frame: 5,
+            rights: Rights::all(),
+            source: false,
+            granted: None,
+            parent: Some(top),
+        })
+    );
+    Ok(())
+}
+
+#[test]
+fn finds_pages(rt: HostRuntime) -> Result<(), Fail> {
+    let mut links = Links::new(rt.alloc());
+    let key = blank(&mut links, 3)?;
+    let far = root(&mut links, 1_048_575)?;
+    links.law_places();
+    links.law_trees();
+    assert!(rt; links.bound() >= 2);
+    assert_eq!(rt; links.find(place(3)), Some(key));
+    assert_eq!(rt; links.find(place(4)), None);
+    assert_eq!(rt; links.next_key(0, 0), Some(3));
+    assert_eq!(rt; links.next_key(0, 4), Some(1_048_575));
+    assert_eq!(rt; links.next_key(1, 0), None);
+    assert_eq!(rt; links.next_key_in(0, 4, 1_048_575), None);
+    assert_eq!(rt; links.find(place(1_048_575)), Some(far));
+    Ok(())
+}
+
+#[test]
+fn takes_a_blank_and_its_space(rt: HostRuntime) -> Result<(), Fail> {
+    let mut links = Links::new(rt.alloc());
+    let key = blank(&mut links, 3)?;
+    links.take_blank(key);
+    assert_eq!(rt; links.at(key), None);
+    assert_eq!(rt; links.find(place(3)), None);
+    let None = links.next_key(0, 0) else {
+        return Ok(());
+    };
+    links.end_space(0);
+    assert_eq!(rt; links.next_key(0, 0), None);
+    Ok(())
+}
+
+#[test]
+fn finds_sources(rt: HostRuntime) -> Result<(), Fail> {
+    let mut links = Links::new(rt.alloc());
+    let top = root(&mut links, 5)?;
+    let left = child(&mut links, top, 10)?;
+    let right = child(&mut links, top, 11)?;
+    let low = child(&mut links, left, 12)?;
+    links.set_source(low, true);
+    assert!(rt; !links.has_source_below(right));
+    assert!(rt; !links.has_source_below(low));
+    assert!(rt; links.has_source_below(top));
+    assert!(rt; links.has_source_below(left));
+    links.set_source(low, false);
+    assert!(rt; !links.has_source_below(top));
+    assert!(rt; !links.has_source_below(left));
+    Ok(())
+}
+
+/// A root with two children, of which the second has a child, and that one too: the five keys from the top.
+fn family(links: &mut Links) -> Result<[usize; 5], NoMemory> {
+    let top = root(links, 5)?;
+    let left = child(links, top, 10)?;
+    let right = child(links, top, 11)?;
+    let low = child(links, right, 12)?;
+    let lowest = child(links, low, 13)?;
+    Ok([top, left, right, low, lowest])
+}
+
+/// Whether these rights and this parent stand under the key.
+fn shows(links: &Links, key: usize, rights: u8, parent: Option<usize>) -> bool {
+    shown(links, key) == Some((Rights::of_bits(rights), parent))
+}
+
+#[test]
+fn buries_what_has_no_rights(rt: HostRuntime) -> Result<(), Fail> {
+    let mut links = Links::new(rt.alloc());
+    let [top, left, right, low, lowest] = family(&mut links)?;
+    // the parent stands on the stack before its children
+    links.cap_tree(right, Rights::of_bits(0));
+    assert!(rt; shows(&links, low, 0, Some(right)));
+    links.bury();
+    for key in [right, low, lowest] {
+        assert!(rt; links.at(key).is_none(), "key {key}");
+    }
+    assert!(rt; links.find(place(11)).is_none());
+    assert!(rt; links.find(place(13)).is_none());
+    assert!(rt; shows(&links, left, 7, Some(top)));
+    // the list goes on without them, and takes other nodes
+    let next = child(&mut links, left, 11)?;
+    links.cap_below(top, Rights::of_bits(4));
+    assert!(rt; shows(&links, left, 4, Some(top)));
+    assert!(rt; shows(&links, next, 4, Some(left)));
+    // a second walk finds what the first left without rights on the stack
+    links.cap_below(left, Rights::of_bits(3));
+    links.cap_below(top, Rights::of_bits(3));
+    links.bury();
+    assert!(rt; links.at(next).is_none());
+    assert!(rt; links.at(left).is_none());
+    assert!(rt; shows(&links, top, 7, None));
+    // the first node of the list goes too
+    links.cap_tree(top, Rights::of_bits(0));
+    links.bury();
+    assert!(rt; links.find(place(5)).is_none());
+    let second = root(&mut links, 5)?;
+    assert!(rt; shows(&links, second, 7, None));
+    assert!(rt; have_rights(&links));
+    Ok(())
+}

@@ -1,0 +1,125 @@
+use l4_fpage::{Block, Rights};
+use l4_mapdb::{Forest, ItemMove, Mapping, NoMemory, Place};
+use l4_msg::Move;
+use std::test::Fail;
+
+#[test]
+fn starts_with_frames(rt: HostRuntime) -> Result<(), Fail> {
+    let forest = Forest::new(rt.alloc(), 256)?;
+    let shown = Mapping {
+        frame: 255,
+        rights: Rights::all(),
+        parent: None,
+    };
+    assert_eq!(rt; forest.at(0, 255), Some(shown));
+    assert_eq!(rt; forest.at(0, 256), None);
+    assert_eq!(rt; forest.next_present(0, 16), Some(16));
+    assert_eq!(rt; forest.next_present(0, 256), None);
+    assert_eq!(rt; forest.next_present(2, 0), None);
+    forest.law_forest();
+    Ok(())
+}
+
+#[test]
+fn revokes_and_tangles(rt: HostRuntime) -> Result<(), Fail> {
+    let mut forest = Forest::new(rt.alloc(), 256)?;
+    assert_eq!(rt; forest.root(5), Some(Place { space: 0, page: 5 }));
+    assert_eq!(rt; forest.root(256), None);
+    let onto_itself = [ItemMove {
+        mv: Move {
+            source: Block { first: 5, log: 0 },
+            target: Block { first: 5, log: 0 },
+        },
+        rights: Rights::all(),
+        grant: false,
+    }];
+    assert!(rt; forest.is_entangled(0, 0, &onto_itself));
+    assert!(rt; !forest.is_entangled(0, 2, &onto_itself));
+    forest.revoke(Place { space: 0, page: 5 }, Rights::of_bits(2), true);
+    let left = Mapping {
+        frame: 5,
+        rights: Rights::of_bits(5),
+        parent: None,
+    };
+    assert_eq!(rt; forest.at(0, 5), Some(left));
+    forest.revoke(Place { space: 0, page: 5 }, Rights::all(), true);
+    assert_eq!(rt; forest.at(0, 5), None);
+    Ok(())
+}
+
+#[test]
+fn ends_a_space(rt: HostRuntime) -> Result<(), Fail> {
+    let mut forest = Forest::new(rt.alloc(), 256)?;
+    forest.new_space(2)?;
+    forest.new_space(3)?;
+    let page = [ItemMove {
+        mv: Move {
+            source: Block { first: 5, log: 0 },
+            target: Block { first: 5, log: 0 },
+        },
+        rights: Rights::all(),
+        grant: false,
+    }];
+    match forest.map_all(0, 2, &page) {
+        Ok(()) => {}
+        Err(_) => return Err(NoMemory.into()),
+    }
+    match forest.map_all(2, 3, &page) {
+        Ok(()) => {}
+        Err(_) => return Err(NoMemory.into()),
+    }
+    assert_eq!(rt; forest.next_present(2, 0), Some(5));
+    assert_eq!(rt; forest.next_present(3, 0), Some(5));
+    forest.end_space(2);
+    let shown = Mapping {
+        frame: 5,
+        rights: Rights::all(),
+        parent: None,
+    };
+    assert_eq!(rt; forest.at(0, 5), Some(shown));
+    assert_eq!(rt; forest.at(2, 5), None);
+    assert_eq!(rt; forest.at(3, 5), None);
+    assert_eq!(rt; forest.next_present(2, 0), None);
+    assert_eq!(rt; forest.next_present(3, 0), None);
+    Ok(())
+}
+
+/// An item that moves page 5 to page 9.
+fn page(grant: bool, rights: Rights) -> ItemMove {
+    ItemMove {
+        mv: Move {
+            source: Block { first: 5, log: 0 },
+            target: Block { first: 9, log: 0 },
+        },
+        rights,
+        grant,
+    }
+}
+
+/// A page of space 0 granted to space 2 leaves its children with the rights of the item.
+#[test]
+fn grants_a_page_with_a_child(rt: HostRuntime) -> Result<(), Fail> {
+    let mut forest = Forest::new(rt.alloc(), 256)?;
+    forest.new_space(2)?;
+    forest.new_space(3)?;
+    match forest.map_all(0, 3, &[page(false, Rights::all())]) {
+        Ok(()) => {}
+        Err(_) => return Err(NoMemory.into()),
+    }
+    match forest.map_all(0, 2, &[page(true, Rights::of_bits(5))]) {
+        Ok(()) => {}
+        Err(_) => return Err(NoMemory.into()),
+    }
+    let granted = Place { space: 2, page: 9 };
+    assert_eq!(rt; forest.at(0, 5), None);
+    assert_eq!(rt; forest.root(5), Some(granted));
+    assert_eq!(rt;
+        forest.at(3, 9),
+        Some(Mapping {
+            frame: 5,
+            rights: Rights::of_bits(5),
+            parent: Some(granted)
+        })
+    );
+    Ok(())
+}

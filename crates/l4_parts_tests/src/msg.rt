@@ -1,0 +1,211 @@
+use l4_fpage::{Fpage, Rights};
+use l4_msg::{
+    Acceptor, FrameRequest, Item, ItemFault, Message, MsgFault, PageFault, Tag, item_moves,
+    map_answer,
+};
+use std::test::Fail;
+
+/// The label, the number of untyped words and the number of items of the message that words begin
+/// with.
+fn counted(words: &[u32]) -> Result<(u16, usize, usize), MsgFault> {
+    let message = Message::read(words)?;
+    Ok((message.label, message.untyped.len(), message.items.len()))
+}
+
+/// The first pages and the log of an item's move in a window.
+fn moved(first: u32, second: u32, window: u32) -> Option<(u32, u32, u8)> {
+    let item = Item::read(first, second).ok()?;
+    let pages = item_moves(&item, &Acceptor::read(window).ok()?)?;
+    Some((pages.source.first, pages.target.first, pages.source.log))
+}
+
+#[test]
+fn refusals_of_messages(rt: HostRuntime) {
+    assert_eq!(rt; counted(&[]), Err(MsgFault::Short));
+    assert_eq!(rt; counted(&[0x40]), Err(MsgFault::Short));
+    assert_eq!(rt; counted(&[0x40, 0]), Err(MsgFault::OddTyped));
+    assert_eq!(rt; counted(&[0xfc1]), Err(MsgFault::TooManyWords));
+    assert_eq!(rt; counted(&[0x1000]), Err(MsgFault::Flags));
+    assert_eq!(rt; counted(&[0x80, 0xe, 0]), Err(MsgFault::BadItem(0)));
+    assert_eq!(rt; counted(&[0x80, 0xc, 0]), Err(MsgFault::Unsupported(0)));
+    assert_eq!(rt;
+        counted(&[0x100, 0x9, 0x17, 0xe, 0]),
+        Err(MsgFault::BadItem(1))
+    );
+    assert_eq!(rt;
+        counted(&[0x100, 0x9, 0x17, 0x8, 0x217]),
+        Err(MsgFault::BadItem(1))
+    );
+}
+
+/// 64 words: a tag, then map items of one page.
+fn registers(tag: u32) -> [u32; 64] {
+    let mut words = [0u32; 64];
+    words[0] = tag;
+    for i in 0..31 {
+        words[1 + 2 * i] = 0x8;
+        words[2 + 2 * i] = 0x100c7;
+    }
+    words
+}
+
+#[test]
+fn tags_with_one_bit_changed(rt: HostRuntime) {
+    assert_eq!(rt; counted(&registers(0x80)), Ok((0, 0, 1)));
+    for (bit, untyped) in [(1u32, 2usize), (2, 4), (3, 8), (4, 16), (5, 32)] {
+        assert_eq!(rt;
+            counted(&registers(0x80 ^ 1 << bit)),
+            Ok((0, untyped, 1)),
+            "bit {bit}"
+        );
+    }
+    for (bit, items) in [(7u32, 0usize), (8, 3), (9, 5), (10, 9), (11, 17)] {
+        assert_eq!(rt;
+            counted(&registers(0x80 ^ 1 << bit)),
+            Ok((0, 0, items)),
+            "bit {bit}"
+        );
+    }
+    assert_eq!(rt; counted(&registers(0x81)), Err(MsgFault::Unsupported(0)));
+    assert_eq!(rt; counted(&registers(0xc0)), Err(MsgFault::OddTyped));
+    for bit in 12u32..16 {
+        assert_eq!(rt;
+            counted(&registers(0x80 ^ 1 << bit)),
+            Err(MsgFault::Flags),
+            "bit {bit}"
+        );
+    }
+    for shift in 0u32..16 {
+        let words = registers(0x80 ^ 0x10000 << shift);
+        assert_eq!(rt;
+            counted(&words),
+            Ok((1 << shift, 0, 1)),
+            "label bit {shift}"
+        );
+    }
+}
+
+#[test]
+fn fields_of_a_tag(rt: HostRuntime) {
+    let tag = Tag::read(0xffe48f82);
+    assert_eq!(rt; (tag.label, tag.flags), (0xffe4, 8));
+    assert_eq!(rt; (tag.typed, tag.untyped), (62, 2));
+    assert_eq!(rt; tag.word(), 0xffe48f82);
+}
+
+#[test]
+fn kinds_of_items(rt: HostRuntime) {
+    for (kind, fault) in [
+        (0u32, ItemFault::Unsupported),
+        (1, ItemFault::Unsupported),
+        (2, ItemFault::Unsupported),
+        (3, ItemFault::Unsupported),
+        (6, ItemFault::Unsupported),
+        (7, ItemFault::Bad),
+    ] {
+        assert_eq!(rt; Item::read(kind << 1, 0), Err(fault), "kind {kind}");
+    }
+    let fpage = Fpage::Complete(Rights::all());
+    let map = Item::Map {
+        base: 0x20000,
+        fpage,
+    };
+    let grant = Item::Grant {
+        base: 0x5000,
+        fpage,
+    };
+    assert_eq!(rt; Item::read(0x20008, 0x17), Ok(map));
+    assert_eq!(rt; Item::read(0x203f9, 0x17), Ok(map));
+    assert_eq!(rt; Item::read(0x500a, 0x17), Ok(grant));
+    assert_eq!(rt; (map.base(), map.is_grant()), (0x20000, false));
+    assert_eq!(rt; (grant.base(), grant.is_grant()), (0x5000, true));
+    assert_eq!(rt; grant.fpage(), fpage);
+}
+
+#[test]
+fn sizes_in_items_and_windows(rt: HostRuntime) {
+    for (first, last, is_fpage) in [
+        (0u32, 1u32, true),
+        (2, 9, false),
+        (10, 32, true),
+        (33, 63, false),
+    ] {
+        for size in first..=last {
+            assert_eq!(rt;
+                Item::read(0x8, size << 4 | 7).is_ok(),
+                is_fpage,
+                "size {size}"
+            );
+            assert_eq!(rt;
+                Acceptor::read(size << 4 | 15).is_ok(),
+                is_fpage,
+                "size {size}"
+            );
+        }
+    }
+    assert_eq!(rt; Acceptor::read(0x217), Err(MsgFault::BadWindow));
+    assert_eq!(rt; Acceptor::read(0xf), Ok(Fpage::Nil));
+    assert_eq!(rt;
+        Acceptor::read(0x10),
+        Ok(Fpage::Complete(Rights::of_bits(0)))
+    );
+}
+
+#[test]
+fn moves_of_items(rt: HostRuntime) {
+    assert_eq!(rt; moved(0xb008, 0x80f7, 0x200c0), Some((11, 32, 0)));
+    assert_eq!(rt; moved(0xd008, 0x100c7, 0x400f0), Some((16, 69, 0)));
+    assert_eq!(rt; moved(0xc009, 0x40e7, 0x10), Some((4, 12, 2)));
+    assert_eq!(rt; moved(0x8, 0x17, 0x10), Some((0, 0, 20)));
+    assert_eq!(rt; moved(0x8, 0x100c7, 0), None);
+    assert_eq!(rt; moved(0x8, 0x17, 0x400b0), None);
+}
+
+#[test]
+fn writes_what_it_read(rt: HostRuntime) -> Result<(), Fail> {
+    for (read, written) in [
+        (
+            [0xab0101u32, 5, 0xc009, 0x40e7, 0x10008, 0x80f7],
+            [0xab0101u32, 5, 0xc009, 0x40e7, 0x10008, 0x80f7],
+        ),
+        (
+            [0x101, 5, 0xc3f8, 0x5cef, 0x1000b, 0xfffffe07],
+            [0x101, 5, 0xc009, 0x40e7, 0x1000a, 0x17],
+        ),
+    ] {
+        let Ok(message) = Message::read(&read) else {
+            return Err("no message".into());
+        };
+        let words = message.write();
+        assert_eq!(rt; words.as_slice(), written.as_slice());
+        assert_eq!(rt; Message::read(words.as_slice()), Ok(message));
+    }
+    Ok(())
+}
+
+#[test]
+fn faults_and_requests(rt: HostRuntime) {
+    let fault = PageFault {
+        address: 0x5678,
+        ip: 0x40_0100,
+        access: Rights::of_bits(4),
+    };
+    assert_eq!(rt;
+        fault.message().write().as_slice(),
+        [0xffe4_0002, 0x5678, 0x40_0100].as_slice()
+    );
+    assert_eq!(rt; PageFault::read(&fault.message()), Some(fault));
+    assert_eq!(rt; FrameRequest::read(&fault.message()), None);
+    let request = FrameRequest {
+        fpage: Acceptor::read(0x50c0).unwrap_or(Fpage::Nil),
+        attributes: 0,
+    };
+    if let Ok(message) = Message::read(&[0xffa0_0002, 0x50c7, 0]) {
+        assert_eq!(rt; FrameRequest::read(&message), Some(request));
+        assert_eq!(rt; PageFault::read(&message), None);
+    }
+    assert_eq!(rt;
+        map_answer(0, Fpage::Nil).write().as_slice(),
+        [0x80, 8, 0].as_slice()
+    );
+}

@@ -1,0 +1,64 @@
+ghost use Rattle.std.specs.Prelude.{All};
+ghost use Rattle.l4_spaces.specs.Tables.{IsSpace, IsPage};
+
+use l4_spaces::{NoMemory, Spaces};
+use std::test::Fail;
+
+/// Sets each of the pages: after `prepare` none of it can fail.
+fn fill(spaces: &mut Spaces, space: u64, pages: &[u32]) -> Result<(), NoMemory>
+    requires there { IsSpace spaces.old space }
+    requires fit { All IsPage pages.now }
+{
+    spaces.prepare(space, pages)?;
+    for page in pages {
+        spaces.set(space, *page, 1);
+    }
+    Ok(())
+}
+
+#[test]
+fn fills_a_space(rt: HostRuntime) -> Result<(), Fail> {
+    let mut spaces = Spaces::new(rt.alloc());
+    spaces.add(4)?;
+    let pages = [8, 2, 8, 1_048_575, 0];
+    fill(&mut spaces, 4, pages.as_slice())?;
+    for page in pages {
+        assert_eq!(rt; spaces.get(4, page), Some(1), "page {page}");
+    }
+    assert_eq!(rt; spaces.next_present(4, 9), Some(1_048_575));
+    Ok(())
+}
+
+#[test]
+fn keeps_pages(rt: HostRuntime) -> Result<(), Fail> {
+    let mut spaces = Spaces::new(rt.alloc());
+    assert!(rt; !spaces.has(7));
+    spaces.add(7)?;
+    spaces.prepare(7, &[5, 3, 2000])?;
+    spaces.set(7, 5, 50);
+    spaces.set(7, 3, 30);
+    spaces.set(7, 5, 51);
+    assert_eq!(rt; spaces.get(7, 3), Some(30));
+    assert_eq!(rt; spaces.get(7, 5), Some(51));
+    assert_eq!(rt; spaces.get(7, 4), None);
+    assert_eq!(rt; spaces.get(8, 5), None);
+    for (page, next) in [
+        (0, Some(3)),
+        (3, Some(3)),
+        (4, Some(5)),
+        (5, Some(5)),
+        (6, None),
+    ] {
+        assert_eq!(rt; spaces.next_present(7, page), next, "from {page}");
+        assert_eq!(rt; spaces.next_in(7, page, 6), next, "below 6, from {page}");
+    }
+    assert_eq!(rt; spaces.next_in(7, 4, 5), None);
+    assert_eq!(rt; spaces.next_present(6, 0), None);
+    spaces.clear(7, 3);
+    spaces.clear(7, 4);
+    assert_eq!(rt; spaces.next_present(7, 0), Some(5));
+    spaces.remove(7);
+    assert!(rt; !spaces.has(7));
+    assert_eq!(rt; spaces.get(7, 5), None);
+    Ok(())
+}
