@@ -155,9 +155,6 @@ pub record Taking (old : Lock) (first : List SeatState) (l : Lock) (seats : List
   pub quiet : NoneWaits l
   pub same : OnlyTakes old l
 
-pub taking_none : (l : Lock) (seats : List SeatState) → AreTheirs l.books seats → NoneWaits l → Taking l seats l seats 0
-taking_none l seats theirs quiet = record { theirs = theirs; quiet = quiet; have = λ k s lt. absurd (omega (arith, lt)); numbers = refl; same = (refl, refl, refl, refl) }
-
 last_or : (k i : ℕ) → k < i + 1 → (k < i) ⊎ (k ≡ i)
 last_or k i lt = elim (eqb_tells k i) [ inl same ↦ inr same.1 | inr ne ↦ inl (let n = ne.1 in omega (arith, lt, n)) ]
 
