@@ -1,0 +1,5 @@
+pub mod RoundTrip
+pub mod Unpacking
+pub mod Packed
+pub mod Finding
+pub mod Storing

@@ -1,0 +1,70 @@
+-- Records in bytes: reading them in order, and one more.
+use Rattle.std.proofs.Common.{◌≡◌, ℕ, ◌+◌, ◌≤◌, ◌<◌, List, [], ◌∷◌, ◌++◌, length, drop, get_or, All, Some, None, refl, sym, ap, subst, ◌∙◌, arith}
+use Rattle.std.proofs.lemmas.List.{drop_more, append-nil, length_push}
+use Rattle.std.proofs.lemmas.List.Concat.{flat_map-append}
+use Rattle.std.proofs.lemmas.List.Elements.{All-push}
+use Rattle.std.proofs.lemmas.Option.{some_pair_parts}
+use Rattle.l4_packed.specs.Inside.Bytes.{numbers_code, numbers_in, record_code, records_code, records_in, frame_at}
+use Rattle.l4_packed.specs.Inside.Pieces.{IsPacked, record_words}
+use Rattle.l4_packed.proofs.Unpacking.{numbers_again, enough_bytes, frame_again, records_again, records_have_bytes}
+
+-- the bytes from one of the records on
+pub record Behind (records : List (List ℕ)) (i : ℕ) (bytes : List ℕ) : Type 0 where
+  pub rest : bytes ≡ records_code (drop i records)
+
+pub behind_none : (count : ℕ) (bytes : List ℕ) → IsPacked count bytes → Behind (records_in count bytes) 0 bytes
+behind_none count bytes packed = record { rest = packed.whole }
+
+pub next_frame : (records : List (List ℕ)) (i : ℕ) (bytes : List ℕ) → i < length records → Behind records i bytes → frame_at bytes ≡ Some (numbers_code (get_or records i []), records_code (drop (i + 1) records))
+next_frame records i bytes lt behind =
+    ap frame_at (behind.rest ∙ ap records_code (drop_more records i [] lt)) ∙ frame_again (get_or records i []) (records_code (drop (i + 1) records))
+
+pub behind_more : (records : List (List ℕ)) (i : ℕ) (bytes frame after : List ℕ) → i < length records → Behind records i bytes → frame_at bytes ≡ Some (frame, after) → Behind records (i + 1) after
+behind_more records i bytes frame after lt behind read =
+    record { rest = (some_pair_parts frame (numbers_code (get_or records i [])) after (records_code (drop (i + 1) records)) (sym read ∙ next_frame records i bytes lt behind)).1 }
+
+pub frame_words : (records : List (List ℕ)) (i : ℕ) (bytes frame after : List ℕ) → i < length records → Behind records i bytes → frame_at bytes ≡ Some (frame, after) → numbers_in (length frame) frame ≡ get_or records i []
+frame_words records i bytes frame after lt behind read =
+    let words = get_or records i [] in
+    let same : frame ≡ numbers_code words = (some_pair_parts frame (numbers_code words) after (records_code (drop (i + 1) records)) (sym read ∙ next_frame records i bytes lt behind)).0 in
+    ap (λ (f : List ℕ). numbers_in (length f) f) same ∙ numbers_again (length (numbers_code words)) words (enough_bytes words)
+
+pub no_frame : {P : Type 0} → (records : List (List ℕ)) (i : ℕ) (bytes : List ℕ) → i < length records → Behind records i bytes → frame_at bytes ≡ None → P
+no_frame records i bytes lt behind read =
+    let e = next_frame records i bytes lt behind in
+    absurd cc
+
+-- one record more
+pub packed_more : (count : ℕ) (bytes words : List ℕ) → IsPacked count bytes → length words ≤ record_words → records_in (count + 1) (bytes ++ record_code words) ≡ records_in count bytes ++ words ∷ []
+packed_more count bytes words packed few =
+    let records = records_in count bytes in
+    let longer = records ++ words ∷ [] in
+    let whole : bytes ++ record_code words ≡ records_code longer ++ [] =
+    ap (λ (t : List ℕ). t ++ record_code words) packed.whole
+    ∙ ap (λ (t : List ℕ). records_code records ++ t) (sym (append-nil (record_code words)))
+    ∙ sym (flat_map-append record_code records (words ∷ []))
+    ∙ sym (append-nil (records_code longer)) in
+    let size : count + 1 ≡ length longer = omega (arith, length_push records words, packed.counted) in
+    ap (λ k. records_in k (bytes ++ record_code words)) size ∙ ap (records_in (length longer)) whole ∙ records_again longer []
+
+pub is_packed_more : (count : ℕ) (bytes words : List ℕ) → IsPacked count bytes → length words ≤ record_words → IsPacked (count + 1) (bytes ++ record_code words)
+is_packed_more count bytes words packed few =
+    let records = records_in count bytes in
+    let same = packed_more count bytes words packed few in
+    record {
+      whole =
+          ap (λ (t : List ℕ). t ++ record_code words) packed.whole
+          ∙ ap (λ (t : List ℕ). records_code records ++ t) (sym (append-nil (record_code words)))
+          ∙ sym (flat_map-append record_code records (words ∷ []))
+          ∙ ap records_code (sym same);
+      counted = ap length same ∙ omega (arith, length_push records words, packed.counted);
+      short = subst (λ (rs : List (List ℕ)). All (λ words. length words ≤ record_words) rs) (sym same) (All-push (λ words. length words ≤ record_words) records words packed.short few);
+    }
+
+-- there are no more records than bytes
+pub few_records : (count : ℕ) (bytes : List ℕ) → IsPacked count bytes → count ≤ length bytes
+few_records count bytes packed = omega (arith, packed.counted, records_have_bytes (records_in count bytes), ap length packed.whole)
+
+pub packed_none : (bytes : List ℕ) → bytes ≡ [] → IsPacked 0 bytes
+unfolding records_in
+packed_none bytes none = record { whole = none; counted = refl; short = λ k d lt. absurd (omega (arith, lt)) }

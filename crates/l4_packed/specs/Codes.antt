@@ -1,0 +1,88 @@
+-- The words of calls, steps, answers and replies. A variant's number comes first, counted from 0 in the order in which its type lists the
+-- variants; a list stands behind its length. (this profile's own)
+use Rattle.std.specs.Prelude.{ℕ, ◌/◌, ◌%◌, ◌^◌, ◌≤◌, ⊤, List, [], ◌∷◌, length}
+use Rattle.l4_fpage.specs.Rights.{bits_of}
+use Rattle.l4_threads.specs.declared.Reply.{Reply}
+use Rattle.l4_threads.specs.declared.Reply.TheVariants.{Ipc as ByIpc, Hit, Answered, FaultFailed, Unmapped, Controlled, Gone}
+use Rattle.l4_ipc.specs.declared.calls.Call.{Call}
+use Rattle.l4_ipc.specs.declared.calls.Call.TheVariants.{Ipc, Fault, Unmap, Control as Controls}
+use Rattle.l4_ipc.specs.declared.calls.Control.{Control}
+use Rattle.l4_ipc.specs.declared.calls.Control.TheVariants.{Create, SetPager, Delete}
+use Rattle.l4_ipc.specs.declared.steps.Step.{Step}
+use Rattle.l4_ipc.specs.declared.steps.Step.TheVariants.{Start, Transfer, Expire}
+use Rattle.l4_ipc.specs.declared.steps.Outcome.{Outcome}
+use Rattle.l4_ipc.specs.declared.steps.Outcome.TheVariants.{Started, Done, NoWindow, Entangled, NoMemory, Expired}
+use Rattle.l4_ipc.specs.declared.steps.Answer.{Answer}
+use Rattle.l4_packed.specs.Words.{counted}
+
+-- the greatest number of message registers, and of threads
+abbrev pub max_words : ℕ
+max_words = 64
+
+abbrev pub max_threads : ℕ
+max_threads = 64
+
+abbrev pub control_code : Control → List ℕ
+control_code (Create c) = 0 ∷ c.id.0 ∷ c.space.0 ∷ c.pager.0 ∷ []
+control_code (SetPager s) = 1 ∷ s.id.0 ∷ s.pager.0 ∷ []
+control_code (Delete id) = 2 ∷ id.0 ∷ []
+
+abbrev pub call_code : Call → List ℕ
+call_code (Ipc c) = 0 ∷ c.to.0 ∷ c.«from».0 ∷ c.timeouts ∷ c.acceptor ∷ counted c.words.items
+call_code (Fault f) = 1 ∷ f.address ∷ f.ip ∷ bits_of f.access ∷ []
+call_code (Unmap u) = 2 ∷ u.control ∷ counted u.words.items
+call_code (Controls c) = 3 ∷ control_code c
+
+abbrev pub step_code : Step → List ℕ
+step_code (Start n call) = 0 ∷ n ∷ call_code call
+step_code (Transfer s r) = 1 ∷ s ∷ r ∷ []
+step_code (Expire n) = 2 ∷ n ∷ []
+
+abbrev pub outcome_code : Outcome → ℕ
+outcome_code Started = 0
+outcome_code Done = 1
+outcome_code NoWindow = 2
+outcome_code Entangled = 3
+outcome_code NoMemory = 4
+outcome_code Expired = 5
+
+abbrev pub answer_code : Answer → List ℕ
+answer_code answer = outcome_code answer.outcome ∷ counted answer.ended.items
+
+abbrev pub reply_code : Reply → List ℕ
+reply_code (ByIpc r) = 0 ∷ r.tag ∷ r.error ∷ r.«from».0 ∷ counted r.words.items
+reply_code Hit = 1 ∷ []
+reply_code Answered = 2 ∷ []
+reply_code (FaultFailed error) = 3 ∷ error ∷ []
+reply_code Unmapped = 4 ∷ []
+reply_code Controlled = 5 ∷ []
+reply_code Gone = 6 ∷ []
+
+-- a place in a history, which has up to 64 bits: its lower word and its upper word
+abbrev pub place_code : ℕ → List ℕ
+place_code place = place % 2 ^ 32 ∷ place / 2 ^ 32 ∷ []
+
+-- what has words: the lists hold no more than their types have room for
+
+abbrev pub CallFits : Call → Type 0
+CallFits (Ipc c) = length c.words.items ≤ max_words
+CallFits (Fault f) = ⊤
+CallFits (Unmap u) = length u.words.items ≤ max_words
+CallFits (Controls c) = ⊤
+
+abbrev pub StepFits : Step → Type 0
+StepFits (Start n call) = CallFits call
+StepFits (Transfer s r) = ⊤
+StepFits (Expire n) = ⊤
+
+abbrev pub AnswerFits : Answer → Type 0
+AnswerFits answer = length answer.ended.items ≤ max_threads
+
+abbrev pub ReplyFits : Reply → Type 0
+ReplyFits (ByIpc r) = length r.words.items ≤ max_words
+ReplyFits Hit = ⊤
+ReplyFits Answered = ⊤
+ReplyFits (FaultFailed error) = ⊤
+ReplyFits Unmapped = ⊤
+ReplyFits Controlled = ⊤
+ReplyFits Gone = ⊤

@@ -1,0 +1,68 @@
+-- Numbers, and records of numbers, as bytes. (this profile's own)
+use Rattle.std.specs.Prelude.{ℕ, zero, suc, ◌+◌, ◌*◌, ◌/◌, ◌%◌, ◌^◌, ◌==◌, List, [], ◌∷◌, ◌++◌, length, take, drop, Option, Some, None, nat_lt, if◌then◌else◌}
+use Rattle.std.specs.List.{flat_map}
+use Rattle.l4_packed.specs.Words.{◌>>=◌}
+
+-- A number below 252 is one byte. Any other stands behind a byte that says how many bytes it has, the lowest first: two behind 252, three
+-- behind 253, four behind 254.
+unfoldable pub number_code : ℕ → List ℕ
+number_code n =
+    if nat_lt n 252 then n ∷ []
+    else (if nat_lt n (2 ^ 16) then 252 ∷ n % 256 ∷ n / 256 ∷ []
+    else (if nat_lt n (2 ^ 24) then 253 ∷ n % 256 ∷ n / 256 % 256 ∷ n / 2 ^ 16 ∷ []
+    else 254 ∷ n % 256 ∷ n / 256 % 256 ∷ n / 2 ^ 16 % 256 ∷ n / 2 ^ 24 ∷ []))
+
+abbrev pub two_bytes_at : List ℕ → Option (ℕ × List ℕ)
+two_bytes_at (a ∷ b ∷ rest) = Some (a + 256 * b, rest)
+two_bytes_at (a ∷ []) = None
+two_bytes_at [] = None
+
+abbrev pub three_bytes_at : List ℕ → Option (ℕ × List ℕ)
+three_bytes_at (a ∷ b ∷ c ∷ rest) = Some (a + 256 * b + 2 ^ 16 * c, rest)
+three_bytes_at (a ∷ b ∷ []) = None
+three_bytes_at (a ∷ []) = None
+three_bytes_at [] = None
+
+abbrev pub four_bytes_at : List ℕ → Option (ℕ × List ℕ)
+four_bytes_at (a ∷ b ∷ c ∷ d ∷ rest) = Some (a + 256 * b + 2 ^ 16 * c + 2 ^ 24 * d, rest)
+four_bytes_at (a ∷ b ∷ c ∷ []) = None
+four_bytes_at (a ∷ b ∷ []) = None
+four_bytes_at (a ∷ []) = None
+four_bytes_at [] = None
+
+-- a number that bytes begin with, and the bytes after it
+unfoldable pub number_at : List ℕ → Option (ℕ × List ℕ)
+number_at [] = None
+number_at (first ∷ rest) =
+    if nat_lt first 252 then Some (first, rest)
+    else (if first == 252 then two_bytes_at rest
+    else (if first == 253 then three_bytes_at rest
+    else (if first == 254 then four_bytes_at rest else None)))
+
+-- numbers one after another
+abbrev pub numbers_code : List ℕ → List ℕ
+numbers_code words = flat_map number_code words
+
+-- the numbers that bytes hold, at most so many
+unfoldable pub numbers_in : ℕ → List ℕ → List ℕ
+numbers_in zero bytes = []
+numbers_in (suc k) bytes = elim (number_at bytes) [ None ↦ [] | Some next ↦ next.0 ∷ numbers_in k next.1 ]
+
+-- a record: the number of its bytes, and its numbers
+unfoldable pub record_code : List ℕ → List ℕ
+record_code words = number_code (length (numbers_code words)) ++ numbers_code words
+
+-- the bytes of the numbers of the record that bytes begin with, and the bytes after it
+unfoldable pub frame_at : List ℕ → Option (List ℕ × List ℕ)
+frame_at bytes = do
+  size ← number_at bytes
+  if nat_lt (length size.1) size.0 then None else Some (take size.0 size.1, drop size.0 size.1)
+
+-- records one after another
+abbrev pub records_code : List (List ℕ) → List ℕ
+records_code records = flat_map record_code records
+
+-- the records that bytes hold, at most so many
+unfoldable pub records_in : ℕ → List ℕ → List (List ℕ)
+records_in zero bytes = []
+records_in (suc k) bytes = elim (frame_at bytes) [ None ↦ [] | Some next ↦ numbers_in (length next.0) next.0 ∷ records_in k next.1 ]

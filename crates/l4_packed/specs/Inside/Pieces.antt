@@ -1,0 +1,61 @@
+-- Pieces of memory that hold records as bytes. (this profile's own)
+use Rattle.std.specs.Prelude.{◌≡◌, ℕ, ◌+◌, ◌*◌, ◌/◌, ◌≤◌, ◌<◌, List, [], length, take, ◌^◌, slice_index_or, vec_capacity}
+use Rattle.std.specs.Global.{Vec}
+use Rattle.std.specs.List.{flat_map, All}
+use Rattle.l4_packed.specs.Inside.Bytes.{records_code, records_in}
+
+-- the greatest number of words of a record
+abbrev pub record_words : ℕ
+record_words = 144
+
+-- what is seen of a piece: how many records stand before it, its records, and how many bytes are free
+pub record PieceState : Type 0 where
+  pub first : ℕ
+  pub records : List (List ℕ)
+  pub free : ℕ
+
+abbrev pub piece_state : ℕ → List (List ℕ) → ℕ → PieceState
+piece_state first records free = record { first = first; records = records; free = free }
+
+-- the bytes are those of so many records, none of which has too many words
+pub record IsPacked (count : ℕ) (bytes : List ℕ) : Type 0 where
+  pub whole : bytes ≡ records_code (records_in count bytes)
+  pub counted : length (records_in count bytes) ≡ count
+  pub short : All (λ words. length words ≤ record_words) (records_in count bytes)
+
+abbrev pub records_of : List PieceState → List (List ℕ)
+records_of pieces = flat_map (λ piece. piece.records) pieces
+
+-- the bytes of a piece, the greatest number of bytes of a record, and how many such records a piece holds
+abbrev pub piece_bytes : ℕ
+piece_bytes = 4096
+
+abbrev pub record_bytes : ℕ
+record_bytes = 725
+
+abbrev pub piece_records : ℕ
+piece_records = 5
+
+-- there are fewer records than this
+abbrev pub most_records : ℕ
+most_records = 2 ^ 62
+
+-- memory for a piece that nothing is stored in
+pub record IsBlank (bytes : Vec ℕ) : Type 0 where
+  pub empty : bytes.items ≡ []
+  pub large : piece_bytes ≤ vec_capacity bytes
+
+-- each piece says how many records stand before it
+abbrev pub AreNumbered : List PieceState → Type 0
+AreNumbered pieces = (i : ℕ) (d : PieceState) → i < length pieces → (slice_index_or pieces i d).first ≡ length (records_of (take i pieces))
+
+-- Full pieces, the piece that takes the next record, and memory for further pieces: there is room for so many records in all, whatever their
+-- words, and in the list of full pieces for the pieces to come.
+pub record IsStore (full : List PieceState) (current : PieceState) (spare : List (Vec ℕ)) (capacity room : ℕ) : Type 0 where
+  pub numbered : AreNumbered full
+  pub next : current.first ≡ length (records_of full)
+  pub blank : All IsBlank spare
+  pub listed : length full + length spare ≤ capacity
+  pub enough : room ≤ length (records_of full) + length current.records + current.free / record_bytes + piece_records * length spare
+  pub within : length (records_of full) + length current.records ≤ room
+  pub few : room < most_records

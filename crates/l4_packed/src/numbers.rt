@@ -1,0 +1,120 @@
+//! Numbers as bytes.
+ghost use Rattle.std.specs.Prelude.{◌≡◌, ◌+◌, ◌≤◌, ◌++◌, ◌∷◌, [], length, vec_len, vec_capacity};
+ghost use Rattle.l4_packed.specs.Inside.Bytes.{number_code, number_at, two_bytes_at, three_bytes_at, four_bytes_at};
+ghost use Rattle.l4_packed.specs.Words.{Reads};
+
+/// The greatest number of bytes of a number.
+pub(crate) const NUMBER_BYTES: usize = 5;
+
+/// What stands before a number of two bytes. A number below it is one byte.
+const TWO: u8 = 252;
+
+/// What stands before a number of three bytes.
+const THREE: u8 = 253;
+
+/// What stands before a number of four bytes.
+const FOUR: u8 = 254;
+
+/// A number below this has two bytes at most.
+const TWO_LIMIT: u32 = 0x1_0000;
+
+/// A number below this has three bytes at most.
+const THREE_LIMIT: u32 = 0x100_0000;
+
+/// How many bytes a number has.
+#[tactic(auto, unfolding(crate::specs::Inside::Bytes::number_code))]
+pub(crate) fn number_len(number: u32) -> usize
+    ensures exact { result ≡ length (number_code number) }
+    ensures few { result ≤ NUMBER_BYTES }
+{
+    if number < u32::from(TWO) {
+        1
+    } else if number < TWO_LIMIT {
+        3
+    } else if number < THREE_LIMIT {
+        4
+    } else {
+        NUMBER_BYTES
+    }
+}
+
+/// Appends a number, for whose bytes there is room.
+#[tactic(auto, unfolding(crate::specs::Inside::Bytes::number_code))]
+pub(crate) fn put_number(out: &mut Vec<u8>, number: u32)
+    requires { vec_len out.old + length (number_code number) ≤ vec_capacity out.old }
+    ensures items { out.new.items ≡ out.old.items ++ number_code number }
+    ensures len { vec_len out.new ≡ vec_len out.old + length (number_code number) }
+    ensures capacity { vec_capacity out.new ≡ vec_capacity out.old }
+{
+    if number < u32::from(TWO) {
+        out.push_reserved(number as u8);
+    } else if number < TWO_LIMIT {
+        out.push_reserved(TWO);
+        out.push_reserved((number % 256) as u8);
+        out.push_reserved((number / 256) as u8);
+    } else if number < THREE_LIMIT {
+        out.push_reserved(THREE);
+        out.push_reserved((number % 256) as u8);
+        out.push_reserved((number / 256 % 256) as u8);
+        out.push_reserved((number / TWO_LIMIT) as u8);
+    } else {
+        out.push_reserved(FOUR);
+        out.push_reserved((number % 256) as u8);
+        out.push_reserved((number / 256 % 256) as u8);
+        out.push_reserved((number / TWO_LIMIT % 256) as u8);
+        out.push_reserved((number / THREE_LIMIT) as u8);
+    }
+}
+
+/// A number of two bytes, and the bytes after it.
+fn two_bytes(bytes: &[u8]) -> Option<(u32, &[u8])>
+    ensures { Reads result (two_bytes_at bytes.now) }
+{
+    match bytes {
+        [a, b, rest @ ..] => Some((u32::from(*a) + 256 * u32::from(*b), rest)),
+        _ => None,
+    }
+}
+
+/// A number of three bytes, and the bytes after it.
+fn three_bytes(bytes: &[u8]) -> Option<(u32, &[u8])>
+    ensures { Reads result (three_bytes_at bytes.now) }
+{
+    match bytes {
+        [a, b, c, rest @ ..] => {
+            let number = u32::from(*a) + 256 * u32::from(*b) + TWO_LIMIT * u32::from(*c);
+            Some((number, rest))
+        }
+        _ => None,
+    }
+}
+
+/// A number of four bytes, and the bytes after it.
+fn four_bytes(bytes: &[u8]) -> Option<(u32, &[u8])>
+    ensures { Reads result (four_bytes_at bytes.now) }
+{
+    match bytes {
+        [a, b, c, d, rest @ ..] => {
+            let lower = u32::from(*a) + 256 * u32::from(*b) + TWO_LIMIT * u32::from(*c);
+            Some((lower + THREE_LIMIT * u32::from(*d), rest))
+        }
+        _ => None,
+    }
+}
+
+/// A number that the bytes begin with, and the bytes after it.
+#[tactic(auto, unfolding(crate::specs::Inside::Bytes::number_at))]
+pub(crate) fn read_number(bytes: &[u8]) -> Option<(u32, &[u8])>
+    ensures { Reads result (number_at bytes.now) }
+{
+    let (first, rest) = bytes.split_first()?;
+    if *first < TWO {
+        return Some((u32::from(*first), rest));
+    }
+    match *first {
+        TWO => two_bytes(rest),
+        THREE => three_bytes(rest),
+        FOUR => four_bytes(rest),
+        _ => None,
+    }
+}

@@ -1,0 +1,188 @@
+//! Records, stored one after another.
+ghost use Rattle.std.specs.Prelude.{◌≡◌, ◌+◌, ◌≤◌, ◌<◌, ◌++◌, ◌∷◌, ◌^◌, [], ℕ, nat_eq, length, slice_get, take, vec_len, vec_capacity, OnOk};
+ghost use Rattle.std.specs.List.{All};
+ghost use Rattle.l4_packed.specs.Inside.Pieces.{AreNumbered, IsBlank, IsStore, records_of};
+ghost use Rattle.l4_packed.specs.Records.{RecordList, record_list};
+ghost use Rattle.l4_packed.specs.Words.{Gives};
+
+use crate::packing::{RECORD_BYTES, record_len};
+use crate::pieces::Piece;
+use crate::words::{RECORD_WORDS, Record};
+use std::alloc::{AllocError, Global};
+use std::marker::Model;
+use std::mem;
+
+/// The bytes of a piece.
+const PIECE_BYTES: usize = 4096;
+
+/// How many records of the greatest length a piece holds.
+const PIECE_RECORDS: usize = PIECE_BYTES / RECORD_BYTES;
+
+/// There are fewer records than this.
+const MOST_RECORDS: usize = 0x4000_0000_0000_0000;
+
+/// Which piece holds the record of this place.
+fn position(pieces: &[Piece], place: usize) -> usize
+    requires numbered { AreNumbered pieces.now }
+    requires below { place < length (records_of pieces.now) }
+    ensures within { result < length pieces.now }
+    ensures after { length (records_of (take result pieces.now)) ≤ place }
+    ensures before { place < length (records_of (take (result + 1) pieces.now)) }
+{
+    let mut low = 0;
+    let mut high = pieces.len();
+    while high - low > 1 {
+        let middle = low + (high - low) / 2;
+        if pieces[middle].first() <= place {
+            low = middle;
+        } else {
+            high = middle;
+        }
+    }
+    low
+}
+
+/// The record of this place among those of the pieces.
+fn find(pieces: &[Piece], place: usize) -> Option<Record>
+    requires numbered { AreNumbered pieces.now }
+    requires below { place < length (records_of pieces.now) }
+    ensures { Gives (λ r. r.items) result (slice_get (records_of pieces.now) place) }
+{
+    let piece = &pieces[position(pieces, place)];
+    piece.get(place - piece.first())
+}
+
+/// Sees to it that a record of this size fits into the current piece.
+fn make_room(full: &mut Vec<Piece>, current: &mut Piece, spare: &mut Vec<Vec<u8>>, size: usize)
+    requires few { size ≤ RECORD_BYTES }
+    requires ready { (room : ℕ) × IsStore full.old.items current.old spare.old.items (vec_capacity full.old) room
+        × (length (records_of full.old.items) + length current.old.records < room) }
+    ensures records { records_of full.new.items ++ current.new.records ≡ records_of full.old.items ++ current.old.records }
+    ensures free { size ≤ current.new.free }
+    ensures kept { (room : ℕ) → IsStore full.old.items current.old spare.old.items (vec_capacity full.old) room
+        → IsStore full.new.items current.new spare.new.items (vec_capacity full.new) room }
+{
+    if current.free() >= size {
+        return;
+    }
+    let Some(bytes) = spare.pop() else {
+        unreachable!()
+    };
+    let next = Piece::new(current.first() + current.count(), bytes);
+    let last = mem::replace(current, next);
+    full.push_reserved(last);
+}
+
+/// Gets memory for pieces until there is enough for this many.
+fn add_spare(alloc: Global, spare: &mut Vec<Vec<u8>>, wanted: usize) -> Result<(), AllocError>
+    requires { All IsBlank spare.old.items }
+    ensures blank { All IsBlank spare.new.items }
+    ensures more { length spare.old.items ≤ length spare.new.items }
+    ensures few { (n : ℕ) → length spare.old.items ≤ n → wanted ≤ n → length spare.new.items ≤ n }
+    ensures ok { OnOk result (wanted ≤ length spare.new.items) }
+{
+    spare.reserve(wanted)?;
+    while spare.len() < wanted {
+        let bytes = Vec::with_capacity(alloc, PIECE_BYTES)?;
+        spare.push_reserved(bytes);
+    }
+    Ok(())
+}
+
+/// Records, lists of at most `RECORD_WORDS` words each, one after another. They are stored in pieces that never move. Contracts see the
+/// records, and for how many there is room.
+#[derive(Drop)]
+pub struct Records {
+    full: Vec<Piece>,
+    current: Piece,
+    spare: Vec<Vec<u8>>,
+    room: usize,
+    alloc: Global,
+}
+
+impl Model for Records {
+    ghost use Rattle.std.specs.Prelude.{◌++◌, vec_capacity};
+    ghost use Rattle.l4_packed.specs.Inside.Pieces.{IsStore, records_of};
+    ghost use Rattle.l4_packed.specs.Records.{RecordList, record_list};
+
+    ghost Value = { RecordList };
+
+    ghost view = { λ s. record_list (records_of s.full.items ++ s.current.records) s.room };
+
+    ghost invariant = { λ s. IsStore s.full.items s.current s.spare.items (vec_capacity s.full) s.room };
+}
+
+impl Records {
+    /// No records.
+    pub fn new(alloc: Global) -> Records
+        ensures { result ≡ record_list [] 0 }
+    {
+        Records {
+            full: Vec::new(alloc),
+            current: Piece::new(0, Vec::new(alloc)),
+            spare: Vec::new(alloc),
+            room: 0,
+            alloc,
+        }
+    }
+
+    /// How many records there are.
+    pub fn len(&self) -> usize
+        ensures { result ≡ length self.now.records }
+    {
+        self.current.first() + self.current.count()
+    }
+
+    /// Whether there is no record.
+    pub fn is_empty(&self) -> bool
+        ensures { result ≡ nat_eq (length self.now.records) 0 }
+    {
+        self.len() == 0
+    }
+
+    /// The record at this place, None beyond the end.
+    pub fn get(&self, place: usize) -> Option<Record>
+        ensures { Gives (λ r. r.items) result (slice_get self.now.records place) }
+    {
+        let first = self.current.first();
+        if place < first {
+            return find(self.full.as_slice(), place);
+        }
+        self.current.get(place - first)
+    }
+
+    /// Makes room for more records. What is stored isn't moved. After an `Err` there are the same records, and the same room.
+    pub fn reserve(&mut self, more: usize) -> Result<(), AllocError>
+        ensures records { self.new.records ≡ self.old.records }
+        ensures ok { OnOk result (length self.new.records + more ≤ self.new.room) }
+        ensures room { (self.old.room ≤ self.new.room) × (self.new.room < 2 ^ 62) }
+    {
+        let len = self.len();
+        if more >= MOST_RECORDS - len {
+            return Err(AllocError);
+        }
+        let wanted = more / PIECE_RECORDS + 1;
+        self.full.reserve(wanted)?;
+        add_spare(self.alloc, &mut self.spare, wanted)?;
+        if self.room < len + more {
+            self.room = len + more;
+        }
+        Ok(())
+    }
+
+    /// Appends a record, for which there is room.
+    pub fn push(&mut self, words: &[u32])
+        requires few { length words.now ≤ RECORD_WORDS }
+        requires room { length self.old.records < self.old.room }
+        ensures records { self.new.records ≡ self.old.records ++ words.now ∷ [] }
+        ensures room { self.new.room ≡ self.old.room }
+    {
+        make_room(
+            &mut self.full,
+            &mut self.current,
+            &mut self.spare,
+            record_len(words),
+        );
+        self.current.push(words);
+    }
+}

@@ -1,0 +1,132 @@
+//! Steps and their answers as words.
+ghost use Rattle.std.specs.Prelude.{◌≡◌, ◌+◌, ◌≤◌, ◌++◌, ◌∷◌, [], length, ℕ, List, Some};
+ghost use Rattle.l4_ipc.specs.declared.steps.Answer.{Answer as AnAnswer};
+ghost use Rattle.l4_ipc.specs.declared.steps.Step.{Step as AStep};
+ghost use Rattle.l4_packed.specs.Codes.{step_code, outcome_code, answer_code, StepFits, AnswerFits};
+ghost use Rattle.l4_packed.specs.Reading.{step_at, outcome_at, answer_at};
+ghost use Rattle.l4_packed.specs.Words.{Reads};
+
+use crate::calls::{CALL_WORDS, put_call, read_call};
+use crate::words::{RECORD_WORDS, Record, put_counted, read_counted, read_word};
+use l4_ipc::{Answer, MAX_THREADS, Outcome, Step};
+
+/// The greatest number of words of a step.
+pub const STEP_WORDS: usize = CALL_WORDS + 2;
+
+/// The greatest number of words of an answer.
+pub const ANSWER_WORDS: usize = MAX_THREADS + 2;
+
+/// Appends a step.
+pub fn put_step(out: &mut Record, step: &Step)
+    requires { length out.old.items + STEP_WORDS ≤ RECORD_WORDS }
+    ensures items { out.new.items ≡ out.old.items ++ step_code step.now }
+    ensures fits { StepFits step.now }
+    ensures short { length (step_code step.now) ≤ STEP_WORDS }
+{
+    match step {
+        Step::Start(number, call) => {
+            out.push(0);
+            out.push(*number);
+            put_call(out, call);
+        }
+        Step::Transfer(sender, receiver) => {
+            out.push(1);
+            out.push(*sender);
+            out.push(*receiver);
+        }
+        Step::Expire(number) => {
+            out.push(2);
+            out.push(*number);
+        }
+    }
+}
+
+/// The number of an outcome.
+fn outcome_word(outcome: Outcome) -> u32
+    ensures { result ≡ outcome_code outcome }
+{
+    match outcome {
+        Outcome::Started => 0,
+        Outcome::Done => 1,
+        Outcome::NoWindow => 2,
+        Outcome::Entangled => 3,
+        Outcome::NoMemory => 4,
+        Outcome::Expired => 5,
+    }
+}
+
+/// Appends an answer.
+pub fn put_answer(out: &mut Record, answer: &Answer)
+    requires { length out.old.items + ANSWER_WORDS ≤ RECORD_WORDS }
+    ensures items { out.new.items ≡ out.old.items ++ answer_code answer.now }
+    ensures fits { AnswerFits answer.now }
+    ensures short { length (answer_code answer.now) ≤ ANSWER_WORDS }
+{
+    out.push(outcome_word(answer.outcome));
+    put_counted(out, answer.ended.as_slice());
+}
+
+/// A step, and the words after it.
+#[tactic(auto, unfolding(crate::specs::Reading::step_at))]
+fn next_step(words: &[u32]) -> Option<(Step, &[u32])>
+    ensures { Reads result (step_at words.now) }
+{
+    match words {
+        [0, rest @ ..] => {
+            let (number, rest) = read_word(rest)?;
+            let (call, rest) = read_call(rest)?;
+            Some((Step::Start(number, call), rest))
+        }
+        [1, rest @ ..] => {
+            let (sender, rest) = read_word(rest)?;
+            let (receiver, rest) = read_word(rest)?;
+            Some((Step::Transfer(sender, receiver), rest))
+        }
+        [2, rest @ ..] => {
+            let (number, rest) = read_word(rest)?;
+            Some((Step::Expire(number), rest))
+        }
+        _ => None,
+    }
+}
+
+/// A step, and the words after it. Of words that `put_step` wrote it is the step that was written, whatever follows them.
+pub fn read_step(words: &[u32]) -> Option<(Step, &[u32])>
+    ensures exact { Reads result (step_at words.now) }
+    ensures again { (step : AStep) (rest : List ℕ) → StepFits step → words.now ≡ step_code step ++ rest → Reads result (Some (step, rest)) }
+{
+    next_step(words)
+}
+
+/// An outcome, and the words after it.
+fn next_outcome(words: &[u32]) -> Option<(Outcome, &[u32])>
+    ensures { Reads result (outcome_at words.now) }
+{
+    match words {
+        [0, rest @ ..] => Some((Outcome::Started, rest)),
+        [1, rest @ ..] => Some((Outcome::Done, rest)),
+        [2, rest @ ..] => Some((Outcome::NoWindow, rest)),
+        [3, rest @ ..] => Some((Outcome::Entangled, rest)),
+        [4, rest @ ..] => Some((Outcome::NoMemory, rest)),
+        [5, rest @ ..] => Some((Outcome::Expired, rest)),
+        _ => None,
+    }
+}
+
+/// An answer, and the words after it.
+#[tactic(auto, unfolding(crate::specs::Reading::answer_at))]
+fn next_answer(words: &[u32]) -> Option<(Answer, &[u32])>
+    ensures { Reads result (answer_at words.now) }
+{
+    let (outcome, rest) = next_outcome(words)?;
+    let (ended, rest) = read_counted(rest)?;
+    Some((Answer { outcome, ended }, rest))
+}
+
+/// An answer, and the words after it. Of words that `put_answer` wrote it is the answer that was written, whatever follows them.
+pub fn read_answer(words: &[u32]) -> Option<(Answer, &[u32])>
+    ensures exact { Reads result (answer_at words.now) }
+    ensures again { (answer : AnAnswer) (rest : List ℕ) → AnswerFits answer → words.now ≡ answer_code answer ++ rest → Reads result (Some (answer, rest)) }
+{
+    next_answer(words)
+}
