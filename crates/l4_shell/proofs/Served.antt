@@ -15,7 +15,7 @@ use Rattle.l4_seats.specs.Seated.{Seated, MayEnter}
 use Rattle.l4_ipc.specs.declared.steps.Refused.TheVariants.{UnknownThread}
 use Rattle.l4_pager.specs.Regions.{CanAdd}
 use Rattle.l4_pager.specs.declared.regions.Entry.{Entry}
-use Rattle.l4_servers.specs.Servers.{Servers, regions_of, with_region, RegionFails}
+use Rattle.l4_servers.specs.Servers.{Servers, regions_of, with_region, RegionFails, is_served}
 use Rattle.l4_servers.specs.declared.servers.RegionRefusal.{RegionRefusal}
 use Rattle.l4_answers.specs.Refusals.{kernel_refusal, refused_text}
 use Rattle.l4_text.specs.Streams.{Tells}
