@@ -6,7 +6,6 @@ ghost use Rattle.l4_mapdb.specs.Mappings.{IsForest};
 ghost use Rattle.l4_fpage.specs.Fpages.{ReadsAs};
 ghost use Rattle.l4_unmap.specs.Unmap.{fpage_count, with_own, UnmapReads, UnmapFails, Unmaps};
 
-
 use l4_fpage::Fpage;
 use l4_mapdb::Forest;
 
