@@ -10,3 +10,4 @@ pub mod Openings
 pub mod Taking
 pub mod Booting
 pub mod Back
+pub mod Packing

@@ -2,3 +2,4 @@ pub mod Board
 pub mod Closing
 pub mod Entering
 pub mod Noting
+pub mod Packing

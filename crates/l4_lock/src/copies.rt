@@ -1,7 +1,7 @@
 //! Copies that take no memory.
 ghost use Rattle.std.specs.Prelude.{◌≡◌};
 
-use crate::entries::{Entry, Receipt};
+use crate::entries::Receipt;
 use l4_ipc::{Call, Reply};
 
 /// The same call.
@@ -34,14 +34,4 @@ pub fn copy_receipt(receipt: &Receipt) -> Receipt
         end: receipt.end,
         reply: copy_reply(&receipt.reply),
     }
-}
-
-/// The same entry.
-pub fn copy_entry(entry: &Entry) -> Entry
-    ensures { result ≡ entry.now }
-{
-    let Ok(copy) = entry.clone() else {
-        unreachable!()
-    };
-    copy
 }

@@ -1,25 +1,29 @@
 //! The history as a list of entries.
-ghost use Rattle.std.specs.Prelude.{◌≡◌, ◌≢◌, ◌+◌, ◌<◌, ◌≤◌, ◌++◌, ◌∷◌, [], ℕ, drop, nat_eq, length, slice_get, vec_capacity, OnOk};
+ghost use Rattle.std.specs.Prelude.{◌≡◌, ◌≢◌, ◌+◌, ◌<◌, ◌≤◌, ◌++◌, ◌∷◌, [], ℕ, drop, nat_eq, length, slice_get, OnOk};
+ghost use Rattle.l4_lock.specs.Inside.Packing.{entry_at, read_all, AreRead};
 ghost use Rattle.l4_lock.specs.Lists.{EntryList, entry_list};
 
-use crate::copies::copy_entry;
 use crate::entries::Entry;
+use crate::packed::{entry_words, read_entry};
+use l4_packed::Records;
 use std::alloc::{AllocError, Global};
 use std::marker::Model;
 
-/// The entries of a locked kernel, in order.
+/// The entries of a locked kernel, in order. They are stored packed.
 #[derive(Drop)]
 pub struct History {
-    entries: Vec<Entry>,
+    entries: Records,
 }
 
 impl Model for History {
-    ghost use Rattle.std.specs.Prelude.{vec_capacity};
+    ghost use Rattle.l4_lock.specs.Inside.Packing.{entry_at, read_all, AreRead};
     ghost use Rattle.l4_lock.specs.Lists.{EntryList, entry_list};
 
     ghost Value = { EntryList };
 
-    ghost view = { λ h. entry_list h.entries.items (vec_capacity h.entries) };
+    ghost view = { λ h. entry_list (read_all entry_at h.entries.records) h.entries.room };
+
+    ghost invariant = { λ h. AreRead entry_at h.entries.records };
 }
 
 impl History {
@@ -28,7 +32,7 @@ impl History {
         ensures { result.entries ≡ [] }
     {
         History {
-            entries: Vec::new(alloc),
+            entries: Records::new(alloc),
         }
     }
 
@@ -51,7 +55,7 @@ impl History {
         ensures { result ≡ slice_get self.now.entries place }
     {
         match self.entries.get(place) {
-            Some(entry) => Some(copy_entry(entry)),
+            Some(words) => read_entry(words.as_slice()),
             None => None,
         }
     }
@@ -60,13 +64,10 @@ impl History {
     pub fn entries_from(&self, place: usize) -> Entries<'_>
         ensures { result ≡ drop place self.now.entries }
     {
-        let entries = self.entries.as_slice();
-        if place < entries.len() {
-            return Entries {
-                rest: &entries[place..],
-            };
+        Entries {
+            history: self,
+            place,
         }
-        Entries { rest: &[] }
     }
 
     /// Makes room for more entries.
@@ -83,23 +84,24 @@ impl History {
         ensures entries { self.new.entries ≡ self.old.entries ++ entry ∷ [] }
         ensures room { (length self.new.entries ≡ length self.old.entries + 1) × (self.new.room ≡ self.old.room) }
     {
-        self.entries.push_reserved(entry);
+        self.entries.push(entry_words(&entry).as_slice());
     }
 }
 
 /// Entries of a history, one after another. Contracts see those that are left.
 #[derive(Drop)]
 pub struct Entries<'a> {
-    rest: &'a [Entry],
+    history: &'a History,
+    place: usize,
 }
 
 impl<'a> Model for Entries<'a> {
-    ghost use Rattle.std.specs.Prelude.{List};
+    ghost use Rattle.std.specs.Prelude.{List, drop};
     ghost use Rattle.l4_lock.specs.declared.entries.Entry.{Entry as AnEntry};
 
     ghost Value = { List AnEntry };
 
-    ghost view = { λ e. e.rest.now };
+    ghost view = { λ e. drop e.place e.history.now.entries };
 }
 
 impl<'a> Iterator for Entries<'a> {
@@ -112,10 +114,11 @@ impl<'a> Iterator for Entries<'a> {
     ghost next_gives = { YieldsFirst (λ s. s) };
 
     fn next(&mut self) -> Option<Entry> {
-        let Some((first, rest)) = self.rest.split_first() else {
+        if self.place >= self.history.len() {
             return None;
-        };
-        self.rest = rest;
-        Some(copy_entry(first))
+        }
+        let entry = self.history.get(self.place);
+        self.place += 1;
+        entry
     }
 }

@@ -7,6 +7,7 @@ mod copies;
 mod entries;
 mod history;
 mod locked;
+mod packed;
 mod receipts;
 mod refusals;
 mod seats;

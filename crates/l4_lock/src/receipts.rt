@@ -1,26 +1,30 @@
 //! The receipts of a seat as a list.
-ghost use Rattle.std.specs.Prelude.{◌≡◌, ◌≢◌, ◌+◌, ◌<◌, ◌≤◌, ◌++◌, ◌∷◌, ◌^◌, [], ℕ, drop, nat_eq, length, slice_get, true, false, OnOk};
+ghost use Rattle.std.specs.Prelude.{◌≡◌, ◌≢◌, ◌+◌, ◌<◌, ◌≤◌, ◌++◌, ◌∷◌, ◌^◌, [], drop, nat_eq, length, slice_get, true, false, OnOk};
+ghost use Rattle.l4_lock.specs.Inside.Packing.{receipt_at, read_all, AreRead};
 ghost use Rattle.l4_lock.specs.Lists.{ReceiptList, receipt_list};
 
-use crate::copies::copy_receipt;
 use crate::entries::Receipt;
+use crate::packed::{read_receipt, receipt_words};
 use l4_ipc::{Call, Reply};
+use l4_packed::Records;
 use std::alloc::{AllocError, Global};
 use std::marker::Model;
 
-/// The receipts of a seat, in the order in which it got them.
+/// The receipts of a seat, in the order in which it got them. They are stored packed.
 #[derive(Drop)]
 pub struct Receipts {
-    receipts: Vec<Receipt>,
+    receipts: Records,
 }
 
 impl Model for Receipts {
-    ghost use Rattle.std.specs.Prelude.{vec_capacity};
+    ghost use Rattle.l4_lock.specs.Inside.Packing.{receipt_at, read_all, AreRead};
     ghost use Rattle.l4_lock.specs.Lists.{ReceiptList, receipt_list};
 
     ghost Value = { ReceiptList };
 
-    ghost view = { λ r. receipt_list r.receipts.items (vec_capacity r.receipts) };
+    ghost view = { λ r. receipt_list (read_all receipt_at r.receipts.records) r.receipts.room };
+
+    ghost invariant = { λ r. AreRead receipt_at r.receipts.records };
 }
 
 impl Receipts {
@@ -29,7 +33,7 @@ impl Receipts {
         ensures { (result.items ≡ []) × (result.room < 2 ^ 63) }
     {
         Receipts {
-            receipts: Vec::new(alloc),
+            receipts: Records::new(alloc),
         }
     }
 
@@ -52,7 +56,7 @@ impl Receipts {
         ensures { result ≡ slice_get self.now.items place }
     {
         match self.receipts.get(place) {
-            Some(receipt) => Some(copy_receipt(receipt)),
+            Some(words) => read_receipt(words.as_slice()),
             None => None,
         }
     }
@@ -61,13 +65,10 @@ impl Receipts {
     pub fn receipts_from(&self, place: usize) -> ReceiptsFrom<'_>
         ensures { result ≡ drop place self.now.items }
     {
-        let receipts = self.receipts.as_slice();
-        if place < receipts.len() {
-            return ReceiptsFrom {
-                rest: &receipts[place..],
-            };
+        ReceiptsFrom {
+            receipts: self,
+            place,
         }
-        ReceiptsFrom { rest: &[] }
     }
 
     /// Makes room for more receipts.
@@ -85,7 +86,7 @@ impl Receipts {
         ensures items { self.new.items ≡ self.old.items ++ receipt ∷ [] }
         ensures room { (length self.new.items ≡ length self.old.items + 1) × (self.new.room ≡ self.old.room) }
     {
-        self.receipts.push_reserved(receipt);
+        self.receipts.push(receipt_words(&receipt).as_slice());
     }
 
     /// Whether these are the same receipts.
@@ -93,23 +94,32 @@ impl Receipts {
         ensures same { result ≡ true → self.now.items ≡ other.now.items }
         ensures other { result ≡ false → self.now.items ≢ other.now.items }
     {
-        same_receipts(self.receipts.as_slice(), other.receipts.as_slice())
+        if self.len() != other.len() {
+            return false;
+        }
+        for place in 0..self.len() {
+            if !same_at(self, other, place) {
+                return false;
+            }
+        }
+        true
     }
 }
 
 /// Receipts of a seat, one after another. Contracts see those that are left.
 #[derive(Drop)]
 pub struct ReceiptsFrom<'a> {
-    rest: &'a [Receipt],
+    receipts: &'a Receipts,
+    place: usize,
 }
 
 impl<'a> Model for ReceiptsFrom<'a> {
-    ghost use Rattle.std.specs.Prelude.{List};
+    ghost use Rattle.std.specs.Prelude.{List, drop};
     ghost use Rattle.l4_lock.specs.declared.entries.Receipt.{Receipt as AReceipt};
 
     ghost Value = { List AReceipt };
 
-    ghost view = { λ r. r.rest.now };
+    ghost view = { λ r. drop r.place r.receipts.now.items };
 }
 
 impl<'a> Iterator for ReceiptsFrom<'a> {
@@ -122,11 +132,12 @@ impl<'a> Iterator for ReceiptsFrom<'a> {
     ghost next_gives = { YieldsFirst (λ s. s) };
 
     fn next(&mut self) -> Option<Receipt> {
-        let Some((first, rest)) = self.rest.split_first() else {
+        if self.place >= self.receipts.len() {
             return None;
-        };
-        self.rest = rest;
-        Some(copy_receipt(first))
+        }
+        let receipt = self.receipts.get(self.place);
+        self.place += 1;
+        receipt
     }
 }
 
@@ -166,18 +177,18 @@ fn same_receipt(a: &Receipt, b: &Receipt) -> bool
     true
 }
 
-/// Whether two lists have the same receipts.
-fn same_receipts(a: &[Receipt], b: &[Receipt]) -> bool
-    ensures same { result ≡ true → a.now ≡ b.now }
-    ensures other { result ≡ false → a.now ≢ b.now }
+/// Whether the receipts of this place are the same.
+fn same_at(a: &Receipts, b: &Receipts, place: usize) -> bool
+    requires a { place < length a.now.items }
+    requires b { place < length b.now.items }
+    ensures same { result ≡ true → slice_get a.now.items place ≡ slice_get b.now.items place }
+    ensures other { result ≡ false → slice_get a.now.items place ≢ slice_get b.now.items place }
 {
-    if a.len() != b.len() {
-        return false;
-    }
-    for i in 0..a.len() {
-        if !same_receipt(&a[i], &b[i]) {
-            return false;
-        }
-    }
-    true
+    let Some(first) = a.get(place) else {
+        unreachable!()
+    };
+    let Some(second) = b.get(place) else {
+        unreachable!()
+    };
+    same_receipt(&first, &second)
 }

@@ -1,0 +1,15 @@
+use Rattle.std.proofs.Common.{◌≡◌, Some, length, sym, ap, subst, ◌∙◌, arith, List, ℕ}
+use Rattle.l4_lock.specs.Lists.{ReceiptList}
+use Rattle.l4_lock.specs.Inside.Packing.{receipt_at, AreRead}
+use Rattle.l4_lock.proofs.Packing.{length_read, are_read_more}
+use Rattle.l4_lock.proofs.receipts.Receipts.push.Goals as goal
+
+pub push-requires-clause-room : goal.push-requires-clause-room
+push-requires-clause-room c =
+    omega (arith, length_read receipt_at c.self.inside.receipts.records c.self.invariant, ap (λ (l : ReceiptList). length l.items) c.self.view_is, ap (λ (l : ReceiptList). l.room) c.self.view_is, c.requires)
+
+pub invariant_of-self : goal.invariant_of-self
+invariant_of-self c =
+    let here : receipt_at c.as_slice.result.now ≡ Some c.args.receipt = ap receipt_at c.as_slice.ensures.value ∙ c.receipt_words.ensures.same in
+    subst (λ (records : List (List ℕ)). AreRead receipt_at records) (sym c.push.ensures.records)
+    (are_read_more receipt_at c.self.inside.receipts.records c.as_slice.result.now c.args.receipt here c.self.invariant)

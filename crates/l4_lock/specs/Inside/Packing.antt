@@ -1,0 +1,40 @@
+-- Entries and receipts as words. (this profile's own)
+use Rattle.std.specs.Prelude.{ℕ, List, ◌∷◌, ◌++◌, Option, Some, IsTrue, is_some}
+use Rattle.std.specs.List.{flat_map, All}
+use Rattle.std.specs.Option.{option_to_list, option_map}
+use Rattle.l4_packed.specs.Words.{◌>>=◌, word_at}
+use Rattle.l4_packed.specs.Codes.{step_code, answer_code, call_code, place_code, reply_code}
+use Rattle.l4_packed.specs.Reading.{step_at, answer_at, call_at, place_at, reply_at}
+use Rattle.l4_lock.specs.declared.entries.Entry.{Entry}
+use Rattle.l4_lock.specs.declared.entries.Receipt.{Receipt}
+
+abbrev pub entry_code : Entry → List ℕ
+entry_code entry = entry.seat ∷ (step_code entry.step ++ answer_code entry.answer)
+
+abbrev pub receipt_code : Receipt → List ℕ
+receipt_code receipt = call_code receipt.call ++ (place_code receipt.start ++ (place_code receipt.end ++ reply_code receipt.reply))
+
+-- the entry that words begin with
+unfoldable pub entry_at : List ℕ → Option Entry
+entry_at words = do
+  seat ← word_at words
+  step ← step_at seat.1
+  answer ← answer_at step.1
+  Some (record { seat = seat.0; step = step.0; answer = answer.0 })
+
+-- the receipt that words begin with
+unfoldable pub receipt_at : List ℕ → Option Receipt
+receipt_at words = do
+  call ← call_at words
+  start ← place_at call.1
+  last ← place_at start.1
+  reply ← reply_at last.1
+  Some (record { call = call.0; start = start.0; end = last.0; reply = reply.0 })
+
+-- what records of words are, those read that can be
+abbrev pub read_all : {X : Type 0} → (List ℕ → Option X) → List (List ℕ) → List X
+read_all read records = flat_map (λ words. option_to_list (read words)) records
+
+-- each record can be read
+abbrev pub AreRead : {X : Type 0} → (List ℕ → Option X) → List (List ℕ) → Type 0
+AreRead read records = All (λ words. IsTrue (is_some (read words))) records
