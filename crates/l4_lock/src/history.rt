@@ -1,5 +1,5 @@
 //! The history as a list of entries.
-ghost use Rattle.std.specs.Prelude.{◌≡◌, ◌≢◌, ◌+◌, ◌<◌, ◌≤◌, ◌++◌, ◌∷◌, [], ℕ, drop, nat_eq, length, slice_get, OnOk};
+ghost use Rattle.std.specs.Prelude.{◌≡◌, ◌≢◌, ◌+◌, ◌<◌, ◌^◌, ◌≤◌, ◌++◌, ◌∷◌, [], ℕ, drop, nat_eq, length, slice_get, OnOk};
 ghost use Rattle.l4_lock.specs.Inside.Packing.{entry_at, read_all, AreRead};
 ghost use Rattle.l4_lock.specs.Lists.{EntryList, entry_list};
 
@@ -62,8 +62,10 @@ impl History {
 
     /// The entries from this place on.
     pub fn entries_from(&self, place: usize) -> Entries<'_>
-        ensures { result ≡ drop place self.now.entries }
+        ensures entries { result ≡ drop place self.now.entries }
+        ensures bound { length result < 2 ^ 64 }
     {
+        let _count = self.len();
         Entries {
             history: self,
             place,

@@ -63,8 +63,10 @@ impl Receipts {
 
     /// The receipts from this place on.
     pub fn receipts_from(&self, place: usize) -> ReceiptsFrom<'_>
-        ensures { result ≡ drop place self.now.items }
+        ensures receipts { result ≡ drop place self.now.items }
+        ensures bound { length result < 2 ^ 64 }
     {
+        let _count = self.len();
         ReceiptsFrom {
             receipts: self,
             place,
