@@ -1,0 +1,111 @@
+//! Mappings.
+ghost use Rattle.std.specs.Prelude.{◌≡◌, OnOk, IsTrue};
+ghost use Rattle.std.specs.FinSet as set;
+ghost use Rattle.l4_mapdb.specs.Mappings.{Mappings};
+
+use crate::stop;
+use l4_ipc::{Block, Rights, SPACE_PAGES};
+use l4_mapdb::{Cause, Forest, ItemMove};
+use l4_msg::Move;
+use std::io;
+
+/// The spaces that are looked at.
+const SPACES: u64 = 4;
+
+const FRAMES: u32 = 8;
+
+/// Tells what was done, all pages of all spaces, and where each frame is shown first.
+fn show(rt: &impl Print, told: &str, forest: &Forest) -> io::Result<()> {
+    println!(rt; "{told}")?;
+    for space in 0..SPACES {
+        let mut from = 0;
+        for _ in 0..SPACE_PAGES {
+            let Some(page) = forest.next_present(space, from) else {
+                break;
+            };
+            println!(rt; "page {space} {page} {:?}", forest.at(space, page))?;
+            from = page.saturating_add(1);
+        }
+    }
+    for frame in 0..FRAMES {
+        println!(rt; "root {frame} {:?}", forest.root(frame))?;
+    }
+    println!(rt; ".")
+}
+
+/// An item that moves blocks of this size.
+fn item(source: u32, target: u32, log: u8, grant: bool) -> ItemMove {
+    let (Some(source), Some(target)) = (Block::new(source, log), Block::new(target, log)) else {
+        return ItemMove::default();
+    };
+    ItemMove {
+        mv: Move { source, target },
+        rights: Rights::of_bits(5),
+        grant,
+    }
+}
+
+/// Begins a space.
+fn begin(rt: &impl Print, forest: &mut Forest, space: u64) -> io::Result<()>
+    ensures { OnOk result (forest.new.spaces ≡ set.insert forest.old.spaces space) }
+{
+    if forest.new_space(space).is_err() {
+        show(rt, "refused new_space", forest)?;
+        if forest.new_space(space).is_err() {
+            return Err(stop());
+        }
+    }
+    show(rt, "done new_space", forest)
+}
+
+/// Moves pages from one space to another.
+fn map(
+    rt: &impl Print,
+    forest: &mut Forest,
+    from: u64,
+    to: u64,
+    moves: &[ItemMove],
+) -> io::Result<()>
+    requires from_there { IsTrue (set.contains forest.old.spaces from) }
+    requires to_there { IsTrue (set.contains forest.old.spaces to) }
+    ensures { OnOk result (forest.new.spaces ≡ forest.old.spaces) }
+{
+    if let Err(cause) = forest.map_all(from, to, moves) {
+        if cause == Cause::Entangled {
+            return Err(stop());
+        }
+        show(rt, "refused map_all", forest)?;
+        if forest.map_all(from, to, moves).is_err() {
+            return Err(stop());
+        }
+    }
+    show(rt, "done map_all", forest)
+}
+
+/// Maps pages into tables that are there and into others, and grants one of them. Answers whether there was memory for a forest.
+fn tell_once<R: AllocGlobal + Print>(rt: &R) -> io::Result<bool> {
+    let Ok(mut forest) = Forest::new(rt.alloc(), FRAMES) else {
+        println!(rt; "refused new_forest\n.")?;
+        return Ok(false);
+    };
+    show(rt, "done new_forest", &forest)?;
+    begin(rt, &mut forest, 1)?;
+    begin(rt, &mut forest, 2)?;
+    begin(rt, &mut forest, 3)?;
+    let two = [item(4, 6, 1, false)];
+    map(rt, &mut forest, 0, 2, &two)?;
+    let eight = [item(0, 1020, 2, false), item(0, 2048, 2, false)];
+    map(rt, &mut forest, 0, 2, &eight)?;
+    let on = [item(6, 9, 0, false)];
+    map(rt, &mut forest, 2, 3, &on)?;
+    let granted = [item(6, 70, 0, true)];
+    map(rt, &mut forest, 2, 3, &granted)?;
+    Ok(true)
+}
+
+pub fn tell<R: AllocGlobal + Print>(rt: &R) -> io::Result<()> {
+    if tell_once(rt)? || tell_once(rt)? {
+        return Ok(());
+    }
+    Err(stop())
+}

@@ -1,0 +1,78 @@
+//! Page tables.
+ghost use Rattle.std.specs.Prelude.{All};
+ghost use Rattle.l4_spaces.specs.Tables.{IsPage};
+
+use crate::stop;
+use l4_ipc::SPACE_PAGES;
+use l4_spaces::{NoMemory, Spaces};
+use std::io;
+
+/// The spaces that are looked at.
+const SPACES: u64 = 3;
+
+/// Tells what was done, and all pages of all spaces.
+fn show(rt: &impl Print, told: &str, spaces: &Spaces) -> io::Result<()> {
+    println!(rt; "{told}")?;
+    for space in 0..SPACES {
+        println!(rt; "space {space} {}", spaces.has(space))?;
+        let mut from = 0;
+        for _ in 0..SPACE_PAGES {
+            let Some(page) = spaces.next_present(space, from) else {
+                break;
+            };
+            println!(rt; "page {page} key {:?}", spaces.get(space, page))?;
+            from = page.saturating_add(1);
+        }
+    }
+    println!(rt; ".")
+}
+
+/// Adds a space.
+fn add(rt: &impl Print, spaces: &mut Spaces, space: u64) -> io::Result<()> {
+    if spaces.add(space).is_err() {
+        show(rt, "refused add", spaces)?;
+        if spaces.add(space).is_err() {
+            return Err(stop());
+        }
+    }
+    show(rt, "done add", spaces)
+}
+
+/// Makes room for these pages of a space, and sets them.
+fn fill(spaces: &mut Spaces, space: u64, pages: &[u32]) -> Result<(), NoMemory>
+    requires { All IsPage pages.now }
+{
+    if !spaces.has(space) {
+        return Err(NoMemory);
+    }
+    spaces.prepare(space, pages)?;
+    for page in pages {
+        spaces.set(space, *page, 1);
+    }
+    Ok(())
+}
+
+/// Sets pages of a space, for which there may be no room.
+fn set(rt: &impl Print, spaces: &mut Spaces, space: u64, pages: &[u32]) -> io::Result<()>
+    requires { All IsPage pages.now }
+{
+    if fill(spaces, space, pages).is_err() {
+        show(rt, "refused prepare", spaces)?;
+        if fill(spaces, space, pages).is_err() {
+            return Err(stop());
+        }
+    }
+    show(rt, "done prepare", spaces)
+}
+
+/// Adds spaces, and sets pages in tables that are there and in others.
+pub fn tell<R: AllocGlobal + Print>(rt: &R) -> io::Result<()> {
+    let mut spaces = Spaces::new(rt.alloc());
+    show(rt, "done start", &spaces)?;
+    add(rt, &mut spaces, 1)?;
+    set(rt, &mut spaces, 1, &[5])?;
+    add(rt, &mut spaces, 2)?;
+    set(rt, &mut spaces, 1, &[2000, 9, 1_048_575, 0])?;
+    set(rt, &mut spaces, 2, &[1023, 1024])?;
+    Ok(())
+}
