@@ -214,27 +214,35 @@ none_at ss s k ts other view is none here =
     let n : key_of s k other ≡ None = found ss s k other view ∙ ap (λ (t : Rows). entry t other) is ∙ none in
     let e : false ≡ true = sym (ap is_some n) ∙ here in cc
 
-pub next_in : (ss : Live) (s : Tables) (k page end : ℕ) (ts : Rows) (r : Option ℕ) → shown ss ≡ s → tables_of ss k ≡ ts
-    → MatchOption r (NoneIn ts page end) (IsFirstIn ts page end) → MatchOption r (NonePresentIn s k page end) (IsNextIn s k page end)
-next_in ss s k page end ts None view is h = λ other le lt. none_at ss s k ts other view is (h other le lt)
-next_in ss s k page end ts (Some next) view is h = record {
-  present = ap is_some (found ss s k next view ∙ ap (λ (t : Rows). entry t next) is ∙ h.shows);
-  from = h.from;
-  before = h.before;
-  least = λ other le here. elim (cases_lt other next) [
-    | inl lt ↦ absurd (none_at ss s k ts other view is (h.least other le lt) here)
-    | inr more ↦ more
-  ];
-}
+pub next_found : (ss : Live) (s : Tables) (k page end : ℕ) (ts : Rows) (next key : ℕ) → shown ss ≡ s → tables_of ss k ≡ ts → IsFirstIn ts page end next key → IsNextIn s k page end next × (key_of s k next ≡ Some key)
+next_found ss s k page end ts next key view is h =
+    let shows : key_of s k next ≡ Some key = found ss s k next view ∙ ap (λ (t : Rows). entry t next) is ∙ h.shows in (
+      record {
+        present = ap is_some shows;
+        from = h.from;
+        before = h.before;
+        least = λ other le here. elim (cases_lt other next) [
+          | inl lt ↦ absurd (none_at ss s k ts other view is (h.least other le lt) here)
+          | inr more ↦ more
+        ];
+      },
+      shows,
+    )
 
-pub next_from : (ss : Live) (s : Tables) (k page end : ℕ) (ts : Rows) (r : Option ℕ) → shown ss ≡ s → tables_of ss k ≡ ts → length ts * table_pages ≤ end
-    → MatchOption r (NoneIn ts page end) (IsFirstIn ts page end) → MatchOption r (NonePresentFrom s k page) (IsNextPresent s k page)
-next_from ss s k page end ts None view is fits h = λ other le. none_at ss s k ts other view is (elim (cases_lt other end) [
+pub next_node : (ss : Live) (s : Tables) (k page end : ℕ) (ts : Rows) (r : Option (ℕ × ℕ)) → shown ss ≡ s → tables_of ss k ≡ ts
+    → MatchOption r (NoneIn ts page end) (λ found. IsFirstIn ts page end found.0 found.1) → MatchOption r (NonePresentIn s k page end) (λ found. IsNextIn s k page end found.0 × (key_of s k found.0 ≡ Some found.1))
+next_node ss s k page end ts None view is h = λ other le lt. none_at ss s k ts other view is (h other le lt)
+next_node ss s k page end ts (Some found) view is h = next_found ss s k page end ts found.0 found.1 view is h
+
+pub next_none : (ss : Live) (s : Tables) (k page end : ℕ) (ts : Rows) → shown ss ≡ s → tables_of ss k ≡ ts → length ts * table_pages ≤ end → NoneIn ts page end → NonePresentFrom s k page
+next_none ss s k page end ts view is fits h = λ other le. none_at ss s k ts other view is (elim (cases_lt other end) [
   | inl lt ↦ h other le lt
   | inr more ↦ past_entry ts other (omega (arith, fits, more))
 ])
-next_from ss s k page end ts (Some next) view is fits h =
-    let n : IsNextIn s k page end next = next_in ss s k page end ts (Some next) view is h in
+
+pub next_from : (ss : Live) (s : Tables) (k page end : ℕ) (ts : Rows) (next key : ℕ) → shown ss ≡ s → tables_of ss k ≡ ts → IsFirstIn ts page end next key → IsNextPresent s k page next
+next_from ss s k page end ts next key view is h =
+    let n : IsNextIn s k page end next = (next_found ss s k page end ts next key view is h).0 in
     record { present = n.present; from = n.from; least = n.least }
 
 pub is_none_of : (o : Option ℕ) → is_some o ≡ false → o ≡ None

@@ -214,12 +214,26 @@ impl Spaces {
         let Some(at) = index_of(&self.spaces, space) else {
             return None;
         };
-        tables::next_page(&self.spaces[at].1, page, SPACE_PAGES)
+        let Some((next, _)) = tables::next_page(&self.spaces[at].1, page, SPACE_PAGES) else {
+            return None;
+        };
+        Some(next)
     }
 
     /// The least present page of the space that is not below `page`, if it is below `end`. Nothing from `end` on is looked at.
     pub fn next_in(&self, space: u64, page: u32, end: u32) -> Option<u32>
         ensures { MatchOption result (NonePresentIn self.now space page end) (IsNextIn self.now space page end) }
+    {
+        let Some((next, _)) = self.next_node(space, page, end) else {
+            return None;
+        };
+        Some(next)
+    }
+
+    /// The least present page of the space that is not below `page`, with the key of its node, if it is below `end`. Nothing from
+    /// `end` on is looked at.
+    pub fn next_node(&self, space: u64, page: u32, end: u32) -> Option<(u32, usize)>
+        ensures { MatchOption result (NonePresentIn self.now space page end) (λ found. IsNextIn self.now space page end found.0 × (key_of self.now space found.0 ≡ Some found.1)) }
     {
         let Some(at) = index_of(&self.spaces, space) else {
             return None;

@@ -1,6 +1,6 @@
 //! The tables of one space: each is absent or has a place for each of its pages.
 
-ghost use Rattle.std.specs.Prelude.{◌≡◌, ◌≢◌, ◌<◌, ◌≤◌, ◌/◌, ◌%◌, ◌*◌, ℕ, length, [], All, Some, None, OnOk, OnErr, IsOk, IfSome, MatchOption, is_some, slice_index_or, true, false};
+ghost use Rattle.std.specs.Prelude.{◌≡◌, ◌≢◌, ◌<◌, ◌≤◌, ◌/◌, ◌%◌, ◌+◌, ◌*◌, ◌⊎◌, ℕ, length, [], All, Some, None, OnOk, OnErr, IsOk, IfSome, MatchOption, slice_index_or, true, false};
 ghost use Rattle.l4_spaces.specs.Tables.{table_pages, space_tables, IsPage};
 ghost use Rattle.l4_spaces.specs.Inside.Two.{entry, is_made, IsReady, AreWhole, AreMade, NoKeys, NoneIn, IsFirstIn, row};
 
@@ -121,14 +121,15 @@ pub(crate) fn make_all(
     Ok(())
 }
 
-/// The first place from this one on that has a key.
-fn next_in_row(row: &Vec<Option<usize>>, from: usize) -> Option<usize>
-    ensures none { MatchOption result (NoKeys row.now.items from (length row.now.items)) (λ low. NoKeys row.now.items from low) }
-    ensures some { IfSome result (λ low. (from ≤ low) × (low < length row.now.items) × (is_some (slice_index_or row.now.items low None) ≡ true)) }
+/// The first place from this one on and below the end that has a key, with the key.
+fn next_in_row(row: &Vec<Option<usize>>, from: usize, end: usize) -> Option<(usize, usize)>
+    requires within { end ≤ length row.now.items }
+    ensures none { MatchOption result (NoKeys row.now.items from end) (λ found. NoKeys row.now.items from found.0) }
+    ensures some { IfSome result (λ found. (from ≤ found.0) × (found.0 < end) × (slice_index_or row.now.items found.0 None ≡ Some found.1)) }
 {
-    for low in from..row.len() {
-        if row[low].is_some() {
-            return Some(low);
+    for low in from..end {
+        if let Some(key) = row[low] {
+            return Some((low, key));
         }
     }
     None
@@ -145,11 +146,30 @@ fn first_low(page: u32, high: usize) -> usize
     0
 }
 
-/// The first page with a key from `page` on and below `end`. Tables that are absent are stepped over.
-pub(crate) fn next_page(tables: &Vec<Vec<Option<usize>>>, page: u32, end: u32) -> Option<u32>
+/// Where a walk to `end` leaves a table of this many places, of which the first is that of the page `start`.
+fn last_low(places: usize, start: u32, end: u32) -> usize
+    requires before { start < end }
+    ensures within { result ≤ places }
+    ensures before { start + result ≤ end }
+    ensures last { (result ≡ places) ⊎ (start + result ≡ end) }
+{
+    let left = (end - start) as usize;
+    if left < places {
+        return left;
+    }
+    places
+}
+
+/// The first page with a key from `page` on and below `end`, with the key. Tables that are absent are stepped over, and no place
+/// from `end` on is looked at.
+pub(crate) fn next_page(
+    tables: &Vec<Vec<Option<usize>>>,
+    page: u32,
+    end: u32,
+) -> Option<(u32, usize)>
     requires whole { AreWhole tables.now.items }
     requires full { length tables.now.items ≤ space_tables }
-    ensures { MatchOption result (NoneIn tables.now.items page end) (IsFirstIn tables.now.items page end) }
+    ensures { MatchOption result (NoneIn tables.now.items page end) (λ found. IsFirstIn tables.now.items page end found.0 found.1) }
 {
     if page >= end {
         return None;
@@ -161,12 +181,9 @@ pub(crate) fn next_page(tables: &Vec<Vec<Option<usize>>>, page: u32, end: u32) -
             return None;
         }
         let from = first_low(page, high);
-        if let Some(low) = next_in_row(&tables[high], from) {
-            let next = start + low as u32;
-            if next >= end {
-                return None;
-            }
-            return Some(next);
+        let last = last_low(tables[high].len(), start, end);
+        if let Some((low, key)) = next_in_row(&tables[high], from, last) {
+            return Some((start + low as u32, key));
         }
     }
     None
