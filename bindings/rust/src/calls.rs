@@ -1,0 +1,282 @@
+//! The calls of threads.
+use crate::ffi;
+use crate::{Fpage, Message, Rights, ThreadId, TooManyWords, MAX_WORDS};
+
+/// How long a phase of an Ipc waits for its partner.
+#[derive(Clone, Copy, PartialEq, Eq, Hash, Debug, Default)]
+pub enum Timeout {
+    /// Until the partner comes.
+    #[default]
+    Never,
+    /// Not at all: where the partner isn't there, the wait may be ended by [`Kernel::expire`](crate::Kernel::expire).
+    Zero,
+}
+
+impl Timeout {
+    /// The timeout as a half of the timeouts word.
+    const fn bits(self) -> u32 {
+        match self {
+            Timeout::Never => 0,
+            Timeout::Zero => ffi::L4_ZERO_TIMEOUT,
+        }
+    }
+
+    /// The timeouts word of a send phase and a receive phase, in bits 31 to 16 and 15 to 0.
+    pub const fn word(send: Timeout, receive: Timeout) -> u32 {
+        send.bits() << 16 | receive.bits()
+    }
+}
+
+/// Any Ipc, by its words: what isn't one is refused by the kernel (L4 X.2 manual, Ipc).
+#[derive(Clone, Copy, PartialEq, Eq, Debug)]
+pub struct Ipc {
+    /// To whom the send phase goes; there is none with [`ThreadId::NIL`].
+    pub to: ThreadId,
+    /// From whom the receive phase takes a message; there is none with [`ThreadId::NIL`].
+    pub from: ThreadId,
+    /// The timeouts, as [`Timeout::word`] makes them.
+    pub timeouts: u32,
+    /// The receive window: bits 31 to 4 as of an fpage's word.
+    pub acceptor: u32,
+    /// What the send phase sends.
+    pub message: Message,
+}
+
+/// A call of a thread, which [`Kernel::start`](crate::Kernel::start) and [`Kernel::enter`](crate::Kernel::enter) begin.
+#[derive(Clone, Copy, PartialEq, Eq, Debug)]
+pub struct Call {
+    given: ffi::l4_call,
+    words: Message,
+}
+
+impl Call {
+    /// A call of this kind with no word set.
+    fn of_kind(kind: u32) -> Call {
+        Call {
+            given: ffi::l4_call {
+                kind,
+                to: 0,
+                from: 0,
+                timeouts: 0,
+                acceptor: 0,
+                address: 0,
+                ip: 0,
+                access: 0,
+                control: 0,
+                id: 0,
+                space: 0,
+                pager: 0,
+            },
+            words: Message::EMPTY,
+        }
+    }
+
+    /// What the library reads.
+    pub(crate) fn given(&self) -> (&ffi::l4_call, &[u32]) {
+        (&self.given, self.words.words())
+    }
+
+    /// An Ipc by its words. Refused, in this order, by K4 for its timeouts, M7, M1, M5, M2, M4 or M3 for its message, and M6 for its
+    /// window; the calls below have good timeouts and windows.
+    pub fn ipc(ipc: &Ipc) -> Call {
+        let mut call = Call::of_kind(ffi::L4_IPC);
+        call.given.to = ipc.to.word();
+        call.given.from = ipc.from.word();
+        call.given.timeouts = ipc.timeouts;
+        call.given.acceptor = ipc.acceptor;
+        call.words = ipc.message;
+        call
+    }
+
+    /// Sends the message, and receives nothing (L4 X.2 manual, Send).
+    pub fn send(to: ThreadId, message: &Message, timeout: Timeout) -> Call {
+        Call::ipc(&Ipc {
+            to,
+            from: ThreadId::NIL,
+            timeouts: Timeout::word(timeout, Timeout::Never),
+            acceptor: 0,
+            message: *message,
+        })
+    }
+
+    /// Receives a message of this thread, or of anybody where that is [`ThreadId::ANY`], and accepts pages in the window, whose rights
+    /// mean nothing (L4 X.2 manual, Receive and Wait).
+    pub fn receive(from: ThreadId, window: Fpage, timeout: Timeout) -> Call {
+        Call::ipc(&Ipc {
+            to: ThreadId::NIL,
+            from,
+            timeouts: Timeout::word(Timeout::Never, timeout),
+            acceptor: window.word(),
+            message: Message::EMPTY,
+        })
+    }
+
+    /// Sends the message to a thread and receives that thread's answer (L4 X.2 manual, Call).
+    // The manual's name of it.
+    #[allow(clippy::self_named_constructors)]
+    pub fn call(
+        to: ThreadId,
+        message: &Message,
+        window: Fpage,
+        send: Timeout,
+        receive: Timeout,
+    ) -> Call {
+        Call::ipc(&Ipc {
+            to,
+            from: to,
+            timeouts: Timeout::word(send, receive),
+            acceptor: window.word(),
+            message: *message,
+        })
+    }
+
+    /// Sends the message to a thread and receives anybody's message (L4 X.2 manual, ReplyWait).
+    pub fn reply_and_wait(
+        to: ThreadId,
+        message: &Message,
+        window: Fpage,
+        send: Timeout,
+        receive: Timeout,
+    ) -> Call {
+        Call::ipc(&Ipc {
+            to,
+            from: ThreadId::ANY,
+            timeouts: Timeout::word(send, receive),
+            acceptor: window.word(),
+            message: *message,
+        })
+    }
+
+    /// A page fault at the address by the instruction at `ip`, both in bytes, by an access that needs these rights. Where the page
+    /// isn't there with them, it goes to the thread's pager as a message (L4 X.2 manual, Page Fault Protocol).
+    pub fn fault(address: u32, ip: u32, access: Rights) -> Call {
+        let mut call = Call::of_kind(ffi::L4_FAULT);
+        call.given.address = address;
+        call.given.ip = ip;
+        call.given.access = access.bits();
+        call
+    }
+
+    /// Takes the rights that 1 to 64 fpages name from all that was mapped from the caller's pages in them, and with `own` from those
+    /// pages too (L4 X.2 manual, Unmap). None for no fpage and for more than 64.
+    pub fn unmap(own: bool, fpages: &[Fpage]) -> Option<Call> {
+        let mut words = [0; MAX_WORDS];
+        for (word, fpage) in words.get_mut(..fpages.len())?.iter_mut().zip(fpages) {
+            *word = fpage.word();
+        }
+        let last = fpages.len().checked_sub(1)? as u32;
+        Call::unmap_words(u32::from(own) << 6 | last, &words[..fpages.len()]).ok()
+    }
+
+    /// An Unmap by its words: bit 6 of `control` means the caller's own pages too, and bits 5 to 0 are k where the words 0 to k are
+    /// fpages. Refused, in this order, by U2 and U1.
+    pub fn unmap_words(control: u32, words: &[u32]) -> Result<Call, TooManyWords> {
+        let mut call = Call::of_kind(ffi::L4_UNMAP);
+        call.given.control = control;
+        call.words = Message::of_words(words)?;
+        Ok(call)
+    }
+
+    /// Makes a thread of this id, in the space of the thread `space` or, where that is the id itself, in a new space (L4 X.2 manual,
+    /// ThreadControl). Refused by H1 to H5, and by NoMemory where the space is new.
+    pub fn create(id: ThreadId, space: ThreadId, pager: ThreadId) -> Call {
+        let mut call = Call::of_kind(ffi::L4_CREATE);
+        call.given.id = id.word();
+        call.given.space = space.word();
+        call.given.pager = pager.word();
+        call
+    }
+
+    /// Gives a thread another pager (L4 X.2 manual, ThreadControl). Refused by H1 and H4.
+    pub fn set_pager(id: ThreadId, pager: ThreadId) -> Call {
+        let mut call = Call::of_kind(ffi::L4_SET_PAGER);
+        call.given.id = id.word();
+        call.given.pager = pager.word();
+        call
+    }
+
+    /// Ends a thread, and its space with its last one (L4 X.2 manual, ThreadControl). Refused by H1, H4 and H6.
+    pub fn delete(id: ThreadId) -> Call {
+        let mut call = Call::of_kind(ffi::L4_DELETE);
+        call.given.id = id.word();
+        call
+    }
+}
+
+#[cfg(test)]
+mod tests {
+    use super::*;
+
+    #[test]
+    fn calls_are_the_words_that_c_gives() {
+        let message = Message::new(0, &[5], &[]).unwrap();
+        let to = ThreadId::of_word(0xc001);
+        let call = Call::reply_and_wait(
+            to,
+            &message,
+            Fpage::complete(Rights::NONE),
+            Timeout::Zero,
+            Timeout::Never,
+        );
+        let (given, words) = call.given();
+        assert_eq!((given.kind, given.to, given.from), (1, 0xc001, 0xFFFF_FFFF));
+        assert_eq!((given.timeouts, given.acceptor), (0x400_0000, 0x10));
+        assert_eq!(words, [1, 5]);
+        let call = Call::call(to, &message, Fpage::NIL, Timeout::Never, Timeout::Zero);
+        assert_eq!(
+            (call.given.from, call.given.timeouts, call.given.acceptor),
+            (0xc001, 0x400, 0)
+        );
+        let call = Call::receive(to, Fpage::NIL, Timeout::Zero);
+        assert_eq!(
+            (call.given.to, call.given.from, call.given.timeouts),
+            (0, 0xc001, 0x400)
+        );
+        let call = Call::send(to, &message, Timeout::Zero);
+        assert_eq!(
+            (call.given.to, call.given.from, call.given.timeouts),
+            (0xc001, 0, 0x400_0000)
+        );
+        let call = Call::fault(0x5678, 0x40, Rights::READ);
+        assert_eq!(
+            (
+                call.given.kind,
+                call.given.address,
+                call.given.ip,
+                call.given.access
+            ),
+            (2, 0x5678, 0x40, 4)
+        );
+        let call = Call::create(to, ThreadId::ROOT, ThreadId::SIGMA0);
+        assert_eq!(
+            (
+                call.given.kind,
+                call.given.id,
+                call.given.space,
+                call.given.pager
+            ),
+            (4, 0xc001, 0x8001, 0x4001)
+        );
+        let call = Call::set_pager(to, ThreadId::ROOT);
+        assert_eq!(
+            (call.given.kind, call.given.id, call.given.pager),
+            (5, 0xc001, 0x8001)
+        );
+        assert_eq!(
+            (Call::delete(to).given.kind, Call::delete(to).given.id),
+            (6, 0xc001)
+        );
+    }
+
+    #[test]
+    fn an_unmap_has_1_to_64_fpages() {
+        let fpage = Fpage::page(1, Rights::WRITE).unwrap();
+        let call = Call::unmap(true, &[fpage; 64]).unwrap();
+        assert_eq!((call.given.kind, call.given.control), (3, 0x7f));
+        assert_eq!(call.given().1, [0x10c2; 64]);
+        assert_eq!(Call::unmap(false, &[fpage]).unwrap().given.control, 0);
+        assert_eq!(Call::unmap(false, &[]), None);
+        assert_eq!(Call::unmap(false, &[fpage; 65]), None);
+        assert_eq!(Call::unmap_words(0, &[0; 65]), Err(TooManyWords));
+    }
+}

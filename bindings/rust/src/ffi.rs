@@ -1,0 +1,498 @@
+//! The functions of the C header, and the one place where they are called. Whoever uses this module from within the crate can't break
+//! what the header asks: a handle is owned, slices are live, and nothing that is written overlaps what is read.
+#![allow(unsafe_code, non_camel_case_types)]
+
+use std::cell::UnsafeCell;
+use std::ffi::{c_char, c_void};
+use std::ptr;
+
+/// Declares structs as C lays them out, and lists each member with its offset for the test.
+macro_rules! structs {
+    ($($(#[$note:meta])* struct $name:ident { $($member:ident: $kind:ty,)* })*) => {
+        $(
+            $(#[$note])*
+            #[repr(C)]
+            #[derive(Clone, Copy)]
+            #[allow(dead_code)]
+            pub(crate) struct $name {
+                $(pub(crate) $member: $kind,)*
+            }
+        )*
+
+        #[cfg(test)]
+        fn struct_lines() -> Vec<String> {
+            let mut lines = Vec::new();
+            $(
+                lines.push(format!("size {} {}", stringify!($name), std::mem::size_of::<$name>()));
+                $(lines.push(format!(
+                    "offset {} {} {}",
+                    stringify!($name),
+                    stringify!($member),
+                    std::mem::offset_of!($name, $member)
+                ));)*
+            )*
+            lines
+        }
+    };
+}
+
+/// Declares constants, and lists them for the test.
+macro_rules! constants {
+    ($($name:ident = $value:expr;)*) => {
+        $(#[allow(dead_code)] pub(crate) const $name: u32 = $value;)*
+
+        #[cfg(test)]
+        fn constant_lines() -> Vec<String> {
+            vec![$(format!("constant {} {}", stringify!($name), $name),)*]
+        }
+    };
+}
+
+/// Declares functions, and lists them for the test.
+macro_rules! functions {
+    ($(fn $name:ident($($parameter:ident: $kind:ty),*) -> $result:ty;)*) => {
+        extern "C" {
+            $(#[allow(dead_code)] fn $name($($parameter: $kind),*) -> $result;)*
+        }
+
+        #[cfg(test)]
+        const FUNCTIONS: &[(&str, &str, &[(&str, &str)])] = &[
+            $((stringify!($name), stringify!($result), &[$((stringify!($kind), stringify!($parameter))),*]),)*
+        ];
+    };
+}
+
+constants! {
+    L4_MAX_THREADS = 64;
+    L4_MAX_WORDS = 64;
+    L4_MAX_ITEMS = 31;
+    L4_TOO_MANY = 32;
+    L4_MAX_FRAMES = 4096;
+    L4_SPACE_PAGES = 1_048_576;
+    L4_MAX_REGIONS = 64;
+    L4_NILTHREAD = 0;
+    L4_ANYTHREAD = 0xFFFF_FFFF;
+    L4_ZERO_TIMEOUT = 0x400;
+    L4_READ = 4;
+    L4_WRITE = 2;
+    L4_EXECUTE = 1;
+    L4_OK = 0;
+    L4_B1 = 0x4231;
+    L4_B2 = 0x4232;
+    L4_B3 = 0x4233;
+    L4_K1 = 0x4B31;
+    L4_K2 = 0x4B32;
+    L4_K3 = 0x4B33;
+    L4_K4 = 0x4B34;
+    L4_K6 = 0x4B36;
+    L4_M1 = 0x4D31;
+    L4_M2 = 0x4D32;
+    L4_M3 = 0x4D33;
+    L4_M4 = 0x4D34;
+    L4_M5 = 0x4D35;
+    L4_M6 = 0x4D36;
+    L4_M7 = 0x4D37;
+    L4_H1 = 0x4831;
+    L4_H2 = 0x4832;
+    L4_H3 = 0x4833;
+    L4_H4 = 0x4834;
+    L4_H5 = 0x4835;
+    L4_H6 = 0x4836;
+    L4_U1 = 0x5531;
+    L4_U2 = 0x5532;
+    L4_N1 = 0x4E31;
+    L4_N2 = 0x4E32;
+    L4_N3 = 0x4E33;
+    L4_N4 = 0x4E34;
+    L4_C1 = 0x4331;
+    L4_C2 = 0x4332;
+    L4_C3 = 0x4333;
+    L4_C4 = 0x4334;
+    L4_C5 = 0x4335;
+    L4_C6 = 0x4336;
+    L4_P1 = 0x5031;
+    L4_P2 = 0x5032;
+    L4_P3 = 0x5033;
+    L4_P4 = 0x5034;
+    L4_NO_MEMORY = 0x4E6F;
+    L4_IPC = 1;
+    L4_FAULT = 2;
+    L4_UNMAP = 3;
+    L4_CREATE = 4;
+    L4_SET_PAGER = 5;
+    L4_DELETE = 6;
+    L4_STARTED = 1;
+    L4_DELIVERED = 2;
+    L4_NO_WINDOW = 3;
+    L4_ENTANGLED = 4;
+    L4_WANTS_MEMORY = 5;
+    L4_EXPIRED = 6;
+    L4_NONE = 0;
+    L4_TRANSFER = 1;
+    L4_EXPIRE = 2;
+    L4_REPLY_IPC = 1;
+    L4_REPLY_HIT = 2;
+    L4_REPLY_ANSWERED = 3;
+    L4_REPLY_FAILED = 4;
+    L4_REPLY_UNMAPPED = 5;
+    L4_REPLY_CONTROLLED = 6;
+    L4_REPLY_GONE = 7;
+}
+
+structs! {
+    struct l4_kernel {
+        hidden: *mut c_void,
+    }
+
+    #[derive(Debug, PartialEq, Eq, Hash)]
+    struct l4_call {
+        kind: u32,
+        to: u32,
+        from: u32,
+        timeouts: u32,
+        acceptor: u32,
+        address: u32,
+        ip: u32,
+        access: u32,
+        control: u32,
+        id: u32,
+        space: u32,
+        pager: u32,
+    }
+
+    struct l4_answer {
+        refusal: u32,
+        detail: u32,
+        outcome: u32,
+        ended_count: u32,
+        ended: [u32; L4_MAX_THREADS as usize],
+    }
+
+    struct l4_step {
+        refusal: u32,
+        kind: u32,
+        thread: u32,
+        receiver: u32,
+        outcome: u32,
+        ended_count: u32,
+        ended: [u32; 2],
+    }
+
+    struct l4_entered {
+        start: l4_answer,
+        step_count: u32,
+    }
+
+    struct l4_reply {
+        refusal: u32,
+        kind: u32,
+        tag: u32,
+        error: u32,
+        from: u32,
+        word_count: u32,
+        words: [u32; L4_MAX_WORDS as usize],
+    }
+
+    struct l4_space {
+        refusal: u32,
+        there: u32,
+        space: u64,
+    }
+
+    struct l4_mapping {
+        refusal: u32,
+        there: u32,
+        frame: u32,
+        rights: u32,
+        has_parent: u32,
+        parent_page: u32,
+        parent_space: u64,
+    }
+
+    struct l4_page {
+        refusal: u32,
+        there: u32,
+        page: u32,
+    }
+
+    struct l4_region {
+        source: u32,
+        target: u32,
+        count: u32,
+        rights: u32,
+    }
+
+    struct l4_plan {
+        refusal: u32,
+        word_count: u32,
+        page_count: u32,
+        words: [u32; L4_MAX_WORDS as usize],
+        pages: [u32; L4_TOO_MANY as usize],
+    }
+
+    struct l4_verdict {
+        refusal: u32,
+        detail: u32,
+    }
+}
+
+functions! {
+    fn l4_refusal_code(refusal: u32, out: *mut c_char, room: usize) -> usize;
+    fn l4_refusal_text(refusal: u32, out: *mut c_char, room: usize) -> usize;
+    fn l4_boot(kernel: *mut l4_kernel, frames: u32) -> u32;
+    fn l4_free(kernel: *mut l4_kernel) -> ();
+    fn l4_start(kernel: *mut l4_kernel, thread: u32, call: *const l4_call, words: *const u32, count: usize) -> l4_answer;
+    fn l4_transfer(kernel: *mut l4_kernel, sender: u32, receiver: u32) -> l4_answer;
+    fn l4_expire(kernel: *mut l4_kernel, thread: u32) -> l4_answer;
+    fn l4_enabled(kernel: *mut l4_kernel) -> l4_step;
+    fn l4_next(kernel: *mut l4_kernel) -> l4_step;
+    fn l4_enter(kernel: *mut l4_kernel, thread: u32, call: *const l4_call, words: *const u32, count: usize, steps: *mut l4_step, room: usize) -> l4_entered;
+    fn l4_reply_of(kernel: *mut l4_kernel, thread: u32) -> l4_reply;
+    fn l4_space_of(kernel: *mut l4_kernel, thread: u32) -> l4_space;
+    fn l4_mapping_of(kernel: *mut l4_kernel, space: u64, page: u32) -> l4_mapping;
+    fn l4_next_page(kernel: *mut l4_kernel, space: u64, page: u32) -> l4_page;
+    fn l4_plan_region(region: *const l4_region) -> l4_plan;
+    fn l4_check_plan(region: *const l4_region, words: *const u32, count: usize, pages: *const u32, page_count: usize) -> l4_verdict;
+    fn l4_check_too_long(region: *const l4_region, pages: *const u32, page_count: usize) -> l4_verdict;
+}
+
+/// No step.
+const NO_STEP: l4_step = l4_step {
+    refusal: L4_OK,
+    kind: L4_NONE,
+    thread: 0,
+    receiver: 0,
+    outcome: 0,
+    ended_count: 0,
+    ended: [0; 2],
+};
+
+/// A kernel's handle, which holds a kernel from its making to its drop. The library writes the handle also as it is asked, so the
+/// handle stands in a cell, and no two threads share it.
+pub(crate) struct Handle {
+    cell: UnsafeCell<l4_kernel>,
+}
+
+// SAFETY: the header lets a handle go from thread to thread, and what it holds belongs to no thread: its memory comes from malloc, and
+// nothing is global. It is not Sync (UnsafeCell, and a raw pointer in it): there is one call at a time for a handle.
+unsafe impl Send for Handle {}
+
+impl Handle {
+    /// A kernel as it boots, or the number of the refusal.
+    pub(crate) fn boot(frames: u32) -> Result<Handle, u32> {
+        let handle = Handle {
+            cell: UnsafeCell::new(l4_kernel {
+                hidden: ptr::null_mut(),
+            }),
+        };
+        // SAFETY: the handle is empty, live and nobody else's.
+        match unsafe { l4_boot(handle.cell.get(), frames) } {
+            L4_OK => Ok(handle),
+            refusal => Err(refusal),
+        }
+    }
+
+    pub(crate) fn start(&mut self, thread: u32, call: &l4_call, words: &[u32]) -> l4_answer {
+        // SAFETY: the handle is live and borrowed alone, so it overlaps neither the call nor the words, which live as long as their
+        // borrows; a slice's pointer is aligned and never null, also where it has no words.
+        unsafe { l4_start(self.cell.get(), thread, call, words.as_ptr(), words.len()) }
+    }
+
+    pub(crate) fn transfer(&mut self, sender: u32, receiver: u32) -> l4_answer {
+        // SAFETY: the handle is live and borrowed alone.
+        unsafe { l4_transfer(self.cell.get(), sender, receiver) }
+    }
+
+    pub(crate) fn expire(&mut self, thread: u32) -> l4_answer {
+        // SAFETY: the handle is live and borrowed alone.
+        unsafe { l4_expire(self.cell.get(), thread) }
+    }
+
+    pub(crate) fn enabled(&self) -> l4_step {
+        // SAFETY: the handle is live, and no other call is under way: only this thread has it, as it is not Sync, and calls don't nest.
+        unsafe { l4_enabled(self.cell.get()) }
+    }
+
+    pub(crate) fn next(&mut self) -> l4_step {
+        // SAFETY: the handle is live and borrowed alone.
+        unsafe { l4_next(self.cell.get()) }
+    }
+
+    /// The steps that are done stand in the array, as many as the answer counts: there are at most 64, as many as it has room for.
+    pub(crate) fn enter(
+        &mut self,
+        thread: u32,
+        call: &l4_call,
+        words: &[u32],
+    ) -> (l4_entered, [l4_step; L4_MAX_THREADS as usize]) {
+        let mut steps = [NO_STEP; L4_MAX_THREADS as usize];
+        let (count, room) = (words.len(), steps.len());
+        // SAFETY: as in `start`; the steps are this function's own, and their room is their length.
+        let entered = unsafe {
+            l4_enter(
+                self.cell.get(),
+                thread,
+                call,
+                words.as_ptr(),
+                count,
+                steps.as_mut_ptr(),
+                room,
+            )
+        };
+        (entered, steps)
+    }
+
+    pub(crate) fn reply_of(&self, thread: u32) -> l4_reply {
+        // SAFETY: as in `enabled`.
+        unsafe { l4_reply_of(self.cell.get(), thread) }
+    }
+
+    pub(crate) fn space_of(&self, thread: u32) -> l4_space {
+        // SAFETY: as in `enabled`.
+        unsafe { l4_space_of(self.cell.get(), thread) }
+    }
+
+    pub(crate) fn mapping_of(&self, space: u64, page: u32) -> l4_mapping {
+        // SAFETY: as in `enabled`.
+        unsafe { l4_mapping_of(self.cell.get(), space, page) }
+    }
+
+    pub(crate) fn next_page(&self, space: u64, page: u32) -> l4_page {
+        // SAFETY: as in `enabled`.
+        unsafe { l4_next_page(self.cell.get(), space, page) }
+    }
+}
+
+impl Drop for Handle {
+    fn drop(&mut self) {
+        // SAFETY: the handle is live and borrowed alone, and freeing leaves it empty; nobody has it after its drop.
+        unsafe { l4_free(self.cell.get()) }
+    }
+}
+
+pub(crate) fn plan_region(region: &l4_region) -> l4_plan {
+    // SAFETY: the region lives as long as its borrow, and no handle is needed.
+    unsafe { l4_plan_region(region) }
+}
+
+pub(crate) fn check_plan(region: &l4_region, words: &[u32], pages: &[u32]) -> l4_verdict {
+    // SAFETY: the region and the slices live as long as their borrows; a slice's pointer is aligned and never null.
+    unsafe {
+        l4_check_plan(
+            region,
+            words.as_ptr(),
+            words.len(),
+            pages.as_ptr(),
+            pages.len(),
+        )
+    }
+}
+
+pub(crate) fn check_too_long(region: &l4_region, pages: &[u32]) -> l4_verdict {
+    // SAFETY: as in `check_plan`.
+    unsafe { l4_check_too_long(region, pages.as_ptr(), pages.len()) }
+}
+
+#[cfg(test)]
+pub(crate) use tests::{refusal_code, refusal_text};
+
+#[cfg(test)]
+mod tests {
+    use super::*;
+    use std::collections::BTreeSet;
+    use std::path::Path;
+    use std::{env, fs};
+
+    /// The room for a text of a refusal, which is longer than each of them.
+    const TEXT_ROOM: usize = 160;
+
+    /// What the function writes for this refusal.
+    fn told(
+        function: unsafe extern "C" fn(u32, *mut c_char, usize) -> usize,
+        refusal: u32,
+    ) -> String {
+        let mut bytes = [0u8; TEXT_ROOM];
+        // SAFETY: the bytes are this function's own, and their room is their length.
+        let length = unsafe { function(refusal, bytes.as_mut_ptr().cast(), bytes.len()) };
+        String::from_utf8_lossy(&bytes[..length]).into_owned()
+    }
+
+    /// The printed code of a refusal; nothing for a number that is none.
+    pub(crate) fn refusal_code(refusal: u32) -> String {
+        told(l4_refusal_code, refusal)
+    }
+
+    /// The line of text of a refusal; nothing for a number that is none.
+    pub(crate) fn refusal_text(refusal: u32) -> String {
+        told(l4_refusal_text, refusal)
+    }
+
+    /// The type as C writes it.
+    fn in_c(kind: &str) -> String {
+        let kind = kind.trim();
+        if let Some(target) = kind.strip_prefix('*') {
+            let target = target.trim();
+            return match target.strip_prefix("const ") {
+                Some(target) => format!("const {} *", in_c(target)),
+                None => format!("{} *", in_c(target.strip_prefix("mut ").unwrap_or(target))),
+            };
+        }
+        match kind {
+            "u32" => "uint32_t",
+            "u64" => "uint64_t",
+            "usize" => "size_t",
+            "c_char" => "char",
+            "()" => "void",
+            other => other,
+        }
+        .to_owned()
+    }
+
+    /// The function as the header declares it.
+    fn prototype(name: &str, result: &str, parameters: &[(&str, &str)]) -> String {
+        let all = parameters
+            .iter()
+            .map(|(kind, parameter)| format!("{} {parameter}", in_c(kind)).replace("* ", "*"));
+        format!(
+            "{} {name}({});",
+            in_c(result),
+            all.collect::<Vec<_>>().join(", ")
+        )
+    }
+
+    /// The header's lines that declare functions.
+    fn declared() -> BTreeSet<String> {
+        let header = Path::new(env!("CARGO_MANIFEST_DIR")).join("../../include/l4.h");
+        let text = fs::read_to_string(header).expect("the header can be read");
+        let starts = |line: &&str| {
+            line.contains(" l4_") && line.ends_with(");") && !line.starts_with([' ', '/'])
+        };
+        text.lines().filter(starts).map(str::to_owned).collect()
+    }
+
+    #[test]
+    fn functions_are_the_headers() {
+        let here: BTreeSet<String> = FUNCTIONS
+            .iter()
+            .map(|(name, result, all)| prototype(name, result, all))
+            .collect();
+        assert_eq!(here, declared());
+    }
+
+    #[test]
+    #[ignore = "tests/bindings runs it, with the layout that a C compiler gives in L4_LAYOUT"]
+    fn structs_and_constants_are_the_headers() {
+        let file = env::var_os("L4_LAYOUT").expect("L4_LAYOUT names a file");
+        let text = fs::read_to_string(file).expect("the layout can be read");
+        let there: BTreeSet<String> = text.lines().map(str::to_owned).collect();
+        let here: BTreeSet<String> = struct_lines().into_iter().chain(constant_lines()).collect();
+        let (missing, wrong): (Vec<_>, Vec<_>) = (
+            there.difference(&here).collect(),
+            here.difference(&there).collect(),
+        );
+        assert!(
+            missing.is_empty() && wrong.is_empty(),
+            "missing {missing:?}, wrong {wrong:?}"
+        );
+    }
+}

@@ -1,0 +1,194 @@
+//! How calls end.
+use crate::ffi;
+use crate::refusals::unknown;
+use crate::{Item, ThreadId};
+use std::error::Error;
+use std::fmt;
+
+/// Why an Ipc failed (L4 X.2 manual, IPC: ErrorCode).
+#[derive(Clone, Copy, PartialEq, Eq, Hash)]
+pub struct ErrorCode(u32);
+
+impl ErrorCode {
+    /// The send phase waited for no time.
+    pub const SEND_TIMEOUT: ErrorCode = ErrorCode(2);
+
+    /// The receive phase waited for no time.
+    pub const RECEIVE_TIMEOUT: ErrorCode = ErrorCode(3);
+
+    /// There is nobody to send to.
+    pub const SEND_PARTNER: ErrorCode = ErrorCode(4);
+
+    /// There is nobody to receive from.
+    pub const RECEIVE_PARTNER: ErrorCode = ErrorCode(5);
+
+    /// The message that was sent could not be delivered: the receiver has no window for its items, they contradict each other, or there
+    /// was no memory.
+    pub const SEND_OVERFLOW: ErrorCode = ErrorCode(8);
+
+    /// The message that was to be received could not be delivered, for the same reasons.
+    pub const RECEIVE_OVERFLOW: ErrorCode = ErrorCode(9);
+
+    /// The number.
+    pub const fn number(self) -> u32 {
+        self.0
+    }
+
+    /// A line of text that says what it means.
+    pub fn text(self) -> &'static str {
+        match self {
+            ErrorCode::SEND_TIMEOUT => "the send phase waited for no time",
+            ErrorCode::RECEIVE_TIMEOUT => "the receive phase waited for no time",
+            ErrorCode::SEND_PARTNER => "there is nobody to send to",
+            ErrorCode::RECEIVE_PARTNER => "there is nobody to receive from",
+            ErrorCode::SEND_OVERFLOW => "the message that was sent could not be delivered",
+            ErrorCode::RECEIVE_OVERFLOW => {
+                "the message that was to be received could not be delivered"
+            }
+            _ => "the Ipc failed",
+        }
+    }
+}
+
+impl fmt::Debug for ErrorCode {
+    fn fmt(&self, out: &mut fmt::Formatter<'_>) -> fmt::Result {
+        write!(out, "ErrorCode({})", self.0)
+    }
+}
+
+impl fmt::Display for ErrorCode {
+    fn fmt(&self, out: &mut fmt::Formatter<'_>) -> fmt::Result {
+        write!(out, "ErrorCode {}: {}", self.0, self.text())
+    }
+}
+
+impl Error for ErrorCode {}
+
+/// How an Ipc ended: with the message that it received, without one where it had no receive phase, or with an error.
+#[derive(Clone, PartialEq, Eq, Debug)]
+pub struct Received {
+    /// The tag of the message; 0x8000 where the call failed, 0 where nothing was to be received.
+    pub tag: u32,
+    /// Why the call failed.
+    pub error: Option<ErrorCode>,
+    /// Who sent it; [`ThreadId::NIL`] where nobody did.
+    pub from: ThreadId,
+    /// The words after the tag, at most 63.
+    pub words: Vec<u32>,
+}
+
+impl Received {
+    /// The message's label, of the tag's bits 31 to 16.
+    pub fn label(&self) -> u16 {
+        (self.tag >> 16) as u16
+    }
+
+    /// How many words stand before the items.
+    fn untyped_count(&self) -> usize {
+        ((self.tag & 0x3f) as usize).min(self.words.len())
+    }
+
+    /// The untyped words.
+    pub fn untyped(&self) -> &[u32] {
+        &self.words[..self.untyped_count()]
+    }
+
+    /// The items.
+    pub fn items(&self) -> impl Iterator<Item = Item> + '_ {
+        self.words[self.untyped_count()..]
+            .chunks_exact(2)
+            .filter_map(|pair| Item::read(pair[0], pair[1]))
+    }
+}
+
+/// How a thread's last call ended.
+#[derive(Clone, PartialEq, Eq, Debug)]
+pub enum Reply {
+    /// An Ipc ended so.
+    Ipc(Received),
+    /// A fault: the page is there with the rights that the access needs.
+    Hit,
+    /// A fault that the pager answered.
+    Answered,
+    /// A fault that failed so.
+    Failed(ErrorCode),
+    /// An Unmap was done.
+    Unmapped,
+    /// A control of threads was done.
+    Controlled,
+    /// The thread is gone.
+    Gone,
+}
+
+impl Reply {
+    /// The reply that the library tells; None where there is none.
+    pub(crate) fn of(told: &ffi::l4_reply) -> Option<Reply> {
+        Some(match told.kind {
+            ffi::L4_NONE => return None,
+            ffi::L4_REPLY_IPC => Reply::Ipc(Received {
+                tag: told.tag,
+                error: (told.error != 0).then_some(ErrorCode(told.error)),
+                from: ThreadId::of_word(told.from),
+                words: told.words[..told.word_count as usize].to_vec(),
+            }),
+            ffi::L4_REPLY_HIT => Reply::Hit,
+            ffi::L4_REPLY_ANSWERED => Reply::Answered,
+            ffi::L4_REPLY_FAILED => Reply::Failed(ErrorCode(told.error)),
+            ffi::L4_REPLY_UNMAPPED => Reply::Unmapped,
+            ffi::L4_REPLY_CONTROLLED => Reply::Controlled,
+            ffi::L4_REPLY_GONE => Reply::Gone,
+            kind => unknown("reply", kind),
+        })
+    }
+
+    /// What an Ipc received, or why it failed; None for other calls.
+    ///
+    /// ```
+    /// use l4::{Call, ErrorCode, Fpage, Kernel, ThreadId, Timeout};
+    /// let mut kernel = Kernel::boot(1)?;
+    /// kernel.enter(1, &Call::receive(ThreadId::ANY, Fpage::NIL, Timeout::Zero))?;
+    /// let reply = kernel.reply(1).expect("the wait has ended");
+    /// assert_eq!(reply.received(), Some(Err(ErrorCode::RECEIVE_TIMEOUT)));
+    /// # Ok::<(), l4::Refusal>(())
+    /// ```
+    pub fn received(&self) -> Option<Result<&Received, ErrorCode>> {
+        match self {
+            Reply::Ipc(received) => Some(received.error.map_or(Ok(received), Err)),
+            _ => None,
+        }
+    }
+}
+
+#[cfg(test)]
+mod tests {
+    use super::*;
+
+    #[test]
+    fn a_message_has_words_and_items() {
+        let received = Received {
+            tag: 0x70081,
+            error: None,
+            from: ThreadId::SIGMA0,
+            words: vec![5, 0x20008, 0x100c7],
+        };
+        assert_eq!((received.label(), received.untyped()), (7, &[5][..]));
+        let items: Vec<Item> = received.items().collect();
+        assert_eq!(
+            (items.len(), items[0].base(), items[0].fpage().word()),
+            (1, 0x20000, 0x100c7)
+        );
+    }
+
+    #[test]
+    fn each_error_has_its_text() {
+        let texts: std::collections::BTreeSet<&str> = [2, 3, 4, 5, 8, 9]
+            .map(|number| ErrorCode(number).text())
+            .into();
+        assert_eq!(texts.len(), 6);
+        assert_eq!(
+            ErrorCode(4).to_string(),
+            "ErrorCode 4: there is nobody to send to"
+        );
+        assert_eq!(ErrorCode(7).text(), "the Ipc failed");
+    }
+}

@@ -1,0 +1,532 @@
+//! The words of the kernel's interface: thread ids, rights, fpages, items and messages.
+use crate::{MAX_WORDS, PAGE_BYTES, SPACE_PAGES};
+use std::error::Error;
+use std::fmt;
+use std::ops::{BitAnd, BitOr, Range, Sub};
+
+/// A thread id: a thread number in bits 31 to 14, and a version in bits 13 to 0 (L4 X.2 manual, ThreadId).
+#[derive(Clone, Copy, PartialEq, Eq, PartialOrd, Ord, Hash)]
+pub struct ThreadId(u32);
+
+impl ThreadId {
+    /// The id of nobody: a call has no phase with it.
+    pub const NIL: ThreadId = ThreadId(crate::ffi::L4_NILTHREAD);
+
+    /// The id that stands for anybody.
+    pub const ANY: ThreadId = ThreadId(crate::ffi::L4_ANYTHREAD);
+
+    /// The id of sigma0, thread 1 in space 0.
+    pub const SIGMA0: ThreadId = ThreadId(1 << 14 | 1);
+
+    /// The id of root, thread 2 in space 1.
+    pub const ROOT: ThreadId = ThreadId(2 << 14 | 1);
+
+    /// The id of the thread `number`, from 1 to 262,143, with a version from 1 to 16,383 whose low six bits aren't all zero. None for
+    /// other numbers, and for the one pair whose word stands for anybody.
+    pub fn new(number: u32, version: u32) -> Option<ThreadId> {
+        let there = (1..1 << 18).contains(&number) && version < 1 << 14 && version & 0x3f != 0;
+        let id = ThreadId(number << 14 | version & 0x3fff);
+        (there && id != ThreadId::ANY).then_some(id)
+    }
+
+    /// The id of a word, which may be one that no thread can have.
+    pub const fn of_word(word: u32) -> ThreadId {
+        ThreadId(word)
+    }
+
+    /// The word.
+    pub const fn word(self) -> u32 {
+        self.0
+    }
+
+    /// The thread number, below 262,144.
+    pub const fn number(self) -> u32 {
+        self.0 >> 14
+    }
+
+    /// The version, below 16,384.
+    pub const fn version(self) -> u32 {
+        self.0 & 0x3fff
+    }
+}
+
+impl fmt::Debug for ThreadId {
+    fn fmt(&self, out: &mut fmt::Formatter<'_>) -> fmt::Result {
+        write!(out, "ThreadId({:#010x})", self.0)
+    }
+}
+
+/// What may be done with a page: a set out of the rights to read, to write and to execute (L4 X.2 manual, Fpages).
+///
+/// ```
+/// use l4::Rights;
+/// let code = Rights::READ | Rights::EXECUTE;
+/// assert_eq!(code.to_string(), "r-x");
+/// assert!(Rights::ALL.contains(code) && !code.contains(Rights::WRITE));
+/// ```
+#[derive(Clone, Copy, PartialEq, Eq, Hash, Default)]
+pub struct Rights(u8);
+
+impl Rights {
+    /// No right.
+    pub const NONE: Rights = Rights(0);
+
+    /// To read.
+    pub const READ: Rights = Rights(crate::ffi::L4_READ as u8);
+
+    /// To write.
+    pub const WRITE: Rights = Rights(crate::ffi::L4_WRITE as u8);
+
+    /// To execute.
+    pub const EXECUTE: Rights = Rights(crate::ffi::L4_EXECUTE as u8);
+
+    /// All three.
+    pub const ALL: Rights = Rights(7);
+
+    /// The rights that the low three bits of a word name: read is 4, write 2, execute 1. The other bits mean nothing.
+    pub const fn of_bits(word: u32) -> Rights {
+        Rights((word & 7) as u8)
+    }
+
+    /// The bits, below 8: read is 4, write 2, execute 1.
+    pub const fn bits(self) -> u32 {
+        self.0 as u32
+    }
+
+    /// Whether each of the other rights is one of these.
+    pub const fn contains(self, other: Rights) -> bool {
+        self.0 & other.0 == other.0
+    }
+
+    /// Whether there is no right.
+    pub const fn is_empty(self) -> bool {
+        self.0 == 0
+    }
+}
+
+/// The rights of either.
+impl BitOr for Rights {
+    type Output = Rights;
+
+    fn bitor(self, other: Rights) -> Rights {
+        Rights(self.0 | other.0)
+    }
+}
+
+/// The rights of both.
+impl BitAnd for Rights {
+    type Output = Rights;
+
+    fn bitand(self, other: Rights) -> Rights {
+        Rights(self.0 & other.0)
+    }
+}
+
+/// The rights that the other lacks.
+impl Sub for Rights {
+    type Output = Rights;
+
+    fn sub(self, other: Rights) -> Rights {
+        Rights(self.0 & !other.0)
+    }
+}
+
+/// As `rwx`, with a `-` for each that lacks.
+impl fmt::Display for Rights {
+    fn fmt(&self, out: &mut fmt::Formatter<'_>) -> fmt::Result {
+        for (right, letter) in [
+            (Rights::READ, "r"),
+            (Rights::WRITE, "w"),
+            (Rights::EXECUTE, "x"),
+        ] {
+            out.write_str(if self.contains(right) { letter } else { "-" })?;
+        }
+        Ok(())
+    }
+}
+
+impl fmt::Debug for Rights {
+    fn fmt(&self, out: &mut fmt::Formatter<'_>) -> fmt::Result {
+        write!(out, "Rights({self})")
+    }
+}
+
+/// A word is no fpage: its size field is 1 with a base that isn't 0, 2 to 9, or 33 to 63.
+#[derive(Clone, Copy, PartialEq, Eq, Debug)]
+pub struct BadFpage;
+
+impl fmt::Display for BadFpage {
+    fn fmt(&self, out: &mut fmt::Formatter<'_>) -> fmt::Result {
+        out.write_str("the word is no fpage")
+    }
+}
+
+impl Error for BadFpage {}
+
+/// The size field of the nil fpage.
+const NIL_SIZE: u8 = 0;
+
+/// The binary logarithm of the bytes of a space.
+const SPACE_SIZE: u8 = 32;
+
+/// A flexpage: no bytes, all bytes of a space, or 2^log bytes from a multiple of 2^log on, with rights (L4 X.2 manual, Fpages).
+///
+/// As a receive window it says where a receiver accepts pages; its rights mean nothing there.
+#[derive(Clone, Copy, PartialEq, Eq, Hash, Debug)]
+pub struct Fpage {
+    base: u32,
+    log: u8,
+    rights: Rights,
+}
+
+impl Fpage {
+    /// No bytes.
+    pub const NIL: Fpage = Fpage {
+        base: 0,
+        log: NIL_SIZE,
+        rights: Rights::NONE,
+    };
+
+    /// All bytes of a space.
+    pub const fn complete(rights: Rights) -> Fpage {
+        Fpage {
+            base: 0,
+            log: SPACE_SIZE,
+            rights,
+        }
+    }
+
+    /// 2^log bytes from the byte `base` on. None where `log` isn't from 10 to 31, or `base` is no multiple of 2^log.
+    pub fn bytes(base: u32, log: u8, rights: Rights) -> Option<Fpage> {
+        let aligned = (10..SPACE_SIZE).contains(&log) && base & ((1 << log) - 1) == 0;
+        aligned.then_some(Fpage { base, log, rights })
+    }
+
+    /// 2^log pages from the page `first` on; all pages of a space where `log` is 20. None where `log` is above 20, `first` is no
+    /// multiple of 2^log, or it isn't below 1,048,576.
+    pub fn pages(first: u32, log: u8, rights: Rights) -> Option<Fpage> {
+        match (first, log) {
+            (0, 20) => Some(Fpage::complete(rights)),
+            (0..SPACE_PAGES, 0..=19) => Fpage::bytes(first * PAGE_BYTES, log + 12, rights),
+            _ => None,
+        }
+    }
+
+    /// One page, below 1,048,576.
+    pub fn page(page: u32, rights: Rights) -> Option<Fpage> {
+        Fpage::pages(page, 0, rights)
+    }
+
+    /// The fpage that a word names. A base that is no multiple of the size is rounded down, bit 3 means nothing, and a size field of 0
+    /// is nil, one of 32 complete, with any base.
+    ///
+    /// ```
+    /// use l4::{BadFpage, Fpage, Rights};
+    /// assert_eq!(Fpage::read(0x100c7).ok(), Fpage::page(16, Rights::ALL));
+    /// assert_eq!(Fpage::read(0x1020), Err(BadFpage));
+    /// ```
+    pub fn read(word: u32) -> Result<Fpage, BadFpage> {
+        let base = word & !0x3ff;
+        let rights = Rights::of_bits(word);
+        match (word >> 4 & 0x3f) as u8 {
+            NIL_SIZE => Ok(Fpage::NIL),
+            1 if base == 0 => Ok(Fpage::complete(rights)),
+            log @ 10..=31 => Ok(Fpage {
+                base: base >> log << log,
+                log,
+                rights,
+            }),
+            SPACE_SIZE => Ok(Fpage::complete(rights)),
+            _ => Err(BadFpage),
+        }
+    }
+
+    /// The word, which is read as this fpage and no other. The complete fpage is written with a size field of 1.
+    pub const fn word(self) -> u32 {
+        let size = if self.log == SPACE_SIZE {
+            1
+        } else {
+            self.log as u32
+        };
+        self.base | size << 4 | self.rights.bits()
+    }
+
+    /// Whether it names no bytes.
+    pub const fn is_nil(self) -> bool {
+        self.log == NIL_SIZE
+    }
+
+    /// The rights.
+    pub const fn rights(self) -> Rights {
+        self.rights
+    }
+
+    /// The pages all of whose bytes it names; none for the nil fpage and for one of 1 or 2 KiB.
+    pub const fn page_range(self) -> Range<u32> {
+        let first = self.base / PAGE_BYTES;
+        if self.log < 12 {
+            return first..first;
+        }
+        first..first + (1 << (self.log - 12))
+    }
+}
+
+/// What a message hands over: the pages of an fpage, shared (map) or given away (grant), with a send base that says where they land in
+/// a larger receive window (L4 X.2 manual, IPC: map item, grant item).
+#[derive(Clone, Copy, PartialEq, Eq, Hash, Debug)]
+pub struct Item {
+    is_grant: bool,
+    base: u32,
+    fpage: Fpage,
+}
+
+impl Item {
+    /// Shares the fpage's pages, with a send base in bytes, of which the low ten bits mean nothing.
+    pub const fn map(fpage: Fpage, base: u32) -> Item {
+        Item {
+            is_grant: false,
+            base: base & !0x3ff,
+            fpage,
+        }
+    }
+
+    /// Gives the fpage's pages away, with a send base in bytes, of which the low ten bits mean nothing.
+    pub const fn grant(fpage: Fpage, base: u32) -> Item {
+        Item {
+            is_grant: true,
+            base: base & !0x3ff,
+            fpage,
+        }
+    }
+
+    /// The item of two words; None for strings, CtrlXfer items, and words that are none.
+    pub fn read(first: u32, second: u32) -> Option<Item> {
+        let fpage = Fpage::read(second).ok()?;
+        match first >> 1 & 7 {
+            4 => Some(Item::map(fpage, first)),
+            5 => Some(Item::grant(fpage, first)),
+            _ => None,
+        }
+    }
+
+    /// The two words; `more`, their lowest bit, says that another item follows.
+    pub const fn words(self, more: bool) -> [u32; 2] {
+        let kind = if self.is_grant { 10 } else { 8 };
+        [self.base | kind | more as u32, self.fpage.word()]
+    }
+
+    /// The fpage, with the rights that go with its pages.
+    pub const fn fpage(self) -> Fpage {
+        self.fpage
+    }
+
+    /// The send base in bytes, a multiple of 1,024.
+    pub const fn base(self) -> u32 {
+        self.base
+    }
+
+    /// Whether the pages are given away.
+    pub const fn is_grant(self) -> bool {
+        self.is_grant
+    }
+}
+
+/// A message has more than 64 words, the tag among them.
+#[derive(Clone, Copy, PartialEq, Eq, Debug)]
+pub struct TooManyWords;
+
+impl fmt::Display for TooManyWords {
+    fn fmt(&self, out: &mut fmt::Formatter<'_>) -> fmt::Result {
+        write!(out, "more than {MAX_WORDS} words")
+    }
+}
+
+impl Error for TooManyWords {}
+
+/// The words of a message, from its tag on: at most 64 (L4 X.2 manual, IPC: message registers).
+#[derive(Clone, Copy)]
+pub struct Message {
+    words: [u32; MAX_WORDS],
+    count: usize,
+}
+
+impl Message {
+    /// No word, not even a tag.
+    pub(crate) const EMPTY: Message = Message {
+        words: [0; MAX_WORDS],
+        count: 0,
+    };
+
+    /// A message with a label, untyped words, and items. At most 63 words follow the tag, two of them for each item.
+    ///
+    /// ```
+    /// use l4::{Fpage, Item, Message, Rights, TooManyWords};
+    /// let page = Fpage::page(16, Rights::ALL).unwrap();
+    /// let message = Message::new(7, &[5], &[Item::map(page, 0x20000)])?;
+    /// assert_eq!(message.words(), [0x70081, 5, 0x20008, 0x100c7]);
+    /// assert_eq!(Message::new(7, &[0; 64], &[]), Err(TooManyWords));
+    /// # Ok::<(), TooManyWords>(())
+    /// ```
+    pub fn new(label: u16, untyped: &[u32], items: &[Item]) -> Result<Message, TooManyWords> {
+        let after = untyped.len().saturating_add(items.len().saturating_mul(2));
+        if after >= MAX_WORDS {
+            return Err(TooManyWords);
+        }
+        let tag = u32::from(label) << 16 | (items.len() as u32) << 7 | untyped.len() as u32;
+        let typed = items
+            .iter()
+            .enumerate()
+            .flat_map(|(place, item)| item.words(place + 1 < items.len()));
+        let mut message = Message::of_words(&[tag])?;
+        for word in untyped.iter().copied().chain(typed) {
+            message.words[message.count] = word;
+            message.count += 1;
+        }
+        Ok(message)
+    }
+
+    /// A message of these words, the tag first, which the kernel may refuse; no word is no tag.
+    pub fn of_words(words: &[u32]) -> Result<Message, TooManyWords> {
+        let mut message = Message::EMPTY;
+        message
+            .words
+            .get_mut(..words.len())
+            .ok_or(TooManyWords)?
+            .copy_from_slice(words);
+        message.count = words.len();
+        Ok(message)
+    }
+
+    /// The words, the tag first.
+    pub fn words(&self) -> &[u32] {
+        &self.words[..self.count]
+    }
+}
+
+impl PartialEq for Message {
+    fn eq(&self, other: &Message) -> bool {
+        self.words() == other.words()
+    }
+}
+
+impl Eq for Message {}
+
+impl fmt::Debug for Message {
+    fn fmt(&self, out: &mut fmt::Formatter<'_>) -> fmt::Result {
+        write!(out, "Message({:#x?})", self.words())
+    }
+}
+
+#[cfg(test)]
+mod tests {
+    use super::*;
+
+    #[test]
+    fn ids_have_a_number_and_a_version() {
+        let id = ThreadId::new(3, 1).unwrap();
+        assert_eq!((id.word(), id.number(), id.version()), (0xc001, 3, 1));
+        assert_eq!(ThreadId::of_word(0xc001), id);
+        assert_eq!((ThreadId::SIGMA0.number(), ThreadId::ROOT.number()), (1, 2));
+        for (number, version) in [
+            (0, 1),
+            (1 << 18, 1),
+            (1, 0),
+            (1, 0x40),
+            (1, 1 << 14),
+            ((1 << 18) - 1, (1 << 14) - 1),
+        ] {
+            assert_eq!(ThreadId::new(number, version), None);
+        }
+        assert_eq!(
+            ThreadId::new((1 << 18) - 1, 1).map(ThreadId::number),
+            Some((1 << 18) - 1)
+        );
+    }
+
+    #[test]
+    fn rights_are_sets() {
+        assert_eq!(Rights::READ | Rights::WRITE | Rights::EXECUTE, Rights::ALL);
+        assert_eq!(Rights::ALL & Rights::WRITE, Rights::WRITE);
+        assert_eq!((Rights::ALL - Rights::WRITE).bits(), 5);
+        assert_eq!(Rights::of_bits(0xf5).to_string(), "r-x");
+        assert!(Rights::NONE.is_empty() && !Rights::READ.is_empty());
+    }
+
+    #[test]
+    fn each_size_field_is_read_as_the_kernel_reads_it() {
+        for log in 0..64u32 {
+            let fpage = Fpage::read(0x8000_0000 | log << 4 | 5);
+            match log {
+                0 => assert_eq!(fpage, Ok(Fpage::NIL)),
+                10..=31 => assert_eq!(fpage.map(Fpage::word), Ok(0x8000_0000 | log << 4 | 5)),
+                32 => assert_eq!(fpage, Ok(Fpage::complete(Rights::of_bits(5)))),
+                _ => assert_eq!(fpage, Err(BadFpage)),
+            }
+        }
+        assert_eq!(Fpage::read(0x17), Ok(Fpage::complete(Rights::ALL)));
+        assert_eq!(Fpage::read(0xfff_fccf).map(Fpage::word), Ok(0xfff_f0c7));
+    }
+
+    #[test]
+    fn fpages_know_their_pages() {
+        assert_eq!(Fpage::pages(8, 2, Rights::ALL).unwrap().page_range(), 8..12);
+        assert_eq!(Fpage::complete(Rights::ALL).page_range(), 0..SPACE_PAGES);
+        assert_eq!(
+            Fpage::pages(0, 20, Rights::READ),
+            Some(Fpage::complete(Rights::READ))
+        );
+        assert!(
+            Fpage::NIL.page_range().is_empty()
+                && Fpage::bytes(0x1400, 10, Rights::ALL)
+                    .unwrap()
+                    .page_range()
+                    .is_empty()
+        );
+        for (first, log) in [(2, 2), (0, 21), (SPACE_PAGES, 0), (1, 20), (u32::MAX, 0)] {
+            assert_eq!(Fpage::pages(first, log, Rights::ALL), None);
+        }
+        for (base, log) in [(0, 9), (0, 32), (0x400, 11), (0, 255)] {
+            assert_eq!(Fpage::bytes(base, log, Rights::ALL), None);
+        }
+        assert_eq!(
+            Fpage::bytes(0x8000_0000, 31, Rights::NONE)
+                .unwrap()
+                .page_range()
+                .end,
+            SPACE_PAGES
+        );
+    }
+
+    #[test]
+    fn items_are_read_as_they_are_written() {
+        let fpage = Fpage::page(5, Rights::ALL).unwrap();
+        for item in [
+            Item::map(fpage, 0x9400),
+            Item::grant(fpage, 0),
+            Item::map(Fpage::NIL, 0),
+        ] {
+            for more in [false, true] {
+                let [first, second] = item.words(more);
+                assert_eq!(first & 1, u32::from(more));
+                assert_eq!(Item::read(first, second), Some(item));
+            }
+        }
+        assert_eq!(Item::map(fpage, 0x7ff).base(), 0x400);
+        assert_eq!(Item::read(0, 0x50c7), None);
+        assert_eq!(Item::read(14, 0x50c7), None);
+        assert_eq!(Item::read(8, 0x1020), None);
+    }
+
+    #[test]
+    fn messages_have_at_most_64_words() {
+        let item = Item::grant(Fpage::page(5, Rights::READ).unwrap(), 0x3000);
+        let message = Message::new(1, &[9], &[item; 31]).unwrap();
+        assert_eq!(message.words().len(), MAX_WORDS);
+        assert_eq!(message.words()[..4], [0x10f81, 9, 0x300b, 0x50c4]);
+        assert_eq!(message.words()[62..], [0x300a, 0x50c4]);
+        assert_eq!(Message::new(1, &[9, 9], &[item; 31]), Err(TooManyWords));
+        assert_eq!(Message::of_words(&[1; 64]).unwrap().words(), [1; 64]);
+        assert_eq!(Message::of_words(&[1; 65]), Err(TooManyWords));
+        assert!(Message::of_words(&[]).unwrap().words().is_empty());
+    }
+}

@@ -1,0 +1,397 @@
+//! Each call of the crate on a kernel, and what a caller can't do.
+use l4::*;
+
+const WINDOW: Fpage = Fpage::complete(Rights::NONE);
+
+fn id(number: u32) -> ThreadId {
+    ThreadId::new(number, 1).unwrap()
+}
+
+fn message(words: &[u32]) -> Message {
+    Message::of_words(words).unwrap()
+}
+
+/// A kernel whose thread 3, in space 2, shows page 16 of sigma0's as its page 32.
+fn delivered() -> Kernel {
+    let mut kernel = Kernel::boot(256).unwrap();
+    let answer = kernel
+        .start(2, &Call::create(id(3), id(3), ThreadId::ROOT))
+        .unwrap();
+    assert_eq!((answer.outcome, answer.ended), (Outcome::Started, vec![2]));
+    let answer = kernel
+        .start(3, &Call::receive(ThreadId::ANY, WINDOW, Timeout::Never))
+        .unwrap();
+    assert_eq!(answer.ended, []);
+    assert_eq!(kernel.enabled(), None);
+    kernel
+        .start(
+            1,
+            &Call::send(id(3), &message(&[0x80, 0x20008, 0x100c7]), Timeout::Never),
+        )
+        .unwrap();
+    assert_eq!(
+        kernel.enabled(),
+        Some(Step::Transfer {
+            sender: 1,
+            receiver: 3
+        })
+    );
+    let answer = kernel.transfer(1, 3).unwrap();
+    assert_eq!(
+        (answer.outcome, answer.ended),
+        (Outcome::Delivered, vec![1, 3])
+    );
+    kernel
+}
+
+#[test]
+fn a_kernel_boots_with_its_frames() {
+    assert_eq!(Kernel::boot(0).unwrap_err(), Refusal::FrameCount);
+    assert_eq!(
+        Kernel::boot(MAX_FRAMES + 1).unwrap_err(),
+        Refusal::FrameCount
+    );
+    let kernel = Kernel::boot(MAX_FRAMES).unwrap();
+    assert_eq!(kernel.mappings(0).count(), MAX_FRAMES as usize);
+    assert_eq!(kernel.mappings(1).count(), 0);
+    assert_eq!(
+        (kernel.space_of(1), kernel.space_of(2), kernel.space_of(3)),
+        (Some(0), Some(1), None)
+    );
+    assert_eq!(kernel.reply(1), None);
+}
+
+#[test]
+fn two_kernels_do_not_meet() {
+    let mut one = delivered();
+    let other = Kernel::boot(1).unwrap();
+    one.start(2, &Call::delete(id(3))).unwrap();
+    assert_eq!(
+        (one.mappings(0).count(), other.mappings(0).count()),
+        (256, 1)
+    );
+}
+
+#[test]
+fn a_message_maps_a_page() {
+    let kernel = delivered();
+    let received = match kernel.reply(3) {
+        Some(Reply::Ipc(received)) => received,
+        other => panic!("{other:?}"),
+    };
+    assert_eq!(
+        (received.tag, received.error, received.from),
+        (0x80, None, ThreadId::SIGMA0)
+    );
+    assert_eq!(received.words, [0x20008, 0x100c7]);
+    assert_eq!(kernel.space_of(3), Some(2));
+    let mapping = Mapping {
+        place: Place { space: 2, page: 32 },
+        frame: 16,
+        rights: Rights::ALL,
+        parent: Some(Place { space: 0, page: 16 }),
+    };
+    assert_eq!(kernel.mapping(2, 32), Some(mapping));
+    assert_eq!(kernel.mappings(2).collect::<Vec<_>>(), [mapping]);
+    assert_eq!(
+        (kernel.next_page(2, 0), kernel.next_page(2, 33)),
+        (Some(32), None)
+    );
+    assert_eq!(kernel.mapping(0, 16).unwrap().parent, None);
+    assert_eq!(
+        (
+            kernel.mapping(2, 31),
+            kernel.mapping(9, 32),
+            kernel.mapping(2, u32::MAX)
+        ),
+        (None, None, None)
+    );
+}
+
+#[test]
+fn the_other_kinds_of_calls() {
+    let mut kernel = delivered();
+    kernel
+        .start(3, &Call::fault(0x20123, 0, Rights::READ))
+        .unwrap();
+    assert_eq!(kernel.reply(3), Some(Reply::Hit));
+    let unmap = Call::unmap(false, &[Fpage::complete(Rights::WRITE)]).unwrap();
+    kernel.start(1, &unmap).unwrap();
+    assert_eq!(kernel.reply(1), Some(Reply::Unmapped));
+    assert_eq!(
+        kernel.mapping(2, 32).unwrap().rights,
+        Rights::READ | Rights::EXECUTE
+    );
+    kernel
+        .start(3, &Call::receive(ThreadId::ANY, WINDOW, Timeout::Zero))
+        .unwrap();
+    assert_eq!(kernel.enabled(), Some(Step::Expire { thread: 3 }));
+    assert_eq!(kernel.expire(1), Err(Refusal::NotEnabled));
+    assert_eq!(kernel.expire(3).unwrap().outcome, Outcome::Expired);
+    assert_eq!(
+        kernel.reply(3).unwrap().received(),
+        Some(Err(ErrorCode::RECEIVE_TIMEOUT))
+    );
+    assert_eq!(
+        kernel.start(3, &Call::set_pager(id(3), ThreadId::SIGMA0)),
+        Err(Refusal::NotRoot)
+    );
+    kernel
+        .start(2, &Call::set_pager(id(3), ThreadId::SIGMA0))
+        .unwrap();
+    assert_eq!(kernel.reply(2), Some(Reply::Controlled));
+    kernel.start(3, &Call::fault(0, 0, Rights::WRITE)).unwrap();
+    assert_eq!(kernel.start(2, &Call::delete(id(3))).unwrap().ended, [2, 3]);
+    assert_eq!((kernel.space_of(3), kernel.reply(3)), (None, None));
+}
+
+#[test]
+fn a_call_is_entered_with_its_steps() {
+    let mut kernel = Kernel::boot(1).unwrap();
+    let entered = kernel
+        .enter(2, &Call::receive(ThreadId::ANY, WINDOW, Timeout::Never))
+        .unwrap();
+    assert_eq!((entered.start.ended, entered.steps), (vec![], vec![]));
+    let entered = kernel
+        .enter(
+            1,
+            &Call::send(ThreadId::ROOT, &message(&[1, 5]), Timeout::Never),
+        )
+        .unwrap();
+    let done = Done {
+        step: Step::Transfer {
+            sender: 1,
+            receiver: 2,
+        },
+        outcome: Outcome::Delivered,
+        ended: vec![1, 2],
+    };
+    assert_eq!(entered.steps, [done]);
+    assert_eq!(kernel.next(), None);
+    assert_eq!(
+        kernel.enter(9, &Call::delete(id(3))),
+        Err(Refusal::NoSuchThread)
+    );
+}
+
+#[test]
+fn a_message_without_a_window_and_an_entangled_one() {
+    let mut kernel = Kernel::boot(64).unwrap();
+    let page = Fpage::page(5, Rights::ALL).unwrap();
+    let twice = Message::new(
+        0,
+        &[],
+        &[Item::grant(page, 0x5000), Item::map(page, 0x5000)],
+    )
+    .unwrap();
+    for (window, outcome) in [
+        (Fpage::NIL, Outcome::NoWindow),
+        (WINDOW, Outcome::Entangled),
+    ] {
+        kernel
+            .start(2, &Call::receive(ThreadId::SIGMA0, window, Timeout::Never))
+            .unwrap();
+        let entered = kernel
+            .enter(1, &Call::send(ThreadId::ROOT, &twice, Timeout::Never))
+            .unwrap();
+        assert_eq!(entered.steps[0].outcome, outcome);
+        assert_eq!(
+            kernel.reply(1).unwrap().received(),
+            Some(Err(ErrorCode::SEND_OVERFLOW))
+        );
+        assert_eq!(
+            kernel.reply(2).unwrap().received(),
+            Some(Err(ErrorCode::RECEIVE_OVERFLOW))
+        );
+    }
+}
+
+#[test]
+fn refusals_change_nothing_and_carry_their_numbers() {
+    let mut kernel = Kernel::boot(1).unwrap();
+    let mut send = |words: &[u32]| {
+        kernel
+            .start(
+                1,
+                &Call::send(ThreadId::ROOT, &message(words), Timeout::Never),
+            )
+            .unwrap_err()
+    };
+    assert_eq!(send(&[]), Refusal::TooFewWords);
+    assert_eq!(send(&[0xfff; 64]), Refusal::WordCount);
+    assert_eq!(send(&[0x1000]), Refusal::Flags);
+    assert_eq!(send(&[0x40, 0]), Refusal::OddItemWords);
+    assert_eq!(send(&[0x100, 8, 0, 14, 0]), Refusal::BadItem(1));
+    assert_eq!(send(&[0x100, 8, 0, 0, 0]), Refusal::UnsupportedItem(1));
+    let ipc = Ipc {
+        to: ThreadId::NIL,
+        from: ThreadId::ANY,
+        timeouts: 0,
+        acceptor: 0x20,
+        message: message(&[]),
+    };
+    assert_eq!(kernel.start(1, &Call::ipc(&ipc)), Err(Refusal::BadWindow));
+    assert_eq!(
+        kernel.start(1, &Call::ipc(&Ipc { timeouts: 1, ..ipc })),
+        Err(Refusal::TimeoutValue)
+    );
+    assert_eq!(
+        kernel.start(9, &Call::delete(id(3))),
+        Err(Refusal::NoSuchThread)
+    );
+    assert_eq!(
+        kernel.start(1, &Call::unmap_words(1, &[0x17, 0x20]).unwrap()),
+        Err(Refusal::BadUnmapWord(1))
+    );
+    assert_eq!(
+        kernel.start(1, &Call::unmap_words(1, &[0x17]).unwrap()),
+        Err(Refusal::TooFewUnmapWords)
+    );
+    kernel
+        .start(2, &Call::receive(ThreadId::ANY, WINDOW, Timeout::Never))
+        .unwrap();
+    assert_eq!(
+        kernel.start(2, &Call::delete(id(3))),
+        Err(Refusal::StillWaiting)
+    );
+    assert_eq!(kernel.transfer(1, 2), Err(Refusal::NotEnabled));
+}
+
+#[test]
+fn plans_are_checked() {
+    let region = Region {
+        source: 4,
+        target: 12,
+        count: 12,
+        rights: Rights::ALL,
+    };
+    let plan = region.plan().unwrap();
+    let (words, pages) = (plan.message().words(), plan.pages());
+    assert_eq!((plan.items().count(), pages), (2, &[4, 8][..]));
+    assert_eq!(region.check(words, pages), Ok(()));
+    assert_eq!(region.check(&words[..4], pages), Err(Refusal::TooFewWords));
+    assert_eq!(region.check(words, &[4]), Err(Refusal::PageCount));
+    assert_eq!(region.check(words, &[4, 16]), Err(Refusal::ForeignPage(1)));
+    assert_eq!(
+        Region {
+            count: 13,
+            ..region
+        }
+        .check(words, pages),
+        Err(Refusal::PageNotMoved(16))
+    );
+    let weaker = Region {
+        rights: Rights::READ,
+        ..region
+    };
+    assert_eq!(weaker.check(words, pages), Err(Refusal::ForeignItem(0)));
+    let empty = Region { count: 0, ..region };
+    assert_eq!(empty.plan(), Err(NoPlan::Refused(Refusal::EmptyRegion)));
+    assert_eq!(empty.check(words, pages), Err(Refusal::RefusedRegion));
+    let beyond = Region {
+        source: SPACE_PAGES,
+        ..region
+    };
+    assert_eq!(
+        beyond.plan().unwrap_err().refusal(),
+        Refusal::RegionBeyondSpace
+    );
+    let rightless = Region {
+        rights: Rights::NONE,
+        ..region
+    };
+    assert_eq!(rightless.plan().unwrap_err().code(), "N3");
+}
+
+#[test]
+fn a_region_may_need_too_many_items() {
+    let region = Region {
+        source: 1,
+        target: 0,
+        count: 64,
+        rights: Rights::ALL,
+    };
+    let refused = region.plan().unwrap_err();
+    assert_eq!(
+        refused.to_string(),
+        "N4: no 31 map items, as many as a message holds, move just the region"
+    );
+    let NoPlan::TooLong(pages) = refused else {
+        panic!("{refused:?}");
+    };
+    assert_eq!(pages.len(), TOO_MANY);
+    assert_eq!(region.check_too_long(&pages), Ok(()));
+    assert_eq!(region.check_too_long(&pages[1..]), Err(Refusal::PageCount));
+    assert_eq!(
+        Region {
+            source: 100,
+            ..region
+        }
+        .check_too_long(&pages),
+        Err(Refusal::ForeignPage(0))
+    );
+}
+
+#[test]
+fn sixty_two_senders_are_told() {
+    let mut kernel = Kernel::boot(1).unwrap();
+    for number in 3..=MAX_THREADS as u32 {
+        kernel
+            .enter(2, &Call::create(id(number), id(number), ThreadId::NIL))
+            .unwrap();
+        kernel
+            .enter(number, &Call::send(id(3), &message(&[0]), Timeout::Never))
+            .unwrap();
+    }
+    assert_eq!(
+        kernel.start(2, &Call::create(id(65), ThreadId::ROOT, ThreadId::NIL)),
+        Err(Refusal::TooManyThreads)
+    );
+    let answer = kernel.start(2, &Call::delete(id(3))).unwrap();
+    assert_eq!(answer.ended.len(), MAX_THREADS - 2);
+    assert_eq!((answer.ended[0], answer.ended[61]), (2, 64));
+}
+
+#[test]
+fn each_expiry_of_sixty_four_follows_a_call() {
+    let mut kernel = Kernel::boot(1).unwrap();
+    for number in 3..=MAX_THREADS as u32 {
+        kernel
+            .enter(2, &Call::create(id(number), id(number), ThreadId::NIL))
+            .unwrap();
+    }
+    for number in 2..=MAX_THREADS as u32 {
+        kernel
+            .start(number, &Call::receive(ThreadId::ANY, WINDOW, Timeout::Zero))
+            .unwrap();
+    }
+    let entered = kernel
+        .enter(1, &Call::receive(ThreadId::ANY, WINDOW, Timeout::Zero))
+        .unwrap();
+    let threads: Vec<u32> = entered
+        .steps
+        .iter()
+        .flat_map(|done| done.ended.iter().copied())
+        .collect();
+    assert_eq!(threads, (1..=MAX_THREADS as u32).collect::<Vec<_>>());
+}
+
+#[test]
+fn a_kernel_goes_from_thread_to_thread() {
+    let mut kernel = delivered();
+    let kernel = std::thread::spawn(move || {
+        kernel.start(2, &Call::delete(id(3))).unwrap();
+        kernel
+    });
+    assert_eq!(kernel.join().unwrap().space_of(3), None);
+}
+
+#[test]
+fn refusals_are_errors() {
+    let refused: Box<dyn std::error::Error + Send + Sync> = Refusal::BadItem(1).into();
+    assert_eq!(
+        refused.to_string(),
+        "M3 1: the item has an unknown kind or is no fpage"
+    );
+    assert_eq!(Refusal::NoMemory.code(), "NoMemory");
+}
