@@ -1,5 +1,5 @@
 -- What a contract sees once a space was written, has come or has gone.
-use Rattle.std.proofs.Common.{◌≡◌, ◌≢◌, ℕ, zero, suc, ◌+◌, ◌*◌, ◌/◌, ◌%◌, ◌<◌, ◌≤◌, ◌==◌, ◌&&◌, ◌||◌, Bool, true, false, nat_eq, nat_lt, not, cond, List, [], ◌∷◌, ◌++◌, length, filter, slice_index_or, slice_set, Option, Some, None, is_some, MatchOption, Vec, refl, sym, ap, ◌∙◌, subst, inl, inr, arith}
+use Rattle.std.proofs.Common.{◌≡◌, ◌≢◌, ℕ, zero, suc, ◌+◌, ◌*◌, ◌/◌, ◌%◌, ◌<◌, ◌≤◌, ◌==◌, ◌&&◌, ◌||◌, Bool, true, false, nat_eq, nat_lt, not, cond, List, [], ◌∷◌, ◌++◌, drop, length, filter, slice_index_or, slice_set, Option, Some, None, is_some, MatchOption, Vec, refl, sym, ap, ◌∙◌, subst, inl, inr, arith}
 use Rattle.std.specs.List.{list_any, count_by}
 use Rattle.std.specs.Ordering.{nat_cmp, eq_by_cmp, is_eq}
 use Rattle.std.specs.Cmp.{nat_cmp_total, tied_itself}
@@ -12,7 +12,7 @@ use Rattle.std.proofs.lemmas.List.{get_or_past}
 use Rattle.std.proofs.lemmas.List.Sums.{sum_by-cons}
 use Rattle.l4_spaces.specs.Tables.{Tables, place_cmp, key_of, table_pages, space_tables, HasRoom, KeepsRoom, KeepsOthersRoom, Empties, IsPresent, NonePresentFrom, IsNextPresent, NonePresentIn, IsNextIn}
 use Rattle.l4_spaces.specs.Inside.Two.{Rows, row, entry, is_made, IsReady, AreWhole, AreMade, NoneIn, IsFirstIn}
-use Rattle.l4_spaces.specs.Inside.Seen.{Space, Live, numbers, has, tables_of, StandsAt, key_at, is_there, shown, IsLaid}
+use Rattle.l4_spaces.specs.Inside.Seen.{Space, Live, numbers, has, tables_of, IsOnce, StandsAt, key_at, is_there, shown, IsLaid}
 use Rattle.l4_spaces.proofs.Below.{places_total, tie, untie, is_equal, not_both, decided}
 use Rattle.l4_spaces.proofs.Finding.{eq_no, eq_of, ne_of, stands_tables, stands_number, stands_has, no_tables_of, written_here, written_other, written_numbers}
 use Rattle.l4_spaces.proofs.Listing.{key_shown, there_shown, has_shown, pages_are, same_shown, past_entry}
@@ -148,8 +148,17 @@ wrote_all {k} {ss} {new} {old} {ts} P w here other q = elim (cases_eq q k) [
   | inr ne ↦ subst (λ (t : Rows). P q (tables_of ss q) t) (sym (w.other q ne)) (other q)
 ]
 
+once_same : (ss new : Live) → numbers new ≡ numbers ss → IsOnce ss → IsOnce new
+once_same ss [] e h = tt
+once_same [] (n ∷ ns) e h = absurd (let l : length (n.0 ∷ numbers ns) ≡ 0 = ap length e in omega (arith, l))
+once_same (s ∷ ss) (n ∷ ns) e h =
+    let number : n.0 ≡ s.0 = ap (λ (l : List ℕ). slice_index_or l 0 0) e in
+    let rest : numbers ns ≡ numbers ss = ap (drop 1) e in
+    ((λ i. list_any (λ y. nat_eq y (number i)) (rest i)) ∙ h.0, once_same ss ns rest h.1)
+
 pub laid : {k : ℕ} {ss new : Live} {old ts : Rows} → Wrote k ss new old ts → IsLaid ss → (AreWhole old → AreWhole ts) → (length ts ≡ length old) → IsLaid new
 laid {k} {ss} {new} {old} {ts} w l whole full = record {
+  once = once_same ss new w.same l.once;
   whole = λ q. wrote_all (λ _ a b. AreWhole a → AreWhole b) w whole (λ _ h. h) q (l.whole q);
   full = λ q h.
       wrote_all (λ _ a b. length b ≡ length a) w full (λ _. refl) q
@@ -288,8 +297,15 @@ has_push (s ∷ ss) k v q = ap (λ b. nat_eq s.0 q || b) (has_push ss k v q) ∙
     or_along true b c = refl
     or_along false b c = refl
 
-pub laid_push : (ss : Live) (k : ℕ) (v : Vec (Vec (Option ℕ) Global) Global) → IsLaid ss → length v.items ≡ space_tables → ((high : ℕ) → row v.items high ≡ []) → IsLaid (ss ++ (k, v) ∷ [])
-laid_push ss k v l full none = record {
+once_push : (ss : Live) (k : ℕ) (v : Vec (Vec (Option ℕ) Global) Global) → has ss k ≡ false → IsOnce ss → IsOnce (ss ++ (k, v) ∷ [])
+once_push [] k v none h = (refl, tt)
+once_push (s ∷ ss) k v none h = decided (nat_eq s.0 k)
+    (λ t. absurd (let e : true ≡ false = sym (ap (λ b. b || has ss k) t) ∙ none in cc))
+    (λ f. (has_push ss k v s.0 ∙ ap (λ b. b || nat_eq k s.0) h.0 ∙ eq_no k s.0 (λ e. ne_of s.0 k f (sym e)), once_push ss k v (sym (ap (λ b. b || has ss k) f) ∙ none) h.1))
+
+pub laid_push : (ss : Live) (k : ℕ) (v : Vec (Vec (Option ℕ) Global) Global) → has ss k ≡ false → IsLaid ss → length v.items ≡ space_tables → ((high : ℕ) → row v.items high ≡ []) → IsLaid (ss ++ (k, v) ∷ [])
+laid_push ss k v new l full none = record {
+  once = once_push ss k v new l.once;
   whole = λ q high. elim (l.whole q high) [
     | inl e ↦ inl (rows_push ss k v none q high ∙ e)
     | inr e ↦ inr (ap length (rows_push ss k v none q high) ∙ e)
@@ -389,8 +405,22 @@ spaces_left ss s k view = set.same_set nat_cmp_total nat_cmp-IsAntisymmetric _ _
     loose : (q : ℕ) → (q == k) ≡ false → eq_by_cmp nat_cmp q k ≡ false
     loose q f = decided (eq_by_cmp nat_cmp q k) (λ t. absurd (ne_of q k f (nat_cmp-IsAntisymmetric q k (is_equal (nat_cmp q k) t)))) (λ u. u)
 
+has_fewer : (ss : Live) (k q : ℕ) → has ss q ≡ false → has (left k ss) q ≡ false
+has_fewer ss k q none = has_left ss k q ∙ ap (λ b. not (q == k) && b) none ∙ none_of (not (q == k))
+  where
+    none_of : (b : Bool) → (b && false) ≡ false
+    none_of true = refl
+    none_of false = refl
+
+once_left : (ss : Live) (k : ℕ) → IsOnce ss → IsOnce (left k ss)
+once_left [] k h = tt
+once_left (s ∷ ss) k h = decided (s.0 == k)
+    (λ t. subst IsOnce (sym (ap (λ b. cond (not b) (s ∷ left k ss) (left k ss)) t)) (once_left ss k h.1))
+    (λ f. subst IsOnce (sym (ap (λ b. cond (not b) (s ∷ left k ss) (left k ss)) f)) (has_fewer ss k s.0 h.0, once_left ss k h.1))
+
 pub laid_left : (ss : Live) (k : ℕ) → IsLaid ss → IsLaid (left k ss)
 laid_left ss k l = record {
+  once = once_left ss k l.once;
   whole = λ q. subst AreWhole (sym (tables_left ss k q)) (decided (q == k)
       (λ t. subst (λ b. AreWhole (cond b [] (tables_of ss q))) (sym t) (λ high. inl refl))
       (λ f. subst (λ b. AreWhole (cond b [] (tables_of ss q))) (sym f) (l.whole q)));

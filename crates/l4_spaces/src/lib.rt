@@ -5,7 +5,7 @@ ghost use Rattle.std.specs.Prelude.{◌≡◌, ◌≢◌, ◌∷◌, [], ◌<◌
 ghost use Rattle.std.specs.FinMap as map;
 ghost use Rattle.std.specs.FinSet as set;
 ghost use Rattle.l4_spaces.specs.Tables.{space_tables};
-ghost use Rattle.l4_spaces.specs.Inside.Seen.{has, StandsAt};
+ghost use Rattle.l4_spaces.specs.Inside.Seen.{has, IsOnce, StandsAt};
 ghost use Rattle.l4_spaces.specs.Inside.Two.{row};
 
 mod tables;
@@ -62,11 +62,16 @@ impl Model for Spaces {
     ghost invariant = { IsKept };
 }
 
-/// Where the space stands.
+/// Where the space stands. Where no space has ended, it stands at its number.
 fn index_of(spaces: &Vec<(u64, Vec<Vec<Option<usize>>>)>, space: u64) -> Option<usize>
+    requires { IsOnce spaces.now.items }
     ensures at { MatchOption result (has spaces.now.items space ≡ false) (StandsAt space spaces.now.items) }
     ensures within { IfSome result (λ at. at < length spaces.now.items) }
 {
+    let number = space as usize;
+    if number < spaces.len() && spaces[number].0 == space {
+        return Some(number);
+    }
     for index in 0..spaces.len() {
         if spaces[index].0 == space {
             return Some(index);
