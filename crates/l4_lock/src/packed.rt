@@ -4,6 +4,7 @@ ghost use Rattle.l4_lock.specs.Inside.Packing.{entry_at, receipt_at};
 ghost use Rattle.l4_packed.specs.Words.{Gives};
 
 use crate::entries::{Entry, Receipt};
+use l4_ipc::{Call, Reply};
 use l4_packed::{
     RECORD_WORDS, Record, put_answer, put_call, put_place, put_reply, put_step, read_answer,
     read_call, read_place, read_reply, read_step, read_word,
@@ -32,16 +33,16 @@ pub fn read_entry(words: &[u32]) -> Option<Entry>
     Some(Entry { seat, step, answer })
 }
 
-/// The words of a receipt.
-pub fn receipt_words(receipt: &Receipt) -> Record
-    ensures same { receipt_at result.items ≡ Some receipt.now }
+/// The words of the receipt of these parts.
+pub fn receipt_words(call: &Call, start: usize, end: usize, reply: &Reply) -> Record
+    ensures same { receipt_at result.items ≡ Some (record { call = call.now; start = start; end = end; reply = reply.now }) }
     ensures few { length result.items ≤ RECORD_WORDS }
 {
     let mut words = Record::new();
-    put_call(&mut words, &receipt.call);
-    put_place(&mut words, receipt.start);
-    put_place(&mut words, receipt.end);
-    put_reply(&mut words, &receipt.reply);
+    put_call(&mut words, call);
+    put_place(&mut words, start);
+    put_place(&mut words, end);
+    put_reply(&mut words, reply);
     words
 }
 

@@ -1,7 +1,8 @@
 //! The receipts of a seat as a list.
-ghost use Rattle.std.specs.Prelude.{◌≡◌, ◌≢◌, ◌+◌, ◌<◌, ◌≤◌, ◌++◌, ◌∷◌, ◌^◌, [], drop, nat_eq, length, slice_get, true, false, OnOk};
+ghost use Rattle.std.specs.Prelude.{◌≡◌, ◌≢◌, ◌+◌, ◌<◌, ◌≤◌, ◌++◌, ◌∷◌, ◌^◌, [], drop, nat_eq, length, slice_get, true, false, List, OnOk};
 ghost use Rattle.l4_lock.specs.Inside.Packing.{receipt_at, read_all, AreRead};
 ghost use Rattle.l4_lock.specs.Lists.{ReceiptList, receipt_list};
+ghost use Rattle.l4_lock.specs.declared.entries.Receipt.{Receipt as AReceipt};
 
 use crate::entries::Receipt;
 use crate::packed::{read_receipt, receipt_words};
@@ -88,7 +89,30 @@ impl Receipts {
         ensures items { self.new.items ≡ self.old.items ++ receipt ∷ [] }
         ensures room { (length self.new.items ≡ length self.old.items + 1) × (self.new.room ≡ self.old.room) }
     {
-        self.receipts.push(receipt_words(&receipt).as_slice());
+        self.push_parts(&receipt.call, receipt.start, receipt.end, &receipt.reply);
+    }
+
+    /// Appends the receipt of these parts, for which there is room.
+    pub(crate) fn push_parts(&mut self, call: &Call, start: usize, end: usize, reply: &Reply)
+        requires { length self.old.items < self.old.room }
+        ensures items { self.new.items ≡ self.old.items ++ record { call = call.now; start = start; end = end; reply = reply.now } ∷ [] }
+        ensures room { (length self.new.items ≡ length self.old.items + 1) × (self.new.room ≡ self.old.room) }
+    {
+        let words = receipt_words(call, start, end, reply);
+        self.receipts.push(words.as_slice());
+    }
+
+    /// Appends the last receipt of another list, as it is packed there. There is room for it.
+    pub(crate) fn push_last_of(&mut self, other: &Receipts)
+        requires room { length self.old.items < self.old.room }
+        requires last { 0 < length other.now.items }
+        ensures items { (front : List AReceipt) (receipt : AReceipt) → other.now.items ≡ front ++ receipt ∷ [] → self.new.items ≡ self.old.items ++ receipt ∷ [] }
+        ensures room { (length self.new.items ≡ length self.old.items + 1) × (self.new.room ≡ self.old.room) }
+    {
+        let Some(words) = other.receipts.get(other.len() - 1) else {
+            unreachable!()
+        };
+        self.receipts.push(words.as_slice());
     }
 
     /// Whether these are the same receipts.

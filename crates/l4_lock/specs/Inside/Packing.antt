@@ -1,7 +1,7 @@
 -- Entries and receipts as words. (this profile's own)
 use Rattle.std.specs.Prelude.{ℕ, List, ◌∷◌, ◌++◌, Option, Some, IsTrue, is_some}
 use Rattle.std.specs.List.{flat_map, All}
-use Rattle.std.specs.Option.{option_to_list, option_map}
+use Rattle.std.specs.Option.{option_to_list}
 use Rattle.l4_packed.specs.Words.{◌>>=◌, word_at}
 use Rattle.l4_packed.specs.Codes.{step_code, answer_code, call_code, place_code, reply_code}
 use Rattle.l4_packed.specs.Reading.{step_at, answer_at, call_at, place_at, reply_at}

@@ -1,12 +1,13 @@
-use Rattle.std.proofs.Common.{◌≡◌, ◌++◌, ◌∷◌, [], ap, ◌∙◌, List, ℕ, append_assoc}
+use Rattle.std.proofs.Common.{◌≡◌, ◌++◌, ap, ◌∙◌, List, ℕ, append_assoc}
 use Rattle.l4_packed.specs.Codes.{call_code, place_code, reply_code}
+use Rattle.l4_lock.specs.declared.entries.Receipt.{Receipt}
 use Rattle.l4_lock.specs.Inside.Packing.{receipt_code, receipt_at}
 use Rattle.l4_lock.proofs.Packing.{receipt_again}
 use Rattle.l4_lock.proofs.packed.receipt_words.Goals as goal
 
 pub returns-clause-same : goal.returns-clause-same
 returns-clause-same c =
-    let receipt = c.args.receipt.now in
+    let receipt : Receipt = record { call = c.args.call.now; start = c.args.start; end = c.args.end; reply = c.args.reply.now } in
     let words : c.put_reply.new.out.items ≡ receipt_code receipt =
     c.put_reply.ensures.items
     ∙ ap (λ (t : List ℕ). t ++ reply_code receipt.reply)

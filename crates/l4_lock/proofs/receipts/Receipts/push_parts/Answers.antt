@@ -1,8 +1,9 @@
 use Rattle.std.proofs.Common.{◌≡◌, Some, length, sym, ap, subst, ◌∙◌, arith, List, ℕ}
+use Rattle.l4_lock.specs.declared.entries.Receipt.{Receipt}
 use Rattle.l4_lock.specs.Lists.{ReceiptList}
 use Rattle.l4_lock.specs.Inside.Packing.{receipt_at, AreRead}
 use Rattle.l4_lock.proofs.Packing.{length_read, are_read_more}
-use Rattle.l4_lock.proofs.receipts.Receipts.push.Goals as goal
+use Rattle.l4_lock.proofs.receipts.Receipts.push_parts.Goals as goal
 
 pub push-requires-clause-room : goal.push-requires-clause-room
 push-requires-clause-room c =
@@ -10,6 +11,7 @@ push-requires-clause-room c =
 
 pub invariant_of-self : goal.invariant_of-self
 invariant_of-self c =
-    let here : receipt_at c.as_slice.result.now ≡ Some c.args.receipt = ap receipt_at c.as_slice.ensures.value ∙ c.receipt_words.ensures.same in
+    let receipt : Receipt = record { call = c.args.call.now; start = c.args.start; end = c.args.end; reply = c.args.reply.now } in
+    let here : receipt_at c.as_slice.result.now ≡ Some receipt = ap receipt_at c.as_slice.ensures.value ∙ c.receipt_words-words.ensures.same in
     subst (λ (records : List (List ℕ)). AreRead receipt_at records) (sym c.push.ensures.records)
-    (are_read_more receipt_at c.self.inside.receipts.records c.as_slice.result.now c.args.receipt here c.self.invariant)
+    (are_read_more receipt_at c.self.inside.receipts.records c.as_slice.result.now receipt here c.self.invariant)
