@@ -271,8 +271,6 @@ typedef struct l4_page {
 /* The least present page of a space that is not below `page`. Refusals: B1. */
 l4_page l4_next_page(l4_kernel *kernel, uint64_t space, uint32_t page);
 
-/* PLANS. No handle is needed. */
-
 /* The pages from `source` on go to the pages from `target` on, `count` pages, with these rights. */
 typedef struct l4_region {
     uint32_t source;
@@ -280,6 +278,64 @@ typedef struct l4_region {
     uint32_t count;
     uint32_t rights;
 } l4_region;
+
+/* THE TABLES OF PAGERS */
+
+/* Which pages of its own a pager gives for the pages of those whom it serves: at most 64 regions, no target page of which is one of
+ * two. Source pages may be shared. */
+typedef struct l4_pager {
+    void *hidden;
+} l4_pager;
+
+/* Makes a table without a region. The handle is empty, and holds the table from then on; after a refusal it is as before. Refusals in
+ * this order: B2, NoMemory. */
+uint32_t l4_pager_new(l4_pager *pager);
+
+/* Frees a table. The handle is empty then. */
+void l4_pager_free(l4_pager *pager);
+
+/* Adds a region at the end. After a refusal nothing has changed. Refusals in this order: B1, P4, P1, P3. */
+uint32_t l4_pager_add(l4_pager *pager, const l4_region *region);
+
+/* The source page of a target page, where its region's rights hold those that the access needs; an access that needs none is held by
+ * each region. Refusals in this order: B1, P2. */
+l4_page l4_pager_find(l4_pager *pager, uint32_t page, uint32_t access);
+
+/* The words of a message that answers another, from the tag on. */
+typedef struct l4_message {
+    uint32_t refusal;
+    uint32_t detail;
+    uint32_t word_count;
+    uint32_t words[L4_MAX_WORDS];
+} l4_message;
+
+/* What the pager answers a message of this many words, from the tag on: to a page fault, the tag and two words of one map item, the
+ * source page with its region's rights, for the fault's page; a nil map item where l4_pager_find refuses the page, and to any other
+ * message. Words after the message mean nothing. Refusals in this order: B1, then those of the message (M7, M1, M5, M2, M4 or M3). */
+l4_message l4_pager_answer(l4_pager *pager, const uint32_t *words, size_t count);
+
+/* SIGMA0'S TABLE */
+
+/* Which space owns which frame. A frame that is given to a space is that space's for good. */
+typedef struct l4_sigma0 {
+    void *hidden;
+} l4_sigma0;
+
+/* Makes a table of 1 to 4,096 frames that no space owns. The handle is empty, and holds the table from then on; after a refusal it is as
+ * before. Refusals in this order: B2, K6, NoMemory. */
+uint32_t l4_sigma0_new(l4_sigma0 *sigma0, uint32_t frames);
+
+/* Frees a table. The handle is empty then. */
+void l4_sigma0_free(l4_sigma0 *sigma0);
+
+/* What sigma0 answers a message from a space, of this many words from the tag on. A request without attributes asks for the frames of
+ * its fpage's pages, and a page fault for the frame of its page; the frame of a page has the page's number. Where there are all of
+ * these, and each is nobody's or the space's, they are the space's from then on, and the answer is one map item of them with all rights,
+ * to the pages of the same numbers; anything else is answered by a nil map item, and changes nothing. Words after the message mean
+ * nothing. After a refusal nothing has changed. Refusals in this order: B1, then those of the message (M7, M1, M5, M2, M4 or M3). */
+l4_message l4_sigma0_answer(l4_sigma0 *sigma0, uint64_t space, const uint32_t *words, size_t count);
+
+/* PLANS. No handle is needed. */
 
 /* A plan: the words of the message, from the tag on, that sends its items, and with each item a page of its own. */
 typedef struct l4_plan {

@@ -73,6 +73,84 @@ static void empty_handles(void) {
     }
 }
 
+/* The words of a page fault at this byte. */
+static void fault_words(uint32_t words[3], uint32_t address, uint32_t access) {
+    words[0] = (0xffe0 + access) << 16 | 2;
+    words[1] = address;
+    words[2] = 0x1000;
+}
+
+/* The answer is one map item of these two words. */
+static int gives(l4_message answer, uint32_t base, uint32_t fpage) {
+    return answer.refusal == L4_OK && answer.word_count == 3 && answer.words[0] == 0x80 && answer.words[1] == (base | 8) && answer.words[2] == fpage
+        && answer.words[3] == 0;
+}
+
+static void empty_tables(void) {
+    l4_pager pager = L4_EMPTY;
+    l4_sigma0 sigma0 = L4_EMPTY;
+    l4_region region = {16, 32, 4, 5};
+    l4_pager_free(&pager);
+    l4_sigma0_free(&sigma0);
+    EXPECT(l4_pager_add(&pager, &region) == L4_B1);
+    EXPECT(l4_pager_find(&pager, 32, L4_READ).refusal == L4_B1);
+    EXPECT(l4_pager_answer(&pager, no_words, 1).refusal == L4_B1);
+    EXPECT(l4_sigma0_answer(&sigma0, 1, no_words, 1).refusal == L4_B1);
+}
+
+/* Pages 32 to 35 come from pages 16 to 19, to be read and executed. */
+static void pagers(void) {
+    l4_pager pager = L4_EMPTY;
+    l4_region region = {16, 32, 4, 5}, over = {0, 35, 1, 7}, bad = {0, 40, 0, 7}, one = {7, 0, 1, L4_READ};
+    uint32_t words[3], i;
+    EXPECT(l4_pager_new(&pager) == L4_OK && l4_pager_new(&pager) == L4_B2);
+    EXPECT(l4_pager_add(&pager, &region) == L4_OK && l4_pager_add(&pager, &over) == L4_P1 && l4_pager_add(&pager, &bad) == L4_P4);
+    bad.count = 1;
+    bad.rights = 8;
+    EXPECT(l4_pager_add(&pager, &bad) == L4_P4);
+    EXPECT(l4_pager_find(&pager, 33, L4_READ).there == 1 && l4_pager_find(&pager, 33, L4_READ).page == 17);
+    EXPECT(l4_pager_find(&pager, 33, L4_WRITE).refusal == L4_P2 && l4_pager_find(&pager, 36, 0).refusal == L4_P2);
+    fault_words(words, 0x21123, L4_READ);
+    EXPECT(gives(l4_pager_answer(&pager, words, 3), 0x21000, 0x110c5));
+    EXPECT(l4_pager_answer(&pager, words, 2).refusal == L4_M7);
+    words[0] |= 0x1000;
+    EXPECT(l4_pager_answer(&pager, words, 3).refusal == L4_M5);
+    fault_words(words, 0x24000, L4_READ);
+    EXPECT(gives(l4_pager_answer(&pager, words, 3), 0, 0));
+    EXPECT(gives(l4_pager_answer(&pager, no_words, 1), 0, 0));
+    for (i = 1; i < L4_MAX_REGIONS; i++) {
+        one.target = 100 + i;
+        EXPECT(l4_pager_add(&pager, &one) == L4_OK);
+    }
+    one.target = 99;
+    EXPECT(l4_pager_add(&pager, &one) == L4_P3);
+    l4_pager_free(&pager);
+    l4_pager_free(&pager);
+    EXPECT(l4_pager_new(&pager) == L4_OK && l4_pager_find(&pager, 33, L4_READ).refusal == L4_P2);
+    l4_pager_free(&pager);
+}
+
+/* A request for 8 pages of frames from 16 on, and faults. */
+static void sigma0s(void) {
+    static const uint32_t request[3] = {0xffa00002, 0x100f0, 0}, with_attributes[3] = {0xffa00002, 0x100f0, 1};
+    l4_sigma0 sigma0 = L4_EMPTY;
+    uint32_t words[3];
+    EXPECT(l4_sigma0_new(&sigma0, 0) == L4_K6 && l4_sigma0_new(&sigma0, L4_MAX_FRAMES + 1) == L4_K6);
+    EXPECT(l4_sigma0_new(&sigma0, 24) == L4_OK && l4_sigma0_new(&sigma0, 24) == L4_B2);
+    EXPECT(gives(l4_sigma0_answer(&sigma0, 1, with_attributes, 3), 0, 0));
+    EXPECT(l4_sigma0_answer(&sigma0, 1, request, 2).refusal == L4_M7);
+    fault_words(words, 0x10004, L4_WRITE);
+    EXPECT(gives(l4_sigma0_answer(&sigma0, 2, words, 3), 0x10000, 0x100c7));
+    EXPECT(gives(l4_sigma0_answer(&sigma0, 1, request, 3), 0, 0));
+    EXPECT(gives(l4_sigma0_answer(&sigma0, 2, request, 3), 0x10000, 0x100f7));
+    EXPECT(gives(l4_sigma0_answer(&sigma0, 1, words, 3), 0, 0));
+    fault_words(words, 0x18000, L4_WRITE);
+    EXPECT(gives(l4_sigma0_answer(&sigma0, 1, words, 3), 0, 0));
+    l4_sigma0_free(&sigma0);
+    EXPECT(l4_sigma0_new(&sigma0, L4_MAX_FRAMES) == L4_OK && gives(l4_sigma0_answer(&sigma0, 1, request, 3), 0x10000, 0x100f7));
+    l4_sigma0_free(&sigma0);
+}
+
 static void boots(void) {
     l4_kernel kernel = L4_EMPTY, other = L4_EMPTY;
     EXPECT(l4_boot(&kernel, 0) == L4_K6);
@@ -263,6 +341,9 @@ int main(int count, char **words) {
     l4_kernel kernel = L4_EMPTY;
     empty_handles();
     boots();
+    empty_tables();
+    pagers();
+    sigma0s();
     EXPECT(l4_boot(&kernel, 256) == L4_OK);
     delivers(&kernel);
     calls(&kernel);

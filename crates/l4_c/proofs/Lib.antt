@@ -1,6 +1,9 @@
 pub mod Few
 pub mod Following
 pub mod Holding
+pub mod KernelValues
 pub mod Lists
+pub mod PagerValues
+pub mod Sigma0Values
 pub mod Steps
 pub mod Values

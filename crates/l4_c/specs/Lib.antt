@@ -1,6 +1,7 @@
 pub mod Asked
 pub mod Called
 pub mod Exports
-pub mod Held
+pub mod Inside
 pub mod Planned
+pub mod Served
 pub mod Told

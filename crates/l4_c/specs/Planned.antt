@@ -12,7 +12,7 @@ use Rattle.l4_plan_check.specs.declared.faults.Fault.{Fault as AFault}
 use Rattle.l4_plan_check.specs.declared.faults.Fault.TheVariants.{Region as InRegion, Item as InItem, Gap, Count, Page, Pair}
 use Rattle.l4_answers.specs.Refusals.{message_refusal}
 use Rattle.l4_c.specs.Told.{spelled, carried}
-use Rattle.l4_c.specs.declared.planning.RegionGiven.{RegionGiven}
+use Rattle.l4_c.specs.declared.regions.RegionGiven.{RegionGiven}
 use Rattle.l4_c.specs.declared.planning.PlanResult.{PlanResult}
 use Rattle.l4_c.specs.declared.planning.Verdict.{Verdict}
 

@@ -22,9 +22,10 @@ pub struct KernelHandle {
 impl Model for KernelHandle {
     ghost use Rattle.std.specs.Prelude.{Option};
     ghost use Rattle.l4_ipc.specs.Machine.{Machine};
-    ghost use Rattle.l4_c.specs.Held.{held};
+    ghost use Rattle.l4_c.specs.Inside.Held.{held};
+    ghost use Rattle.l4_ipc.specs.contracts.kernel.Kernel as kernel;
 
-    ghost also_owns = { λ h. held h.hidden h.value };
+    ghost also_owns = { λ h. held kernel.the_row h.hidden h.value };
 }
 
 impl KernelHandle {

@@ -17,6 +17,9 @@ pub const HELD: u32 = 0x4232;
 /// B3: there is no such kind of call.
 pub const NO_SUCH_CALL: u32 = 0x4233;
 
+/// K6: a machine has 1 to 4,096 frames.
+pub const BAD_FRAMES: u32 = 0x4b36;
+
 /// NoMemory.
 pub const NO_MEMORY: u32 = 0x4e6f;
 
@@ -104,7 +107,7 @@ pub fn kernel_number(refused: Refused) -> u32
         Refused::Lower(Lower::Unmap(fault)) => unmap_number(fault),
         Refused::Lower(Lower::Thread(fault)) => thread_number(fault),
         Refused::Lower(Lower::NoMemory) => NO_MEMORY,
-        Refused::BadFrames => 0x4b36,
+        Refused::BadFrames => BAD_FRAMES,
     }
 }
 

@@ -3,23 +3,13 @@ ghost use Rattle.std.specs.Prelude.{◌≡◌, ℕ, ◌≤◌, length, take, cod
 ghost use Rattle.l4_c.specs.Told.{spelled};
 ghost use Rattle.l4_c.specs.Planned.{region_of, IsPlace, PlanIsTold, TellsPlan, TellsCheck, TellsLongCheck, TellsFault};
 
-use crate::calls::rights;
 use crate::numbers::{message_detail, message_number};
+use crate::regions::{RegionGiven, region_of};
 use crate::results::padded;
 use l4_ipc::{MAX_WORDS, Message};
-use l4_msg::{Region, TOO_MANY};
+use l4_msg::TOO_MANY;
 use l4_plan::{Plan, PlanRefusal, plan};
 use l4_plan_check::{Fault, Proved, check, check_too_long};
-
-/// A region as C gives it.
-#[repr(C)]
-#[derive(Clone, Copy)]
-pub struct RegionGiven {
-    pub source: u32,
-    pub target: u32,
-    pub count: u32,
-    pub rights: u32,
-}
 
 /// A plan.
 #[repr(C)]
@@ -38,18 +28,6 @@ pub struct PlanResult {
 pub struct Verdict {
     pub refusal: u32,
     pub detail: u32,
-}
-
-/// The region that is given.
-fn region_of(given: &RegionGiven) -> Region
-    ensures { result ≡ region_of given.now }
-{
-    Region {
-        source: given.source,
-        target: given.target,
-        count: given.count,
-        rights: rights(given.rights),
-    }
 }
 
 /// No plan, for this refusal.

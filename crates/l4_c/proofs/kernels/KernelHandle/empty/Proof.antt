@@ -17,7 +17,8 @@ use Rattle.std.specs.Prelude.{None}
 use Rattle.l4_c.specs.contracts.kernels.KernelHandle.empty as f
 use Rattle.l4_c.proofs.kernels.KernelHandle.empty.Statement.{statement}
 use Rattle.l4_c.proofs.kernels.KernelHandle.empty.Code as code
-use Rattle.l4_c.proofs.Holding.{one, handle_in}
+use Rattle.l4_c.proofs.Holding.{one}
+use Rattle.l4_c.proofs.KernelValues.{handle_in}
 
 pub empty_spec : {M : Type 1} → statement M
 empty_spec 𝓤 𝓛 𝓜 𝓡 wired =

@@ -36,7 +36,8 @@ use Rattle.l4_c.specs.contracts.kernels.KernelHandle.into_loose.Key.{name as #se
 use Rattle.l4_c.proofs.kernels.KernelHandle.into_loose.Statement.{statement}
 use Rattle.l4_c.proofs.kernels.KernelHandle.into_loose.Code as code
 use Rattle.l4_c.proofs.Values.{both, Loose, al, loose_good, loose_in}
-use Rattle.l4_c.proofs.Holding.{one, handle_out, either_held}
+use Rattle.l4_c.proofs.Holding.{one, either_held}
+use Rattle.l4_c.proofs.KernelValues.{handle_out}
 
 pub into_loose_spec : {M : Type 1} → statement M
 into_loose_spec 𝓤 𝓛 𝓜 𝓡 wired =
@@ -51,7 +52,7 @@ into_loose_spec 𝓤 𝓛 𝓜 𝓡 wired =
     -- [the allocator; nothing; what the handle held; ..]
     move ! (2 ∷ []) $
     suffices ! (Run (one d.hidden ∷ h ∷ [])) (subst (λ (us : List Val). ent 𝓤 (Run (one d.hidden ∷ h ∷ [])) (Run us)) (sym (λ i. e i ++ (eh i ++ []))) (id⊢ 𝓤 (Run (one d.hidden ∷ h ∷ [])))) $
-    either_held ! d.hidden d.value
+    either_held R ! d.hidden d.value
     (λ is is_none. suffices ! (Run (one null_ptr ∷ h ∷ [])) (subst (λ (p : Ptr). ent 𝓤 (Run (one null_ptr ∷ h ∷ [])) (Run (one p ∷ h ∷ []))) (sym is) (id⊢ 𝓤 (Run (one null_ptr ∷ h ∷ [])))) $
     enter ! 𝓣.C 𝓣.Λ code.function (one null_ptr ∷ h ∷ []) Post $ alloc_all ! (λ l. pass_all ! refl ((tt, (record { fits = lit< tt }, tt)), (fits, tt)) $ let Ev = env code.function.locals l in
     sets ! (of_opd ! (get_in ! (fld ! refl (stop !)) (sub ! 0 refl (whole !)))) refl (tt, record { fits = lit< tt }) $ sets ! (bin ! (get ! refl) (lit ! tt) tt) refl (tt, tt) $ first ! $ branches ! (get ! refl)

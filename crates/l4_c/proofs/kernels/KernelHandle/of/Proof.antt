@@ -28,7 +28,8 @@ use Rattle.l4_c.specs.contracts.kernels.KernelHandle.of.Key.{name as #self}
 use Rattle.l4_c.proofs.kernels.KernelHandle.of.Statement.{statement}
 use Rattle.l4_c.proofs.kernels.KernelHandle.of.Code as code
 use Rattle.l4_c.proofs.Values.{both, Loose, loose_good, loose_out}
-use Rattle.l4_c.proofs.Holding.{one, handle_in}
+use Rattle.l4_c.proofs.Holding.{one}
+use Rattle.l4_c.proofs.KernelValues.{handle_in}
 
 pub of_spec : {M : Type 1} → statement M
 of_spec 𝓤 𝓛 𝓜 𝓡 wired =

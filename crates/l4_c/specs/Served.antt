@@ -1,0 +1,86 @@
+-- The tables of pagers and of sigma0 as C has them (this profile's own).
+use Rattle.std.specs.Prelude.{◌≡◌, ◌⊎◌, ℕ, ◌<◌, ◌≤◌, List, [], ◌∷◌, ◌++◌, length, take, codes, Option, None, Some, MatchOption}
+use Rattle.std.specs.FinMap as fin
+use Rattle.l4_fpage.specs.Rights.{set_of_bits}
+use Rattle.l4_msg.specs.Messages.{MessageReads, MessageFails, message_words}
+use Rattle.l4_msg.specs.declared.messages.Message.{Message}
+use Rattle.l4_msg.specs.declared.messages.MsgFault.{MsgFault}
+use Rattle.l4_pager.specs.Regions.{CanAdd, AddFails, entry_for, source_of, Answers as AnswersByTable}
+use Rattle.l4_pager.specs.declared.regions.Entry.{Entry}
+use Rattle.l4_pager.specs.declared.regions.PagerRefusal.{PagerRefusal}
+use Rattle.l4_pager.specs.declared.regions.PagerRefusal.TheVariants.{Overlap, NoRegion, Full, BadRegion}
+use Rattle.l4_sigma0.specs.Owners.{Owners, Answers as AnswersByOwners}
+use Rattle.l4_answers.specs.Refusals.{message_refusal}
+use Rattle.l4_c.specs.Told.{spelled, carried}
+use Rattle.l4_c.specs.declared.regions.RegionGiven.{RegionGiven}
+use Rattle.l4_c.specs.declared.results.PageResult.{PageResult}
+use Rattle.l4_c.specs.declared.messages.MessageResult.{MessageResult}
+
+abbrev pub entry_refusal : PagerRefusal → ℕ
+entry_refusal Overlap = spelled (codes "P1")
+entry_refusal NoRegion = spelled (codes "P2")
+entry_refusal Full = spelled (codes "P3")
+entry_refusal BadRegion = spelled (codes "P4")
+
+-- the region as an entry of a table: its target pages are those that are served
+abbrev pub entry_of : RegionGiven → Entry
+entry_of g = record { first = g.target; source = g.source; count = g.count; rights = set_of_bits g.rights }
+
+-- a handle that is empty holds a table without an entry from then on, or there was no memory for it; one that holds a table keeps it (B2)
+abbrev pub MakesTable : Option (List Entry) → ℕ → Option (List Entry) → Type 0
+MakesTable (Some es) number new = (number ≡ spelled (codes "B2")) × (new ≡ Some es)
+MakesTable None number new = ((number ≡ 0) × (new ≡ Some [])) ⊎ ((number ≡ spelled (codes "NoMemory")) × (new ≡ None))
+
+-- the region is added at the end of the table, or it is refused and nothing changes
+abbrev pub Adds : Option (List Entry) → RegionGiven → ℕ → Option (List Entry) → Type 0
+Adds None g number new = (number ≡ spelled (codes "B1")) × (new ≡ None)
+Adds (Some es) g number new =
+    (CanAdd es (entry_of g) × (number ≡ 0) × (new ≡ Some (es ++ entry_of g ∷ [])))
+    ⊎ ((refusal : PagerRefusal) × AddFails es (entry_of g) refusal × (number ≡ entry_refusal refusal) × (new ≡ Some es))
+
+-- the source page of a page whose entry holds the access, or there is none (P2)
+abbrev pub FindsSource : Option (List Entry) → ℕ → ℕ → PageResult → Type 0
+FindsSource None page access r = (r.refusal ≡ spelled (codes "B1")) × (r.there ≡ 0) × (r.page ≡ 0)
+FindsSource (Some es) page access r =
+    MatchOption (entry_for es page (set_of_bits access)) ((r.refusal ≡ spelled (codes "P2")) × (r.there ≡ 0) × (r.page ≡ 0))
+    (λ e. (r.refusal ≡ 0) × (r.there ≡ 1) × (r.page ≡ source_of e page))
+
+-- a refusal with its number, and no word
+pub record TellsNoMessage (code number : ℕ) (r : MessageResult) : Type 0 where
+  pub refusal : r.refusal ≡ code
+  pub detail : r.detail ≡ number
+  pub count : r.word_count ≡ 0
+
+-- the words of a message
+pub record TellsMessage (m : Message) (r : MessageResult) : Type 0 where
+  pub refusal : r.refusal ≡ 0
+  pub detail : r.detail ≡ 0
+  pub words : take r.word_count r.words ≡ message_words m
+  pub count : r.word_count ≡ length (message_words m)
+
+-- the words are no message, and which is told
+abbrev pub TellsUnread : List ℕ → MessageResult → Type 0
+TellsUnread words r = (fault : MsgFault) × MessageFails words fault × TellsNoMessage (spelled (message_refusal fault).name) (carried (message_refusal fault).number) r
+
+-- the words are a message, which is answered by the table
+abbrev pub TellsTablesAnswer : Option (List Entry) → List ℕ → MessageResult → Type 0
+TellsTablesAnswer None words r = TellsNoMessage (spelled (codes "B1")) 0 r
+TellsTablesAnswer (Some es) words r =
+    TellsUnread words r
+    ⊎ ((m : Message) × MessageReads words m × (answer : Message) × AnswersByTable es m answer × TellsMessage answer r)
+
+-- A handle that is empty holds a table of so many frames that nobody owns from then on, or there was no memory for it or not 1 to 4,096
+-- frames (K6). One that holds a table keeps it (B2).
+abbrev pub MakesOwners : Option Owners → ℕ → ℕ → Option Owners → Type 0
+MakesOwners (Some old) frames number new = (number ≡ spelled (codes "B2")) × (new ≡ Some old)
+MakesOwners None frames number new =
+    ((1 ≤ frames) × (frames ≤ 4096) × (number ≡ 0) × (new ≡ Some (record { frames = frames; owner = fin.empty })))
+    ⊎ (((frames ≡ 0) ⊎ (4096 < frames)) × (number ≡ spelled (codes "K6")) × (new ≡ None))
+    ⊎ ((1 ≤ frames) × (frames ≤ 4096) × (number ≡ spelled (codes "NoMemory")) × (new ≡ None))
+
+-- the words are a message of the space, which sigma0 answers; after a refusal nothing has changed
+abbrev pub TellsSigma0sAnswer : Option Owners → ℕ → List ℕ → MessageResult → Option Owners → Type 0
+TellsSigma0sAnswer None space words r new = TellsNoMessage (spelled (codes "B1")) 0 r × (new ≡ None)
+TellsSigma0sAnswer (Some old) space words r new =
+    (TellsUnread words r × (new ≡ Some old))
+    ⊎ ((m : Message) × MessageReads words m × (answer : Message) × (after : Owners) × AnswersByOwners old space m answer after × TellsMessage answer r × (new ≡ Some after))

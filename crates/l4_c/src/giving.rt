@@ -1,0 +1,67 @@
+//! sigma0's tables.
+ghost use Rattle.std.specs.Prelude.{◌≡◌, None, Some};
+ghost use Rattle.l4_c.specs.Served.{MakesOwners, TellsSigma0sAnswer};
+
+use crate::messages::{MessageResult, message_told, no_message, unread};
+use crate::numbers::{BAD_FRAMES, EMPTY, HELD, NO_MEMORY};
+use crate::sigma0s::Sigma0Handle;
+use l4_ipc::Message;
+use l4_sigma0::{MAX_FRAMES, Sigma0};
+use std::alloc::Global;
+
+/// Makes a table of frames that nobody owns.
+#[unsafe(no_mangle)]
+pub extern "C" fn l4_sigma0_new(alloc: Global, handle: &mut Sigma0Handle, frames: u32) -> u32
+    ensures { MakesOwners handle.old.value frames result handle.new.value }
+{
+    if let Some(table) = handle.take(alloc) {
+        handle.put(table);
+        return HELD;
+    }
+    if frames == 0 || frames > MAX_FRAMES as u32 {
+        return BAD_FRAMES;
+    }
+    match Box::new(alloc, Sigma0::new(frames)) {
+        Ok(table) => {
+            handle.put(table);
+            0
+        }
+        Err(_) => NO_MEMORY,
+    }
+}
+
+/// Frees a table.
+#[unsafe(no_mangle)]
+pub extern "C" fn l4_sigma0_free(alloc: Global, handle: &mut Sigma0Handle)
+    ensures { handle.new.value ≡ None }
+{
+    let _table = handle.take(alloc);
+}
+
+/// The answer of a table to words that are a message from a space.
+fn answer(table: &mut Sigma0, space: u64, words: &[u32]) -> MessageResult
+    ensures { TellsSigma0sAnswer (Some table.old) space words.now result (Some table.new) }
+{
+    match Message::read(words) {
+        Ok(message) => message_told(&table.answer(space, &message)),
+        Err(fault) => unread(fault),
+    }
+}
+
+/// Answers a message from a space.
+#[unsafe(no_mangle)]
+pub extern "C" fn l4_sigma0_answer(
+    alloc: Global,
+    handle: &mut Sigma0Handle,
+    space: u64,
+    words: &[u32],
+) -> MessageResult
+    ensures { TellsSigma0sAnswer handle.old.value space words.now result handle.new.value }
+{
+    let Some(mut table) = handle.take(alloc) else {
+        return no_message(EMPTY, 0);
+    };
+    let told = answer(&mut table, space, words);
+    handle.put(table);
+    told
+}

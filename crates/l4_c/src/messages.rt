@@ -1,0 +1,52 @@
+//! Messages that answer others.
+ghost use Rattle.std.specs.Prelude.{◌≡◌, ℕ, List};
+ghost use Rattle.l4_msg.specs.Messages.{CanBeWritten, MessageFails};
+ghost use Rattle.l4_c.specs.Served.{TellsNoMessage, TellsMessage, TellsUnread};
+
+use crate::numbers::{message_detail, message_number};
+use crate::results::padded;
+use l4_ipc::{MAX_WORDS, Message};
+use l4_msg::MsgFault;
+
+/// The words of an answer, or why there is none.
+#[repr(C)]
+#[derive(Clone, Copy)]
+pub struct MessageResult {
+    pub refusal: u32,
+    pub detail: u32,
+    pub word_count: u32,
+    pub words: [u32; MAX_WORDS],
+}
+
+/// No message, for this refusal.
+pub fn no_message(refusal: u32, detail: u32) -> MessageResult
+    ensures { TellsNoMessage refusal detail result }
+{
+    MessageResult {
+        refusal,
+        detail,
+        word_count: 0,
+        words: [0; MAX_WORDS],
+    }
+}
+
+/// Words that are no message.
+pub fn unread(fault: MsgFault) -> MessageResult
+    ensures { (words : List ℕ) → MessageFails words fault → TellsUnread words result }
+{
+    no_message(message_number(fault), message_detail(fault))
+}
+
+/// The words of a message.
+pub fn message_told(message: &Message) -> MessageResult
+    requires { CanBeWritten message.now }
+    ensures { TellsMessage message.now result }
+{
+    let words = message.write();
+    MessageResult {
+        refusal: 0,
+        detail: 0,
+        word_count: words.len() as u32,
+        words: padded(words.as_slice()),
+    }
+}

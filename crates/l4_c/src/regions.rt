@@ -1,0 +1,42 @@
+//! Regions as C gives them.
+ghost use Rattle.std.specs.Prelude.{◌≡◌};
+ghost use Rattle.l4_c.specs.Planned.{region_of};
+ghost use Rattle.l4_c.specs.Served.{entry_of};
+
+use crate::calls::rights;
+use l4_msg::Region;
+use l4_pager::Entry;
+
+/// A region as C gives it.
+#[repr(C)]
+#[derive(Clone, Copy)]
+pub struct RegionGiven {
+    pub source: u32,
+    pub target: u32,
+    pub count: u32,
+    pub rights: u32,
+}
+
+/// The region that is given.
+pub fn region_of(given: &RegionGiven) -> Region
+    ensures { result ≡ region_of given.now }
+{
+    Region {
+        source: given.source,
+        target: given.target,
+        count: given.count,
+        rights: rights(given.rights),
+    }
+}
+
+/// The region that is given, as an entry of a pager's table.
+pub fn entry_of(given: &RegionGiven) -> Entry
+    ensures { result ≡ entry_of given.now }
+{
+    Entry {
+        first: given.target,
+        source: given.source,
+        count: given.count,
+        rights: rights(given.rights),
+    }
+}
