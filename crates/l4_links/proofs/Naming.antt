@@ -16,7 +16,7 @@ use Rattle.l4_links.specs.declared.Place.{Place}
 use Rattle.l4_links.specs.declared.Entry.{Entry}
 use Rattle.l4_links.specs.declared.nodes.Node.{Node}
 use Rattle.l4_links.specs.declared.nodes.Slot.{Slot}
-use Rattle.l4_links.specs.Entries.{entry_at, IsAt, HasKey, NoKeyFrom, IsNextKey, NoKeyIn, IsNextKeyIn, HavePlaces}
+use Rattle.l4_links.specs.Entries.{entry_at, IsAt, HasKey, NoKeyFrom, IsNextKey, NoKeyIn, IsNextKeyIn, IsKeyOf, HavePlaces}
 use Rattle.l4_links.specs.Inside.Nodes.{Slots, Spot, slot_at, spots, IsOf, SetsWanted, Gives, TakesOver}
 use Rattle.l4_links.specs.Inside.Keeping.{entry_of, entries_of, IsIndexed}
 use Rattle.l4_links.proofs.Writes.{spot_of}
@@ -423,15 +423,24 @@ next_is slots t space page (Some next) i h = record {
   least = λ other le k. h.least other le (present slots t i space other k);
 }
 
-pub next_in_is : (slots : Slots) (t : Tables) (space page end : ℕ) (r : Option ℕ) → IsIndexed slots t → MatchOption r (NonePresentIn t space page end) (IsNextIn t space page end)
-    → MatchOption r (NoKeyIn (entries_of slots) space page end) (IsNextKeyIn (entries_of slots) space page end)
+next_found : (slots : Slots) (t : Tables) (space page end next key : ℕ) → IsIndexed slots t → IsNextIn t space page end next → tables.key_of t space next ≡ Some key
+    → IsNextKeyIn (entries_of slots) space page end next × IsKeyOf (entries_of slots) (record { space = space; page = next }) key
+next_found slots t space page end next key i h is =
+    let at = find_is slots t (record { space = space; page = next }) (Some key) i (sym is) in
+    (record {
+      there = has_key slots t i space next h.present;
+      from = h.from;
+      before = h.before;
+      least = λ other le k. h.least other le (present slots t i space other k);
+    }, λ other. (λ e. (at other).0 (ap (λ (k : ℕ). Some k) (sym e)), λ a. sym (some_same ((at other).1 a))))
+  where
+    some_same : {a b : ℕ} → ◌≡◌ {A = Option ℕ} (Some a) (Some b) → a ≡ b
+    some_same h = cc
+
+pub next_in_is : (slots : Slots) (t : Tables) (space page end : ℕ) (r : Option (ℕ × ℕ)) → IsIndexed slots t → MatchOption r (NonePresentIn t space page end) (λ found. IsNextIn t space page end found.0 × (tables.key_of t space found.0 ≡ Some found.1))
+    → MatchOption r (NoKeyIn (entries_of slots) space page end) (λ found. IsNextKeyIn (entries_of slots) space page end found.0 × IsKeyOf (entries_of slots) (record { space = space; page = found.0 }) found.1)
 next_in_is slots t space page end None i h = λ other le lt k. h other le lt (present slots t i space other k)
-next_in_is slots t space page end (Some next) i h = record {
-  there = has_key slots t i space next h.present;
-  from = h.from;
-  before = h.before;
-  least = λ other le k. h.least other le (present slots t i space other k);
-}
+next_in_is slots t space page end (Some found) i h = next_found slots t space page end found.0 found.1 i h.0 h.1
 
 -- what holds of the pages at all times
 pub have_places : (slots : Slots) (t : Tables) → IsIndexed slots t → HavePlaces (record { entries = entries_of slots; spaces = t.spaces })

@@ -64,6 +64,10 @@ parent_of s key = option_and_then (λ (t : Standing). t.parent) (standing_at s k
 abbrev pub IsAt : Entries → Place → ℕ → Type 0
 IsAt s place key = option_map {T = Entry} (λ e. e.place) (entry_at s key) ≡ Some place
 
+-- the key, and no other, is of the page
+abbrev pub IsKeyOf : Entries → Place → ℕ → Type 0
+IsKeyOf s place key = (other : ℕ) → (other ≡ key) ↔ IsAt s place other
+
 -- the page has a key
 abbrev pub HasKey : Entries → ℕ → ℕ → Type 0
 HasKey s space page = (key : ℕ) × IsAt s (record { space = space; page = page }) key

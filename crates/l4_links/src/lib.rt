@@ -92,7 +92,7 @@ impl Model for Links {
 }
 
 impl Links {
-    ghost use Rattle.l4_links.specs.Entries.{entry_at, standing_at, IsStanding, IsBlank, IsAt, IsSource, HaveRights, HavePlaces, AreTrees, NoKeyFrom, IsNextKey, NoKeyIn, IsNextKeyIn, Descends, AddsBlank, Stands, Sprouts, Clears, Buries, CapsBelow, CapsTree, SetsSource, SetsPlain, SetsWanted, TakesOver};
+    ghost use Rattle.l4_links.specs.Entries.{entry_at, standing_at, IsStanding, IsBlank, IsAt, IsSource, HaveRights, HavePlaces, AreTrees, NoKeyFrom, IsNextKey, NoKeyIn, IsNextKeyIn, IsKeyOf, Descends, AddsBlank, Stands, Sprouts, Clears, Buries, CapsBelow, CapsTree, SetsSource, SetsPlain, SetsWanted, TakesOver};
     ghost use Rattle.l4_links.specs.declared.Standing.{Standing as AStanding};
 
     /// No page, and no space.
@@ -142,11 +142,13 @@ impl Links {
         self.pages.next_present(space, page)
     }
 
-    /// The least page of the space with a key that is not below `page`, if it is below `end`. Nothing from `end` on is looked at.
-    pub fn next_key_in(&self, space: u64, page: u32, end: u32) -> Option<u32>
-        ensures { MatchOption result (NoKeyIn self.now.entries space page end) (IsNextKeyIn self.now.entries space page end) }
+    /// The least page of the space with a key that is not below `page`, and its key, if it is below `end`. Nothing from `end` on is
+    /// looked at.
+    pub fn next_key_in(&self, space: u64, page: u32, end: u32) -> Option<(u32, usize)>
+        ensures { MatchOption result (NoKeyIn self.now.entries space page end)
+            (λ found. IsNextKeyIn self.now.entries space page end found.0 × IsKeyOf self.now.entries (record { space = space; page = found.0 }) found.1) }
     {
-        self.pages.next_in(space, page, end)
+        self.pages.next_node(space, page, end)
     }
 
     /// A number that all keys lie below.

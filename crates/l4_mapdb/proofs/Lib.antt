@@ -1,5 +1,6 @@
 pub mod Absent
 pub mod Along
+pub mod Waiting
 pub mod Clashing
 pub mod Climbing
 pub mod Ended

@@ -68,6 +68,9 @@ entry_of s key p h =
       | Some e ↦ λ at is. (e, at, same_value is)
     ] refl h
 
+pub at_there : (s : Entries) (key : ℕ) (p : LinkPlace) → IsAt s p key → entry_at s key ≢ None
+at_there s key p h none = let k : ◌≡◌ {A = Option LinkPlace} None (Some p) = sym (ap (option_map {T = Entry} (λ x. x.place)) none) ∙ h in cc
+
 -- the item of a used move
 pub one_by : (items : List ItemMove) (i : ℕ) (a b : ItemMove) → slice_get items i ≡ Some a → slice_get items i ≡ Some b → a ≡ b
 one_by items i a b x y = same_value (sym x ∙ y)

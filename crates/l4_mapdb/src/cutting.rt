@@ -2,12 +2,11 @@
 
 ghost use Rattle.std.specs.Prelude.{◌≡◌, ◌+◌, ◌^◌, ◌≤◌, ◌<◌, ℕ, length};
 ghost use Rattle.l4_fpage.specs.Pages.{space_pages};
-ghost use Rattle.l4_links.specs.Entries.{IsAt};
 ghost use Rattle.l4_mapdb.specs.Inside.Cutting.{Capped, IsGrantedAt, IsGrantOf, IsGrantBy, IsGrantBelow};
 
 use crate::ItemMove;
 use l4_fpage::{Block, Rights};
-use l4_links::{Links, Place};
+use l4_links::Links;
 
 /// The page after a block's last one.
 pub(crate) fn end_of(block: Block) -> u32
@@ -17,15 +16,12 @@ pub(crate) fn end_of(block: Block) -> u32
     block.first + (1 << block.log)
 }
 
-/// Cuts what stands at the page and what descends from it, if an item of these rights granted it there.
-fn cut_page(links: &mut Links, place: Place, rights: Rights)
-    ensures capped { Capped (λ key. IsAt links.old.entries place key × IsGrantedAt links.old.entries key rights) links.old.entries links.new.entries }
+/// Cuts what stands under the key and what descends from it, if an item of these rights granted it there.
+fn cut_key(links: &mut Links, key: usize, rights: Rights)
+    ensures capped { Capped (λ other. (other ≡ key) × IsGrantedAt links.old.entries other rights) links.old.entries links.new.entries }
     ensures spaces { links.new.spaces ≡ links.old.spaces }
 {
     links.law_trees();
-    let Some(key) = links.find(place) else {
-        return;
-    };
     let Some(standing) = links.standing(key) else {
         return;
     };
@@ -49,10 +45,10 @@ fn cut_item(links: &mut Links, to: u64, by: &ItemMove)
     let end = end_of(by.mv.target);
     let mut start = by.mv.target.first;
     loop {
-        let Some(page) = links.next_key_in(to, start, end) else {
+        let Some((page, key)) = links.next_key_in(to, start, end) else {
             return;
         };
-        cut_page(links, Place { space: to, page }, by.rights);
+        cut_key(links, key, by.rights);
         start = page + 1;
     }
 }

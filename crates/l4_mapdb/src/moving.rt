@@ -1,7 +1,8 @@
 //! The used moves of a message are carried out: pages that are mapped get children, pages that are granted another place.
 
 ghost use Rattle.std.specs.Prelude.{MatchOption, ◌≡◌, ◌+◌, ◌^◌, ◌⊎◌, ◌<◌, ◌≤◌, ℕ, List, length, slice_get, Some, true, false};
-ghost use Rattle.l4_links.specs.Entries.{Linked};
+ghost use Rattle.l4_links.specs.declared.Place.{Place as ALinkPlace};
+ghost use Rattle.l4_links.specs.Entries.{Linked, IsAt, IsKeyOf};
 ghost use Rattle.l4_mapdb.specs.Inside.Placing.{IsStart, Placed, IsDone, MovesPage, IsSourceAt, MovesNone, HasBlank};
 
 use crate::ItemMove;
@@ -9,34 +10,30 @@ use crate::cutting::end_of;
 use l4_fpage::Rights;
 use l4_links::{Links, Place};
 
-/// The key of a page that a message moves: what stands there is marked and was not granted, and shares a right with the item.
-fn source_at(links: &Links, place: Place, rights: Rights) -> Option<usize>
-    ensures { MatchOption result (MovesNone place rights links.now.entries) (IsSourceAt links.now.entries place rights) }
+/// Whether a message moves the page of the key: what stands there is marked and was not granted, and shares a right with the item.
+fn is_moved(links: &Links, key: usize, rights: Rights) -> bool
+    ensures yes { result ≡ true → (place : ALinkPlace) → IsAt links.now.entries place key → IsSourceAt links.now.entries place rights key }
+    ensures no { result ≡ false → (place : ALinkPlace) → IsKeyOf links.now.entries place key → MovesNone place rights links.now.entries }
 {
-    let Some(key) = links.find(place) else {
-        return None;
-    };
     let Some(standing) = links.standing(key) else {
-        return None;
+        return false;
     };
     if !standing.source || standing.granted.is_some() {
-        return None;
+        return false;
     }
-    if standing.rights.intersection(rights).is_empty() {
-        return None;
-    }
-    Some(key)
+    !standing.rights.intersection(rights).is_empty()
 }
 
-/// Moves the page, if it is moved: what stands at the source stands at the target then where it is granted, and else a child of it does.
-fn move_page(links: &mut Links, source: Place, target: Place, rights: Rights, grants: bool)
-    requires blank { HasBlank source target rights links.old.entries }
-    ensures moves { MovesPage grants source target rights links.old.entries links.new.entries ⊎ (MovesNone source rights links.old.entries × (links.new ≡ links.old)) }
+/// Moves the page of the key, if it is moved: what stands there stands at the target then where it is granted, and else a child of it does.
+fn move_key(links: &mut Links, key: usize, target: Place, rights: Rights, grants: bool)
+    requires blank { (source : ALinkPlace) × IsKeyOf links.old.entries source key × HasBlank source target rights links.old.entries }
+    ensures moves { (source : ALinkPlace) → IsKeyOf links.old.entries source key
+        → MovesPage grants source target rights links.old.entries links.new.entries ⊎ (MovesNone source rights links.old.entries × (links.new ≡ links.old)) }
     ensures spaces { links.new.spaces ≡ links.old.spaces }
 {
-    let Some(key) = source_at(links, source, rights) else {
+    if !is_moved(links, key, rights) {
         return;
-    };
+    }
     let Some(blank) = links.find(target) else {
         return;
     };
@@ -62,15 +59,14 @@ fn move_item(links: &mut Links, from: u64, to: u64, items: &[ItemMove], grants: 
     let mut begin = by.mv.source.first;
     loop {
         links.law_places();
-        let Some(page) = links.next_key_in(from, begin, end) else {
+        let Some((page, key)) = links.next_key_in(from, begin, end) else {
             return;
         };
-        let source = Place { space: from, page };
         let target = Place {
             space: to,
             page: page - by.mv.source.first + by.mv.target.first,
         };
-        move_page(links, source, target, by.rights, grants);
+        move_key(links, key, target, by.rights, grants);
         begin = page + 1;
     }
 }

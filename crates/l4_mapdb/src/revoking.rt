@@ -7,7 +7,7 @@ ghost use Rattle.l4_mapdb.specs.Inside.Kept.{IsClean};
 ghost use Rattle.l4_mapdb.specs.Inside.Cuts.{IsOver, IsCovered, CapsKeys, CutsKeys};
 
 use l4_fpage::Rights;
-use l4_links::{Links, Place};
+use l4_links::Links;
 
 /// Lets what stands under the key, where that is meant, and all that descends from it have no other rights than these.
 fn cap_key(links: &mut Links, top: usize, cap: Rights, with_self: bool)
@@ -31,10 +31,7 @@ fn cap_pages(links: &mut Links, space: u64, first: u32, end: u32, cap: Rights, w
     links.law_places();
     let mut next = first;
     loop {
-        let Some(page) = links.next_key_in(space, next, end) else {
-            return;
-        };
-        let Some(key) = links.find(Place { space, page }) else {
+        let Some((page, key)) = links.next_key_in(space, next, end) else {
             return;
         };
         cap_key(links, key, cap, with_self);

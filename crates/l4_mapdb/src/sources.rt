@@ -1,8 +1,9 @@
 //! The used moves of a message, one after another by item and page, and the marks of their sources.
 
-ghost use Rattle.std.specs.Prelude.{◌≡◌, ◌≢◌, ◌<◌, ◌≤◌, ◌⊎◌, length, IsTrue, MatchOption, ℕ, Some, None};
-ghost use Rattle.l4_fpage.specs.Pages.{space_pages};
-ghost use Rattle.l4_links.specs.Entries.{IsSource, entry_at};
+ghost use Rattle.std.specs.Prelude.{◌≡◌, ◌≢◌, ◌<◌, ◌≤◌, ◌⊎◌, length, IsTrue, MatchOption, slice_get, ℕ, Some, None};
+ghost use Rattle.l4_fpage.specs.Pages.{space_pages, InBlock};
+ghost use Rattle.l4_links.specs.Entries.{IsSource, IsKeyOf, entry_at};
+ghost use Rattle.l4_mapdb.specs.declared.ItemMove.{ItemMove as AnItemMove};
 ghost use Rattle.l4_mapdb.specs.Inside.Kept.{IsClean};
 ghost use Rattle.l4_mapdb.specs.Inside.Messages.{IsMoved, turn, turn_of, IsNextMove, IsNextOfItem, Marks};
 
@@ -24,27 +25,24 @@ pub(crate) struct UsedMove {
     pub grant: bool,
 }
 
-/// The used move of the item of this number out of the page.
-pub(crate) fn move_out(
+/// The used move of the item of this number out of the page of the key, which the item names.
+fn move_of(
     links: &Links,
     from: u64,
     to: u64,
     items: &[ItemMove],
     item: usize,
     page: u32,
+    key: usize,
 ) -> Option<UsedMove>
-    requires { item < length items.now }
+    requires there { item < length items.now }
+    requires named { (by : AnItemMove) → slice_get items.now item ≡ Some by → InBlock by.mv.source.first by.mv.source.log page }
+    requires at { IsKeyOf links.now.entries (record { space = from; page = page }) key }
     ensures { MatchOption result
         ((move : UsedMove) → IsMoved links.now.entries from to items.now move → move.item ≡ item → move.page ≢ page)
         (λ m. IsMoved links.now.entries from to items.now m × (m.item ≡ item) × (m.page ≡ page)) }
 {
     let by = &items[item];
-    if !by.mv.source.contains(page) {
-        return None;
-    }
-    let Some(key) = links.find(Place { space: from, page }) else {
-        return None;
-    };
     let Some(standing) = links.standing(key) else {
         return None;
     };
@@ -61,6 +59,29 @@ pub(crate) fn move_out(
         },
         grant: by.grant,
     })
+}
+
+/// The used move of the item of this number out of the page.
+pub(crate) fn move_out(
+    links: &Links,
+    from: u64,
+    to: u64,
+    items: &[ItemMove],
+    item: usize,
+    page: u32,
+) -> Option<UsedMove>
+    requires { item < length items.now }
+    ensures { MatchOption result
+        ((move : UsedMove) → IsMoved links.now.entries from to items.now move → move.item ≡ item → move.page ≢ page)
+        (λ m. IsMoved links.now.entries from to items.now m × (m.item ≡ item) × (m.page ≡ page)) }
+{
+    if !items[item].mv.source.contains(page) {
+        return None;
+    }
+    let Some(key) = links.find(Place { space: from, page }) else {
+        return None;
+    };
+    move_of(links, from, to, items, item, page, key)
 }
 
 /// The greater of two pages.
@@ -93,10 +114,10 @@ fn next_of_item(
     let end = end_of(by.mv.source);
     let mut start = later_page(page, by.mv.source.first);
     loop {
-        let Some(next) = links.next_key_in(from, start, end) else {
+        let Some((next, key)) = links.next_key_in(from, start, end) else {
             return None;
         };
-        if let Some(used) = move_out(links, from, to, items, item, next) {
+        if let Some(used) = move_of(links, from, to, items, item, next, key) {
             return Some(used);
         }
         start = next + 1;

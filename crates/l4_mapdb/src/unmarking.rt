@@ -1,23 +1,22 @@
 //! Marks and blanks are taken away, once what they were for is done or given up.
 
-ghost use Rattle.std.specs.Prelude.{◌≡◌, ◌≢◌, ◌<◌, ◌≤◌, ◌+◌, ◌^◌, ◌⊎◌, length};
+ghost use Rattle.std.specs.Prelude.{◌≡◌, ◌≢◌, ◌<◌, ◌≤◌, ◌+◌, ◌^◌, ◌⊎◌, length, None};
 ghost use Rattle.l4_fpage.specs.Pages.{InBlock};
+ghost use Rattle.l4_links.specs.Entries.{IsKeyOf, entry_at};
 ghost use Rattle.l4_links.specs.declared.Place.{Place as ALinkPlace};
 ghost use Rattle.l4_mapdb.specs.Inside.Messages.{Tidies, InPages, OfItem, OfItems};
 
 use crate::ItemMove;
 use crate::cutting::end_of;
 use l4_fpage::Block;
-use l4_links::{Links, Place};
+use l4_links::Links;
 
-/// Takes the marks from the page, and its key if nothing stands there.
-fn tidy_page(links: &mut Links, place: Place)
-    ensures tidies { Tidies (λ p. p ≡ place) links.old.entries links.new.entries }
+/// Takes the marks from the page of the key, and the key if nothing stands there.
+fn tidy_key(links: &mut Links, key: usize)
+    requires { entry_at links.old.entries key ≢ None }
+    ensures tidies { (place : ALinkPlace) → IsKeyOf links.old.entries place key → Tidies (λ p. p ≡ place) links.old.entries links.new.entries }
     ensures spaces { links.new.spaces ≡ links.old.spaces }
 {
-    let Some(key) = links.find(place) else {
-        return;
-    };
     let Some(_) = links.standing(key) else {
         links.take_blank(key);
         return;
@@ -34,10 +33,10 @@ fn tidy_block(links: &mut Links, space: u64, block: Block)
     let end = end_of(block);
     let mut start = block.first;
     loop {
-        let Some(page) = links.next_key_in(space, start, end) else {
+        let Some((page, key)) = links.next_key_in(space, start, end) else {
             return;
         };
-        tidy_page(links, Place { space, page });
+        tidy_key(links, key);
         start = page + 1;
     }
 }

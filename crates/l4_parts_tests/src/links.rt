@@ -227,6 +227,7 @@ fn finds_pages(rt: HostRuntime) -> Result<(), Fail> {
     assert_eq!(rt; links.next_key(0, 0), Some(3));
     assert_eq!(rt; links.next_key(0, 4), Some(1_048_575));
     assert_eq!(rt; links.next_key(1, 0), None);
+    assert_eq!(rt; links.next_key_in(0, 0, 4), Some((3, key)));
     assert_eq!(rt; links.next_key_in(0, 4, 1_048_575), None);
     assert_eq!(rt; links.find(place(1_048_575)), Some(far));
     Ok(())

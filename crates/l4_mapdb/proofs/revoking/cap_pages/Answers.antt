@@ -11,5 +11,5 @@ returns-in_default-clause-caps c =
 
 pub loop-page-preserved : goal.loop-page-preserved
 loop-page-preserved c =
-    capped_more c.args.space c.args.first c.args.end c.args.with_self c.args.cap c.args.links.now c.loop-page.links c.cap_key.new.links c.loop-page.next c.in-Some.page c.in-Some-find.key
-    c.law_places.ensures c.loop-page.invariant c.in-Some.ensures ((c.in-Some-find.ensures c.in-Some-find.key).0 refl) c.cap_key.ensures.caps c.cap_key.ensures.spaces
+    capped_more c.args.space c.args.first c.args.end c.args.with_self c.args.cap c.args.links.now c.loop-page.links c.cap_key.new.links c.loop-page.next c.in-Some.page c.in-Some.key
+    c.law_places.ensures c.loop-page.invariant c.in-Some.ensures.0 ((c.in-Some.ensures.1 c.in-Some.key).0 refl) c.cap_key.ensures.caps c.cap_key.ensures.spaces

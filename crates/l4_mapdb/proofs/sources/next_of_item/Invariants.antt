@@ -1,10 +1,11 @@
-use Rattle.std.proofs.Common.{◌-◌, ◌≤◌}
+use Rattle.std.proofs.Common.{◌≡◌, ◌-◌, ◌≤◌, Some, slice_get}
+use Rattle.l4_mapdb.specs.declared.ItemMove.{ItemMove}
 use Rattle.l4_mapdb.proofs.Moves.{NoneBetween}
 use Rattle.l4_mapdb.proofs.sources.next_of_item.Given as goal
 
 -- no used move of the item stands between the first page that is asked for and this one
 abbrev pub invariant-loop-next : goal.invariant-loop-next
-invariant-loop-next l = record { after : l.page ≤ l.start; none : NoneBetween l.links.entries l.from l.to l.items l.item l.page l.start }
+invariant-loop-next l = record { after : l.page ≤ l.start; begun : (by : ItemMove) → slice_get l.items l.item ≡ Some by → by.mv.source.first ≤ l.start; none : NoneBetween l.links.entries l.from l.to l.items l.item l.page l.start }
 
 abbrev pub decreases-loop-next : goal.decreases-loop-next
 decreases-loop-next l = l.end - l.start

@@ -1,5 +1,6 @@
 use Rattle.std.proofs.Common.{◌∙◌, refl, subst, ℕ}
 use Rattle.l4_mapdb.specs.Inside.Messages.{Tidies, InPages}
+use Rattle.l4_mapdb.proofs.Moves.{at_there}
 use Rattle.l4_mapdb.proofs.Tidying.{pages_first, pages_on, pages_more}
 use Rattle.l4_mapdb.proofs.unmarking.tidy_block.Goals as goal
 
@@ -15,7 +16,10 @@ returns-in_default c = record {
 
 pub loop-page-preserved : goal.loop-page-preserved
 loop-page-preserved c = record {
-  tidies = pages_more c.args.space c.args.block.first c.loop-page.start c.end_of-end.result c.in-Some.page c.args.links.now.entries c.loop-page.links.entries c.tidy_page.new.links.entries
-      c.in-Some.ensures c.tidy_page.ensures.tidies c.loop-page.invariant.tidies;
-  spaces = c.tidy_page.ensures.spaces ∙ c.loop-page.invariant.spaces;
+  tidies = pages_more c.args.space c.args.block.first c.loop-page.start c.end_of-end.result c.in-Some.page c.args.links.now.entries c.loop-page.links.entries c.tidy_key.new.links.entries
+      c.in-Some.ensures.0 (c.tidy_key.ensures.tidies _ c.in-Some.ensures.1) c.loop-page.invariant.tidies;
+  spaces = c.tidy_key.ensures.spaces ∙ c.loop-page.invariant.spaces;
 }
+
+pub tidy_key-requires : goal.tidy_key-requires
+tidy_key-requires c = at_there c.loop-page.links.entries c.in-Some.key _ ((c.in-Some.ensures.1 c.in-Some.key).0 refl)
