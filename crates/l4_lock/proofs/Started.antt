@@ -227,7 +227,7 @@ among_push n [] k ne h = elim (eqb_tells k n) [ inl is ↦ absurd (ne (sym is.1)
 among_push n (m ∷ ns) k ne h =
     elim (nat_eq m n) as (λ t. (t || is_among n ns) ≡ false → (t || is_among n (ns ++ k ∷ [])) ≡ false) [ true ↦ λ e. e | false ↦ λ e. among_push n ns k ne e ] h
 
-once_push : (ns : List ℕ) (k : ℕ) → IsOnce ns → is_among k ns ≡ false → IsOnce (ns ++ k ∷ [])
+pub once_push : (ns : List ℕ) (k : ℕ) → IsOnce ns → is_among k ns ≡ false → IsOnce (ns ++ k ∷ [])
 once_push [] k once none = (refl, tt)
 once_push (n ∷ ns) k once none =
     elim (eqb_tells n k) [

@@ -1,8 +1,8 @@
 -- A reply is taken from the lock, and a call is entered: what the lock keeps.
-use Rattle.std.proofs.Common.{◌≡◌, ◌≢◌, ℕ, ◌+◌, ◌<◌, ◌≤◌, ◌⊎◌, inl, inr, false, List, [], ◌∷◌, ◌++◌, length, get_or, Option, Some, None, Err, IfSome, IfNone, MatchOption, IsTrue, slice_get, slice_set, Contains, refl, sym, ap, ◌∙◌, subst, arith}
+use Rattle.std.proofs.Common.{◌≡◌, ◌≢◌, ℕ, ◌+◌, ◌<◌, ◌≤◌, ◌⊎◌, inl, inr, Bool, true, false, List, [], ◌∷◌, ◌++◌, length, get_or, Option, Some, None, Err, IfSome, IfNone, MatchOption, IsTrue, slice_get, slice_set, Contains, refl, sym, ap, ◌∙◌, subst, arith}
 use Rattle.std.specs.Option.{option_map, option_map_or, option_and_then}
 use Rattle.std.proofs.lemmas.Bool.{false≢true}
-use Rattle.std.proofs.lemmas.Option.{get_or_from_slice_get}
+use Rattle.std.proofs.lemmas.Option.{get_or_from_slice_get, slice_get_within}
 use Rattle.std.proofs.lemmas.List.{length-append}
 use Rattle.atomic_table.specs.Seated.{TableId}
 use Rattle.l4_threads.specs.declared.Reply.{Reply}
@@ -15,12 +15,14 @@ use Rattle.l4_lock.specs.declared.entries.Entry.{Entry}
 use Rattle.l4_lock.specs.declared.entries.Receipt.{Receipt}
 use Rattle.l4_lock.specs.declared.entries.Ended.{Ended}
 use Rattle.l4_lock.specs.declared.entries.Pending.{Pending}
+use Rattle.l4_lock.specs.declared.refusals.Entered.{Entered}
+use Rattle.l4_lock.specs.declared.refusals.Entered.TheVariants.{Done as HasEnded, Waiting as IsWaiting}
 use Rattle.l4_lock.specs.declared.refusals.LockRefusal.{LockRefusal}
 use Rattle.l4_lock.specs.declared.refusals.LockRefusal.TheVariants.{NoMemory, Kernel as ByKernel}
 use Rattle.l4_lock.specs.Receipts.{Proves}
 use Rattle.l4_lock.specs.Books.{SeatState, seat_state, Book, book_at, reply_waits, has_ended, plain, receipts_at, numbers, IsOnce, receipt_of, HasNotEnded, IsPending, IsRight, AreRight, Settles}
-use Rattle.l4_lock.specs.Locked.{Lock, lock, IsKept, Enters, EndsAtOnce, IsLeft, Takes, Refuses, start_entry}
-use Rattle.l4_lock.specs.Inside.Entering.{Begins}
+use Rattle.l4_lock.specs.Locked.{Lock, lock, IsKept, Enters, Tells, EndsAtOnce, IsLeft, Takes, Refuses, start_entry}
+use Rattle.l4_lock.specs.Inside.Entering.{Begins, IsAdmitted}
 use Rattle.l4_lock.proofs.Right.{pend}
 use Rattle.l4_lock.proofs.Started.{own_at, set_own, set_other, plain_at, get_there, read_all, right_settled, settled_right, set_same, at_number}
 
@@ -83,6 +85,31 @@ not_taken frames es m books board published place x y before after None lt at re
       inr (ap (λ (o : Option Book). option_map_or has_ended (option_and_then (λ (b : Book). b.pending) o) false) (at ∙ placed) ∙ none.2),
     )
 
+-- the same of whether it has ended
+abbrev pub settled_in : Lock → ℕ → Book → Lock
+settled_in l place y = record l { books = slice_set l.books place y }
+
+pub settled_kept : (l : Lock) (place : ℕ) (x y : Book) (before after : SeatState) (own : Call → Call) (ended : Bool) → IsKept l → place < length l.books → x ≡ get_or l.books place x
+    → (ended ≡ true → (reply : Reply) × Settles x y before after own reply) → (ended ≡ false → (y ≡ x) × (after ≡ before) × (option_map_or has_ended x.pending false ≡ false))
+    → IsKept (settled_in l place y)
+settled_kept l place x y before after own true k lt read settles same =
+    finished l.frames l.history l.kernel l.books l.board l.published place x y before after own (Some (settles refl).0) k lt read (settles refl).1 tt
+settled_kept l place x y before after own false k lt read settles same =
+    finished l.frames l.history l.kernel l.books l.board l.published place x y before after own None k lt read tt (same refl)
+
+pub taken_untold : (l : Lock) (place : ℕ) (x y : Book) (before after : SeatState) (own : Call → Call) (ended : Bool) → IsKept l → place < length l.books → book_at l.books before.number ≡ slice_get l.books place
+    → x ≡ get_or l.books place x → (ended ≡ true → (reply : Reply) × Settles x y before after own reply) → ended ≡ true
+    → (reply : Reply) × Takes l (settled_in l place y) before after own reply
+taken_untold l place x y before after own ended k lt at read settles is =
+    let s = settles is in
+    (s.0, taken l.frames l.history l.kernel l.books l.board l.published place x y before after own (Some s.0) k lt at read s.1)
+
+pub not_taken_untold : (l : Lock) (place : ℕ) (x y : Book) (before after : SeatState) (ended : Bool) → place < length l.books → book_at l.books before.number ≡ slice_get l.books place
+    → x ≡ get_or l.books place x → (ended ≡ false → (y ≡ x) × (after ≡ before) × (option_map_or has_ended x.pending false ≡ false)) → ended ≡ false
+    → (settled_in l place y ≡ l) × (after ≡ before) × ((before.waiting ≡ 0) ⊎ (reply_waits l.books before.number ≡ false))
+not_taken_untold l place x y before after ended lt at read same is =
+    not_taken l.frames l.history l.kernel l.books l.board l.published place x y before after None lt at read (same is)
+
 -- ENTER
 
 pub begun_kept : (frames : ℕ) (es es' : List Entry) (m new : Machine) (books later : List Book) (board board' : TableId) (published published' n place : ℕ) (call : Call)
@@ -103,11 +130,15 @@ others_kept es es' m new books later n place call y b same j ne =
     ∙ plain_at later j ∙ ap (λ (l : List Book). book_at l j) b.same ∙ sym (plain_at (slice_set books place opened) j)
     ∙ ap (option_map plain) (set_other books place b.former opened j b.former_at refl (λ e. ne (e ∙ b.former_number)))
 
-pub enters : (frames : ℕ) (es es' : List Entry) (m new : Machine) (books later : List Book) (board board' : TableId) (published published' n k place : ℕ) (call : Call) (y : Book)
-    → length es ≤ 999871 → Begins n call m new es es' books later place → n ≡ k → board' ≡ board → y.number ≡ n → Enters (lock frames m es books board published) (lock frames new es' (slice_set later place y) board' published') k call
-enters frames es es' m new books later board board' published published' n k place call y room b same same_board numbered =
-    subst (λ (j : ℕ). Enters (lock frames m es books board published) (lock frames new es' (slice_set later place y) board' published') j call) same (record {
-      room = room;
+pub placed : (old mid : Lock) (before between : SeatState) (call : Call) (place : ℕ) → IsAdmitted old mid before between call place → place < length mid.books
+placed old mid before between call place a = slice_get_within mid.books place a.begins.book a.begins.at
+
+enters : (old mid : Lock) (before between : SeatState) (call : Call) (place : ℕ) (y : Book) → IsAdmitted old mid before between call place → y.number ≡ before.number
+    → Enters old (settled_in mid place y) before.number call
+enters old mid before between call place y a numbered =
+    let b = a.begins in
+    record {
+      room = a.room;
       answer = b.answer;
       started = b.started;
       starts = b.starts;
@@ -115,13 +146,9 @@ enters frames es es' m new books later board board' published published' n k pla
       goes = b.goes;
       few = (let few = b.few in omega (arith, few));
       history = b.history;
-      same = (refl, same_board);
-      others = others_kept es es' m new books later n place call y b numbered;
-    })
-
--- the number of the book that is left at the place
-pub numbered : (es es' : List Entry) (m new : Machine) (books later : List Book) (n place : ℕ) (call : Call) (x : Book) → Begins n call m new es es' books later place → x ≡ get_or later place x → x.number ≡ n
-numbered es es' m new books later n place call x b read = ap (λ (z : Book). z.number) (read ∙ get_or_from_slice_get later place b.book x b.at) ∙ b.number
+      same = a.same;
+      others = others_kept old.history mid.history old.kernel mid.kernel old.books mid.books before.number place call y b numbered;
+    }
 
 -- what was kept of the number
 former_kept : (es es' : List Entry) (m new : Machine) (books later : List Book) (n place : ℕ) (call : Call) → (b : Begins n call m new es es' books later place) → IsOnce (numbers books)
@@ -132,60 +159,79 @@ former_kept es es' m new books later n place call b once =
 same_call : (p q : Pending) → ◌≡◌ {A = Option Pending} (Some p) (Some q) → p ≡ q
 same_call p q e = cc
 
-pub ends_at_once : (frames : ℕ) (es es' : List Entry) (m new : Machine) (books later : List Book) (board board' : TableId) (published published' n place : ℕ) (call : Call) (x y : Book) (before between after : SeatState) (reply : Reply)
-    → Begins n call m new es es' books later place → AreRight frames es' new later → IsOnce (numbers books) → n ≡ before.number → x ≡ get_or later place x → between ≡ record before { waiting = before.waiting + 1 }
-    → Settles x y between after (λ c. c) reply
-    → EndsAtOnce (lock frames m es books board published) (lock frames new es' (slice_set later place y) board' published') before after call reply
-ends_at_once frames es es' m new books later board board' published published' n place call x y before between after reply b right once same read more s =
-    let here : x ≡ b.book = read ∙ get_or_from_slice_get later place b.book x b.at in
+-- the call has ended, and its receipt is the seat's
+pub entered_done : (old mid : Lock) (before between after : SeatState) (call : Call) (place : ℕ) (x y : Book) (reply : Reply) → IsKept mid → IsAdmitted old mid before between call place
+    → x ≡ get_or mid.books place x → Settles x y between after (λ c. c) reply
+    → Enters old (settled_in mid place y) before.number call × EndsAtOnce old (settled_in mid place y) before after call reply
+entered_done old mid before between after call place x y reply k a read s =
+    let b = a.begins in
+    let here : x ≡ b.book = read ∙ get_or_from_slice_get mid.books place b.book x b.at in
     let its : s.pending ≡ b.pending = same_call s.pending b.pending (sym s.pending_is ∙ ap (λ (z : Book). z.pending) here ∙ b.pending_is) in
-    let numbered : x.number ≡ before.number = ap (λ (z : Book). z.number) here ∙ b.number ∙ same in
-    let settled : book_at (slice_set later place y) before.number ≡ Some y =
-    subst (λ (j : ℕ). book_at (slice_set later place y) j ≡ Some y) numbered (set_own later place x y (b.at ∙ ap (λ (z : Book). Some z) (sym here)) (ap (λ (z : Book). z.number) s.book_is) right.apart) in
-    let had : receipts_at books before.number ≡ Some b.former.receipts =
-    subst (λ (j : ℕ). receipts_at books j ≡ Some b.former.receipts) same (former_kept es es' m new books later n place call b once) in
-    record {
-      kept = ap (option_map (λ (z : Book). z.receipts)) settled ∙ ap (λ (rs : List Receipt). Some rs) (ap (λ (z : Book). z.receipts) s.book_is ∙ ap (λ (z : Book). z.receipts ++ receipt_of s.pending s.ended ∷ []) here ∙ ap (λ (rs : List Receipt). rs ++ receipt_of s.pending s.ended ∷ []) b.receipts)
-          ∙ sym (ap (option_map (λ (rs : List Receipt). rs ++ receipt_of s.pending s.ended ∷ [])) had);
-      taken = ap (option_and_then (λ (z : Book). z.pending)) settled ∙ ap (λ (z : Book). z.pending) s.book_is;
-      receipt = receipt_of s.pending s.ended;
-      enters = ap (λ (p : Pending). p.call) its ∙ b.pending_call;
-      start = ap (λ (p : Pending). p.start) its ∙ b.pending_start;
-      answers = sym s.answers;
-      gains = record {
-        number = s.number ∙ ap (λ (p : SeatState). p.number) more;
-        waiting = (let w = s.waiting in let v = ap (λ (p : SeatState). p.waiting) more in omega (arith, w, v));
-        receipts = s.receipts ∙ ap (λ (p : SeatState). p.receipts ++ receipt_of s.pending s.ended ∷ []) more;
-        proves = subst (λ (j : ℕ). Proves frames es' j (receipt_of s.pending s.ended)) numbered
-            (right_settled frames es' new x s.pending s.ended (subst (IsRight frames es' new) (sym here) (read_all (IsRight frames es' new) later place b.book b.at right.each)) s.pending_is s.ended_is).0;
-      };
-    }
+    let numbered : x.number ≡ before.number = ap (λ (z : Book). z.number) here ∙ b.number in
+    let settled : book_at (slice_set mid.books place y) before.number ≡ Some y =
+    subst (λ (j : ℕ). book_at (slice_set mid.books place y) j ≡ Some y) numbered (set_own mid.books place x y (b.at ∙ ap (λ (z : Book). Some z) (sym here)) (ap (λ (z : Book). z.number) s.book_is) k.right.apart) in
+    let had : receipts_at old.books before.number ≡ Some b.former.receipts =
+    former_kept old.history mid.history old.kernel mid.kernel old.books mid.books before.number place call b a.apart in (
+      enters old mid before between call place y a (ap (λ (z : Book). z.number) s.book_is ∙ numbered),
+      record {
+        kept = ap (option_map (λ (z : Book). z.receipts)) settled ∙ ap (λ (rs : List Receipt). Some rs) (ap (λ (z : Book). z.receipts) s.book_is ∙ ap (λ (z : Book). z.receipts ++ receipt_of s.pending s.ended ∷ []) here ∙ ap (λ (rs : List Receipt). rs ++ receipt_of s.pending s.ended ∷ []) b.receipts)
+            ∙ sym (ap (option_map (λ (rs : List Receipt). rs ++ receipt_of s.pending s.ended ∷ [])) had);
+        taken = ap (option_and_then (λ (z : Book). z.pending)) settled ∙ ap (λ (z : Book). z.pending) s.book_is;
+        receipt = receipt_of s.pending s.ended;
+        enters = ap (λ (p : Pending). p.call) its ∙ b.pending_call;
+        start = ap (λ (p : Pending). p.start) its ∙ b.pending_start;
+        answers = sym s.answers;
+        gains = record {
+          number = s.number ∙ ap (λ (p : SeatState). p.number) a.seat;
+          waiting = (let w = s.waiting in let v = ap (λ (p : SeatState). p.waiting) a.seat in omega (arith, w, v));
+          receipts = s.receipts ∙ ap (λ (p : SeatState). p.receipts ++ receipt_of s.pending s.ended ∷ []) a.seat;
+          proves = subst (λ (j : ℕ). Proves mid.frames mid.history j (receipt_of s.pending s.ended)) numbered
+              (right_settled mid.frames mid.history mid.kernel x s.pending s.ended (subst (IsRight mid.frames mid.history mid.kernel) (sym here) (read_all (IsRight mid.frames mid.history mid.kernel) mid.books place b.book b.at k.right.each)) s.pending_is s.ended_is).0;
+        };
+      },
+    )
 
 not_yet : (frames : ℕ) (es : List Entry) (m : Machine) (k : ℕ) (call : Call) (start : ℕ) (o : Option Ended) → IsPending frames es m k (pend call start o) → has_ended (pend call start o) ≡ false → HasNotEnded es m k start
 not_yet frames es m k call start None p e = p.ended
 not_yet frames es m k call start (Some f) p e = absurd (false≢true (sym e))
 
-pub is_left : (frames : ℕ) (es es' : List Entry) (m new : Machine) (books later : List Book) (board board' : TableId) (published published' n place : ℕ) (call : Call) (x y : Book) (before between after : SeatState)
-    → Begins n call m new es es' books later place → AreRight frames es' new later → IsOnce (numbers books) → n ≡ before.number → x ≡ get_or later place x → between ≡ record before { waiting = before.waiting + 1 }
-    → y ≡ x → after ≡ between → option_map_or has_ended x.pending false ≡ false
-    → IsLeft (lock frames m es books board published) (lock frames new es' (slice_set later place y) board' published') before after
-is_left frames es es' m new books later board board' published published' n place call x y before between after b right once same read more still left none =
-    let here : x ≡ b.book = read ∙ get_or_from_slice_get later place b.book x b.at in
-    let its : IsRight frames es' new b.book = read_all (IsRight frames es' new) later place b.book b.at right.each in
-    let pending : IsPending frames es' new b.book.number b.pending = subst (λ (o : Option Pending). MatchOption o (Unit {0}) (IsPending frames es' new b.book.number)) b.pending_is its.pending in
-    let waits : has_ended b.pending ≡ false = sym (ap (λ (z : Book). option_map_or has_ended z.pending false) here ∙ ap (λ (o : Option Pending). option_map_or has_ended o false) b.pending_is) ∙ none in
-    let not_ended = not_yet frames es' new b.book.number b.pending.call b.pending.start b.pending.ended pending waits in
-    let numbered : b.book.number ≡ before.number = b.number ∙ same in
-    let settled : book_at (slice_set later place y) before.number ≡ Some y =
-    subst (λ (j : ℕ). book_at (slice_set later place y) j ≡ Some y) numbered (set_own later place b.book y b.at (ap (λ (z : Book). z.number) (still ∙ here)) right.apart) in
-    let had : receipts_at books before.number ≡ Some b.former.receipts =
-    subst (λ (j : ℕ). receipts_at books j ≡ Some b.former.receipts) same (former_kept es es' m new books later n place call b once) in
-    record {
-      kept = ap (option_map (λ (z : Book). z.receipts)) settled ∙ ap (λ (rs : List Receipt). Some rs) (ap (λ (z : Book). z.receipts) (still ∙ here) ∙ b.receipts) ∙ sym had;
-      seat = left ∙ more;
-      not_ended = λ k entry after' at among.
-          not_ended.not_ended k entry (let s = b.pending_start in omega (arith, after', s)) at (subst (λ (j : ℕ). Contains entry.answer.ended.items j) (sym numbered) among);
-    }
+-- the call has not ended
+pub entered_left : (old mid : Lock) (before between after : SeatState) (call : Call) (place : ℕ) (x y : Book) → IsKept mid → IsAdmitted old mid before between call place
+    → x ≡ get_or mid.books place x → (y ≡ x) × (after ≡ between) × (option_map_or has_ended x.pending false ≡ false)
+    → Enters old (settled_in mid place y) before.number call × IsLeft old (settled_in mid place y) before after
+entered_left old mid before between after call place x y k a read none =
+    let b = a.begins in
+    let here : x ≡ b.book = read ∙ get_or_from_slice_get mid.books place b.book x b.at in
+    let its : IsRight mid.frames mid.history mid.kernel b.book = read_all (IsRight mid.frames mid.history mid.kernel) mid.books place b.book b.at k.right.each in
+    let pending : IsPending mid.frames mid.history mid.kernel b.book.number b.pending =
+    subst (λ (o : Option Pending). MatchOption o (Unit {0}) (IsPending mid.frames mid.history mid.kernel b.book.number)) b.pending_is its.pending in
+    let waits : has_ended b.pending ≡ false = sym (ap (λ (z : Book). option_map_or has_ended z.pending false) here ∙ ap (λ (o : Option Pending). option_map_or has_ended o false) b.pending_is) ∙ none.2 in
+    let not_ended = not_yet mid.frames mid.history mid.kernel b.book.number b.pending.call b.pending.start b.pending.ended pending waits in
+    let same : y.number ≡ b.book.number = ap (λ (z : Book). z.number) (none.0 ∙ here) in
+    let settled : book_at (slice_set mid.books place y) before.number ≡ Some y =
+    subst (λ (j : ℕ). book_at (slice_set mid.books place y) j ≡ Some y) b.number (set_own mid.books place b.book y b.at same k.right.apart) in
+    let had : receipts_at old.books before.number ≡ Some b.former.receipts =
+    former_kept old.history mid.history old.kernel mid.kernel old.books mid.books before.number place call b a.apart in (
+      enters old mid before between call place y a (same ∙ b.number),
+      record {
+        kept = ap (option_map (λ (z : Book). z.receipts)) settled ∙ ap (λ (rs : List Receipt). Some rs) (ap (λ (z : Book). z.receipts) (none.0 ∙ here) ∙ b.receipts) ∙ sym had;
+        seat = none.1 ∙ a.seat;
+        not_ended = λ j entry after' at among.
+            not_ended.not_ended j entry (let s = b.pending_start in omega (arith, after', s)) at (subst (λ (n : ℕ). Contains entry.answer.ended.items n) (sym b.number) among);
+      },
+    )
+
+-- the same of whether it has ended
+pub entered_either : (old mid : Lock) (before between after : SeatState) (call : Call) (place : ℕ) (x y : Book) (ended : Bool) → IsKept mid → IsAdmitted old mid before between call place
+    → x ≡ get_or mid.books place x → (ended ≡ true → (reply : Reply) × Settles x y between after (λ c. c) reply)
+    → (ended ≡ false → (y ≡ x) × (after ≡ between) × (option_map_or has_ended x.pending false ≡ false))
+    → Enters old (settled_in mid place y) before.number call × ((e : Entered) × Tells old (settled_in mid place y) before after call e)
+entered_either old mid before between after call place x y true k a read settles same =
+    let done = entered_done old mid before between after call place x y (settles refl).0 k a read (settles refl).1 in
+    (done.0, (HasEnded (settles refl).0, done.1))
+entered_either old mid before between after call place x y false k a read settles same =
+    let left = entered_left old mid before between after call place x y k a read (same refl) in
+    (left.0, (IsWaiting, left.1))
 
 pub seat_back : (before between after : SeatState) → between ≡ record before { waiting = before.waiting + 1 } → between ≡ record after { waiting = after.waiting + 1 } → after ≡ before
 seat_back before between after more less =

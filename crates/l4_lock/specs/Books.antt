@@ -56,8 +56,11 @@ abbrev pub has_ended : Pending → Bool
 has_ended p = option_map_or (λ e. true) p.ended false
 
 -- the receipt of an ended call
+abbrev pub receipt : Call → ℕ → Ended → Receipt
+receipt call start e = record { call = call; start = start; end = e.entry; reply = e.reply }
+
 abbrev pub receipt_of : Pending → Ended → Receipt
-receipt_of o e = record { call = o.call; start = o.start; end = e.entry; reply = e.reply }
+receipt_of o e = receipt o.call o.start e
 
 -- how many calls of the thread the history starts
 abbrev pub one_if : ℕ → Step → ℕ

@@ -1,11 +1,14 @@
 //! The locked kernel.
-ghost use Rattle.std.specs.Prelude.{◌≡◌, ◌≢◌, ◌⊎◌, ◌+◌, ◌≤◌, ℕ, [], ◌∷◌, ◌++◌, None, IfOk, IfErr, IfSome, IfNone, false, MatchResult, length, vec_len, ◌<◌};
+ghost use Rattle.std.specs.Prelude.{◌≡◌, ◌≢◌, ◌⊎◌, ◌+◌, ◌≤◌, ℕ, [], ◌∷◌, ◌++◌, None, IfOk, IfErr, IfSome, IfNone, true, false, MatchOption, MatchResult, length, vec_len, ◌<◌};
 ghost use Rattle.l4_ipc.specs.Machine.{IsBoot};
 ghost use Rattle.l4_lock.specs.Books.{seat_state, book, book_at, reply_waits};
 ghost use Rattle.l4_lock.specs.Closing.{Closes, Mismatches, by_history};
 ghost use Rattle.l4_lock.specs.Laws.{IsWholeRun};
 ghost use Rattle.l4_lock.specs.Locked.{IsKept, RefusesBoot, Enters, Tells, Refuses, Takes};
 ghost use Rattle.l4_lock.specs.declared.refusals.LockRefusal.TheVariants.{SeatTaken, NoMemory as WantOfMemory};
+ghost use Rattle.l4_threads.specs.declared.Reply.{Reply as AReply};
+ghost use Rattle.l4_lock.specs.declared.refusals.Entered.{Entered as AnEntered};
+ghost use Rattle.l4_lock.specs.Inside.Entering.{IsAdmitted};
 ghost use Rattle.l4_lock.specs.Board.{IsNewWatch};
 ghost use Rattle.std.specs.List.{All};
 
@@ -13,8 +16,8 @@ use crate::board::{Board, Publisher, Watch};
 use crate::closing::{Unclosed, first_mismatch};
 use crate::history::History;
 use crate::refusals::{Entered, LockRefusal};
-use crate::seats::{Account, Seat, finish, finish_for};
-use crate::steps::{begin, position, reply_waits};
+use crate::seats::{Account, Seat, finish, settle};
+use crate::steps::{begin, first_reply, position, reply_waits};
 use l4_ipc::{Call, Kernel, Refused, Reply};
 use std::alloc::Global;
 use std::marker::Model;
@@ -157,6 +160,34 @@ impl Locked {
         ensures ok { IfOk result (λ e. Enters self.old self.new seat.old.number call × Tells self.old self.new seat.old seat.new call e) }
         ensures err { IfErr result (λ e. Refuses self.old seat.old.number call e × (self.new ≡ self.old) × (seat.new ≡ seat.old)) }
     {
+        let at = match self.admit(seat, call) {
+            Ok(at) => at,
+            Err(refusal) => return Err(refusal),
+        };
+        if let Some(reply) = finish(&mut self.accounts[at], seat, None) {
+            return Ok(Entered::Done(reply));
+        }
+        Ok(Entered::Waiting)
+    }
+
+    /// The same, and hands no reply out: the seat's receipt and the kernel have it.
+    pub fn enter_untold(&mut self, seat: &mut Seat, call: Call) -> Result<(), LockRefusal>
+        ensures ok { IfOk result (λ _. Enters self.old self.new seat.old.number call × ((e : AnEntered) × Tells self.old self.new seat.old seat.new call e)) }
+        ensures err { IfErr result (λ e. Refuses self.old seat.old.number call e × (self.new ≡ self.old) × (seat.new ≡ seat.old)) }
+    {
+        let at = match self.admit(seat, call) {
+            Ok(at) => at,
+            Err(refusal) => return Err(refusal),
+        };
+        settle(&mut self.accounts[at], seat, None);
+        Ok(())
+    }
+
+    /// Enters a call up to what its seat gains, and answers where its account stands.
+    fn admit(&mut self, seat: &mut Seat, call: Call) -> Result<usize, LockRefusal>
+        ensures ok { IfOk result (λ at. IsAdmitted self.old self.new seat.old seat.new call at) }
+        ensures err { IfErr result (λ e. Refuses self.old seat.old.number call e × (self.new ≡ self.old) × (seat.new ≡ seat.old)) }
+    {
         let number = seat.number();
         if reply_waits(self.accounts.as_slice(), number) {
             return Err(LockRefusal::ReplyWaiting);
@@ -185,10 +216,7 @@ impl Locked {
             return Err(refusal);
         }
         self.publisher.publish(self.history.len() as u64);
-        if let Some(reply) = finish(&mut self.accounts[at], seat) {
-            return Ok(Entered::Done(reply));
-        }
-        Ok(Entered::Waiting)
+        Ok(at)
     }
 
     /// The reply of a call that was left waiting and has ended since.
@@ -203,10 +231,32 @@ impl Locked {
         let Some(at) = position(self.accounts.as_slice(), seat.number()) else {
             return None;
         };
-        finish(&mut self.accounts[at], seat)
+        finish(&mut self.accounts[at], seat, None)
     }
 
-    /// The same, where the seat's receipt has the call that its holder knows of.
+    /// The same, and hands no reply out: whether there was one.
+    pub fn take_untold(&mut self, seat: &mut Seat) -> bool
+        ensures taken { result ≡ true → (reply : AReply) × Takes self.old self.new seat.old seat.new (λ call. call) reply }
+        ensures none { result ≡ false → (self.new ≡ self.old) × (seat.new ≡ seat.old)
+            × ((seat.old.waiting ≡ 0) ⊎ (reply_waits self.old.books seat.old.number ≡ false)) }
+    {
+        if seat.waiting() == 0 {
+            return false;
+        }
+        let Some(at) = position(self.accounts.as_slice(), seat.number()) else {
+            return false;
+        };
+        settle(&mut self.accounts[at], seat, None)
+    }
+
+    /// The number of a seat whose ended call has not been taken. None where there is none.
+    pub fn waiting_reply(&self) -> Option<u32>
+        ensures { MatchOption result ((n : ℕ) → reply_waits self.now.books n ≡ false) (λ n. reply_waits self.now.books n ≡ true) }
+    {
+        first_reply(self.accounts.as_slice())
+    }
+
+    /// The same as `take`, where the seat's receipt has the call that its holder knows of.
     pub(crate) fn take_for(&mut self, seat: &mut Seat, call: &Call) -> Option<Reply>
         ensures some { IfSome result (λ reply. Takes self.old self.new seat.old seat.new (λ _. call.now) reply) }
         ensures none { IfNone result ((self.new ≡ self.old) × (seat.new ≡ seat.old)) }
@@ -217,7 +267,7 @@ impl Locked {
         let Some(at) = position(self.accounts.as_slice(), seat.number()) else {
             return None;
         };
-        finish_for(&mut self.accounts[at], seat, call)
+        finish(&mut self.accounts[at], seat, Some(call))
     }
 
     /// Hands out the history and the kernel, with what holds of the whole history, where just the seats that were given come back and agree with what was kept of them.

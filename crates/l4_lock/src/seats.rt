@@ -1,10 +1,10 @@
 //! Seats, and what the lock keeps of each.
-ghost use Rattle.std.specs.Prelude.{◌≡◌, ◌≢◌, ◌+◌, ◌≤◌, ℕ, Some, None, [], ◌∷◌, ◌++◌, IfSome, IfNone, MatchOption, MatchResult, is_some, false};
-ghost use Rattle.std.specs.Option.{option_map_or};
-ghost use Rattle.l4_lock.specs.Books.{SeatState, seat_state, starts, Book, book, pending_count, receipt_of, has_ended, Settles};
-ghost use Rattle.l4_lock.specs.Inside.Noting.{started_by, noted, noted_call, reply_in};
+ghost use Rattle.std.specs.Prelude.{◌≡◌, ◌≢◌, ◌+◌, ◌<◌, ◌≤◌, ℕ, Some, None, [], ◌∷◌, ◌++◌, length, IfSome, IfNone, MatchResult, is_some, true, false};
+ghost use Rattle.std.specs.Option.{option_map_or, option_copied};
+ghost use Rattle.l4_lock.specs.Books.{SeatState, seat_state, starts, Book, book, pending_count, receipt, has_ended, Settles};
+ghost use Rattle.l4_lock.specs.Inside.Noting.{started_by, noted, noted_call, reply_in, reply_pending, own_call};
 
-use crate::copies::{copy_call, copy_receipt, copy_reply};
+use crate::copies::{copy_call, copy_reply};
 use crate::entries::{Ended, Pending, Receipt};
 use crate::receipts::Receipts;
 use l4_ipc::{Call, Kernel, Reply};
@@ -89,14 +89,28 @@ impl Seat {
     }
 
     /// A call that was left waiting has its receipt.
-    pub(crate) fn receive(&mut self, receipt: Receipt)
+    fn receive(&mut self, call: &Call, start: usize, ended: &Ended)
         requires { self.old.waiting ≢ 0 }
-        ensures receipts { self.new.receipts ≡ self.old.receipts ++ receipt ∷ [] }
+        ensures receipts { self.new.receipts ≡ self.old.receipts ++ receipt call.now start ended.now ∷ [] }
         ensures waiting { (self.old.waiting ≡ self.new.waiting + 1) × (self.new.number ≡ self.old.number) }
     {
         self.waiting -= 1;
-        self.receipts.push(receipt);
+        add_receipt(&mut self.receipts, call, start, ended);
     }
+}
+
+/// Adds a receipt for which there is room.
+fn add_receipt(receipts: &mut Receipts, call: &Call, start: usize, ended: &Ended)
+    requires { length receipts.old.items < receipts.old.room }
+    ensures items { receipts.new.items ≡ receipts.old.items ++ receipt call.now start ended.now ∷ [] }
+    ensures room { (length receipts.new.items ≡ length receipts.old.items + 1) × (receipts.new.room ≡ receipts.old.room) }
+{
+    receipts.push(Receipt {
+        call: copy_call(call),
+        start,
+        end: ended.entry,
+        reply: copy_reply(&ended.reply),
+    });
 }
 
 /// The reply of a thread's last ended call, Gone where the thread is there no longer.
@@ -197,15 +211,15 @@ impl Account {
     }
 
     /// Begins a call, and makes room for its receipt.
-    pub fn begin(&mut self, call: Call, start: usize) -> Result<(), AllocError>
+    pub fn begin(&mut self, call: &Call, start: usize) -> Result<(), AllocError>
         requires { self.old.pending ≡ None }
         ensures { MatchResult result
-            (λ _. self.new ≡ record self.old { pending = Some (record { call = call; start = start; ended = None }) })
+            (λ _. self.new ≡ record self.old { pending = Some (record { call = call.now; start = start; ended = None }) })
             (λ _. self.new ≡ self.old) }
     {
         self.receipts.reserve(1)?;
         self.pending = Some(Pending {
-            call,
+            call: copy_call(call),
             start,
             ended: None,
         });
@@ -228,78 +242,62 @@ impl Account {
         }
     }
 
-    /// The receipt of the pending call, if it has ended. The account keeps a copy.
-    pub fn settle(&mut self) -> Option<Receipt>
-        ensures none { result ≡ None → self.new ≡ self.old }
-        ensures receipt { MatchOption result
-            (option_map_or has_ended self.old.pending false ≡ false)
-            (λ r. (o : APending) × (e : _) × (self.old.pending ≡ Some o) × (o.ended ≡ Some e) × (r ≡ receipt_of o e)
-            × (self.new ≡ book self.old.number None (self.old.receipts ++ r ∷ []))) }
+    /// The reply of the call that isn't taken yet, if it has ended.
+    fn reply(&self) -> Option<Reply>
+        ensures { result ≡ reply_pending self.now.pending }
     {
-        let Some(Pending { call, start, ended }) = self.pending.take() else {
+        let Some(pending) = &self.pending else {
             return None;
         };
-        match ended {
-            Some(Ended { entry, reply }) => {
-                let receipt = Receipt {
-                    call,
-                    start,
-                    end: entry,
-                    reply,
-                };
-                let copy = copy_receipt(&receipt);
-                self.receipts.push(receipt);
-                Some(copy)
-            }
-            None => {
-                self.pending = Some(Pending {
-                    call,
-                    start,
-                    ended: None,
-                });
-                None
-            }
-        }
+        let Some(ended) = &pending.ended else {
+            return None;
+        };
+        Some(copy_reply(&ended.reply))
     }
 }
 
-/// Takes the account's call, if it has ended: the seat gains its receipt.
-pub(crate) fn finish(account: &mut Account, seat: &mut Seat) -> Option<Reply>
-    requires { seat.old.waiting ≢ 0 }
-    ensures some { IfSome result (λ reply. Settles account.old account.new seat.old seat.new (λ call. call) reply) }
-    ensures none { IfNone result ((account.new ≡ account.old) × (seat.new ≡ seat.old) × (option_map_or has_ended account.old.pending false ≡ false)) }
+/// The call that the seat knows of, and else the account's.
+fn known<'a>(own: Option<&'a Call>, call: &'a Call) -> &'a Call
+    ensures { result.now ≡ own_call (option_copied own.entry) call.now }
 {
-    let Some(receipt) = account.settle() else {
-        return None;
-    };
-    let reply = copy_reply(&receipt.reply);
-    seat.receive(receipt);
-    Some(reply)
+    match own {
+        Some(own) => own,
+        None => call,
+    }
 }
 
-/// The same, where the seat's receipt has the call that the seat knows of.
-pub(crate) fn finish_for(account: &mut Account, seat: &mut Seat, call: &Call) -> Option<Reply>
+/// Takes the account's call, if it has ended: the account and the seat gain its receipt. The seat's has the call that the seat knows of.
+pub(crate) fn settle(account: &mut Account, seat: &mut Seat, own: Option<&Call>) -> bool
     requires { seat.old.waiting ≢ 0 }
-    ensures some { IfSome result (λ reply. Settles account.old account.new seat.old seat.new (λ _. call.now) reply) }
+    ensures settles { result ≡ true → (reply : _) × Settles account.old account.new seat.old seat.new (own_call (option_copied own.entry)) reply }
+    ensures same { result ≡ false → (account.new ≡ account.old) × (seat.new ≡ seat.old) × (option_map_or has_ended account.old.pending false ≡ false) }
+{
+    let Account {
+        number: _,
+        pending,
+        receipts,
+    } = account;
+    let Some(open) = &*pending else {
+        return false;
+    };
+    let Some(ended) = &open.ended else {
+        return false;
+    };
+    add_receipt(receipts, &open.call, open.start, ended);
+    seat.receive(known(own, &open.call), open.start, ended);
+    *pending = None;
+    true
+}
+
+/// The same, with the reply.
+pub(crate) fn finish(account: &mut Account, seat: &mut Seat, own: Option<&Call>) -> Option<Reply>
+    requires { seat.old.waiting ≢ 0 }
+    ensures some { IfSome result (λ reply. Settles account.old account.new seat.old seat.new (own_call (option_copied own.entry)) reply) }
     ensures none { IfNone result ((account.new ≡ account.old) × (seat.new ≡ seat.old) × (option_map_or has_ended account.old.pending false ≡ false)) }
 {
-    let Some(
-        Receipt {
-            call: _,
-            start,
-            end,
-            reply,
-        },
-    ) = account.settle()
-    else {
+    let Some(reply) = account.reply() else {
         return None;
     };
-    let answer = copy_reply(&reply);
-    seat.receive(Receipt {
-        call: copy_call(call),
-        start,
-        end,
-        reply,
-    });
-    Some(answer)
+    settle(account, seat, own);
+    Some(reply)
 }

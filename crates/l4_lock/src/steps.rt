@@ -1,7 +1,7 @@
 //! Steps of the kernel with their entries.
 ghost use Rattle.std.specs.Prelude.{◌≡◌, ◌≢◌, ◌⊎◌, ◌+◌, ◌<◌, ◌≤◌, ◌++◌, ◌∷◌, [], ℕ, Ok, Err, None, IfOk, IfErr, OnErr, map, length, MatchOption, slice_get};
 ghost use Rattle.l4_ipc.specs.Steps.{Steps, IsIdle};
-ghost use Rattle.l4_lock.specs.Inside.Noting.{noted};
+ghost use Rattle.l4_lock.specs.Inside.Noting.{noted, first_reply};
 ghost use Rattle.l4_lock.specs.Books.{book_at, reply_waits};
 ghost use Rattle.l4_lock.specs.Inside.Entering.{Went, Begins, IsReady};
 ghost use Rattle.l4_lock.specs.Sizes.{max_steps, max_threads};
@@ -9,7 +9,6 @@ ghost use Rattle.l4_ipc.specs.declared.steps.Refused.{Refused as ARefused};
 ghost use Rattle.l4_ipc.specs.declared.steps.Step.TheVariants.{Start};
 ghost use Rattle.l4_lock.specs.declared.refusals.LockRefusal.TheVariants.{NoMemory, Kernel as ByKernel};
 
-use crate::copies::copy_call;
 use crate::entries::Entry;
 use crate::history::History;
 use crate::refusals::LockRefusal;
@@ -37,6 +36,18 @@ pub fn reply_waits(accounts: &[Account], number: u32) -> bool
         Some(at) => accounts[at].has_reply(),
         None => false,
     }
+}
+
+/// The number of the first account with an ended call that hasn't been taken.
+pub fn first_reply(accounts: &[Account]) -> Option<u32>
+    ensures { result ≡ first_reply accounts.now }
+{
+    for i in 0..accounts.len() {
+        if accounts[i].has_reply() {
+            return Some(accounts[i].number());
+        }
+    }
+    None
 }
 
 /// Notes at each account that these calls ended in the entry of this place.
@@ -98,7 +109,7 @@ pub fn begin(
     if accounts[at].is_pending() {
         return Err(LockRefusal::Kernel(Refused::Busy));
     }
-    if accounts[at].begin(copy_call(&call), history.len()).is_err() {
+    if accounts[at].begin(&call, history.len()).is_err() {
         return Err(LockRefusal::NoMemory);
     }
     let step = Step::Start(number, call);

@@ -1,10 +1,9 @@
 -- Seats and the books of their numbers, as calls are entered and replies are taken.
-use Rattle.std.proofs.Common.{◌≡◌, ◌≢◌, ℕ, suc, zero, ◌+◌, ◌<◌, ◌≤◌, ◌⊎◌, inl, inr, ◌||◌, nat_eq, true, false, is_some, if◌then◌else◌, List, [], ◌∷◌, ◌++◌, length, drop, get_or, slice_get, slice_set, Option, Some, None, Result, Ok, Err, IfOk, IfErr, IfSome, IfNone, MatchOption, refl, sym, ap, ◌∙◌, subst, eq-eqb, arith}
+use Rattle.std.proofs.Common.{◌≡◌, ◌≢◌, ℕ, suc, zero, ◌+◌, ◌<◌, ◌⊎◌, inl, inr, ◌||◌, nat_eq, Bool, true, false, is_some, if◌then◌else◌, List, [], ◌∷◌, ◌++◌, length, drop, get_or, slice_get, slice_set, Option, Some, None, Result, Ok, Err, IfOk, IfErr, MatchOption, refl, sym, ap, ◌∙◌, subst, eq-eqb, arith}
 use Rattle.std.specs.Option.{option_map, option_map_or, option_and_then}
 use Rattle.std.proofs.lemmas.Bool.{false≢true}
 use Rattle.std.proofs.lemmas.Bool.Decides.{eqb_tells}
-use Rattle.std.proofs.lemmas.Option.{slice_get-get_or, slice_get_within}
-use Rattle.std.proofs.lemmas.List.{set-get_or}
+use Rattle.std.proofs.lemmas.Option.{slice_get-get_or}
 use Rattle.l4_threads.specs.declared.Reply.{Reply}
 use Rattle.l4_ipc.specs.declared.calls.Call.{Call}
 use Rattle.l4_ipc.specs.declared.steps.Step.TheVariants.{Start}
@@ -17,11 +16,12 @@ use Rattle.l4_lock.specs.declared.refusals.Entered.{Entered}
 use Rattle.l4_lock.specs.declared.refusals.Entered.TheVariants.{Done as HasEnded, Waiting as IsWaiting}
 use Rattle.l4_lock.specs.declared.refusals.LockRefusal.{LockRefusal}
 use Rattle.l4_lock.specs.declared.refusals.LockRefusal.TheVariants.{ReplyWaiting, HistoryFull, NoMemory, SeatTaken, Kernel as ByKernel}
-use Rattle.l4_lock.specs.Books.{SeatState, seat_state, Book, book, is_among, has_ended, unended, plain, book_at, pending_at, receipts_at, reply_waits}
+use Rattle.l4_lock.specs.Books.{SeatState, seat_state, Book, book, is_among, IsOnce, has_ended, unended, plain, book_at, pending_at, receipts_at, reply_waits}
 use Rattle.l4_lock.specs.Locked.{Lock, Enters, Tells, Takes, Refuses, start_entry}
 use Rattle.l4_lock.proofs.Openings.{none_of}
+use Rattle.l4_lock.proofs.Started.{once_push}
 use Rattle.l4_seats.specs.Seated.{Seated, seated, with_number, Refuses as Declines, Enters as Entering}
-use Rattle.l4_seats.specs.Inside.Keeping.{numbers_of, seat_at, AreTheirs, AreSeats, HaveTaken, still_waits, NoneWaits, OnlyTakes, EntersAndTakes}
+use Rattle.l4_seats.specs.Inside.Keeping.{numbers_of, seat_at, AreTheirs, AreSeats, waiting_in, OnlyTakes, EntersAndTakes}
 use Rattle.l4_seats.proofs.Staying.{Walked, walked, lasts}
 
 -- SEATS BY PLACE AND BY NUMBER
@@ -82,6 +82,28 @@ same_seat x y e = cc
 apart : (xs : List SeatState) (i k : ℕ) (s x : SeatState) → slice_get xs i ≡ Some s → slice_get xs k ≡ Some x → x.number ≢ s.number → k ≢ i
 apart xs i k s x at at' ne same = ne (ap (λ (y : SeatState). y.number) (same_seat x s (sym at' ∙ ap (slice_get xs) same ∙ at)))
 
+number_among : (xs : List SeatState) (i : ℕ) (s : SeatState) → slice_get xs i ≡ Some s → is_among s.number (numbers_of xs) ≡ true
+number_among [] i s at = absurd (let k : ◌≡◌ {A = Option SeatState} None (Some s) = at in cc)
+number_among (x ∷ xs) zero s at =
+    ap (λ t. t || is_among s.number (numbers_of xs)) (eq-eqb x.number s.number (ap (λ (y : SeatState). y.number) (same_seat x s at)))
+number_among (x ∷ xs) (suc i) s at =
+    elim (nat_eq x.number s.number) as (λ t. (t || is_among s.number (numbers_of xs)) ≡ true) [ true ↦ refl | false ↦ number_among xs i s at ]
+
+own_at : (xs : List SeatState) (i : ℕ) (s : SeatState) → slice_get xs i ≡ Some s → IsOnce (numbers_of xs) → seat_at xs s.number ≡ Some s
+own_at [] i s at once = absurd (let k : ◌≡◌ {A = Option SeatState} None (Some s) = at in cc)
+own_at (x ∷ xs) zero s at once =
+    ap (λ t. if t then Some x else seat_at xs s.number) (eq-eqb x.number s.number (ap (λ (y : SeatState). y.number) (same_seat x s at))) ∙ at
+own_at (x ∷ xs) (suc i) s at once =
+    elim (eqb_tells x.number s.number) [
+      | inl is ↦ absurd (false≢true (sym once.0 ∙ ap (λ k. is_among k (numbers_of xs)) is.1 ∙ number_among xs i s at))
+      | inr ne ↦ ap (λ t. if t then Some x else seat_at xs s.number) ne.0 ∙ own_at xs i s at once.1
+    ]
+
+waiting_set : (xs : List SeatState) (i : ℕ) (s after : SeatState) → slice_get xs i ≡ Some s → s.waiting ≡ after.waiting + 1 → waiting_in xs ≡ waiting_in (slice_set xs i after) + 1
+waiting_set [] i s after at less = absurd (let k : ◌≡◌ {A = Option SeatState} None (Some s) = at in cc)
+waiting_set (x ∷ xs) zero s after at less = let w = ap (λ (y : SeatState). y.waiting) (same_seat x s at) in omega (arith, w, less)
+waiting_set (x ∷ xs) (suc i) s after at less = let w = waiting_set xs i s after at less in omega (arith, w)
+
 -- BOOKS
 
 abbrev pending_in : Option Book → Option Pending
@@ -126,6 +148,7 @@ changed books later xs i s after lt read number there_too own others h =
             | inl same ↦ ap (λ k. is_some (book_at later k)) same.1 ∙ there_too ∙ ap (λ k. is_some (book_at books k)) (sym same.1) ∙ h.given m ∙ ap (is_among m) (sym same_numbers)
             | inr ne ↦ sym (some_plain (book_at later m)) ∙ ap is_some (others m ne.1) ∙ some_plain (book_at books m) ∙ h.given m ∙ ap (is_among m) (sym same_numbers)
           ];
+      once = subst IsOnce (sym same_numbers) h.once;
       held = λ m.
           elim (eqb_tells m s.number) [
             | inl same ↦ elim own [
@@ -145,74 +168,58 @@ changed books later xs i s after lt read number there_too own others h =
           ];
     }
 
+pub within : (xs ys : List SeatState) (i : ℕ) → ys ≡ xs → i < length ys → i < length xs
+within xs ys i same lt = subst (λ (l : List SeatState). i < length l) same lt
+
+pub placed : (xs ys : List SeatState) (n i : ℕ) → ys ≡ xs → seat_at ys n ≡ slice_get ys i → seat_at xs n ≡ slice_get xs i
+placed xs ys n i same at = subst (λ (l : List SeatState). seat_at l n ≡ slice_get l i) same at
+
 -- TAKING
 
--- so far the first seats have taken their replies
-pub record Taking (old : Lock) (first : List SeatState) (l : Lock) (seats : List SeatState) (i : ℕ) : Type 0 where
-  pub theirs : AreTheirs l.books seats
-  pub have : HaveTaken l.books seats i
-  pub numbers : numbers_of seats ≡ numbers_of first
-  pub quiet : NoneWaits l
-  pub same : OnlyTakes old l
+-- a number whose reply waits has a seat that waits
+pub waiting_seat : (books : List Book) (xs : List SeatState) (n : ℕ) → AreTheirs books xs → reply_waits books n ≡ true → (s : SeatState) × (seat_at xs n ≡ Some s) × (s.waiting ≢ 0)
+waiting_seat books xs n h waits =
+    elim (h.held n) [
+      | inl none ↦ absurd (false≢true (sym (none_waits books n none) ∙ waits))
+      | inr w ↦ (w.seat, subst (λ k. seat_at xs k ≡ Some w.seat) w.number (own_at xs w.place w.seat w.at h.once), w.waits)
+    ]
 
-last_or : (k i : ℕ) → k < i + 1 → (k < i) ⊎ (k ≡ i)
-last_or k i lt = elim (eqb_tells k i) [ inl same ↦ inr same.1 | inr ne ↦ inl (let n = ne.1 in omega (arith, lt, n)) ]
+-- a reply was taken
+pub record Taken (old new : Lock) (before after : List SeatState) : Type 0 where
+  pub theirs : AreTheirs new.books after
+  pub numbers : numbers_of after ≡ numbers_of before
+  pub same : OnlyTakes old new
+  pub fewer : waiting_in after < waiting_in before
 
-pub taking_more : (old l new : Lock) (first seats : List SeatState) (i : ℕ) (s after : SeatState) (r : Option Reply) → i < length seats → s ≡ get_or seats i s
-    → IfSome r (λ reply. Takes l new s after (λ call. call) reply)
-    → IfNone r ((new ≡ l) × (after ≡ s) × ((s.waiting ≡ 0) ⊎ (reply_waits l.books s.number ≡ false)))
-    → Taking old first l seats i → Taking old first new (slice_set seats i after) (i + 1)
-taking_more old l new first seats i s after None lt read some none t =
-    let at : slice_get seats i ≡ Some s = there seats i s lt read in
-    let back : slice_set seats i after ≡ seats = ap (slice_set seats i) (none.1 ∙ read) ∙ set-get_or seats i s in
-    let more : HaveTaken l.books seats (i + 1) = λ k x less at' waits.
-    elim (last_or k i less) [
-      | inl before ↦ t.have k x before at' waits
-      | inr same ↦
-          let is : x ≡ s = same_seat x s (sym at' ∙ ap (slice_get seats) same ∙ at) in
-          elim none.2 [
-            | inl nothing ↦ absurd (waits (ap (λ (y : SeatState). y.waiting) is ∙ nothing))
-            | inr quiet ↦ ap (λ (y : SeatState). reply_waits l.books y.number) is ∙ quiet
-          ]
-    ] in
-    subst (λ (x : Lock). Taking old first x (slice_set seats i after) (i + 1)) (sym none.0)
-    (subst (λ (xs : List SeatState). Taking old first l xs (i + 1)) (sym back) (record { theirs = t.theirs; have = more; numbers = t.numbers; quiet = t.quiet; same = t.same }))
-taking_more old l new first seats i s after (Some reply) lt read x none t =
-    let at : slice_get seats i ≡ Some s = there seats i s lt read in
-    let number : after.number ≡ s.number = x.settles.number in
-    let cleared : pending_at new.books s.number ≡ None = ap pending_in x.settled ∙ ap (λ (b : Book). b.pending) x.settles.book_is in
-    let theirs : AreTheirs new.books (slice_set seats i after) =
-    changed l.books new.books seats i s after lt read number (ap is_some x.settled ∙ sym (ap is_some x.at)) (inl cleared) (λ m ne. ap (option_map plain) (x.others m ne)) t.theirs in
+pub taken_one : (l new : Lock) (seats : List SeatState) (i n : ℕ) (s after : SeatState) (b : Bool) → i < length seats → s ≡ get_or seats i s → seat_at seats n ≡ slice_get seats i
+    → AreTheirs l.books seats → reply_waits l.books n ≡ true → (b ≡ true → (reply : Reply) × Takes l new s after (λ call. call) reply)
+    → (b ≡ false → (new ≡ l) × (after ≡ s) × ((s.waiting ≡ 0) ⊎ (reply_waits l.books s.number ≡ false)))
+    → Taken l new seats (slice_set seats i after)
+taken_one l new seats i n s after true lt read at h waits takes none =
+    let x = (takes refl).1 in
+    let here : slice_get seats i ≡ Some s = there seats i s lt read in
+    let cleared : pending_at new.books s.number ≡ None = ap pending_in x.settled ∙ ap (λ (y : Book). y.pending) x.settles.book_is in
     record {
-      theirs = theirs;
-      have = λ k y less at' waits.
-          elim (eqb_tells y.number s.number) [
-            | inl same ↦ ap (reply_waits new.books) same.1 ∙ none_waits new.books s.number cleared
-            | inr ne ↦
-                let other : k ≢ i = λ e. ne.1 (ap (λ (z : SeatState). z.number) (same_seat y after (sym at' ∙ ap (slice_get (slice_set seats i after)) e ∙ set_here seats i after lt)) ∙ number) in
-                ap (λ (o : Option Book). option_map_or has_ended (pending_in o) false) (x.others y.number ne.1)
-                ∙ t.have k y (omega (arith, less, other)) (sym (set_there seats i after k other) ∙ at') waits
-          ];
-      numbers = numbers_set seats i after s lt (number ∙ ap (λ (z : SeatState). z.number) read) ∙ t.numbers;
-      quiet = λ m waits.
-          elim (eqb_tells m s.number) [
-            | inl same ↦ absurd (false≢true (sym (ap (reply_waits new.books) same.1 ∙ none_waits new.books s.number cleared) ∙ waits))
-            | inr ne ↦ ap (λ (k : Machine). still_waits k m) x.same.1
-                ∙ t.quiet m (sym (ap (λ (o : Option Book). option_map_or has_ended (pending_in o) false) (x.others m ne.1)) ∙ waits)
-          ];
-      same = (x.same.0 ∙ t.same.0, x.same.1 ∙ t.same.1, x.same.2 ∙ t.same.2, x.same.3 ∙ t.same.3);
+      theirs = changed l.books new.books seats i s after lt read x.settles.number (ap is_some x.settled ∙ sym (ap is_some x.at)) (inl cleared) (λ m ne. ap (option_map plain) (x.others m ne)) h;
+      numbers = numbers_set seats i after s lt (x.settles.number ∙ ap (λ (z : SeatState). z.number) read);
+      same = x.same;
+      fewer = (let w = waiting_set seats i s after here x.settles.waiting in omega (arith, w));
     }
+taken_one l new seats i n s after false lt read at h waits takes none =
+    let w = waiting_seat l.books seats n h waits in
+    let here : slice_get seats i ≡ Some s = there seats i s lt read in
+    let is : s ≡ w.0 = same_seat s w.0 (sym here ∙ sym at ∙ w.1) in
+    let number : s.number ≡ n = at_number seats n s (at ∙ here) in
+    absurd (elim (none refl).2 [
+      | inl nothing ↦ w.2 (ap (λ (y : SeatState). y.waiting) (sym is) ∙ nothing)
+      | inr quiet ↦ false≢true (sym (ap (reply_waits l.books) (sym number) ∙ quiet) ∙ waits)
+    ])
 
-pub taking_done : (old l : Lock) (first seats : List SeatState) (i : ℕ) → length seats ≤ i → Taking old first l seats i → AreSeats l.books seats
-taking_done old l first seats i all t = record {
-  theirs = t.theirs;
-  taken = λ n.
-      elim (t.theirs.held n) [
-        | inl none ↦ none_waits l.books n none
-        | inr w ↦ ap (reply_waits l.books) (sym w.number)
-            ∙ t.have w.place w.seat (let lt = slice_get_within seats w.place w.seat w.at in omega (arith, lt, all)) w.at w.waits
-      ];
-}
+pub some_seat : (books : List Book) (xs : List SeatState) (n : ℕ) → AreTheirs books xs → reply_waits books n ≡ true → seat_at xs n ≢ None
+some_seat books xs n h waits none =
+    let w = waiting_seat books xs n h waits in
+    let k : ◌≡◌ {A = Option SeatState} None (Some w.0) = sym none ∙ w.1 in
+    cc
 
 -- ENTERING
 
@@ -342,11 +349,16 @@ get_front [] ys k s is = absurd (let e : ◌≡◌ {A = Option SeatState} None (
 get_front (x ∷ xs) ys zero s is = is
 get_front (x ∷ xs) ys (suc k) s is = get_front xs ys k s is
 
+numbers_more : (xs : List SeatState) (s : SeatState) → numbers_of (xs ++ s ∷ []) ≡ numbers_of xs ++ s.number ∷ []
+numbers_more [] s = refl
+numbers_more (x ∷ xs) s = ap (λ (l : List ℕ). x.number ∷ l) (numbers_more xs s)
+
 -- one seat more, which has entered nothing
-pub one_more : (books : List Book) (xs : List SeatState) (n : ℕ) → AreSeats books xs → AreSeats (books ++ book n None [] ∷ []) (xs ++ seat_state n 0 [] ∷ [])
-one_more books xs n h = record {
+pub one_more : (books : List Book) (xs : List SeatState) (n : ℕ) → is_among n (numbers_of xs) ≡ false → AreSeats books xs → AreSeats (books ++ book n None [] ∷ []) (xs ++ seat_state n 0 [] ∷ [])
+one_more books xs n other h = record {
   theirs = record {
     given = λ m. book_more books (book n None []) m ∙ ap (λ b. b || (nat_eq n m || false)) (h.theirs.given m) ∙ sym (among_more xs (seat_state n 0 []) m);
+    once = subst IsOnce (sym (numbers_more xs (seat_state n 0 []))) (once_push (numbers_of xs) n h.theirs.once other);
     held = λ m.
         elim (h.theirs.held m) [
           | inl none ↦ inl (pending_more books n m ∙ none)

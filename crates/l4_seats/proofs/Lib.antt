@@ -1,3 +1,2 @@
 pub mod Staying
-pub mod Ended
 pub mod Held

@@ -1,11 +1,11 @@
 //! Seats, each of which takes its replies.
-ghost use Rattle.std.specs.Prelude.{◌≡◌, ◌<◌, ◌⊎◌, ℕ, false, None, IfOk, IfErr, IfSome, IfNone, MatchOption, length, slice_get};
-ghost use Rattle.l4_lock.specs.Books.{SeatState, reply_waits};
-ghost use Rattle.l4_lock.specs.Locked.{Refuses, Takes};
+ghost use Rattle.std.specs.Prelude.{◌≡◌, ◌<◌, ℕ, true, None, IfOk, IfErr, MatchOption, length, slice_get};
+ghost use Rattle.l4_lock.specs.Books.{reply_waits};
+ghost use Rattle.l4_lock.specs.Locked.{Refuses};
 ghost use Rattle.l4_ipc.specs.Steps.{IsIdle};
-ghost use Rattle.l4_seats.specs.Inside.Keeping.{numbers_of, seat_at, AreTheirs, AreSeats, still_waits, NoneWaits, OnlyTakes, EntersAndTakes};
+ghost use Rattle.l4_seats.specs.Inside.Keeping.{numbers_of, seat_at, AreTheirs, AreSeats, waiting_in, OnlyTakes, EntersAndTakes};
 
-use l4_ipc::{Call, Kernel, Reply};
+use l4_ipc::Call;
 use l4_lock::{LockRefusal, Locked, Seat};
 
 /// Where the seat of a number stands.
@@ -21,42 +21,30 @@ pub fn position(seats: &[Seat], number: u32) -> Option<usize>
     None
 }
 
-/// Whether the thread is there and has no reply.
-fn still_waits(kernel: &Kernel, number: u32) -> bool
-    ensures { result ≡ still_waits kernel.now number }
+/// The seat of a number takes the reply of its call that has ended.
+fn take_one(locked: &mut Locked, seats: &mut Vec<Seat>, number: u32)
+    requires theirs { AreTheirs locked.old.books seats.old.items }
+    requires waits { reply_waits locked.old.books number ≡ true }
+    ensures theirs { AreTheirs locked.new.books seats.new.items }
+    ensures numbers { numbers_of seats.new.items ≡ numbers_of seats.old.items }
+    ensures same { OnlyTakes locked.old locked.new }
+    ensures fewer { waiting_in seats.new.items < waiting_in seats.old.items }
 {
-    if kernel.reply(number).is_some() {
-        return false;
-    }
-    kernel.space_of(number).is_some()
-}
-
-/// The seat takes the reply of its call, if that has ended. Where it hasn't, nothing that the lock keeps is searched.
-fn take_ended(locked: &mut Locked, seat: &mut Seat) -> Option<Reply>
-    requires { NoneWaits locked.old }
-    ensures some { IfSome result (λ reply. Takes locked.old locked.new seat.old seat.new (λ call. call) reply) }
-    ensures none { IfNone result ((locked.new ≡ locked.old) × (seat.new ≡ seat.old)
-        × ((seat.old.waiting ≡ 0) ⊎ (reply_waits locked.old.books seat.old.number ≡ false))) }
-{
-    if seat.waiting() == 0 {
-        return None;
-    }
-    if still_waits(locked.kernel(), seat.number()) {
-        return None;
-    }
-    locked.take(seat)
+    let Some(at) = position(seats.as_slice(), number) else {
+        unreachable!()
+    };
+    locked.take_untold(&mut seats[at]);
 }
 
 /// Each seat takes the reply of its call that has ended.
 fn take_all(locked: &mut Locked, seats: &mut Vec<Seat>)
-    requires theirs { AreTheirs locked.old.books seats.old.items }
-    requires waits { NoneWaits locked.old }
+    requires { AreTheirs locked.old.books seats.old.items }
     ensures seats { AreSeats locked.new.books seats.new.items }
     ensures numbers { numbers_of seats.new.items ≡ numbers_of seats.old.items }
     ensures same { OnlyTakes locked.old locked.new }
 {
-    for i in 0..seats.len() {
-        take_ended(locked, &mut seats[i]);
+    while let Some(number) = locked.waiting_reply() {
+        take_one(locked, seats, number);
     }
 }
 
@@ -75,8 +63,7 @@ pub fn enter_at(
         × AreSeats locked.new.books seats.new.items × (numbers_of seats.new.items ≡ numbers_of seats.old.items)) }
     ensures err { IfErr result (λ e. Refuses locked.old number call e × (locked.new ≡ locked.old) × (seats.new.items ≡ seats.old.items)) }
 {
-    locked.law_kept();
-    match locked.enter(&mut seats[at], call) {
+    match locked.enter_untold(&mut seats[at], call) {
         Ok(_) => {
             locked.law_kept();
             take_all(locked, seats);

@@ -1,5 +1,5 @@
 -- A call as it is entered, step after step. (this profile's own)
-use Rattle.std.specs.Prelude.{◌≡◌, ℕ, List, [], ◌∷◌, Option, Some, None, Ok, ◌≤◌, ◌++◌, length, map, slice_get, slice_set}
+use Rattle.std.specs.Prelude.{◌≡◌, ℕ, ◌+◌, List, [], ◌∷◌, Option, Some, None, Ok, ◌≤◌, ◌++◌, length, map, slice_get, slice_set}
 use Rattle.l4_ipc.specs.declared.steps.Step.TheVariants.{Start}
 use Rattle.l4_ipc.specs.Machine.{Machine}
 use Rattle.l4_ipc.specs.Steps.{Steps, IsIdle}
@@ -8,9 +8,9 @@ use Rattle.l4_lock.specs.History.{GoesOn}
 use Rattle.l4_ipc.specs.declared.calls.Call.{Call}
 use Rattle.l4_ipc.specs.declared.steps.Answer.{Answer}
 use Rattle.l4_lock.specs.declared.entries.Pending.{Pending}
-use Rattle.l4_lock.specs.Sizes.{max_threads}
-use Rattle.l4_lock.specs.Books.{Book, plain, HasNotEnded, AreRight}
-use Rattle.l4_lock.specs.Locked.{start_entry}
+use Rattle.l4_lock.specs.Sizes.{max_threads, last_start}
+use Rattle.l4_lock.specs.Books.{SeatState, Book, plain, numbers, IsOnce, HasNotEnded, AreRight}
+use Rattle.l4_lock.specs.Locked.{Lock, start_entry}
 
 -- the seat of the last entry
 abbrev pub last_seat : Option ℕ → List Entry → Option ℕ
@@ -54,3 +54,11 @@ pub record Begins (n : ℕ) (call : Call) (old new : Machine) (before after : Li
   pub pending_is : book.pending ≡ Some pending
   pub pending_call : pending.call ≡ call
   pub pending_start : pending.start ≡ length before
+
+-- A call was entered, and its seat has not gained its receipt: it is left waiting so far.
+pub record IsAdmitted (old new : Lock) (before after : SeatState) (call : Call) (place : ℕ) : Type 0 where
+  pub apart : IsOnce (numbers old.books)
+  pub room : length old.history ≤ last_start
+  pub begins : Begins before.number call old.kernel new.kernel old.history new.history old.books new.books place
+  pub same : (new.frames ≡ old.frames) × (new.board ≡ old.board)
+  pub seat : after ≡ record before { waiting = before.waiting + 1 }

@@ -1,9 +1,6 @@
 -- What the seats in one hand and the books of the lock have to do with each other. (this profile's own)
-use Rattle.std.specs.Prelude.{◌≡◌, ◌≢◌, ℕ, ◌<◌, ◌⊎◌, Bool, true, false, is_some, if◌then◌else◌, nat_eq, List, [], ◌∷◌, map, Option, Some, None, slice_get}
-use Rattle.l4_threads.specs.Threads.{space_of}
-use Rattle.l4_ipc.specs.Machine.{Machine}
-use Rattle.l4_ipc.specs.Reading.{reply_of}
-use Rattle.l4_lock.specs.Books.{SeatState, Book, is_among, book_at, pending_at, reply_waits}
+use Rattle.std.specs.Prelude.{◌≡◌, ◌≢◌, ℕ, ◌+◌, ◌⊎◌, false, is_some, if◌then◌else◌, nat_eq, List, [], ◌∷◌, map, Option, Some, None, slice_get}
+use Rattle.l4_lock.specs.Books.{SeatState, Book, is_among, IsOnce, book_at, pending_at, reply_waits}
 use Rattle.l4_ipc.specs.declared.calls.Call.{Call}
 use Rattle.l4_lock.specs.Locked.{Lock, Enters}
 
@@ -23,9 +20,10 @@ pub record HasWaiting (seats : List SeatState) (n : ℕ) : Type 0 where
   pub number : seat.number ≡ n
   pub waits : seat.waiting ≢ 0
 
--- each number with a book has a seat, and the other way round; a call that isn't taken yet is left waiting by a seat of its number
+-- each number with a book has one seat, and the other way round; a call that isn't taken yet is left waiting by a seat of its number
 pub record AreTheirs (books : List Book) (seats : List SeatState) : Type 0 where
   pub given : (n : ℕ) → is_some (book_at books n) ≡ is_among n (numbers_of seats)
+  pub once : IsOnce (numbers_of seats)
   pub held : (n : ℕ) → (pending_at books n ≡ None) ⊎ HasWaiting seats n
 
 -- and no ended call waits to be taken
@@ -33,17 +31,10 @@ pub record AreSeats (books : List Book) (seats : List SeatState) : Type 0 where
   pub theirs : AreTheirs books seats
   pub taken : (n : ℕ) → reply_waits books n ≡ false
 
--- the thread is there and has no reply
-abbrev pub still_waits : Machine → ℕ → Bool
-still_waits m n = if is_some (reply_of m.threads n) then false else is_some (space_of m.threads n)
-
--- a thread whose ended call isn't taken yet doesn't wait
-abbrev pub NoneWaits : Lock → Type 0
-NoneWaits l = (n : ℕ) → reply_waits l.books n ≡ true → still_waits l.kernel n ≡ false
-
--- the first seats have taken what could be taken
-abbrev pub HaveTaken : List Book → List SeatState → ℕ → Type 0
-HaveTaken books seats i = (k : ℕ) (s : SeatState) → k < i → slice_get seats k ≡ Some s → s.waiting ≢ 0 → reply_waits books s.number ≡ false
+-- how many calls the seats have that they haven't taken
+abbrev pub waiting_in : List SeatState → ℕ
+waiting_in [] = 0
+waiting_in (s ∷ ss) = s.waiting + waiting_in ss
 
 -- replies were taken, and else nothing changed
 abbrev pub OnlyTakes : Lock → Lock → Type 0

@@ -2,29 +2,24 @@ use Rattle.std.proofs.Common.{◌≡◌, ℕ, slice_set, refl, sym, ap, ◌∙�
 use Rattle.std.proofs.lemmas.List.{set-get_or}
 use Rattle.l4_ipc.specs.Steps.{IsIdle}
 use Rattle.l4_lock.specs.Locked.{Enters, Refuses}
-use Rattle.l4_seats.proofs.Ended.{none_waits}
 use Rattle.l4_seats.proofs.Held.{entered, numbered}
 use Rattle.l4_seats.proofs.keeping.enter_at.Goals as goal
 
-pub take_all-requires-clause-waits : goal.take_all-requires-clause-waits
-take_all-requires-clause-waits c =
-    none_waits c.args.locked.now c.enter.new.self c.index_mut.result.now.number c.args.call c.law_kept.ensures c.law_kept-in-Ok.ensures c.requires.seats.taken c.in-Ok.ensures.ok.0
-
-pub take_all-requires-clause-theirs : goal.take_all-requires-clause-theirs
-take_all-requires-clause-theirs c =
-    (entered c.args.locked.now c.enter.new.self c.args.seats.now.items c.args.at c.index_mut.result.now c.enter.new.seat c.index_mut.result.now.number c.args.call c.in-Ok.field-0
-    c.requires.within c.index_mut.ensures.value refl c.requires.seats.theirs c.in-Ok.ensures.ok.0 c.in-Ok.ensures.ok.1).0
+pub take_all-requires : goal.take_all-requires
+take_all-requires c =
+    (entered c.args.locked.now c.enter_untold.new.self c.args.seats.now.items c.args.at c.index_mut.result.now c.enter_untold.new.seat c.index_mut.result.now.number c.args.call c.in-Ok.ensures.ok.1.0
+    c.requires.within c.index_mut.ensures.value refl c.requires.seats.theirs c.in-Ok.ensures.ok.0 c.in-Ok.ensures.ok.1.1).0
 
 pub returns-in-Ok-clause-ok : goal.returns-in-Ok-clause-ok
 returns-in-Ok-clause-ok c =
     let number : c.index_mut.result.now.number ≡ c.args.number =
     numbered c.args.seats.now.items c.args.at c.args.number c.index_mut.result.now c.requires.within c.index_mut.ensures.value c.requires.at in (
-      (c.enter.new.self, subst (λ (n : ℕ). Enters c.args.locked.now c.enter.new.self n c.args.call) number c.in-Ok.ensures.ok.0, c.take_all.ensures.same),
-      subst IsIdle (sym c.take_all.ensures.same.1) c.law_kept-in-Ok.ensures.idle,
+      (c.enter_untold.new.self, subst (λ (n : ℕ). Enters c.args.locked.now c.enter_untold.new.self n c.args.call) number c.in-Ok.ensures.ok.0, c.take_all.ensures.same),
+      subst IsIdle (sym c.take_all.ensures.same.1) c.law_kept.ensures.idle,
       c.take_all.ensures.seats,
       c.take_all.ensures.numbers
-          ∙ (entered c.args.locked.now c.enter.new.self c.args.seats.now.items c.args.at c.index_mut.result.now c.enter.new.seat c.index_mut.result.now.number c.args.call c.in-Ok.field-0
-          c.requires.within c.index_mut.ensures.value refl c.requires.seats.theirs c.in-Ok.ensures.ok.0 c.in-Ok.ensures.ok.1).1,
+          ∙ (entered c.args.locked.now c.enter_untold.new.self c.args.seats.now.items c.args.at c.index_mut.result.now c.enter_untold.new.seat c.index_mut.result.now.number c.args.call c.in-Ok.ensures.ok.1.0
+          c.requires.within c.index_mut.ensures.value refl c.requires.seats.theirs c.in-Ok.ensures.ok.0 c.in-Ok.ensures.ok.1.1).1,
     )
 
 pub returns-in-Err-clause-err : goal.returns-in-Err-clause-err

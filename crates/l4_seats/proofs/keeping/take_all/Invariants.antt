@@ -1,5 +1,10 @@
-use Rattle.l4_seats.proofs.Held.{Taking}
+use Rattle.std.proofs.Common.{◌≡◌}
+use Rattle.l4_seats.specs.Inside.Keeping.{AreTheirs, OnlyTakes, numbers_of, waiting_in}
 use Rattle.l4_seats.proofs.keeping.take_all.Given as goal
 
-abbrev pub invariant-loop-i : goal.invariant-loop-i
-invariant-loop-i l = Taking l.initial.locked l.initial.seats.items l.locked l.seats.items l.i
+abbrev pub invariant-loop-number : goal.invariant-loop-number
+invariant-loop-number l =
+    AreTheirs l.locked.books l.seats.items × (numbers_of l.seats.items ≡ numbers_of l.initial.seats.items) × OnlyTakes l.initial.locked l.locked
+
+abbrev pub decreases-loop-number : goal.decreases-loop-number
+decreases-loop-number l = waiting_in l.seats.items

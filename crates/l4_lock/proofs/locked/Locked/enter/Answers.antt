@@ -1,100 +1,26 @@
-use Rattle.std.proofs.Common.{◌≡◌, ◌<◌, ℕ, List, length, Some, slice_get, slice_set, false, sym, ap, ◌∙◌, subst, arith}
-use Rattle.std.proofs.lemmas.Option.{slice_get_within}
-use Rattle.l4_lock.specs.declared.entries.Entry.{Entry}
-use Rattle.l4_lock.specs.Books.{Book, book_at, reply_waits}
-use Rattle.l4_lock.specs.Locked.{Lock, lock, Enters, EndsAtOnce, IsLeft, Refuses}
-use Rattle.l4_lock.specs.Inside.Entering.{IsReady, Begins}
-use Rattle.l4_lock.specs.Inside.Board.{Publishing}
-use Rattle.l4_lock.proofs.Openings.{ok_part}
-use Rattle.l4_lock.proofs.Started.{ready, get_there}
-use Rattle.l4_lock.proofs.Taking.{finished, begun_kept, numbered, enters, ends_at_once, is_left, seat_back, refuses, some_there}
+use Rattle.std.proofs.Common.{sym, subst}
+use Rattle.l4_lock.specs.Locked.{Lock, lock}
+use Rattle.l4_lock.specs.Inside.Entering.{IsAdmitted}
+use Rattle.l4_lock.proofs.Taking.{placed, finished, entered_done, entered_left}
 use Rattle.l4_lock.proofs.locked.Locked.enter.Goals as goal
 
-pub begin-requires-clause-book : goal.begin-requires-clause-book
-begin-requires-clause-book c =
-    subst (λ (h : List Entry). IsReady c.self.inside.accounts.items c.in-Some.at c.number-number.result h c.self.inside.kernel) (sym c.reserve.ensures.entries)
-    (ready c.self.inside.frames c.self.inside.history.entries c.self.inside.kernel c.self.inside.accounts.items c.number-number.result c.in-Some.at c.self.invariant.right
-    (subst (λ (l : List Book). c.in-Some.at < length l) c.as_slice-2.ensures.value c.in-Some.ensures.0)
-    (subst (λ (l : List Book). book_at l c.number-number.result ≡ slice_get l c.in-Some.at) c.as_slice-2.ensures.value c.in-Some.ensures.1)
-    (subst (λ (l : List Book). reply_waits l c.number-number.result ≡ false) c.as_slice.ensures.value (sym c.if-reply_waits.ensures)))
+pub invariant_of-self : goal.invariant_of-self
+invariant_of-self c =
+    let a : IsAdmitted c.args.self.now (lock c.self.inside.frames c.self.inside.kernel c.self.inside.history.entries c.self.inside.accounts.items c.self.inside.publisher.board c.self.inside.publisher.shown) c.args.seat.now c.admit.new.seat c.args.call c.in-Ok.at =
+    subst (λ (l : Lock). IsAdmitted c.args.self.now l c.args.seat.now c.admit.new.seat c.args.call c.in-Ok.at) (sym c.self.view_is) c.in-Ok.ensures.ok in
+    finished _ _ _ c.self.inside.accounts.items _ _ c.in-Ok.at c.index_mut.result.now c.finish.new.account c.admit.new.seat c.finish.new.seat (λ call. call) c.finish.result c.self.invariant
+    (placed _ _ _ _ _ _ a) c.index_mut.ensures.value c.finish.ensures.some c.finish.ensures.none
 
-pub returns-in-Err-clause-err : goal.returns-in-Err-clause-err
-returns-in-Err-clause-err c = (
-  subst (λ (l : Lock). Refuses l c.args.seat.now.number c.args.call c.in-Err.refusal) c.self.view_is
-      (subst (λ (n : ℕ). Refuses (lock c.self.inside.frames c.self.inside.kernel c.self.inside.history.entries c.self.inside.accounts.items c.self.inside.publisher.board c.self.inside.publisher.shown) n c.args.call c.in-Err.refusal) c.number-number.ensures
-      (refuses c.self.inside.frames c.self.inside.history.entries c.self.inside.kernel c.self.inside.accounts.items c.self.inside.publisher.board c.self.inside.publisher.shown c.number-number.result c.args.call c.in-Err.refusal
-      (subst (λ (l : List Book). reply_waits l c.number-number.result ≡ false) c.as_slice.ensures.value (sym c.if-reply_waits.ensures))
-      (let no_more = c.if-len-gt-LAST_START.false in let l = c.len.ensures in omega (arith, no_more, l))
-      (let lt : c.in-Some.at < length c.self.inside.accounts.items = subst (λ (l : List Book). c.in-Some.at < length l) c.as_slice-2.ensures.value c.in-Some.ensures.0 in
-      let there = get_there c.self.inside.accounts.items c.in-Some.at lt in
-      some_there (book_at c.self.inside.accounts.items c.number-number.result) there.0
-      (subst (λ (l : List Book). book_at l c.number-number.result ≡ slice_get l c.in-Some.at) c.as_slice-2.ensures.value c.in-Some.ensures.1 ∙ there.1))
-      c.in-Err.ensures.err)),
-  (λ i. lock c.self.inside.frames (c.in-Err.ensures.same.0 i) ((c.in-Err.ensures.same.1 ∙ c.reserve.ensures.entries) i) (c.in-Err.ensures.same.2 i) c.self.inside.publisher.board c.self.inside.publisher.shown) ∙ c.self.view_is,
-  seat_back c.args.seat.now c.wait_more.new.self c.wait_less.new.self (ok_part _ _ _ c.wait_more.ensures (sym c.if-is_err-2.ensures.value)) c.wait_less.ensures,
-)
-
-pub index_mut-requires : goal.index_mut-requires
-index_mut-requires c =
-    let b = c.in_default-begin.ensures.ok in
-    let lt = slice_get_within' c.begin.new.accounts.items c.in-Some.at b.book b.at in
-    let n = c.begin.new.accounts.ok.0 in
-    omega (arith, lt, n) where
-      slice_get_within' : (xs : List Book) (k : ℕ) (x : Book) → slice_get xs k ≡ Some x → k < length xs
-      slice_get_within' xs k x is = slice_get_within xs k x is
-
-pub invariant_of-self-in-Some-finish : goal.invariant_of-self-in-Some-finish
-invariant_of-self-in-Some-finish c =
-    let b : Begins c.number-number.result c.args.call c.self.inside.kernel c.begin.new.kernel c.self.inside.history.entries c.begin.new.history.entries c.self.inside.accounts.items c.begin.new.accounts.items c.in-Some.at =
-    subst (λ (h : List Entry). Begins c.number-number.result c.args.call c.self.inside.kernel c.begin.new.kernel h c.begin.new.history.entries c.self.inside.accounts.items c.begin.new.accounts.items c.in-Some.at) c.reserve.ensures.entries c.in_default-begin.ensures.ok in
-    let kept = begun_kept c.self.inside.frames c.self.inside.history.entries c.begin.new.history.entries c.self.inside.kernel c.begin.new.kernel c.self.inside.accounts.items c.begin.new.accounts.items c.self.inside.publisher.board c.publish.new.self.board
-    c.self.inside.publisher.shown c.publish.new.self.shown c.number-number.result c.in-Some.at c.args.call c.self.invariant
-    (let no_more = c.if-len-gt-LAST_START.false in let l = c.len.ensures in omega (arith, no_more, l)) b (ap (λ (p : Publishing). p.shown) c.publish.ensures ∙ c.len-2.ensures) in
-    let lt : c.in-Some.at < length c.begin.new.accounts.items = slice_get_within c.begin.new.accounts.items c.in-Some.at b.book b.at in
-    finished c.self.inside.frames c.begin.new.history.entries c.begin.new.kernel c.begin.new.accounts.items c.publish.new.self.board c.publish.new.self.shown c.in-Some.at c.index_mut.result.now c.finish.new.account c.wait_more.new.self c.finish.new.seat (λ call. call) c.finish.result
-    kept lt c.index_mut.ensures.value c.finish.ensures.some c.finish.ensures.none
-
-pub returns-in-Some-finish-clause-ok : goal.returns-in-Some-finish-clause-ok
-returns-in-Some-finish-clause-ok c =
-    let b : Begins c.number-number.result c.args.call c.self.inside.kernel c.begin.new.kernel c.self.inside.history.entries c.begin.new.history.entries c.self.inside.accounts.items c.begin.new.accounts.items c.in-Some.at =
-    subst (λ (h : List Entry). Begins c.number-number.result c.args.call c.self.inside.kernel c.begin.new.kernel h c.begin.new.history.entries c.self.inside.accounts.items c.begin.new.accounts.items c.in-Some.at) c.reserve.ensures.entries c.in_default-begin.ensures.ok in
-    let kept = begun_kept c.self.inside.frames c.self.inside.history.entries c.begin.new.history.entries c.self.inside.kernel c.begin.new.kernel c.self.inside.accounts.items c.begin.new.accounts.items c.self.inside.publisher.board c.publish.new.self.board
-    c.self.inside.publisher.shown c.publish.new.self.shown c.number-number.result c.in-Some.at c.args.call c.self.invariant
-    (let no_more = c.if-len-gt-LAST_START.false in let l = c.len.ensures in omega (arith, no_more, l)) b (ap (λ (p : Publishing). p.shown) c.publish.ensures ∙ c.len-2.ensures) in (
-      subst (λ (l : Lock). Enters l (lock c.self.inside.frames c.begin.new.kernel c.begin.new.history.entries (slice_set c.begin.new.accounts.items c.in-Some.at c.finish.new.account) c.publish.new.self.board c.publish.new.self.shown) c.args.seat.now.number c.args.call) c.self.view_is
-          (enters c.self.inside.frames c.self.inside.history.entries c.begin.new.history.entries c.self.inside.kernel c.begin.new.kernel c.self.inside.accounts.items c.begin.new.accounts.items c.self.inside.publisher.board c.publish.new.self.board c.self.inside.publisher.shown c.publish.new.self.shown c.number-number.result c.args.seat.now.number c.in-Some.at c.args.call c.finish.new.account
-          (let no_more = c.if-len-gt-LAST_START.false in let l = c.len.ensures in omega (arith, no_more, l)) b c.number-number.ensures
-          (ap (λ (p : Publishing). p.board) c.publish.ensures)
-          (ap (λ (z : Book). z.number) c.in-Some-finish.ensures.some.book_is ∙ numbered c.self.inside.history.entries c.begin.new.history.entries c.self.inside.kernel c.begin.new.kernel c.self.inside.accounts.items c.begin.new.accounts.items c.number-number.result c.in-Some.at c.args.call c.index_mut.result.now b c.index_mut.ensures.value)),
-      subst (λ (l : Lock). EndsAtOnce l (lock c.self.inside.frames c.begin.new.kernel c.begin.new.history.entries (slice_set c.begin.new.accounts.items c.in-Some.at c.finish.new.account) c.publish.new.self.board c.publish.new.self.shown) c.args.seat.now c.finish.new.seat c.args.call c.in-Some-finish.reply) c.self.view_is
-          (ends_at_once c.self.inside.frames c.self.inside.history.entries c.begin.new.history.entries c.self.inside.kernel c.begin.new.kernel c.self.inside.accounts.items c.begin.new.accounts.items c.self.inside.publisher.board c.publish.new.self.board c.self.inside.publisher.shown c.publish.new.self.shown c.number-number.result c.in-Some.at c.args.call c.index_mut.result.now c.finish.new.account c.args.seat.now c.wait_more.new.self c.finish.new.seat c.in-Some-finish.reply
-          b kept.right c.self.invariant.right.apart c.number-number.ensures c.index_mut.ensures.value (ok_part _ _ _ c.wait_more.ensures (sym c.if-is_err-2.ensures.value)) c.in-Some-finish.ensures.some),
-    )
-
-pub invariant_of-self-2 : goal.invariant_of-self-2
-invariant_of-self-2 c =
-    let b : Begins c.number-number.result c.args.call c.self.inside.kernel c.begin.new.kernel c.self.inside.history.entries c.begin.new.history.entries c.self.inside.accounts.items c.begin.new.accounts.items c.in-Some.at =
-    subst (λ (h : List Entry). Begins c.number-number.result c.args.call c.self.inside.kernel c.begin.new.kernel h c.begin.new.history.entries c.self.inside.accounts.items c.begin.new.accounts.items c.in-Some.at) c.reserve.ensures.entries c.in_default-begin.ensures.ok in
-    let kept = begun_kept c.self.inside.frames c.self.inside.history.entries c.begin.new.history.entries c.self.inside.kernel c.begin.new.kernel c.self.inside.accounts.items c.begin.new.accounts.items c.self.inside.publisher.board c.publish.new.self.board
-    c.self.inside.publisher.shown c.publish.new.self.shown c.number-number.result c.in-Some.at c.args.call c.self.invariant
-    (let no_more = c.if-len-gt-LAST_START.false in let l = c.len.ensures in omega (arith, no_more, l)) b (ap (λ (p : Publishing). p.shown) c.publish.ensures ∙ c.len-2.ensures) in
-    let lt : c.in-Some.at < length c.begin.new.accounts.items = slice_get_within c.begin.new.accounts.items c.in-Some.at b.book b.at in
-    finished c.self.inside.frames c.begin.new.history.entries c.begin.new.kernel c.begin.new.accounts.items c.publish.new.self.board c.publish.new.self.shown c.in-Some.at c.index_mut.result.now c.finish.new.account c.wait_more.new.self c.finish.new.seat (λ call. call) c.finish.result
-    kept lt c.index_mut.ensures.value c.finish.ensures.some c.finish.ensures.none
+pub returns-in-Some-clause-ok : goal.returns-in-Some-clause-ok
+returns-in-Some-clause-ok c =
+    let a : IsAdmitted c.args.self.now (lock c.self.inside.frames c.self.inside.kernel c.self.inside.history.entries c.self.inside.accounts.items c.self.inside.publisher.board c.self.inside.publisher.shown) c.args.seat.now c.admit.new.seat c.args.call c.in-Ok.at =
+    subst (λ (l : Lock). IsAdmitted c.args.self.now l c.args.seat.now c.admit.new.seat c.args.call c.in-Ok.at) (sym c.self.view_is) c.in-Ok.ensures.ok in
+    entered_done c.args.self.now (lock c.self.inside.frames c.self.inside.kernel c.self.inside.history.entries c.self.inside.accounts.items c.self.inside.publisher.board c.self.inside.publisher.shown) c.args.seat.now c.admit.new.seat c.finish.new.seat c.args.call c.in-Ok.at c.index_mut.result.now c.finish.new.account c.in-Some.reply
+    c.self.invariant a c.index_mut.ensures.value c.in-Some.ensures.some
 
 pub returns-clause-ok : goal.returns-clause-ok
 returns-clause-ok c =
-    let b : Begins c.number-number.result c.args.call c.self.inside.kernel c.begin.new.kernel c.self.inside.history.entries c.begin.new.history.entries c.self.inside.accounts.items c.begin.new.accounts.items c.in-Some.at =
-    subst (λ (h : List Entry). Begins c.number-number.result c.args.call c.self.inside.kernel c.begin.new.kernel h c.begin.new.history.entries c.self.inside.accounts.items c.begin.new.accounts.items c.in-Some.at) c.reserve.ensures.entries c.in_default-begin.ensures.ok in
-    let kept = begun_kept c.self.inside.frames c.self.inside.history.entries c.begin.new.history.entries c.self.inside.kernel c.begin.new.kernel c.self.inside.accounts.items c.begin.new.accounts.items c.self.inside.publisher.board c.publish.new.self.board
-    c.self.inside.publisher.shown c.publish.new.self.shown c.number-number.result c.in-Some.at c.args.call c.self.invariant
-    (let no_more = c.if-len-gt-LAST_START.false in let l = c.len.ensures in omega (arith, no_more, l)) b (ap (λ (p : Publishing). p.shown) c.publish.ensures ∙ c.len-2.ensures) in (
-      subst (λ (l : Lock). Enters l (lock c.self.inside.frames c.begin.new.kernel c.begin.new.history.entries (slice_set c.begin.new.accounts.items c.in-Some.at c.finish.new.account) c.publish.new.self.board c.publish.new.self.shown) c.args.seat.now.number c.args.call) c.self.view_is
-          (enters c.self.inside.frames c.self.inside.history.entries c.begin.new.history.entries c.self.inside.kernel c.begin.new.kernel c.self.inside.accounts.items c.begin.new.accounts.items c.self.inside.publisher.board c.publish.new.self.board c.self.inside.publisher.shown c.publish.new.self.shown c.number-number.result c.args.seat.now.number c.in-Some.at c.args.call c.finish.new.account
-          (let no_more = c.if-len-gt-LAST_START.false in let l = c.len.ensures in omega (arith, no_more, l)) b c.number-number.ensures
-          (ap (λ (p : Publishing). p.board) c.publish.ensures)
-          (ap (λ (z : Book). z.number) c.in_default-finish.ensures.none.0 ∙ numbered c.self.inside.history.entries c.begin.new.history.entries c.self.inside.kernel c.begin.new.kernel c.self.inside.accounts.items c.begin.new.accounts.items c.number-number.result c.in-Some.at c.args.call c.index_mut.result.now b c.index_mut.ensures.value)),
-      subst (λ (l : Lock). IsLeft l (lock c.self.inside.frames c.begin.new.kernel c.begin.new.history.entries (slice_set c.begin.new.accounts.items c.in-Some.at c.finish.new.account) c.publish.new.self.board c.publish.new.self.shown) c.args.seat.now c.finish.new.seat) c.self.view_is
-          (is_left c.self.inside.frames c.self.inside.history.entries c.begin.new.history.entries c.self.inside.kernel c.begin.new.kernel c.self.inside.accounts.items c.begin.new.accounts.items c.self.inside.publisher.board c.publish.new.self.board c.self.inside.publisher.shown c.publish.new.self.shown c.number-number.result c.in-Some.at c.args.call c.index_mut.result.now c.finish.new.account c.args.seat.now c.wait_more.new.self c.finish.new.seat
-          b kept.right c.self.invariant.right.apart c.number-number.ensures c.index_mut.ensures.value (ok_part _ _ _ c.wait_more.ensures (sym c.if-is_err-2.ensures.value)) c.in_default-finish.ensures.none.0 c.in_default-finish.ensures.none.1 c.in_default-finish.ensures.none.2),
-    )
+    let a : IsAdmitted c.args.self.now (lock c.self.inside.frames c.self.inside.kernel c.self.inside.history.entries c.self.inside.accounts.items c.self.inside.publisher.board c.self.inside.publisher.shown) c.args.seat.now c.admit.new.seat c.args.call c.in-Ok.at =
+    subst (λ (l : Lock). IsAdmitted c.args.self.now l c.args.seat.now c.admit.new.seat c.args.call c.in-Ok.at) (sym c.self.view_is) c.in-Ok.ensures.ok in
+    entered_left c.args.self.now (lock c.self.inside.frames c.self.inside.kernel c.self.inside.history.entries c.self.inside.accounts.items c.self.inside.publisher.board c.self.inside.publisher.shown) c.args.seat.now c.admit.new.seat c.finish.new.seat c.args.call c.in-Ok.at c.index_mut.result.now c.finish.new.account
+    c.self.invariant a c.index_mut.ensures.value c.in_default.ensures.none

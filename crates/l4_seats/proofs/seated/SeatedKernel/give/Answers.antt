@@ -32,6 +32,7 @@ invariant_of-self-2 c =
       subst (λ (l : List Book). AreSeats l c.push_reserved.new.self.items) (sym books)
           (subst (λ (l : List SeatState). AreSeats (c.self.inside.locked.books ++ book c.args.number _ [] ∷ []) l)
           (sym (c.push_reserved.ensures.items ∙ (λ i. c.reserve.ensures.items i ++ c.in-Ok.ensures.0 i ∷ [])))
-          (one_more c.self.inside.locked.books c.self.inside.seats.items c.args.number c.self.invariant.0)),
+          (one_more c.self.inside.locked.books c.self.inside.seats.items c.args.number
+          (subst (λ (l : List SeatState). is_among c.args.number (numbers_of l) ≡ false) c.as_slice.ensures.value (not_found c.as_slice.result.now c.args.number c.position.result c.position.ensures (sym c.if-is_some.ensures))) c.self.invariant.0)),
       c.self.invariant.1,
     )
