@@ -1,0 +1,68 @@
+"""An L4 X.2 kernel core in user space, whose every answer is proved.
+
+Steps of many threads go in; replies, mappings and refusals come out, by the rules of the L4 eXperimental Kernel Reference Manual, Version
+X.2 (32-bit, no string items). This package is the way from Python to the library libl4, over ctypes.
+
+A `Kernel` boots with two threads: sigma0, thread 1 in space 0, shows each frame at the page of its number with all rights; root, thread 2
+in space 1, shows none and may create threads. A thread starts a `Call`; a call that waits ends in a later step, and its end is a `Reply`.
+What the kernel refuses is raised as `Refused`, with its code and a text; a number that has too many bits, too many words and the like
+raise ValueError.
+
+Threads go by their numbers where they act, and by whole `ThreadId`s as partners, as in the kernel's own words. Pages have 4,096 bytes and
+are counted from 0, below 1,048,576 in a space. Spaces have numbers of 64 bits that are never used twice.
+"""
+from . import draw
+from .kernel import Answer, Done, Entered, Expire, Kernel, Mapping, Outcome, Place, Reply, ReplyKind, Step, Transfer
+from .plans import Plan, Region
+from .refusals import IpcFailed, Refused, TooLong
+from .words import (
+    MAX_FRAMES,
+    MAX_THREADS,
+    MAX_WORDS,
+    PAGE_BYTES,
+    SPACE_PAGES,
+    Call,
+    Fpage,
+    Item,
+    Message,
+    Rights,
+    ThreadId,
+    Timeout,
+    timeouts,
+)
+
+__version__ = "0.1.0"
+
+__all__ = [
+    "MAX_FRAMES",
+    "MAX_THREADS",
+    "MAX_WORDS",
+    "PAGE_BYTES",
+    "SPACE_PAGES",
+    "Answer",
+    "Call",
+    "Done",
+    "Entered",
+    "Expire",
+    "Fpage",
+    "IpcFailed",
+    "Item",
+    "Kernel",
+    "Mapping",
+    "Message",
+    "Outcome",
+    "Place",
+    "Plan",
+    "Refused",
+    "Region",
+    "Reply",
+    "ReplyKind",
+    "Rights",
+    "Step",
+    "ThreadId",
+    "Timeout",
+    "TooLong",
+    "Transfer",
+    "draw",
+    "timeouts",
+]

@@ -1,0 +1,225 @@
+"""The functions of the C header, over the shared object libl4.so.
+
+The structs, constants and functions are laid out by hand; tests/bindings compares them with what a C compiler reads in include/l4.h.
+"""
+from __future__ import annotations
+
+import ctypes
+import operator
+import os
+from ctypes import POINTER, Structure, c_char_p, c_size_t, c_uint32, c_uint64, c_void_p
+from pathlib import Path
+from typing import Any, Dict, List, Sequence, Tuple
+
+L4_MAX_THREADS = 64
+L4_MAX_WORDS = 64
+L4_MAX_ITEMS = 31
+L4_TOO_MANY = 32
+L4_MAX_FRAMES = 4096
+L4_SPACE_PAGES = 1048576
+L4_MAX_REGIONS = 64
+
+L4_NILTHREAD = 0
+L4_ANYTHREAD = 0xFFFFFFFF
+L4_ZERO_TIMEOUT = 0x400
+
+L4_READ = 4
+L4_WRITE = 2
+L4_EXECUTE = 1
+
+L4_OK = 0
+L4_B1 = 0x4231
+L4_B2 = 0x4232
+L4_B3 = 0x4233
+L4_K1 = 0x4B31
+L4_K2 = 0x4B32
+L4_K3 = 0x4B33
+L4_K4 = 0x4B34
+L4_K6 = 0x4B36
+L4_M1 = 0x4D31
+L4_M2 = 0x4D32
+L4_M3 = 0x4D33
+L4_M4 = 0x4D34
+L4_M5 = 0x4D35
+L4_M6 = 0x4D36
+L4_M7 = 0x4D37
+L4_H1 = 0x4831
+L4_H2 = 0x4832
+L4_H3 = 0x4833
+L4_H4 = 0x4834
+L4_H5 = 0x4835
+L4_H6 = 0x4836
+L4_U1 = 0x5531
+L4_U2 = 0x5532
+L4_N1 = 0x4E31
+L4_N2 = 0x4E32
+L4_N3 = 0x4E33
+L4_N4 = 0x4E34
+L4_C1 = 0x4331
+L4_C2 = 0x4332
+L4_C3 = 0x4333
+L4_C4 = 0x4334
+L4_C5 = 0x4335
+L4_C6 = 0x4336
+L4_P1 = 0x5031
+L4_P2 = 0x5032
+L4_P3 = 0x5033
+L4_P4 = 0x5034
+L4_NO_MEMORY = 0x4E6F
+
+L4_IPC = 1
+L4_FAULT = 2
+L4_UNMAP = 3
+L4_CREATE = 4
+L4_SET_PAGER = 5
+L4_DELETE = 6
+
+L4_STARTED = 1
+L4_DELIVERED = 2
+L4_NO_WINDOW = 3
+L4_ENTANGLED = 4
+L4_WANTS_MEMORY = 5
+L4_EXPIRED = 6
+
+L4_NONE = 0
+L4_TRANSFER = 1
+L4_EXPIRE = 2
+
+L4_REPLY_IPC = 1
+L4_REPLY_HIT = 2
+L4_REPLY_ANSWERED = 3
+L4_REPLY_FAILED = 4
+L4_REPLY_UNMAPPED = 5
+L4_REPLY_CONTROLLED = 6
+L4_REPLY_GONE = 7
+
+# the room for a text of a refusal, which is longer than each of them
+TEXT_ROOM = 160
+
+
+def numbers(names: str) -> List[Tuple[str, Any]]:
+    """Members of 32 bits each."""
+    return [(name, c_uint32) for name in names.split()]
+
+
+class l4_kernel(Structure):
+    _fields_ = [("hidden", c_void_p)]
+
+
+class l4_call(Structure):
+    _fields_ = numbers("kind to from timeouts acceptor address ip access control id space pager")
+
+
+class l4_answer(Structure):
+    _fields_ = numbers("refusal detail outcome ended_count") + [("ended", c_uint32 * L4_MAX_THREADS)]
+
+
+class l4_step(Structure):
+    _fields_ = numbers("refusal kind thread receiver outcome ended_count") + [("ended", c_uint32 * 2)]
+
+
+class l4_entered(Structure):
+    _fields_ = [("start", l4_answer), ("step_count", c_uint32)]
+
+
+class l4_reply(Structure):
+    _fields_ = numbers("refusal kind tag error from word_count") + [("words", c_uint32 * L4_MAX_WORDS)]
+
+
+class l4_space(Structure):
+    _fields_ = numbers("refusal there") + [("space", c_uint64)]
+
+
+class l4_mapping(Structure):
+    _fields_ = numbers("refusal there frame rights has_parent parent_page") + [("parent_space", c_uint64)]
+
+
+class l4_page(Structure):
+    _fields_ = numbers("refusal there page")
+
+
+class l4_region(Structure):
+    _fields_ = numbers("source target count rights")
+
+
+class l4_plan(Structure):
+    _fields_ = numbers("refusal word_count page_count") + [
+        ("words", c_uint32 * L4_MAX_WORDS),
+        ("pages", c_uint32 * L4_TOO_MANY),
+    ]
+
+
+class l4_verdict(Structure):
+    _fields_ = numbers("refusal detail")
+
+
+STRUCTS = [l4_kernel, l4_call, l4_answer, l4_step, l4_entered, l4_reply, l4_space, l4_mapping, l4_page, l4_region, l4_plan, l4_verdict]
+
+KERNEL = POINTER(l4_kernel)
+WORDS = POINTER(c_uint32)
+REGION = POINTER(l4_region)
+
+# each function's result and parameters
+FUNCTIONS: Dict[str, Tuple[Any, List[Any]]] = {
+    "l4_refusal_code": (c_size_t, [c_uint32, c_char_p, c_size_t]),
+    "l4_refusal_text": (c_size_t, [c_uint32, c_char_p, c_size_t]),
+    "l4_boot": (c_uint32, [KERNEL, c_uint32]),
+    "l4_free": (None, [KERNEL]),
+    "l4_start": (l4_answer, [KERNEL, c_uint32, POINTER(l4_call), WORDS, c_size_t]),
+    "l4_transfer": (l4_answer, [KERNEL, c_uint32, c_uint32]),
+    "l4_expire": (l4_answer, [KERNEL, c_uint32]),
+    "l4_enabled": (l4_step, [KERNEL]),
+    "l4_next": (l4_step, [KERNEL]),
+    "l4_enter": (l4_entered, [KERNEL, c_uint32, POINTER(l4_call), WORDS, c_size_t, POINTER(l4_step), c_size_t]),
+    "l4_reply_of": (l4_reply, [KERNEL, c_uint32]),
+    "l4_space_of": (l4_space, [KERNEL, c_uint32]),
+    "l4_mapping_of": (l4_mapping, [KERNEL, c_uint64, c_uint32]),
+    "l4_next_page": (l4_page, [KERNEL, c_uint64, c_uint32]),
+    "l4_plan_region": (l4_plan, [REGION]),
+    "l4_check_plan": (l4_verdict, [REGION, WORDS, c_size_t, WORDS, c_size_t]),
+    "l4_check_too_long": (l4_verdict, [REGION, WORDS, c_size_t]),
+}
+
+
+def load() -> ctypes.CDLL:
+    """The shared object that L4_LIBRARY names, or else the one beside this file."""
+    file = os.environ.get("L4_LIBRARY") or str(Path(__file__).resolve().parent / "libl4.so")
+    try:
+        shared = ctypes.CDLL(file)
+    except OSError as fault:
+        raise ImportError(f"{file} can't be loaded: {fault}. build.py links it, and L4_LIBRARY names another") from fault
+    for name, (result, parameters) in FUNCTIONS.items():
+        function = getattr(shared, name)
+        function.restype = result
+        function.argtypes = parameters
+    return shared
+
+
+library = load()
+
+
+def number(value: int, what: str, bits: int = 32) -> int:
+    """The value, which the library takes as it is: ctypes would cut off what is above these bits."""
+    value = operator.index(value)
+    if not 0 <= value < 1 << bits:
+        raise ValueError(f"{what} has {bits} bits: {value}")
+    return value
+
+
+def array(values: Sequence[int]) -> Any:
+    """The values as C takes them, at an address of their own also where there are none."""
+    return (c_uint32 * max(len(values), 1))(*values)
+
+
+def refusal_code(refusal: int) -> str:
+    """The printed code of a refusal; nothing for a number that is none."""
+    text = ctypes.create_string_buffer(TEXT_ROOM)
+    library.l4_refusal_code(refusal, text, TEXT_ROOM)
+    return text.value.decode()
+
+
+def refusal_text(refusal: int) -> str:
+    """The line of text of a refusal; nothing for a number that is none."""
+    text = ctypes.create_string_buffer(TEXT_ROOM)
+    library.l4_refusal_text(refusal, text, TEXT_ROOM)
+    return text.value.decode()

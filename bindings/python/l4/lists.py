@@ -1,0 +1,152 @@
+"""Lists of steps, one step or question a line, in the language of the program l4_steps; `l4_steps --help` has it."""
+from __future__ import annotations
+
+import re
+from typing import Callable, Iterable, Iterator, List, Optional
+
+from .kernel import Answer, Expire, Kernel, Outcome, Reply, ReplyKind, Step, Transfer
+from .refusals import Refused
+from .words import MAX_WORDS, Call, Message, Rights
+
+#: The greatest number of bytes of a line.
+MAX_LINE = 4096
+
+_NUMBER = re.compile(rb"0x[0-9A-Fa-f]{1,8}|[0-9]{1,10}")
+
+_OUTCOMES = {
+    Outcome.STARTED: "started",
+    Outcome.DELIVERED: "done",
+    Outcome.NO_WINDOW: "no-window",
+    Outcome.ENTANGLED: "entangled",
+    Outcome.WANTS_MEMORY: "no-memory",
+    Outcome.EXPIRED: "expired",
+}
+
+
+class Unread(Exception):
+    """A line that is no step and no question, or no whole line; its number is the first of `args`."""
+
+    def __init__(self, line: int, why: str) -> None:
+        super().__init__(line, why)
+
+    def __str__(self) -> str:
+        return "line {} {}".format(*self.args)
+
+
+class _NoLine(Exception):
+    """What a line says is no step and no question."""
+
+
+def _number(token: bytes) -> int:
+    if not _NUMBER.fullmatch(token):
+        raise _NoLine
+    value = int(token, 16 if token.startswith(b"0x") else 10)
+    if value >= 1 << 32:
+        raise _NoLine
+    return value
+
+
+def _call(kind: bytes, numbers: List[int]) -> Call:
+    """The call of this kind."""
+    if kind == b"ipc" and 4 <= len(numbers) <= 4 + MAX_WORDS:
+        return Call.ipc(*numbers[:4], Message(tuple(numbers[4:])))
+    if kind == b"fault" and len(numbers) == 3 and numbers[2] < 8:
+        return Call.fault(numbers[0], numbers[1], Rights.of_bits(numbers[2]))
+    if kind == b"unmap" and 1 <= len(numbers) <= 1 + MAX_WORDS:
+        return Call.unmap_words(numbers[0], numbers[1:])
+    if kind == b"create" and len(numbers) == 3:
+        return Call.create(*numbers)
+    if kind == b"setpager" and len(numbers) == 2:
+        return Call.set_pager(*numbers)
+    if kind == b"delete" and len(numbers) == 1:
+        return Call.delete(*numbers)
+    raise _NoLine
+
+
+def _reply(reply: Optional[Reply], none: str) -> str:
+    if reply is None:
+        return none
+    if reply.kind is ReplyKind.IPC:
+        words = "".join(f" {word:08x}" for word in reply.words)
+        return f"ipc {reply.tag:08x} {reply.error} {reply.sender:08x}{words}"
+    if reply.kind is ReplyKind.FAILED:
+        return f"failed {reply.error}"
+    return reply.kind.name.lower()
+
+
+def _answer(kernel: Kernel, step: Callable[[], Answer]) -> List[str]:
+    """The lines that answer the step."""
+    try:
+        answer = step()
+    except Refused as refused:
+        return [f"refused {refused.code}" + ("" if refused.detail is None else f" {refused.detail}")]
+    ended = [f"{thread} {_reply(kernel.reply(thread), 'gone')}" for thread in answer.ended]
+    return [_OUTCOMES[answer.outcome], *ended]
+
+
+def _step(step: Optional[Step]) -> str:
+    if isinstance(step, Transfer):
+        return f"enabled transfer {step.sender} {step.receiver}"
+    if isinstance(step, Expire):
+        return f"enabled expire {step.thread}"
+    return "enabled none"
+
+
+def _pages(kernel: Kernel, space: int) -> List[str]:
+    lines = []
+    for mapping in kernel.mappings(space):
+        parent = f"{mapping.parent.space} {mapping.parent.page}" if mapping.parent else "none"
+        lines.append(f"page {mapping.place.page} frame {mapping.frame} {mapping.rights} {parent}")
+    return [*lines, f"shown {len(lines)}"]
+
+
+def _question(kernel: Kernel, name: bytes, numbers: List[int]) -> List[str]:
+    """The lines that answer a question."""
+    if name == b"enabled" and not numbers:
+        return [_step(kernel.enabled())]
+    if len(numbers) != 1:
+        raise _NoLine
+    if name == b"reply":
+        return [_reply(kernel.reply(numbers[0]), "none")]
+    if name == b"space":
+        space = kernel.space_of(numbers[0])
+        return ["none" if space is None else f"space {space}"]
+    if name == b"pages":
+        return _pages(kernel, numbers[0])
+    raise _NoLine
+
+
+def _line(kernel: Kernel, line: bytes) -> List[str]:
+    """The lines that answer this one."""
+    tokens = [token for token in line.split(b" ") if token]
+    if not tokens or line.startswith(b"#"):
+        return []
+    if tokens[0] == b"start":
+        if len(tokens) < 3:
+            raise _NoLine
+        thread, call = _number(tokens[1]), _call(tokens[2], [_number(token) for token in tokens[3:]])
+        return _answer(kernel, lambda: kernel.start(thread, call))
+    numbers = [_number(token) for token in tokens[1:]]
+    if tokens[0] == b"transfer" and len(numbers) == 2:
+        return _answer(kernel, lambda: kernel.transfer(*numbers))
+    if tokens[0] == b"expire" and len(numbers) == 1:
+        return _answer(kernel, lambda: kernel.expire(*numbers))
+    return _question(kernel, tokens[0], numbers)
+
+
+def replay(kernel: Kernel, lines: Iterable[bytes]) -> Iterator[str]:
+    """Does the steps of a list's lines, each with its newline, and gives the lines that answer them.
+
+    Unread is raised at the first line that is no step and no question, has no newline, or has more than 4,096 bytes before it.
+    """
+    for place, line in enumerate(lines, 1):
+        whole = line.endswith(b"\n")
+        line = line[:-1] if whole else line
+        if len(line) > MAX_LINE:
+            raise Unread(place, f"has more than {MAX_LINE} bytes")
+        if not whole:
+            raise Unread(place, "has no newline at its end")
+        try:
+            yield from _line(kernel, line)
+        except _NoLine:
+            raise Unread(place, "is no step and no question") from None

@@ -1,0 +1,78 @@
+"""Why a call did nothing, and why an Ipc failed."""
+from __future__ import annotations
+
+from typing import Optional, Sequence
+
+from . import _library
+
+# the refusals that carry a number
+_DETAILED = {
+    _library.L4_M3,
+    _library.L4_M4,
+    _library.L4_U1,
+    _library.L4_C1,
+    _library.L4_C2,
+    _library.L4_C3,
+    _library.L4_C4,
+}
+
+
+class Refused(Exception):
+    """A call did nothing: a refused step changes nothing.
+
+    `code` is what the programs print, such as "K1"; `text` says what it means; `detail` is the number that some refusals carry (an
+    item, a word or a place of a list, from 0, or a page), else None.
+    """
+
+    code: str
+    text: str
+    detail: Optional[int]
+
+    def __init__(self, refusal: int, detail: int = 0) -> None:
+        self.code = _library.refusal_code(refusal)
+        self.text = _library.refusal_text(refusal)
+        self.detail = detail if refusal in _DETAILED else None
+        super().__init__(refusal, detail)
+
+    def __str__(self) -> str:
+        return f"{self.code}: {self.text}" if self.detail is None else f"{self.code} {self.detail}: {self.text}"
+
+
+class TooLong(Refused):
+    """N4: each list of map items that moves exactly the region has more than 31, as these 32 pages show."""
+
+    pages: Sequence[int]
+
+    def __init__(self, pages: Sequence[int]) -> None:
+        super().__init__(_library.L4_N4)
+        self.args = (pages,)
+        self.pages = tuple(pages)
+
+
+_ERRORS = {
+    2: "the send phase waited for no time",
+    3: "the receive phase waited for no time",
+    4: "there is nobody to send to",
+    5: "there is nobody to receive from",
+    8: "the message that was sent could not be delivered",
+    9: "the message that was to be received could not be delivered",
+}
+
+
+class IpcFailed(Exception):
+    """An Ipc failed with this ErrorCode (L4 X.2 manual, IPC: ErrorCode).
+
+    2 and 3: the send or receive phase waited for no time. 4 and 5: there is nobody to send to, or to receive from. 8 and 9: the message
+    could not be delivered, since the receiver has no window for its items, they contradict each other, or there was no memory.
+    """
+
+    error: int
+    text: str
+
+    def __init__(self, error: int) -> None:
+        self.error = error
+        self.text = _ERRORS.get(error, "the Ipc failed")
+        super().__init__(error)
+
+    def __str__(self) -> str:
+        return f"ErrorCode {self.error}: {self.text}"

@@ -1,0 +1,15 @@
+"""The examples of the package's own texts."""
+import doctest
+import unittest
+
+from l4 import kernel, plans, words
+
+
+def load_tests(_loader, tests, _pattern):
+    for module in (kernel, plans, words):
+        tests.addTests(doctest.DocTestSuite(module))
+    return tests
+
+
+if __name__ == "__main__":
+    unittest.main()

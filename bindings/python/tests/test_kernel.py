@@ -1,0 +1,300 @@
+"""Each call of the package on a kernel, and what a caller can't do."""
+import copy
+import gc
+import os
+import pickle
+import subprocess
+import sys
+import threading
+import unittest
+
+from l4 import (
+    MAX_FRAMES,
+    MAX_THREADS,
+    Call,
+    Done,
+    Expire,
+    Fpage,
+    IpcFailed,
+    Item,
+    Kernel,
+    Mapping,
+    Message,
+    Outcome,
+    Place,
+    Refused,
+    ReplyKind,
+    Rights,
+    ThreadId,
+    Timeout,
+    Transfer,
+)
+
+WINDOW = Fpage.complete()
+THREAD = ThreadId.of(3)
+
+
+def delivered():
+    """A kernel whose thread 3, in space 2, shows page 16 of sigma0's as its page 32."""
+    kernel = Kernel(256)
+    kernel.start(2, Call.create(THREAD, THREAD, ThreadId.ROOT))
+    kernel.start(3, Call.receive(window=WINDOW))
+    kernel.start(1, Call.send(THREAD, Message((0x80, 0x20008, 0x100C7))))
+    kernel.transfer(1, 3)
+    return kernel
+
+
+def resident_pages():
+    """The pages of memory that the process has in use."""
+    with open("/proc/self/statm") as file:
+        return int(file.read().split()[1])
+
+
+class Kernels(unittest.TestCase):
+    def refuses(self, code, detail, step, *values):
+        with self.assertRaises(Refused) as caught:
+            step(*values)
+        self.assertEqual((caught.exception.code, caught.exception.detail), (code, detail))
+
+    def test_a_kernel_boots_with_its_frames(self):
+        self.refuses("K6", None, Kernel, 0)
+        self.refuses("K6", None, Kernel, MAX_FRAMES + 1)
+        with Kernel(MAX_FRAMES) as kernel:
+            self.assertEqual(sum(1 for _ in kernel.mappings(0)), MAX_FRAMES)
+            self.assertEqual(list(kernel.mappings(1)), [])
+            self.assertEqual([kernel.space_of(thread) for thread in (1, 2, 3)], [0, 1, None])
+            self.assertIsNone(kernel.reply(1))
+
+    def test_two_kernels_do_not_meet(self):
+        one, other = delivered(), Kernel(1)
+        one.close()
+        self.assertEqual(len(list(other.mappings(0))), 1)
+
+    def test_steps_are_done_one_by_one(self):
+        kernel = Kernel(256)
+        answer = kernel.start(2, Call.create(THREAD, THREAD))
+        self.assertEqual((answer.outcome, answer.ended), (Outcome.STARTED, (2,)))
+        self.assertEqual(kernel.start(3, Call.receive(window=WINDOW)).ended, ())
+        self.assertIsNone(kernel.enabled())
+        kernel.start(1, Call.send(THREAD, Message((0,))))
+        self.assertEqual(kernel.enabled(), Transfer(1, 3))
+        self.refuses("K1", None, kernel.transfer, 3, 1)
+        self.assertEqual(kernel.next(), Done(Transfer(1, 3), Outcome.DELIVERED, (1, 3)))
+        self.assertIsNone(kernel.next())
+        kernel.start(3, Call.receive(timeout=Timeout.ZERO))
+        self.assertEqual(list(kernel.steps()), [Done(Expire(3), Outcome.EXPIRED, (3,))])
+
+    def test_a_message_maps_a_page(self):
+        kernel = delivered()
+        reply = kernel.reply(3).check()
+        self.assertEqual((reply.kind, reply.tag, reply.sender), (ReplyKind.IPC, 0x80, ThreadId.SIGMA0))
+        self.assertEqual((reply.label, reply.untyped, reply.words), (0, (), (0x20008, 0x100C7)))
+        self.assertEqual(reply.items, (Item.map(Fpage.page(16, Rights.ALL), 0x20000),))
+        mapping = Mapping(Place(2, 32), 16, Rights.ALL, Place(0, 16))
+        self.assertEqual((kernel.mapping(2, 32), list(kernel.mappings(2))), (mapping, [mapping]))
+        self.assertEqual((kernel.next_page(2, 0), kernel.next_page(2, 33)), (32, None))
+        self.assertIsNone(kernel.mapping(0, 16).parent)
+        self.assertEqual([kernel.mapping(*place) for place in ((2, 31), (9, 32), (1 << 63, 0), (2, 1 << 31))], [None] * 4)
+
+    def test_threads_and_spaces_are_listed(self):
+        kernel = delivered()
+        kernel.enter(2, Call.create(ThreadId.of(9), THREAD))
+        self.refuses("H3", None, kernel.enter, 2, Call.create(ThreadId.of(9), THREAD))
+        self.assertEqual((kernel.threads(), kernel.spaces()), ((1, 2, 3, 9), (0, 1, 2)))
+        kernel.start(2, Call.delete(THREAD))
+        self.assertEqual((kernel.threads(), kernel.spaces()), ((1, 2, 9), (0, 1, 2)))
+        kernel.start(2, Call.delete(ThreadId.of(9)))
+        self.assertEqual((kernel.threads(), kernel.spaces()), ((1, 2), (0, 1)))
+
+    def test_the_other_kinds_of_calls(self):
+        kernel = delivered()
+        kernel.start(3, Call.fault(0x20123, 0, Rights.READ))
+        self.assertIs(kernel.reply(3).kind, ReplyKind.HIT)
+        kernel.start(1, Call.unmap([Fpage.complete(Rights.WRITE)]))
+        self.assertIs(kernel.reply(1).kind, ReplyKind.UNMAPPED)
+        self.assertEqual(kernel.mapping(2, 32).rights, Rights.READ | Rights.EXECUTE)
+        kernel.start(3, Call.receive(timeout=Timeout.ZERO))
+        self.assertEqual(kernel.enabled(), Expire(3))
+        self.refuses("K1", None, kernel.expire, 1)
+        self.assertIs(kernel.expire(3).outcome, Outcome.EXPIRED)
+        with self.assertRaises(IpcFailed) as caught:
+            kernel.reply(3).check()
+        self.assertEqual(str(caught.exception), "ErrorCode 3: the receive phase waited for no time")
+        self.refuses("H1", None, kernel.start, 3, Call.set_pager(THREAD, ThreadId.SIGMA0))
+        kernel.start(2, Call.set_pager(THREAD, ThreadId.SIGMA0))
+        self.assertIs(kernel.reply(2).kind, ReplyKind.CONTROLLED)
+        kernel.start(3, Call.fault(0, 0, Rights.WRITE))
+        self.assertEqual(kernel.start(2, Call.delete(THREAD)).ended, (2, 3))
+        self.assertIsNone(kernel.reply(3))
+
+    def test_a_call_is_entered_with_its_steps(self):
+        kernel = Kernel(1)
+        entered = kernel.enter(2, Call.receive())
+        self.assertEqual((entered.start.ended, entered.steps), ((), ()))
+        entered = kernel.enter(1, Call.send(ThreadId.ROOT, Message((1, 5))))
+        self.assertEqual(entered.steps, (Done(Transfer(1, 2), Outcome.DELIVERED, (1, 2)),))
+        self.refuses("K2", None, kernel.enter, 9, Call.delete(THREAD))
+
+    def test_a_message_without_a_window_and_an_entangled_one(self):
+        kernel = Kernel(64)
+        page = Fpage.page(5, Rights.ALL)
+        twice = Message.of(items=[Item.grant(page, 0x5000), Item.map(page, 0x5000)])
+        for window, outcome in ((None, Outcome.NO_WINDOW), (WINDOW, Outcome.ENTANGLED)):
+            kernel.start(2, Call.receive(ThreadId.SIGMA0, window))
+            self.assertIs(kernel.enter(1, Call.send(ThreadId.ROOT, twice)).steps[0].outcome, outcome)
+            self.assertEqual((kernel.reply(1).error, kernel.reply(2).error), (8, 9))
+
+    def test_refusals_carry_their_numbers(self):
+        kernel = Kernel(1)
+        for words, code, detail in (
+            ((), "M7", None),
+            ((0xFFF,) * 64, "M1", None),
+            ((0x1000,), "M5", None),
+            ((0x40, 0), "M2", None),
+            ((0x100, 8, 0, 14, 0), "M3", 1),
+            ((0x100, 8, 0, 0, 0), "M4", 1),
+        ):
+            self.refuses(code, detail, kernel.start, 1, Call.send(ThreadId.ROOT, Message(words)))
+        self.refuses("M6", None, kernel.start, 1, Call.ipc(0, ThreadId.ANY, 0, 0x20, Message()))
+        self.refuses("K4", None, kernel.start, 1, Call.ipc(0, ThreadId.ANY, 1, 0x20, Message()))
+        self.refuses("U1", 1, kernel.start, 1, Call.unmap_words(1, [0x17, 0x20]))
+        self.refuses("U2", None, kernel.start, 1, Call.unmap_words(1, [0x17]))
+        kernel.start(2, Call.receive())
+        self.refuses("K3", None, kernel.start, 2, Call.delete(THREAD))
+        with self.assertRaisesRegex(Refused, "^M3 1: the item has an unknown kind or is no fpage$"):
+            kernel.start(1, Call.send(ThreadId.ROOT, Message((0x100, 8, 0, 14, 0))))
+
+    def test_refusals_are_pickled(self):
+        refused = pickle.loads(pickle.dumps(Refused(0x4D33, 1)))
+        self.assertEqual((refused.code, refused.detail), ("M3", 1))
+
+    def test_sixty_two_calls_end_at_once(self):
+        kernel = Kernel(1)
+        for thread in range(3, MAX_THREADS + 1):
+            kernel.enter(2, Call.create(ThreadId.of(thread), ThreadId.of(thread)))
+            kernel.enter(thread, Call.send(THREAD, Message((0,))))
+        self.refuses("H5", None, kernel.start, 2, Call.create(ThreadId.of(65), ThreadId.ROOT))
+        self.assertEqual(kernel.start(2, Call.delete(THREAD)).ended, (2, *range(4, MAX_THREADS + 1)))
+
+    def test_sixty_four_waits_end_after_a_call(self):
+        kernel = Kernel(1)
+        for thread in range(3, MAX_THREADS + 1):
+            kernel.enter(2, Call.create(ThreadId.of(thread), ThreadId.of(thread)))
+        for thread in range(2, MAX_THREADS + 1):
+            kernel.start(thread, Call.receive(timeout=Timeout.ZERO))
+        entered = kernel.enter(1, Call.receive(timeout=Timeout.ZERO))
+        self.assertEqual([done.ended for done in entered.steps], [(thread,) for thread in range(1, MAX_THREADS + 1)])
+
+    def test_numbers_that_do_not_fit_are_told(self):
+        kernel = Kernel(1)
+        for step, values in (
+            (Kernel, (1 << 32,)),
+            (kernel.start, (1 << 32, Call.receive())),
+            (kernel.enter, (-1, Call.receive())),
+            (kernel.transfer, (1, 1 << 32)),
+            (kernel.transfer, (-1, 1)),
+            (kernel.expire, (1 << 32,)),
+            (kernel.reply, (1 << 32,)),
+            (kernel.space_of, (1 << 32 | 1,)),
+            (kernel.mapping, (1 << 64, 0)),
+            (kernel.mapping, (0, 1 << 32)),
+            (kernel.next_page, (1 << 64, 0)),
+            (kernel.next_page, (0, -1)),
+        ):
+            with self.assertRaises(ValueError):
+                step(*values)
+
+    def test_a_closed_kernel_is_refused(self):
+        with delivered() as kernel:
+            mappings = kernel.mappings(0)
+            next(mappings)
+            self.assertFalse(kernel.closed)
+        self.assertTrue(kernel.closed)
+        kernel.close()
+        for step, *values in (
+            (kernel.start, 1, Call.receive()),
+            (kernel.enter, 1, Call.receive()),
+            (kernel.transfer, 1, 2),
+            (kernel.expire, 1),
+            (kernel.enabled,),
+            (kernel.next,),
+            (kernel.reply, 1),
+            (kernel.space_of, 1),
+            (kernel.mapping, 0, 0),
+            (kernel.next_page, 0, 0),
+            (kernel.threads,),
+            (next, mappings),
+        ):
+            with self.assertRaisesRegex(ValueError, "closed"):
+                step(*values)
+
+    def test_a_kernel_is_not_copied(self):
+        kernel = Kernel(1)
+        for way in (copy.copy, copy.deepcopy, pickle.dumps):
+            with self.assertRaises(TypeError):
+                way(kernel)
+
+    @unittest.skipUnless(os.path.exists("/proc/self/statm"), "the system doesn't tell what memory is in use")
+    def test_kernels_are_freed(self):
+        def use(close):
+            kernel = Kernel(MAX_FRAMES)
+            kernel.enter(1, Call.send(ThreadId.NIL, Message((0,))))
+            if close:
+                kernel.close()
+
+        use(True)
+        before = resident_pages()
+        for turn in range(400):
+            use(turn % 2)
+        gc.collect()
+        self.assertLess(resident_pages(), before + 400 * 4)
+
+    def test_threads_take_turns(self):
+        kernel = Kernel(MAX_FRAMES)
+        faults = []
+
+        def send(thread):
+            try:
+                for _ in range(500):
+                    kernel.enter(thread, Call.send(ThreadId.NIL, Message((0,))))
+                    kernel.next_page(0, 4000)
+            except Exception as fault:
+                faults.append(fault)
+
+        interval = sys.getswitchinterval()
+        sys.setswitchinterval(1e-6)
+        workers = [threading.Thread(target=send, args=(thread,)) for thread in (1, 2) * 4]
+        for worker in workers:
+            worker.start()
+        for worker in workers:
+            worker.join()
+        sys.setswitchinterval(interval)
+        self.assertEqual(faults, [])
+
+    @unittest.skipUnless(hasattr(os, "fork"), "no fork")
+    def test_a_child_of_a_process_with_threads_is_refused(self):
+        program = """
+import os, threading, l4
+kernel = l4.Kernel(1)
+if os.fork() == 0:
+    os._exit(kernel.space_of(2) != 1)
+assert os.wait()[1] == 0
+release = threading.Event()
+threading.Thread(target=release.wait).start()
+if os.fork() == 0:
+    try:
+        kernel.space_of(2)
+    except RuntimeError:
+        kernel.close()
+        os._exit(0)
+    os._exit(1)
+status = os.wait()[1]
+release.set()
+assert status == 0
+"""
+        done = subprocess.run([sys.executable, "-W", "ignore", "-c", program], stderr=subprocess.PIPE, text=True)
+        self.assertEqual((done.returncode, done.stderr), (0, ""))
+
+
+if __name__ == "__main__":
+    unittest.main()

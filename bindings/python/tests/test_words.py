@@ -1,0 +1,113 @@
+"""Thread ids, rights, fpages, items, messages and calls are the words that C gives."""
+import unittest
+
+from l4 import MAX_WORDS, SPACE_PAGES, Call, Fpage, Item, Message, Rights, ThreadId, Timeout
+
+
+class Words(unittest.TestCase):
+    def test_ids_have_a_number_and_a_version(self):
+        thread = ThreadId.of(3)
+        self.assertEqual((thread, thread.number, thread.version), (0xC001, 3, 1))
+        self.assertEqual((ThreadId.SIGMA0.number, ThreadId.ROOT.number), (1, 2))
+        self.assertEqual(repr(thread), "ThreadId(0x0000c001)")
+        pairs = [(0, 1), (1 << 18, 1), (1, 0), (1, 0x40), (1, 1 << 14), ((1 << 18) - 1, (1 << 14) - 1)]
+        for number, version in pairs:
+            with self.assertRaises(ValueError):
+                ThreadId.of(number, version)
+        with self.assertRaises(ValueError):
+            ThreadId(1 << 32)
+
+    def test_rights_are_sets(self):
+        self.assertEqual(Rights.READ | Rights.WRITE | Rights.EXECUTE, Rights.ALL)
+        self.assertEqual(str(Rights.of_bits(0xF5)), "r-x")
+        self.assertEqual(str(Rights.NONE), "---")
+
+    def test_each_size_field_is_read_as_the_kernel_reads_it(self):
+        for log in range(64):
+            word = 0x80000000 | log << 4 | 5
+            if log == 0:
+                self.assertEqual(Fpage.read(word), Fpage.nil())
+            elif log == 32:
+                self.assertEqual(Fpage.read(word), Fpage.complete(Rights.of_bits(5)))
+            elif 10 <= log <= 31:
+                self.assertEqual(Fpage.read(word).word, word)
+            else:
+                with self.assertRaises(ValueError):
+                    Fpage.read(word)
+        self.assertEqual(Fpage.read(0x17), Fpage.complete(Rights.ALL))
+        self.assertEqual(Fpage.read(0xFFFFCCF).word, 0xFFFF0C7)
+
+    def test_fpages_know_their_pages(self):
+        self.assertEqual(Fpage.pages(8, 2, Rights.ALL).page_range, range(8, 12))
+        self.assertEqual(Fpage.complete().page_range, range(SPACE_PAGES))
+        self.assertEqual(Fpage.pages(0, 20, Rights.READ), Fpage.complete(Rights.READ))
+        self.assertEqual((len(Fpage.nil().page_range), len(Fpage(0x1400, 10).page_range)), (0, 0))
+        for first, log in ((2, 2), (0, 21), (0, -1), (SPACE_PAGES, 0), (1, 20), (-1, 0)):
+            with self.assertRaises(ValueError):
+                Fpage.pages(first, log, Rights.ALL)
+        for base, log in ((0, 9), (0, 33), (0x400, 11), (0x400, 0), (1 << 31, 32)):
+            with self.assertRaises(ValueError):
+                Fpage(base, log)
+
+    def test_items_are_read_as_they_are_written(self):
+        fpage = Fpage.page(5, Rights.ALL)
+        for item in (Item.map(fpage, 0x9400), Item.grant(fpage), Item.map(Fpage.nil())):
+            for more in (False, True):
+                first, second = item.words(more)
+                self.assertEqual(first & 1, more)
+                self.assertEqual(Item.read(first, second), item)
+        for words in ((0, 0x50C7), (14, 0x50C7), (8, 0x1020)):
+            with self.assertRaises(ValueError):
+                Item.read(*words)
+        with self.assertRaises(ValueError):
+            Item.map(fpage, 0x7FF)
+
+    def test_messages_have_at_most_64_words(self):
+        item = Item.grant(Fpage.page(5, Rights.READ), 0x3000)
+        message = Message.of(1, [9], [item] * 31)
+        self.assertEqual(len(message.words), MAX_WORDS)
+        self.assertEqual(message.words[:4], (0x10F81, 9, 0x300B, 0x50C4))
+        self.assertEqual(message.words[62:], (0x300A, 0x50C4))
+        with self.assertRaises(ValueError):
+            Message.of(1, [9, 9], [item] * 31)
+        with self.assertRaises(ValueError):
+            Message.of(1 << 16)
+        self.assertEqual(len(Message((1,) * 64).words), 64)
+        for words in ((1,) * 65, (1 << 32,), (-1,)):
+            with self.assertRaises(ValueError):
+                Message(words)
+
+    def given(self, call):
+        """What the library reads, without what is 0."""
+        given = call.given()
+        return {name: getattr(given, name) for name, _ in given._fields_ if getattr(given, name)}
+
+    def test_calls_are_the_words_that_c_gives(self):
+        to, message = ThreadId.of(3), Message.of(0, [5])
+        ipc = {"kind": 1, "to": 0xC001, "from": 0xC001, "timeouts": 0x400}
+        self.assertEqual(self.given(Call.call(to, message, receive=Timeout.ZERO)), ipc)
+        call = Call.reply_and_wait(to, message, Fpage.complete(), send=Timeout.ZERO)
+        ipc = {"kind": 1, "to": 0xC001, "from": 0xFFFFFFFF, "timeouts": 0x4000000, "acceptor": 0x10}
+        self.assertEqual((self.given(call), call.words), (ipc, (1, 5)))
+        self.assertEqual(self.given(Call.send(to, message, Timeout.ZERO)), {"kind": 1, "to": 0xC001, "timeouts": 0x4000000})
+        self.assertEqual(self.given(Call.receive(to, timeout=Timeout.ZERO)), {"kind": 1, "from": 0xC001, "timeouts": 0x400})
+        self.assertEqual(self.given(Call.fault(0x5678, 0x40, Rights.READ)), {"kind": 2, "address": 0x5678, "ip": 0x40, "access": 4})
+        create = {"kind": 4, "id": 0xC001, "space": 0x8001, "pager": 0x4001}
+        self.assertEqual(self.given(Call.create(to, ThreadId.ROOT, ThreadId.SIGMA0)), create)
+        self.assertEqual(self.given(Call.set_pager(to, ThreadId.ROOT)), {"kind": 5, "id": 0xC001, "pager": 0x8001})
+        self.assertEqual(self.given(Call.delete(to)), {"kind": 6, "id": 0xC001})
+        with self.assertRaises(ValueError):
+            Call.delete(1 << 32)
+
+    def test_an_unmap_has_1_to_64_fpages(self):
+        fpage = Fpage.page(1, Rights.WRITE)
+        call = Call.unmap([fpage] * 64, own=True)
+        self.assertEqual((self.given(call), call.words), ({"kind": 3, "control": 0x7F}, (0x10C2,) * 64))
+        self.assertEqual(self.given(Call.unmap([fpage])), {"kind": 3})
+        for fpages in ([], [fpage] * 65):
+            with self.assertRaises(ValueError):
+                Call.unmap(fpages)
+
+
+if __name__ == "__main__":
+    unittest.main()
