@@ -7,6 +7,7 @@ from __future__ import annotations
 import ctypes
 import operator
 import os
+import threading
 from ctypes import POINTER, Structure, c_char_p, c_size_t, c_uint32, c_uint64, c_void_p
 from pathlib import Path
 from typing import Any, Dict, List, Sequence, Tuple
@@ -196,6 +197,31 @@ def load() -> ctypes.CDLL:
 
 
 library = load()
+
+
+class Forks:
+    """The library may not be called in a process that was forked while it had other threads."""
+
+    thread_count = 1
+    among_threads = False
+
+    @classmethod
+    def before(cls) -> None:
+        cls.thread_count = threading.active_count()
+
+    @classmethod
+    def after(cls) -> None:
+        cls.among_threads = cls.among_threads or cls.thread_count > 1
+
+    @classmethod
+    def check(cls) -> None:
+        """RuntimeError in such a process."""
+        if cls.among_threads:
+            raise RuntimeError("the process was forked while it had other threads")
+
+
+if hasattr(os, "register_at_fork"):
+    os.register_at_fork(before=Forks.before, after_in_child=Forks.after)
 
 
 def number(value: int, what: str, bits: int = 32) -> int:

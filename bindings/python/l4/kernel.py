@@ -2,7 +2,6 @@
 from __future__ import annotations
 
 import enum
-import os
 import threading
 import weakref
 from ctypes import byref
@@ -10,7 +9,7 @@ from dataclasses import dataclass
 from typing import Any, Callable, Iterator, Optional, Set, Tuple, Union
 
 from . import _library
-from ._library import library, number
+from ._library import Forks, library, number
 from .refusals import IpcFailed, Refused
 from .words import MAX_THREADS, SPACE_PAGES, Call, Item, Rights, ThreadId, items_of
 
@@ -152,28 +151,9 @@ class Mapping:
     parent: Optional[Place]
 
 
-class _Forks:
-    """The library may not be called in a process that was forked while it had other threads."""
-
-    thread_count = 1
-    among_threads = False
-
-    @classmethod
-    def before(cls) -> None:
-        cls.thread_count = threading.active_count()
-
-    @classmethod
-    def after(cls) -> None:
-        cls.among_threads = cls.among_threads or cls.thread_count > 1
-
-
-if hasattr(os, "register_at_fork"):
-    os.register_at_fork(before=_Forks.before, after_in_child=_Forks.after)
-
-
 def _free(handle: _library.l4_kernel, lock: Any) -> None:
     """Frees the kernel of the handle, which is empty then."""
-    if not _Forks.among_threads:
+    if not Forks.among_threads:
         with lock:
             library.l4_free(byref(handle))
 
@@ -212,6 +192,7 @@ class Kernel:
     """
 
     def __init__(self, frames: int = 256) -> None:
+        Forks.check()
         handle = _library.l4_kernel()
         lock = threading.RLock()
         refusal = library.l4_boot(byref(handle), number(frames, "the number of frames"))
@@ -243,11 +224,9 @@ class Kernel:
 
     def _ask(self, function: Callable[..., Any], *values: Any) -> Any:
         """What the library answers."""
-        if _Forks.among_threads:
-            raise RuntimeError("the process was forked while it had other threads")
+        Forks.check()
         with self._lock:
-            told = function(byref(self._handle), *values)
-        return told
+            return function(byref(self._handle), *values)
 
     def _open(self, told: Any) -> Any:
         """What the library answered; ValueError where there is no kernel any longer."""

@@ -6,7 +6,7 @@ from dataclasses import dataclass
 from typing import Sequence, Tuple
 
 from . import _library
-from ._library import array, library, number
+from ._library import Forks, array, library, number
 from .refusals import Refused, TooLong
 from .words import Item, Message, Rights, items_of
 
@@ -38,6 +38,7 @@ class Region:
 
     def _given(self) -> _library.l4_region:
         """What the library reads."""
+        Forks.check()
         numbers = (number(getattr(self, name), name) for name in ("source", "target", "count"))
         return _library.l4_region(*numbers, self.rights.value)
 

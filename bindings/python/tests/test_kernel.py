@@ -6,6 +6,7 @@ import pickle
 import subprocess
 import sys
 import threading
+import time
 import unittest
 
 from l4 import (
@@ -250,26 +251,33 @@ class Kernels(unittest.TestCase):
         self.assertLess(resident_pages(), before + 400 * 4)
 
     def test_threads_take_turns(self):
-        kernel = Kernel(MAX_FRAMES)
-        faults = []
+        kernel, under_way, most = Kernel(1), [], []
 
-        def send(thread):
-            try:
-                for _ in range(500):
-                    kernel.enter(thread, Call.send(ThreadId.NIL, Message((0,))))
-                    kernel.next_page(0, 4000)
-            except Exception as fault:
-                faults.append(fault)
+        def slow(_handle):
+            under_way.append(None)
+            most.append(len(under_way))
+            time.sleep(0.02)
+            under_way.pop()
 
-        interval = sys.getswitchinterval()
-        sys.setswitchinterval(1e-6)
-        workers = [threading.Thread(target=send, args=(thread,)) for thread in (1, 2) * 4]
+        workers = [threading.Thread(target=kernel._ask, args=(slow,)) for _ in range(4)]
         for worker in workers:
             worker.start()
         for worker in workers:
             worker.join()
-        sys.setswitchinterval(interval)
-        self.assertEqual(faults, [])
+        self.assertEqual(most, [1] * 4)
+
+    def test_a_kernel_is_freed_after_the_call_that_is_under_way(self):
+        kernel, held = Kernel(1), []
+        closing = threading.Thread(target=kernel.close)
+
+        def slow(_handle):
+            closing.start()
+            time.sleep(0.05)
+            held.append(kernel._handle.hidden is not None)
+
+        kernel._ask(slow)
+        closing.join()
+        self.assertEqual((held, kernel._handle.hidden), ([True], None))
 
     @unittest.skipUnless(hasattr(os, "fork"), "no fork")
     def test_a_child_of_a_process_with_threads_is_refused(self):
@@ -282,12 +290,14 @@ assert os.wait()[1] == 0
 release = threading.Event()
 threading.Thread(target=release.wait).start()
 if os.fork() == 0:
-    try:
-        kernel.space_of(2)
-    except RuntimeError:
-        kernel.close()
-        os._exit(0)
-    os._exit(1)
+    refused = 0
+    for call in (lambda: kernel.space_of(2), l4.Kernel, l4.Region(4, 12, 12, l4.Rights.ALL).plan):
+        try:
+            call()
+        except RuntimeError:
+            refused += 1
+    kernel.close()
+    os._exit(refused != 3)
 status = os.wait()[1]
 release.set()
 assert status == 0
