@@ -3,10 +3,11 @@ ghost use Rattle.std.specs.Prelude.{◌≡◌, OnOk, IsTrue};
 ghost use Rattle.std.specs.FinSet as set;
 ghost use Rattle.l4_mapdb.specs.Mappings.{Mappings};
 
-use crate::stop;
+use crate::{end_memory, stop};
 use l4_ipc::{Block, Rights, SPACE_PAGES};
-use l4_mapdb::{Cause, Forest, ItemMove};
+use l4_mapdb::{Cause, Forest, ItemMove, Place};
 use l4_msg::Move;
+use l4_unmap::unmap;
 use std::io;
 
 /// The spaces that are looked at.
@@ -82,8 +83,26 @@ fn map(
     show(rt, "done map_all", forest)
 }
 
-/// Maps pages into tables that are there and into others, and grants one of them. Answers whether there was memory for a forest.
-fn tell_once<R: AllocGlobal + Print>(rt: &R) -> io::Result<bool> {
+/// The word of page 1,020 of a space with the right to read.
+const READS_1020: u32 = 0x3f_c0c4;
+
+/// Takes pages back: from those that descend from a page, by an Unmap, and with a space.
+fn take_back<R: Input + Print>(rt: &R, forest: &mut Forest) -> io::Result<()> {
+    end_memory(rt)?;
+    let page = Place { space: 0, page: 4 };
+    forest.revoke(page, Rights::of_bits(1), false);
+    show(rt, "done revoke", forest)?;
+    if unmap(forest, 2, 0x40, &[READS_1020]).is_err() {
+        return Err(stop());
+    }
+    show(rt, "done unmap", forest)?;
+    forest.end_space(3);
+    show(rt, "done end_space", forest)
+}
+
+/// Maps pages into tables that are there and into others, grants one of them, and takes them back. Answers whether there was memory for
+/// a forest.
+fn tell_once<R: AllocGlobal + Input + Print>(rt: &R) -> io::Result<bool> {
     let Ok(mut forest) = Forest::new(rt.alloc(), FRAMES) else {
         println!(rt; "refused new_forest\n.")?;
         return Ok(false);
@@ -100,10 +119,11 @@ fn tell_once<R: AllocGlobal + Print>(rt: &R) -> io::Result<bool> {
     map(rt, &mut forest, 2, 3, &on)?;
     let granted = [item(6, 70, 0, true)];
     map(rt, &mut forest, 2, 3, &granted)?;
+    take_back(rt, &mut forest)?;
     Ok(true)
 }
 
-pub fn tell<R: AllocGlobal + Print>(rt: &R) -> io::Result<()> {
+pub fn tell<R: AllocGlobal + Input + Print>(rt: &R) -> io::Result<()> {
     if tell_once(rt)? || tell_once(rt)? {
         return Ok(());
     }

@@ -1,8 +1,9 @@
 //! The kernel.
 
-use crate::stop;
+use crate::{end_memory, stop};
 use l4_ipc::{
-    ArrayVec, Call, Fpage, Kernel, MAX_WORDS, Outcome, Rights, SPACE_PAGES, Step, ThreadId, Timeout,
+    ArrayVec, Call, Fpage, Kernel, MAX_WORDS, Outcome, Rights, SPACE_PAGES, Step, ThreadId,
+    Timeout, UnmapCall,
 };
 use std::io;
 
@@ -48,6 +49,19 @@ pub fn receive() -> Call {
 /// Makes a thread in a space of its own.
 pub fn create(number: u32) -> Call {
     Call::create(id(number), id(number), ThreadId::nil())
+}
+
+/// The word of page 1,024 of a space with all rights.
+const PAGE_1024: [u32; 1] = [0x40_00c7];
+
+/// Takes pages, the caller's own too, from all that descend from them.
+fn unmap(words: &[u32]) -> Call {
+    let mut registers: ArrayVec<u32, MAX_WORDS> = ArrayVec::new();
+    let _ = registers.try_extend_from_slice(words);
+    Call::Unmap(UnmapCall {
+        control: 0x40,
+        words: registers,
+    })
 }
 
 /// Tells all threads, the step that comes next, and all pages of all spaces.
@@ -116,8 +130,47 @@ fn run(rt: &impl Print, kernel: &mut Kernel, steps: &[Step]) -> io::Result<()> {
     Err(stop())
 }
 
-/// Boots, makes threads and maps pages. Answers whether there was memory to boot.
-fn tell_once<R: AllocGlobal + Print>(rt: &R) -> io::Result<bool> {
+/// The message that maps page 5 with the right to read, to page 1,024 in a window of all pages, which is present there.
+const REPLACES: [u32; 3] = [0x80, 0x40_0008, 0x50c4];
+
+/// The message whose two items map pages 4 and 5 to one page.
+const ENTANGLED: [u32; 5] = [0x100, 0x1009, 0x40c7, 0x1008, 0x50c7];
+
+/// The steps that take no memory: a transfer to a page that is present, an entangled one, a thread in a space that is there, its pager,
+/// its fault, a wait that expires, an Unmap, and the ends of two threads.
+fn steps() -> [Step; 15] {
+    let zero = Call::receive(id(3), Fpage::Nil, Timeout::Zero);
+    [
+        Step::Start(3, receive()),
+        Step::Start(1, send(3, &REPLACES)),
+        Step::Transfer(1, 3),
+        Step::Start(4, receive()),
+        Step::Start(1, send(4, &ENTANGLED)),
+        Step::Transfer(1, 4),
+        Step::Start(ROOT, Call::create(id(5), id(3), ThreadId::nil())),
+        Step::Start(ROOT, Call::set_pager(id(5), id(4))),
+        Step::Start(5, Call::fault(0x5678, 0x10, Rights::of_bits(4))),
+        Step::Start(4, zero),
+        Step::Expire(4),
+        Step::Start(3, unmap(&PAGE_1024)),
+        Step::Start(ROOT, Call::delete(id(5))),
+        Step::Start(ROOT, Call::delete(id(4))),
+        Step::Start(ROOT, Call::delete(id(3))),
+    ]
+}
+
+/// Does these steps.
+fn spare<R: Input + Print>(rt: &R, kernel: &mut Kernel) -> io::Result<()> {
+    let steps = steps();
+    end_memory(rt)?;
+    for each in &steps {
+        step(rt, kernel, each)?;
+    }
+    Ok(())
+}
+
+/// Boots, makes threads, maps pages, and does steps that take no memory. Answers whether there was memory to boot.
+fn tell_once<R: AllocGlobal + Input + Print>(rt: &R) -> io::Result<bool> {
     let Ok(mut kernel) = Kernel::boot(rt.alloc(), FRAMES) else {
         println!(rt; "refused boot\n.")?;
         return Ok(false);
@@ -134,10 +187,11 @@ fn tell_once<R: AllocGlobal + Print>(rt: &R) -> io::Result<bool> {
         ];
         run(rt, &mut kernel, &steps)?;
     }
+    spare(rt, &mut kernel)?;
     Ok(true)
 }
 
-pub fn tell<R: AllocGlobal + Print>(rt: &R) -> io::Result<()> {
+pub fn tell<R: AllocGlobal + Input + Print>(rt: &R) -> io::Result<()> {
     if tell_once(rt)? || tell_once(rt)? {
         return Ok(());
     }

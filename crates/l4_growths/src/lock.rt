@@ -2,9 +2,9 @@
 ghost use Rattle.std.specs.Prelude.{◌≡◌};
 
 use crate::kernel::{create, receive, send};
-use crate::{kernel, stop};
+use crate::{end_memory, kernel, stop};
 use l4_ipc::Call;
-use l4_lock::{Board, Locked, Seat, Watch};
+use l4_lock::{Board, KernelLock, Locked, Seat, Watch};
 use std::io;
 
 const FRAMES: u32 = 8;
@@ -131,8 +131,53 @@ fn exchange(
     enter(rt, locked, seats, 0, Asked::Send, board, watch)
 }
 
-/// Lets two seats exchange words. Answers whether there was memory for a lock.
-fn tell_once<R: AllocGlobal + Print>(rt: &R) -> io::Result<bool> {
+/// The second seat takes its reply.
+fn take(
+    rt: &impl Print,
+    locked: &mut Locked,
+    seats: &mut [Seat],
+    board: &Board,
+    watch: &mut Watch,
+) -> io::Result<()>
+    requires { watch.old.board ≡ board.now }
+    ensures { watch.new.board ≡ board.now }
+{
+    if seats.len() < 2 {
+        return Err(stop());
+    }
+    let reply = locked.take(&mut seats[1]);
+    println!(rt; "done take {reply:?}")?;
+    show(rt, locked, seats, board, watch)
+}
+
+/// Closes the lock, and tells the history's length and the kernel.
+fn close(rt: &impl Print, locked: Locked, seats: Vec<Seat>) -> io::Result<()> {
+    let Ok((history, kernel)) = locked.close(seats) else {
+        return Err(stop());
+    };
+    println!(rt; "done close {}", history.len())?;
+    kernel::show(rt, &kernel)
+}
+
+/// Takes a kernel out of a lock that threads may share. Answers whether there was memory for the lock.
+fn unlock<R: AllocGlobal + Input + Print>(rt: &R) -> io::Result<bool> {
+    let Ok((lock, _watches)) = KernelLock::new(rt.alloc(), FRAMES, 1) else {
+        println!(rt; "refused unlock\n.")?;
+        return Ok(false);
+    };
+    end_memory(rt)?;
+    let locked = lock.unlock();
+    println!(rt; "done unlock {}", locked.history().len())?;
+    kernel::show(rt, locked.kernel())?;
+    Ok(true)
+}
+
+/// Lets two seats exchange words, takes a reply and closes the lock. Answers whether there was memory for a lock.
+fn tell_once<R: AllocGlobal + Input + Print>(rt: &R) -> io::Result<bool> {
+    let Ok(mut seats) = Vec::with_capacity(rt.alloc(), 2) else {
+        println!(rt; "refused new_lock\n.")?;
+        return Ok(false);
+    };
     let Ok((mut locked, board, mut watches)) = Locked::new(rt.alloc(), FRAMES, 1) else {
         println!(rt; "refused new_lock\n.")?;
         return Ok(false);
@@ -144,16 +189,23 @@ fn tell_once<R: AllocGlobal + Print>(rt: &R) -> io::Result<bool> {
     show(rt, &locked, &[], &board, &mut watch)?;
     let root = seat(rt, &mut locked, ROOT, &board, &mut watch)?;
     let third = seat(rt, &mut locked, 3, &board, &mut watch)?;
-    let mut seats = [root, third];
+    seats.push_reserved(root);
+    seats.push_reserved(third);
     println!(rt; "done seats")?;
-    show(rt, &locked, &seats, &board, &mut watch)?;
-    exchange(rt, &mut locked, &mut seats, &board, &mut watch)?;
+    show(rt, &locked, seats.as_slice(), &board, &mut watch)?;
+    exchange(rt, &mut locked, seats.as_mut_slice(), &board, &mut watch)?;
+    end_memory(rt)?;
+    take(rt, &mut locked, seats.as_mut_slice(), &board, &mut watch)?;
+    close(rt, locked, seats)?;
     Ok(true)
 }
 
-pub fn tell<R: AllocGlobal + Print>(rt: &R) -> io::Result<()> {
-    if tell_once(rt)? || tell_once(rt)? {
-        return Ok(());
+pub fn tell<R: AllocGlobal + Input + Print>(rt: &R) -> io::Result<()> {
+    if !tell_once(rt)? && !tell_once(rt)? {
+        return Err(stop());
     }
-    Err(stop())
+    if !unlock(rt)? && !unlock(rt)? {
+        return Err(stop());
+    }
+    Ok(())
 }

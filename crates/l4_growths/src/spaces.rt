@@ -2,7 +2,7 @@
 ghost use Rattle.std.specs.Prelude.{All};
 ghost use Rattle.l4_spaces.specs.Tables.{IsPage};
 
-use crate::stop;
+use crate::{end_memory, stop};
 use l4_ipc::SPACE_PAGES;
 use l4_spaces::{NoMemory, Spaces};
 use std::io;
@@ -65,8 +65,31 @@ fn set(rt: &impl Print, spaces: &mut Spaces, space: u64, pages: &[u32]) -> io::R
     show(rt, "done prepare", spaces)
 }
 
+/// Sets a page for which room was made before memory ended. Answers whether there was memory for it.
+fn set_later<R: Input + Print>(rt: &R, spaces: &mut Spaces) -> io::Result<bool> {
+    if !spaces.has(1) {
+        return Err(stop());
+    }
+    if spaces.prepare(1, &[3000]).is_err() {
+        show(rt, "refused set", spaces)?;
+        return Ok(false);
+    }
+    end_memory(rt)?;
+    spaces.set(1, 3000, 4);
+    show(rt, "done set", spaces)?;
+    Ok(true)
+}
+
+/// Clears a page, and removes a space.
+fn take_away(rt: &impl Print, spaces: &mut Spaces) -> io::Result<()> {
+    spaces.clear(1, 9);
+    show(rt, "done clear", spaces)?;
+    spaces.remove(2);
+    show(rt, "done remove", spaces)
+}
+
 /// Adds spaces, and sets pages in tables that are there and in others.
-pub fn tell<R: AllocGlobal + Print>(rt: &R) -> io::Result<()> {
+pub fn tell<R: AllocGlobal + Input + Print>(rt: &R) -> io::Result<()> {
     let mut spaces = Spaces::new(rt.alloc());
     show(rt, "done start", &spaces)?;
     add(rt, &mut spaces, 1)?;
@@ -74,5 +97,8 @@ pub fn tell<R: AllocGlobal + Print>(rt: &R) -> io::Result<()> {
     add(rt, &mut spaces, 2)?;
     set(rt, &mut spaces, 1, &[2000, 9, 1_048_575, 0])?;
     set(rt, &mut spaces, 2, &[1023, 1024])?;
-    Ok(())
+    if !set_later(rt, &mut spaces)? && !set_later(rt, &mut spaces)? {
+        return Err(stop());
+    }
+    take_away(rt, &mut spaces)
 }
