@@ -690,6 +690,13 @@ fn delivers(kernel: &mut Kernel, from: u32, to: ThreadId, words: &[u32], outcome
     }
 }
 
+/// Whether a thread that receives from anybody in the window of all pages gets a message.
+fn maps(kernel: &mut Kernel, from: u32, to: ThreadId, words: &[u32]) -> bool
+    requires { length words.now ≤ 64 }
+{
+    delivers(kernel, from, to, words, Outcome::Done)
+}
+
 /// A kernel in which root created threads 3, 4 and 5 in spaces 2, 3 and 4, and sigma0 mapped its page 5 to page 5 of thread 3.
 fn with_page(alloc: Global) -> Result<Kernel, Fail> {
     let mut kernel = Kernel::boot(alloc, 256)?;
@@ -700,7 +707,7 @@ fn with_page(alloc: Global) -> Result<Kernel, Fail> {
     ];
     step_all(&mut kernel, &threads)?;
     let page = [0x80, 0x5008, 0x50c7];
-    if !delivers(&mut kernel, 1, THIRD, &page, Outcome::Done) {
+    if !maps(&mut kernel, 1, THIRD, &page) {
         return Err("no page".into());
     }
     Ok(kernel)
@@ -723,33 +730,9 @@ fn rights_are_common(rt: HostRuntime) -> Result<(), Fail> {
         &[create(2, THIRD, THIRD), create(2, FOURTH, FOURTH)],
     )
     .expect(&rt, "two threads");
-    assert!(rt;
-        delivers(
-            &mut kernel,
-            1,
-            THIRD,
-            &[0x80, 0x5008, 0x50c5],
-            Outcome::Done
-        )
-    );
-    assert!(rt;
-        delivers(
-            &mut kernel,
-            1,
-            FOURTH,
-            &[0x80, 0x6008, 0x60c7],
-            Outcome::Done
-        )
-    );
-    assert!(rt;
-        delivers(
-            &mut kernel,
-            3,
-            FOURTH,
-            &[0x80, 0x4008, 0x40e6],
-            Outcome::Done
-        )
-    );
+    assert!(rt; maps(&mut kernel, 1, THIRD, &[0x80, 0x5008, 0x50c5]));
+    assert!(rt; maps(&mut kernel, 1, FOURTH, &[0x80, 0x6008, 0x60c7]));
+    assert!(rt; maps(&mut kernel, 3, FOURTH, &[0x80, 0x4008, 0x40e6]));
     assert!(rt; kernel.mapping(3, 5) == mapped(5, 4, 2, 5));
     assert!(rt; kernel.mapping(3, 6) == mapped(6, 7, 0, 6));
     assert!(rt; kernel.next_page(3, 0) == Some(5));
@@ -761,7 +744,7 @@ fn rights_are_common(rt: HostRuntime) -> Result<(), Fail> {
 fn a_page_onto_its_ancestor(rt: HostRuntime) -> Result<(), Fail> {
     let mut kernel = with_page(rt.alloc())?;
     let there = [0x80, 0x9008, 0x50c7];
-    assert!(rt; delivers(&mut kernel, 3, FOURTH, &there, Outcome::Done));
+    assert!(rt; maps(&mut kernel, 3, FOURTH, &there));
     let back = [0x80, 0x5008, 0x90c7];
     assert!(rt; delivers(&mut kernel, 4, THIRD, &back, Outcome::Entangled));
     assert!(rt; replied(&kernel, 4, 0x8000, 8, NOBODY, &[]));
@@ -774,24 +757,8 @@ fn a_page_onto_its_ancestor(rt: HostRuntime) -> Result<(), Fail> {
 #[test]
 fn a_grant_hands_the_children_over(rt: HostRuntime) -> Result<(), Fail> {
     let mut kernel = with_page(rt.alloc())?;
-    assert!(rt;
-        delivers(
-            &mut kernel,
-            3,
-            FOURTH,
-            &[0x80, 0x5008, 0x50c7],
-            Outcome::Done
-        )
-    );
-    assert!(rt;
-        delivers(
-            &mut kernel,
-            3,
-            FIFTH,
-            &[0x80, 0x500a, 0x50c7],
-            Outcome::Done
-        )
-    );
+    assert!(rt; maps(&mut kernel, 3, FOURTH, &[0x80, 0x5008, 0x50c7]));
+    assert!(rt; maps(&mut kernel, 3, FIFTH, &[0x80, 0x500a, 0x50c7]));
     assert!(rt; kernel.next_page(2, 0).is_none());
     assert!(rt; kernel.mapping(3, 5) == mapped(5, 7, 4, 5));
     assert!(rt; kernel.mapping(4, 5) == mapped(5, 7, 0, 5));
@@ -801,24 +768,8 @@ fn a_grant_hands_the_children_over(rt: HostRuntime) -> Result<(), Fail> {
 #[test]
 fn a_grant_cuts_the_children(rt: HostRuntime) -> Result<(), Fail> {
     let mut kernel = with_page(rt.alloc())?;
-    assert!(rt;
-        delivers(
-            &mut kernel,
-            3,
-            FOURTH,
-            &[0x80, 0x5008, 0x50c7],
-            Outcome::Done
-        )
-    );
-    assert!(rt;
-        delivers(
-            &mut kernel,
-            3,
-            FIFTH,
-            &[0x80, 0x500a, 0x50c4],
-            Outcome::Done
-        )
-    );
+    assert!(rt; maps(&mut kernel, 3, FOURTH, &[0x80, 0x5008, 0x50c7]));
+    assert!(rt; maps(&mut kernel, 3, FIFTH, &[0x80, 0x500a, 0x50c4]));
     assert!(rt; kernel.mapping(3, 5) == mapped(5, 4, 4, 5));
     assert!(rt; kernel.mapping(4, 5) == mapped(5, 4, 0, 5));
     Ok(())
@@ -831,10 +782,10 @@ fn two_items_for_one_page(rt: HostRuntime) -> Result<(), Fail> {
     assert!(rt; delivers(&mut kernel, 3, FOURTH, &both, Outcome::Entangled));
     assert!(rt; kernel.next_page(3, 0).is_none());
     let second_unused = [0x100, 0x5009, 0x50c7, 0x5008, 0x50c0];
-    assert!(rt; delivers(&mut kernel, 3, FOURTH, &second_unused, Outcome::Done));
+    assert!(rt; maps(&mut kernel, 3, FOURTH, &second_unused));
     assert!(rt; kernel.mapping(3, 5) == mapped(5, 7, 2, 5));
     let first_nil = [0x100, 0x9, 0, 0x9008, 0x50c7];
-    assert!(rt; delivers(&mut kernel, 3, FOURTH, &first_nil, Outcome::Done));
+    assert!(rt; maps(&mut kernel, 3, FOURTH, &first_nil));
     assert!(rt; kernel.mapping(3, 9) == mapped(5, 7, 2, 5));
     Ok(())
 }
@@ -842,15 +793,7 @@ fn two_items_for_one_page(rt: HostRuntime) -> Result<(), Fail> {
 #[test]
 fn an_unmap(rt: HostRuntime) -> Result<(), Fail> {
     let mut kernel = with_page(rt.alloc())?;
-    assert!(rt;
-        delivers(
-            &mut kernel,
-            3,
-            FOURTH,
-            &[0x80, 0x9008, 0x50c7],
-            Outcome::Done
-        )
-    );
+    assert!(rt; maps(&mut kernel, 3, FOURTH, &[0x80, 0x9008, 0x50c7]));
     assert!(rt; ends(&mut kernel, &unmap(3, 0, &[0x50c2]), Outcome::Started, &[3]));
     assert!(rt; matches!(kernel.reply(3), Some(Reply::Unmapped)));
     assert!(rt; kernel.mapping(2, 5) == mapped(5, 7, 0, 5));
@@ -888,15 +831,7 @@ fn an_unmap_that_is_refused(rt: HostRuntime) -> Result<(), Fail> {
 #[test]
 fn a_fault_that_is_a_hit(rt: HostRuntime) -> Result<(), Fail> {
     let mut kernel = with_page(rt.alloc())?;
-    assert!(rt;
-        delivers(
-            &mut kernel,
-            1,
-            THIRD,
-            &[0x80, 0x6008, 0x60c4],
-            Outcome::Done
-        )
-    );
+    assert!(rt; maps(&mut kernel, 1, THIRD, &[0x80, 0x6008, 0x60c4]));
     for (address, access) in [(0x5000, 7), (0x5fff, 2), (0x6abc, 4), (0x6000, 0)] {
         let faults = fault(3, address, access);
         assert!(rt; ends(&mut kernel, &faults, Outcome::Started, &[3]));
@@ -997,24 +932,8 @@ fn a_fault_that_is_answered_amiss(rt: HostRuntime) -> Result<(), Fail> {
 #[test]
 fn a_thread_that_is_deleted(rt: HostRuntime) -> Result<(), Fail> {
     let mut kernel = with_page(rt.alloc())?;
-    assert!(rt;
-        delivers(
-            &mut kernel,
-            3,
-            FOURTH,
-            &[0x80, 0x9008, 0x50c7],
-            Outcome::Done
-        )
-    );
-    assert!(rt;
-        delivers(
-            &mut kernel,
-            1,
-            FOURTH,
-            &[0x80, 0x6008, 0x60c7],
-            Outcome::Done
-        )
-    );
+    assert!(rt; maps(&mut kernel, 3, FOURTH, &[0x80, 0x9008, 0x50c7]));
+    assert!(rt; maps(&mut kernel, 1, FOURTH, &[0x80, 0x6008, 0x60c7]));
     let waits = [
         receive(5, THIRD, 0),
         send(4, THIRD, &[0x1, 7]),
@@ -1051,15 +970,7 @@ fn a_space_goes_with_its_last_thread(rt: HostRuntime) -> Result<(), Fail> {
         &[create(2, THIRD, THIRD), create(2, FOURTH, THIRD)],
     )
     .expect(&rt, "two threads");
-    assert!(rt;
-        delivers(
-            &mut kernel,
-            1,
-            THIRD,
-            &[0x80, 0x5008, 0x50c7],
-            Outcome::Done
-        )
-    );
+    assert!(rt; maps(&mut kernel, 1, THIRD, &[0x80, 0x5008, 0x50c7]));
     assert!(rt; ends(&mut kernel, &receive(3, ANYBODY, 0), Outcome::Started, &[]));
     assert!(rt; ends(&mut kernel, &delete(2, THIRD), Outcome::Started, &[2, 3]));
     assert!(rt; kernel.mapping(2, 5) == mapped(5, 7, 0, 5));
@@ -1138,24 +1049,8 @@ fn a_thread_in_the_space_of_another(rt: HostRuntime) -> Result<(), Fail> {
     step_all(&mut kernel, &threads).expect(&rt, "three threads");
     assert!(rt; kernel.space_of(4) == Some(2));
     assert!(rt; kernel.space_of(5) == Some(3));
-    assert!(rt;
-        delivers(
-            &mut kernel,
-            1,
-            THIRD,
-            &[0x80, 0x5008, 0x50c7],
-            Outcome::Done
-        )
-    );
-    assert!(rt;
-        delivers(
-            &mut kernel,
-            4,
-            THIRD,
-            &[0x80, 0x9008, 0x50c4],
-            Outcome::Done
-        )
-    );
+    assert!(rt; maps(&mut kernel, 1, THIRD, &[0x80, 0x5008, 0x50c7]));
+    assert!(rt; maps(&mut kernel, 4, THIRD, &[0x80, 0x9008, 0x50c4]));
     assert!(rt; kernel.mapping(2, 9) == mapped(5, 4, 2, 5));
     let onto_itself = [0x80, 0x5008, 0x50c7];
     assert!(rt; delivers(&mut kernel, 3, FOURTH, &onto_itself, Outcome::Entangled));
