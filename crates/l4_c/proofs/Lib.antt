@@ -1,9 +1,10 @@
 pub mod Few
+pub mod Filled
 pub mod Following
 pub mod Holding
 pub mod KernelValues
 pub mod Lists
 pub mod PagerValues
 pub mod Sigma0Values
-pub mod Steps
 pub mod Values
+pub mod Wording

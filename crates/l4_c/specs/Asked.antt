@@ -1,5 +1,5 @@
 -- The answers to questions, as they are told to C (this profile's own).
-use Rattle.std.specs.Prelude.{◌≡◌, ◌⊎◌, ℕ, codes, Option, None, Some, take, length}
+use Rattle.std.specs.Prelude.{◌≡◌, ◌⊎◌, ℕ, [], codes, Option, None, Some, length}
 use Rattle.l4_fpage.specs.Rights.{bits_of}
 use Rattle.l4_threads.specs.Threads.{space_of}
 use Rattle.l4_threads.specs.declared.Reply.{Reply}
@@ -10,60 +10,90 @@ use Rattle.l4_mapdb.specs.Places.{NonePresentFrom, IsNextPresent}
 use Rattle.l4_mapdb.specs.declared.Mapping.{Mapping}
 use Rattle.l4_mapdb.specs.declared.Place.{Place}
 use Rattle.l4_ipc.specs.Machine.{Machine}
-use Rattle.l4_c.specs.Told.{spelled}
+use Rattle.l4_c.specs.Told.{spelled, filled}
 use Rattle.l4_c.specs.declared.results.ReplyResult.{ReplyResult}
 use Rattle.l4_c.specs.declared.results.SpaceResult.{SpaceResult}
 use Rattle.l4_c.specs.declared.results.MappingResult.{MappingResult}
 use Rattle.l4_c.specs.declared.results.PageResult.{PageResult}
 
-abbrev pub IsSpaceOf : Option ℕ → SpaceResult → Type 0
-IsSpaceOf None r = (r.refusal ≡ 0) × (r.there ≡ 0)
-IsSpaceOf (Some space) r = (r.refusal ≡ 0) × (r.there ≡ 1) × (r.space ≡ space)
+-- a space that was found; the code is why it couldn't be looked for
+abbrev pub space_result : ℕ → Option ℕ → SpaceResult
+space_result code None = record { refusal = code; there = 0; space = 0 }
+space_result code (Some space) = record { refusal = code; there = 1; space = space }
 
 -- the space of a thread; an empty handle is refused (B1)
 abbrev pub TellsSpace : Option Machine → ℕ → SpaceResult → Type 0
-TellsSpace None thread r = (r.refusal ≡ spelled (codes "B1")) × (r.there ≡ 0)
-TellsSpace (Some m) thread r = IsSpaceOf (space_of m.threads thread) r
+TellsSpace None thread r = r ≡ space_result (spelled (codes "B1")) None
+TellsSpace (Some m) thread r = r ≡ space_result 0 (space_of m.threads thread)
 
-abbrev pub IsParentOf : Option Place → MappingResult → Type 0
-IsParentOf None r = r.has_parent ≡ 0
-IsParentOf (Some place) r = (r.has_parent ≡ 1) × (r.parent_page ≡ place.page) × (r.parent_space ≡ place.space)
+abbrev pub mapping_with : Mapping → Option Place → MappingResult
+mapping_with mapping None = record {
+  refusal = 0;
+  there = 1;
+  frame = mapping.frame;
+  rights = bits_of mapping.rights;
+  has_parent = 0;
+  parent_page = 0;
+  parent_space = 0;
+}
+mapping_with mapping (Some place) = record {
+  refusal = 0;
+  there = 1;
+  frame = mapping.frame;
+  rights = bits_of mapping.rights;
+  has_parent = 1;
+  parent_page = place.page;
+  parent_space = place.space;
+}
 
-abbrev pub IsMappingOf : Option Mapping → MappingResult → Type 0
-IsMappingOf None r = (r.refusal ≡ 0) × (r.there ≡ 0)
-IsMappingOf (Some mapping) r =
-    (r.refusal ≡ 0) × (r.there ≡ 1) × (r.frame ≡ mapping.frame) × (r.rights ≡ bits_of mapping.rights) × IsParentOf mapping.parent r
+abbrev pub no_mapping_result : ℕ → MappingResult
+no_mapping_result code = record { refusal = code; there = 0; frame = 0; rights = 0; has_parent = 0; parent_page = 0; parent_space = 0 }
+
+abbrev pub mapping_result : Option Mapping → MappingResult
+mapping_result None = no_mapping_result 0
+mapping_result (Some mapping) = mapping_with mapping mapping.parent
 
 -- what a page of a space shows
 abbrev pub TellsMapping : Option Machine → ℕ → ℕ → MappingResult → Type 0
-TellsMapping None space page r = (r.refusal ≡ spelled (codes "B1")) × (r.there ≡ 0)
-TellsMapping (Some m) space page r = IsMappingOf (shown m.mappings (record { space = space; page = page })) r
+TellsMapping None space page r = r ≡ no_mapping_result (spelled (codes "B1"))
+TellsMapping (Some m) space page r = r ≡ mapping_result (shown m.mappings (record { space = space; page = page }))
+
+-- no page, for this refusal
+abbrev pub no_page_result : ℕ → PageResult
+no_page_result code = record { refusal = code; there = 0; page = 0 }
+
+abbrev pub page_result : ℕ → PageResult
+page_result page = record { refusal = 0; there = 1; page = page }
 
 -- the least present page of a space that is not below this one
 abbrev pub TellsPage : Option Machine → ℕ → ℕ → PageResult → Type 0
-TellsPage None space page r = (r.refusal ≡ spelled (codes "B1")) × (r.there ≡ 0)
+TellsPage None space page r = r ≡ no_page_result (spelled (codes "B1"))
 TellsPage (Some m) space page r =
-    (r.refusal ≡ 0)
-    × (((r.there ≡ 0) × NonePresentFrom m.mappings space page) ⊎ ((r.there ≡ 1) × IsNextPresent m.mappings space page r.page))
+    ((r ≡ no_page_result 0) × NonePresentFrom m.mappings space page) ⊎ ((found : ℕ) × (r ≡ page_result found) × IsNextPresent m.mappings space page found)
 
--- a reply of this kind, with this ErrorCode
-pub record IsReply (kind error : ℕ) (r : ReplyResult) : Type 0 where
-  pub told : r.refusal ≡ 0
-  pub kind_is : r.kind ≡ kind
-  pub error_is : r.error ≡ error
+-- a reply of this kind, with this ErrorCode, and no message
+abbrev pub plain_result : ℕ → ℕ → ℕ → ReplyResult
+plain_result code kind error = record { refusal = code; kind = kind; tag = 0; error = error; «from» = 0; word_count = 0; words = filled 64 [] }
 
-abbrev pub IsReplyOf : Option Reply → ReplyResult → Type 0
-IsReplyOf None r = IsReply 0 0 r
-IsReplyOf (Some (Ipc reply)) r =
-    IsReply 1 reply.error r × (r.tag ≡ reply.tag) × (r.«from» ≡ reply.«from».0) × (r.word_count ≡ length reply.words.items) × (take r.word_count r.words ≡ reply.words.items)
-IsReplyOf (Some Hit) r = IsReply 2 0 r
-IsReplyOf (Some Answered) r = IsReply 3 0 r
-IsReplyOf (Some (FaultFailed code)) r = IsReply 4 code r
-IsReplyOf (Some Unmapped) r = IsReply 5 0 r
-IsReplyOf (Some Controlled) r = IsReply 6 0 r
-IsReplyOf (Some Gone) r = IsReply 7 0 r
+abbrev pub reply_result : Option Reply → ReplyResult
+reply_result None = plain_result 0 0 0
+reply_result (Some (Ipc reply)) = record {
+  refusal = 0;
+  kind = 1;
+  tag = reply.tag;
+  error = reply.error;
+  «from» = reply.«from».0;
+  word_count = length reply.words.items;
+  words = filled 64 reply.words.items;
+}
+reply_result (Some Hit) = plain_result 0 2 0
+reply_result (Some Answered) = plain_result 0 3 0
+reply_result (Some (FaultFailed code)) = plain_result 0 4 code
+reply_result (Some Unmapped) = plain_result 0 5 0
+reply_result (Some Controlled) = plain_result 0 6 0
+reply_result (Some Gone) = plain_result 0 7 0
 
 -- how the last ended call of a thread that runs ended
 abbrev pub TellsReply : Option Machine → ℕ → ReplyResult → Type 0
-TellsReply None thread r = (r.refusal ≡ spelled (codes "B1")) × (r.kind ≡ 0)
-TellsReply (Some m) thread r = IsReplyOf (reply_of m.threads thread) r
+TellsReply None thread r = r ≡ plain_result (spelled (codes "B1")) 0 0
+TellsReply (Some m) thread r = r ≡ reply_result (reply_of m.threads thread)

@@ -1,17 +1,19 @@
 -- Plans and checks as they are told to C (this profile's own).
-use Rattle.std.specs.Prelude.{◌≡◌, ◌⊎◌, ℕ, ◌<◌, ◌^◌, List, length, take, codes}
+use Rattle.std.specs.Prelude.{◌≡◌, ◌⊎◌, ℕ, ◌<◌, ◌≤◌, List, [], length, min, codes}
 use Rattle.l4_fpage.specs.Rights.{set_of_bits}
-use Rattle.l4_msg.specs.Messages.{MessageReads, MessageFails}
-use Rattle.l4_msg.specs.Regions.{IsEmpty, IsOutOfSpace, InSpace, HasNoRights, IsSound, IsRival, IsPlan, IsCertificate, NeedsAtLeast, NeedsMoreThan}
+use Rattle.l4_msg.specs.Messages.{MessageReads, MessageFails, message_words}
+use Rattle.l4_msg.specs.Regions.{IsEmpty, IsOutOfSpace, InSpace, HasNoRights, IsSound, IsRival, IsPlan, IsCertificate, NeedsAtLeast, NeedsMoreThan, max_plan_items}
+use Rattle.l4_msg.specs.declared.items.Item.{Item}
 use Rattle.l4_msg.specs.declared.regions.Region.{Region}
 use Rattle.l4_msg.specs.declared.messages.Message.{Message}
 use Rattle.l4_msg.specs.declared.messages.MsgFault.{MsgFault}
 use Rattle.l4_plan.specs.Plan.{Listing}
-use Rattle.l4_plan_check.specs.Faults.{IsFirstFault, IsFirstLongFault}
+use Rattle.l4_plan.specs.Largest.{AreStarts}
+use Rattle.l4_plan_check.specs.Faults.{Holds, IsFirstFault, LongHolds, IsFirstLongFault}
 use Rattle.l4_plan_check.specs.declared.faults.Fault.{Fault as AFault}
 use Rattle.l4_plan_check.specs.declared.faults.Fault.TheVariants.{Region as InRegion, Item as InItem, Gap, Count, Page, Pair}
 use Rattle.l4_answers.specs.Refusals.{message_refusal}
-use Rattle.l4_c.specs.Told.{spelled, carried}
+use Rattle.l4_c.specs.Told.{spelled, carried, filled}
 use Rattle.l4_c.specs.declared.regions.RegionGiven.{RegionGiven}
 use Rattle.l4_c.specs.declared.planning.PlanResult.{PlanResult}
 use Rattle.l4_c.specs.declared.planning.Verdict.{Verdict}
@@ -19,59 +21,93 @@ use Rattle.l4_c.specs.declared.planning.Verdict.{Verdict}
 abbrev pub region_of : RegionGiven → Region
 region_of g = record { source = g.source; target = g.target; count = g.count; rights = set_of_bits g.rights }
 
--- the words are a message of map items that move exactly the region, and the pages, one an item, show that none is shorter
-pub record TellsShortest (r : Region) (p : PlanResult) : Type 0 where
-  pub message : Message
-  pub reads : MessageReads (take p.word_count p.words) message
-  pub plan : IsPlan r message.items.items (take p.page_count p.pages)
-  pub one_each : length (take p.page_count p.pages) ≡ length message.items.items
-  pub shortest : NeedsAtLeast r (length message.items.items)
+-- these words and pages, and why there is no plan, where there is none
+abbrev pub plan_result : ℕ → List ℕ → List ℕ → PlanResult
+plan_result code words pages = record {
+  refusal = code;
+  word_count = length words;
+  page_count = length pages;
+  words = filled 64 words;
+  pages = filled 32 pages;
+}
+
+-- the message without untyped words that sends these items
+pub record Sends (m : Message) (plan : Listing) : Type 0 where
+  pub label : m.label ≡ 0
+  pub untyped : m.untyped.items ≡ []
+  pub items : m.items.items ≡ plan.items
 
 -- the plan's message and pages are told
-pub record PlanIsTold (plan : Listing) (p : PlanResult) : Type 0 where
-  pub refusal : p.refusal ≡ 0
-  pub message : Message
-  pub reads : MessageReads (take p.word_count p.words) message
-  pub items : message.items.items ≡ plan.items
-  pub pages : take p.page_count p.pages ≡ plan.pages
+abbrev pub PlanIsTold : Listing → PlanResult → Type 0
+PlanIsTold plan p = (m : Message) × Sends m plan × (p ≡ plan_result 0 (message_words m) plan.pages)
+
+-- A list of map items that move exactly the region, 31 at most, each as large as it can be, and pages, one an item, that show that none is
+-- shorter.
+pub record IsShortest (r : Region) (list : Listing) : Type 0 where
+  pub sound : IsSound r
+  pub plan : IsPlan r list.items list.pages
+  pub one_each : length list.pages ≡ length list.items
+  pub few : length list.items ≤ max_plan_items
+  pub starts : AreStarts r r.source list.pages
+  pub shortest : NeedsAtLeast r (length list.items)
 
 -- the pages show that each list of map items has more than 31
-pub record TellsTooLong (r : Region) (p : PlanResult) : Type 0 where
+pub record ShowsTooLong (r : Region) (pages : List ℕ) : Type 0 where
   pub sound : IsSound r
-  pub certificate : IsCertificate r (take p.page_count p.pages)
-  pub many : p.page_count ≡ 32
-  pub too_long : NeedsMoreThan r 31
+  pub certificate : IsCertificate r pages
+  pub many : length pages ≡ 32
+  pub starts : AreStarts r r.source pages
+  pub too_long : NeedsMoreThan r max_plan_items
 
 abbrev pub TellsPlan : Region → PlanResult → Type 0
 TellsPlan r p =
-    ((p.refusal ≡ 0) × TellsShortest r p)
-    ⊎ ((p.refusal ≡ spelled (codes "N1")) × IsEmpty r)
-    ⊎ ((p.refusal ≡ spelled (codes "N2")) × (0 < r.count) × IsOutOfSpace r)
-    ⊎ ((p.refusal ≡ spelled (codes "N3")) × (0 < r.count) × InSpace r × HasNoRights r)
-    ⊎ ((p.refusal ≡ spelled (codes "N4")) × TellsTooLong r p)
+    ((list : Listing) × IsShortest r list × PlanIsTold list p)
+    ⊎ (IsEmpty r × (p ≡ plan_result (spelled (codes "N1")) [] []))
+    ⊎ ((0 < r.count) × IsOutOfSpace r × (p ≡ plan_result (spelled (codes "N2")) [] []))
+    ⊎ ((0 < r.count) × InSpace r × HasNoRights r × (p ≡ plan_result (spelled (codes "N3")) [] []))
+    ⊎ ((pages : List ℕ) × ShowsTooLong r pages × (p ≡ plan_result (spelled (codes "N4")) [] pages))
 
--- a fault of a plan is told; a place beyond the numbers that detail has is told as the greatest
-abbrev pub IsPlace : ℕ → ℕ → Type 0
-IsPlace place detail = (place < 2 ^ 32) → detail ≡ place
+-- a place, where detail has that number, and else the greatest that it has
+abbrev pub told_place : ℕ → ℕ
+told_place place = min place 0xffffffff
 
-abbrev pub TellsFault : AFault → Verdict → Type 0
-TellsFault InRegion v = v.refusal ≡ spelled (codes "C6")
-TellsFault (InItem i) v = (v.refusal ≡ spelled (codes "C1")) × IsPlace i v.detail
-TellsFault (Gap page) v = (v.refusal ≡ spelled (codes "C2")) × (v.detail ≡ page)
-TellsFault Count v = v.refusal ≡ spelled (codes "C5")
-TellsFault (Page i) v = (v.refusal ≡ spelled (codes "C3")) × IsPlace i v.detail
-TellsFault (Pair i) v = (v.refusal ≡ spelled (codes "C4")) × IsPlace i v.detail
+abbrev pub verdict_of : ℕ → ℕ → Verdict
+verdict_of code number = record { refusal = code; detail = number }
 
--- the words are no message, or the first fault of their items, or they are a shortest plan
+abbrev pub fault_verdict : AFault → Verdict
+fault_verdict InRegion = verdict_of (spelled (codes "C6")) 0
+fault_verdict (InItem i) = verdict_of (spelled (codes "C1")) (told_place i)
+fault_verdict (Gap page) = verdict_of (spelled (codes "C2")) page
+fault_verdict Count = verdict_of (spelled (codes "C5")) 0
+fault_verdict (Page i) = verdict_of (spelled (codes "C3")) (told_place i)
+fault_verdict (Pair i) = verdict_of (spelled (codes "C4")) (told_place i)
+
+-- no fault holds of the items and the pages: they are a shortest plan
+pub record IsProved (r : Region) (items : List Item) (pages : List ℕ) : Type 0 where
+  pub none : (fault : AFault) → Holds r items pages fault → ⊥
+  pub exact : IsRival r items
+  pub certificate : IsCertificate r pages
+  pub one_each : length pages ≡ length items
+  pub few : length items ≤ max_plan_items
+  pub shortest : NeedsAtLeast r (length items)
+
+-- the words are no message, or the first fault of their items and the pages is told, or there is none
 abbrev pub TellsCheck : Region → List ℕ → List ℕ → Verdict → Type 0
 TellsCheck r words pages v =
-    ((fault : MsgFault) × MessageFails words fault × (v.refusal ≡ spelled (message_refusal fault).name) × (v.detail ≡ carried (message_refusal fault).number))
-    ⊎ ((message : Message) × MessageReads words message
-    × (((fault : AFault) × IsFirstFault r message.items.items pages fault × TellsFault fault v)
-    ⊎ ((v.refusal ≡ 0) × IsRival r message.items.items × IsCertificate r pages × NeedsAtLeast r (length message.items.items))))
+    ((fault : MsgFault) × MessageFails words fault × (v ≡ verdict_of (spelled (message_refusal fault).name) (carried (message_refusal fault).number)))
+    ⊎ ((m : Message) × MessageReads words m
+    × (((fault : AFault) × IsFirstFault r m.items.items pages fault × (v ≡ fault_verdict fault))
+    ⊎ (IsProved r m.items.items pages × (v ≡ verdict_of 0 0))))
 
--- the first fault of the claim that these are 32 pages which show each list to be too long, or they are
+-- no fault holds of the claim that these are 32 pages which show each list to be too long
+pub record IsProvedTooLong (r : Region) (pages : List ℕ) : Type 0 where
+  pub none : (fault : AFault) → LongHolds r pages fault → ⊥
+  pub certificate : IsCertificate r pages
+  pub many : length pages ≡ 32
+  pub too_long : NeedsMoreThan r max_plan_items
+
+-- the first fault of that claim is told, or there is none
 abbrev pub TellsLongCheck : Region → List ℕ → Verdict → Type 0
 TellsLongCheck r pages v =
-    ((fault : AFault) × IsFirstLongFault r pages fault × TellsFault fault v)
-    ⊎ ((v.refusal ≡ 0) × IsCertificate r pages × NeedsMoreThan r 31)
+    ((fault : AFault) × IsFirstLongFault r pages fault × (v ≡ fault_verdict fault))
+    ⊎ (IsProvedTooLong r pages × (v ≡ verdict_of 0 0))

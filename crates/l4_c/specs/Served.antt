@@ -1,5 +1,5 @@
 -- The tables of pagers and of sigma0 as C has them (this profile's own).
-use Rattle.std.specs.Prelude.{◌≡◌, ◌⊎◌, ℕ, ◌<◌, ◌≤◌, List, [], ◌∷◌, ◌++◌, length, take, codes, Option, None, Some, MatchOption}
+use Rattle.std.specs.Prelude.{◌≡◌, ◌⊎◌, ℕ, ◌<◌, ◌≤◌, List, [], ◌∷◌, ◌++◌, length, codes, Option, None, Some, MatchOption}
 use Rattle.std.specs.FinMap as fin
 use Rattle.l4_fpage.specs.Rights.{set_of_bits}
 use Rattle.l4_msg.specs.Messages.{MessageReads, MessageFails, message_words}
@@ -11,7 +11,8 @@ use Rattle.l4_pager.specs.declared.regions.PagerRefusal.{PagerRefusal}
 use Rattle.l4_pager.specs.declared.regions.PagerRefusal.TheVariants.{Overlap, NoRegion, Full, BadRegion}
 use Rattle.l4_sigma0.specs.Owners.{Owners, Answers as AnswersByOwners}
 use Rattle.l4_answers.specs.Refusals.{message_refusal}
-use Rattle.l4_c.specs.Told.{spelled, carried}
+use Rattle.l4_c.specs.Told.{spelled, carried, filled}
+use Rattle.l4_c.specs.Asked.{no_page_result, page_result}
 use Rattle.l4_c.specs.declared.regions.RegionGiven.{RegionGiven}
 use Rattle.l4_c.specs.declared.results.PageResult.{PageResult}
 use Rattle.l4_c.specs.declared.messages.MessageResult.{MessageResult}
@@ -40,34 +41,29 @@ Adds (Some es) g number new =
 
 -- the source page of a page whose entry holds the access, or there is none (P2)
 abbrev pub FindsSource : Option (List Entry) → ℕ → ℕ → PageResult → Type 0
-FindsSource None page access r = (r.refusal ≡ spelled (codes "B1")) × (r.there ≡ 0) × (r.page ≡ 0)
+FindsSource None page access r = r ≡ no_page_result (spelled (codes "B1"))
 FindsSource (Some es) page access r =
-    MatchOption (entry_for es page (set_of_bits access)) ((r.refusal ≡ spelled (codes "P2")) × (r.there ≡ 0) × (r.page ≡ 0))
-    (λ e. (r.refusal ≡ 0) × (r.there ≡ 1) × (r.page ≡ source_of e page))
+    MatchOption (entry_for es page (set_of_bits access)) (r ≡ no_page_result (spelled (codes "P2"))) (λ e. r ≡ page_result (source_of e page))
 
 -- a refusal with its number, and no word
-pub record TellsNoMessage (code number : ℕ) (r : MessageResult) : Type 0 where
-  pub refusal : r.refusal ≡ code
-  pub detail : r.detail ≡ number
-  pub count : r.word_count ≡ 0
+abbrev pub no_message_result : ℕ → ℕ → MessageResult
+no_message_result code number = record { refusal = code; detail = number; word_count = 0; words = filled 64 [] }
 
 -- the words of a message
-pub record TellsMessage (m : Message) (r : MessageResult) : Type 0 where
-  pub refusal : r.refusal ≡ 0
-  pub detail : r.detail ≡ 0
-  pub words : take r.word_count r.words ≡ message_words m
-  pub count : r.word_count ≡ length (message_words m)
+abbrev pub message_result : Message → MessageResult
+message_result m = record { refusal = 0; detail = 0; word_count = length (message_words m); words = filled 64 (message_words m) }
 
--- the words are no message, and which is told
+-- the words are no message, and why they aren't is told
 abbrev pub TellsUnread : List ℕ → MessageResult → Type 0
-TellsUnread words r = (fault : MsgFault) × MessageFails words fault × TellsNoMessage (spelled (message_refusal fault).name) (carried (message_refusal fault).number) r
+TellsUnread words r =
+    (fault : MsgFault) × MessageFails words fault × (r ≡ no_message_result (spelled (message_refusal fault).name) (carried (message_refusal fault).number))
 
 -- the words are a message, which is answered by the table
 abbrev pub TellsTablesAnswer : Option (List Entry) → List ℕ → MessageResult → Type 0
-TellsTablesAnswer None words r = TellsNoMessage (spelled (codes "B1")) 0 r
+TellsTablesAnswer None words r = r ≡ no_message_result (spelled (codes "B1")) 0
 TellsTablesAnswer (Some es) words r =
     TellsUnread words r
-    ⊎ ((m : Message) × MessageReads words m × (answer : Message) × AnswersByTable es m answer × TellsMessage answer r)
+    ⊎ ((m : Message) × MessageReads words m × (answer : Message) × AnswersByTable es m answer × (r ≡ message_result answer))
 
 -- A handle that is empty holds a table of so many frames that nobody owns from then on, or there was no memory for it or not 1 to 4,096
 -- frames (K6). One that holds a table keeps it (B2).
@@ -80,7 +76,7 @@ MakesOwners None frames number new =
 
 -- the words are a message of the space, which sigma0 answers; after a refusal nothing has changed
 abbrev pub TellsSigma0sAnswer : Option Owners → ℕ → List ℕ → MessageResult → Option Owners → Type 0
-TellsSigma0sAnswer None space words r new = TellsNoMessage (spelled (codes "B1")) 0 r × (new ≡ None)
+TellsSigma0sAnswer None space words r new = (r ≡ no_message_result (spelled (codes "B1")) 0) × (new ≡ None)
 TellsSigma0sAnswer (Some old) space words r new =
     (TellsUnread words r × (new ≡ Some old))
-    ⊎ ((m : Message) × MessageReads words m × (answer : Message) × (after : Owners) × AnswersByOwners old space m answer after × TellsMessage answer r × (new ≡ Some after))
+    ⊎ ((m : Message) × MessageReads words m × (answer : Message) × (after : Owners) × AnswersByOwners old space m answer after × (r ≡ message_result answer) × (new ≡ Some after))

@@ -1,5 +1,5 @@
--- How results are told to C (this profile's own).
-use Rattle.std.specs.Prelude.{◌≡◌, ℕ, ◌+◌, ◌*◌, List, length, take, slice_index_or, Option, None, Some, Result, Ok, Err}
+-- Results as they are told to C (this profile's own).
+use Rattle.std.specs.Prelude.{ℕ, ◌+◌, ◌-◌, ◌*◌, List, [], ◌++◌, length, replicate, slice_index_or, Option, None, Some, Result, Ok, Err}
 use Rattle.l4_ipc.specs.declared.steps.Refused.{Refused}
 use Rattle.l4_ipc.specs.declared.steps.Answer.{Answer}
 use Rattle.l4_ipc.specs.declared.steps.Step.{Step}
@@ -19,6 +19,10 @@ abbrev pub carried : Option ℕ → ℕ
 carried None = 0
 carried (Some number) = number
 
+-- so many places: the numbers, and 0 after them
+abbrev pub filled : ℕ → List ℕ → List ℕ
+filled places numbers = numbers ++ replicate (places - length numbers) 0
+
 abbrev pub outcome_number : Outcome → ℕ
 outcome_number Started = 1
 outcome_number Done = 2
@@ -27,36 +31,64 @@ outcome_number Entangled = 4
 outcome_number NoMemory = 5
 outcome_number Expired = 6
 
--- the refusal is told, and no outcome
-pub record TellsRefusal (code number : ℕ) (r : StepResult) : Type 0 where
-  pub refusal : r.refusal ≡ code
-  pub detail : r.detail ≡ number
-  pub outcome : r.outcome ≡ 0
-  pub ended : r.ended_count ≡ 0
+-- a refusal, and no outcome
+abbrev pub refusal_result : ℕ → ℕ → StepResult
+refusal_result code number = record { refusal = code; detail = number; outcome = 0; ended_count = 0; ended = filled 64 [] }
 
--- the answer is told: its outcome, and the threads whose calls ended
-pub record TellsAnswer (answer : Answer) (r : StepResult) : Type 0 where
-  pub refusal : r.refusal ≡ 0
-  pub detail : r.detail ≡ 0
-  pub outcome : r.outcome ≡ outcome_number answer.outcome
-  pub ended : take r.ended_count r.ended ≡ answer.ended.items
-  pub count : r.ended_count ≡ length answer.ended.items
+-- an answer: its outcome, and the threads whose calls ended
+abbrev pub answer_result : Answer → StepResult
+answer_result answer = record {
+  refusal = 0;
+  detail = 0;
+  outcome = outcome_number answer.outcome;
+  ended_count = length answer.ended.items;
+  ended = filled 64 answer.ended.items;
+}
 
--- what a step gave is told
-abbrev pub TellsStep : Result Answer Refused → StepResult → Type 0
-TellsStep (Ok answer) r = TellsAnswer answer r
-TellsStep (Err e) r = TellsRefusal (spelled (kernel_refusal e).name) (carried (kernel_refusal e).number) r
+-- what a step gave
+abbrev pub step_result : Result Answer Refused → StepResult
+step_result (Ok answer) = answer_result answer
+step_result (Err e) = refusal_result (spelled (kernel_refusal e).name) (carried (kernel_refusal e).number)
 
--- the step is told; no Start comes next
-abbrev pub TellsNext : Step → NextResult → Type 0
-TellsNext (Start n call) r = ⊥
-TellsNext (Transfer sender receiver) r = (r.kind ≡ 1) × (r.thread ≡ sender) × (r.receiver ≡ receiver)
-TellsNext (Expire n) r = (r.kind ≡ 2) × (r.thread ≡ n)
+abbrev pub kind_of : Step → ℕ
+kind_of (Start n call) = 0
+kind_of (Transfer sender receiver) = 1
+kind_of (Expire n) = 2
+
+abbrev pub thread_of : Step → ℕ
+thread_of (Start n call) = 0
+thread_of (Transfer sender receiver) = sender
+thread_of (Expire n) = n
+
+abbrev pub receiver_of : Step → ℕ
+receiver_of (Start n call) = 0
+receiver_of (Transfer sender receiver) = receiver
+receiver_of (Expire n) = 0
+
+-- no step comes next, or why that can't be said
+abbrev pub no_step_result : ℕ → NextResult
+no_step_result code = record { refusal = code; kind = 0; thread = 0; receiver = 0; outcome = 0; ended_count = 0; ended = filled 2 [] }
+
+-- the step that comes next; no Start does
+abbrev pub next_result : Step → NextResult
+next_result step = record {
+  refusal = 0;
+  kind = kind_of step;
+  thread = thread_of step;
+  receiver = receiver_of step;
+  outcome = 0;
+  ended_count = 0;
+  ended = filled 2 [];
+}
 
 -- a step that came next, and what it did
-pub record TellsDone (which : Step) (answer : Answer) (r : NextResult) : Type 0 where
-  pub step : TellsNext which r
-  pub refusal : r.refusal ≡ 0
-  pub outcome : r.outcome ≡ outcome_number answer.outcome
-  pub ended : take r.ended_count r.ended ≡ answer.ended.items
-  pub count : r.ended_count ≡ length answer.ended.items
+abbrev pub done_result : Step → Answer → NextResult
+done_result step answer = record {
+  refusal = 0;
+  kind = kind_of step;
+  thread = thread_of step;
+  receiver = receiver_of step;
+  outcome = outcome_number answer.outcome;
+  ended_count = length answer.ended.items;
+  ended = filled 2 answer.ended.items;
+}

@@ -3,17 +3,17 @@ ghost use Rattle.std.specs.Prelude.{◌≡◌, None, Some, MatchOption};
 ghost use Rattle.l4_threads.specs.Threads.{space_of};
 ghost use Rattle.l4_mapdb.specs.Mappings.{shown};
 ghost use Rattle.l4_mapdb.specs.Places.{NonePresentFrom, IsNextPresent};
-ghost use Rattle.l4_c.specs.Asked.{TellsSpace, TellsMapping, TellsPage, IsSpaceOf, IsMappingOf};
+ghost use Rattle.l4_c.specs.Asked.{TellsSpace, TellsMapping, TellsPage, space_result, no_mapping_result, mapping_result};
 
 use crate::kernels::KernelHandle;
 use crate::numbers::EMPTY;
-use crate::results::{MappingResult, PageResult, SpaceResult};
+use crate::results::{MappingResult, PageResult, SpaceResult, no_page, page_told};
 use l4_ipc::Mapping;
 use std::alloc::Global;
 
 /// A space that was found.
 fn space_told(found: Option<u64>) -> SpaceResult
-    ensures { IsSpaceOf found result }
+    ensures { result ≡ space_result 0 found }
 {
     match found {
         Some(space) => SpaceResult {
@@ -49,7 +49,7 @@ pub extern "C" fn l4_space_of(alloc: Global, handle: &mut KernelHandle, thread: 
 
 /// A mapping.
 fn mapping_there(mapping: &Mapping) -> MappingResult
-    ensures { IsMappingOf (Some mapping.now) result }
+    ensures { result ≡ mapping_result (Some mapping.now) }
 {
     let (has_parent, parent_page, parent_space) = match mapping.parent {
         Some(place) => (1, place.page, place.space),
@@ -68,8 +68,7 @@ fn mapping_there(mapping: &Mapping) -> MappingResult
 
 /// No mapping.
 fn no_mapping(refusal: u32) -> MappingResult
-    ensures refusal { result.refusal ≡ refusal }
-    ensures there { result.there ≡ 0 }
+    ensures { result ≡ no_mapping_result refusal }
 {
     MappingResult {
         refusal,
@@ -84,7 +83,7 @@ fn no_mapping(refusal: u32) -> MappingResult
 
 /// A mapping that was found.
 fn mapping_told(found: Option<Mapping>) -> MappingResult
-    ensures { IsMappingOf found result }
+    ensures { result ≡ mapping_result found }
 {
     match found {
         Some(mapping) => mapping_there(&mapping),
@@ -123,24 +122,12 @@ pub extern "C" fn l4_next_page(
     ensures told { TellsPage handle.old.value space page result }
 {
     let Some(kernel) = handle.take(alloc) else {
-        return PageResult {
-            refusal: EMPTY,
-            there: 0,
-            page: 0,
-        };
+        return no_page(EMPTY);
     };
     let found = kernel.next_page(space, page);
     handle.put(kernel);
     match found {
-        Some(page) => PageResult {
-            refusal: 0,
-            there: 1,
-            page,
-        },
-        None => PageResult {
-            refusal: 0,
-            there: 0,
-            page: 0,
-        },
+        Some(page) => page_told(page),
+        None => no_page(0),
     }
 }

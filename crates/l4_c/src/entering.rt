@@ -1,8 +1,8 @@
 //! Calls that are entered: their start, and the steps that come next.
-ghost use Rattle.std.specs.Prelude.{◌≡◌, ◌≤◌, ◌<◌, Ok, length};
+ghost use Rattle.std.specs.Prelude.{◌≡◌, ◌≤◌, ◌<◌, Ok, length, slice_set};
 ghost use Rattle.l4_ipc.specs.Machine.{Machine};
-ghost use Rattle.l4_ipc.specs.Steps.{Steps, IsNext, IsIdle};
-ghost use Rattle.l4_ipc.specs.Following.{Done, AreNext};
+ghost use Rattle.l4_ipc.specs.Steps.{Steps, IsNext};
+ghost use Rattle.l4_c.specs.Told.{done_result};
 ghost use Rattle.l4_c.specs.Exports.{Follows, Goes, Enters};
 
 use crate::calls::{CallGiven, call_of};
@@ -15,7 +15,8 @@ use std::alloc::Global;
 /// Writes down a step that was done, where there is room.
 fn note(steps: &mut [NextResult], at: u32, step: &Step, answer: &Answer)
     requires { (old : Machine) × (new : Machine) × IsNext old step.now × Steps old step.now (Ok answer.now) new }
-    ensures { length steps.new ≡ length steps.old }
+    ensures there { at < length steps.old → steps.new ≡ slice_set steps.old at (done_result step.now answer.now) }
+    ensures beyond { length steps.old ≤ at → steps.new ≡ steps.old }
 {
     let at = at as usize;
     if at < steps.len() {
@@ -25,7 +26,7 @@ fn note(steps: &mut [NextResult], at: u32, step: &Step, answer: &Answer)
 
 /// Does the steps that come next, until there is none, and counts them.
 fn follow(kernel: &mut Kernel, steps: &mut [NextResult]) -> u32
-    ensures { Follows kernel.old result kernel.new }
+    ensures { Follows kernel.old steps.old result steps.new kernel.new }
 {
     kernel.law_consistent();
     let mut count = 0u32;
@@ -38,8 +39,7 @@ fn follow(kernel: &mut Kernel, steps: &mut [NextResult]) -> u32
 
 /// A call of which no more than the start is told.
 fn only_start(start: StepResult) -> EnterResult
-    ensures start { result.start ≡ start }
-    ensures count { result.step_count ≡ 0 }
+    ensures { result ≡ record { start = start; step_count = 0 } }
 {
     EnterResult {
         start,
@@ -55,7 +55,7 @@ fn enter(
     words: &[u32],
     steps: &mut [NextResult],
 ) -> EnterResult
-    ensures { Goes kernel.old thread given.now words.now result kernel.new }
+    ensures { Goes kernel.old thread given.now words.now steps.old result steps.new kernel.new }
 {
     let Some(call) = call_of(given, words) else {
         return only_start(refused(NO_SUCH_CALL, 0));
@@ -80,7 +80,7 @@ pub extern "C" fn l4_enter(
     words: &[u32],
     steps: &mut [NextResult],
 ) -> EnterResult
-    ensures { Enters handle.old.value thread call.now words.now result handle.new.value }
+    ensures { Enters handle.old.value thread call.now words.now steps.old result steps.new handle.new.value }
 {
     let Some(mut kernel) = handle.take(alloc) else {
         return only_start(refused(EMPTY, 0));

@@ -1,7 +1,7 @@
 //! Messages that answer others.
 ghost use Rattle.std.specs.Prelude.{◌≡◌, ℕ, List};
 ghost use Rattle.l4_msg.specs.Messages.{CanBeWritten, MessageFails};
-ghost use Rattle.l4_c.specs.Served.{TellsNoMessage, TellsMessage, TellsUnread};
+ghost use Rattle.l4_c.specs.Served.{no_message_result, message_result, TellsUnread};
 
 use crate::numbers::{message_detail, message_number};
 use crate::results::padded;
@@ -20,7 +20,7 @@ pub struct MessageResult {
 
 /// No message, for this refusal.
 pub fn no_message(refusal: u32, detail: u32) -> MessageResult
-    ensures { TellsNoMessage refusal detail result }
+    ensures { result ≡ no_message_result refusal detail }
 {
     MessageResult {
         refusal,
@@ -40,7 +40,7 @@ pub fn unread(fault: MsgFault) -> MessageResult
 /// The words of a message.
 pub fn message_told(message: &Message) -> MessageResult
     requires { CanBeWritten message.now }
-    ensures { TellsMessage message.now result }
+    ensures { result ≡ message_result message.now }
 {
     let words = message.write();
     MessageResult {

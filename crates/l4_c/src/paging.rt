@@ -7,7 +7,7 @@ use crate::messages::{MessageResult, message_told, no_message, unread};
 use crate::numbers::{EMPTY, HELD, NO_MEMORY};
 use crate::pagers::PagerHandle;
 use crate::regions::{RegionGiven, entry_of};
-use crate::results::PageResult;
+use crate::results::{PageResult, no_page, page_told};
 use l4_ipc::Message;
 use l4_pager::{PagerRefusal, RegionPager};
 use std::alloc::Global;
@@ -78,25 +78,13 @@ pub extern "C" fn l4_pager_find(
     ensures told { FindsSource handle.old.value page access result }
 {
     let Some(table) = handle.take(alloc) else {
-        return PageResult {
-            refusal: EMPTY,
-            there: 0,
-            page: 0,
-        };
+        return no_page(EMPTY);
     };
     let found = table.find(page, rights(access));
     handle.put(table);
     match found {
-        Ok(source) => PageResult {
-            refusal: 0,
-            there: 1,
-            page: source,
-        },
-        Err(refusal) => PageResult {
-            refusal: entry_number(refusal),
-            there: 0,
-            page: 0,
-        },
+        Ok(source) => page_told(source),
+        Err(refusal) => no_page(entry_number(refusal)),
     }
 }
 

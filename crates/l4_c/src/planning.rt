@@ -1,7 +1,7 @@
 //! Plans of regions, and checks of plans.
-ghost use Rattle.std.specs.Prelude.{◌≡◌, ℕ, ◌≤◌, length, take, codes};
+ghost use Rattle.std.specs.Prelude.{◌≡◌, ◌≤◌, [], length, codes};
 ghost use Rattle.l4_c.specs.Told.{spelled};
-ghost use Rattle.l4_c.specs.Planned.{region_of, IsPlace, PlanIsTold, TellsPlan, TellsCheck, TellsLongCheck, TellsFault};
+ghost use Rattle.l4_c.specs.Planned.{region_of, told_place, plan_result, PlanIsTold, TellsPlan, verdict_of, fault_verdict, TellsCheck, TellsLongCheck};
 
 use crate::numbers::{message_detail, message_number};
 use crate::regions::{RegionGiven, region_of};
@@ -32,7 +32,7 @@ pub struct Verdict {
 
 /// No plan, for this refusal.
 fn no_plan(refusal: u32) -> PlanResult
-    ensures { result.refusal ≡ refusal }
+    ensures { result ≡ plan_result refusal [] [] }
 {
     PlanResult {
         refusal,
@@ -61,9 +61,7 @@ fn plan_told(plan: &Plan) -> PlanResult
 /// The 32 pages that show that each list is too long.
 fn too_long(pages: &[u32]) -> PlanResult
     requires { length pages.now ≤ 32 }
-    ensures refusal { result.refusal ≡ spelled (codes "N4") }
-    ensures pages { take result.page_count result.pages ≡ pages.now }
-    ensures count { result.page_count ≡ length pages.now }
+    ensures { result ≡ plan_result (spelled (codes "N4")) [] pages.now }
 {
     let mut told = no_plan(0x4e34);
     told.page_count = pages.len() as u32;
@@ -87,7 +85,7 @@ pub extern "C" fn l4_plan_region(given: &RegionGiven) -> PlanResult
 
 /// A place from 0.
 fn place(at: usize) -> u32
-    ensures { IsPlace at result }
+    ensures { result ≡ told_place at }
 {
     if at <= 0xffff_ffff {
         at as u32
@@ -96,43 +94,26 @@ fn place(at: usize) -> u32
     }
 }
 
-/// A fault of a plan.
-fn fault_told(fault: Fault) -> Verdict
-    ensures { TellsFault fault result }
+/// A refusal of a claim, or none.
+fn verdict_of(refusal: u32, detail: u32) -> Verdict
+    ensures { result ≡ verdict_of refusal detail }
 {
-    match fault {
-        Fault::Region => Verdict {
-            refusal: 0x4336,
-            detail: 0,
-        },
-        Fault::Item(i) => Verdict {
-            refusal: 0x4331,
-            detail: place(i),
-        },
-        Fault::Gap(page) => Verdict {
-            refusal: 0x4332,
-            detail: page,
-        },
-        Fault::Count => Verdict {
-            refusal: 0x4335,
-            detail: 0,
-        },
-        Fault::Page(i) => Verdict {
-            refusal: 0x4333,
-            detail: place(i),
-        },
-        Fault::Pair(i) => Verdict {
-            refusal: 0x4334,
-            detail: place(i),
-        },
-    }
+    Verdict { refusal, detail }
 }
 
-/// The claim is proved.
-const PROVED: Verdict = Verdict {
-    refusal: 0,
-    detail: 0,
-};
+/// A fault of a plan.
+fn fault_told(fault: Fault) -> Verdict
+    ensures { result ≡ fault_verdict fault }
+{
+    match fault {
+        Fault::Region => verdict_of(0x4336, 0),
+        Fault::Item(i) => verdict_of(0x4331, place(i)),
+        Fault::Gap(page) => verdict_of(0x4332, page),
+        Fault::Count => verdict_of(0x4335, 0),
+        Fault::Page(i) => verdict_of(0x4333, place(i)),
+        Fault::Pair(i) => verdict_of(0x4334, place(i)),
+    }
+}
 
 /// Checks a plan of a region.
 #[unsafe(no_mangle)]
@@ -142,14 +123,11 @@ pub extern "C" fn l4_check_plan(given: &RegionGiven, words: &[u32], pages: &[u32
     let message = match Message::read(words) {
         Ok(message) => message,
         Err(fault) => {
-            return Verdict {
-                refusal: message_number(fault),
-                detail: message_detail(fault),
-            };
+            return verdict_of(message_number(fault), message_detail(fault));
         }
     };
     match check(&region_of(given), message.items.as_slice(), pages) {
-        Ok(Proved) => PROVED,
+        Ok(Proved) => verdict_of(0, 0),
         Err(fault) => fault_told(fault),
     }
 }
@@ -160,7 +138,7 @@ pub extern "C" fn l4_check_too_long(given: &RegionGiven, pages: &[u32]) -> Verdi
     ensures { TellsLongCheck (region_of given.now) pages.now result }
 {
     match check_too_long(&region_of(given), pages) {
-        Ok(Proved) => PROVED,
+        Ok(Proved) => verdict_of(0, 0),
         Err(fault) => fault_told(fault),
     }
 }

@@ -1,7 +1,7 @@
 //! How calls ended.
-ghost use Rattle.std.specs.Prelude.{◌≡◌, ◌≤◌, length, None, Some};
-ghost use Rattle.l4_threads.specs.declared.Reply.TheVariants.{Ipc, FaultFailed};
-ghost use Rattle.l4_c.specs.Asked.{IsReplyOf, TellsReply};
+ghost use Rattle.std.specs.Prelude.{◌≡◌, None, Some};
+ghost use Rattle.l4_threads.specs.declared.Reply.TheVariants.{Ipc};
+ghost use Rattle.l4_c.specs.Asked.{plain_result, reply_result, TellsReply};
 
 use crate::kernels::KernelHandle;
 use crate::numbers::EMPTY;
@@ -9,17 +9,15 @@ use crate::results::{ReplyResult, padded};
 use l4_ipc::{IpcReply, MAX_WORDS, Reply};
 use std::alloc::Global;
 
-/// A reply of this kind and no more.
-fn plain(kind: u32) -> ReplyResult
-    ensures refusal { result.refusal ≡ 0 }
-    ensures kind { result.kind ≡ kind }
-    ensures error { result.error ≡ 0 }
+/// A reply of this kind with this ErrorCode, and no message.
+fn plain(refusal: u32, kind: u32, error: u32) -> ReplyResult
+    ensures { result ≡ plain_result refusal kind error }
 {
     ReplyResult {
-        refusal: 0,
+        refusal,
         kind,
         tag: 0,
-        error: 0,
+        error,
         from: 0,
         word_count: 0,
         words: [0; MAX_WORDS],
@@ -28,7 +26,7 @@ fn plain(kind: u32) -> ReplyResult
 
 /// The reply of an Ipc.
 fn ipc_told(reply: &IpcReply) -> ReplyResult
-    ensures { IsReplyOf (Some (Ipc reply.now)) result }
+    ensures { result ≡ reply_result (Some (Ipc reply.now)) }
 {
     ReplyResult {
         refusal: 0,
@@ -41,27 +39,18 @@ fn ipc_told(reply: &IpcReply) -> ReplyResult
     }
 }
 
-/// A fault that failed.
-fn failed(code: u32) -> ReplyResult
-    ensures { IsReplyOf (Some (FaultFailed code)) result }
-{
-    let mut told = plain(4);
-    told.error = code;
-    told
-}
-
 /// A reply.
 fn reply_told(reply: &Reply) -> ReplyResult
-    ensures { IsReplyOf (Some reply.now) result }
+    ensures { result ≡ reply_result (Some reply.now) }
 {
     match reply {
         Reply::Ipc(reply) => ipc_told(reply),
-        Reply::Hit => plain(2),
-        Reply::Answered => plain(3),
-        Reply::FaultFailed(code) => failed(*code),
-        Reply::Unmapped => plain(5),
-        Reply::Controlled => plain(6),
-        Reply::Gone => plain(7),
+        Reply::Hit => plain(0, 2, 0),
+        Reply::Answered => plain(0, 3, 0),
+        Reply::FaultFailed(code) => plain(0, 4, *code),
+        Reply::Unmapped => plain(0, 5, 0),
+        Reply::Controlled => plain(0, 6, 0),
+        Reply::Gone => plain(0, 7, 0),
     }
 }
 
@@ -72,13 +61,11 @@ pub extern "C" fn l4_reply_of(alloc: Global, handle: &mut KernelHandle, thread: 
     ensures told { TellsReply handle.old.value thread result }
 {
     let Some(kernel) = handle.take(alloc) else {
-        let mut told = plain(0);
-        told.refusal = EMPTY;
-        return told;
+        return plain(EMPTY, 0, 0);
     };
     let told = match kernel.reply(thread) {
         Some(reply) => reply_told(reply),
-        None => plain(0),
+        None => plain(0, 0, 0),
     };
     handle.put(kernel);
     told

@@ -1,10 +1,9 @@
 //! What calls give to C.
-ghost use Rattle.std.specs.Prelude.{◌≡◌, ◌≤◌, length, take};
-ghost use Rattle.l4_answers.specs.Refusals.{kernel_refusal};
-ghost use Rattle.std.specs.Prelude.{Ok};
+ghost use Rattle.std.specs.Prelude.{◌≡◌, ◌≤◌, Ok, length};
 ghost use Rattle.l4_ipc.specs.Machine.{Machine};
 ghost use Rattle.l4_ipc.specs.Steps.{Steps, IsNext};
-ghost use Rattle.l4_c.specs.Told.{spelled, carried, outcome_number, TellsRefusal, TellsAnswer, TellsStep, TellsNext, TellsDone};
+ghost use Rattle.l4_c.specs.Asked.{no_page_result, page_result};
+ghost use Rattle.l4_c.specs.Told.{filled, refusal_result, answer_result, step_result, no_step_result, next_result, done_result};
 
 use crate::numbers::{kernel_detail, kernel_number, outcome_number};
 use l4_ipc::{Answer, MAX_THREADS, MAX_WORDS, Refused, Step};
@@ -87,7 +86,7 @@ pub struct PageResult {
 
 /// A refusal.
 pub fn refused(refusal: u32, detail: u32) -> StepResult
-    ensures { TellsRefusal refusal detail result }
+    ensures { result ≡ refusal_result refusal detail }
 {
     StepResult {
         refusal,
@@ -100,8 +99,7 @@ pub fn refused(refusal: u32, detail: u32) -> StepResult
 
 /// No step.
 pub fn no_step(refusal: u32) -> NextResult
-    ensures refusal { result.refusal ≡ refusal }
-    ensures kind { result.kind ≡ 0 }
+    ensures { result ≡ no_step_result refusal }
 {
     NextResult {
         refusal,
@@ -114,10 +112,31 @@ pub fn no_step(refusal: u32) -> NextResult
     }
 }
 
+/// No page, for this refusal.
+pub fn no_page(refusal: u32) -> PageResult
+    ensures { result ≡ no_page_result refusal }
+{
+    PageResult {
+        refusal,
+        there: 0,
+        page: 0,
+    }
+}
+
+/// A page.
+pub fn page_told(page: u32) -> PageResult
+    ensures { result ≡ page_result page }
+{
+    PageResult {
+        refusal: 0,
+        there: 1,
+        page,
+    }
+}
+
 /// A step that comes next.
 pub fn step_told(step: &Step) -> NextResult
-    ensures step { (m : Machine) → IsNext m step.now → TellsNext step.now result }
-    ensures refusal { result.refusal ≡ 0 }
+    ensures { result ≡ next_result step.now }
 {
     let mut told = no_step(0);
     match step {
@@ -135,34 +154,22 @@ pub fn step_told(step: &Step) -> NextResult
     told
 }
 
-/// The threads whose calls ended in a step that came next, and 0 after them.
-fn ended_pair(threads: &[u32]) -> [u32; 2]
-    requires { length threads.now ≤ 2 }
-    ensures { take (length threads.now) result ≡ threads.now }
-{
-    match threads {
-        [first, second] => [*first, *second],
-        [first] => [*first, 0],
-        _ => [0, 0],
-    }
-}
-
 /// A step that came next, and what it did.
 pub fn done_told(step: &Step, answer: &Answer) -> NextResult
     requires { (old : Machine) × (new : Machine) × IsNext old step.now × Steps old step.now (Ok answer.now) new }
-    ensures { TellsDone step.now answer.now result }
+    ensures { result ≡ done_result step.now answer.now }
 {
     let mut told = step_told(step);
     told.outcome = outcome_number(answer.outcome);
     told.ended_count = answer.ended.len() as u32;
-    told.ended = ended_pair(answer.ended.as_slice());
+    told.ended = padded(answer.ended.as_slice());
     told
 }
 
 /// The numbers, and 0 after them.
 pub fn padded<const N: usize>(numbers: &[u32]) -> [u32; N]
     requires { length numbers.now ≤ N }
-    ensures { take (length numbers.now) result ≡ numbers.now }
+    ensures { result ≡ filled N numbers.now }
 {
     let mut all = [0; N];
     for i in 0..numbers.len() {
@@ -173,7 +180,7 @@ pub fn padded<const N: usize>(numbers: &[u32]) -> [u32; N]
 
 /// An answer.
 pub fn answered(answer: &Answer) -> StepResult
-    ensures { TellsAnswer answer.now result }
+    ensures { result ≡ answer_result answer.now }
 {
     StepResult {
         refusal: 0,
@@ -186,7 +193,7 @@ pub fn answered(answer: &Answer) -> StepResult
 
 /// What a step gave.
 pub fn told(given: Result<Answer, Refused>) -> StepResult
-    ensures { TellsStep given result }
+    ensures { result ≡ step_result given }
 {
     match given {
         Ok(answer) => answered(&answer),

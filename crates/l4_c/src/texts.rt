@@ -1,108 +1,152 @@
 //! Refusals in words.
-ghost use Rattle.std.specs.Prelude.{◌≡◌, ◌<◌, ◌≤◌, length};
+ghost use Rattle.std.specs.Prelude.{◌≡◌, ◌<◌, length, map};
+ghost use Rattle.l4_c.specs.Told.{spelled};
+ghost use Rattle.l4_c.specs.Texts.{texts, text_in, written};
+ghost use Rattle.l4_c.specs.Inside.Bytes.{bytes_of};
 
-use crate::numbers::NO_MEMORY;
-
-/// What a refusal of a handle or of the kernel means.
-fn kernel_line(refusal: u32) -> &'static [u8]
-    ensures { length result.now < 160 }
-{
-    match refusal {
-        0x4231 => b"the handle is empty",
-        0x4232 => b"the handle isn't empty",
-        0x4233 => b"there is no such kind of call",
-        0x4b31 => b"nobody waits so: the transfer or expiry can't be done now",
-        0x4b32 => b"there is no thread of this number",
-        0x4b33 => b"the thread's last call goes on",
-        0x4b34 => b"a timeout is neither never nor zero",
-        0x4b36 => b"a machine has 1 to 4,096 frames",
-        NO_MEMORY => b"there was no memory for it",
-        _ => b"",
-    }
+/// A printed code, and what it means.
+#[derive(Clone, Copy)]
+struct Text {
+    code: &'static [u8],
+    line: &'static [u8],
 }
 
-/// What a refusal of a message means.
-fn message_line(refusal: u32) -> &'static [u8]
-    ensures { length result.now < 160 }
+fn meaning(code: &'static [u8], line: &'static [u8]) -> Text
+    ensures { bytes_of result ≡ (code.now, line.now) }
 {
-    match refusal {
-        0x4d31 => b"the message tag counts more than 63 words after it",
-        0x4d32 => b"the tag counts an odd number of words for the items",
-        0x4d33 => b"the item has an unknown kind or is no fpage",
-        0x4d34 => b"the item is a string or CtrlXfer item, which are left out here",
-        0x4d35 => b"a flag of the tag is set",
-        0x4d36 => b"the receive window is no fpage",
-        0x4d37 => b"there is no tag, or there are fewer words than it counts",
-        _ => b"",
-    }
+    Text { code, line }
 }
 
-/// What a refusal of a control of threads or of an Unmap means.
-fn control_line(refusal: u32) -> &'static [u8]
-    ensures { length result.now < 160 }
+/// All codes.
+fn texts() -> [Text; 38]
+    ensures { map bytes_of result ≡ texts }
 {
-    match refusal {
-        0x4831 => b"the caller isn't in root's space",
-        0x4832 => b"no thread can have this id",
-        0x4833 => b"there is a thread of this number",
-        0x4834 => b"no thread has this id",
-        0x4835 => b"there are 64 threads, or no number is left for a space",
-        0x4836 => b"sigma0, root and the caller itself can't be deleted",
-        0x5531 => b"the word of an Unmap is no fpage",
-        0x5532 => b"an Unmap has fewer words than its control word says",
-        _ => b"",
-    }
-}
-
-/// What a refusal of a region or a fault of a plan means.
-fn region_line(refusal: u32) -> &'static [u8]
-    ensures { length result.now < 160 }
-{
-    match refusal {
-        0x4e31 => b"the region has no page",
-        0x4e32 => b"the region goes beyond the 1,048,576 pages of a space",
-        0x4e33 => b"the region has no rights",
-        0x4e34 => b"no 31 map items, as many as a message holds, move just the region",
-        0x4331 =>
+    [
+        meaning(b"B1", b"the handle is empty"),
+        meaning(b"B2", b"the handle isn't empty"),
+        meaning(b"B3", b"there is no such kind of call"),
+        meaning(
+            b"K1",
+            b"nobody waits so: the transfer or expiry can't be done now",
+        ),
+        meaning(b"K2", b"there is no thread of this number"),
+        meaning(b"K3", b"the thread's last call goes on"),
+        meaning(b"K4", b"a timeout is neither never nor zero"),
+        meaning(b"K6", b"a machine has 1 to 4,096 frames"),
+        meaning(b"M1", b"the message tag counts more than 63 words after it"),
+        meaning(
+            b"M2",
+            b"the tag counts an odd number of words for the items",
+        ),
+        meaning(b"M3", b"the item has an unknown kind or is no fpage"),
+        meaning(
+            b"M4",
+            b"the item is a string or CtrlXfer item, which are left out here",
+        ),
+        meaning(b"M5", b"a flag of the tag is set"),
+        meaning(b"M6", b"the receive window is no fpage"),
+        meaning(
+            b"M7",
+            b"there is no tag, or there are fewer words than it counts",
+        ),
+        meaning(b"H1", b"the caller isn't in root's space"),
+        meaning(b"H2", b"no thread can have this id"),
+        meaning(b"H3", b"there is a thread of this number"),
+        meaning(b"H4", b"no thread has this id"),
+        meaning(
+            b"H5",
+            b"there are 64 threads, or no number is left for a space",
+        ),
+        meaning(
+            b"H6",
+            b"sigma0, root and the caller itself can't be deleted",
+        ),
+        meaning(b"U1", b"the word of an Unmap is no fpage"),
+        meaning(
+            b"U2",
+            b"an Unmap has fewer words than its control word says",
+        ),
+        meaning(b"N1", b"the region has no page"),
+        meaning(
+            b"N2",
+            b"the region goes beyond the 1,048,576 pages of a space",
+        ),
+        meaning(b"N3", b"the region has no rights"),
+        meaning(
+            b"N4",
+            b"no 31 map items, as many as a message holds, move just the region",
+        ),
+        meaning(
+            b"C1",
             b"the item of a plan is none of the region's: a grant, other rights, or a page that goes elsewhere",
-        0x4332 => b"no item moves the page",
-        0x4333 => b"the page at this place of the list isn't one of the region's",
-        0x4334 => {
-            b"one map item could move the page at this place together with an earlier one, so the pages don't show that no list is shorter"
-        }
-        0x4335 => b"more than 31 items, or not one page an item; or not 32 pages",
-        0x4336 => b"the region is refused by N1, N2 or N3",
-        0x5031 => b"a page of the region is one of another region of the table",
-        0x5032 => b"no region of the table has the page with this access",
-        0x5033 => b"the table has 64 regions",
-        0x5034 => b"the region has no page, a page or source page beyond the space, or no right",
-        _ => b"",
+        ),
+        meaning(b"C2", b"no item moves the page"),
+        meaning(
+            b"C3",
+            b"the page at this place of the list isn't one of the region's",
+        ),
+        meaning(
+            b"C4",
+            b"one map item could move the page at this place together with an earlier one, so the pages don't show that no list is shorter",
+        ),
+        meaning(
+            b"C5",
+            b"more than 31 items, or not one page an item; or not 32 pages",
+        ),
+        meaning(b"C6", b"the region is refused by N1, N2 or N3"),
+        meaning(
+            b"P1",
+            b"a page of the region is one of another region of the table",
+        ),
+        meaning(
+            b"P2",
+            b"no region of the table has the page with this access",
+        ),
+        meaning(b"P3", b"the table has 64 regions"),
+        meaning(
+            b"P4",
+            b"the region has no page, a page or source page beyond the space, or no right",
+        ),
+        meaning(b"NoMemory", b"there was no memory for it"),
+    ]
+}
+
+/// The number of a code.
+fn spelled(code: &[u8]) -> u32
+    ensures { result ≡ spelled code.now }
+{
+    match code {
+        [first, second, ..] => u32::from(*first) * 256 + u32::from(*second),
+        [first] => u32::from(*first) * 256,
+        [] => 0,
     }
 }
 
-/// What a refusal means; nothing for a number that is none.
-fn line_of(refusal: u32) -> &'static [u8]
-    ensures { length result.now < 160 }
+/// The code of a refusal and what it means; nothing for a number that is none.
+fn text_of(refusal: u32) -> Text
+    ensures { bytes_of result ≡ text_in texts refusal }
 {
-    match refusal >> 8 {
-        0x4d => message_line(refusal),
-        0x48 | 0x55 => control_line(refusal),
-        0x43 | 0x50 => region_line(refusal),
-        0x4e if refusal != NO_MEMORY => region_line(refusal),
-        _ => kernel_line(refusal),
+    let texts = texts();
+    for text in &texts {
+        if spelled(text.code) == refusal {
+            return *text;
+        }
+    }
+    Text {
+        code: b"",
+        line: b"",
     }
 }
 
 /// Writes what fits of the text, and a 0 after it. It gives the length of the text.
 fn write_text(text: &[u8], out: &mut [u8]) -> usize
     ensures length { result ≡ length text.now }
-    ensures room { length out.new ≡ length out.old }
+    ensures written { out.new ≡ written text.now out.old }
 {
     if out.is_empty() {
         return text.len();
     }
-    let most = out.len() - 1;
-    let count = if text.len() < most { text.len() } else { most };
+    let count = text.len().min(out.len() - 1);
     for i in 0..count {
         out[i] = text[i];
     }
@@ -113,24 +157,21 @@ fn write_text(text: &[u8], out: &mut [u8]) -> usize
 /// The printed code of a refusal.
 #[unsafe(no_mangle)]
 pub extern "C" fn l4_refusal_code(refusal: u32, out: &mut [u8]) -> usize
+    ensures length { result ≡ length (text_in texts refusal).0 }
+    ensures written { out.new ≡ written (text_in texts refusal).0 out.old }
     ensures short { result < 160 }
     ensures room { length out.new ≡ length out.old }
 {
-    if refusal == NO_MEMORY {
-        return write_text(b"NoMemory", out);
-    }
-    if line_of(refusal).is_empty() {
-        return write_text(b"", out);
-    }
-    let code = [(refusal >> 8 & 0xff) as u8, (refusal & 0xff) as u8];
-    write_text(&code, out)
+    write_text(text_of(refusal).code, out)
 }
 
 /// What a refusal means, in a line of text.
 #[unsafe(no_mangle)]
 pub extern "C" fn l4_refusal_text(refusal: u32, out: &mut [u8]) -> usize
+    ensures length { result ≡ length (text_in texts refusal).1 }
+    ensures written { out.new ≡ written (text_in texts refusal).1 out.old }
     ensures short { result < 160 }
     ensures room { length out.new ≡ length out.old }
 {
-    write_text(line_of(refusal), out)
+    write_text(text_of(refusal).line, out)
 }

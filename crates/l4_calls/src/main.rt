@@ -1,0 +1,79 @@
+//! Enters the same call again and again, so that what a call costs inside can be measured beside what it costs from C (`bench/embedding`).
+#![tactic(auto)]
+
+use l4_ipc::{ArrayVec, Call, IpcCall, Kernel, MAX_THREADS, Outcome, Step, ThreadId};
+use l4_msg::copied;
+use std::io;
+use std::process::ExitCode;
+
+/// How often a message is sent.
+const MESSAGES: u32 = 100_000;
+
+const FRAMES: u32 = 256;
+
+const SENDER: u32 = 1;
+
+const RECEIVER: u32 = 2;
+
+const RECEIVER_ID: ThreadId = ThreadId(RECEIVER << 14 | 1);
+
+const NOBODY: ThreadId = ThreadId(0);
+
+const ANYBODY: ThreadId = ThreadId(0xffff_ffff);
+
+/// The call that waits for a message.
+fn receiving() -> Call {
+    Call::Ipc(IpcCall {
+        to: NOBODY,
+        from: ANYBODY,
+        timeouts: 0,
+        acceptor: 0,
+        words: ArrayVec::new(),
+    })
+}
+
+/// The call that sends four words.
+fn sending(first: u32) -> Call {
+    Call::Ipc(IpcCall {
+        to: RECEIVER_ID,
+        from: NOBODY,
+        timeouts: 0,
+        acceptor: 0,
+        words: copied(&[4, first, 2, 3, 5]),
+    })
+}
+
+/// Starts a call, and does the steps that come next. It gives how many messages were delivered.
+fn enter(kernel: &mut Kernel, thread: u32, call: Call) -> u32 {
+    if kernel.step(&Step::Start(thread, call)).is_err() {
+        return 0;
+    }
+    let mut delivered = 0;
+    for step in 0..MAX_THREADS as u32 {
+        let Some((_, answer)) = kernel.step_next() else {
+            break;
+        };
+        if answer.outcome == Outcome::Done {
+            delivered = step + 1;
+        }
+    }
+    delivered
+}
+
+/// Enters all calls, and gives how many messages were delivered.
+fn enter_all(kernel: &mut Kernel) -> u32 {
+    let mut delivered = 0u32;
+    for message in 0..MESSAGES {
+        enter(kernel, RECEIVER, receiving());
+        delivered = delivered.saturating_add(enter(kernel, SENDER, sending(message)));
+    }
+    delivered
+}
+
+fn main(rt: HostRuntime) -> io::Result<ExitCode> {
+    let Ok(mut kernel) = Kernel::boot(rt.alloc(), FRAMES) else {
+        return Ok(ExitCode::from(1));
+    };
+    println!(rt; "{} messages", enter_all(&mut kernel))?;
+    Ok(ExitCode::from(0))
+}
