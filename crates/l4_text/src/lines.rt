@@ -7,6 +7,7 @@ ghost use Rattle.l4_text.specs.Sizes.{most_reads};
 
 use crate::faults::RunFault;
 use arrayvec::ArrayVec;
+use memchr::memchr;
 use std::io::Read;
 use std::marker::Model;
 
@@ -192,7 +193,7 @@ impl Line {
 fn first_newline(bytes: &[u8]) -> Option<usize>
     ensures { result ≡ position is_newline bytes.now }
 {
-    bytes.iter().position(|b| *b == b'\n')
+    memchr(b'\n', bytes)
 }
 
 /// How many bytes stand before the first newline.
