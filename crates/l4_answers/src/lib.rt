@@ -5,6 +5,6 @@ mod pages;
 mod refusals;
 mod replies;
 
-pub use pages::{add_page, add_place, page_text, parent_text, shown_text};
-pub use refusals::{Code, add_code, refused_code, refused_text};
-pub use replies::{expire_text, line_end, put_reply, transfer_text, waits_text};
+pub use pages::{add_page, add_page_line, add_place, parent_text, shown_text};
+pub use refusals::{Code, add_code, add_refused, refused_code};
+pub use replies::{add_waits, expire_text, put_reply, transfer_text};

@@ -34,14 +34,13 @@ pub fn add_page(text: &mut Text, page: u32, mapping: &Mapping)
     text.add(letters.as_slice());
 }
 
-/// `page P frame F RIGHTS`
-pub fn page_text(page: u32, mapping: &Mapping) -> Text
-    ensures { result ≡ page_text page mapping.now }
+/// Adds `page P frame F RIGHTS`, and ends the line.
+pub fn add_page_line(text: &mut Text, page: u32, mapping: &Mapping)
+    requires { length text.old + 61 ≤ text_bytes }
+    ensures { text.new ≡ text.old ++ page_text page mapping.now }
 {
-    let mut text = Text::new();
-    add_page(&mut text, page, mapping);
+    add_page(text, page, mapping);
     text.push(b'\n');
-    text
 }
 
 /// `shown K`

@@ -127,15 +127,14 @@ pub fn add_code(text: &mut Text, code: &Code)
     add_code_number(text, code.number);
 }
 
-/// `line L refused CODE`, or `line L refused CODE I`
-pub fn refused_text(line: u64, code: &Code) -> Text
-    ensures { result ≡ refused_text line code.now }
+/// Adds `line L refused CODE`, or `line L refused CODE I`, and ends the line.
+pub fn add_refused(text: &mut Text, line: u64, code: &Code)
+    requires { length text.old + 64 ≤ text_bytes }
+    ensures { text.new ≡ text.old ++ refused_text line code.now }
 {
-    let mut text = Text::new();
     text.add(b"line ");
     text.add_number(line);
     text.add(b" refused ");
-    add_code(&mut text, code);
+    add_code(text, code);
     text.push(b'\n');
-    text
 }

@@ -1,7 +1,7 @@
 //! The texts of steps, and of how calls ended.
 ghost use Rattle.std.specs.Prelude.{◌≡◌, ◌≤◌, ◌+◌, ◌++◌, length, decimal, codes};
 ghost use Rattle.std.specs.Option.{option_copied};
-ghost use Rattle.l4_answers.specs.Replies.{outcome_word, transfer_text, expire_text, waits_text, from_text, ipc_head, reply_head, reply_words, reply_text, newline};
+ghost use Rattle.l4_answers.specs.Replies.{outcome_word, transfer_text, expire_text, waits_text, from_text, ipc_head, reply_head, reply_words, reply_text};
 ghost use Rattle.l4_text.specs.Streams.{Tells};
 ghost use Rattle.l4_text.specs.Sizes.{text_bytes};
 
@@ -50,34 +50,23 @@ pub fn expire_text(number: u32) -> Text
     text
 }
 
-/// The end of a line.
-pub fn line_end() -> Text
-    ensures { result ≡ newline }
+/// Adds a thread's number, and these bytes.
+fn add_numbered(text: &mut Text, number: u32, rest: &[u8])
+    requires { length text.old + 20 + length rest.now ≤ text_bytes }
+    ensures value { text.new ≡ text.old ++ decimal number ++ rest.now }
+    ensures len { length text.new ≤ length text.old + 20 + length rest.now }
 {
-    let mut text = Text::new();
-    text.add(b"\n");
-    text
-}
-
-/// A thread's number, and these bytes.
-fn numbered(number: u32, rest: &[u8]) -> Text
-    requires { length rest.now ≤ 64 }
-    ensures value { result ≡ decimal number ++ rest.now }
-    ensures len { length result ≤ 84 }
-{
-    let mut text = Text::new();
     text.add_number(u64::from(number));
     text.add(rest);
-    text
 }
 
-/// `N waits`
-pub fn waits_text(number: u32) -> Text
-    ensures { result ≡ waits_text number }
+/// Adds `N waits`, and ends the line.
+pub fn add_waits(text: &mut Text, number: u32)
+    requires { length text.old + 40 ≤ text_bytes }
+    ensures { text.new ≡ text.old ++ waits_text number }
 {
-    let mut text = numbered(number, b" waits");
+    add_numbered(text, number, b" waits");
     text.push(b'\n');
-    text
 }
 
 /// Adds a thread's number, or `nil`.
@@ -93,43 +82,43 @@ fn add_thread(text: &mut Text, id: ThreadId)
     }
 }
 
-/// `N ipc TAG ERROR FROM`, of a line that goes on with the words.
-fn ipc_head(number: u32, reply: &IpcReply) -> Text
-    ensures { result ≡ ipc_head number reply.now }
+/// Adds `N ipc TAG ERROR FROM`, of a line that goes on with the words.
+fn add_ipc_head(text: &mut Text, number: u32, reply: &IpcReply)
+    requires { length text.old + 80 ≤ text_bytes }
+    ensures { text.new ≡ text.old ++ ipc_head number reply.now }
 {
-    let mut text = Text::new();
     text.add_number(u64::from(number));
     text.add(b" ipc ");
     text.add_word(reply.tag);
     text.push(b' ');
     text.add_number(u64::from(reply.error));
     text.push(b' ');
-    add_thread(&mut text, reply.from);
-    text
+    add_thread(text, reply.from);
 }
 
-/// `N fault failed CODE`
-fn failed_head(number: u32, code: u32) -> Text
-    ensures { result ≡ decimal number ++ codes " fault failed " ++ decimal code }
+/// Adds `N fault failed CODE`.
+fn add_failed_head(text: &mut Text, number: u32, code: u32)
+    requires { length text.old + 80 ≤ text_bytes }
+    ensures { text.new ≡ text.old ++ decimal number ++ codes " fault failed " ++ decimal code }
 {
-    let mut text = numbered(number, b" fault failed ");
+    add_numbered(text, number, b" fault failed ");
     text.add_number(u64::from(code));
-    text
 }
 
-/// How a thread's call ended, of a line that goes on with the words of its message.
-fn reply_head(number: u32, reply: Option<&Reply>) -> Text
-    ensures { result ≡ reply_head number (option_copied reply.entry) }
+/// Adds how a thread's call ended, of a line that goes on with the words of its message.
+fn add_reply_head(text: &mut Text, number: u32, reply: Option<&Reply>)
+    requires { length text.old + 80 ≤ text_bytes }
+    ensures { text.new ≡ text.old ++ reply_head number (option_copied reply.entry) }
 {
     match reply {
-        Some(Reply::Ipc(reply)) => ipc_head(number, reply),
-        Some(Reply::Hit) => numbered(number, b" fault hit"),
-        Some(Reply::Answered) => numbered(number, b" fault answered"),
-        Some(Reply::FaultFailed(code)) => failed_head(number, *code),
-        Some(Reply::Unmapped) => numbered(number, b" unmap ok"),
-        Some(Reply::Controlled) => numbered(number, b" control ok"),
-        Some(Reply::Gone) => numbered(number, b" gone"),
-        None => numbered(number, b" gone"),
+        Some(Reply::Ipc(reply)) => add_ipc_head(text, number, reply),
+        Some(Reply::Hit) => add_numbered(text, number, b" fault hit"),
+        Some(Reply::Answered) => add_numbered(text, number, b" fault answered"),
+        Some(Reply::FaultFailed(code)) => add_failed_head(text, number, *code),
+        Some(Reply::Unmapped) => add_numbered(text, number, b" unmap ok"),
+        Some(Reply::Controlled) => add_numbered(text, number, b" control ok"),
+        Some(Reply::Gone) => add_numbered(text, number, b" gone"),
+        None => add_numbered(text, number, b" gone"),
     }
 }
 
@@ -153,7 +142,9 @@ fn reply_words(reply: Option<&Reply>) -> &[u32]
 pub fn put_reply<W: Write>(number: u32, reply: Option<&Reply>, out: &mut Output, writer: &mut W)
     ensures { Tells (W.contents writer.old) (W.contents writer.new) out.old out.new (reply_text number (option_copied reply.entry)) }
 {
-    out.put(writer, &reply_head(number, reply));
+    let mut text = Text::new();
+    add_reply_head(&mut text, number, reply);
+    out.put(writer, &text);
     out.put_words(writer, reply_words(reply));
-    out.put(writer, &line_end());
+    out.end_line(writer);
 }

@@ -1,5 +1,5 @@
 //! The servers, and the call that the next of them enters.
-ghost use Rattle.std.specs.Prelude.{◌≡◌, not, IfOk, OnErr, MatchOption, MatchResult};
+ghost use Rattle.std.specs.Prelude.{◌≡◌, not, IfOk, OnErr, MatchBool, MatchOption, MatchResult};
 ghost use Rattle.l4_msg.specs.Messages.{CanBeWritten};
 
 use l4_ipc::{Call, Kernel, NoMemory, Reply};
@@ -141,6 +141,16 @@ impl Servers {
             }
         }
         None
+    }
+
+    /// Whether a served thread runs.
+    pub fn has_ready(&self, kernel: &Kernel) -> bool
+        ensures { MatchBool result (NoneReady kernel.now.threads self.now → ⊥) (NoneReady kernel.now.threads self.now) }
+    {
+        match self.first_ready(kernel) {
+            Some(_) => true,
+            None => false,
+        }
     }
 
     /// What a thread's regions answer to a message.

@@ -320,3 +320,16 @@ pub first_seats : (frames : ℕ) (k k' last : Seated) → IsNew frames k → k' 
 first_seats frames k k' last new one two =
     subst (λ (x : Seated). HasFirstSeats frames x) (sym two)
     (subst (λ (x : Seated). HasFirstSeats frames (record x { numbers = with_number x.numbers 2 })) (sym one) (new.0, new.1, ap (λ (l : List ℕ). with_number (with_number l 1) 2) new.2, new.3))
+
+or_false : (b : Bool) → (b || false) ≡ b
+or_false true = refl
+or_false false = refl
+
+-- no served thread runs, so nothing follows
+pub quiet_on : (kernel : Seated) (sv : Servers) (read : Machine) (thread : ℕ) (had : List ℕ) (has : Bool) (written a : Option (List ℕ)) (before s : List ℕ × Bool)
+    → has ≡ is_among thread had → read ≡ kernel.machine → NoneReady read.threads sv → Tells written a before s (waiting_text thread has)
+    → (text : List ℕ) × GoesOn (session kernel sv) thread had text (session kernel sv) × Tells written a before s text
+quiet_on kernel sv read thread had has written a before s has_is same none told =
+    goes_on (session kernel sv) (session kernel sv) thread had has false written written a before before s has_is
+    (acting_quiet (session kernel sv) thread 0 kernel sv sv read false written written before before (omega arith) (acting_none (session kernel sv) thread written before) same (none, refl))
+    (tells_is written a before s _ _ (ap (waiting_text thread) (sym (or_false has))) told)

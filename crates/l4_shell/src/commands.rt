@@ -1,5 +1,5 @@
 //! What a script line asks for.
-ghost use Rattle.std.specs.Prelude.{◌≡◌, [], length};
+ghost use Rattle.std.specs.Prelude.{◌≡◌, ◌∷◌, [], length};
 ghost use Rattle.l4_text.specs.Tokens.{tokens_of};
 ghost use Rattle.l4_shell.specs.Commands.{thread_asked, set_pager_asked, delete_asked, receive_asked, show_asked, parent_asked, send_asked, delegate_asked, ipc_asked, unmap_asked, fault_asked, region_asked, serve_asked, steps_asked, pager_command_of, words_of, command_of};
 
@@ -28,46 +28,34 @@ pub(crate) enum ScriptFault {
 
 /// The words of a message, at most as many as there are message registers.
 #[derive(Drop)]
-pub(crate) struct Words {
-    words: ArrayVec<u32, MAX_WORDS>,
+pub(crate) struct Words<'a> {
+    words: &'a [u32],
 }
 
-impl Model for Words {
-    ghost use Rattle.std.specs.Prelude.{ℕ, List};
+impl<'a> Model for Words<'a> {
+    ghost use Rattle.std.specs.Prelude.{ℕ, List, ◌≤◌, length};
 
     ghost Value = { List ℕ };
 
-    ghost view = { λ a. a.words.items };
+    ghost view = { λ a. a.words.now };
+
+    ghost invariant = { λ a. length a.words.now ≤ 64 };
 }
 
-impl Words {
-    /// No words.
-    pub(crate) fn empty() -> Words
-        ensures { result ≡ [] }
+impl<'a> Words<'a> {
+    /// Message registers with these words.
+    pub(crate) fn registers(self) -> ArrayVec<u32, MAX_WORDS>
+        ensures { result.items ≡ self.entry }
     {
-        Words {
-            words: ArrayVec::new(),
-        }
-    }
-
-    /// The words of these registers.
-    pub(crate) fn of_registers(words: ArrayVec<u32, MAX_WORDS>) -> Words
-        ensures { result ≡ words.items }
-    {
-        Words { words }
-    }
-
-    /// The words themselves.
-    pub(crate) fn into_registers(self) -> ArrayVec<u32, MAX_WORDS>
-        ensures { result.items ≡ self }
-    {
-        self.words
+        let mut registers = ArrayVec::new();
+        let _ = registers.try_extend_from_slice(self.words);
+        registers
     }
 }
 
 /// What a line asks for. Threads go by their numbers, below 2^18.
 #[derive(Drop)]
-pub(crate) enum Command {
+pub(crate) enum Command<'a> {
     /// Root creates a thread.
     Thread {
         number: u32,
@@ -93,7 +81,7 @@ pub(crate) enum Command {
     Send {
         number: u32,
         to: Partner,
-        words: Words,
+        words: Words<'a>,
     },
     /// A thread sends the message of the region's plan.
     Delegate {
@@ -108,7 +96,7 @@ pub(crate) enum Command {
         from: Partner,
         timeouts: u32,
         window: u32,
-        words: Words,
+        words: Words<'a>,
     },
     /// A thread raises a page fault.
     Fault(u32, FaultCall),
@@ -116,7 +104,7 @@ pub(crate) enum Command {
     Unmap {
         number: u32,
         control: u32,
-        words: Words,
+        words: Words<'a>,
     },
     /// The present pages of a thread's space, from a first on among so many.
     Show(u32, u32, u32),
@@ -163,7 +151,7 @@ const STEPS: &[u8] = b"steps";
 
 /// `N SPACE PAGER`
 #[tactic(auto, unfolding(crate::specs::Commands::thread_asked))]
-fn thread(line: &[u8]) -> Option<Command>
+fn thread(line: &[u8]) -> Option<Command<'static>>
     ensures { result ≡ thread_asked (tokens_of line.now) }
 {
     let (number, (space, pager)) = three(line)?;
@@ -176,7 +164,7 @@ fn thread(line: &[u8]) -> Option<Command>
 
 /// `N PAGER`
 #[tactic(auto, unfolding(crate::specs::Commands::set_pager_asked))]
-fn set_pager(line: &[u8]) -> Option<Command>
+fn set_pager(line: &[u8]) -> Option<Command<'static>>
     ensures { result ≡ set_pager_asked (tokens_of line.now) }
 {
     let (number, pager) = two(line)?;
@@ -188,7 +176,7 @@ fn set_pager(line: &[u8]) -> Option<Command>
 
 /// `N`
 #[tactic(auto, unfolding(crate::specs::Commands::delete_asked))]
-fn delete(line: &[u8]) -> Option<Command>
+fn delete(line: &[u8]) -> Option<Command<'static>>
     ensures { result ≡ delete_asked (tokens_of line.now) }
 {
     Some(Command::Delete {
@@ -198,7 +186,7 @@ fn delete(line: &[u8]) -> Option<Command>
 
 /// `N FROM WINDOW`
 #[tactic(auto, unfolding(crate::specs::Commands::receive_asked))]
-fn receive(line: &[u8]) -> Option<Command>
+fn receive(line: &[u8]) -> Option<Command<'static>>
     ensures { result ≡ receive_asked (tokens_of line.now) }
 {
     let (number_token, (from, window)) = three(line)?;
@@ -211,7 +199,7 @@ fn receive(line: &[u8]) -> Option<Command>
 
 /// `N FIRST COUNT`
 #[tactic(auto, unfolding(crate::specs::Commands::show_asked))]
-fn show(line: &[u8]) -> Option<Command>
+fn show(line: &[u8]) -> Option<Command<'static>>
     ensures { result ≡ show_asked (tokens_of line.now) }
 {
     let (number_token, (first, count)) = three(line)?;
@@ -220,7 +208,7 @@ fn show(line: &[u8]) -> Option<Command>
 
 /// `N PAGE`
 #[tactic(auto, unfolding(crate::specs::Commands::parent_asked))]
-fn parent(line: &[u8]) -> Option<Command>
+fn parent(line: &[u8]) -> Option<Command<'static>>
     ensures { result ≡ parent_asked (tokens_of line.now) }
 {
     let (number_token, page) = two(line)?;
@@ -230,15 +218,19 @@ fn parent(line: &[u8]) -> Option<Command>
     })
 }
 
-/// The numbers to the end of the line, at most as many as there are message registers.
-fn read_words(line: &[u8]) -> Option<Words>
+/// The numbers to the end of the line, at most as many as there are message registers. They are put into these.
+fn read_words<'a>(line: &[u8], words: &'a mut ArrayVec<u32, MAX_WORDS>) -> Option<Words<'a>>
     ensures { result ≡ words_of (tokens_of line.now) }
 {
-    let mut words = ArrayVec::new();
+    words.clear();
     let mut rest = line;
     for count in 0..MAX_WORDS {
         match next_token(rest) {
-            None => return Some(Words { words }),
+            None => {
+                return Some(Words {
+                    words: words.as_slice(),
+                });
+            }
             Some((token, after)) => {
                 words.push(number(token)?);
                 rest = after;
@@ -246,13 +238,15 @@ fn read_words(line: &[u8]) -> Option<Words>
         }
     }
     match next_token(rest) {
-        None => Some(Words { words }),
+        None => Some(Words {
+            words: words.as_slice(),
+        }),
         Some(_) => None,
     }
 }
 
 /// `N TO WORD..`
-fn send(line: &[u8]) -> Option<Command>
+fn send<'a>(line: &[u8], registers: &'a mut ArrayVec<u32, MAX_WORDS>) -> Option<Command<'a>>
     ensures { result ≡ send_asked (tokens_of line.now) }
 {
     let (number_token, rest) = next_token(line)?;
@@ -260,12 +254,12 @@ fn send(line: &[u8]) -> Option<Command>
     Some(Command::Send {
         number: thread_number(number_token)?,
         to: any_or_thread(to)?,
-        words: read_words(rest)?,
+        words: read_words(rest, registers)?,
     })
 }
 
 /// `N TO SOURCE TARGET COUNT RIGHTS`
-fn delegate(line: &[u8]) -> Option<Command>
+fn delegate(line: &[u8]) -> Option<Command<'static>>
     ensures { result ≡ delegate_asked (tokens_of line.now) }
 {
     let (number_token, rest) = next_token(line)?;
@@ -278,7 +272,7 @@ fn delegate(line: &[u8]) -> Option<Command>
 }
 
 /// `N TO FROM TIMEOUTS WINDOW WORD..`
-fn ipc(line: &[u8]) -> Option<Command>
+fn ipc<'a>(line: &[u8], registers: &'a mut ArrayVec<u32, MAX_WORDS>) -> Option<Command<'a>>
     ensures { result ≡ ipc_asked (tokens_of line.now) }
 {
     let (number_token, rest) = next_token(line)?;
@@ -292,12 +286,12 @@ fn ipc(line: &[u8]) -> Option<Command>
         from: any_or_thread(from)?,
         timeouts: number(timeouts)?,
         window: number(window)?,
-        words: read_words(rest)?,
+        words: read_words(rest, registers)?,
     })
 }
 
 /// `N CONTROL WORD..`
-fn unmap(line: &[u8]) -> Option<Command>
+fn unmap<'a>(line: &[u8], registers: &'a mut ArrayVec<u32, MAX_WORDS>) -> Option<Command<'a>>
     ensures { result ≡ unmap_asked (tokens_of line.now) }
 {
     let (number_token, rest) = next_token(line)?;
@@ -305,12 +299,12 @@ fn unmap(line: &[u8]) -> Option<Command>
     Some(Command::Unmap {
         number: thread_number(number_token)?,
         control: number(control)?,
-        words: read_words(rest)?,
+        words: read_words(rest, registers)?,
     })
 }
 
 /// `N ADDRESS IP RIGHTS`
-fn fault(line: &[u8]) -> Option<Command>
+fn fault(line: &[u8]) -> Option<Command<'static>>
     ensures { result ≡ fault_asked (tokens_of line.now) }
 {
     let (number_token, rest) = next_token(line)?;
@@ -326,7 +320,7 @@ fn fault(line: &[u8]) -> Option<Command>
 }
 
 /// `P FIRST SOURCE COUNT RIGHTS`
-fn add_region(line: &[u8]) -> Option<Command>
+fn add_region(line: &[u8]) -> Option<Command<'static>>
     ensures { result ≡ region_asked (tokens_of line.now) }
 {
     let (number_token, rest) = next_token(line)?;
@@ -344,14 +338,14 @@ fn add_region(line: &[u8]) -> Option<Command>
 }
 
 /// `P`
-fn serve(line: &[u8]) -> Option<Command>
+fn serve(line: &[u8]) -> Option<Command<'static>>
     ensures { result ≡ serve_asked (tokens_of line.now) }
 {
     Some(Command::Serve(thread_number(one(line)?)?))
 }
 
 /// No tokens
-fn steps(line: &[u8]) -> Option<Command>
+fn steps(line: &[u8]) -> Option<Command<'static>>
     ensures { result ≡ steps_asked (tokens_of line.now) }
 {
     match next_token(line) {
@@ -361,7 +355,7 @@ fn steps(line: &[u8]) -> Option<Command>
 }
 
 /// A command of page faults or pagers, or of the history, by its name and the tokens after it.
-fn pager_command(name: &[u8], rest: &[u8]) -> Result<Command, ScriptFault>
+fn pager_command(name: &[u8], rest: &[u8]) -> Result<Command<'static>, ScriptFault>
     ensures { result ≡ pager_command_of name.now (tokens_of rest.now) }
 {
     if name == FAULT {
@@ -379,14 +373,15 @@ fn pager_command(name: &[u8], rest: &[u8]) -> Result<Command, ScriptFault>
     Err(ScriptFault::UnknownCommand)
 }
 
-/// What the tokens of a line ask for.
+/// What a line of this first token asks for, and the tokens of the rest.
 #[tactic(auto, unfolding(crate::specs::Commands::command_of))]
-pub(crate) fn read_command(line: &[u8]) -> Result<Command, ScriptFault>
-    ensures { result ≡ command_of (tokens_of line.now) }
+pub(crate) fn read_command<'a>(
+    name: &[u8],
+    rest: &[u8],
+    registers: &'a mut ArrayVec<u32, MAX_WORDS>,
+) -> Result<Command<'a>, ScriptFault>
+    ensures { result ≡ command_of (name.now ∷ tokens_of rest.now) }
 {
-    let Some((name, rest)) = next_token(line) else {
-        return Err(ScriptFault::UnknownCommand);
-    };
     if name == THREAD {
         return thread(rest).ok_or(ScriptFault::BadTokens);
     }
@@ -400,16 +395,16 @@ pub(crate) fn read_command(line: &[u8]) -> Result<Command, ScriptFault>
         return receive(rest).ok_or(ScriptFault::BadTokens);
     }
     if name == SEND {
-        return send(rest).ok_or(ScriptFault::BadTokens);
+        return send(rest, registers).ok_or(ScriptFault::BadTokens);
     }
     if name == IPC {
-        return ipc(rest).ok_or(ScriptFault::BadTokens);
+        return ipc(rest, registers).ok_or(ScriptFault::BadTokens);
     }
     if name == DELEGATE {
         return delegate(rest).ok_or(ScriptFault::BadTokens);
     }
     if name == UNMAP {
-        return unmap(rest).ok_or(ScriptFault::BadTokens);
+        return unmap(rest, registers).ok_or(ScriptFault::BadTokens);
     }
     if name == SHOW {
         return show(rest).ok_or(ScriptFault::BadTokens);

@@ -2,10 +2,11 @@
 ghost use Rattle.std.specs.Prelude.{◌≡◌};
 ghost use Rattle.l4_shell.specs.Requests.{script_id, partner_id, space_id, create_call, set_pager_call, delete_call, receive_call, send_call, ipc_call, unmap_call, request_of};
 
-use crate::commands::{Command, Words};
+use crate::commands::Command;
 use crate::partners::{NewSpace, Partner};
+use arrayvec::ArrayVec;
 use l4_ipc::{Call, Control, Create, IpcCall, SetPager, UnmapCall};
-use l4_msg::Region;
+use l4_msg::{MAX_WORDS, Region};
 use l4_pager::Entry;
 use l4_threads::ThreadId;
 
@@ -92,15 +93,21 @@ pub(crate) fn delete_call(number: u32) -> Call
 }
 
 /// An Ipc of these parts.
-fn ipc_call(to: Partner, from: Partner, timeouts: u32, window: u32, words: Words) -> Call
-    ensures { result ≡ ipc_call to «from» timeouts window words }
+fn ipc_call(
+    to: Partner,
+    from: Partner,
+    timeouts: u32,
+    window: u32,
+    words: ArrayVec<u32, MAX_WORDS>,
+) -> Call
+    ensures { result ≡ ipc_call to «from» timeouts window words.items }
 {
     Call::Ipc(IpcCall {
         to: id_of_partner(to),
         from: id_of_partner(from),
         timeouts,
         acceptor: window,
-        words: words.into_registers(),
+        words,
     })
 }
 
@@ -108,29 +115,26 @@ fn ipc_call(to: Partner, from: Partner, timeouts: u32, window: u32, words: Words
 fn receive_call(from: Partner, window: u32) -> Call
     ensures { result ≡ receive_call «from» window }
 {
-    ipc_call(Partner::Nil, from, 0, window, Words::empty())
+    ipc_call(Partner::Nil, from, 0, window, ArrayVec::new())
 }
 
 /// A send phase alone, without timeout.
-pub(crate) fn send_call(to: Partner, words: Words) -> Call
-    ensures { result ≡ send_call to words }
+pub(crate) fn send_call(to: Partner, words: ArrayVec<u32, MAX_WORDS>) -> Call
+    ensures { result ≡ send_call to words.items }
 {
     ipc_call(to, Partner::Nil, 0, 0, words)
 }
 
 /// An Unmap of these parts.
-fn unmap_call(control: u32, words: Words) -> Call
-    ensures { result ≡ unmap_call control words }
+fn unmap_call(control: u32, words: ArrayVec<u32, MAX_WORDS>) -> Call
+    ensures { result ≡ unmap_call control words.items }
 {
-    Call::Unmap(UnmapCall {
-        control,
-        words: words.into_registers(),
-    })
+    Call::Unmap(UnmapCall { control, words })
 }
 
 /// What a command comes to.
-pub(crate) fn request_of(command: Command) -> Request
-    ensures { result ≡ request_of command }
+pub(crate) fn request_of(command: Command<'_>) -> Request
+    ensures { result ≡ request_of command.entry }
 {
     match command {
         Command::Thread {
@@ -145,7 +149,10 @@ pub(crate) fn request_of(command: Command) -> Request
             from,
             window,
         } => Request::Enter(number, receive_call(from, window)),
-        Command::Send { number, to, words } => Request::Enter(number, send_call(to, words)),
+        Command::Send { number, to, words } => Request::Enter(
+            number,
+            send_call(to, words.registers()),
+        ),
         Command::Fault(number, fault) => Request::Enter(number, Call::Fault(fault)),
         Command::Delegate { number, to, region } => Request::SendPlan(number, to, region),
         Command::Ipc {
@@ -155,12 +162,15 @@ pub(crate) fn request_of(command: Command) -> Request
             timeouts,
             window,
             words,
-        } => Request::Enter(number, ipc_call(to, from, timeouts, window, words)),
+        } => Request::Enter(
+            number,
+            ipc_call(to, from, timeouts, window, words.registers()),
+        ),
         Command::Unmap {
             number,
             control,
             words,
-        } => Request::Enter(number, unmap_call(control, words)),
+        } => Request::Enter(number, unmap_call(control, words.registers())),
         Command::Show(number, first, count) => Request::ListPages(number, first, count),
         Command::Parent { number, page } => Request::TellParent(number, page),
         Command::Region(number, entry) => Request::AddRegion(number, entry),

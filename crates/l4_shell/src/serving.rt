@@ -6,12 +6,12 @@ ghost use Rattle.l4_shell.specs.Inside.Telling.{TellsEntries, TellsCall, TellsNo
 
 use crate::refusals::lock_code;
 use crate::texts::refused_act_text;
-use l4_answers::{expire_text, put_reply, transfer_text, waits_text};
+use l4_answers::{add_waits, expire_text, put_reply, transfer_text};
 use l4_ipc::{Answer, Call, Kernel, Outcome, Step};
 use l4_lock::LockRefusal;
 use l4_seats::SeatedKernel;
 use l4_servers::Servers;
-use l4_text::Output;
+use l4_text::{Output, Text};
 use std::io::Write;
 
 /// The acts of served threads on one line, at most.
@@ -61,7 +61,9 @@ fn tell_waiting<W: Write>(thread: u32, ended: bool, out: &mut Output, writer: &m
         (waiting_text thread ended) }
 {
     if !ended {
-        out.put(writer, &waits_text(thread));
+        let mut text = Text::new();
+        add_waits(&mut text, thread);
+        out.put(writer, &text);
     }
 }
 
@@ -110,6 +112,7 @@ pub(crate) fn enter_call<W: Write>(
 
 /// Served threads act, one after another, until none runs, one is refused or there were as many acts as a line may have; and all is
 /// told. Answers whether the thread's call ended in one of the acts.
+#[inline(never)]
 fn serve<W: Write>(
     kernel: &mut SeatedKernel,
     servers: &mut Servers,
@@ -149,6 +152,9 @@ pub(crate) fn follow<W: Write>(
         → (text : List ℕ) × GoesOn (session kernel.old servers.old) thread had text (session kernel.new servers.new)
         × Tells (W.contents writer.old) (W.contents writer.new) out.old out.new text }
 {
+    if !servers.has_ready(kernel.kernel()) {
+        return tell_waiting(thread, ended, out, writer);
+    }
     let acted = serve(kernel, servers, thread, out, writer);
     tell_waiting(thread, ended | acted, out, writer);
 }

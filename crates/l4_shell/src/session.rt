@@ -1,8 +1,8 @@
 //! Script lines over a kernel.
 ghost use Rattle.std.specs.Prelude.{◌≡◌, ◌⊎◌, ℕ, List, false, MatchOption};
 ghost use Rattle.l4_text.specs.Streams.{Tells};
-ghost use Rattle.l4_text.specs.Tokens.{tokens_of};
-ghost use Rattle.l4_shell.specs.Requests.{is_comment, is_empty, asked_at};
+ghost use Rattle.l4_answers.specs.Refusals.{refused_text};
+ghost use Rattle.l4_shell.specs.Requests.{is_comment, asked_at};
 ghost use Rattle.l4_shell.specs.Sessions.{session, Enters, Creates, Deletes, ServesThread, AddsRegion, place_text, ListsBelow, Shows, parent_answer, Delegates, TellsCount, CarriesOut, AnswersLine, Refuses, LacksRoom};
 ghost use Rattle.l4_shell.specs.Inside.Telling.{TellsCall, TellsRefusal};
 ghost use Rattle.l4_pager.specs.Serving.{waiting};
@@ -15,13 +15,14 @@ use crate::refusals::{lock_code, memory_code, plan_code, region_code, script_cod
 use crate::requests::{ROOT, Request, delete_call, request_of, send_call};
 use crate::serving::{enter_call, follow};
 use crate::texts::{region_text, steps_text};
-use l4_answers::{page_text, parent_text, refused_code, refused_text, shown_text};
+use arrayvec::ArrayVec;
+use l4_answers::{Code, add_page_line, add_refused, parent_text, refused_code, shown_text};
 use l4_ipc::{Call, Kernel, Refused, SPACE_PAGES};
-use l4_msg::Region;
+use l4_msg::{MAX_WORDS, Region};
 use l4_pager::{Entry, wait};
 use l4_seats::SeatedKernel;
 use l4_servers::Servers;
-use l4_text::{Ending, Output, next_token};
+use l4_text::{Ending, Output, Text, next_token};
 use std::io::Write;
 
 /// Whether a line's first byte is `#`.
@@ -31,18 +32,12 @@ fn is_comment(line: &[u8]) -> bool
     !line.is_empty() && line[0] == b'#'
 }
 
-/// Whether a line has no token.
-fn is_empty(line: &[u8]) -> bool
-    ensures { result ≡ is_empty (tokens_of line.now) }
-{
-    match next_token(line) {
-        None => true,
-        Some(_) => false,
-    }
-}
-
 /// What a line asks for. None where it is empty or a comment.
-fn asked(ending: Ending, line: &[u8]) -> Result<Option<Command>, ScriptFault>
+fn asked<'a>(
+    ending: Ending,
+    line: &[u8],
+    registers: &'a mut ArrayVec<u32, MAX_WORDS>,
+) -> Result<Option<Command<'a>>, ScriptFault>
     ensures { result ≡ asked_at ending line.now }
 {
     match ending {
@@ -50,16 +45,30 @@ fn asked(ending: Ending, line: &[u8]) -> Result<Option<Command>, ScriptFault>
         Ending::Long => return Err(ScriptFault::LineTooLong),
         Ending::Whole => {}
     }
-    if is_comment(line) || is_empty(line) {
+    if is_comment(line) {
         return Ok(None);
     }
-    match read_command(line) {
+    let Some((name, rest)) = next_token(line) else {
+        return Ok(None);
+    };
+    match read_command(name, rest, registers) {
         Ok(command) => Ok(Some(command)),
         Err(fault) => Err(fault),
     }
 }
 
+/// Tells why a line is refused.
+#[inline(never)]
+fn refuse<W: Write>(line: u64, code: &Code, out: &mut Output, writer: &mut W)
+    ensures { Tells (W.contents writer.old) (W.contents writer.new) out.old out.new (refused_text line code.now) }
+{
+    let mut text = Text::new();
+    add_refused(&mut text, line, code);
+    out.put(writer, &text);
+}
+
 /// Enters a call, and tells its start and the steps that follow it. Answers whether it has ended. Where it is refused, tells why; None then.
+#[inline(always)]
 fn start<W: Write>(
     kernel: &mut SeatedKernel,
     line: u64,
@@ -75,7 +84,7 @@ fn start<W: Write>(
     match enter_call(kernel, (thread, call), thread, out, writer) {
         Ok(ended) => Some(ended),
         Err(refusal) => {
-            out.put(writer, &refused_text(line, &lock_code(refusal)));
+            refuse(line, &lock_code(refusal), out, writer);
             None
         }
     }
@@ -101,6 +110,7 @@ fn enter<W: Write>(
 }
 
 /// Root creates a thread, whose number has its seat from then on.
+#[inline(never)]
 fn create_thread<W: Write>(
     kernel: &mut SeatedKernel,
     servers: &mut Servers,
@@ -114,12 +124,13 @@ fn create_thread<W: Write>(
 {
     let (number, call) = creation;
     let Ok(()) = kernel.give(number) else {
-        return out.put(writer, &refused_text(line, &memory_code()));
+        return refuse(line, &memory_code(), out, writer);
     };
     enter(kernel, servers, line, (ROOT, call), out, writer);
 }
 
 /// Root deletes a thread, which is served no longer and has no table.
+#[inline(never)]
 fn end_thread<W: Write>(
     kernel: &mut SeatedKernel,
     servers: &mut Servers,
@@ -139,6 +150,7 @@ fn end_thread<W: Write>(
 }
 
 /// Refuses to serve a thread for which there is no memory: by whatever its call is refused for, and last for want of memory.
+#[inline(never)]
 fn refuse_to_serve<W: Write>(
     kernel: &mut SeatedKernel,
     line: u64,
@@ -151,12 +163,13 @@ fn refuse_to_serve<W: Write>(
         × Tells (W.contents writer.old) (W.contents writer.new) out.old out.new text }
 {
     if kernel.may_enter(thread) {
-        return out.put(writer, &refused_text(line, &memory_code()));
+        return refuse(line, &memory_code(), out, writer);
     }
     let _ = start(kernel, line, thread, wait(), out, writer);
 }
 
 /// A thread waits for anybody's message, and is served from then on.
+#[inline(never)]
 fn serve_thread<W: Write>(
     kernel: &mut SeatedKernel,
     servers: &mut Servers,
@@ -181,6 +194,7 @@ fn serve_thread<W: Write>(
 }
 
 /// Adds a region to a thread's table.
+#[inline(never)]
 fn add_region<W: Write>(
     kernel: &SeatedKernel,
     servers: &mut Servers,
@@ -195,15 +209,16 @@ fn add_region<W: Write>(
     let (thread, entry) = region;
     let Some(_) = kernel.kernel().space_of(thread) else {
         let code = refused_code(Refused::UnknownThread);
-        return out.put(writer, &refused_text(line, &code));
+        return refuse(line, &code, out, writer);
     };
     match servers.add_region(thread, entry) {
         Ok(()) => out.put(writer, &region_text()),
-        Err(refusal) => out.put(writer, &refused_text(line, &region_code(refusal))),
+        Err(refusal) => refuse(line, &region_code(refusal), out, writer),
     }
 }
 
 /// Sends the message of a region's plan. Where there is none, tells why and does nothing.
+#[inline(never)]
 fn delegate<W: Write>(
     kernel: &mut SeatedKernel,
     servers: &mut Servers,
@@ -225,7 +240,7 @@ fn delegate<W: Write>(
             out,
             writer,
         ),
-        Err(refusal) => out.put(writer, &refused_text(line, &plan_code(&refusal))),
+        Err(refusal) => refuse(line, &plan_code(&refusal), out, writer),
     }
 }
 
@@ -235,11 +250,14 @@ fn tell_page<W: Write>(kernel: &Kernel, space: u64, page: u32, out: &mut Output,
         (place_text kernel.now space page) }
 {
     if let Some(mapping) = kernel.mapping(space, page) {
-        out.put(writer, &page_text(page, &mapping));
+        let mut text = Text::new();
+        add_page_line(&mut text, page, &mapping);
+        out.put(writer, &text);
     }
 }
 
 /// Lists the present pages of a space from the first on, below an end. Answers their number.
+#[inline(never)]
 fn list_pages<W: Write>(
     kernel: &Kernel,
     space: u64,
@@ -267,6 +285,7 @@ fn list_pages<W: Write>(
 }
 
 /// Lists the present pages of a thread's space.
+#[inline(never)]
 fn show<W: Write>(
     kernel: &Kernel,
     line: u64,
@@ -280,7 +299,7 @@ fn show<W: Write>(
 {
     let Some(space) = kernel.space_of(number) else {
         let code = refused_code(Refused::UnknownThread);
-        return out.put(writer, &refused_text(line, &code));
+        return refuse(line, &code, out, writer);
     };
     let (first, count) = pages;
     let end = first.saturating_add(count).min(SPACE_PAGES);
@@ -289,6 +308,7 @@ fn show<W: Write>(
 }
 
 /// Tells the parent of a page of a thread's space.
+#[inline(never)]
 fn tell_parent<W: Write>(
     kernel: &Kernel,
     line: u64,
@@ -302,12 +322,13 @@ fn tell_parent<W: Write>(
 {
     let Some(space) = kernel.space_of(number) else {
         let code = refused_code(Refused::UnknownThread);
-        return out.put(writer, &refused_text(line, &code));
+        return refuse(line, &code, out, writer);
     };
     out.put(writer, &parent_text(kernel.mapping(space, page)));
 }
 
 /// Tells how many entries the history has.
+#[inline(never)]
 fn tell_count<W: Write>(kernel: &mut SeatedKernel, out: &mut Output, writer: &mut W)
     ensures { (s : AllServers) → (text : List ℕ) × TellsCount (session kernel.old s) text (session kernel.new s)
         × Tells (W.contents writer.old) (W.contents writer.new) out.old out.new text }
@@ -357,6 +378,7 @@ pub(crate) fn answer_line<W: Write>(
     servers: &mut Servers,
     line: (u64, Ending),
     bytes: &[u8],
+    registers: &mut ArrayVec<u32, MAX_WORDS>,
     out: &mut Output,
     writer: &mut W,
 )
@@ -364,9 +386,9 @@ pub(crate) fn answer_line<W: Write>(
         × Tells (W.contents writer.old) (W.contents writer.new) out.old out.new text }
 {
     let (number, ending) = line;
-    match asked(ending, bytes) {
+    match asked(ending, bytes, registers) {
         Ok(None) => {}
         Ok(Some(command)) => carry_out(kernel, servers, number, request_of(command), out, writer),
-        Err(fault) => out.put(writer, &refused_text(number, &script_code(fault))),
+        Err(fault) => refuse(number, &script_code(fault), out, writer),
     }
 }

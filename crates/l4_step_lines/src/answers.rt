@@ -2,7 +2,7 @@
 ghost use Rattle.std.specs.Prelude.{◌≤◌, ◌+◌, length};
 ghost use Rattle.l4_text.specs.Sizes.{text_bytes};
 
-use l4_answers::{add_code, add_page, add_place, line_end, refused_code};
+use l4_answers::{add_code, add_page, add_place, refused_code};
 use l4_ipc::{Outcome, Refused, Step};
 use l4_mapdb::Mapping;
 use l4_text::{Output, Text};
@@ -101,7 +101,7 @@ pub(crate) fn put_rest<W: Write>(reply: Option<&Reply>, out: &mut Output, writer
     if let Some(Reply::Ipc(reply)) = reply {
         out.put_words(writer, reply.words.as_slice());
     }
-    out.put(writer, &line_end());
+    out.end_line(writer);
 }
 
 /// Adds `transfer S R`, `expire N` or `none`

@@ -1,5 +1,5 @@
 //! What was answered and has not yet gone out.
-ghost use Rattle.std.specs.Prelude.{◌≡◌, ◌≤◌, ◌+◌, ◌==◌, [], ◌++◌, length, OnOk, IfErr};
+ghost use Rattle.std.specs.Prelude.{◌≡◌, ◌≤◌, ◌+◌, ◌==◌, [], ◌∷◌, ◌++◌, length, OnOk, IfErr};
 ghost use Rattle.std.specs.Io.KnownBytes.{Appends};
 ghost use Rattle.std.specs.Prelude.{ℕ, List, Option, false};
 ghost use Rattle.l4_text.specs.Streams.{WentOut, HasTold, Tells, IsOutBeforeRead};
@@ -182,6 +182,13 @@ impl Output {
         ensures { Tells (W.contents writer.old) (W.contents writer.new) self.old self.new text.now }
     {
         self.tell(writer, text.as_slice());
+    }
+
+    /// Ends a line.
+    pub fn end_line<W: Write>(&mut self, writer: &mut W)
+        ensures { Tells (W.contents writer.old) (W.contents writer.new) self.old self.new (10 ∷ []) }
+    {
+        self.tell(writer, b"\n");
     }
 
     /// Tells words in eight hexadecimal digits of lower case, each after a space.

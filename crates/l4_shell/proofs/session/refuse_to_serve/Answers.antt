@@ -1,11 +1,11 @@
-use Rattle.std.proofs.Common.{◌∙◌, ap}
+use Rattle.std.proofs.Common.{ap}
 use Rattle.l4_answers.specs.Refusals.{refused_text}
 use Rattle.l4_shell.proofs.Served.{lacks, refuses}
 use Rattle.l4_shell.proofs.session.refuse_to_serve.Goals as goal
 
 pub returns-then-may_enter : goal.returns-then-may_enter
 returns-then-may_enter g c = λ s first.
-    lacks c.args.kernel.now s _ _ _ _ _ _ _ first (c.may_enter.ensures.0 c.if-may_enter.true) (c.refused_text.ensures ∙ ap (refused_text c.args.line) c.memory_code.ensures) c.put.ensures
+    lacks c.args.kernel.now s _ _ _ _ _ _ _ first (c.may_enter.ensures.0 c.if-may_enter.true) (ap (refused_text c.args.line) c.memory_code.ensures) c.refuse.ensures
 
 pub returns : goal.returns
 returns g c = λ s first.
