@@ -1,7 +1,7 @@
 -- Entries and receipts are read as they were written, and each where it stands.
 use Rattle.std.proofs.Common.{◌≡◌, ℕ, zero, suc, ◌+◌, ◌-◌, ◌*◌, ◌/◌, ◌%◌, ◌^◌, ◌<◌, List, [], ◌∷◌, ◌++◌, length, drop, get_or, Option, Some, None, refl, sym, ap, subst, ◌∙◌, arith}
 use Rattle.std.specs.Prelude.{slice_get, is_some, IsTrue}
-use Rattle.std.specs.Option.{option_to_list, option_and_then}
+use Rattle.std.specs.Option.{option_to_list, option_and_then, option_map}
 use Rattle.std.proofs.lemmas.Bool.{false≢true}
 use Rattle.std.specs.Iterator.{YieldsFirst}
 use Rattle.std.proofs.lemmas.Option.{slice_get-get_or, slice_get_within, get_or_from_slice_get}
@@ -11,16 +11,47 @@ use Rattle.std.proofs.lemmas.List.Elements.{All-push}
 use Rattle.std.proofs.lemmas.List.Concat.{flat_map-append}
 use Rattle.l4_packed.specs.Codes.{step_code, answer_code, call_code, place_code, reply_code, StepFits, AnswerFits, CallFits, ReplyFits}
 use Rattle.l4_packed.proofs.RoundTrip.{step_again, answer_again, call_again, reply_again}
+use Rattle.l4_ipc.specs.declared.steps.Answer.{Answer}
+use Rattle.l4_ipc.specs.declared.steps.Step.{Step}
+use Rattle.l4_packed.specs.declared.steps.StepOutline.{StepOutline}
+use Rattle.l4_packed.specs.Words.{◌>>=◌}
+use Rattle.l4_packed.specs.Reading.{step_at, answer_at}
+use Rattle.l4_packed.specs.Outlines.{step_outline, outline_at}
+use Rattle.l4_packed.proofs.Outlining.{outline_same}
+use Rattle.l4_lock.specs.Lists.{entry_outline}
+use Rattle.l4_lock.specs.declared.entries.EntryOutline.{EntryOutline}
 use Rattle.l4_lock.specs.declared.entries.Entry.{Entry}
 use Rattle.l4_lock.specs.declared.entries.Receipt.{Receipt}
-use Rattle.l4_lock.specs.Inside.Packing.{entry_code, receipt_code, entry_at, receipt_at, read_all, AreRead}
+use Rattle.l4_lock.specs.Inside.Packing.{entry_code, receipt_code, entry_at, entry_outline_at, receipt_at, read_all, AreRead}
+
+abbrev stepped : ℕ → Answer → Step × List ℕ → Option Entry
+stepped seat answer step = Some (record { seat = seat; step = step.0; answer = answer })
+
+abbrev outlined : ℕ → Answer → StepOutline → Option EntryOutline
+outlined seat answer step = Some (record { seat = seat; step = step; answer = answer })
 
 pub entry_again : (entry : Entry) → StepFits entry.step → AnswerFits entry.answer → entry_at (entry_code entry) ≡ Some entry
 unfolding entry_at
 entry_again entry step answer =
-    let last : answer_code entry.answer ≡ answer_code entry.answer ++ [] = sym (append-nil (answer_code entry.answer)) in
-    ap (λ (rest : List ℕ). entry_at (entry.seat ∷ (step_code entry.step ++ rest))) last
-    ∙ rw (step_again entry.step (answer_code entry.answer ++ []) step, answer_again entry.answer [] answer) refl
+    let last : step_code entry.step ≡ step_code entry.step ++ [] = sym (append-nil (step_code entry.step)) in
+    ap (λ (rest : List ℕ). entry_at (entry.seat ∷ (answer_code entry.answer ++ rest))) last
+    ∙ rw (answer_again entry.answer (step_code entry.step ++ []) answer, step_again entry.step [] step) refl
+
+-- an entry that is read without its call is the outline of the entry
+step_read : (seat : ℕ) (answer : Answer) (words : List ℕ) (read : Option (Step × List ℕ)) → step_at words ≡ read → IsTrue (is_some (read >>= stepped seat answer))
+    → (outline_at words >>= outlined seat answer) ≡ option_map entry_outline (read >>= stepped seat answer)
+step_read seat answer words None is some = absurd (false≢true some)
+step_read seat answer words (Some step) is some = ap (λ (o : Option StepOutline). o >>= outlined seat answer) (outline_same words step.0 step.1 is)
+
+answer_read : (seat : ℕ) (read : Option (Answer × List ℕ)) → IsTrue (is_some (read >>= (λ answer. step_at answer.1 >>= stepped seat answer.0)))
+    → (read >>= (λ answer. outline_at answer.1 >>= outlined seat answer.0)) ≡ option_map entry_outline (read >>= (λ answer. step_at answer.1 >>= stepped seat answer.0))
+answer_read seat None some = absurd (false≢true some)
+answer_read seat (Some answer) some = step_read seat answer.0 answer.1 (step_at answer.1) refl some
+
+pub outline_read : (words : List ℕ) → IsTrue (is_some (entry_at words)) → entry_outline_at words ≡ option_map entry_outline (entry_at words)
+unfolding entry_at entry_outline_at
+outline_read [] some = absurd (false≢true some)
+outline_read (seat ∷ words) some = answer_read seat (answer_at words) some
 
 -- a place of its two words
 whole : (place : ℕ) → place % 2 ^ 32 + 2 ^ 32 * (place / 2 ^ 32) ≡ place

@@ -1,6 +1,8 @@
 -- A history as a list of entries, and the receipts of a seat as a list. (this profile's own)
 use Rattle.std.specs.Prelude.{ℕ, List}
+use Rattle.l4_packed.specs.Outlines.{step_outline}
 use Rattle.l4_lock.specs.declared.entries.Entry.{Entry}
+use Rattle.l4_lock.specs.declared.entries.EntryOutline.{EntryOutline}
 use Rattle.l4_lock.specs.declared.entries.Receipt.{Receipt}
 
 -- what a contract sees of a history: its entries, and for how many there is room
@@ -18,3 +20,7 @@ pub record ReceiptList : Type 0 where
 
 abbrev pub receipt_list : List Receipt → ℕ → ReceiptList
 receipt_list items room = record { items = items; room = room }
+
+-- an entry without the call of a start
+abbrev pub entry_outline : Entry → EntryOutline
+entry_outline entry = record { seat = entry.seat; step = step_outline entry.step; answer = entry.answer }

@@ -1,6 +1,7 @@
 //! Entries of the history, and receipts of calls.
 
 use l4_ipc::{Answer, Call, Reply, Step};
+use l4_packed::StepOutline;
 
 /// One step of the history.
 #[derive(Clone, Debug, PartialEq, Eq, Drop)]
@@ -9,6 +10,17 @@ pub struct Entry {
     pub seat: u32,
     /// The step.
     pub step: Step,
+    /// What it did, and whose calls ended in it.
+    pub answer: Answer,
+}
+
+/// One step of the history without the call of a start.
+#[derive(Debug, PartialEq, Eq, Drop)]
+pub struct EntryOutline {
+    /// The number of the seat whose call this step starts, or follows.
+    pub seat: u32,
+    /// The step.
+    pub step: StepOutline,
     /// What it did, and whose calls ended in it.
     pub answer: Answer,
 }

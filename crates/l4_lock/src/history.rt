@@ -1,11 +1,12 @@
 //! The history as a list of entries.
 ghost use Rattle.std.specs.Prelude.{◌≡◌, ◌≢◌, ◌+◌, ◌<◌, ◌^◌, ◌≤◌, ◌++◌, ◌∷◌, [], ℕ, drop, nat_eq, length, slice_get, OnOk};
 ghost use Rattle.l4_lock.specs.Inside.Packing.{entry_at, read_all, AreRead};
-ghost use Rattle.l4_lock.specs.Lists.{EntryList, entry_list};
+ghost use Rattle.l4_lock.specs.Lists.{EntryList, entry_list, entry_outline};
+ghost use Rattle.std.specs.Option.{option_map};
 
-use crate::entries::Entry;
-use crate::packed::{entry_words, read_entry};
-use l4_packed::Records;
+use crate::entries::{Entry, EntryOutline};
+use crate::packed::{read_entry, read_entry_outline, write_entry};
+use l4_packed::{Record, Records};
 use std::alloc::{AllocError, Global};
 use std::marker::Model;
 
@@ -13,6 +14,7 @@ use std::marker::Model;
 #[derive(Drop)]
 pub struct History {
     entries: Records,
+    packed: Record,
 }
 
 impl Model for History {
@@ -33,6 +35,7 @@ impl History {
     {
         History {
             entries: Records::new(alloc),
+            packed: Record::new(),
         }
     }
 
@@ -55,7 +58,17 @@ impl History {
         ensures { result ≡ slice_get self.now.entries place }
     {
         match self.entries.get(place) {
-            Some(words) => read_entry(words.as_slice()),
+            Some(words) => read_entry(words),
+            None => None,
+        }
+    }
+
+    /// The entry at this place without the call of a start, None beyond the end. It costs less than `get`.
+    pub fn outline(&self, at: usize) -> Option<EntryOutline>
+        ensures { result ≡ option_map entry_outline (slice_get self.now.entries at) }
+    {
+        match self.entries.get(at) {
+            Some(words) => read_entry_outline(words),
             None => None,
         }
     }
@@ -86,7 +99,8 @@ impl History {
         ensures entries { self.new.entries ≡ self.old.entries ++ entry ∷ [] }
         ensures room { (length self.new.entries ≡ length self.old.entries + 1) × (self.new.room ≡ self.old.room) }
     {
-        self.entries.push(entry_words(&entry).as_slice());
+        write_entry(&mut self.packed, &entry);
+        self.entries.push(&self.packed.words());
     }
 }
 

@@ -16,8 +16,9 @@ mod steps;
 
 pub use board::{Board, Watch};
 pub use closing::{Mismatch, Unclosed};
-pub use entries::{Entry, Receipt};
+pub use entries::{Entry, EntryOutline, Receipt};
 pub use history::{Entries, History};
+pub use l4_packed::StepOutline;
 pub use locked::{Locked, MAX_ENTRIES, MAX_STEPS};
 pub use receipts::{Receipts, ReceiptsFrom};
 pub use refusals::{Entered, LockRefusal};

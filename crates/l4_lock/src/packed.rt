@@ -1,55 +1,61 @@
 //! Entries and receipts as words.
-ghost use Rattle.std.specs.Prelude.{◌≡◌, ◌≤◌, length, Some};
-ghost use Rattle.l4_lock.specs.Inside.Packing.{entry_at, receipt_at};
-ghost use Rattle.l4_packed.specs.Words.{Gives};
+ghost use Rattle.std.specs.Prelude.{◌≡◌, Some};
+ghost use Rattle.l4_lock.specs.Inside.Packing.{entry_at, entry_outline_at, receipt_at};
 
-use crate::entries::{Entry, Receipt};
+use crate::entries::{Entry, EntryOutline, Receipt};
 use l4_ipc::{Call, Reply};
 use l4_packed::{
-    RECORD_WORDS, Record, put_answer, put_call, put_place, put_reply, put_step, read_answer,
-    read_call, read_place, read_reply, read_step, read_word,
+    Record, Words, put_answer, put_call, put_place, put_reply, put_step, read_answer, read_call,
+    read_outline, read_place, read_reply, read_step, read_word,
 };
 
-/// The words of an entry.
-pub fn entry_words(entry: &Entry) -> Record
-    ensures same { entry_at result.items ≡ Some entry.now }
-    ensures few { length result.items ≤ RECORD_WORDS }
+/// Writes an entry in the place of what the record holds.
+pub fn write_entry(out: &mut Record, entry: &Entry)
+    ensures { entry_at out.new.items ≡ Some entry.now }
 {
-    let mut words = Record::new();
-    words.push(entry.seat);
-    put_step(&mut words, &entry.step);
-    put_answer(&mut words, &entry.answer);
-    words
+    out.clear();
+    out.push(entry.seat);
+    put_answer(out, &entry.answer);
+    put_step(out, &entry.step);
 }
 
 /// The entry that words begin with.
 #[tactic(auto, unfolding(crate::specs::Inside::Packing::entry_at))]
-pub fn read_entry(words: &[u32]) -> Option<Entry>
-    ensures { result ≡ entry_at words.now }
+pub fn read_entry(words: Words<'_>) -> Option<Entry>
+    ensures { result ≡ entry_at words.entry }
 {
     let (seat, rest) = read_word(words)?;
-    let (step, rest) = read_step(rest)?;
-    let (answer, _) = read_answer(rest)?;
+    let (answer, rest) = read_answer(rest)?;
+    let (step, _) = read_step(rest)?;
     Some(Entry { seat, step, answer })
 }
 
-/// The words of the receipt of these parts.
-pub fn receipt_words(call: &Call, start: usize, end: usize, reply: &Reply) -> Record
-    ensures same { receipt_at result.items ≡ Some (record { call = call.now; start = start; end = end; reply = reply.now }) }
-    ensures few { length result.items ≤ RECORD_WORDS }
+/// The entry that words begin with, without the call of a start, whose words aren't read.
+#[tactic(auto, unfolding(crate::specs::Inside::Packing::entry_outline_at))]
+pub fn read_entry_outline(words: Words<'_>) -> Option<EntryOutline>
+    ensures { result ≡ entry_outline_at words.entry }
 {
-    let mut words = Record::new();
-    put_call(&mut words, call);
-    put_place(&mut words, start);
-    put_place(&mut words, end);
-    put_reply(&mut words, reply);
-    words
+    let (seat, rest) = read_word(words)?;
+    let (answer, rest) = read_answer(rest)?;
+    let step = read_outline(rest)?;
+    Some(EntryOutline { seat, step, answer })
+}
+
+/// Writes the receipt of these parts in the place of what the record holds.
+pub fn write_receipt(out: &mut Record, call: &Call, start: usize, end: usize, reply: &Reply)
+    ensures { receipt_at out.new.items ≡ Some (record { call = call.now; start = start; end = end; reply = reply.now }) }
+{
+    out.clear();
+    put_call(out, call);
+    put_place(out, start);
+    put_place(out, end);
+    put_reply(out, reply);
 }
 
 /// The receipt that words begin with.
 #[tactic(auto, unfolding(crate::specs::Inside::Packing::receipt_at))]
-pub fn read_receipt(words: &[u32]) -> Option<Receipt>
-    ensures { result ≡ receipt_at words.now }
+pub fn read_receipt(words: Words<'_>) -> Option<Receipt>
+    ensures { result ≡ receipt_at words.entry }
 {
     let (call, rest) = read_call(words)?;
     let (start, rest) = read_place(rest)?;

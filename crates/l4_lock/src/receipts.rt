@@ -5,9 +5,9 @@ ghost use Rattle.l4_lock.specs.Lists.{ReceiptList, receipt_list};
 ghost use Rattle.l4_lock.specs.declared.entries.Receipt.{Receipt as AReceipt};
 
 use crate::entries::Receipt;
-use crate::packed::{read_receipt, receipt_words};
+use crate::packed::{read_receipt, write_receipt};
 use l4_ipc::{Call, Reply};
-use l4_packed::Records;
+use l4_packed::{Record, Records};
 use std::alloc::{AllocError, Global};
 use std::marker::Model;
 
@@ -15,6 +15,7 @@ use std::marker::Model;
 #[derive(Drop)]
 pub struct Receipts {
     receipts: Records,
+    packed: Record,
 }
 
 impl Model for Receipts {
@@ -35,6 +36,7 @@ impl Receipts {
     {
         Receipts {
             receipts: Records::new(alloc),
+            packed: Record::new(),
         }
     }
 
@@ -57,7 +59,7 @@ impl Receipts {
         ensures { result ≡ slice_get self.now.items place }
     {
         match self.receipts.get(place) {
-            Some(words) => read_receipt(words.as_slice()),
+            Some(words) => read_receipt(words),
             None => None,
         }
     }
@@ -98,8 +100,8 @@ impl Receipts {
         ensures items { self.new.items ≡ self.old.items ++ record { call = call.now; start = start; end = end; reply = reply.now } ∷ [] }
         ensures room { (length self.new.items ≡ length self.old.items + 1) × (self.new.room ≡ self.old.room) }
     {
-        let words = receipt_words(call, start, end, reply);
-        self.receipts.push(words.as_slice());
+        write_receipt(&mut self.packed, call, start, end, reply);
+        self.receipts.push(&self.packed.words());
     }
 
     /// Appends the last receipt of another list, as it is packed there. There is room for it.
@@ -112,7 +114,7 @@ impl Receipts {
         let Some(words) = other.receipts.get(other.len() - 1) else {
             unreachable!()
         };
-        self.receipts.push(words.as_slice());
+        self.receipts.push(&words);
     }
 
     /// Whether these are the same receipts.

@@ -4,9 +4,9 @@ use Rattle.std.proofs.lemmas.List.{drop_more, append-nil, length_push}
 use Rattle.std.proofs.lemmas.List.Concat.{flat_map-append}
 use Rattle.std.proofs.lemmas.List.Elements.{All-push}
 use Rattle.std.proofs.lemmas.Option.{some_pair_parts}
-use Rattle.l4_packed.specs.Inside.Bytes.{numbers_code, numbers_in, record_code, records_code, records_in, frame_at}
+use Rattle.l4_packed.specs.Inside.Bytes.{numbers_code, record_code, records_code, records_in, frame_at}
 use Rattle.l4_packed.specs.Inside.Pieces.{IsPacked, record_words}
-use Rattle.l4_packed.proofs.Unpacking.{numbers_again, enough_bytes, frame_again, records_again, records_have_bytes}
+use Rattle.l4_packed.proofs.Unpacking.{frame_again, records_again, records_have_bytes}
 
 -- the bytes from one of the records on
 pub record Behind (records : List (List ℕ)) (i : ℕ) (bytes : List ℕ) : Type 0 where
@@ -23,11 +23,9 @@ pub behind_more : (records : List (List ℕ)) (i : ℕ) (bytes frame after : Lis
 behind_more records i bytes frame after lt behind read =
     record { rest = (some_pair_parts frame (numbers_code (get_or records i [])) after (records_code (drop (i + 1) records)) (sym read ∙ next_frame records i bytes lt behind)).1 }
 
-pub frame_words : (records : List (List ℕ)) (i : ℕ) (bytes frame after : List ℕ) → i < length records → Behind records i bytes → frame_at bytes ≡ Some (frame, after) → numbers_in (length frame) frame ≡ get_or records i []
-frame_words records i bytes frame after lt behind read =
-    let words = get_or records i [] in
-    let same : frame ≡ numbers_code words = (some_pair_parts frame (numbers_code words) after (records_code (drop (i + 1) records)) (sym read ∙ next_frame records i bytes lt behind)).0 in
-    ap (λ (f : List ℕ). numbers_in (length f) f) same ∙ numbers_again (length (numbers_code words)) words (enough_bytes words)
+pub frame_bytes : (records : List (List ℕ)) (i : ℕ) (bytes frame after : List ℕ) → i < length records → Behind records i bytes → frame_at bytes ≡ Some (frame, after) → frame ≡ numbers_code (get_or records i [])
+frame_bytes records i bytes frame after lt behind read =
+    (some_pair_parts frame (numbers_code (get_or records i [])) after (records_code (drop (i + 1) records)) (sym read ∙ next_frame records i bytes lt behind)).0
 
 pub no_frame : {P : Type 0} → (records : List (List ℕ)) (i : ℕ) (bytes : List ℕ) → i < length records → Behind records i bytes → frame_at bytes ≡ None → P
 no_frame records i bytes lt behind read =

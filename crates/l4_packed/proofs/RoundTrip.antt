@@ -65,6 +65,7 @@ step_again (Transfer s r) rest fits = refl
 step_again (Expire n) rest fits = refl
 
 outcome_again : (outcome : Outcome) (rest : List ℕ) → outcome_at (outcome_code outcome ∷ rest) ≡ Some (outcome, rest)
+unfolding outcome_at
 outcome_again Started rest = refl
 outcome_again Done rest = refl
 outcome_again NoWindow rest = refl

@@ -1,8 +1,20 @@
 -- What is packed into bytes is read again, whatever follows it.
-use Rattle.std.proofs.Common.{◌≡◌, ℕ, zero, suc, ◌+◌, ◌-◌, ◌*◌, ◌/◌, ◌%◌, ◌^◌, ◌<◌, ◌≤◌, true, false, ltb, List, [], ◌∷◌, ◌++◌, length, Option, Some, None, refl, ap, ◌∙◌, append_assoc, arith, inl, inr}
-use Rattle.std.proofs.lemmas.Bool.{le-ltb, lt-ltb, cases_lt}
-use Rattle.std.proofs.lemmas.List.{take_at, drop_at, length-append}
-use Rattle.l4_packed.specs.Inside.Bytes.{number_code, number_at, numbers_code, numbers_in, record_code, frame_at, records_code, records_in}
+use Rattle.std.proofs.Common.{◌≡◌, ℕ, zero, suc, ◌+◌, ◌-◌, ◌*◌, ◌/◌, ◌%◌, ◌^◌, ◌<◌, ◌≤◌, ◌==◌, Bool, true, false, ltb, if◌then◌else◌, List, [], ◌∷◌, ◌++◌, length, Option, Some, None, refl, sym, ap, subst, ◌∙◌, append_assoc, arith, inl, inr}
+use Rattle.std.proofs.lemmas.Bool.{le-ltb, lt-ltb, cases_lt, eqb-true}
+use Rattle.std.proofs.lemmas.List.{take_at, drop_at, length-append, length_push, append-nil}
+use Rattle.std.proofs.lemmas.List.Concat.{flat_map-append}
+use Rattle.std.proofs.lemmas.Option.{none-some, some_pair_parts}
+use Rattle.l4_packed.specs.Inside.Bytes.{number_code, number_at, numbers_code, numbers_in, words_in, record_code, frame_at, records_code, records_in}
+use Rattle.l4_packed.specs.Inside.Pieces.{AreWords, record_words}
+
+four_again : (n : ℕ) (rest : List ℕ) → ltb n 252 ≡ false → ltb n (2 ^ 16) ≡ false → ltb n (2 ^ 24) ≡ false → (greatest : Bool) → (n == 4294967295) ≡ greatest → number_at (number_code n ++ rest) ≡ Some (n, rest)
+unfolding number_code number_at
+four_again n rest b b2 b3 true is =
+    let same : n ≡ 4294967295 = eqb-true n 4294967295 is in
+    rw (b, b2, b3, is, same) refl
+four_again n rest b b2 b3 false is =
+    let sum : n % 256 + 256 * (n / 256 % 256) + 2 ^ 16 * (n / 2 ^ 16 % 256) + 2 ^ 24 * (n / 2 ^ 24) ≡ n = omega arith in
+    rw (b, b2, b3, is, sum) refl
 
 pub number_again : (n : ℕ) (rest : List ℕ) → number_at (number_code n ++ rest) ≡ Some (n, rest)
 unfolding number_code number_at
@@ -23,10 +35,7 @@ number_again n rest =
                       let b3 : ltb n (2 ^ 24) ≡ true = lt-ltb _ _ three in
                       let sum : n % 256 + 256 * (n / 256 % 256) + 2 ^ 16 * (n / 2 ^ 16) ≡ n = omega arith in
                       rw (b, b2, b3, sum) refl
-                  | inr more3 ↦
-                      let b3 : ltb n (2 ^ 24) ≡ false = le-ltb _ _ more3 in
-                      let sum : n % 256 + 256 * (n / 256 % 256) + 2 ^ 16 * (n / 2 ^ 16 % 256) + 2 ^ 24 * (n / 2 ^ 24) ≡ n = omega arith in
-                      rw (b, b2, b3, sum) refl
+                  | inr more3 ↦ four_again n rest b b2 (le-ltb _ _ more3) (n == 4294967295) refl
                 ]
           ]
     ]
@@ -39,6 +48,10 @@ numbers_again (suc k) [] few = refl
 numbers_again (suc k) (w ∷ ws) few =
     ap (λ (read : Option (ℕ × List ℕ)). elim read as (λ _. List ℕ) [ None ↦ [] | Some next ↦ next.0 ∷ numbers_in k next.1 ]) (number_again w (numbers_code ws))
     ∙ ap (λ (others : List ℕ). w ∷ others) (numbers_again k ws (omega (arith, few)))
+
+some_of_four : (n : ℕ) (greatest : Bool) → 1 ≤ length (if greatest then 255 ∷ [] else 254 ∷ n % 256 ∷ n / 256 % 256 ∷ n / 2 ^ 16 % 256 ∷ n / 2 ^ 24 ∷ [])
+some_of_four n true = omega arith
+some_of_four n false = omega arith
 
 some_bytes : (n : ℕ) → 1 ≤ length (number_code n)
 unfolding number_code
@@ -53,7 +66,7 @@ some_bytes n =
                 let b2 : ltb n (2 ^ 16) ≡ false = le-ltb _ _ more2 in
                 elim (cases_lt n (2 ^ 24)) [
                   | inl three ↦ let b3 : ltb n (2 ^ 24) ≡ true = lt-ltb _ _ three in rw (b, b2, b3) (omega arith)
-                  | inr more3 ↦ let b3 : ltb n (2 ^ 24) ≡ false = le-ltb _ _ more3 in rw (b, b2, b3) (omega arith)
+                  | inr more3 ↦ let b3 : ltb n (2 ^ 24) ≡ false = le-ltb _ _ more3 in rw (b, b2, b3) (some_of_four n (n == 4294967295))
                 ]
           ]
     ]
@@ -62,6 +75,92 @@ some_bytes n =
 pub enough_bytes : (words : List ℕ) → length words ≤ length (numbers_code words)
 enough_bytes [] = omega arith
 enough_bytes (w ∷ ws) = omega (arith, length-append (number_code w) (numbers_code ws), some_bytes w, enough_bytes ws)
+
+-- at most five bytes a number
+few_of_four : (n : ℕ) (greatest : Bool) → length (if greatest then 255 ∷ [] else 254 ∷ n % 256 ∷ n / 256 % 256 ∷ n / 2 ^ 16 % 256 ∷ n / 2 ^ 24 ∷ []) ≤ 5
+few_of_four n true = omega arith
+few_of_four n false = omega arith
+
+few_bytes : (n : ℕ) → length (number_code n) ≤ 5
+unfolding number_code
+few_bytes n =
+    elim (cases_lt n 252) [
+      | inl one ↦ let b : ltb n 252 ≡ true = lt-ltb _ _ one in rw b (omega arith)
+      | inr more ↦
+          let b : ltb n 252 ≡ false = le-ltb _ _ more in
+          elim (cases_lt n (2 ^ 16)) [
+            | inl two ↦ let b2 : ltb n (2 ^ 16) ≡ true = lt-ltb _ _ two in rw (b, b2) (omega arith)
+            | inr more2 ↦
+                let b2 : ltb n (2 ^ 16) ≡ false = le-ltb _ _ more2 in
+                elim (cases_lt n (2 ^ 24)) [
+                  | inl three ↦ let b3 : ltb n (2 ^ 24) ≡ true = lt-ltb _ _ three in rw (b, b2, b3) (omega arith)
+                  | inr more3 ↦ let b3 : ltb n (2 ^ 24) ≡ false = le-ltb _ _ more3 in rw (b, b2, b3) (few_of_four n (n == 4294967295))
+                ]
+          ]
+    ]
+
+pub few_bytes_each : (words : List ℕ) → length (numbers_code words) ≤ 5 * length words
+few_bytes_each [] = omega arith
+few_bytes_each (w ∷ ws) = omega (arith, length-append (number_code w) (numbers_code ws), few_bytes w, few_bytes_each ws)
+
+pub words_again : (words : List ℕ) → words_in (numbers_code words) ≡ words
+words_again words = numbers_again (length (numbers_code words)) words (enough_bytes words)
+
+-- one word more
+pub words_push : (bytes : List ℕ) (word : ℕ) → AreWords bytes → words_in (bytes ++ number_code word) ≡ words_in bytes ++ word ∷ []
+words_push bytes word are =
+    let words = words_in bytes in
+    let longer : bytes ++ number_code word ≡ numbers_code (words ++ word ∷ []) =
+    ap (λ (t : List ℕ). t ++ number_code word) are.whole
+    ∙ ap (λ (t : List ℕ). numbers_code words ++ t) (sym (append-nil (number_code word)))
+    ∙ sym (flat_map-append number_code words (word ∷ [])) in
+    ap words_in longer ∙ words_again (words ++ word ∷ [])
+
+pub are_words_push : (bytes : List ℕ) (word : ℕ) → AreWords bytes → length (words_in bytes) < record_words → AreWords (bytes ++ number_code word)
+are_words_push bytes word are room =
+    let same = words_push bytes word are in
+    record {
+      whole =
+          ap (λ (t : List ℕ). t ++ number_code word) are.whole
+          ∙ ap (λ (t : List ℕ). numbers_code (words_in bytes) ++ t) (sym (append-nil (number_code word)))
+          ∙ sym (flat_map-append number_code (words_in bytes) (word ∷ []))
+          ∙ ap numbers_code (sym same);
+      few = omega (arith, ap length same, length_push (words_in bytes) word, room);
+    }
+
+pub are_words_none : (bytes : List ℕ) → bytes ≡ [] → AreWords bytes
+unfolding numbers_in
+are_words_none bytes none = subst AreWords (sym none) (record { whole = refl; few = omega arith })
+
+-- the bytes of words are their code
+pub are_words_of : (words : List ℕ) → length words ≤ record_words → AreWords (numbers_code words)
+are_words_of words few =
+    let same = words_again words in
+    record { whole = ap numbers_code (sym same); few = omega (arith, ap length same, few) }
+
+-- the first word and those after it
+first_of : (words : List ℕ) (word : ℕ) (rest : List ℕ) → number_at (numbers_code words) ≡ Some (word, rest) → words ≡ word ∷ words_in rest × (rest ≡ numbers_code (words_in rest))
+unfolding number_at
+first_of [] word rest read = absurd (none-some _ read)
+first_of (w ∷ ws) word rest read =
+    let both = some_pair_parts w word (numbers_code ws) rest (sym (number_again w (numbers_code ws)) ∙ read) in
+    let left : ws ≡ words_in rest = sym (words_again ws) ∙ ap words_in both.1 in
+    (ap (λ (n : ℕ). n ∷ ws) both.0 ∙ ap (λ (l : List ℕ). word ∷ l) left, sym both.1 ∙ ap numbers_code left)
+
+pub first_word : (bytes : List ℕ) (word : ℕ) (rest : List ℕ) → AreWords bytes → number_at bytes ≡ Some (word, rest) → words_in bytes ≡ word ∷ words_in rest
+first_word bytes word rest are read = (first_of (words_in bytes) word rest (ap number_at (sym are.whole) ∙ read)).0
+
+pub are_words_rest : (bytes : List ℕ) (word : ℕ) (rest : List ℕ) → AreWords bytes → number_at bytes ≡ Some (word, rest) → AreWords rest
+are_words_rest bytes word rest are read =
+    let both = first_of (words_in bytes) word rest (ap number_at (sym are.whole) ∙ read) in
+    record { whole = both.1; few = omega (arith, ap length both.0, are.few) }
+
+none_of : (words : List ℕ) → number_at (numbers_code words) ≡ None → words ≡ []
+none_of [] read = refl
+none_of (w ∷ ws) read = absurd (none-some _ (sym read ∙ number_again w (numbers_code ws)))
+
+pub no_word : (bytes : List ℕ) → AreWords bytes → number_at bytes ≡ None → words_in bytes ≡ []
+no_word bytes are read = none_of (words_in bytes) (ap number_at (sym are.whole) ∙ read)
 
 pub frame_again : (words rest : List ℕ) → frame_at (record_code words ++ rest) ≡ Some (numbers_code words, rest)
 unfolding record_code frame_at
@@ -87,23 +186,3 @@ unfolding record_code
 records_have_bytes [] = omega arith
 records_have_bytes (r ∷ rs) =
     omega (arith, length-append (record_code r) (records_code rs), length-append (number_code (length (numbers_code r))) (numbers_code r), some_bytes (length (numbers_code r)), records_have_bytes rs)
-
--- one number more is read, or there is none
-pub numbers_more : (n i : ℕ) (bytes : List ℕ) (x : ℕ) (after : List ℕ) → i < n → number_at bytes ≡ Some (x, after) → numbers_in (n - i) bytes ≡ x ∷ numbers_in (n - (i + 1)) after
-unfolding numbers_in
-numbers_more n i bytes x after lt read =
-    let k : n - i ≡ suc (n - (i + 1)) = omega arith in
-    ap (λ j. numbers_in j bytes) k
-    ∙ ap (λ (next : Option (ℕ × List ℕ)). elim next as (λ _. List ℕ) [ None ↦ [] | Some y ↦ y.0 ∷ numbers_in (n - (i + 1)) y.1 ]) read
-
-pub numbers_end : (n i : ℕ) (bytes : List ℕ) → number_at bytes ≡ None → numbers_in (n - i) bytes ≡ []
-unfolding numbers_in
-numbers_end n i bytes read =
-    elim (n - i) as (λ k. numbers_in k bytes ≡ []) [
-      | zero ↦ refl
-      | suc k ↦ ap (λ (next : Option (ℕ × List ℕ)). elim next as (λ _. List ℕ) [ None ↦ [] | Some y ↦ y.0 ∷ numbers_in k y.1 ]) read
-    ]
-
-pub numbers_all : (n i : ℕ) (bytes : List ℕ) → n ≤ i → numbers_in (n - i) bytes ≡ []
-unfolding numbers_in
-numbers_all n i bytes le = let k : n - i ≡ 0 = omega arith in ap (λ j. numbers_in j bytes) k

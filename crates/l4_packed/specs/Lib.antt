@@ -3,3 +3,4 @@ pub mod Codes
 pub mod Reading
 pub mod Records
 pub mod Inside
+pub mod Outlines

@@ -1,15 +1,17 @@
 -- Words that are read from the front of a list. (this profile's own)
 use Rattle.std.specs.Prelude.{◌≡◌, ℕ, List, [], ◌∷◌, length, take, drop, Option, Some, None, nat_lt, if◌then◌else◌}
-use Rattle.std.specs.Borrow.{Bor}
 
 -- what a reader gives, seen by view, is what is read: None where nothing can be read
 abbrev pub Gives : {X Y : Type 0} → (X → Y) → Option X → Option Y → Type 0
 Gives view None read = read ≡ None
 Gives view (Some x) read = read ≡ Some (view x)
 
--- a reader gives a value and the words after it
-abbrev pub Reads : {X : Type 0} → Option (X × Bor (List ℕ)) → Option (X × List ℕ) → Type 0
-Reads result read = Gives (λ x. (x.0, x.1.now)) result read
+-- what a contract sees of the words of a record
+pub record WordList : Type 0 where
+  pub items : List ℕ
+
+abbrev pub word_list : List ℕ → WordList
+word_list items = record { items = items }
 
 infixl 10 ◌>>=◌
 abbrev pub ◌>>=◌ : {A B : Type 0} → Option A → (A → Option B) → Option B
@@ -25,8 +27,12 @@ abbrev pub word_at : List ℕ → Option (ℕ × List ℕ)
 word_at [] = None
 word_at (word ∷ rest) = Some (word, rest)
 
+-- a list of so many words, and the words after it
+abbrev pub list_at : ℕ → List ℕ → Option (List ℕ × List ℕ)
+list_at count words = if nat_lt (length words) count then None else Some (take count words, drop count words)
+
 -- a list behind its length, which is at most the limit, and the words after it
 unfoldable pub counted_at : ℕ → List ℕ → Option (List ℕ × List ℕ)
 counted_at limit words = do
   count ← word_at words
-  if nat_lt limit count.0 then None else (if nat_lt (length count.1) count.0 then None else Some (take count.0 count.1, drop count.0 count.1))
+  if nat_lt limit count.0 then None else list_at count.0 count.1

@@ -4,9 +4,8 @@ ghost use Rattle.l4_ipc.specs.declared.calls.Call.{Call as ACall};
 ghost use Rattle.l4_ipc.specs.declared.calls.Call.TheVariants.{Ipc as AnIpc};
 ghost use Rattle.l4_packed.specs.Codes.{control_code, call_code, CallFits};
 ghost use Rattle.l4_packed.specs.Reading.{control_at, ipc_at, call_at};
-ghost use Rattle.l4_packed.specs.Words.{Reads};
 
-use crate::words::{RECORD_WORDS, Record, put_counted, read_counted, read_word};
+use crate::words::{RECORD_WORDS, Record, Words, put_counted, read_counted, read_word};
 use l4_ipc::{
     Call, Control, Create, FaultCall, IpcCall, MAX_WORDS, Rights, SetPager, ThreadId, UnmapCall,
 };
@@ -88,11 +87,12 @@ fn put_control(out: &mut Record, control: &Control)
 
 /// The control of a thread, and the words after it.
 #[tactic(auto, unfolding(crate::specs::Reading::control_at))]
-fn next_control(words: &[u32]) -> Option<(Control, &[u32])>
-    ensures { Reads result (control_at words.now) }
+fn next_control(words: Words<'_>) -> Option<(Control, Words<'_>)>
+    ensures { result ≡ control_at words.entry }
 {
-    match words {
-        [0, rest @ ..] => {
+    let (variant, rest) = read_word(words)?;
+    match variant {
+        0 => {
             let (id, rest) = read_word(rest)?;
             let (space, rest) = read_word(rest)?;
             let (pager, rest) = read_word(rest)?;
@@ -103,7 +103,7 @@ fn next_control(words: &[u32]) -> Option<(Control, &[u32])>
             };
             Some((Control::Create(create), rest))
         }
-        [1, rest @ ..] => {
+        1 => {
             let (id, rest) = read_word(rest)?;
             let (pager, rest) = read_word(rest)?;
             let set = SetPager {
@@ -112,7 +112,7 @@ fn next_control(words: &[u32]) -> Option<(Control, &[u32])>
             };
             Some((Control::SetPager(set), rest))
         }
-        [2, rest @ ..] => {
+        2 => {
             let (id, rest) = read_word(rest)?;
             Some((Control::Delete(ThreadId(id)), rest))
         }
@@ -121,8 +121,8 @@ fn next_control(words: &[u32]) -> Option<(Control, &[u32])>
 }
 
 /// An Ipc behind its variant's number, and the words after it.
-fn next_ipc(words: &[u32]) -> Option<(IpcCall, &[u32])>
-    ensures { Reads result (ipc_at words.now) }
+fn next_ipc(words: Words<'_>) -> Option<(IpcCall, Words<'_>)>
+    ensures { result ≡ ipc_at words.entry }
 {
     let (to, rest) = read_word(words)?;
     let (from, rest) = read_word(rest)?;
@@ -141,15 +141,16 @@ fn next_ipc(words: &[u32]) -> Option<(IpcCall, &[u32])>
 
 /// A call, and the words after it.
 #[tactic(auto, unfolding(crate::specs::Reading::call_at))]
-fn next_call(words: &[u32]) -> Option<(Call, &[u32])>
-    ensures { Reads result (call_at words.now) }
+fn next_call(words: Words<'_>) -> Option<(Call, Words<'_>)>
+    ensures { result ≡ call_at words.entry }
 {
-    match words {
-        [0, rest @ ..] => {
+    let (variant, rest) = read_word(words)?;
+    match variant {
+        0 => {
             let (call, rest) = next_ipc(rest)?;
             Some((Call::Ipc(call), rest))
         }
-        [1, rest @ ..] => {
+        1 => {
             let (address, rest) = read_word(rest)?;
             let (ip, rest) = read_word(rest)?;
             let (bits, rest) = read_word(rest)?;
@@ -163,12 +164,12 @@ fn next_call(words: &[u32]) -> Option<(Call, &[u32])>
             };
             Some((Call::Fault(fault), rest))
         }
-        [2, rest @ ..] => {
+        2 => {
             let (control, rest) = read_word(rest)?;
             let (words, rest) = read_counted(rest)?;
             Some((Call::Unmap(UnmapCall { control, words }), rest))
         }
-        [3, rest @ ..] => {
+        3 => {
             let (control, rest) = next_control(rest)?;
             Some((Call::Control(control), rest))
         }
@@ -177,9 +178,9 @@ fn next_call(words: &[u32]) -> Option<(Call, &[u32])>
 }
 
 /// A call, and the words after it. Of words that `put_call` wrote it is the call that was written, whatever follows them.
-pub fn read_call(words: &[u32]) -> Option<(Call, &[u32])>
-    ensures exact { Reads result (call_at words.now) }
-    ensures again { (call : ACall) (rest : List ℕ) → CallFits call → words.now ≡ call_code call ++ rest → Reads result (Some (call, rest)) }
+pub fn read_call(words: Words<'_>) -> Option<(Call, Words<'_>)>
+    ensures exact { result ≡ call_at words.entry }
+    ensures again { (call : ACall) (rest : List ℕ) → CallFits call → words.entry ≡ call_code call ++ rest → result ≡ Some (call, rest) }
 {
     next_call(words)
 }

@@ -1,10 +1,17 @@
 //! Numbers as bytes.
 ghost use Rattle.std.specs.Prelude.{◌≡◌, ◌+◌, ◌≤◌, ◌++◌, ◌∷◌, [], length, vec_len, vec_capacity};
-ghost use Rattle.l4_packed.specs.Inside.Bytes.{number_code, number_at, two_bytes_at, three_bytes_at, four_bytes_at};
-ghost use Rattle.l4_packed.specs.Words.{Reads};
+ghost use Rattle.l4_packed.specs.Inside.Bytes.{Reads, number_code, number_at, two_bytes_at, three_bytes_at, four_bytes_at};
+
+use arrayvec::ArrayVec;
 
 /// The greatest number of bytes of a number.
 pub(crate) const NUMBER_BYTES: usize = 5;
+
+/// The greatest number of bytes of the words of a record.
+pub(crate) const WORDS_BYTES: usize = 720;
+
+/// The bytes of the words of a record.
+pub(crate) type Bytes = ArrayVec<u8, WORDS_BYTES>;
 
 /// What stands before a number of two bytes. A number below it is one byte.
 const TWO: u8 = 252;
@@ -14,6 +21,9 @@ const THREE: u8 = 253;
 
 /// What stands before a number of four bytes.
 const FOUR: u8 = 254;
+
+/// The greatest word, which is one byte.
+const GREATEST: u8 = 255;
 
 /// A number below this has two bytes at most.
 const TWO_LIMIT: u32 = 0x1_0000;
@@ -33,6 +43,8 @@ pub(crate) fn number_len(number: u32) -> usize
         3
     } else if number < THREE_LIMIT {
         4
+    } else if number == u32::MAX {
+        1
     } else {
         NUMBER_BYTES
     }
@@ -57,12 +69,42 @@ pub(crate) fn put_number(out: &mut Vec<u8>, number: u32)
         out.push_reserved((number % 256) as u8);
         out.push_reserved((number / 256 % 256) as u8);
         out.push_reserved((number / TWO_LIMIT) as u8);
+    } else if number == u32::MAX {
+        out.push_reserved(GREATEST);
     } else {
         out.push_reserved(FOUR);
         out.push_reserved((number % 256) as u8);
         out.push_reserved((number / 256 % 256) as u8);
         out.push_reserved((number / TWO_LIMIT % 256) as u8);
         out.push_reserved((number / THREE_LIMIT) as u8);
+    }
+}
+
+/// Appends a number to the bytes of words.
+#[tactic(auto, unfolding(crate::specs::Inside::Bytes::number_code))]
+pub(crate) fn add_number(out: &mut Bytes, number: u32)
+    requires { length out.old.items + NUMBER_BYTES ≤ WORDS_BYTES }
+    ensures { out.new.items ≡ out.old.items ++ number_code number }
+{
+    if number < u32::from(TWO) {
+        out.push(number as u8);
+    } else if number < TWO_LIMIT {
+        out.push(TWO);
+        out.push((number % 256) as u8);
+        out.push((number / 256) as u8);
+    } else if number < THREE_LIMIT {
+        out.push(THREE);
+        out.push((number % 256) as u8);
+        out.push((number / 256 % 256) as u8);
+        out.push((number / TWO_LIMIT) as u8);
+    } else if number == u32::MAX {
+        out.push(GREATEST);
+    } else {
+        out.push(FOUR);
+        out.push((number % 256) as u8);
+        out.push((number / 256 % 256) as u8);
+        out.push((number / TWO_LIMIT % 256) as u8);
+        out.push((number / THREE_LIMIT) as u8);
     }
 }
 
@@ -115,6 +157,6 @@ pub(crate) fn read_number(bytes: &[u8]) -> Option<(u32, &[u8])>
         TWO => two_bytes(rest),
         THREE => three_bytes(rest),
         FOUR => four_bytes(rest),
-        _ => None,
+        _ => Some((u32::MAX, rest)),
     }
 }

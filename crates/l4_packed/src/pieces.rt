@@ -1,17 +1,16 @@
 //! Pieces of memory that hold records. A piece is allocated once, and never moves.
-ghost use Rattle.std.specs.Prelude.{◌≡◌, ◌+◌, ◌-◌, ◌≤◌, ◌++◌, ◌∷◌, [], length, slice_get, vec_len, vec_capacity};
+ghost use Rattle.std.specs.Prelude.{◌≡◌, ◌+◌, ◌≤◌, ◌++◌, ◌∷◌, [], length, slice_get, vec_len, vec_capacity};
 ghost use Rattle.l4_packed.specs.Inside.Bytes.{record_code, records_in};
-ghost use Rattle.l4_packed.specs.Inside.Pieces.{IsPacked, PieceState, piece_state};
-ghost use Rattle.l4_packed.specs.Words.{Gives};
+ghost use Rattle.l4_packed.specs.Inside.Pieces.{IsPacked, PieceState, mark_before, piece_state};
 
-use crate::packing::{first_frame, put_record, read_numbers};
-use crate::words::{RECORD_WORDS, Record};
+use crate::packing::{first_frame, put_record};
+use crate::words::Words;
 use std::marker::Model;
 
 /// One of the records that the bytes hold.
-fn read_record(bytes: &[u8], count: usize, at: usize) -> Option<Record>
+fn read_record(bytes: &[u8], count: usize, at: usize) -> Option<Words<'_>>
     requires { IsPacked count bytes.now }
-    ensures { Gives (λ r. r.items) result (slice_get (records_in count bytes.now) at) }
+    ensures { result ≡ slice_get (records_in count bytes.now) at }
 {
     if at >= count {
         return None;
@@ -26,27 +25,51 @@ fn read_record(bytes: &[u8], count: usize, at: usize) -> Option<Record>
     let Some((frame, _)) = first_frame(rest) else {
         return None;
     };
-    Some(read_numbers(frame))
+    Some(Words::of(frame))
 }
 
-/// A piece: how many records stand before it, how many it holds, and their bytes.
+/// Each record whose place in its piece is a multiple of this has a mark.
+const MARK_EACH: usize = 8;
+
+/// How many marks a piece has.
+const MARKS: usize = 64;
+
+/// The greatest number of bytes before a marked record.
+const LAST_MARK: usize = 0xffff;
+
+/// A record at or before this place, and how many bytes stand before it.
+fn mark_before(marks: &[u16], at: usize) -> (usize, usize)
+    requires { length marks.now ≡ MARKS }
+    ensures mark { result ≡ mark_before marks.now at }
+    ensures before { result.0 ≤ at }
+{
+    let number = (at / MARK_EACH).min(MARKS - 1);
+    let offset = marks[number] as usize;
+    if offset == 0 {
+        return (0, 0);
+    }
+    (MARK_EACH * number, offset)
+}
+
+/// A piece: how many records stand before it, how many it holds, their bytes, and how many bytes stand before some of them.
 #[derive(Drop)]
 pub(crate) struct Piece {
     first: usize,
     count: usize,
     bytes: Vec<u8>,
+    marks: [u16; MARKS],
 }
 
 impl Model for Piece {
     ghost use Rattle.std.specs.Prelude.{◌-◌, vec_len, vec_capacity};
     ghost use Rattle.l4_packed.specs.Inside.Bytes.{records_in};
-    ghost use Rattle.l4_packed.specs.Inside.Pieces.{IsPacked, PieceState, piece_state};
+    ghost use Rattle.l4_packed.specs.Inside.Pieces.{AreMarks, IsPacked, PieceState, piece_state};
 
     ghost Value = { PieceState };
 
     ghost view = { λ p. piece_state p.first (records_in p.count p.bytes.items) (vec_capacity p.bytes - vec_len p.bytes) };
 
-    ghost invariant = { λ p. IsPacked p.count p.bytes.items };
+    ghost invariant = { λ p. IsPacked p.count p.bytes.items × AreMarks p.marks (records_in p.count p.bytes.items) p.bytes.items };
 }
 
 impl Piece {
@@ -59,6 +82,7 @@ impl Piece {
             first,
             count: 0,
             bytes,
+            marks: [0; MARKS],
         }
     }
 
@@ -84,19 +108,35 @@ impl Piece {
     }
 
     /// Appends a record, for whose bytes there is room.
-    pub fn push(&mut self, words: &[u32])
-        requires few { length words.now ≤ RECORD_WORDS }
-        requires room { length (record_code words.now) ≤ self.old.free }
-        ensures { self.new ≡ piece_state self.old.first (self.old.records ++ words.now ∷ []) (self.old.free - length (record_code words.now)) }
+    pub fn push(&mut self, words: &Words<'_>)
+        requires { length (record_code words.now) ≤ self.old.free }
+        ensures records { (self.new.first ≡ self.old.first) × (self.new.records ≡ self.old.records ++ words.now ∷ []) }
+        ensures free { self.old.free ≤ self.new.free + length (record_code words.now) }
     {
+        self.mark();
         put_record(&mut self.bytes, words);
         self.count += 1;
     }
 
-    /// The record at this place among those of the piece, None beyond them.
-    pub fn get(&self, at: usize) -> Option<Record>
-        ensures { Gives (λ r. r.items) result (slice_get self.now.records at) }
+    /// Marks where the next record will stand, if it is one of those that have a mark.
+    fn mark(&mut self)
+        ensures { self.new ≡ self.old }
     {
-        read_record(self.bytes.as_slice(), self.count, at)
+        let number = self.count / MARK_EACH;
+        let len = self.bytes.len();
+        if self.count % MARK_EACH == 0 && number < MARKS && len <= LAST_MARK {
+            self.marks[number] = len as u16;
+        }
+    }
+
+    /// The record at this place among those of the piece, None beyond them.
+    pub fn get(&self, at: usize) -> Option<Words<'_>>
+        ensures { result ≡ slice_get self.now.records at }
+    {
+        if at >= self.count {
+            return None;
+        }
+        let (from, offset) = mark_before(&self.marks, at);
+        read_record(&self.bytes[offset..], self.count - from, at - from)
     }
 }

@@ -3,11 +3,10 @@ ghost use Rattle.std.specs.Prelude.{◌≡◌, ◌+◌, ◌≤◌, ◌<◌, ◌+
 ghost use Rattle.std.specs.List.{All};
 ghost use Rattle.l4_packed.specs.Inside.Pieces.{AreNumbered, IsBlank, IsStore, records_of};
 ghost use Rattle.l4_packed.specs.Records.{RecordList, record_list};
-ghost use Rattle.l4_packed.specs.Words.{Gives};
 
 use crate::packing::{RECORD_BYTES, record_len};
 use crate::pieces::Piece;
-use crate::words::{RECORD_WORDS, Record};
+use crate::words::Words;
 use std::alloc::{AllocError, Global};
 use std::marker::Model;
 use std::mem;
@@ -43,10 +42,10 @@ fn position(pieces: &[Piece], place: usize) -> usize
 }
 
 /// The record of this place among those of the pieces.
-fn find(pieces: &[Piece], place: usize) -> Option<Record>
+fn find(pieces: &[Piece], place: usize) -> Option<Words<'_>>
     requires numbered { AreNumbered pieces.now }
     requires below { place < length (records_of pieces.now) }
-    ensures { Gives (λ r. r.items) result (slice_get (records_of pieces.now) place) }
+    ensures { result ≡ slice_get (records_of pieces.now) place }
 {
     let piece = &pieces[position(pieces, place)];
     piece.get(place - piece.first())
@@ -141,8 +140,8 @@ impl Records {
     }
 
     /// The record at this place, None beyond the end.
-    pub fn get(&self, place: usize) -> Option<Record>
-        ensures { Gives (λ r. r.items) result (slice_get self.now.records place) }
+    pub fn get(&self, place: usize) -> Option<Words<'_>>
+        ensures { result ≡ slice_get self.now.records place }
     {
         let first = self.current.first();
         if place < first {
@@ -171,9 +170,8 @@ impl Records {
     }
 
     /// Appends a record, for which there is room.
-    pub fn push(&mut self, words: &[u32])
-        requires few { length words.now ≤ RECORD_WORDS }
-        requires room { length self.old.records < self.old.room }
+    pub fn push(&mut self, words: &Words<'_>)
+        requires { length self.old.records < self.old.room }
         ensures records { self.new.records ≡ self.old.records ++ words.now ∷ [] }
         ensures room { self.new.room ≡ self.old.room }
     {

@@ -2,11 +2,10 @@
 ghost use Rattle.std.specs.Prelude.{◌≡◌, ◌+◌, ◌≤◌, ◌++◌, ◌∷◌, [], length, ℕ, List, Some};
 ghost use Rattle.l4_packed.specs.Codes.{reply_code, ReplyFits};
 ghost use Rattle.l4_packed.specs.Reading.{reply_at};
-ghost use Rattle.l4_packed.specs.Words.{Reads};
 ghost use Rattle.l4_threads.specs.declared.Reply.{Reply as AReply};
 ghost use Rattle.l4_threads.specs.declared.Reply.TheVariants.{Ipc as ByIpc};
 
-use crate::words::{RECORD_WORDS, Record, put_counted, read_counted, read_word};
+use crate::words::{RECORD_WORDS, Record, Words, put_counted, read_counted, read_word};
 use l4_ipc::{IpcReply, MAX_WORDS, Reply, ThreadId};
 
 /// The greatest number of words of a reply.
@@ -48,11 +47,12 @@ fn put_ipc_reply(out: &mut Record, reply: &IpcReply)
 
 /// A reply, and the words after it.
 #[tactic(auto, unfolding(crate::specs::Reading::reply_at))]
-fn next_reply(words: &[u32]) -> Option<(Reply, &[u32])>
-    ensures { Reads result (reply_at words.now) }
+fn next_reply(words: Words<'_>) -> Option<(Reply, Words<'_>)>
+    ensures { result ≡ reply_at words.entry }
 {
-    match words {
-        [0, rest @ ..] => {
+    let (variant, rest) = read_word(words)?;
+    match variant {
+        0 => {
             let (tag, rest) = read_word(rest)?;
             let (error, rest) = read_word(rest)?;
             let (from, rest) = read_word(rest)?;
@@ -65,23 +65,23 @@ fn next_reply(words: &[u32]) -> Option<(Reply, &[u32])>
             };
             Some((Reply::Ipc(reply), rest))
         }
-        [1, rest @ ..] => Some((Reply::Hit, rest)),
-        [2, rest @ ..] => Some((Reply::Answered, rest)),
-        [3, rest @ ..] => {
+        1 => Some((Reply::Hit, rest)),
+        2 => Some((Reply::Answered, rest)),
+        3 => {
             let (error, rest) = read_word(rest)?;
             Some((Reply::FaultFailed(error), rest))
         }
-        [4, rest @ ..] => Some((Reply::Unmapped, rest)),
-        [5, rest @ ..] => Some((Reply::Controlled, rest)),
-        [6, rest @ ..] => Some((Reply::Gone, rest)),
+        4 => Some((Reply::Unmapped, rest)),
+        5 => Some((Reply::Controlled, rest)),
+        6 => Some((Reply::Gone, rest)),
         _ => None,
     }
 }
 
 /// A reply, and the words after it. Of words that `put_reply` wrote it is the reply that was written, whatever follows them.
-pub fn read_reply(words: &[u32]) -> Option<(Reply, &[u32])>
-    ensures exact { Reads result (reply_at words.now) }
-    ensures again { (reply : AReply) (rest : List ℕ) → ReplyFits reply → words.now ≡ reply_code reply ++ rest → Reads result (Some (reply, rest)) }
+pub fn read_reply(words: Words<'_>) -> Option<(Reply, Words<'_>)>
+    ensures exact { result ≡ reply_at words.entry }
+    ensures again { (reply : AReply) (rest : List ℕ) → ReplyFits reply → words.entry ≡ reply_code reply ++ rest → result ≡ Some (reply, rest) }
 {
     next_reply(words)
 }

@@ -3,12 +3,23 @@ ghost use Rattle.std.specs.Prelude.{◌≡◌, ◌+◌, ◌≤◌, ◌++◌, ◌
 ghost use Rattle.l4_ipc.specs.declared.steps.Answer.{Answer as AnAnswer};
 ghost use Rattle.l4_ipc.specs.declared.steps.Step.{Step as AStep};
 ghost use Rattle.l4_packed.specs.Codes.{step_code, outcome_code, answer_code, StepFits, AnswerFits};
+ghost use Rattle.l4_packed.specs.Outlines.{step_outline, outline_at};
 ghost use Rattle.l4_packed.specs.Reading.{step_at, outcome_at, answer_at};
-ghost use Rattle.l4_packed.specs.Words.{Reads};
 
 use crate::calls::{CALL_WORDS, put_call, read_call};
-use crate::words::{RECORD_WORDS, Record, put_counted, read_counted, read_word};
+use crate::words::{RECORD_WORDS, Record, Words, put_counted, read_counted, read_word};
 use l4_ipc::{Answer, MAX_THREADS, Outcome, Step};
+
+/// A step without the call of a start.
+#[derive(Clone, Copy, Debug, PartialEq, Eq)]
+pub enum StepOutline {
+    /// The thread of this number starts a call.
+    Start(u32),
+    /// The message of the first number's call goes to the second.
+    Transfer(u32, u32),
+    /// The wait of this number's call ends.
+    Expire(u32),
+}
 
 /// The greatest number of words of a step.
 pub const STEP_WORDS: usize = CALL_WORDS + 2;
@@ -68,21 +79,22 @@ pub fn put_answer(out: &mut Record, answer: &Answer)
 
 /// A step, and the words after it.
 #[tactic(auto, unfolding(crate::specs::Reading::step_at))]
-fn next_step(words: &[u32]) -> Option<(Step, &[u32])>
-    ensures { Reads result (step_at words.now) }
+fn next_step(words: Words<'_>) -> Option<(Step, Words<'_>)>
+    ensures { result ≡ step_at words.entry }
 {
-    match words {
-        [0, rest @ ..] => {
+    let (variant, rest) = read_word(words)?;
+    match variant {
+        0 => {
             let (number, rest) = read_word(rest)?;
             let (call, rest) = read_call(rest)?;
             Some((Step::Start(number, call), rest))
         }
-        [1, rest @ ..] => {
+        1 => {
             let (sender, rest) = read_word(rest)?;
             let (receiver, rest) = read_word(rest)?;
             Some((Step::Transfer(sender, receiver), rest))
         }
-        [2, rest @ ..] => {
+        2 => {
             let (number, rest) = read_word(rest)?;
             Some((Step::Expire(number), rest))
         }
@@ -91,32 +103,34 @@ fn next_step(words: &[u32]) -> Option<(Step, &[u32])>
 }
 
 /// A step, and the words after it. Of words that `put_step` wrote it is the step that was written, whatever follows them.
-pub fn read_step(words: &[u32]) -> Option<(Step, &[u32])>
-    ensures exact { Reads result (step_at words.now) }
-    ensures again { (step : AStep) (rest : List ℕ) → StepFits step → words.now ≡ step_code step ++ rest → Reads result (Some (step, rest)) }
+pub fn read_step(words: Words<'_>) -> Option<(Step, Words<'_>)>
+    ensures exact { result ≡ step_at words.entry }
+    ensures again { (step : AStep) (rest : List ℕ) → StepFits step → words.entry ≡ step_code step ++ rest → result ≡ Some (step, rest) }
 {
     next_step(words)
 }
 
 /// An outcome, and the words after it.
-fn next_outcome(words: &[u32]) -> Option<(Outcome, &[u32])>
-    ensures { Reads result (outcome_at words.now) }
+#[tactic(auto, unfolding(crate::specs::Reading::outcome_at))]
+fn next_outcome(words: Words<'_>) -> Option<(Outcome, Words<'_>)>
+    ensures { result ≡ outcome_at words.entry }
 {
-    match words {
-        [0, rest @ ..] => Some((Outcome::Started, rest)),
-        [1, rest @ ..] => Some((Outcome::Done, rest)),
-        [2, rest @ ..] => Some((Outcome::NoWindow, rest)),
-        [3, rest @ ..] => Some((Outcome::Entangled, rest)),
-        [4, rest @ ..] => Some((Outcome::NoMemory, rest)),
-        [5, rest @ ..] => Some((Outcome::Expired, rest)),
+    let (variant, rest) = read_word(words)?;
+    match variant {
+        0 => Some((Outcome::Started, rest)),
+        1 => Some((Outcome::Done, rest)),
+        2 => Some((Outcome::NoWindow, rest)),
+        3 => Some((Outcome::Entangled, rest)),
+        4 => Some((Outcome::NoMemory, rest)),
+        5 => Some((Outcome::Expired, rest)),
         _ => None,
     }
 }
 
 /// An answer, and the words after it.
 #[tactic(auto, unfolding(crate::specs::Reading::answer_at))]
-fn next_answer(words: &[u32]) -> Option<(Answer, &[u32])>
-    ensures { Reads result (answer_at words.now) }
+fn next_answer(words: Words<'_>) -> Option<(Answer, Words<'_>)>
+    ensures { result ≡ answer_at words.entry }
 {
     let (outcome, rest) = next_outcome(words)?;
     let (ended, rest) = read_counted(rest)?;
@@ -124,9 +138,41 @@ fn next_answer(words: &[u32]) -> Option<(Answer, &[u32])>
 }
 
 /// An answer, and the words after it. Of words that `put_answer` wrote it is the answer that was written, whatever follows them.
-pub fn read_answer(words: &[u32]) -> Option<(Answer, &[u32])>
-    ensures exact { Reads result (answer_at words.now) }
-    ensures again { (answer : AnAnswer) (rest : List ℕ) → AnswerFits answer → words.now ≡ answer_code answer ++ rest → Reads result (Some (answer, rest)) }
+pub fn read_answer(words: Words<'_>) -> Option<(Answer, Words<'_>)>
+    ensures exact { result ≡ answer_at words.entry }
+    ensures again { (answer : AnAnswer) (rest : List ℕ) → AnswerFits answer → words.entry ≡ answer_code answer ++ rest → result ≡ Some (answer, rest) }
 {
     next_answer(words)
+}
+
+/// A step without the call of a start.
+#[tactic(auto, unfolding(crate::specs::Outlines::outline_at))]
+fn next_outline(words: Words<'_>) -> Option<StepOutline>
+    ensures { result ≡ outline_at words.entry }
+{
+    let (variant, rest) = read_word(words)?;
+    match variant {
+        0 => {
+            let (number, _) = read_word(rest)?;
+            Some(StepOutline::Start(number))
+        }
+        1 => {
+            let (sender, rest) = read_word(rest)?;
+            let (receiver, _) = read_word(rest)?;
+            Some(StepOutline::Transfer(sender, receiver))
+        }
+        2 => {
+            let (number, _) = read_word(rest)?;
+            Some(StepOutline::Expire(number))
+        }
+        _ => None,
+    }
+}
+
+/// The step that words begin with, without the call of a start, whose words aren't read.
+pub fn read_outline(words: Words<'_>) -> Option<StepOutline>
+    ensures exact { result ≡ outline_at words.entry }
+    ensures same { (step : AStep) (rest : List ℕ) → step_at words.entry ≡ Some (step, rest) → result ≡ Some (step_outline step) }
+{
+    next_outline(words)
 }

@@ -20,7 +20,7 @@ fn some_words() -> ArrayVec<u32, MAX_WORDS> {
 fn check_step(rt: &impl Abort, step: &Step) {
     let mut out = Record::new();
     put_step(&mut out, step);
-    let read = read_step(out.as_slice());
+    let read = read_step(out.words());
     assert!(rt; matches!(&read, Some((again, rest)) if again == step && rest.is_empty()));
 }
 
@@ -31,7 +31,7 @@ fn check_call(rt: &impl Abort, call: Call) {
 fn check_reply(rt: &impl Abort, reply: &Reply) {
     let mut out = Record::new();
     put_reply(&mut out, reply);
-    let read = read_reply(out.as_slice());
+    let read = read_reply(out.words());
     assert!(rt; matches!(&read, Some((again, rest)) if again == reply && rest.is_empty()));
 }
 
@@ -42,7 +42,7 @@ fn check_outcome(rt: &impl Abort, outcome: Outcome) {
     };
     let mut out = Record::new();
     put_answer(&mut out, &answer);
-    let read = read_answer(out.as_slice());
+    let read = read_answer(out.words());
     assert!(rt; matches!(&read, Some((again, rest)) if again == &answer && rest.is_empty()));
 }
 
@@ -127,7 +127,7 @@ fn places_are_read_back(rt: HostRuntime) {
     let mut out = Record::new();
     put_place(&mut out, 0x1_0000_0007);
     put_place(&mut out, 5);
-    let first = read_place(out.as_slice());
+    let first = read_place(out.words());
     assert!(rt; matches!(&first, Some((0x1_0000_0007, [5, 0]))));
 }
 

@@ -1,10 +1,14 @@
 //! Words, one after another.
-ghost use Rattle.std.specs.Prelude.{◌≡◌, ◌+◌, ◌≤◌, ◌++◌, ◌∷◌, [], length, ℕ, List, Some};
+ghost use Rattle.std.specs.Prelude.{◌≡◌, ◌+◌, ◌<◌, ◌≤◌, ◌++◌, ◌∷◌, [], length, ℕ, List, Some};
 ghost use Rattle.l4_packed.specs.Codes.{place_code};
+ghost use Rattle.l4_packed.specs.Inside.Bytes.{numbers_code, words_in};
+ghost use Rattle.l4_packed.specs.Inside.Pieces.{AreWords};
 ghost use Rattle.l4_packed.specs.Reading.{place_at};
-ghost use Rattle.l4_packed.specs.Words.{Gives, Reads, counted, word_at, counted_at};
+ghost use Rattle.l4_packed.specs.Words.{Gives, counted, word_at, list_at, counted_at};
 
+use crate::numbers::{Bytes, WORDS_BYTES, add_number, read_number};
 use arrayvec::ArrayVec;
+use std::marker::Model;
 
 /// The greatest number of words of a record: of two lists of 64 words, and of the numbers beside them.
 pub const RECORD_WORDS: usize = 144;
@@ -12,8 +16,94 @@ pub const RECORD_WORDS: usize = 144;
 /// The words of a place in a history.
 pub const PLACE_WORDS: usize = 2;
 
-/// The words of one value, or of several that are stored together.
-pub type Record = ArrayVec<u32, RECORD_WORDS>;
+/// The words of one value, or of several that are stored together, as bytes.
+#[derive(Drop)]
+pub struct Record {
+    bytes: Bytes,
+}
+
+impl Model for Record {
+    ghost use Rattle.l4_packed.specs.Inside.Bytes.{words_in};
+    ghost use Rattle.l4_packed.specs.Inside.Pieces.{AreWords};
+    ghost use Rattle.l4_packed.specs.Words.{WordList, word_list};
+
+    ghost Value = { WordList };
+
+    ghost view = { λ r. word_list (words_in r.bytes.items) };
+
+    ghost invariant = { λ r. AreWords r.bytes.items };
+}
+
+impl Record {
+    /// No words.
+    pub fn new() -> Record
+        ensures { result.items ≡ [] }
+    {
+        Record {
+            bytes: Bytes::new(),
+        }
+    }
+
+    /// Takes all words away.
+    pub fn clear(&mut self)
+        ensures { self.new.items ≡ [] }
+    {
+        self.bytes.clear();
+    }
+
+    /// Appends a word.
+    pub fn push(&mut self, word: u32)
+        requires { length self.old.items < RECORD_WORDS }
+        ensures items { self.new.items ≡ self.old.items ++ word ∷ [] }
+    {
+        add_number(&mut self.bytes, word);
+    }
+
+    /// The words, to be read.
+    pub fn words(&self) -> Words<'_>
+        ensures { result ≡ self.now.items }
+    {
+        Words {
+            bytes: self.bytes.as_slice(),
+        }
+    }
+}
+
+/// Words that are left to be read. Contracts see them as a list.
+#[derive(Drop)]
+pub struct Words<'a> {
+    bytes: &'a [u8],
+}
+
+impl<'a> Model for Words<'a> {
+    ghost use Rattle.std.specs.Prelude.{List, ℕ};
+    ghost use Rattle.l4_packed.specs.Inside.Bytes.{words_in};
+    ghost use Rattle.l4_packed.specs.Inside.Pieces.{AreWords};
+
+    ghost Value = { List ℕ };
+
+    ghost view = { λ w. words_in w.bytes.now };
+
+    ghost invariant = { λ w. AreWords w.bytes.now };
+}
+
+impl<'a> Words<'a> {
+    /// The words that these bytes hold.
+    pub(crate) fn of(bytes: &'a [u8]) -> Words<'a>
+        requires { AreWords bytes.now }
+        ensures { result ≡ words_in bytes.now }
+    {
+        Words { bytes }
+    }
+
+    /// The bytes of the words.
+    pub(crate) fn bytes(&self) -> &[u8]
+        ensures bytes { result.now ≡ numbers_code self.now }
+        ensures few { (length self.now ≤ RECORD_WORDS) × (length result.now ≤ WORDS_BYTES) }
+    {
+        self.bytes
+    }
+}
 
 /// Appends a list behind its length.
 pub(crate) fn put_counted(out: &mut Record, words: &[u32])
@@ -27,39 +117,48 @@ pub(crate) fn put_counted(out: &mut Record, words: &[u32])
 }
 
 /// The first word, and those after it. None where there is none.
-pub fn read_word(words: &[u32]) -> Option<(u32, &[u32])>
-    ensures { Reads result (word_at words.now) }
+pub fn read_word(words: Words<'_>) -> Option<(u32, Words<'_>)>
+    ensures { result ≡ word_at words.entry }
 {
-    let (word, rest) = words.split_first()?;
-    Some((*word, rest))
+    match read_number(words.bytes) {
+        Some((word, rest)) => Some((word, Words { bytes: rest })),
+        None => None,
+    }
 }
 
 /// A list that stands behind its length, and the words after it. None where it is longer than its type has room for.
 #[tactic(auto, unfolding(crate::specs::Words::counted_at))]
 pub(crate) fn read_counted<const LIMIT: usize>(
-    words: &[u32],
-) -> Option<(ArrayVec<u32, LIMIT>, &[u32])>
-    ensures { Gives (λ x. (x.0.items, x.1.now)) result (counted_at LIMIT words.now) }
+    words: Words<'_>,
+) -> Option<(ArrayVec<u32, LIMIT>, Words<'_>)>
+    ensures { Gives (λ x. (x.0.items, x.1)) result (counted_at LIMIT words.entry) }
 {
     let (count, rest) = read_word(words)?;
     let count = count as usize;
-    if count > LIMIT || rest.len() < count {
+    if count > LIMIT {
         return None;
     }
-    let (front, rest) = rest.split_at(count);
-    Some((copied(front), rest))
+    read_list(rest, count)
 }
 
-/// The same words.
-fn copied<const LIMIT: usize>(words: &[u32]) -> ArrayVec<u32, LIMIT>
-    requires { length words.now ≤ LIMIT }
-    ensures { result.items ≡ words.now }
+/// A list of so many words, and the words after it.
+fn read_list<const LIMIT: usize>(
+    words: Words<'_>,
+    count: usize,
+) -> Option<(ArrayVec<u32, LIMIT>, Words<'_>)>
+    requires { count ≤ LIMIT }
+    ensures { Gives (λ x. (x.0.items, x.1)) result (list_at count words.entry) }
 {
-    let mut copy = ArrayVec::new();
-    for word in words {
-        copy.push(*word);
+    let mut list = ArrayVec::new();
+    let mut rest = words;
+    for _ in 0..count {
+        let Some((word, after)) = read_word(rest) else {
+            return None;
+        };
+        list.push(word);
+        rest = after;
     }
-    copy
+    Some((list, rest))
 }
 
 /// Appends a place in a history.
@@ -75,8 +174,8 @@ pub fn put_place(out: &mut Record, place: usize)
 const UPPER: usize = 0x1_0000_0000;
 
 /// A place in a history, and the words after it.
-fn next_place(words: &[u32]) -> Option<(usize, &[u32])>
-    ensures { Reads result (place_at words.now) }
+fn next_place(words: Words<'_>) -> Option<(usize, Words<'_>)>
+    ensures { result ≡ place_at words.entry }
 {
     let (lower, rest) = read_word(words)?;
     let (upper, rest) = read_word(rest)?;
@@ -84,9 +183,9 @@ fn next_place(words: &[u32]) -> Option<(usize, &[u32])>
 }
 
 /// A place in a history, and the words after it. Of words that `put_place` wrote it is the place that was written, whatever follows them.
-pub fn read_place(words: &[u32]) -> Option<(usize, &[u32])>
-    ensures exact { Reads result (place_at words.now) }
-    ensures again { (place : ℕ) (rest : List ℕ) → words.now ≡ place_code place ++ rest → Reads result (Some (place, rest)) }
+pub fn read_place(words: Words<'_>) -> Option<(usize, Words<'_>)>
+    ensures exact { result ≡ place_at words.entry }
+    ensures again { (place : ℕ) (rest : List ℕ) → words.entry ≡ place_code place ++ rest → result ≡ Some (place, rest) }
 {
     next_place(words)
 }

@@ -1,16 +1,22 @@
 -- Numbers, and records of numbers, as bytes. (this profile's own)
 use Rattle.std.specs.Prelude.{ℕ, zero, suc, ◌+◌, ◌*◌, ◌/◌, ◌%◌, ◌^◌, ◌==◌, List, [], ◌∷◌, ◌++◌, length, take, drop, Option, Some, None, nat_lt, if◌then◌else◌}
 use Rattle.std.specs.List.{flat_map}
-use Rattle.l4_packed.specs.Words.{◌>>=◌}
+use Rattle.std.specs.Borrow.{Bor}
+use Rattle.l4_packed.specs.Words.{Gives, ◌>>=◌}
 
--- A number below 252 is one byte. Any other stands behind a byte that says how many bytes it has, the lowest first: two behind 252, three
--- behind 253, four behind 254.
+-- a reader gives a value and the bytes after it
+abbrev pub Reads : {X : Type 0} → Option (X × Bor (List ℕ)) → Option (X × List ℕ) → Type 0
+Reads result read = Gives (λ x. (x.0, x.1.now)) result read
+
+-- A number below 252 is one byte, and the greatest word, 2 ^ 32 - 1, is the byte 255. Any other stands behind a byte that says how many bytes
+-- it has, the lowest first: two behind 252, three behind 253, four behind 254.
 unfoldable pub number_code : ℕ → List ℕ
 number_code n =
     if nat_lt n 252 then n ∷ []
     else (if nat_lt n (2 ^ 16) then 252 ∷ n % 256 ∷ n / 256 ∷ []
     else (if nat_lt n (2 ^ 24) then 253 ∷ n % 256 ∷ n / 256 % 256 ∷ n / 2 ^ 16 ∷ []
-    else 254 ∷ n % 256 ∷ n / 256 % 256 ∷ n / 2 ^ 16 % 256 ∷ n / 2 ^ 24 ∷ []))
+    else (if n == 4294967295 then 255 ∷ []
+    else 254 ∷ n % 256 ∷ n / 256 % 256 ∷ n / 2 ^ 16 % 256 ∷ n / 2 ^ 24 ∷ [])))
 
 abbrev pub two_bytes_at : List ℕ → Option (ℕ × List ℕ)
 two_bytes_at (a ∷ b ∷ rest) = Some (a + 256 * b, rest)
@@ -37,7 +43,7 @@ number_at (first ∷ rest) =
     if nat_lt first 252 then Some (first, rest)
     else (if first == 252 then two_bytes_at rest
     else (if first == 253 then three_bytes_at rest
-    else (if first == 254 then four_bytes_at rest else None)))
+    else (if first == 254 then four_bytes_at rest else Some (4294967295, rest))))
 
 -- numbers one after another
 abbrev pub numbers_code : List ℕ → List ℕ
@@ -47,6 +53,10 @@ numbers_code words = flat_map number_code words
 unfoldable pub numbers_in : ℕ → List ℕ → List ℕ
 numbers_in zero bytes = []
 numbers_in (suc k) bytes = elim (number_at bytes) [ None ↦ [] | Some next ↦ next.0 ∷ numbers_in k next.1 ]
+
+-- all numbers that bytes hold
+abbrev pub words_in : List ℕ → List ℕ
+words_in bytes = numbers_in (length bytes) bytes
 
 -- a record: the number of its bytes, and its numbers
 unfoldable pub record_code : List ℕ → List ℕ
@@ -65,4 +75,4 @@ records_code records = flat_map record_code records
 -- the records that bytes hold, at most so many
 unfoldable pub records_in : ℕ → List ℕ → List (List ℕ)
 records_in zero bytes = []
-records_in (suc k) bytes = elim (frame_at bytes) [ None ↦ [] | Some next ↦ numbers_in (length next.0) next.0 ∷ records_in k next.1 ]
+records_in (suc k) bytes = elim (frame_at bytes) [ None ↦ [] | Some next ↦ words_in next.0 ∷ records_in k next.1 ]

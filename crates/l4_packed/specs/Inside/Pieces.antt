@@ -1,12 +1,17 @@
 -- Pieces of memory that hold records as bytes. (this profile's own)
-use Rattle.std.specs.Prelude.{◌≡◌, ℕ, ◌+◌, ◌*◌, ◌/◌, ◌≤◌, ◌<◌, List, [], length, take, ◌^◌, slice_index_or, vec_capacity}
+use Rattle.std.specs.Prelude.{◌≡◌, ℕ, ◌+◌, ◌*◌, ◌/◌, ◌≤◌, ◌<◌, List, [], length, take, drop, min, ◌==◌, Bool, true, false, ◌^◌, slice_index_or, vec_capacity}
 use Rattle.std.specs.Global.{Vec}
 use Rattle.std.specs.List.{flat_map, All}
-use Rattle.l4_packed.specs.Inside.Bytes.{records_code, records_in}
+use Rattle.l4_packed.specs.Inside.Bytes.{numbers_code, words_in, records_code, records_in}
 
 -- the greatest number of words of a record
 abbrev pub record_words : ℕ
 record_words = 144
+
+-- the bytes are those of so few words that they make a record
+pub record AreWords (bytes : List ℕ) : Type 0 where
+  pub whole : bytes ≡ numbers_code (words_in bytes)
+  pub few : length (words_in bytes) ≤ record_words
 
 -- what is seen of a piece: how many records stand before it, its records, and how many bytes are free
 pub record PieceState : Type 0 where
@@ -22,6 +27,28 @@ pub record IsPacked (count : ℕ) (bytes : List ℕ) : Type 0 where
   pub whole : bytes ≡ records_code (records_in count bytes)
   pub counted : length (records_in count bytes) ≡ count
   pub short : All (λ words. length words ≤ record_words) (records_in count bytes)
+
+-- so many bytes stand before the record of this number
+pub record IsMark (records : List (List ℕ)) (bytes : List ℕ) (number offset : ℕ) : Type 0 where
+  pub number_within : number ≤ length records
+  pub offset_within : offset ≤ length bytes
+  pub rest : drop offset bytes ≡ records_code (drop number records)
+
+-- each mark but 0 says how many bytes stand before the record of eight times its number
+pub record AreMarks (marks : List ℕ) (records : List (List ℕ)) (bytes : List ℕ) : Type 0 where
+  pub counted : length marks ≡ 64
+  pub right : (k : ℕ) → k < 64 → 0 < slice_index_or marks k 0 → IsMark records bytes (8 * k) (slice_index_or marks k 0)
+
+-- the last mark at or before a place: the record's number, and the bytes before it
+abbrev pub mark_if : Bool → ℕ → ℕ → ℕ × ℕ
+mark_if true number offset = (0, 0)
+mark_if false number offset = (8 * number, offset)
+
+abbrev pub mark_at : ℕ → ℕ → ℕ × ℕ
+mark_at number offset = mark_if (offset == 0) number offset
+
+abbrev pub mark_before : List ℕ → ℕ → ℕ × ℕ
+mark_before marks at = mark_at (min (at / 8) 63) (slice_index_or marks (min (at / 8) 63) 0)
 
 abbrev pub records_of : List PieceState → List (List ℕ)
 records_of pieces = flat_map (λ piece. piece.records) pieces

@@ -8,10 +8,10 @@ use Rattle.l4_lock.proofs.history.History.get.Goals as goal
 
 pub returns-in-Some : goal.returns-in-Some
 returns-in-Some c =
-    c.read_entry.ensures ∙ ap entry_at c.as_slice.ensures.value ∙ sym (ap (option_and_then entry_at) c.in-Some.ensures)
+    c.read_entry.ensures ∙ ap (option_and_then entry_at) c.in-Some.ensures
     ∙ sym (get_read entry_at c.self.inside.entries.records c.args.place c.self.invariant) ∙ ap (λ (l : EntryList). slice_get l.entries c.args.place) c.self.view_is
 
 pub returns-in-None : goal.returns-in-None
 returns-in-None c =
-    sym (ap (option_and_then entry_at) c.in-None.ensures)
+    ap (option_and_then entry_at) c.in-None.ensures
     ∙ sym (get_read entry_at c.self.inside.entries.records c.args.place c.self.invariant) ∙ ap (λ (l : EntryList). slice_get l.entries c.args.place) c.self.view_is

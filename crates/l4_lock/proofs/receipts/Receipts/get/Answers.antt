@@ -8,10 +8,10 @@ use Rattle.l4_lock.proofs.receipts.Receipts.get.Goals as goal
 
 pub returns-in-Some : goal.returns-in-Some
 returns-in-Some c =
-    c.read_receipt.ensures ∙ ap receipt_at c.as_slice.ensures.value ∙ sym (ap (option_and_then receipt_at) c.in-Some.ensures)
+    c.read_receipt.ensures ∙ ap (option_and_then receipt_at) c.in-Some.ensures
     ∙ sym (get_read receipt_at c.self.inside.receipts.records c.args.place c.self.invariant) ∙ ap (λ (l : ReceiptList). slice_get l.items c.args.place) c.self.view_is
 
 pub returns-in-None : goal.returns-in-None
 returns-in-None c =
-    sym (ap (option_and_then receipt_at) c.in-None.ensures)
+    ap (option_and_then receipt_at) c.in-None.ensures
     ∙ sym (get_read receipt_at c.self.inside.receipts.records c.args.place c.self.invariant) ∙ ap (λ (l : ReceiptList). slice_get l.items c.args.place) c.self.view_is
