@@ -5,7 +5,7 @@ ghost use Rattle.l4_lock.specs.Books.{SeatState, seat_state, starts, Book, book,
 ghost use Rattle.l4_lock.specs.Inside.Noting.{started_by, noted, noted_call, reply_in, reply_pending, own_call};
 
 use crate::copies::{copy_call, copy_reply};
-use crate::entries::{Ended, Pending, Receipt};
+use crate::entries::{Ended, Pending};
 use crate::receipts::Receipts;
 use l4_ipc::{Call, Kernel, Reply};
 use std::alloc::{AllocError, Global};
@@ -105,12 +105,7 @@ fn add_receipt(receipts: &mut Receipts, call: &Call, start: usize, ended: &Ended
     ensures items { receipts.new.items ≡ receipts.old.items ++ receipt call.now start ended.now ∷ [] }
     ensures room { (length receipts.new.items ≡ length receipts.old.items + 1) × (receipts.new.room ≡ receipts.old.room) }
 {
-    receipts.push(Receipt {
-        call: copy_call(call),
-        start,
-        end: ended.entry,
-        reply: copy_reply(&ended.reply),
-    });
+    receipts.push_parts(call, start, ended.entry, &ended.reply);
 }
 
 /// The reply of a thread's last ended call, Gone where the thread is there no longer.

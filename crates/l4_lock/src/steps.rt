@@ -54,6 +54,9 @@ pub fn first_reply(accounts: &[Account]) -> Option<u32>
 fn note_all(accounts: &mut Vec<Account>, kernel: &Kernel, ended: &[u32], place: usize)
     ensures { accounts.new.items ≡ map (noted kernel.now ended.now place) accounts.old.items }
 {
+    if ended.is_empty() {
+        return;
+    }
     for i in 0..accounts.len() {
         accounts[i].note(kernel, ended, place);
     }
