@@ -1,15 +1,20 @@
 #!/usr/bin/env python3
-"""Links the shared object that the package l4 loads from the archive libl4.a.
+"""Links the shared object that the package l4 loads from the archive libl4.a, and builds the package for pip.
 
 The archive is the one of the folder that L4_LIB_DIR names, or else where pkg-config has it.
 """
 import argparse
+import base64
+import hashlib
 import os
+import re
 import subprocess
 import sys
+import sysconfig
 import tempfile
+import zipfile
 from pathlib import Path
-from typing import List, Optional
+from typing import Any, Dict, List, Optional
 
 HERE = Path(__file__).resolve().parent
 
@@ -50,6 +55,45 @@ def link(archive: Path, output: Path) -> None:
         shown.write_text(SHOWN)
         whole = ["-Wl,--whole-archive", str(archive), "-Wl,--no-whole-archive"]
         run([os.environ.get("CC", "cc"), "-shared", "-o", str(output), f"-Wl,--version-script={shown}", *whole])
+
+
+def project(name: str) -> str:
+    """What pyproject.toml says of the project under this name."""
+    found = re.search(rf'^{name} = "(.*)"$', (HERE / "pyproject.toml").read_text(), re.MULTILINE)
+    if not found:
+        raise Unbuilt(f"pyproject.toml has no {name}")
+    return found.group(1)
+
+
+def package() -> Dict[str, bytes]:
+    """The files of the package, with the shared object."""
+    with tempfile.TemporaryDirectory() as folder:
+        shared = Path(folder) / "libl4.so"
+        link(find_archive(), shared)
+        sources = [*(HERE / "l4").glob("*.py"), HERE / "l4" / "py.typed", shared]
+        return {f"l4/{file.name}": file.read_bytes() for file in sorted(sources)}
+
+
+def digest(data: bytes) -> str:
+    return base64.urlsafe_b64encode(hashlib.sha256(data).digest()).rstrip(b"=").decode()
+
+
+def build_wheel(wheel_directory: str, config_settings: Any = None, metadata_directory: Any = None) -> str:
+    """Writes the package with the shared object as a wheel, as pip asks for it (PEP 517), and gives the file's name."""
+    name = f"{project('name')}-{project('version')}"
+    tag = "py3-none-" + re.sub("[-.]", "_", sysconfig.get_platform())
+    metadata = {"Metadata-Version": "2.1", "Name": project("name"), "Version": project("version")}
+    metadata.update({"Summary": project("description"), "Requires-Python": project("requires-python")})
+    wheel = {"Wheel-Version": "1.0", "Generator": "l4", "Root-Is-Purelib": "false", "Tag": tag}
+    files = package()
+    for file, fields in (("METADATA", metadata), ("WHEEL", wheel)):
+        files[f"{name}.dist-info/{file}"] = "".join(f"{field}: {value}\n" for field, value in fields.items()).encode()
+    record = [f"{file},sha256={digest(data)},{len(data)}\n" for file, data in files.items()]
+    files[f"{name}.dist-info/RECORD"] = "".join([*record, f"{name}.dist-info/RECORD,,\n"]).encode()
+    with zipfile.ZipFile(Path(wheel_directory) / f"{name}-{tag}.whl", "w", zipfile.ZIP_DEFLATED) as out:
+        for file, data in files.items():
+            out.writestr(file, data)
+    return f"{name}-{tag}.whl"
 
 
 def main(words: Optional[List[str]] = None) -> int:

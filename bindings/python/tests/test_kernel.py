@@ -282,14 +282,16 @@ class Kernels(unittest.TestCase):
     @unittest.skipUnless(hasattr(os, "fork"), "no fork")
     def test_a_child_of_a_process_with_threads_is_refused(self):
         program = """
-import os, threading, l4
+import os, signal, threading, l4
 kernel = l4.Kernel(1)
 if os.fork() == 0:
+    signal.alarm(20)
     os._exit(kernel.space_of(2) != 1)
 assert os.wait()[1] == 0
 release = threading.Event()
 threading.Thread(target=release.wait).start()
 if os.fork() == 0:
+    signal.alarm(20)
     refused = 0
     for call in (lambda: kernel.space_of(2), l4.Kernel, l4.Region(4, 12, 12, l4.Rights.ALL).plan):
         try:
