@@ -15,6 +15,7 @@ from . import draw
 from .kernel import Answer, Done, Entered, Expire, Kernel, Mapping, Outcome, Place, Reply, ReplyKind, Step, Transfer
 from .plans import Plan, Region
 from .refusals import IpcFailed, Refused, TooLong
+from .tables import Pager, Sigma0
 from .words import (
     MAX_FRAMES,
     MAX_THREADS,
@@ -51,6 +52,7 @@ __all__ = [
     "Mapping",
     "Message",
     "Outcome",
+    "Pager",
     "Place",
     "Plan",
     "Refused",
@@ -58,6 +60,7 @@ __all__ = [
     "Reply",
     "ReplyKind",
     "Rights",
+    "Sigma0",
     "Step",
     "ThreadId",
     "Timeout",

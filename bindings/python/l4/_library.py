@@ -143,6 +143,18 @@ class l4_region(Structure):
     _fields_ = numbers("source target count rights")
 
 
+class l4_pager(Structure):
+    _fields_ = [("hidden", c_void_p)]
+
+
+class l4_message(Structure):
+    _fields_ = numbers("refusal detail word_count") + [("words", c_uint32 * L4_MAX_WORDS)]
+
+
+class l4_sigma0(Structure):
+    _fields_ = [("hidden", c_void_p)]
+
+
 class l4_plan(Structure):
     _fields_ = numbers("refusal word_count page_count") + [
         ("words", c_uint32 * L4_MAX_WORDS),
@@ -154,10 +166,28 @@ class l4_verdict(Structure):
     _fields_ = numbers("refusal detail")
 
 
-STRUCTS = [l4_kernel, l4_call, l4_answer, l4_step, l4_entered, l4_reply, l4_space, l4_mapping, l4_page, l4_region, l4_plan, l4_verdict]
+STRUCTS = [
+    l4_kernel,
+    l4_call,
+    l4_answer,
+    l4_step,
+    l4_entered,
+    l4_reply,
+    l4_space,
+    l4_mapping,
+    l4_page,
+    l4_region,
+    l4_pager,
+    l4_message,
+    l4_sigma0,
+    l4_plan,
+    l4_verdict,
+]
 
 KERNEL = POINTER(l4_kernel)
 WORDS = POINTER(c_uint32)
+PAGER = POINTER(l4_pager)
+SIGMA0 = POINTER(l4_sigma0)
 REGION = POINTER(l4_region)
 
 # each function's result and parameters
@@ -176,6 +206,14 @@ FUNCTIONS: Dict[str, Tuple[Any, List[Any]]] = {
     "l4_space_of": (l4_space, [KERNEL, c_uint32]),
     "l4_mapping_of": (l4_mapping, [KERNEL, c_uint64, c_uint32]),
     "l4_next_page": (l4_page, [KERNEL, c_uint64, c_uint32]),
+    "l4_pager_new": (c_uint32, [PAGER]),
+    "l4_pager_free": (None, [PAGER]),
+    "l4_pager_add": (c_uint32, [PAGER, REGION]),
+    "l4_pager_find": (l4_page, [PAGER, c_uint32, c_uint32]),
+    "l4_pager_answer": (l4_message, [PAGER, WORDS, c_size_t]),
+    "l4_sigma0_new": (c_uint32, [SIGMA0, c_uint32]),
+    "l4_sigma0_free": (None, [SIGMA0]),
+    "l4_sigma0_answer": (l4_message, [SIGMA0, c_uint64, WORDS, c_size_t]),
     "l4_plan_region": (l4_plan, [REGION]),
     "l4_check_plan": (l4_verdict, [REGION, WORDS, c_size_t, WORDS, c_size_t]),
     "l4_check_too_long": (l4_verdict, [REGION, WORDS, c_size_t]),

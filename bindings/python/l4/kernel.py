@@ -2,16 +2,15 @@
 from __future__ import annotations
 
 import enum
-import threading
-import weakref
 from ctypes import byref
 from dataclasses import dataclass
 from typing import Any, Callable, Iterator, Optional, Set, Tuple, Union
 
 from . import _library
-from ._library import Forks, library, number
+from ._handles import Handle
+from ._library import library, number
 from .refusals import IpcFailed, Refused
-from .words import MAX_THREADS, SPACE_PAGES, Call, Item, Rights, ThreadId, items_of
+from .words import MAX_THREADS, SPACE_PAGES, Call, Item, Message, Rights, ThreadId, items_of
 
 
 class Outcome(enum.Enum):
@@ -118,6 +117,11 @@ class Reply:
         return self
 
     @property
+    def message(self) -> Message:
+        """The message, the tag first, as a pager's table and sigma0's are asked to answer it."""
+        return Message((self.tag, *self.words))
+
+    @property
     def label(self) -> int:
         """The message's label."""
         return self.tag >> 16
@@ -151,13 +155,6 @@ class Mapping:
     parent: Optional[Place]
 
 
-def _free(handle: _library.l4_kernel, lock: Any) -> None:
-    """Frees the kernel of the handle, which is empty then."""
-    if not Forks.among_threads:
-        with lock:
-            library.l4_free(byref(handle))
-
-
 def _step(told: _library.l4_step) -> Optional[Step]:
     if told.kind == _library.L4_TRANSFER:
         return Transfer(told.thread, told.receiver)
@@ -175,7 +172,7 @@ def _answer(told: _library.l4_answer) -> Answer:
     return Answer(Outcome(told.outcome), tuple(told.ended[: told.ended_count]))
 
 
-class Kernel:
+class Kernel(Handle):
     """A kernel with its threads, spaces and mappings, as it boots with 1 to 4,096 frames; other numbers are refused by K6.
 
     sigma0 is thread 1 in space 0, which shows each frame at the page of its number with all rights; root is thread 2 in space 1, which
@@ -192,47 +189,8 @@ class Kernel:
     """
 
     def __init__(self, frames: int = 256) -> None:
-        Forks.check()
-        handle = _library.l4_kernel()
-        lock = threading.RLock()
-        refusal = library.l4_boot(byref(handle), number(frames, "the number of frames"))
-        if refusal:
-            raise Refused(refusal)
-        self._handle = handle
-        # one call at a time for a handle, and other threads run while a call does
-        self._lock = lock
-        self._free = weakref.finalize(self, _free, handle, lock)
+        super().__init__(_library.l4_kernel(), library.l4_boot, library.l4_free, number(frames, "the number of frames"))
         self._threads = {ThreadId.SIGMA0.number, ThreadId.ROOT.number}
-
-    def close(self) -> None:
-        """Frees the kernel with all its memory; nothing where that was done."""
-        self._free()
-
-    @property
-    def closed(self) -> bool:
-        """Whether the kernel was freed."""
-        return not self._free.alive
-
-    def __enter__(self) -> Kernel:
-        return self
-
-    def __exit__(self, *_: object) -> None:
-        self.close()
-
-    def __reduce__(self) -> Any:
-        raise TypeError("a kernel can't be copied")
-
-    def _ask(self, function: Callable[..., Any], *values: Any) -> Any:
-        """What the library answers."""
-        Forks.check()
-        with self._lock:
-            return function(byref(self._handle), *values)
-
-    def _open(self, told: Any) -> Any:
-        """What the library answered; ValueError where there is no kernel any longer."""
-        if told.refusal == _library.L4_B1:
-            raise ValueError("the kernel is closed")
-        return told
 
     def _begin(self, function: Callable[..., Any], thread: int, call: Call, *rest: Any) -> Any:
         """What the library answers to the call."""
@@ -252,17 +210,17 @@ class Kernel:
         K3, K4, then by those of the message and the window (M7, M1, M5, M2, M4 or M3; M6), of an Unmap (U2, U1), or of a control of
         threads (H1 to H6; NoMemory of a Create in a new space).
         """
-        with self._lock:
-            answer = _answer(self._open(self._begin(library.l4_start, thread, call)))
+        with self._turn:
+            answer = _answer(self._told(self._begin(library.l4_start, thread, call)))
             self._keep(call)
         return answer
 
     def enter(self, thread: int, call: Call) -> Entered:
         """Starts a call as `start` does, and then does the steps that come next until there is none."""
         steps = (_library.l4_step * MAX_THREADS)()
-        with self._lock:
+        with self._turn:
             told = self._begin(library.l4_enter, thread, call, steps, MAX_THREADS)
-            start = _answer(self._open(told.start))
+            start = _answer(self._told(told.start))
             self._keep(call)
         done = (_done(step) for step in steps[: told.step_count])
         return Entered(start, tuple(step for step in done if step))
@@ -273,22 +231,22 @@ class Kernel:
         Refused by K1 where the sender doesn't wait to send to the receiver, or the receiver not for a message of the sender.
         """
         partners = number(sender, "a thread number"), number(receiver, "a thread number")
-        return _answer(self._open(self._ask(library.l4_transfer, *partners)))
+        return _answer(self._told(self._ask(library.l4_transfer, *partners)))
 
     def expire(self, thread: int) -> Answer:
         """The thread's wait with a timeout of zero ends. Refused by K1 where it doesn't wait so."""
-        return _answer(self._open(self._ask(library.l4_expire, number(thread, "a thread number"))))
+        return _answer(self._told(self._ask(library.l4_expire, number(thread, "a thread number"))))
 
     def enabled(self) -> Optional[Step]:
         """The step that comes next where no call is started; None where no step is enabled.
 
         It is the enabled transfer whose sender waits longest, and where there is none the enabled expiry of the least number.
         """
-        return _step(self._open(self._ask(library.l4_enabled)))
+        return _step(self._told(self._ask(library.l4_enabled)))
 
     def next(self) -> Optional[Done]:
         """Does the step that `enabled` names; None where there is none, and then nothing changes."""
-        return _done(self._open(self._ask(library.l4_next)))
+        return _done(self._told(self._ask(library.l4_next)))
 
     def steps(self) -> Iterator[Done]:
         """Does the steps that come next, one after another, until there is none."""
@@ -296,7 +254,7 @@ class Kernel:
 
     def reply(self, thread: int) -> Optional[Reply]:
         """The reply of the last ended call of a thread that runs; None where it waits, isn't there, or made no call yet."""
-        told = self._open(self._ask(library.l4_reply_of, number(thread, "a thread number")))
+        told = self._told(self._ask(library.l4_reply_of, number(thread, "a thread number")))
         if told.kind == _library.L4_NONE:
             return None
         words = tuple(told.words[: told.word_count])
@@ -304,13 +262,13 @@ class Kernel:
 
     def space_of(self, thread: int) -> Optional[int]:
         """The number of a thread's space; None where there is no such thread."""
-        told = self._open(self._ask(library.l4_space_of, number(thread, "a thread number")))
+        told = self._told(self._ask(library.l4_space_of, number(thread, "a thread number")))
         return told.space if told.there else None
 
     def mapping(self, space: int, page: int) -> Optional[Mapping]:
         """What a page of a space shows; None where it isn't present, also where there is no such space or page."""
         place = number(space, "a space", 64), number(page, "a page")
-        told = self._open(self._ask(library.l4_mapping_of, *place))
+        told = self._told(self._ask(library.l4_mapping_of, *place))
         if not told.there:
             return None
         parent = Place(told.parent_space, told.parent_page) if told.has_parent else None
@@ -319,7 +277,7 @@ class Kernel:
     def next_page(self, space: int, page: int) -> Optional[int]:
         """The least present page of a space that is not below `page`; None where there is none."""
         place = number(space, "a space", 64), number(page, "a page")
-        told = self._open(self._ask(library.l4_next_page, *place))
+        told = self._told(self._ask(library.l4_next_page, *place))
         return told.page if told.there else None
 
     def mappings(self, space: int) -> Iterator[Mapping]:
@@ -336,12 +294,12 @@ class Kernel:
 
     def threads(self) -> Tuple[int, ...]:
         """The numbers of the threads, by rising number."""
-        with self._lock:
+        with self._turn:
             self._threads = {thread for thread in self._threads if self.space_of(thread) is not None}
             return tuple(sorted(self._threads))
 
     def spaces(self) -> Tuple[int, ...]:
         """The numbers of the spaces, by rising number."""
-        with self._lock:
+        with self._turn:
             found: Set[Optional[int]] = {self.space_of(thread) for thread in self.threads()}
             return tuple(sorted(space for space in found if space is not None))

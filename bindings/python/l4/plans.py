@@ -36,7 +36,7 @@ class Region:
     count: int
     rights: Rights
 
-    def _given(self) -> _library.l4_region:
+    def given(self) -> _library.l4_region:
         """What the library reads."""
         Forks.check()
         numbers = (number(getattr(self, name), name) for name in ("source", "target", "count"))
@@ -51,7 +51,7 @@ class Region:
         >>> [hex(word) for word in plan.message.words], plan.pages
         (['0x100', '0xc009', '0x40e7', '0x10008', '0x80f7'], (4, 8))
         """
-        told = library.l4_plan_region(byref(self._given()))
+        told = library.l4_plan_region(byref(self.given()))
         pages = tuple(told.pages[: told.page_count])
         if told.refusal == _library.L4_N4:
             raise TooLong(pages)
@@ -67,7 +67,7 @@ class Region:
         """
         words = [number(word, "a word") for word in words]
         pages = [number(page, "a page") for page in pages]
-        told = library.l4_check_plan(byref(self._given()), array(words), len(words), array(pages), len(pages))
+        told = library.l4_check_plan(byref(self.given()), array(words), len(words), array(pages), len(pages))
         if told.refusal:
             raise Refused(told.refusal, told.detail)
 
@@ -77,6 +77,6 @@ class Region:
         Refused, in this order, by C6, C5, C3, C4.
         """
         pages = [number(page, "a page") for page in pages]
-        told = library.l4_check_too_long(byref(self._given()), array(pages), len(pages))
+        told = library.l4_check_too_long(byref(self.given()), array(pages), len(pages))
         if told.refusal:
             raise Refused(told.refusal, told.detail)

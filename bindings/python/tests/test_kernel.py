@@ -289,17 +289,18 @@ if os.fork() == 0:
     os._exit(kernel.space_of(2) != 1)
 assert os.wait()[1] == 0
 release = threading.Event()
-threading.Thread(target=release.wait).start()
+threading.Thread(target=kernel._ask, args=(lambda _handle: release.wait(),)).start()
 if os.fork() == 0:
     signal.alarm(20)
     refused = 0
-    for call in (lambda: kernel.space_of(2), l4.Kernel, l4.Region(4, 12, 12, l4.Rights.ALL).plan):
+    start = lambda: kernel.start(1, l4.Call.receive())
+    for call in (start, kernel.spaces, kernel.enabled, l4.Kernel, l4.Region(4, 12, 12, l4.Rights.ALL).plan):
         try:
             call()
         except RuntimeError:
             refused += 1
     kernel.close()
-    os._exit(refused != 3)
+    os._exit(refused != 5)
 status = os.wait()[1]
 release.set()
 assert status == 0

@@ -222,6 +222,21 @@ structs! {
         rights: u32,
     }
 
+    struct l4_pager {
+        hidden: *mut c_void,
+    }
+
+    struct l4_message {
+        refusal: u32,
+        detail: u32,
+        word_count: u32,
+        words: [u32; L4_MAX_WORDS as usize],
+    }
+
+    struct l4_sigma0 {
+        hidden: *mut c_void,
+    }
+
     struct l4_plan {
         refusal: u32,
         word_count: u32,
@@ -251,6 +266,14 @@ functions! {
     fn l4_space_of(kernel: *mut l4_kernel, thread: u32) -> l4_space;
     fn l4_mapping_of(kernel: *mut l4_kernel, space: u64, page: u32) -> l4_mapping;
     fn l4_next_page(kernel: *mut l4_kernel, space: u64, page: u32) -> l4_page;
+    fn l4_pager_new(pager: *mut l4_pager) -> u32;
+    fn l4_pager_free(pager: *mut l4_pager) -> ();
+    fn l4_pager_add(pager: *mut l4_pager, region: *const l4_region) -> u32;
+    fn l4_pager_find(pager: *mut l4_pager, page: u32, access: u32) -> l4_page;
+    fn l4_pager_answer(pager: *mut l4_pager, words: *const u32, count: usize) -> l4_message;
+    fn l4_sigma0_new(sigma0: *mut l4_sigma0, frames: u32) -> u32;
+    fn l4_sigma0_free(sigma0: *mut l4_sigma0) -> ();
+    fn l4_sigma0_answer(sigma0: *mut l4_sigma0, space: u64, words: *const u32, count: usize) -> l4_message;
     fn l4_plan_region(region: *const l4_region) -> l4_plan;
     fn l4_check_plan(region: *const l4_region, words: *const u32, count: usize, pages: *const u32, page_count: usize) -> l4_verdict;
     fn l4_check_too_long(region: *const l4_region, pages: *const u32, page_count: usize) -> l4_verdict;
@@ -267,29 +290,76 @@ const NO_STEP: l4_step = l4_step {
     ended: [0; 2],
 };
 
-/// A kernel's handle, which holds a kernel from its making to its drop. The library writes the handle also as it is asked, so the
-/// handle stands in a cell, and no two threads share it.
-pub(crate) struct Handle {
-    cell: UnsafeCell<l4_kernel>,
+/// A handle as the header declares it: one pointer into what nobody looks into, or none.
+pub(crate) trait Hidden {
+    /// Before its making, and after its freeing.
+    const EMPTY: Self;
+
+    /// Frees what the handle holds, and leaves it empty.
+    ///
+    /// # Safety
+    ///
+    /// The handle is live, and no call on it is under way.
+    unsafe fn free(handle: *mut Self);
+}
+
+/// Names the functions that free what handles hold.
+macro_rules! hidden {
+    ($($handle:ident $free:ident;)*) => {
+        $(impl Hidden for $handle {
+            const EMPTY: $handle = $handle {
+                hidden: ptr::null_mut(),
+            };
+
+            unsafe fn free(handle: *mut $handle) {
+                // SAFETY: what this function asks is what the header asks.
+                unsafe { $free(handle) }
+            }
+        })*
+    };
+}
+
+hidden! {
+    l4_kernel l4_free;
+    l4_pager l4_pager_free;
+    l4_sigma0 l4_sigma0_free;
+}
+
+/// A handle that holds something from its making to its drop. The library writes the handle also as it is asked, so the handle stands
+/// in a cell, and no two threads share it.
+pub(crate) struct Handle<T: Hidden> {
+    cell: UnsafeCell<T>,
 }
 
 // SAFETY: the header lets a handle go from thread to thread, and what it holds belongs to no thread: its memory comes from malloc, and
 // nothing is global. It is not Sync (UnsafeCell, and a raw pointer in it): there is one call at a time for a handle.
-unsafe impl Send for Handle {}
+unsafe impl<T: Hidden> Send for Handle<T> {}
 
-impl Handle {
-    /// A kernel as it boots, or the number of the refusal.
-    pub(crate) fn boot(frames: u32) -> Result<Handle, u32> {
+impl<T: Hidden> Handle<T> {
+    /// What is made in an empty handle, or the number of the refusal.
+    fn made(make: impl FnOnce(*mut T) -> u32) -> Result<Handle<T>, u32> {
         let handle = Handle {
-            cell: UnsafeCell::new(l4_kernel {
-                hidden: ptr::null_mut(),
-            }),
+            cell: UnsafeCell::new(T::EMPTY),
         };
-        // SAFETY: the handle is empty, live and nobody else's.
-        match unsafe { l4_boot(handle.cell.get(), frames) } {
+        match make(handle.cell.get()) {
             L4_OK => Ok(handle),
             refusal => Err(refusal),
         }
+    }
+}
+
+impl<T: Hidden> Drop for Handle<T> {
+    fn drop(&mut self) {
+        // SAFETY: the handle is live and borrowed alone, and freeing leaves it empty; nobody has it after its drop.
+        unsafe { T::free(self.cell.get()) }
+    }
+}
+
+impl Handle<l4_kernel> {
+    /// A kernel as it boots, or the number of the refusal.
+    pub(crate) fn boot(frames: u32) -> Result<Handle<l4_kernel>, u32> {
+        // SAFETY: the handle that `made` gives is empty, live and nobody else's.
+        Handle::made(|handle| unsafe { l4_boot(handle, frames) })
     }
 
     pub(crate) fn start(&mut self, thread: u32, call: &l4_call, words: &[u32]) -> l4_answer {
@@ -363,10 +433,39 @@ impl Handle {
     }
 }
 
-impl Drop for Handle {
-    fn drop(&mut self) {
-        // SAFETY: the handle is live and borrowed alone, and freeing leaves it empty; nobody has it after its drop.
-        unsafe { l4_free(self.cell.get()) }
+impl Handle<l4_pager> {
+    /// A table without a region, or the number of the refusal.
+    pub(crate) fn pager() -> Result<Handle<l4_pager>, u32> {
+        // SAFETY: as in `boot`.
+        Handle::made(|handle| unsafe { l4_pager_new(handle) })
+    }
+
+    pub(crate) fn add(&mut self, region: &l4_region) -> u32 {
+        // SAFETY: the handle is live and borrowed alone, and the region lives as long as its borrow.
+        unsafe { l4_pager_add(self.cell.get(), region) }
+    }
+
+    pub(crate) fn find(&self, page: u32, access: u32) -> l4_page {
+        // SAFETY: as in `enabled`.
+        unsafe { l4_pager_find(self.cell.get(), page, access) }
+    }
+
+    pub(crate) fn answer(&self, words: &[u32]) -> l4_message {
+        // SAFETY: as in `enabled`; the words live as long as their borrow, and a slice's pointer is aligned and never null.
+        unsafe { l4_pager_answer(self.cell.get(), words.as_ptr(), words.len()) }
+    }
+}
+
+impl Handle<l4_sigma0> {
+    /// A table of frames that no space owns, or the number of the refusal.
+    pub(crate) fn sigma0(frames: u32) -> Result<Handle<l4_sigma0>, u32> {
+        // SAFETY: as in `boot`.
+        Handle::made(|handle| unsafe { l4_sigma0_new(handle, frames) })
+    }
+
+    pub(crate) fn answer(&mut self, space: u64, words: &[u32]) -> l4_message {
+        // SAFETY: the handle is live and borrowed alone, so it doesn't overlap the words, which live as long as their borrow.
+        unsafe { l4_sigma0_answer(self.cell.get(), space, words.as_ptr(), words.len()) }
     }
 }
 

@@ -147,7 +147,7 @@ pub struct Mapping {
 ///
 /// Threads go by their numbers here. A refused step changes nothing.
 pub struct Kernel {
-    handle: ffi::Handle,
+    handle: ffi::Handle<ffi::l4_kernel>,
 }
 
 impl Kernel {

@@ -50,6 +50,7 @@ mod kernel;
 mod plans;
 mod refusals;
 mod replies;
+mod tables;
 mod words;
 
 pub use calls::{Call, Ipc, Timeout};
@@ -57,6 +58,7 @@ pub use kernel::{Answer, Done, Entered, Kernel, Mapping, Mappings, Outcome, Plac
 pub use plans::{NoPlan, Plan, Region};
 pub use refusals::Refusal;
 pub use replies::{ErrorCode, Received, Reply};
+pub use tables::{Pager, Sigma0};
 pub use words::{BadFpage, Fpage, Item, Message, Rights, ThreadId, TooManyWords};
 
 /// The bytes of a page.
@@ -70,6 +72,9 @@ pub const MAX_FRAMES: u32 = ffi::L4_MAX_FRAMES;
 
 /// The greatest number of threads of a kernel.
 pub const MAX_THREADS: usize = ffi::L4_MAX_THREADS as usize;
+
+/// The greatest number of regions of a pager's table.
+pub const MAX_REGIONS: usize = ffi::L4_MAX_REGIONS as usize;
 
 /// The greatest number of words of a message, the tag among them, and of fpages of an Unmap.
 pub const MAX_WORDS: usize = ffi::L4_MAX_WORDS as usize;

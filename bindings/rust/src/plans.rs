@@ -91,7 +91,8 @@ fn judged(told: &ffi::l4_verdict) -> Result<(), Refusal> {
 }
 
 impl Region {
-    fn given(&self) -> ffi::l4_region {
+    /// What the library reads.
+    pub(crate) fn given(&self) -> ffi::l4_region {
         ffi::l4_region {
             source: self.source,
             target: self.target,

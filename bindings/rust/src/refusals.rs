@@ -90,6 +90,10 @@ refusals! {
     PageNotApart(u32) = L4_C4 "C4" "one map item could move the page at this place together with an earlier one, so the pages don't show that no list is shorter";
     PageCount = L4_C5 "C5" "more than 31 items, or not one page an item; or not 32 pages";
     RefusedRegion = L4_C6 "C6" "the region is refused by N1, N2 or N3";
+    RegionsOverlap = L4_P1 "P1" "a page of the region is one of another region of the table";
+    NotServed = L4_P2 "P2" "no region of the table has the page with this access";
+    FullTable = L4_P3 "P3" "the table has 64 regions";
+    BadRegion = L4_P4 "P4" "the region has no page, a page or source page beyond the space, or no right";
     NoMemory = L4_NO_MEMORY "NoMemory" "there was no memory for it";
 }
 

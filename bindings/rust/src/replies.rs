@@ -1,7 +1,7 @@
 //! How calls end.
 use crate::ffi;
 use crate::refusals::unknown;
-use crate::{Item, ThreadId};
+use crate::{Item, Message, ThreadId};
 use std::error::Error;
 use std::fmt;
 
@@ -93,6 +93,14 @@ impl Received {
         &self.words[..self.untyped_count()]
     }
 
+    /// The message, the tag first, as a pager's table and sigma0's are asked to answer it.
+    pub fn message(&self) -> Message {
+        let words: Vec<u32> = std::iter::once(self.tag)
+            .chain(self.words.iter().copied())
+            .collect();
+        Message::of_words(&words).unwrap_or(Message::EMPTY)
+    }
+
     /// The items.
     pub fn items(&self) -> impl Iterator<Item = Item> + '_ {
         self.words[self.untyped_count()..]
@@ -172,6 +180,7 @@ mod tests {
             words: vec![5, 0x20008, 0x100c7],
         };
         assert_eq!((received.label(), received.untyped()), (7, &[5][..]));
+        assert_eq!(received.message().words(), [0x70081, 5, 0x20008, 0x100c7]);
         let items: Vec<Item> = received.items().collect();
         assert_eq!(
             (items.len(), items[0].base(), items[0].fpage().word()),
