@@ -1,8 +1,13 @@
 -- Starts, as the machine says them.
-use Rattle.std.proofs.Common.{◌≡◌, ◌≢◌, ℕ, ◌==◌, Bool, true, false, if◌then◌else◌, not, Option, Some, None, [], ◌∷◌, Ok, MatchOption, IsTrue, IsSome, refl, sym, ap, ◌∙◌, subst}
+use Rattle.std.proofs.Common.{◌≡◌, ◌≢◌, ℕ, ◌+◌, ◌-◌, ◌==◌, List, length, take, drop, arith, Bool, true, false, if◌then◌else◌, not, Option, Some, None, [], ◌∷◌, Ok, MatchOption, IsTrue, IsSome, refl, sym, ap, ◌∙◌, subst}
 use Rattle.std.specs.Option.{option_map_or, option_map}
+use Rattle.std.specs.List.{slice_range}
 use Rattle.std.proofs.lemmas.Bool.{false≢true}
 use Rattle.l4_fpage.specs.declared.fpages.Fpage.{Fpage}
+use Rattle.l4_msg.specs.declared.items.Item.{Item}
+use Rattle.l4_msg.specs.Messages.{HasGoodTag, tag_of, typed_words}
+use Rattle.l4_msg.specs.Tags.{label_of, typed_of, untyped_of}
+use Rattle.l4_msg.specs.Words.{ItemsRead}
 use Rattle.l4_mapdb.specs.Mappings.{Mappings}
 use Rattle.l4_threads.specs.declared.Later.{Later}
 use Rattle.l4_threads.specs.declared.Receiving.{Receiving}
@@ -12,7 +17,7 @@ use Rattle.l4_threads.specs.declared.State.TheVariants.{Running, Sending as IsSe
 use Rattle.l4_threads.specs.declared.State.{State}
 use Rattle.l4_threads.specs.declared.Thread.{Thread}
 use Rattle.l4_threads.specs.declared.ThreadId.{ThreadId}
-use Rattle.l4_threads.specs.Threads.{Threads, thread_at, state_of, runs, is_running, is_receiving, may_receive, named, number_of, failed, out_of_queue, end_call}
+use Rattle.l4_threads.specs.Threads.{Threads, thread_at, state_of, runs, is_running, is_receiving, may_receive, named, number_of, failed, sending_of, out_of_queue, end_call}
 use Rattle.l4_threads.specs.Control.{created, with_pager}
 use Rattle.l4_threads.specs.Enabled.{CanExpire}
 use Rattle.l4_ipc.specs.declared.calls.Call.{Call}
@@ -20,7 +25,7 @@ use Rattle.l4_ipc.specs.declared.calls.Call.TheVariants.{Ipc}
 use Rattle.l4_ipc.specs.declared.calls.IpcCall.{IpcCall}
 use Rattle.l4_threads.specs.declared.Source.TheVariants.{Anyone, Thread as One}
 use Rattle.l4_ipc.specs.declared.next.Next.{Next}
-use Rattle.l4_ipc.specs.declared.next.Next.TheVariants.{Ends, Receives}
+use Rattle.l4_ipc.specs.declared.next.Next.TheVariants.{Ends, Sends, Receives}
 use Rattle.l4_ipc.specs.declared.sent.Sent.{Sent}
 use Rattle.l4_ipc.specs.declared.steps.Answer.{Answer}
 use Rattle.l4_ipc.specs.declared.steps.Outcome.TheVariants.{Started, Expired}
@@ -28,8 +33,9 @@ use Rattle.l4_ipc.specs.declared.steps.Refused.{Refused}
 use Rattle.l4_ipc.specs.declared.steps.Refused.TheVariants.{UnknownThread}
 use Rattle.l4_ipc.specs.declared.steps.Step.TheVariants.{Start, Expire}
 use Rattle.l4_ipc.specs.Machine.{Machine, machine}
-use Rattle.l4_ipc.specs.Start.{has_send, IsSent, IsAccepted, CallRefuses, RefusesIn, StartRefuses, later_of, ipc_next, going_on, enters, ended_by}
+use Rattle.l4_ipc.specs.Start.{has_send, send_timeout, counted_words, partner, IsSent, IsAccepted, CallRefuses, RefusesIn, StartRefuses, later_of, ipc_next, going_on, enters, ended_by}
 use Rattle.l4_ipc.specs.Inside.Entering.{CanEnter}
+use Rattle.l4_ipc.specs.Inside.Turns.{sent_of}
 use Rattle.l4_ipc.specs.Steps.{expiry, Meets, sender_next, Steps}
 use Rattle.l4_ipc.proofs.Threads.{running_thread, put_there, pager_there, has_state, state_other}
 
@@ -132,3 +138,51 @@ can_receive t n later next runs is =
       quiet (Running reply) h = refl
       quiet (IsSender sends) h = refl
       quiet (IsReceiver takes) h = absurd (false≢true h)
+
+-- A CALL WITH A SEND PHASE
+
+-- the registers that the tag counts and the items in them are what the message sends
+pub sent_by : (words seen counted : List ℕ) (items taken : List Item) → HasGoodTag words → seen ≡ words → counted ≡ counted_words words → taken ≡ items → ItemsRead (typed_words seen) items
+    → IsSent true words (sent_of counted taken)
+sent_by words seen counted items taken good same all is read = (
+  record { label = label_of (tag_of words); untyped = record { items = slice_range words 1 (1 + untyped_of (tag_of words)) }; items = record { items = items } },
+  record { whole = good.whole; flags = good.flags; even = good.even; label = refl; untyped = refl; items = subst (λ (l : List ℕ). ItemsRead (typed_words l) items) same read },
+  all,
+  λ i. record { items = is i },
+)
+
+none_typed : (words : List ℕ) → typed_of (tag_of words) ≡ 0 → ItemsRead (typed_words words) []
+none_typed words h =
+    let first : ℕ = 1 + untyped_of (tag_of words) in
+    let none : (first + typed_of (tag_of words)) - first ≡ 0 = omega arith in
+    record { count = ap (λ n. length (take n (drop first words))) none; each = λ k lt. absurd (omega (arith, lt)) }
+
+-- and without typed words there is no item
+pub sent_bare : (words counted : List ℕ) → HasGoodTag words → typed_of (tag_of words) ≡ 0 → counted ≡ counted_words words → IsSent true words (sent_of counted [])
+sent_bare words counted good none all = sent_by words words counted [] [] good refl all refl (none_typed words none)
+
+pub sends_some : (call : IpcCall) (sent : Sent) → has_send call ≡ true → IsSent true call.words.items sent → IsSent (has_send call) call.words.items sent
+sends_some call sent h is = subst (λ b. IsSent b call.words.items sent) (sym h) is
+
+then_of : {A : Type 0} (b : Bool) (x y : A) → b ≡ true → (if b then x else y) ≡ x
+then_of b x y h = ap (λ b. if b then x else y) h
+
+-- what the caller does next: it sends to its partner, where it is there
+sends_next : (t : Threads) (n : ℕ) (call : IpcCall) (words : List ℕ) (items : List Item) (window : Fpage) → has_send call ≡ true
+    → ipc_next t n call (sent_of words items) window
+    ≡ option_map_or (λ to. Sends (sending_of words items (record { to = to; expires = send_timeout call == 0x400; «then» = later_of call window; fault = false }))) (partner t n call.to) (Ends (failed false 4))
+sends_next t n call words items window h = then_of (has_send call) _ (going_on t (later_of call window) false) h
+
+pub sends_nobody : (t : Threads) (n : ℕ) (call : IpcCall) (words : List ℕ) (items : List Item) (window : Fpage) → has_send call ≡ true → None ≡ partner t n call.to
+    → Ends (failed false 4) ≡ ipc_next t n call (sent_of words items) window
+sends_nobody t n call words items window h none =
+    ap (λ o. option_map_or (λ to. Sends (sending_of words items (record { to = to; expires = send_timeout call == 0x400; «then» = later_of call window; fault = false }))) o (Ends (failed false 4))) none
+    ∙ sym (sends_next t n call words items window h)
+
+pub sends_to : (t : Threads) (n : ℕ) (call : IpcCall) (words : List ℕ) (items : List Item) (window : Fpage) (to : ℕ) (expires : Bool) (later : Option Later)
+    → has_send call ≡ true → Some to ≡ partner t n call.to → expires ≡ (send_timeout call == 0x400) → later ≡ later_of call window
+    → Sends (sending_of words items (record { to = to; expires = expires; «then» = later; fault = false })) ≡ ipc_next t n call (sent_of words items) window
+sends_to t n call words items window to expires later h there e l =
+    (λ i. Sends (sending_of words items (record { to = to; expires = e i; «then» = l i; fault = false })))
+    ∙ ap (λ o. option_map_or (λ to. Sends (sending_of words items (record { to = to; expires = send_timeout call == 0x400; «then» = later_of call window; fault = false }))) o (Ends (failed false 4))) there
+    ∙ sym (sends_next t n call words items window h)

@@ -2,3 +2,4 @@ pub mod Delivering
 pub mod Entering
 pub mod Kept
 pub mod Sound
+pub mod Turns

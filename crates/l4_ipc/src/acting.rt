@@ -1,12 +1,15 @@
 //! The steps on the kernel's parts.
-ghost use Rattle.std.specs.Prelude.{◌≡◌, ◌∷◌, [], ℕ, false, IsTrue, IsSome, OnOk, OnErr};
+ghost use Rattle.std.specs.Prelude.{◌≡◌, ◌≤◌, ◌++◌, ◌∷◌, [], ℕ, length, true, false, IsTrue, IsSome, OnOk, OnErr};
 ghost use Rattle.l4_mapdb.specs.Mappings.{Mappings};
 ghost use Rattle.l4_threads.specs.Threads.{state_of, runs, end_call};
 ghost use Rattle.l4_threads.specs.declared.Reply.TheVariants.{Controlled};
 ghost use Rattle.l4_ipc.specs.Machine.{machine};
 ghost use Rattle.l4_threads.specs.Control.{asks_new};
 ghost use Rattle.l4_ipc.specs.Inside.Sound.{HaveSpaces};
-ghost use Rattle.l4_ipc.specs.Start.{has_send};
+ghost use Rattle.l4_msg.specs.Messages.{HasGoodTag, tag_of};
+ghost use Rattle.l4_msg.specs.Tags.{TagReads};
+ghost use Rattle.l4_ipc.specs.Start.{has_send, has_bad_timeout, IsSent};
+ghost use Rattle.l4_ipc.specs.Inside.Turns.{reply_of, ended_if, sent_of};
 ghost use Rattle.l4_ipc.specs.Steps.{expiry, with_space, Steps};
 ghost use Rattle.l4_ipc.specs.declared.steps.Step.TheVariants.{Start, Transfer as Transfers, Expire as Expires};
 ghost use Rattle.l4_ipc.specs.declared.steps.Outcome.TheVariants.{Started};
@@ -15,22 +18,40 @@ ghost use Rattle.l4_ipc.specs.declared.calls.Control.TheVariants.{Create as Crea
 
 use crate::calls::{Call, Control, Create, FaultCall, IpcCall, SetPager, UnmapCall};
 use crate::deleting::delete;
-use crate::delivering::{deliver, is_done, meet, receiver_reply, sender_next};
-use crate::faulting::fault_next;
-use crate::starting::{enter, going_on, ipc_next};
+use crate::delivering::{
+    deliver, end_receiver, is_done, meet, receiver_ending, sender_turn, tag_and_rest,
+};
+use crate::faulting::enter_fault;
+use crate::starting::{end, enter, going_on, partner};
 use crate::steps::{Answer, Lower, Outcome, Refused};
+use crate::turns::Ending;
 use arrayvec::ArrayVec;
 use l4_mapdb::{Forest, NoMemory};
-use l4_threads::{MAX_THREADS, Reply, State, Threads};
+use l4_msg::{Item, MAX_WORDS, Message, Tag, copied};
+use l4_threads::{Envelope, MAX_THREADS, Reply, SendPhase, State, Threads};
 use l4_unmap::unmap;
 
-/// A list of one thread.
-fn only(number: u32) -> ArrayVec<u32, MAX_THREADS>
-    ensures { result.items ≡ number ∷ [] }
+/// A list of one thread, where its call ends.
+fn list_if(ends: bool, number: u32) -> ArrayVec<u32, MAX_THREADS>
+    ensures items { result.items ≡ ended_if ends number }
+    ensures few { length result.items ≤ 1 }
 {
     let mut list = ArrayVec::new();
-    list.push(number);
+    if ends {
+        list.push(number);
+    }
     list
+}
+
+/// The answer of a call that was entered, in which this thread's call ended or none did.
+fn started(ends: bool, number: u32) -> Answer
+    ensures outcome { result.outcome ≡ Started }
+    ensures ended { result.ended.items ≡ ended_if ends number }
+{
+    Answer {
+        outcome: Outcome::Started,
+        ended: list_if(ends, number),
+    }
 }
 
 /// Starts an Ipc without a send phase of a running thread: of the message, nothing is read.
@@ -46,12 +67,70 @@ fn start_receive(threads: &mut Threads, number: u32, call: &IpcCall) -> Result<A
         Ok(window) => window,
         Err(fault) => return Err(Refused::Lower(Lower::Message(fault))),
     };
-    let next = going_on(threads, call.later(window), false);
-    let ended = enter(threads, number, next);
-    Ok(Answer {
-        outcome: Outcome::Started,
-        ended,
-    })
+    let turn = going_on(threads, call.later(window), false);
+    let ends = enter(threads, number, turn);
+    Ok(started(ends, number))
+}
+
+/// Starts the send phase of a running thread's Ipc, with the registers of its message and the items in them.
+fn start_message(
+    threads: &mut Threads,
+    number: u32,
+    call: &IpcCall,
+    words: &[u32],
+    items: &[Item],
+) -> Result<Answer, Refused>
+    requires running { IsTrue (runs threads.old number) }
+    requires timely { has_bad_timeout call.now ≡ false }
+    requires sends { has_send call.now ≡ true }
+    requires sent { IsSent true call.now.words.items (sent_of words.now items.now) }
+    requires words { length words.now ≤ 64 }
+    requires items { length items.now ≤ 31 }
+    ensures { (s : Mappings) → Steps (machine threads.old s) (Start number (Ipc call.now)) result (machine threads.new s) }
+{
+    let window = match call.window() {
+        Ok(window) => window,
+        Err(fault) => return Err(Refused::Lower(Lower::Message(fault))),
+    };
+    let Some(to) = partner(threads, number, call.to) else {
+        end(threads, number, Ending::Failed(false, 4));
+        return Ok(started(true, number));
+    };
+    let phase = SendPhase {
+        to,
+        expires: call.sends_at_once(),
+        then: call.later(window),
+        fault: false,
+    };
+    threads.start_message(number, words, items, phase);
+    Ok(started(false, number))
+}
+
+/// Starts the send phase of a running thread's Ipc whose message has items.
+fn start_items(
+    threads: &mut Threads,
+    number: u32,
+    call: &IpcCall,
+    tag: &Tag,
+) -> Result<Answer, Refused>
+    requires running { IsTrue (runs threads.old number) }
+    requires timely { has_bad_timeout call.now ≡ false }
+    requires sends { has_send call.now ≡ true }
+    requires good { HasGoodTag call.now.words.items }
+    requires tag { TagReads (tag_of call.now.words.items) tag.now }
+    ensures { (s : Mappings) → Steps (machine threads.old s) (Start number (Ipc call.now)) result (machine threads.new s) }
+{
+    let items = match Message::read_typed(call.words.as_slice(), tag) {
+        Ok(items) => items,
+        Err(fault) => return Err(Refused::Lower(Lower::Message(fault))),
+    };
+    start_message(
+        threads,
+        number,
+        call,
+        call.counted_words(tag),
+        items.as_slice(),
+    )
 }
 
 /// Starts an Ipc of a running thread.
@@ -62,16 +141,17 @@ fn start_ipc(threads: &mut Threads, number: u32, call: &IpcCall) -> Result<Answe
     if !call.has_send() {
         return start_receive(threads, number, call);
     }
-    let (sent, window) = match call.read() {
-        Ok(read) => read,
-        Err(refused) => return Err(refused),
+    if call.has_bad_timeout() {
+        return Err(Refused::BadTimeout);
+    }
+    let tag = match Message::read_tag(call.words.as_slice()) {
+        Ok(tag) => tag,
+        Err(fault) => return Err(Refused::Lower(Lower::Message(fault))),
     };
-    let next = ipc_next(threads, number, call, sent, window);
-    let ended = enter(threads, number, next);
-    Ok(Answer {
-        outcome: Outcome::Started,
-        ended,
-    })
+    if tag.typed == 0 {
+        return start_message(threads, number, call, call.counted_words(&tag), &[]);
+    }
+    start_items(threads, number, call, &tag)
 }
 
 /// Starts a page fault of a running thread.
@@ -87,12 +167,9 @@ fn start_fault(
     let Some(thread) = threads.thread(number) else {
         return Err(Refused::UnknownThread);
     };
-    let next = fault_next(threads, forest, number, thread.space, thread.pager, call);
-    let ended = enter(threads, number, next);
-    Ok(Answer {
-        outcome: Outcome::Started,
-        ended,
-    })
+    let (space, pager) = (thread.space, thread.pager);
+    let ends = enter_fault(threads, forest, number, space, pager, call);
+    Ok(started(ends, number))
 }
 
 /// Takes rights away for a running thread.
@@ -112,10 +189,7 @@ fn start_unmap(
         return Err(Refused::Lower(Lower::Unmap(fault)));
     }
     threads.end_call(number, Reply::Unmapped);
-    Ok(Answer {
-        outcome: Outcome::Started,
-        ended: only(number),
-    })
+    Ok(started(true, number))
 }
 
 /// The call of a control of threads ends, and no other call.
@@ -126,10 +200,7 @@ fn controlled(threads: &mut Threads, number: u32) -> Answer
     ensures ended { result.ended.items ≡ number ∷ [] }
 {
     threads.end_call(number, Reply::Controlled);
-    Answer {
-        outcome: Outcome::Started,
-        ended: only(number),
-    }
+    started(true, number)
 }
 
 /// Begins the space of a new thread, where the thread isn't put in the space of another.
@@ -238,22 +309,30 @@ pub fn transfer(
         &meeting.takes.window,
     );
     let done = is_done(outcome);
-    let reply = receiver_reply(done, meeting.from, meeting.sends, meeting.takes);
-    let next = sender_next(done, threads, meeting.sends);
-    threads.end_call(receiver, reply);
-    let mut ended = enter(threads, sender, next);
+    let (tag, rest) = tag_and_rest(meeting.sends.words.as_slice());
+    let words: ArrayVec<u32, MAX_WORDS> = copied(rest);
+    let envelope = Envelope {
+        tag,
+        error: 0,
+        from: meeting.from.id,
+    };
+    let ending = receiver_ending(done, meeting.takes);
+    let turn = sender_turn(done, threads, meeting.sends);
+    end_receiver(threads, receiver, ending, envelope, words.as_slice());
+    let ends = enter(threads, sender, turn);
+    let mut ended = list_if(ends, sender);
     ended.push(receiver);
     Ok(Answer { outcome, ended })
 }
 
-/// What a call that expires replies.
-fn expiry(state: &State) -> Reply
-    ensures { result ≡ expiry state.now }
+/// How a call that expires ends.
+fn expiry(state: &State) -> Ending
+    ensures { reply_of result ≡ expiry state.now }
 {
     match state {
-        State::Running(_) => Reply::failed(false, 0),
-        State::Sending(sending) => Reply::failed(sending.fault, 2),
-        State::Receiving(receiving) => Reply::failed(receiving.fault, 3),
+        State::Running(_) => Ending::Failed(false, 0),
+        State::Sending(sending) => Ending::Failed(sending.fault, 2),
+        State::Receiving(receiving) => Ending::Failed(receiving.fault, 3),
     }
 }
 
@@ -267,10 +346,10 @@ pub fn expire(threads: &mut Threads, number: u32) -> Result<Answer, Refused>
     let Some(state) = threads.state(number) else {
         return Err(Refused::NotEnabled);
     };
-    let reply = expiry(state);
-    threads.end_call(number, reply);
+    let ending = expiry(state);
+    end(threads, number, ending);
     Ok(Answer {
         outcome: Outcome::Expired,
-        ended: only(number),
+        ended: list_if(true, number),
     })
 }

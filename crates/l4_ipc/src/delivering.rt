@@ -1,21 +1,26 @@
 //! Transfers: what a message's items do, and what its two threads do next.
-ghost use Rattle.std.specs.Prelude.{◌≡◌, ◌≢◌, ◌≤◌, ◌↔◌, [], length, IsTrue, MatchOption};
+ghost use Rattle.std.specs.Prelude.{◌≡◌, ◌≢◌, ◌≤◌, ◌↔◌, [], length, drop, slice_index, IsTrue, IsSome, MatchOption};
 ghost use Rattle.std.specs.List.{AllZip};
 ghost use Rattle.std.specs.FinSet as set;
 ghost use Rattle.l4_fpage.specs.declared.fpages.Fpage.TheVariants.{Nil as NilFpage};
 ghost use Rattle.l4_threads.specs.Enabled.{IsFirstSender};
 ghost use Rattle.l4_ipc.specs.Moving.{Moves};
 ghost use Rattle.l4_ipc.specs.Inside.Delivering.{IsListed, outcome_of};
-ghost use Rattle.l4_ipc.specs.Steps.{Meets, received, receiver_reply, sender_next, is_done};
+ghost use Rattle.l4_ipc.specs.Inside.Turns.{reply_or, next_of, message_reply};
+ghost use Rattle.l4_ipc.specs.Steps.{Meets, receiver_reply, sender_next, is_done};
+ghost use Rattle.l4_threads.specs.Threads.{state_of, end_call, message_of};
+ghost use Rattle.l4_threads.specs.declared.Reply.TheVariants.{Ipc};
+ghost use Rattle.l4_threads.specs.declared.Sending.{Sending as ASending};
+ghost use Rattle.l4_threads.specs.declared.Thread.{Thread as AThread};
 
-use crate::next::Next;
-use crate::starting::going_on;
+use crate::starting::{end, going_on};
 use crate::steps::Outcome;
+use crate::turns::{Ending, Turn};
 use arrayvec::ArrayVec;
 use l4_fpage::{Block, Fpage, Rights};
 use l4_mapdb::{Cause, Forest, ItemMove};
-use l4_msg::{Item, MAX_ITEMS, Move, copied, item_moves};
-use l4_threads::{IpcReply, Receiving, Reply, Sending, State, Thread, Threads};
+use l4_msg::{Item, MAX_ITEMS, Move, item_moves};
+use l4_threads::{Envelope, Receiving, Sending, State, Thread, Threads};
 
 /// The two threads of an enabled transfer, and what each does.
 #[derive(Clone, Copy)]
@@ -56,45 +61,56 @@ pub fn is_done(outcome: Outcome) -> bool
     outcome == Outcome::Done
 }
 
-/// What the receiver's call replies where the message was delivered.
-fn received(from: &Thread, sends: &Sending, takes: &Receiving) -> Reply
-    ensures { result ≡ received from.now sends.now takes.now }
+/// The tag of a message's words, and those after it.
+pub fn tag_and_rest(words: &[u32]) -> (u32, &[u32])
+    ensures tag { result.0 ≡ slice_index words.now 0 }
+    ensures rest { result.1.now ≡ drop 1 words.now }
 {
-    if takes.fault {
-        return Reply::Answered;
-    }
-    let words = sends.words.as_slice();
-    let (tag, rest) = match words {
+    match words {
         [] => (0, words),
         [tag, rest @ ..] => (*tag, rest),
-    };
-    Reply::Ipc(IpcReply {
-        tag,
-        error: 0,
-        from: from.id,
-        words: copied(rest),
-    })
+    }
 }
 
-/// What the receiver's call replies.
-pub fn receiver_reply(done: bool, from: &Thread, sends: &Sending, takes: &Receiving) -> Reply
-    ensures { result ≡ receiver_reply done from.now sends.now takes.now }
+/// How the receiver's call ends; None where it replies the message.
+pub fn receiver_ending(done: bool, takes: &Receiving) -> Option<Ending>
+    ensures { (from : AThread) (sends : ASending) → reply_or result (message_reply from sends) ≡ receiver_reply done from sends takes.now }
 {
-    if done {
-        received(from, sends, takes)
-    } else {
-        Reply::failed(takes.fault, 9)
+    if !done {
+        return Some(Ending::Failed(takes.fault, 9));
+    }
+    if takes.fault {
+        return Some(Ending::Answered);
+    }
+    None
+}
+
+/// The receiver's call ends, and where nothing else is said with these words.
+pub fn end_receiver(
+    threads: &mut Threads,
+    receiver: u32,
+    ending: Option<Ending>,
+    envelope: Envelope,
+    words: &[u32],
+)
+    requires there { IsSome (state_of threads.old receiver) }
+    requires words { length words.now ≤ 64 }
+    ensures { threads.new ≡ end_call threads.old receiver (reply_or ending (Ipc (message_of envelope words.now))) }
+{
+    match ending {
+        Some(ending) => end(threads, receiver, ending),
+        None => threads.end_ipc(receiver, envelope, words),
     }
 }
 
 /// What the sender does next.
-pub fn sender_next(done: bool, threads: &Threads, sends: &Sending) -> Next
-    ensures { result ≡ sender_next done threads.now sends.now }
+pub fn sender_turn(done: bool, threads: &Threads, sends: &Sending) -> Turn
+    ensures { next_of result ≡ sender_next done threads.now sends.now }
 {
     if done {
         going_on(threads, sends.then, sends.fault)
     } else {
-        Next::Ends(Reply::failed(sends.fault, 8))
+        Turn::Ends(Ending::Failed(sends.fault, 8))
     }
 }
 

@@ -1,16 +1,19 @@
 //! What a thread does as it faults at a page.
-ghost use Rattle.std.specs.Prelude.{◌≡◌};
+ghost use Rattle.std.specs.Prelude.{◌≡◌, IsTrue};
 ghost use Rattle.l4_mapdb.specs.Mappings.{rights_at};
-ghost use Rattle.l4_ipc.specs.Start.{has_page, fault_words, fault_next};
+ghost use Rattle.l4_threads.specs.Threads.{runs};
+ghost use Rattle.l4_ipc.specs.Start.{has_page, fault_words, fault_next, enters, ended_by};
+ghost use Rattle.l4_ipc.specs.Inside.Turns.{next_of_fault, ended_if};
+ghost use Rattle.l4_ipc.specs.declared.turns.FaultTurn.TheVariants.{Tells};
 
 use crate::calls::FaultCall;
-use crate::next::Next;
-use crate::starting::partner;
+use crate::starting::{end, partner};
+use crate::turns::{Ending, FaultTurn};
 use arrayvec::ArrayVec;
 use l4_fpage::{Fpage, PAGE_LOG, Rights};
 use l4_mapdb::Forest;
 use l4_msg::{MAX_WORDS, PageFault};
-use l4_threads::{Later, Reply, Sending, ThreadId, Threads};
+use l4_threads::{Later, SendPhase, ThreadId, Threads};
 
 /// The rights of a page, none where it is not present.
 fn rights_at(forest: &Forest, space: u64, page: u32) -> Rights
@@ -43,32 +46,65 @@ fn fault_words(call: &FaultCall) -> ArrayVec<u32, MAX_WORDS>
 }
 
 /// What a thread does as it faults: its call is a hit where the page is there, and else it sends to its pager and then waits for it.
-pub fn fault_next(
+fn fault_turn(
     threads: &Threads,
     forest: &Forest,
     number: u32,
     space: u64,
     pager: ThreadId,
     call: &FaultCall,
-) -> Next
-    ensures { result ≡ fault_next threads.now forest.now number space pager call.now }
+) -> FaultTurn
+    ensures { next_of_fault pager call.now result ≡ fault_next threads.now forest.now number space pager call.now }
 {
     if has_page(forest, space, call) {
-        return Next::Ends(Reply::Hit);
+        return FaultTurn::Ends(Ending::Hit);
     }
     match partner(threads, number, pager) {
-        Some(to) => Next::Sends(Sending {
-            words: fault_words(call),
-            items: ArrayVec::new(),
-            to,
+        Some(to) => FaultTurn::Tells(to),
+        None => FaultTurn::Ends(Ending::Failed(true, 4)),
+    }
+}
+
+/// Tells the fault of a running thread to its pager.
+fn tell(threads: &mut Threads, number: u32, pager: ThreadId, call: &FaultCall, to: u32)
+    requires { IsTrue (runs threads.old number) }
+    ensures { threads.new ≡ enters threads.old number (next_of_fault pager call.now (Tells to)) }
+{
+    let words = fault_words(call);
+    let phase = SendPhase {
+        to,
+        expires: false,
+        then: Some(Later {
+            from: pager,
+            window: Fpage::Complete(Rights::all()),
             expires: false,
-            then: Some(Later {
-                from: pager,
-                window: Fpage::Complete(Rights::all()),
-                expires: false,
-            }),
-            fault: true,
         }),
-        None => Next::Ends(Reply::failed(true, 4)),
+        fault: true,
+    };
+    threads.start_message(number, words.as_slice(), &[], phase);
+}
+
+/// A running thread of this space and pager faults. Whether its call ended.
+pub fn enter_fault(
+    threads: &mut Threads,
+    forest: &Forest,
+    number: u32,
+    space: u64,
+    pager: ThreadId,
+    call: &FaultCall,
+) -> bool
+    requires { IsTrue (runs threads.old number) }
+    ensures threads { threads.new ≡ enters threads.old number (fault_next threads.old forest.now number space pager call.now) }
+    ensures ended { ended_if result number ≡ ended_by number (fault_next threads.old forest.now number space pager call.now) }
+{
+    match fault_turn(threads, forest, number, space, pager, call) {
+        FaultTurn::Ends(ending) => {
+            end(threads, number, ending);
+            true
+        }
+        FaultTurn::Tells(to) => {
+            tell(threads, number, pager, call, to);
+            false
+        }
     }
 }

@@ -14,6 +14,7 @@ mod reading;
 mod sent;
 mod starting;
 mod steps;
+mod turns;
 
 pub use arrayvec::ArrayVec;
 pub use calls::{Call, Control, Create, FaultCall, IpcCall, SetPager, UnmapCall};

@@ -1,15 +1,13 @@
 //! What the words of an Ipc say, and which of them are refused.
-ghost use Rattle.std.specs.Prelude.{◌≡◌, ◌==◌, ◌<◌, ◌≤◌, ◌+◌, true, length, IfOk, IfErr, IsOk, MatchResult};
-ghost use Rattle.l4_msg.specs.Messages.{MessageFails, IsWhole};
+ghost use Rattle.std.specs.Prelude.{◌≡◌, ◌==◌, ◌≤◌, true, length, IfOk, IfErr, IsOk};
+ghost use Rattle.l4_msg.specs.Messages.{IsWhole, tag_of};
+ghost use Rattle.l4_msg.specs.Tags.{TagReads};
 ghost use Rattle.l4_ipc.specs.Start.{is_timeout};
 
 use crate::calls::IpcCall;
 use crate::constructors::ZERO_TIMEOUT;
-use crate::sent::Sent;
-use crate::steps::{Lower, Refused};
-use arrayvec::ArrayVec;
 use l4_fpage::Fpage;
-use l4_msg::{Acceptor, Item, MAX_WORDS, Message, MsgFault, Tag, copied};
+use l4_msg::{Acceptor, MsgFault, Tag};
 use l4_threads::Later;
 
 /// Whether a timeout is never or zero.
@@ -20,9 +18,8 @@ fn is_timeout(timeout: u32) -> bool
 }
 
 impl IpcCall {
-    ghost use Rattle.l4_ipc.specs.Start.{has_send, has_receive, send_timeout, receive_timeout, has_bad_timeout, counted_words, later_of, IsSent, IsWindow, IsAccepted, IpcRefuses};
+    ghost use Rattle.l4_ipc.specs.Start.{has_send, has_receive, send_timeout, receive_timeout, has_bad_timeout, counted_words, later_of, IsWindow};
     ghost use Rattle.l4_msg.specs.Words.{IsBadWindow};
-    ghost use Rattle.l4_ipc.specs.declared.sent.Sent.{Sent as ASent};
     ghost use Rattle.l4_fpage.specs.declared.fpages.Fpage.{Fpage as AnFpage};
 
     /// Whether there is a send phase.
@@ -69,32 +66,14 @@ impl IpcCall {
     }
 
     /// The registers of the message that the words begin with.
-    fn counted_words(&self) -> ArrayVec<u32, MAX_WORDS>
-        requires { IsWhole self.now.words.items }
-        ensures { result.items ≡ counted_words self.now.words.items }
+    pub(crate) fn counted_words(&self, tag: &Tag) -> &[u32]
+        requires whole { IsWhole self.now.words.items }
+        requires tag { TagReads (tag_of self.now.words.items) tag.now }
+        ensures value { result.now ≡ counted_words self.now.words.items }
+        ensures fits { length result.now ≤ 64 }
     {
         let words = self.words.as_slice();
-        let tag = Tag::read(words[0]);
-        copied(&words[..1 + usize::from(tag.untyped) + usize::from(tag.typed)])
-    }
-
-    /// What the send phase sends; nothing without one.
-    fn sent(&self) -> Result<Sent, MsgFault>
-        ensures ok { IfOk result (IsSent (has_send self.now) self.now.words.items) }
-        ensures err { IfErr result (λ fault. (has_send self.now ≡ true) × MessageFails self.now.words.items fault) }
-        ensures only { (other : ASent) → IsSent (has_send self.now) self.now.words.items other → MatchResult result (λ sent. sent.items.items ≡ other.items.items) (λ _. ⊥) }
-    {
-        if !self.has_send() {
-            return Ok(Sent {
-                words: ArrayVec::new(),
-                items: ArrayVec::new(),
-            });
-        }
-        let message = Message::read(self.words.as_slice())?;
-        Ok(Sent {
-            words: self.counted_words(),
-            items: message.items,
-        })
+        &words[..1 + usize::from(tag.untyped) + usize::from(tag.typed)]
     }
 
     /// The receive window; nil without a receive phase.
@@ -107,25 +86,6 @@ impl IpcCall {
             return Ok(Fpage::Nil);
         }
         Acceptor::read(self.acceptor)
-    }
-
-    /// What the phases bring, or the first refusal: K4, then of the message, then of the window.
-    pub(crate) fn read(&self) -> Result<(Sent, Fpage), Refused>
-        ensures ok { IfOk result (λ r. IsAccepted self.now r.0 r.1) }
-        ensures err { IfErr result (IpcRefuses self.now) }
-        ensures only { (sent : ASent) (window : AnFpage) → IsAccepted self.now sent window → MatchResult result (λ r. r.0.items.items ≡ sent.items.items) (λ _. ⊥) }
-    {
-        if self.has_bad_timeout() {
-            return Err(Refused::BadTimeout);
-        }
-        let sent = match self.sent() {
-            Ok(sent) => sent,
-            Err(fault) => return Err(Refused::Lower(Lower::Message(fault))),
-        };
-        match self.window() {
-            Ok(window) => Ok((sent, window)),
-            Err(fault) => Err(Refused::Lower(Lower::Message(fault))),
-        }
     }
 
     /// The receive phase that is still to begin.

@@ -1,30 +1,30 @@
 //! What a thread does next as a call starts or goes on.
-ghost use Rattle.std.specs.Prelude.{◌≡◌, ◌<◌, ◌≤◌, length};
-ghost use Rattle.l4_ipc.specs.Start.{receiving, going_on, partner, ipc_next, enters, ended_by};
+ghost use Rattle.std.specs.Prelude.{◌≡◌, IsSome, []};
+ghost use Rattle.l4_threads.specs.Threads.{nilthread, state_of, end_call};
+ghost use Rattle.l4_threads.specs.declared.Reply.TheVariants.{Ipc};
+ghost use Rattle.l4_ipc.specs.Start.{receiving, going_on, partner, enters, ended_by};
 ghost use Rattle.l4_ipc.specs.Inside.Entering.{CanEnter};
+ghost use Rattle.l4_ipc.specs.Inside.Turns.{reply_of, next_of, ended_if};
 
-use crate::calls::IpcCall;
-use crate::next::Next;
-use crate::sent::Sent;
-use arrayvec::ArrayVec;
-use l4_fpage::Fpage;
-use l4_threads::{
-    IpcReply, Later, MAX_THREADS, Receiving, Reply, Sending, Source, ThreadId, Threads,
-};
+use crate::turns::{Ending, Turn};
+use l4_threads::{Envelope, Later, Receiving, Reply, Source, ThreadId, Threads};
+
+/// The tag of an Ipc that failed.
+const ERROR_TAG: u32 = 0x8000;
 
 /// What a thread does as its receive phase begins.
-fn receiving(threads: &Threads, later: Later, fault: bool) -> Next
-    ensures { result ≡ receiving threads.now later fault }
+fn receiving(threads: &Threads, later: Later, fault: bool) -> Turn
+    ensures { next_of result ≡ receiving threads.now later fault }
 {
     let from = if later.from.0 == ThreadId::any().0 {
         Source::Anyone
     } else {
         match threads.named(later.from) {
             Some(number) => Source::Thread(number),
-            None => return Next::Ends(Reply::failed(fault, 5)),
+            None => return Turn::Ends(Ending::Failed(fault, 5)),
         }
     };
-    Next::Receives(Receiving {
+    Turn::Receives(Receiving {
         from,
         window: later.window,
         expires: later.expires,
@@ -33,17 +33,12 @@ fn receiving(threads: &Threads, later: Later, fault: bool) -> Next
 }
 
 /// What a thread does once it has sent, or where there is nothing to send.
-pub fn going_on(threads: &Threads, later: Option<Later>, fault: bool) -> Next
-    ensures { result ≡ going_on threads.now later fault }
+pub fn going_on(threads: &Threads, later: Option<Later>, fault: bool) -> Turn
+    ensures { next_of result ≡ going_on threads.now later fault }
 {
     match later {
         Some(later) => receiving(threads, later, fault),
-        None => Next::Ends(Reply::Ipc(IpcReply {
-            tag: 0,
-            error: 0,
-            from: ThreadId::nil(),
-            words: ArrayVec::new(),
-        })),
+        None => Turn::Ends(Ending::Plain),
     }
 }
 
@@ -61,42 +56,47 @@ pub fn partner(threads: &Threads, caller: u32, id: ThreadId) -> Option<u32>
     Some(number)
 }
 
-/// What a thread does as an Ipc starts.
-pub fn ipc_next(threads: &Threads, number: u32, call: &IpcCall, sent: Sent, window: Fpage) -> Next
-    ensures { result ≡ ipc_next threads.now number call.now sent window }
+/// The thread's Ipc ends with no words, with this tag and ErrorCode.
+fn end_bare(threads: &mut Threads, number: u32, tag: u32, error: u32)
+    requires { IsSome (state_of threads.old number) }
+    ensures { threads.new ≡ end_call threads.old number (Ipc (record { tag = tag; error = error; «from» = nilthread; words = record { items = [] } })) }
 {
-    let later = call.later(window);
-    if !call.has_send() {
-        return going_on(threads, later, false);
-    }
-    match partner(threads, number, call.to) {
-        Some(to) => Next::Sends(Sending {
-            words: sent.words,
-            items: sent.items,
-            to,
-            expires: call.sends_at_once(),
-            then: later,
-            fault: false,
-        }),
-        None => Next::Ends(Reply::failed(false, 4)),
+    let envelope = Envelope {
+        tag,
+        error,
+        from: ThreadId::nil(),
+    };
+    threads.end_ipc(number, envelope, &[]);
+}
+
+/// The thread's call ends.
+pub fn end(threads: &mut Threads, number: u32, ending: Ending)
+    requires { IsSome (state_of threads.old number) }
+    ensures { threads.new ≡ end_call threads.old number (reply_of ending) }
+{
+    match ending {
+        Ending::Plain => end_bare(threads, number, 0, 0),
+        Ending::Failed(false, code) => end_bare(threads, number, ERROR_TAG, code),
+        Ending::Failed(true, code) => threads.end_call(number, Reply::FaultFailed(code)),
+        Ending::Answered => threads.end_call(number, Reply::Answered),
+        Ending::Hit => threads.end_call(number, Reply::Hit),
     }
 }
 
-/// The thread does this next. The list holds the thread if its call ended.
-pub fn enter(threads: &mut Threads, number: u32, next: Next) -> ArrayVec<u32, MAX_THREADS>
-    requires { CanEnter threads.old number next }
-    ensures threads { threads.new ≡ enters threads.old number next }
-    ensures ended { result.items ≡ ended_by number next }
-    ensures few { length result.items ≤ 1 }
+/// The thread does this next. Whether its call ended.
+pub fn enter(threads: &mut Threads, number: u32, turn: Turn) -> bool
+    requires { CanEnter threads.old number (next_of turn) }
+    ensures threads { threads.new ≡ enters threads.old number (next_of turn) }
+    ensures ended { ended_if result number ≡ ended_by number (next_of turn) }
 {
-    let mut ended = ArrayVec::new();
-    match next {
-        Next::Ends(reply) => {
-            threads.end_call(number, reply);
-            ended.push(number);
+    match turn {
+        Turn::Ends(ending) => {
+            end(threads, number, ending);
+            true
         }
-        Next::Sends(sending) => threads.start_send(number, sending),
-        Next::Receives(receiving) => threads.start_receive(number, receiving),
+        Turn::Receives(receiving) => {
+            threads.start_receive(number, receiving);
+            false
+        }
     }
-    ended
 }

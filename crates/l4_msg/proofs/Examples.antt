@@ -1,6 +1,6 @@
 -- Small cases of the definitions over regions: of each main one, one that it holds of, and one that it doesn't.
 use Rattle.std.proofs.Common.{◌≡◌, ℕ, zero, suc, ◌+◌, ◌-◌, ◌^◌, ◌%◌, ◌<◌, ◌≤◌, List, [], ◌∷◌, refl, sym, subst, lit≤, lit<, arith, slice_index_or}
-use Rattle.std.specs.List.{Any, All}
+use Rattle.std.specs.List.{Any}
 use Rattle.std.proofs.lemmas.List.Elements.{All-nil, All-cons}
 use Rattle.std.proofs.lemmas.List.Kept.{AllPairs-cons}
 use Rattle.l4_fpage.specs.Rights.{all_rights}

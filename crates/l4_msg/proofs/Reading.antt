@@ -6,7 +6,7 @@ use Rattle.std.proofs.lemmas.Bool.{cases_lt}
 use Rattle.l4_fpage.specs.declared.fpages.Fpage.{Fpage}
 use Rattle.l4_fpage.specs.declared.fpages.Fpage.TheVariants.{Nil}
 use Rattle.l4_fpage.proofs.Same.{reads_same, malformed_reads_none}
-use Rattle.l4_msg.specs.Words.{ItemReads, ItemFails, ItemsRead, FirstFails, WindowReads, IsBadWindow}
+use Rattle.l4_msg.specs.Words.{ItemReads, ItemFails, ItemsRead, FirstFails, WindowReads}
 use Rattle.l4_msg.specs.Tags.{untyped_of, typed_of}
 use Rattle.l4_msg.specs.Moves.{base_of}
 use Rattle.l4_msg.specs.Messages.{CanBeWritten, tag_of, IsWhole, MessageReads, MessageFails, typed_words}

@@ -1,6 +1,6 @@
 -- The messages of two protocols: the page fault, and the request for frames that sigma0 answers (L4 X.2 manual, page fault
 -- protocol and sigma0 protocol; the labels are this profile's own).
-use Rattle.std.specs.Prelude.{◌≡◌, ℕ, ◌+◌, ◌*◌, List, [], ◌∷◌, Some}
+use Rattle.std.specs.Prelude.{◌≡◌, ℕ, ◌+◌, ◌*◌, [], ◌∷◌, Some}
 use Rattle.l4_fpage.specs.Rights.{RightsSet, bits_of}
 use Rattle.l4_fpage.specs.Fpages.{bytes_of, rights_of}
 use Rattle.l4_fpage.specs.declared.fpages.Fpage.{Fpage}

@@ -54,7 +54,9 @@ pub fn copied<const N: usize>(words: &[u32]) -> ArrayVec<u32, N>
 }
 
 impl Message {
-    ghost use Rattle.l4_msg.specs.Messages.{MessageReads, MessageFails, CanBeWritten, message_words, item_word};
+    ghost use Rattle.l4_msg.specs.Messages.{MessageReads, MessageFails, HasGoodTag, CanBeWritten, tag_of, typed_words, message_words, item_word};
+    ghost use Rattle.l4_msg.specs.Tags.{TagReads};
+    ghost use Rattle.l4_msg.specs.Words.{ItemsRead};
     ghost use Rattle.l4_msg.specs.declared.messages.Message.{Message as AMessage};
     ghost use Rattle.l4_msg.specs.declared.messages.MsgFault.{MsgFault as AMsgFault};
 
@@ -68,6 +70,27 @@ impl Message {
         ensures only { (message : AMessage) → MessageReads words.now message → result ≡ Ok message }
         ensures refused { (fault : AMsgFault) → MessageFails words.now fault → result ≡ Err fault }
         ensures writable { IfOk result CanBeWritten }
+    {
+        let tag = match Message::read_tag(words) {
+            Ok(tag) => tag,
+            Err(fault) => return Err(fault),
+        };
+        match Message::read_typed(words, &tag) {
+            Ok(items) => Ok(Message {
+                label: tag.label,
+                untyped: copied(&words[1..1 + usize::from(tag.untyped)]),
+                items,
+            }),
+            Err(fault) => Err(fault),
+        }
+    }
+
+    /// The tag of the message that these words begin with, where it is no reason to refuse them: the words that it counts are there and fit, no
+    /// flag is set, and the typed words are even in number. The refusals are those of `read`, in its order.
+    pub fn read_tag(words: &[u32]) -> Result<Tag, MsgFault>
+        ensures good { IfOk result (λ _. HasGoodTag words.now) }
+        ensures ok { IfOk result (TagReads (tag_of words.now)) }
+        ensures err { IfErr result (MessageFails words.now) }
     {
         if words.is_empty() {
             return Err(MsgFault::Short);
@@ -87,13 +110,19 @@ impl Message {
         if typed % 2 != 0 {
             return Err(MsgFault::OddTyped);
         }
-        let plain = copied(&words[1..1 + untyped]);
-        match read_items(&words[1 + untyped..1 + untyped + typed]) {
-            Ok(items) => Ok(Message {
-                label: tag.label,
-                untyped: plain,
-                items,
-            }),
+        Ok(tag)
+    }
+
+    /// The items of the message that these words begin with, behind its tag; or the refusal of the first bad item.
+    pub fn read_typed(words: &[u32], tag: &Tag) -> Result<ArrayVec<Item, MAX_ITEMS>, MsgFault>
+        requires good { HasGoodTag words.now }
+        requires tag { TagReads (tag_of words.now) tag.now }
+        ensures ok { IfOk result (λ items. ItemsRead (typed_words words.now) items.items) }
+        ensures err { IfErr result (MessageFails words.now) }
+    {
+        let first = 1 + usize::from(tag.untyped);
+        match read_items(&words[first..first + usize::from(tag.typed)]) {
+            Ok(items) => Ok(items),
             Err((i, ItemFault::Bad)) => Err(MsgFault::BadItem(i)),
             Err((i, ItemFault::Unsupported)) => Err(MsgFault::Unsupported(i)),
         }

@@ -2,10 +2,11 @@
 use Rattle.std.proofs.Common.{◌≡◌, ◌≢◌, ℕ, zero, suc, ◌+◌, ◌<◌, ◌≤◌, List, [], ◌∷◌, map, length, Option, Some, None, sym, ap, ◌∙◌, slice_get, arith, inl, inr}
 use Rattle.std.proofs.lemmas.List.{length-map}
 use Rattle.std.proofs.lemmas.Option.{slice_get_within}
+use Rattle.std.specs.List.{refill, slice_set, slice_index_or}
 use Rattle.l4_threads.specs.declared.Thread.{Thread}
-use Rattle.l4_threads.specs.Inside.Entries.{Entries, found, IsAt}
+use Rattle.l4_threads.specs.Inside.Entries.{Entries, found, changed_in, IsAt}
 use Rattle.l4_threads.specs.Inside.Numbers.{IsFirst, IsNowhere}
-use Rattle.l4_threads.proofs.TableLemmas.{same_or, found_none}
+use Rattle.l4_threads.proofs.TableLemmas.{same_or, found_none, numbers-changed_in, written_change}
 
 -- none of the numbers before a place is this one
 abbrev pub NoneBefore : List ℕ → ℕ → ℕ → Type 0
@@ -61,6 +62,19 @@ not_found es numbers n same none = found_none es n (λ i e there. none i e.0 (ap
 
 pub at_within : (es : Entries) (n at : ℕ) → IsAt es n at → at < length es
 at_within es n at first = slice_get_within es at (n, first.thread) first.there
+
+-- the table, and its numbers, where the thread of a number was written over
+abbrev after : Entries → Entries → ℕ → (Thread → Thread) → ℕ × Thread → Entries
+after es xs at f d = refill (length es) es (slice_set xs at ((slice_index_or xs at d).0, f (slice_index_or xs at d).1))
+
+pub written : (es xs : Entries) (numbers seen : List ℕ) (n at : ℕ) (f : Thread → Thread) (d : ℕ × Thread) → numbers ≡ map (λ e. e.0) es → seen ≡ numbers → xs ≡ es → IsFirst seen n at
+    → after es xs at f d ≡ changed_in es n f
+written es xs numbers seen n at f d same listed is first = written_change es xs n at f d is (is_at es seen n at (listed ∙ same) first)
+
+pub written_numbers : (es xs : Entries) (numbers seen : List ℕ) (n at : ℕ) (f : Thread → Thread) (d : ℕ × Thread) → numbers ≡ map (λ e. e.0) es → seen ≡ numbers → xs ≡ es → IsFirst seen n at
+    → numbers ≡ map (λ e. e.0) (after es xs at f d)
+written_numbers es xs numbers seen n at f d same listed is first =
+    same ∙ sym (ap (λ (es : Entries). map (λ e. e.0) es) (written es xs numbers seen n at f d same listed is first) ∙ numbers-changed_in es n f)
 
 -- as many numbers are there as threads
 pub as_many : (es : Entries) (numbers : List ℕ) → numbers ≡ map (λ e. e.0) es → length numbers ≡ length es

@@ -7,6 +7,10 @@ use Rattle.std.specs.Coded.{Coded, code_by, coded×, coded_ℕ}
 use Rattle.std.specs.FinMap as fin
 use Rattle.std.specs.FinSet as set
 use Rattle.l4_threads.specs.declared.ThreadId.{ThreadId}
+use Rattle.l4_msg.specs.declared.items.Item.{Item}
+use Rattle.l4_threads.specs.declared.SendPhase.{SendPhase}
+use Rattle.l4_threads.specs.declared.Envelope.{Envelope}
+use Rattle.l4_threads.specs.declared.IpcReply.{IpcReply}
 use Rattle.l4_threads.specs.declared.Reply.{Reply}
 use Rattle.l4_threads.specs.declared.Reply.TheVariants.{Ipc, FaultFailed}
 use Rattle.l4_threads.specs.declared.Receiving.{Receiving}
@@ -107,6 +111,14 @@ with_state t n state = option_map_or (λ thread. record t { threads = fin.insert
 -- the thread stands in no pair of the queue
 abbrev pub out_of_queue : Threads → ℕ → Threads
 out_of_queue t n = record t { before = set.retain t.before (λ p. not (p.0 == n) && not (p.1 == n)) }
+
+-- the send phase of these words and of the items in them
+abbrev pub sending_of : List ℕ → List Item → SendPhase → Sending
+sending_of words items phase = record { words = record { items = words }; items = record { items = items }; to = phase.to; expires = phase.expires; «then» = phase.«then»; fault = phase.fault }
+
+-- the reply of these words
+abbrev pub message_of : Envelope → List ℕ → IpcReply
+message_of envelope words = record { tag = envelope.tag; error = envelope.error; «from» = envelope.«from»; words = record { items = words } }
 
 -- a thread that starts to send comes after all that send (this profile's own: one queue, in the order of the starts)
 abbrev pub start_send : Threads → ℕ → Sending → Threads

@@ -4,6 +4,7 @@
 mod entries;
 mod roster;
 mod table;
+mod writing;
 
 use arrayvec::ArrayVec;
 use l4_fpage::Fpage;
@@ -98,6 +99,30 @@ pub struct Sending {
     pub then: Option<Later>,
     /// The phase is part of a page fault.
     pub fault: bool,
+}
+
+/// How a message is sent.
+#[derive(Clone, Copy, Debug, PartialEq, Eq)]
+pub struct SendPhase {
+    /// The partner's number.
+    pub to: u32,
+    /// The timeout is zero; else it is never.
+    pub expires: bool,
+    /// What to receive afterwards.
+    pub then: Option<Later>,
+    /// The phase is part of a page fault.
+    pub fault: bool,
+}
+
+/// What an Ipc call replies beside the words of a message.
+#[derive(Clone, Copy, Debug, PartialEq, Eq)]
+pub struct Envelope {
+    /// The message tag: the sender's, or 0x8000 where the call failed.
+    pub tag: u32,
+    /// The ErrorCode of a call that failed, else 0.
+    pub error: u32,
+    /// Who sent the message, or nilthread.
+    pub from: ThreadId,
 }
 
 /// What a thread is doing.

@@ -5,8 +5,9 @@ ghost use Rattle.l4_threads.specs.Inside.Entries.{sends_in};
 ghost use Rattle.l4_threads.specs.Inside.Numbers.{IsFirst, IsNowhere};
 
 use crate::entries::free_all;
-use crate::{MAX_THREADS, Receiving, Reply, Sending, State, Thread, ThreadId};
+use crate::{Envelope, MAX_THREADS, Receiving, Reply, SendPhase, State, Thread, ThreadId};
 use arrayvec::ArrayVec;
+use l4_msg::Item;
 use std::marker::Model;
 
 /// The threads, and their numbers once more on their own.
@@ -46,6 +47,8 @@ fn place_of(numbers: &[u32], number: u32) -> Option<usize>
 impl Roster {
     ghost use Rattle.l4_threads.specs.Inside.Entries.{found, changed_in, in_state, in_pager, freed_in, without_in};
     ghost use Rattle.l4_threads.specs.declared.State.TheVariants.{Running, Sending as Sends, Receiving as Receives};
+    ghost use Rattle.l4_threads.specs.declared.Reply.TheVariants.{Ipc};
+    ghost use Rattle.l4_threads.specs.Threads.{sending_of, message_of};
 
     /// No thread.
     pub fn new() -> Roster
@@ -100,13 +103,26 @@ impl Roster {
         }
     }
 
-    /// The thread of this number sends.
-    pub fn send(&mut self, number: u32, sending: Sending)
-        requires { found self.old number ≢ None }
-        ensures { self.new ≡ changed_in self.old number (in_state (Sends sending)) }
+    /// The thread of this number runs on, and its Ipc replies this.
+    pub fn reply(&mut self, number: u32, envelope: Envelope, words: &[u32])
+        requires there { found self.old number ≢ None }
+        requires words { length words.now ≤ 64 }
+        ensures { self.new ≡ changed_in self.old number (in_state (Running (Some (Ipc (message_of envelope words.now))))) }
     {
         if let Some(at) = place_of(self.numbers.as_slice(), number) {
-            self.entries[at].1.state = State::Sending(sending);
+            self.entries[at].1.state.reply(envelope, words);
+        }
+    }
+
+    /// The thread of this number sends.
+    pub fn send(&mut self, number: u32, words: &[u32], items: &[Item], phase: SendPhase)
+        requires there { found self.old number ≢ None }
+        requires words { length words.now ≤ 64 }
+        requires items { length items.now ≤ 31 }
+        ensures { self.new ≡ changed_in self.old number (in_state (Sends (sending_of words.now items.now phase))) }
+    {
+        if let Some(at) = place_of(self.numbers.as_slice(), number) {
+            self.entries[at].1.state.send(words, items, phase);
         }
     }
 
@@ -116,7 +132,7 @@ impl Roster {
         ensures { self.new ≡ changed_in self.old number (in_state (Receives receiving)) }
     {
         if let Some(at) = place_of(self.numbers.as_slice(), number) {
-            self.entries[at].1.state = State::Receiving(receiving);
+            self.entries[at].1.state.receive(receiving);
         }
     }
 

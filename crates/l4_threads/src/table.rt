@@ -1,5 +1,5 @@
 //! The table of threads, and the queue of senders.
-ghost use Rattle.std.specs.Prelude.{◌≡◌, ◌↔◌, ◌++◌, ◌∷◌, [], ℕ, IsTrue, IsSome, IfOk, OnErr, MatchOption, MatchResult, Some, None, Ok, Err, filter, not, ◌==◌};
+ghost use Rattle.std.specs.Prelude.{◌≡◌, ◌≤◌, ◌↔◌, ◌++◌, length, ◌∷◌, [], ℕ, IsTrue, IsSome, IfOk, OnErr, MatchOption, MatchResult, Some, None, Ok, Err, filter, not, ◌==◌};
 ghost use Rattle.std.specs.Option.{option_copied};
 ghost use Rattle.std.specs.FinSet as set;
 ghost use Rattle.std.specs.List.Sorted.{IsStrictlyIncreasing};
@@ -9,9 +9,11 @@ use crate::entries::{
 };
 use crate::roster::{Roster, keep_senders};
 use crate::{
-    Deleted, MAX_THREADS, Receiving, Reply, Sending, State, Thread, ThreadFault, ThreadId,
+    Deleted, Envelope, MAX_THREADS, Receiving, Reply, SendPhase, Sending, State, Thread,
+    ThreadFault, ThreadId,
 };
 use arrayvec::ArrayVec;
+use l4_msg::Item;
 use std::marker::Model;
 
 /// The number of the root space.
@@ -60,7 +62,8 @@ fn offers(sends: Option<&State>, takes: Option<&State>, sender: u32, receiver: u
 }
 
 impl Threads {
-    ghost use Rattle.l4_threads.specs.Threads.{thread_at, state_of, space_of, pager_of, named, number_of, runs, sends, may_receive, with_state, start_send, start_receive, end_call, first_threads, IsConsistent, Before};
+    ghost use Rattle.l4_threads.specs.Threads.{thread_at, state_of, space_of, pager_of, named, number_of, runs, sends, may_receive, with_state, sending_of, message_of, start_send, start_receive, end_call, first_threads, IsConsistent, Before};
+    ghost use Rattle.l4_threads.specs.declared.Reply.TheVariants.{Ipc};
     ghost use Rattle.l4_threads.specs.Enabled.{Offers, IsFirstSender, IsNextTransfer, CanExpire, IsNextExpiry};
     ghost use Rattle.l4_threads.specs.Inside.Taker.{taker};
     ghost use Rattle.l4_threads.specs.Inside.Transfers.{AreTransfers};
@@ -262,7 +265,28 @@ impl Threads {
         requires { IsTrue (runs self.old number) }
         ensures { self.new ≡ start_send self.old number sending }
     {
-        self.threads.send(number, sending);
+        let phase = SendPhase {
+            to: sending.to,
+            expires: sending.expires,
+            then: sending.then,
+            fault: sending.fault,
+        };
+        self.start_message(
+            number,
+            sending.words.as_slice(),
+            sending.items.as_slice(),
+            phase,
+        );
+    }
+
+    /// A running thread starts to send these words, in which these items stand: it goes to the end of the queue.
+    pub fn start_message(&mut self, number: u32, words: &[u32], items: &[Item], phase: SendPhase)
+        requires running { IsTrue (runs self.old number) }
+        requires words { length words.now ≤ 64 }
+        requires items { length items.now ≤ 31 }
+        ensures { self.new ≡ start_send self.old number (sending_of words.now items.now phase) }
+    {
+        self.threads.send(number, words, items, phase);
         self.queue.push(number);
     }
 
@@ -282,6 +306,16 @@ impl Threads {
     {
         leave(&mut self.queue, number);
         self.threads.run(number, reply);
+    }
+
+    /// An Ipc of a thread ends with this reply, whatever the thread does. It is in the queue no longer.
+    pub fn end_ipc(&mut self, number: u32, envelope: Envelope, words: &[u32])
+        requires there { IsSome (state_of self.old number) }
+        requires words { length words.now ≤ 64 }
+        ensures { self.new ≡ end_call self.old number (Ipc (message_of envelope words.now)) }
+    {
+        leave(&mut self.queue, number);
+        self.threads.reply(number, envelope, words);
     }
 
     /// Whether the caller is in the root space.

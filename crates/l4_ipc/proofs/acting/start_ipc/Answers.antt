@@ -1,12 +1,12 @@
-use Rattle.std.proofs.Common.{refl, inl}
-use Rattle.l4_ipc.specs.declared.calls.Call.TheVariants.{Ipc}
-use Rattle.l4_ipc.specs.Machine.{machine}
-use Rattle.l4_ipc.proofs.Starts.{refuses, started}
+use Rattle.std.proofs.Common.{◌≡◌, ℕ, List, sym, ap, ◌∙◌, subst}
+use Rattle.l4_msg.specs.Messages.{HasGoodTag, tag_of}
+use Rattle.l4_msg.specs.Tags.{typed_of}
+use Rattle.l4_ipc.proofs.Starts.{sent_bare}
 use Rattle.l4_ipc.proofs.acting.start_ipc.Goals as goal
 
-pub returns-in-Err : goal.returns-in-Err
-returns-in-Err c = λ s. (inl (refuses (machine c.args.threads.now s) c.args.number (Ipc c.args.call.now) c.in-Err.refused c.requires c.in-Err.ensures.err), refl)
-
-pub returns : goal.returns
-returns c = λ s. started c.args.threads.now c.enter-ended.new.threads s c.args.number c.args.call.now c.in-Ok.read.0 c.in-Ok.read.1 c.ipc_next-next.result _
-    c.requires c.in-Ok.ensures.ok c.ipc_next-next.ensures refl c.enter-ended.ensures.ended c.enter-ended.ensures.threads
+pub start_message-requires-clause-sent : goal.start_message-requires-clause-sent
+start_message-requires-clause-sent c =
+    let words = c.args.call.now.words.items in
+    let same : c.as_slice.result.now ≡ words = c.as_slice.ensures.value in
+    sent_bare words c.counted_words.result.now (subst HasGoodTag same c.in-Ok.ensures.good)
+    (ap (λ (l : List ℕ). typed_of (tag_of l)) (sym same) ∙ sym c.in-Ok.ensures.ok.typed ∙ c.if-tag-eq0.true) c.counted_words.ensures.value

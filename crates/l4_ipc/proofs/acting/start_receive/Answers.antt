@@ -2,12 +2,9 @@ use Rattle.std.proofs.Common.{refl, inl, inr, sym, ap, ◌∙◌, false}
 use Rattle.l4_ipc.specs.declared.calls.Call.TheVariants.{Ipc}
 use Rattle.l4_ipc.specs.Machine.{machine}
 use Rattle.l4_ipc.specs.Start.{going_on}
+use Rattle.l4_ipc.specs.Inside.Turns.{next_of}
 use Rattle.l4_ipc.proofs.Starts.{refuses, started, nothing, sends_nothing, receives_next, can_receive}
 use Rattle.l4_ipc.proofs.acting.start_receive.Goals as goal
-
-pub returns-then-has_bad_timeout : goal.returns-then-has_bad_timeout
-returns-then-has_bad_timeout c = λ s.
-    (inl (refuses (machine c.args.threads.now s) c.args.number (Ipc c.args.call.now) _ c.requires.running (inl (sym c.if-has_bad_timeout.ensures, refl))), refl)
 
 pub returns-in-Err : goal.returns-in-Err
 returns-in-Err c = λ s. (
@@ -16,13 +13,13 @@ returns-in-Err c = λ s. (
   refl,
 )
 
-pub enter-ended-requires : goal.enter-ended-requires
-enter-ended-requires c = can_receive c.args.threads.now c.args.number c.later.result c.going_on-next.result c.requires.running c.going_on-next.ensures
+pub enter-ends-requires : goal.enter-ends-requires
+enter-ends-requires c = can_receive c.args.threads.now c.args.number c.later.result (next_of c.going_on-turn.result) c.requires.running c.going_on-turn.ensures
 
 pub returns : goal.returns
 returns c = λ s.
-    started c.args.threads.now c.enter-ended.new.threads s c.args.number c.args.call.now nothing c.in-Ok.window c.going_on-next.result _
+    started c.args.threads.now c.enter-ends.new.threads s c.args.number c.args.call.now nothing c.in-Ok.window (next_of c.going_on-turn.result) _
     c.requires.running
     (record { timeouts = sym c.if-has_bad_timeout.ensures; sends = sends_nothing c.args.call.now c.requires.receives; receives = c.in-Ok.ensures.ok })
-    (c.going_on-next.ensures ∙ ap (λ l. going_on c.args.threads.now l false) c.later.ensures ∙ sym (receives_next c.args.threads.now c.args.number c.args.call.now c.in-Ok.window c.requires.receives))
-    refl c.enter-ended.ensures.ended c.enter-ended.ensures.threads
+    (c.going_on-turn.ensures ∙ ap (λ l. going_on c.args.threads.now l false) c.later.ensures ∙ sym (receives_next c.args.threads.now c.args.number c.args.call.now c.in-Ok.window c.requires.receives))
+    c.started.ensures.outcome (c.started.ensures.ended ∙ c.enter-ends.ensures.ended) c.enter-ends.ensures.threads

@@ -1,21 +1,16 @@
-use Rattle.std.proofs.Common.{map, sym, ap, ◌∙◌}
+use Rattle.std.proofs.Common.{◌∙◌}
 use Rattle.l4_threads.specs.declared.State.TheVariants.{Receiving as Receives}
-use Rattle.l4_threads.specs.Inside.Entries.{Entries, in_state}
-use Rattle.l4_threads.proofs.TableLemmas.{numbers-changed_in, written_change}
-use Rattle.l4_threads.proofs.NumberLemmas.{is_at, not_found}
+use Rattle.l4_threads.specs.Inside.Entries.{in_state}
+use Rattle.l4_threads.proofs.NumberLemmas.{not_found, written, written_numbers}
 use Rattle.l4_threads.proofs.roster.Roster.receive.Goals as goal
 
 pub invariant_of-self : goal.invariant_of-self
 invariant_of-self c =
-    let first = is_at c.self.inside.entries.items c.as_slice.result.now c.args.number c.in-Some.at (c.as_slice.ensures.value ∙ c.self.invariant) c.in-Some.ensures in
-    c.self.invariant
-    ∙ sym (ap (λ (es : Entries). map (λ e. e.0) es) (written_change c.self.inside.entries.items _ c.args.number c.in-Some.at (in_state (Receives c.args.receiving)) _ c.deref_mut.ensures.value first)
-    ∙ numbers-changed_in c.self.inside.entries.items c.args.number (in_state (Receives c.args.receiving)))
+    rw c.receive.ensures (written_numbers c.self.inside.entries.items _ c.self.inside.numbers.items c.as_slice.result.now c.args.number c.in-Some.at (in_state (Receives c.args.receiving)) _ c.self.invariant c.as_slice.ensures.value c.deref_mut.ensures.value c.in-Some.ensures)
 
 pub returns-in-Some : goal.returns-in-Some
 returns-in-Some c =
-    let first = is_at c.self.inside.entries.items c.as_slice.result.now c.args.number c.in-Some.at (c.as_slice.ensures.value ∙ c.self.invariant) c.in-Some.ensures in
-    rw (← c.self.view_is) (written_change c.self.inside.entries.items _ c.args.number c.in-Some.at (in_state (Receives c.args.receiving)) _ c.deref_mut.ensures.value first)
+    rw (c.receive.ensures, ← c.self.view_is) (written c.self.inside.entries.items _ c.self.inside.numbers.items c.as_slice.result.now c.args.number c.in-Some.at (in_state (Receives c.args.receiving)) _ c.self.invariant c.as_slice.ensures.value c.deref_mut.ensures.value c.in-Some.ensures)
 
 pub returns-in_default : goal.returns-in_default
 returns-in_default c =

@@ -1,20 +1,15 @@
-use Rattle.std.proofs.Common.{map, sym, ap, ◌∙◌}
-use Rattle.l4_threads.specs.Inside.Entries.{Entries, in_pager}
-use Rattle.l4_threads.proofs.TableLemmas.{numbers-changed_in, written_change}
-use Rattle.l4_threads.proofs.NumberLemmas.{is_at, not_found}
+use Rattle.std.proofs.Common.{◌∙◌}
+use Rattle.l4_threads.specs.Inside.Entries.{in_pager}
+use Rattle.l4_threads.proofs.NumberLemmas.{not_found, written, written_numbers}
 use Rattle.l4_threads.proofs.roster.Roster.set_pager.Goals as goal
 
 pub invariant_of-self : goal.invariant_of-self
 invariant_of-self c =
-    let first = is_at c.self.inside.entries.items c.as_slice.result.now c.args.number c.in-Some.at (c.as_slice.ensures.value ∙ c.self.invariant) c.in-Some.ensures in
-    c.self.invariant
-    ∙ sym (ap (λ (es : Entries). map (λ e. e.0) es) (written_change c.self.inside.entries.items _ c.args.number c.in-Some.at (in_pager c.args.pager) _ c.deref_mut.ensures.value first)
-    ∙ numbers-changed_in c.self.inside.entries.items c.args.number (in_pager c.args.pager))
+    written_numbers c.self.inside.entries.items _ c.self.inside.numbers.items c.as_slice.result.now c.args.number c.in-Some.at (in_pager c.args.pager) _ c.self.invariant c.as_slice.ensures.value c.deref_mut.ensures.value c.in-Some.ensures
 
 pub returns-in-Some : goal.returns-in-Some
 returns-in-Some c =
-    let first = is_at c.self.inside.entries.items c.as_slice.result.now c.args.number c.in-Some.at (c.as_slice.ensures.value ∙ c.self.invariant) c.in-Some.ensures in
-    rw (← c.self.view_is) (written_change c.self.inside.entries.items _ c.args.number c.in-Some.at (in_pager c.args.pager) _ c.deref_mut.ensures.value first)
+    rw (← c.self.view_is) (written c.self.inside.entries.items _ c.self.inside.numbers.items c.as_slice.result.now c.args.number c.in-Some.at (in_pager c.args.pager) _ c.self.invariant c.as_slice.ensures.value c.deref_mut.ensures.value c.in-Some.ensures)
 
 pub returns-in_default : goal.returns-in_default
 returns-in_default c =

@@ -1,0 +1,58 @@
+-- What a thread does next, said in few words. (this profile's own)
+use Rattle.std.specs.Prelude.{ℕ, Bool, true, false, List, [], ◌∷◌, drop, slice_index, Option, Some, None}
+use Rattle.l4_fpage.specs.Rights.{all_rights}
+use Rattle.l4_fpage.specs.declared.fpages.Fpage.TheVariants.{Complete}
+use Rattle.l4_msg.specs.declared.items.Item.{Item}
+use Rattle.l4_threads.specs.declared.Reply.{Reply}
+use Rattle.l4_threads.specs.declared.Sending.{Sending}
+use Rattle.l4_threads.specs.declared.Thread.{Thread}
+use Rattle.l4_threads.specs.declared.Reply.TheVariants.{Ipc as IpcReply, Answered as IsAnswered, Hit as IsHit}
+use Rattle.l4_threads.specs.declared.ThreadId.{ThreadId}
+use Rattle.l4_threads.specs.Threads.{failed, sending_of, message_of}
+use Rattle.l4_ipc.specs.declared.calls.FaultCall.{FaultCall}
+use Rattle.l4_ipc.specs.declared.sent.Sent.{Sent}
+use Rattle.l4_ipc.specs.declared.next.Next.{Next}
+use Rattle.l4_ipc.specs.declared.next.Next.TheVariants.{Ends as NextEnds, Sends as NextSends, Receives as NextReceives}
+use Rattle.l4_ipc.specs.declared.turns.Ending.{Ending}
+use Rattle.l4_ipc.specs.declared.turns.Ending.TheVariants.{Plain, Failed, Answered, Hit}
+use Rattle.l4_ipc.specs.declared.turns.Turn.{Turn}
+use Rattle.l4_ipc.specs.declared.turns.Turn.TheVariants.{Ends, Receives}
+use Rattle.l4_ipc.specs.declared.turns.FaultTurn.{FaultTurn}
+use Rattle.l4_ipc.specs.declared.turns.FaultTurn.TheVariants.{Ends as FaultEnds, Tells}
+use Rattle.l4_ipc.specs.Start.{plain_reply, fault_words}
+
+-- the reply of this ending
+abbrev pub reply_of : Ending → Reply
+reply_of Plain = plain_reply
+reply_of (Failed fault code) = failed fault code
+reply_of Answered = IsAnswered
+reply_of Hit = IsHit
+
+-- the reply of an ending, where there is one, and else the message
+abbrev pub reply_or : Option Ending → Reply → Reply
+reply_or None message = message
+reply_or (Some ending) message = reply_of ending
+
+-- the reply of a message that was taken
+abbrev pub message_reply : Thread → Sending → Reply
+message_reply «from» sends = IpcReply (message_of (record { tag = slice_index sends.words.items 0; error = 0; «from» = «from».id }) (drop 1 sends.words.items))
+
+-- what the thread does next
+abbrev pub next_of : Turn → Next
+next_of (Ends ending) = NextEnds (reply_of ending)
+next_of (Receives receiving) = NextReceives receiving
+
+-- what a thread does as it faults: where it isn't ended it tells its pager, and then waits for it
+abbrev pub next_of_fault : ThreadId → FaultCall → FaultTurn → Next
+next_of_fault pager call (FaultEnds ending) = NextEnds (reply_of ending)
+next_of_fault pager call (Tells to) =
+    NextSends (sending_of (fault_words call) [] (record { to = to; expires = false; «then» = Some (record { «from» = pager; window = Complete all_rights; expires = false }); fault = true }))
+
+-- the list of the thread, if its call ends
+abbrev pub ended_if : Bool → ℕ → List ℕ
+ended_if true n = n ∷ []
+ended_if false n = []
+
+-- what is sent where these are the words and the items in them
+abbrev pub sent_of : List ℕ → List Item → Sent
+sent_of words items = record { words = record { items = words }; items = record { items = items } }
