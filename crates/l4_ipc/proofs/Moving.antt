@@ -11,8 +11,11 @@ use Rattle.l4_mapdb.specs.declared.Cause.{Cause}
 use Rattle.l4_mapdb.specs.declared.Cause.TheVariants.{Entangled as IsTangle, NoMemory as WantOfMemory}
 use Rattle.l4_mapdb.specs.declared.ItemMove.{ItemMove}
 use Rattle.l4_mapdb.specs.Causes.{HasCause}
-use Rattle.l4_mapdb.specs.Mappings.{Mappings}
-use Rattle.l4_mapdb.specs.Transfer.{PageMove, IsUsed, IsEntangled, Delivers}
+use Rattle.l4_mapdb.specs.declared.Mapping.{Mapping}
+use Rattle.l4_mapdb.specs.declared.Place.{Place}
+use Rattle.l4_mapdb.specs.Mappings.{Mappings, shown, IsForest}
+use Rattle.l4_mapdb.specs.Transfer.{PageMove, IsUsed, IsEntangled, Stays, ParentLater, Delivers}
+use Rattle.l4_mapdb.proofs.Unique.{same_rights}
 use Rattle.l4_mapdb.proofs.Along.{transfers_along, entangled_along}
 use Rattle.l4_ipc.specs.declared.steps.Outcome.TheVariants.{Done}
 use Rattle.l4_ipc.specs.Inside.Delivering.{IsListed, outcome_of}
@@ -125,3 +128,74 @@ module _ (s : Mappings) (from to : ℕ) (items : List Item) (window : Fpage) (mo
   moves_failed can IsTangle h new same = (can, entangled_along Listed Named named listed s h, same)
   moves_failed can WantOfMemory h new same =
       (can, λ e. h.0 (entangled_along Named Listed listed named s e), record { move = h.1.move; used = named h.1.move h.1.used; absent = h.1.absent }, same)
+
+-- A MESSAGE WITHOUT ITEMS
+
+pub none_listed : (items : List Item) → length items ≡ 0 → items ≡ []
+none_listed [] h = refl
+none_listed (item ∷ items) h = absurd (omega (arith, h))
+
+module _ (s : Mappings) (from to : ℕ) (window : Fpage) where
+  abbrev None_used : PageMove → Type 0
+  None_used = IsUsedBy s from to [] window
+
+  none_used : (move : PageMove) → None_used move → ⊥
+  none_used move used = let k : ◌≡◌ {A = Option Item} None (Some used.by) = used.item in cc
+
+  stays : (place : Place) (m : Mapping) → shown s place ≡ Some m → Stays None_used s place m
+  stays place m at = record {
+    before = m;
+    at = at;
+    not_gone = λ h. none_used h.move h.used;
+    not_granted = λ h. none_used h.move h.used;
+    frame = refl;
+    rights = refl;
+    parent = later m.parent;
+  } where
+    later : (parent : Option Place) → ParentLater None_used parent parent
+    later None = refl
+    later (Some parent) = (parent, inr (λ h. none_used h.move h.used, refl), refl)
+
+  stayed : (place : Place) (m : Mapping) → Stays None_used s place m → shown s place ≡ Some m
+  stayed place m h =
+      let frame = h.frame in
+      let rights = h.rights in
+      let parent : m.parent ≡ h.before.parent = same_parent h.before.parent m.parent h.parent in
+      h.at ∙ (λ i. Some (record { frame = sym frame i; rights = sym rights i; parent = sym parent i })) where
+        same_parent : (before later : Option Place) → ParentLater None_used before later → later ≡ before
+        same_parent None later h = h
+        same_parent (Some place) later h =
+            elim h.1 [
+              | inl granted ↦ absurd (none_used granted.0 granted.1)
+              | inr same ↦ h.2 ∙ ap (λ (p : Place). Some p) (sym same.1)
+            ]
+
+  -- nothing moves
+  pub nothing_moves : IsForest s → Moves s from to [] window Done s
+  nothing_moves forest = (
+    λ lacks. lacks.0 refl,
+    λ tangled. elim tangled [
+      | inl h ↦ none_used h.one h.one_used
+      | inr other ↦ elim other [ inl h ↦ none_used h.one h.one_used | inr h ↦ none_used h.one h.one_used ]
+    ],
+    record {
+      middle = s;
+      moved = record {
+        spaces = refl;
+        places = λ place m. (
+          λ at. inr (inr (stays place m at)),
+          λ becomes. elim becomes [
+            | inl h ↦ absurd (none_used h.move h.used)
+            | inr other ↦ elim other [ inl h ↦ absurd (none_used h.move h.used) | inr h ↦ stayed place m h ]
+          ],
+        );
+      };
+      cut = record {
+        spaces = refl;
+        places = λ place m. (
+          λ at. (m, at, record { frame = refl; parent = refl; rights = λ right. (λ h. (h, λ cut. none_used cut.move cut.used), λ h. h.0); some_right = forest.some_right place m at }),
+          λ left. left.1 ∙ (λ i. Some (record { frame = sym left.2.frame i; rights = sym (same_rights m.rights left.0.rights (λ right. (λ h. ((left.2.rights right).0 h).0, λ h. (left.2.rights right).1 (h, λ cut. none_used cut.move cut.used)))) i; parent = sym left.2.parent i })),
+        );
+      };
+    },
+  )

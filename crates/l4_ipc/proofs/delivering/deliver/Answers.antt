@@ -1,6 +1,16 @@
+use Rattle.std.proofs.Common.{List, length, sym, subst}
 use Rattle.std.proofs.lemmas.Bool.{false≢true}
-use Rattle.l4_ipc.proofs.Moving.{listed_moves, moves_done, moves_failed}
+use Rattle.l4_msg.specs.declared.items.Item.{Item}
+use Rattle.l4_ipc.specs.declared.steps.Outcome.TheVariants.{Done}
+use Rattle.l4_ipc.specs.Moving.{Moves}
+use Rattle.l4_threads.proofs.TableLemmas.{same_of}
+use Rattle.l4_ipc.proofs.Moving.{listed_moves, moves_done, moves_failed, none_listed, nothing_moves}
 use Rattle.l4_ipc.proofs.delivering.deliver.Goals as goal
+
+pub returns-then-is_empty : goal.returns-then-is_empty
+returns-then-is_empty c =
+    subst (λ (items : List Item). Moves c.args.forest.now c.args.from c.args.to items c.args.window.now Done c.args.forest.now) (sym (none_listed c.args.items.now (same_of (length c.args.items.now) 0 (sym c.if-is_empty.ensures))))
+    (nothing_moves c.args.forest.now c.args.from c.args.to c.args.window.now c.law_forest.ensures)
 
 pub returns-in-Ok : goal.returns-in-Ok
 returns-in-Ok c = moves_done c.args.forest.now c.args.from c.args.to c.args.items.now c.args.window.now c.as_slice.result.now
