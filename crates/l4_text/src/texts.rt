@@ -1,5 +1,5 @@
 //! Texts of bounded length.
-ghost use Rattle.std.specs.Prelude.{◌≡◌, ◌+◌, ◌/◌, ◌%◌, ◌^◌, ◌≤◌, [], ◌∷◌, ◌++◌, length, decimal};
+ghost use Rattle.std.specs.Prelude.{◌≡◌, ◌+◌, ◌/◌, ◌%◌, ◌^◌, ◌≤◌, ◌<◌, [], ◌∷◌, ◌++◌, length, decimal};
 ghost use Rattle.l4_text.specs.Texts.{word_text, hex_digit};
 ghost use Rattle.l4_text.specs.Sizes.{text_bytes};
 
@@ -9,6 +9,9 @@ use std::marker::Model;
 
 /// The most bytes of a text.
 const MAX_TEXT: usize = 160;
+
+/// The hexadecimal digits, in lower case.
+const DIGITS: [u8; 16] = *b"0123456789abcdef";
 
 /// The bytes of a text.
 #[derive(Drop)]
@@ -29,11 +32,7 @@ fn hex_digit(value: u8) -> u8
     requires { value ≤ 15 }
     ensures { result ≡ hex_digit value }
 {
-    if value < 10 {
-        b'0' + value
-    } else {
-        b'a' - 10 + value
-    }
+    DIGITS[value as usize]
 }
 
 /// The hexadecimal digit of a word whose lowest bit stands at this place.
@@ -103,8 +102,25 @@ impl Text {
         ensures value { self.new ≡ self.old ++ decimal number }
         ensures len { length self.new ≤ length self.old + 20 }
     {
+        if number < 10 {
+            return self.push(b'0' + number as u8);
+        }
+        if number < 100 {
+            return self.add_two_digits(number as u8);
+        }
         let mut buffer = Buffer::new();
         self.add(buffer.format(number).as_bytes());
+    }
+
+    /// A number of two digits in decimal.
+    fn add_two_digits(&mut self, number: u8)
+        requires two { (10 ≤ number) × (number < 100) }
+        requires room { length self.old + 2 ≤ text_bytes }
+        ensures value { self.new ≡ self.old ++ decimal number }
+        ensures len { length self.new ≡ length self.old + 2 }
+    {
+        self.push(b'0' + number / 10);
+        self.push(b'0' + number % 10);
     }
 
     /// A word in eight hexadecimal digits of lower case.
