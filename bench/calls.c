@@ -36,7 +36,10 @@ int main(void) {
         words[1] = message;
         delivered += enter(&kernel, SENDER, &sending, words, 5);
     }
+    if (l4_enabled(&kernel).kind != L4_NONE) {
+        return 1;
+    }
+    printf("%lu messages, the last with %lu words\n", (unsigned long)delivered, (unsigned long)l4_reply_of(&kernel, RECEIVER).word_count);
     l4_free(&kernel);
-    printf("%lu messages\n", (unsigned long)delivered);
     return 0;
 }

@@ -6,5 +6,6 @@ pub mod KernelValues
 pub mod Lists
 pub mod PagerValues
 pub mod Sigma0Values
+pub mod Starting
 pub mod Values
 pub mod Wording

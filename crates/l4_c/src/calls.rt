@@ -1,11 +1,11 @@
 //! Calls as C gives them.
 ghost use Rattle.std.specs.Prelude.{◌≡◌, ◌≤◌, length, take, MatchOption};
 ghost use Rattle.l4_fpage.specs.Rights.{set_of_bits};
-ghost use Rattle.l4_c.specs.Called.{IsCall, IsNoKind};
+ghost use Rattle.l4_c.specs.Called.{IsCall, IsNoKind, IsStart};
 
 use l4_ipc::{
-    ArrayVec, Call, Control, Create, FaultCall, IpcCall, MAX_WORDS, Rights, SetPager, ThreadId,
-    UnmapCall,
+    ArrayVec, Call, Control, Create, FaultCall, IpcCall, MAX_WORDS, Rights, SetPager, Step,
+    ThreadId, UnmapCall,
 };
 use l4_msg::copied;
 
@@ -108,17 +108,17 @@ fn delete(given: &CallGiven, words: &[u32]) -> Call
     Call::Control(Control::Delete(ThreadId(given.id)))
 }
 
-/// The call that is given; none where its kind is no kind.
-pub fn call_of(given: &CallGiven, words: &[u32]) -> Option<Call>
-    ensures { MatchOption result (IsNoKind given.now) (IsCall given.now words.now) }
+/// The step in which the thread starts the call that is given; none where its kind is no kind.
+pub fn start_of(thread: u32, given: &CallGiven, words: &[u32]) -> Option<Step>
+    ensures { MatchOption result (IsNoKind given.now) (IsStart thread given.now words.now) }
 {
     match given.kind {
-        1 => Some(ipc(given, words)),
-        2 => Some(fault(given, words)),
-        3 => Some(unmap(given, words)),
-        4 => Some(create(given, words)),
-        5 => Some(set_pager(given, words)),
-        6 => Some(delete(given, words)),
+        1 => Some(Step::Start(thread, ipc(given, words))),
+        2 => Some(Step::Start(thread, fault(given, words))),
+        3 => Some(Step::Start(thread, unmap(given, words))),
+        4 => Some(Step::Start(thread, create(given, words))),
+        5 => Some(Step::Start(thread, set_pager(given, words))),
+        6 => Some(Step::Start(thread, delete(given, words))),
         _ => None,
     }
 }

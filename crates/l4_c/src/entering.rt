@@ -1,15 +1,15 @@
 //! Calls that are entered: their start, and the steps that come next.
-ghost use Rattle.std.specs.Prelude.{◌≡◌, ◌≤◌, ◌<◌, Ok, length, slice_set};
+ghost use Rattle.std.specs.Prelude.{◌≡◌, ◌≤◌, ◌<◌, Ok, Err, length, slice_set};
 ghost use Rattle.l4_ipc.specs.Machine.{Machine};
 ghost use Rattle.l4_ipc.specs.Steps.{Steps, IsNext};
-ghost use Rattle.l4_c.specs.Told.{done_result};
+ghost use Rattle.l4_c.specs.Told.{done_result, step_result};
 ghost use Rattle.l4_c.specs.Exports.{Follows, Goes, Enters};
 
-use crate::calls::{CallGiven, call_of};
+use crate::calls::{CallGiven, start_of};
 use crate::kernels::KernelHandle;
-use crate::numbers::{EMPTY, NO_SUCH_CALL};
-use crate::results::{EnterResult, NextResult, StepResult, answered, done_told, refused, told};
-use l4_ipc::{Answer, Kernel, Step};
+use crate::numbers::{EMPTY, NO_SUCH_CALL, kernel_detail, kernel_number};
+use crate::results::{EnterResult, NextResult, StepResult, answered, done_told, refused};
+use l4_ipc::{Answer, Kernel, Refused, Step};
 use std::alloc::Global;
 
 /// Writes down a step that was done, where there is room.
@@ -30,8 +30,8 @@ fn follow(kernel: &mut Kernel, steps: &mut [NextResult]) -> u32
 {
     kernel.law_consistent();
     let mut count = 0u32;
-    while let Some((step, answer)) = kernel.step_next() {
-        note(steps, count, &step, &answer);
+    while let Some(done) = kernel.step_next() {
+        note(steps, count, &done.0, &done.1);
         count += 1;
     }
     count
@@ -47,6 +47,13 @@ fn only_start(start: StepResult) -> EnterResult
     }
 }
 
+/// A call that the kernel refuses to start.
+fn not_started(refusal: Refused) -> EnterResult
+    ensures { result ≡ record { start = step_result (Err refusal); step_count = 0 } }
+{
+    only_start(refused(kernel_number(refusal), kernel_detail(refusal)))
+}
+
 /// Enters a call of a thread.
 fn enter(
     kernel: &mut Kernel,
@@ -57,16 +64,16 @@ fn enter(
 ) -> EnterResult
     ensures { Goes kernel.old thread given.now words.now steps.old result steps.new kernel.new }
 {
-    let Some(call) = call_of(given, words) else {
+    let Some(step) = start_of(thread, given, words) else {
         return only_start(refused(NO_SUCH_CALL, 0));
     };
-    match kernel.step(&Step::Start(thread, call)) {
+    match kernel.step(&step) {
         Ok(answer) => {
             let start = answered(&answer);
             let step_count = follow(kernel, steps);
             EnterResult { start, step_count }
         }
-        Err(e) => only_start(told(Err(e))),
+        Err(refusal) => not_started(refusal),
     }
 }
 

@@ -192,11 +192,11 @@ pub fn answered(answer: &Answer) -> StepResult
 }
 
 /// What a step gave.
-pub fn told(given: Result<Answer, Refused>) -> StepResult
-    ensures { result ≡ step_result given }
+pub fn told(given: &Result<Answer, Refused>) -> StepResult
+    ensures { result ≡ step_result given.now }
 {
     match given {
-        Ok(answer) => answered(&answer),
-        Err(e) => refused(kernel_number(e), kernel_detail(e)),
+        Ok(answer) => answered(answer),
+        Err(e) => refused(kernel_number(*e), kernel_detail(*e)),
     }
 }

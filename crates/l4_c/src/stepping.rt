@@ -6,7 +6,7 @@ ghost use Rattle.l4_ipc.specs.declared.steps.Step.TheVariants.{Transfer, Expire}
 ghost use Rattle.l4_c.specs.Called.{IsNoKind};
 ghost use Rattle.l4_c.specs.Exports.{Answers, Starts, Names, GoesOn};
 
-use crate::calls::{CallGiven, call_of};
+use crate::calls::{CallGiven, start_of};
 use crate::kernels::KernelHandle;
 use crate::numbers::{EMPTY, NO_SUCH_CALL};
 use crate::results::{NextResult, StepResult, done_told, no_step, refused, step_told, told};
@@ -22,7 +22,7 @@ fn step(alloc: Global, handle: &mut KernelHandle, step: &Step) -> StepResult
     };
     let given = kernel.step(step);
     handle.put(kernel);
-    told(given)
+    told(&given)
 }
 
 /// The message of the sender goes to the receiver.
@@ -68,8 +68,8 @@ pub extern "C" fn l4_start(
 ) -> StepResult
     ensures { Starts handle.old.value thread call.now words.now result handle.new.value }
 {
-    match call_of(call, words) {
-        Some(entered) => step(alloc, handle, &Step::Start(thread, entered)),
+    match start_of(thread, call, words) {
+        Some(start) => step(alloc, handle, &start),
         None => refuse_kind(alloc, handle),
     }
 }

@@ -1,8 +1,11 @@
-//! Enters the same call again and again, so that what a call costs inside can be measured beside what it costs from C (`bench/embedding`).
+//! Enters the same calls again and again, so that what a call costs inside can be measured beside what it costs from C (`bench/calls`).
+//!
+//! It makes other calls of the library too, as its users do: a function that one place alone calls becomes a part of that place, and costs less there.
 #![tactic(auto)]
 
 use l4_ipc::{ArrayVec, Call, IpcCall, Kernel, MAX_THREADS, Outcome, Step, ThreadId};
 use l4_msg::copied;
+use l4_pager::brought;
 use std::io;
 use std::process::ExitCode;
 
@@ -70,10 +73,26 @@ fn enter_all(kernel: &mut Kernel) -> u32 {
     delivered
 }
 
+/// How many words the message has that was received last.
+fn last_words(kernel: &Kernel) -> usize {
+    let Some(reply) = kernel.reply(RECEIVER) else {
+        return 0;
+    };
+    match brought(reply) {
+        Some((_, message)) => message.untyped.len(),
+        None => 0,
+    }
+}
+
 fn main(rt: HostRuntime) -> io::Result<ExitCode> {
     let Ok(mut kernel) = Kernel::boot(rt.alloc(), FRAMES) else {
         return Ok(ExitCode::from(1));
     };
-    println!(rt; "{} messages", enter_all(&mut kernel))?;
+    let delivered = enter_all(&mut kernel);
+    if kernel.enabled().is_some() {
+        return Ok(ExitCode::from(1));
+    }
+    let words = last_words(&kernel);
+    println!(rt; "{delivered} messages, the last with {words} words")?;
     Ok(ExitCode::from(0))
 }
