@@ -426,13 +426,15 @@ next_is slots t space page (Some next) i h = record {
 next_found : (slots : Slots) (t : Tables) (space page end next key : ℕ) → IsIndexed slots t → IsNextIn t space page end next → tables.key_of t space next ≡ Some key
     → IsNextKeyIn (entries_of slots) space page end next × IsKeyOf (entries_of slots) (record { space = space; page = next }) key
 next_found slots t space page end next key i h is =
-    let at = find_is slots t (record { space = space; page = next }) (Some key) i (sym is) in
-    (record {
-      there = has_key slots t i space next h.present;
-      from = h.from;
-      before = h.before;
-      least = λ other le k. h.least other le (present slots t i space other k);
-    }, λ other. (λ e. (at other).0 (ap (λ (k : ℕ). Some k) (sym e)), λ a. sym (some_same ((at other).1 a))))
+    let at = find_is slots t (record { space = space; page = next }) (Some key) i (sym is) in (
+      record {
+        there = has_key slots t i space next h.present;
+        from = h.from;
+        before = h.before;
+        least = λ other le k. h.least other le (present slots t i space other k);
+      },
+      λ other. (λ e. (at other).0 (ap (λ (k : ℕ). Some k) (sym e)), λ a. sym (some_same ((at other).1 a))),
+    )
   where
     some_same : {a b : ℕ} → ◌≡◌ {A = Option ℕ} (Some a) (Some b) → a ≡ b
     some_same h = cc
