@@ -1,6 +1,6 @@
 use crate::{
-    Record, Records, put_answer, put_place, put_reply, put_step, read_answer, read_place,
-    read_reply, read_step,
+    Record, Records, StepOutline, Words, put_answer, put_place, put_reply, put_step, read_answer,
+    read_outline, read_place, read_reply, read_step, read_word,
 };
 use arrayvec::ArrayVec;
 use l4_ipc::{
@@ -20,8 +20,10 @@ fn some_words() -> ArrayVec<u32, MAX_WORDS> {
 fn check_step(rt: &impl Abort, step: &Step) {
     let mut out = Record::new();
     put_step(&mut out, step);
-    let read = read_step(out.words());
-    assert!(rt; matches!(&read, Some((again, rest)) if again == step && rest.is_empty()));
+    match read_step(out.words()) {
+        Some((again, rest)) => assert!(rt; &again == step && read_word(rest).is_none()),
+        None => panic!(rt; "nothing is read"),
+    }
 }
 
 fn check_call(rt: &impl Abort, call: Call) {
@@ -31,8 +33,10 @@ fn check_call(rt: &impl Abort, call: Call) {
 fn check_reply(rt: &impl Abort, reply: &Reply) {
     let mut out = Record::new();
     put_reply(&mut out, reply);
-    let read = read_reply(out.words());
-    assert!(rt; matches!(&read, Some((again, rest)) if again == reply && rest.is_empty()));
+    match read_reply(out.words()) {
+        Some((again, rest)) => assert!(rt; &again == reply && read_word(rest).is_none()),
+        None => panic!(rt; "nothing is read"),
+    }
 }
 
 fn check_outcome(rt: &impl Abort, outcome: Outcome) {
@@ -42,8 +46,10 @@ fn check_outcome(rt: &impl Abort, outcome: Outcome) {
     };
     let mut out = Record::new();
     put_answer(&mut out, &answer);
-    let read = read_answer(out.words());
-    assert!(rt; matches!(&read, Some((again, rest)) if again == &answer && rest.is_empty()));
+    match read_answer(out.words()) {
+        Some((again, rest)) => assert!(rt; again == answer && read_word(rest).is_none()),
+        None => panic!(rt; "nothing is read"),
+    }
 }
 
 #[test]
@@ -123,16 +129,51 @@ fn replies_are_read_back(rt: HostRuntime) {
 }
 
 #[test]
+fn a_step_is_outlined(rt: HostRuntime) {
+    let mut out = Record::new();
+    put_step(&mut out, &Step::Transfer(1, 0xffff_ffff));
+    let read = read_outline(out.words());
+    assert!(rt; matches!(read, Some(StepOutline::Transfer(1, 0xffff_ffff))));
+}
+
+#[test]
 fn places_are_read_back(rt: HostRuntime) {
     let mut out = Record::new();
     put_place(&mut out, 0x1_0000_0007);
     put_place(&mut out, 5);
-    let first = read_place(out.words());
-    assert!(rt; matches!(&first, Some((0x1_0000_0007, [5, 0]))));
+    match read_place(out.words()) {
+        Some((place, rest)) => {
+            assert!(rt; place == 0x1_0000_0007);
+            assert!(rt; matches!(read_place(rest), Some((5, _))));
+        }
+        None => panic!(rt; "nothing is read"),
+    }
 }
 
 /// More records than a few pieces hold.
 const MANY: u32 = 3000;
+
+/// A record of two words, which take one to five bytes each.
+fn some_record(number: u32) -> Record {
+    let mut out = Record::new();
+    out.push(number);
+    out.push(number.wrapping_mul(0x1234_5678));
+    out
+}
+
+/// Whether these are the words of that record.
+fn is_that(words: Option<Words<'_>>, number: u32) -> bool {
+    let Some(words) = words else {
+        return false;
+    };
+    let Some((first, rest)) = read_word(words) else {
+        return false;
+    };
+    let Some((second, rest)) = read_word(rest) else {
+        return false;
+    };
+    first == number && second == number.wrapping_mul(0x1234_5678) && read_word(rest).is_none()
+}
 
 #[test]
 fn records_are_read_back(rt: HostRuntime) -> Result<(), Fail> {
@@ -140,13 +181,11 @@ fn records_are_read_back(rt: HostRuntime) -> Result<(), Fail> {
     assert!(rt; records.is_empty());
     for i in 0..MANY {
         records.reserve(1)?;
-        records.push(&[i, i.wrapping_mul(i), 7, i.wrapping_mul(0x1234_5678)]);
+        records.push(&some_record(i).words());
     }
     assert!(rt; records.len() == MANY as usize);
     for i in 0..MANY {
-        let words = [i, i.wrapping_mul(i), 7, i.wrapping_mul(0x1234_5678)];
-        let record = records.get(i as usize);
-        assert!(rt; matches!(&record, Some(again) if again.as_slice() == words.as_slice()));
+        assert!(rt; is_that(records.get(i as usize), i));
     }
     assert!(rt; records.get(MANY as usize).is_none());
     Ok(())
@@ -156,11 +195,12 @@ fn records_are_read_back(rt: HostRuntime) -> Result<(), Fail> {
 fn a_refused_growth_leaves_what_is_stored(rt: HostRuntime) -> Result<(), Fail> {
     let mut records = Records::new(rt.alloc());
     records.reserve(2)?;
-    records.push(&[1, 2, 3]);
+    let mut record = some_record(7);
+    records.push(&record.words());
     assert!(rt; records.reserve(usize::MAX).is_err());
-    let record = records.get(0);
-    assert!(rt; matches!(&record, Some(again) if again.as_slice() == [1, 2, 3].as_slice()));
-    records.push(&[]);
+    assert!(rt; is_that(records.get(0), 7));
+    record.clear();
+    records.push(&record.words());
     assert!(rt; records.len() == 2);
     Ok(())
 }
