@@ -4,3 +4,4 @@ pub mod Listing
 pub mod Scripting
 pub mod Delegating
 pub mod Served
+pub mod Outlined

@@ -1,14 +1,14 @@
 //! What follows a call's start: the steps that come next, and the acts of served threads.
 ghost use Rattle.std.specs.Prelude.{◌≡◌, ℕ, List, MatchResult, drop};
 ghost use Rattle.l4_text.specs.Streams.{Tells};
-ghost use Rattle.l4_shell.specs.Sessions.{session, step_line, ended_text, step_text, is_among, waiting_text, GoesOn};
-ghost use Rattle.l4_shell.specs.Inside.Telling.{TellsEntries, TellsCall, TellsNothing, TellsActs};
+ghost use Rattle.l4_shell.specs.Sessions.{session, ended_text, is_among, waiting_text, GoesOn};
+ghost use Rattle.l4_shell.specs.Inside.Telling.{outline_line, outline_text, TellsEntries, TellsCall, TellsNothing, TellsActs};
 
 use crate::refusals::lock_code;
 use crate::texts::refused_act_text;
 use l4_answers::{add_waits, expire_text, put_reply, transfer_text};
-use l4_ipc::{Answer, Call, Kernel, Outcome, Step};
-use l4_lock::LockRefusal;
+use l4_ipc::{Answer, Call, Kernel, Outcome};
+use l4_lock::{EntryOutline, LockRefusal, StepOutline};
 use l4_seats::SeatedKernel;
 use l4_servers::Servers;
 use l4_text::{Output, Text};
@@ -28,24 +28,24 @@ fn tell_ended<W: Write>(kernel: &Kernel, answer: &Answer, out: &mut Output, writ
 }
 
 /// Tells a step itself.
-fn tell_step<W: Write>(step: &Step, outcome: Outcome, out: &mut Output, writer: &mut W)
+fn tell_step<W: Write>(step: StepOutline, outcome: Outcome, out: &mut Output, writer: &mut W)
     ensures { Tells (W.contents writer.old) (W.contents writer.new) out.old out.new
-        (step_line step.now outcome) }
+        (outline_line step outcome) }
 {
     match step {
-        Step::Start(_, _) => {}
-        Step::Transfer(s, r) => out.put(writer, &transfer_text(*s, *r, outcome)),
-        Step::Expire(n) => out.put(writer, &expire_text(*n)),
+        StepOutline::Start(_) => {}
+        StepOutline::Transfer(s, r) => out.put(writer, &transfer_text(s, r, outcome)),
+        StepOutline::Expire(n) => out.put(writer, &expire_text(n)),
     }
 }
 
 /// Tells a step, and how the calls ended that ended in it.
-fn tell<W: Write>(kernel: &Kernel, step: &Step, answer: &Answer, out: &mut Output, writer: &mut W)
+fn tell<W: Write>(kernel: &Kernel, entry: &EntryOutline, out: &mut Output, writer: &mut W)
     ensures { Tells (W.contents writer.old) (W.contents writer.new) out.old out.new
-        (step_text step.now answer.now kernel.now) }
+        (outline_text kernel.now entry.now) }
 {
-    tell_step(step, answer.outcome, out, writer);
-    tell_ended(kernel, answer, out, writer);
+    tell_step(entry.step, entry.answer.outcome, out, writer);
+    tell_ended(kernel, &entry.answer, out, writer);
 }
 
 /// Whether the thread's call ended in a step.
@@ -80,10 +80,10 @@ fn tell_entries<W: Write>(
 {
     let mut ended = false;
     for place in first..kernel.history().len() {
-        let Some(entry) = kernel.history().get(place) else {
+        let Some(entry) = kernel.history().outline(place) else {
             return ended;
         };
-        tell(kernel.kernel(), &entry.step, &entry.answer, out, writer);
+        tell(kernel.kernel(), &entry, out, writer);
         ended = ended | has_ended(&entry.answer, thread);
     }
     ended

@@ -1,20 +1,34 @@
 -- What parts of a line's carrying out do and tell, before what is held back goes out.
-use Rattle.std.specs.Prelude.{◌≡◌, ℕ, ◌≤◌, Bool, List, ◌++◌, length, Option}
+use Rattle.std.specs.Prelude.{◌≡◌, ℕ, ◌≤◌, Bool, List, [], ◌++◌, length, Option}
 use Rattle.std.specs.List.{flat_map}
 use Rattle.l4_ipc.specs.Machine.{Machine}
 use Rattle.l4_ipc.specs.declared.calls.Call.{Call}
 use Rattle.l4_ipc.specs.declared.steps.Step.TheVariants.{Start}
+use Rattle.l4_ipc.specs.declared.steps.Outcome.{Outcome}
+use Rattle.l4_packed.specs.declared.steps.StepOutline.{StepOutline}
+use Rattle.l4_packed.specs.declared.steps.StepOutline.TheVariants.{Start as Starts, Transfer as Transfers, Expire as Expires}
 use Rattle.l4_lock.specs.declared.entries.Entry.{Entry}
+use Rattle.l4_lock.specs.declared.entries.EntryOutline.{EntryOutline}
 use Rattle.l4_lock.specs.declared.refusals.LockRefusal.{LockRefusal}
 use Rattle.l4_seats.specs.Seated.{Seated, Enters as EntersCall, Refuses as RefusesCall}
 use Rattle.l4_text.specs.Streams.{Tells}
 use Rattle.l4_answers.specs.Refusals.{refused_text}
+use Rattle.l4_answers.specs.Replies.{transfer_text, expire_text}
 use Rattle.l4_shell.specs.Refusals.{lock_refusal}
-use Rattle.l4_shell.specs.Sessions.{Session, step_text, done_text, is_among, ended_in, Act, act_text, ended_by, AreActs, most_acts, StopsActing}
+use Rattle.l4_shell.specs.Sessions.{Session, ended_text, step_text, done_text, is_among, ended_in, Act, act_text, ended_by, AreActs, most_acts, StopsActing}
 
 -- what is told of an entry, where the replies of the calls that ended in it are read later
 abbrev pub entry_text : Machine → Entry → List ℕ
 entry_text m entry = step_text entry.step entry.answer m
+
+-- the same of an entry without the call of a start
+abbrev pub outline_line : StepOutline → Outcome → List ℕ
+outline_line (Starts n) outcome = []
+outline_line (Transfers sender receiver) outcome = transfer_text sender receiver outcome
+outline_line (Expires n) outcome = expire_text n
+
+abbrev pub outline_text : Machine → EntryOutline → List ℕ
+outline_text m entry = outline_line entry.step entry.answer.outcome ++ ended_text m entry.answer.ended.items
 
 -- the threads whose calls ended in these entries
 abbrev pub ended_at : List Entry → List ℕ
