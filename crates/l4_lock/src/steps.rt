@@ -13,7 +13,7 @@ use crate::entries::Entry;
 use crate::history::History;
 use crate::refusals::LockRefusal;
 use crate::seats::Account;
-use l4_ipc::{Answer, Call, Kernel, Refused, Step};
+use l4_ipc::{Call, Kernel, Refused, Step};
 
 /// Where the account of a number stands.
 pub fn position(accounts: &[Account], number: u32) -> Option<usize>
@@ -63,21 +63,19 @@ fn note_all(accounts: &mut Vec<Account>, kernel: &Kernel, ended: &[u32], place: 
 }
 
 /// Appends a step that was done.
-pub fn append(
-    kernel: &Kernel,
-    history: &mut History,
-    accounts: &mut Vec<Account>,
-    seat: u32,
-    step: Step,
-    answer: Answer,
-)
+pub fn append(kernel: &Kernel, history: &mut History, accounts: &mut Vec<Account>, entry: Entry)
     requires { length history.old.entries < history.old.room }
-    ensures history { history.new.entries ≡ history.old.entries ++ record { seat = seat; step = step; answer = answer } ∷ [] }
+    ensures history { history.new.entries ≡ history.old.entries ++ entry ∷ [] }
     ensures room { (length history.new.entries ≡ length history.old.entries + 1) × (history.new.room ≡ history.old.room) }
-    ensures accounts { accounts.new.items ≡ map (noted kernel.now answer.ended.items (length history.old.entries)) accounts.old.items }
+    ensures accounts { accounts.new.items ≡ map (noted kernel.now entry.answer.ended.items (length history.old.entries)) accounts.old.items }
 {
-    note_all(accounts, kernel, answer.ended.as_slice(), history.len());
-    history.push(Entry { seat, step, answer });
+    note_all(
+        accounts,
+        kernel,
+        entry.answer.ended.as_slice(),
+        history.len(),
+    );
+    history.push(entry);
 }
 
 /// Does the steps that come next, until there is none.
@@ -89,7 +87,7 @@ pub fn follow(kernel: &mut Kernel, history: &mut History, accounts: &mut Vec<Acc
     kernel.law_consistent();
     while let Some((step, answer)) = kernel.step_next() {
         kernel.law_forest();
-        append(kernel, history, accounts, seat, step, answer);
+        append(kernel, history, accounts, Entry { seat, step, answer });
     }
 }
 
@@ -119,7 +117,16 @@ pub fn begin(
     match kernel.step(&step) {
         Ok(answer) => {
             kernel.law_forest();
-            append(kernel, history, accounts, number, step, answer);
+            append(
+                kernel,
+                history,
+                accounts,
+                Entry {
+                    seat: number,
+                    step,
+                    answer,
+                },
+            );
             follow(kernel, history, accounts, number);
             Ok(())
         }
