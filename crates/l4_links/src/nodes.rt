@@ -105,26 +105,15 @@ pub(crate) fn set_wanted(nodes: &mut Slab<Slot>, key: usize, wanted: bool)
     }
 }
 
-/// The node with a note that an item of these rights grants it.
-fn granted(node: Option<Node>, rights: Rights) -> Option<Node>
-    ensures { result ≡ option_map (λ (n : ANode). record n { granted = Some rights }) node }
-{
-    let Some(node) = node else {
-        return None;
-    };
-    Some(Node {
-        granted: Some(rights),
-        ..node
-    })
-}
-
 /// Lets the slot under the key, if there is one, be of this page, with a note that an item of these rights grants it.
 pub(crate) fn give(nodes: &mut Slab<Slot>, key: usize, place: Place, rights: Rights)
     ensures { Gives key place rights nodes.old.slots nodes.new.slots }
 {
     if let Some(slot) = nodes.get_mut(key) {
         slot.place = place;
-        slot.node = granted(slot.node, rights);
+        if let Some(node) = &mut slot.node {
+            node.granted = Some(rights);
+        }
     }
 }
 
@@ -135,10 +124,12 @@ pub(crate) fn set_next(nodes: &mut Slab<Slot>, at: Option<usize>, next: Option<u
     let Some(key) = at else {
         return;
     };
-    let Some(node) = node_of(nodes, key) else {
+    let Some(slot) = nodes.get_mut(key) else {
         return;
     };
-    write(nodes, key, Some(Node { next, ..node }));
+    if let Some(node) = &mut slot.node {
+        node.next = next;
+    }
 }
 
 /// Lets the node that is meant have this previous key.
@@ -148,10 +139,12 @@ pub(crate) fn set_prev(nodes: &mut Slab<Slot>, at: Option<usize>, prev: Option<u
     let Some(key) = at else {
         return;
     };
-    let Some(node) = node_of(nodes, key) else {
+    let Some(slot) = nodes.get_mut(key) else {
         return;
     };
-    write(nodes, key, Some(Node { prev, ..node }));
+    if let Some(node) = &mut slot.node {
+        node.prev = prev;
+    }
 }
 
 /// Lets the node have no other rights than these. A node that loses its last right goes on the stack that begins with the key
@@ -193,50 +186,50 @@ pub(crate) fn cap_at(
 pub(crate) fn close(nodes: &mut Slab<Slot>, key: usize, stamp: u64, end: Option<usize>)
     ensures { Closes key stamp end nodes.old.slots nodes.new.slots }
 {
-    let Some(node) = node_of(nodes, key) else {
+    let Some(slot) = nodes.get_mut(key) else {
         return;
     };
-    let mark = stamp;
-    write(nodes, key, Some(Node { mark, end, ..node }));
+    if let Some(node) = &mut slot.node {
+        node.mark = stamp;
+        node.end = end;
+    }
 }
 
 /// Notes that the walk has come by the node.
 pub(crate) fn see(nodes: &mut Slab<Slot>, key: usize, stamp: u64)
     ensures { Sees key stamp nodes.old.slots nodes.new.slots }
 {
-    let Some(node) = node_of(nodes, key) else {
+    let Some(slot) = nodes.get_mut(key) else {
         return;
     };
-    let seen = stamp;
-    write(nodes, key, Some(Node { seen, ..node }));
+    if let Some(node) = &mut slot.node {
+        node.seen = stamp;
+    }
 }
 
 /// Marks the node as a source, or takes the mark away.
 pub(crate) fn set_source(nodes: &mut Slab<Slot>, key: usize, source: bool)
     ensures { SetsSource key source nodes.old.slots nodes.new.slots }
 {
-    let Some(node) = node_of(nodes, key) else {
+    let Some(slot) = nodes.get_mut(key) else {
         return;
     };
-    write(nodes, key, Some(Node { source, ..node }));
+    if let Some(node) = &mut slot.node {
+        node.source = source;
+    }
 }
 
 /// Takes the marks of a source and of a grant from the node.
 pub(crate) fn set_plain(nodes: &mut Slab<Slot>, key: usize)
     ensures { SetsPlain key nodes.old.slots nodes.new.slots }
 {
-    let Some(node) = node_of(nodes, key) else {
+    let Some(slot) = nodes.get_mut(key) else {
         return;
     };
-    write(
-        nodes,
-        key,
-        Some(Node {
-            source: false,
-            granted: None,
-            ..node
-        }),
-    );
+    if let Some(node) = &mut slot.node {
+        node.source = false;
+        node.granted = None;
+    }
 }
 
 /// What a contract shows of a node.

@@ -160,8 +160,7 @@ fn last_low(places: usize, start: u32, end: u32) -> usize
     places
 }
 
-/// The first page with a key from `page` on and below `end`, with the key. Tables that are absent are stepped over, and no place
-/// from `end` on is looked at.
+/// The first page with a key from `page` on and below `end`, with the key.
 pub(crate) fn next_page(
     tables: &Vec<Vec<Option<usize>>>,
     page: u32,
@@ -174,6 +173,20 @@ pub(crate) fn next_page(
     if page >= end {
         return None;
     }
+    if let Some(key) = key_in(tables, page) {
+        return Some((page, key));
+    }
+    seek(tables, page, end)
+}
+
+/// The first page with a key from `page` on and below `end`, with the key. Tables that are absent are stepped over, and no place
+/// from `end` on is looked at.
+#[inline(never)]
+fn seek(tables: &Vec<Vec<Option<usize>>>, page: u32, end: u32) -> Option<(u32, usize)>
+    requires whole { AreWhole tables.now.items }
+    requires full { length tables.now.items ≤ space_tables }
+    ensures { MatchOption result (NoneIn tables.now.items page end) (λ found. IsFirstIn tables.now.items page end found.0 found.1) }
+{
     let first = (page / TABLE_PAGES) as usize;
     for high in first..tables.len() {
         let start = high as u32 * TABLE_PAGES;
