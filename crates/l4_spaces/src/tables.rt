@@ -161,6 +161,7 @@ fn last_low(places: usize, start: u32, end: u32) -> usize
 }
 
 /// The first page with a key from `page` on and below `end`, with the key.
+#[inline]
 pub(crate) fn next_page(
     tables: &Vec<Vec<Option<usize>>>,
     page: u32,
