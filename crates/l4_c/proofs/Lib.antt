@@ -1,5 +1,3 @@
-pub mod Few
-pub mod Filled
 pub mod Following
 pub mod Holding
 pub mod KernelValues
