@@ -1,8 +1,10 @@
 use crate::commands::{Command, read_command};
 use crate::requests::{ROOT, Request, delete_call, request_of};
 use crate::{RunFault, run};
+use arrayvec::ArrayVec;
 use l4_ipc::{Call, Control};
-use l4_text::{Drip, Sip};
+use l4_msg::MAX_WORDS;
+use l4_text::{Drip, Sip, next_token};
 use std::alloc::Global;
 use std::io;
 use std::io::Read;
@@ -147,7 +149,11 @@ fn check_answers(rt: &impl Abort, alloc: Global, rows: &[(&[u8], &[u8])]) -> Res
 
 /// The call that a line enters, and the number of its caller.
 fn entered(line: &[u8]) -> Result<(u32, Call), Fail> {
-    let Ok(command) = read_command(line) else {
+    let mut registers: ArrayVec<u32, MAX_WORDS> = ArrayVec::new();
+    let Some((name, rest)) = next_token(line) else {
+        return Err("no token".into());
+    };
+    let Ok(command) = read_command(name, rest, &mut registers) else {
         return Err("not read".into());
     };
     match request_of(command) {
