@@ -25,7 +25,7 @@ numbers-push [] e = refl
 numbers-push (x ∷ es) e = ap (λ rest. x.0 ∷ rest) (numbers-push es e)
 
 -- what isn't found is none of the numbers
-absent_found : (es : Entries) (n : ℕ) → found es n ≡ None → is_in (map (λ e. e.0) es) n ≡ false
+pub absent_found : (es : Entries) (n : ℕ) → found es n ≡ None → is_in (map (λ e. e.0) es) n ≡ false
 absent_found [] n h = refl
 absent_found (e ∷ es) n h =
     elim (same_or n e.0) [

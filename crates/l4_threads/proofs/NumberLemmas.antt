@@ -1,12 +1,16 @@
 -- The numbers of the table, listed once more on their own: where one stands, and what becomes of the list.
-use Rattle.std.proofs.Common.{◌≡◌, ◌≢◌, ℕ, zero, suc, ◌+◌, ◌<◌, ◌≤◌, List, [], ◌∷◌, map, length, Option, Some, None, sym, ap, ◌∙◌, slice_get, arith, inl, inr}
+use Rattle.std.proofs.Common.{◌≡◌, ◌≢◌, ℕ, zero, suc, ◌+◌, ◌<◌, ◌≤◌, ◌==◌, true, List, [], ◌∷◌, ◌++◌, map, length, Option, Some, None, sym, ap, ◌∙◌, subst, slice_get, arith, inl, inr, eq-eqb}
+use Rattle.std.proofs.lemmas.Bool.{false≢true}
 use Rattle.std.proofs.lemmas.List.{length-map}
 use Rattle.std.proofs.lemmas.Option.{slice_get_within}
 use Rattle.std.specs.List.{refill, slice_set, slice_index_or}
 use Rattle.l4_threads.specs.declared.Thread.{Thread}
 use Rattle.l4_threads.specs.Inside.Entries.{Entries, found, changed_in, IsAt}
-use Rattle.l4_threads.specs.Inside.Numbers.{IsFirst, IsNowhere}
+use Rattle.l4_threads.specs.Inside.Numbers.{IsFirst, IsNowhere, AreNumbers}
+use Rattle.l4_threads.specs.Queue.{is_in, IsOnce}
 use Rattle.l4_threads.proofs.TableLemmas.{same_or, found_none, numbers-changed_in, written_change}
+use Rattle.l4_threads.proofs.QueueLemmas.{or_left, or_right, once-push}
+use Rattle.l4_threads.proofs.BootLemmas.{numbers-push, absent_found}
 
 -- none of the numbers before a place is this one
 abbrev pub NoneBefore : List ℕ → ℕ → ℕ → Type 0
@@ -60,6 +64,24 @@ is_at es numbers n at same first =
 pub not_found : (es : Entries) (numbers : List ℕ) (n : ℕ) → numbers ≡ map (λ e. e.0) es → IsNowhere numbers n → found es n ≡ None
 not_found es numbers n same none = found_none es n (λ i e there. none i e.0 (ap (λ (l : List ℕ). slice_get l i) same ∙ number_at es i e there))
 
+-- a number that stands at a place is in the list, and where each number stands once, none before it is the same
+number_in : (numbers : List ℕ) (i n : ℕ) → slice_get numbers i ≡ Some n → is_in numbers n ≡ true
+number_in [] i n at = absurd (let k : ◌≡◌ {A = Option ℕ} None (Some n) = at in cc)
+number_in (x ∷ xs) zero n at = let k : ◌≡◌ {A = Option ℕ} (Some x) (Some n) = at in let v : x ≡ n = cc in or_left _ _ (eq-eqb n x (sym v))
+number_in (x ∷ xs) (suc i) n at = or_right (n == x) _ (number_in xs i n at)
+
+none_before : (numbers : List ℕ) → IsOnce numbers → (n at : ℕ) → slice_get numbers at ≡ Some n → NoneBefore numbers n at
+none_before [] once n at there i m lt here = absurd (let k : ◌≡◌ {A = Option ℕ} None (Some n) = there in cc)
+none_before (x ∷ xs) once n zero there i m lt here = absurd (omega arith)
+none_before (x ∷ xs) once n (suc at) there zero m lt here = λ is.
+    let k : ◌≡◌ {A = Option ℕ} (Some x) (Some m) = here in
+    let v : x ≡ m = cc in
+    false≢true (sym once.0 ∙ ap (is_in xs) (v ∙ is) ∙ number_in xs at n there)
+none_before (x ∷ xs) once n (suc at) there (suc i) m lt here = none_before xs once.1 n at there i m (omega arith) here
+
+pub once_at : (es : Entries) (numbers : List ℕ) (n at : ℕ) → numbers ≡ map (λ e. e.0) es → IsOnce numbers → slice_get numbers at ≡ Some n → IsAt es n at
+once_at es numbers n at same once there = is_at es numbers n at same (record { there = there; first = none_before numbers once n at there })
+
 pub at_within : (es : Entries) (n at : ℕ) → IsAt es n at → at < length es
 at_within es n at first = slice_get_within es at (n, first.thread) first.there
 
@@ -67,14 +89,25 @@ at_within es n at first = slice_get_within es at (n, first.thread) first.there
 abbrev after : Entries → Entries → ℕ → (Thread → Thread) → ℕ × Thread → Entries
 after es xs at f d = refill (length es) es (slice_set xs at ((slice_index_or xs at d).0, f (slice_index_or xs at d).1))
 
-pub written : (es xs : Entries) (numbers seen : List ℕ) (n at : ℕ) (f : Thread → Thread) (d : ℕ × Thread) → numbers ≡ map (λ e. e.0) es → seen ≡ numbers → xs ≡ es → IsFirst seen n at
-    → after es xs at f d ≡ changed_in es n f
-written es xs numbers seen n at f d same listed is first = written_change es xs n at f d is (is_at es seen n at (listed ∙ same) first)
+pub written : (es seen xs : Entries) (n at : ℕ) (f : Thread → Thread) (d : ℕ × Thread) → es ≡ seen → xs ≡ es → IsAt seen n at → after es xs at f d ≡ changed_in es n f
+written es seen xs n at f d same is first = written_change es xs n at f d is (subst (λ (l : Entries). IsAt l n at) (sym same) first)
 
-pub written_numbers : (es xs : Entries) (numbers seen : List ℕ) (n at : ℕ) (f : Thread → Thread) (d : ℕ × Thread) → numbers ≡ map (λ e. e.0) es → seen ≡ numbers → xs ≡ es → IsFirst seen n at
-    → numbers ≡ map (λ e. e.0) (after es xs at f d)
-written_numbers es xs numbers seen n at f d same listed is first =
-    same ∙ sym (ap (λ (es : Entries). map (λ e. e.0) es) (written es xs numbers seen n at f d same listed is first) ∙ numbers-changed_in es n f)
+pub written_numbers : (es seen xs : Entries) (numbers hints : List ℕ) (n at : ℕ) (f : Thread → Thread) (d : ℕ × Thread) → AreNumbers numbers hints es → es ≡ seen → xs ≡ es → IsAt seen n at
+    → AreNumbers numbers hints (after es xs at f d)
+written_numbers es seen xs numbers hints n at f d are same is first = record {
+  listed = are.listed ∙ sym (ap (λ (es : Entries). map (λ e. e.0) es) (written es seen xs n at f d same is first) ∙ numbers-changed_in es n f);
+  once = are.once;
+  counted = are.counted;
+}
+
+-- with one more number
+pub pushed_numbers : (es : Entries) (numbers hints : List ℕ) (n : ℕ) (t : Thread) (more : List ℕ) → AreNumbers numbers hints es → found es n ≡ None → length more ≡ 256
+    → AreNumbers (numbers ++ n ∷ []) more (es ++ (n, t) ∷ [])
+pushed_numbers es numbers hints n t more are free counted = record {
+  listed = ap (λ (l : List ℕ). l ++ n ∷ []) are.listed ∙ sym (numbers-push es (n, t));
+  once = once-push numbers n are.once (ap (λ (l : List ℕ). is_in l n) are.listed ∙ absent_found es n free);
+  counted = counted;
+}
 
 -- as many numbers are there as threads
 pub as_many : (es : Entries) (numbers : List ℕ) → numbers ≡ map (λ e. e.0) es → length numbers ≡ length es

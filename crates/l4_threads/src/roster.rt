@@ -10,18 +10,22 @@ use arrayvec::ArrayVec;
 use l4_msg::Item;
 use std::marker::Model;
 
-/// The threads, and their numbers once more on their own.
+/// How many hints there are.
+const HINTS: usize = 256;
+
+/// The threads, their numbers once more on their own, and by the remainder of a number where it may stand.
 #[derive(Drop)]
 pub struct Roster {
     entries: ArrayVec<(u32, Thread), MAX_THREADS>,
     numbers: ArrayVec<u32, MAX_THREADS>,
+    hints: [u8; HINTS],
 }
 
 impl Model for Roster {
-    ghost use Rattle.std.specs.Prelude.{◌≡◌, map};
     ghost use Rattle.std.specs.Coded.{coded×, coded_ℕ, coded_list};
     ghost use Rattle.l4_threads.specs.contracts.Thread as thread;
     ghost use Rattle.l4_threads.specs.Inside.Entries.{Entries};
+    ghost use Rattle.l4_threads.specs.Inside.Numbers.{AreNumbers};
 
     ghost Value = { Entries };
 
@@ -29,7 +33,7 @@ impl Model for Roster {
 
     ghost view = { λ r. r.entries.items };
 
-    ghost invariant = { λ r. r.numbers.items ≡ map (λ e. e.0) r.entries.items };
+    ghost invariant = { λ r. AreNumbers r.numbers.items r.hints r.entries.items };
 }
 
 /// Where the number stands.
@@ -44,8 +48,19 @@ fn place_of(numbers: &[u32], number: u32) -> Option<usize>
     None
 }
 
+/// Hints at where each number stands.
+fn hint_all(hints: &mut [u8], numbers: &[u32])
+    requires counted { length hints.old ≡ 256 }
+    requires few { length numbers.now ≤ 64 }
+    ensures { length hints.new ≡ 256 }
+{
+    for place in 0..numbers.len() {
+        hints[numbers[place] as usize % HINTS] = place as u8;
+    }
+}
+
 impl Roster {
-    ghost use Rattle.l4_threads.specs.Inside.Entries.{found, changed_in, in_state, in_pager, freed_in, without_in};
+    ghost use Rattle.l4_threads.specs.Inside.Entries.{IsAt, found, changed_in, in_state, in_pager, freed_in, without_in};
     ghost use Rattle.l4_threads.specs.declared.State.TheVariants.{Running, Sending as Sends, Receiving as Receives};
     ghost use Rattle.l4_threads.specs.declared.Reply.TheVariants.{Ipc};
     ghost use Rattle.l4_threads.specs.Threads.{sending_of, message_of};
@@ -57,6 +72,7 @@ impl Roster {
         Roster {
             entries: ArrayVec::new(),
             numbers: ArrayVec::new(),
+            hints: [0; HINTS],
         }
     }
 
@@ -77,18 +93,32 @@ impl Roster {
 
     /// Adds a thread.
     pub fn push(&mut self, number: u32, thread: Thread)
-        requires { length self.old < 64 }
+        requires room { length self.old < 64 }
+        requires free { found self.old number ≡ None }
         ensures { self.new ≡ self.old ++ (number, thread) ∷ [] }
     {
+        self.hints[number as usize % HINTS] = self.entries.len() as u8;
         self.entries.push((number, thread));
         self.numbers.push(number);
+    }
+
+    /// Where the thread of this number stands, at its hint or where a walk finds it.
+    fn place(&self, number: u32) -> Option<usize>
+        ensures { MatchOption result (found self.now number ≡ None) (IsAt self.now number) }
+    {
+        let numbers = self.numbers.as_slice();
+        let hint = self.hints[number as usize % HINTS] as usize;
+        if hint < numbers.len() && numbers[hint] == number {
+            return Some(hint);
+        }
+        place_of(numbers, number)
     }
 
     /// The thread of this number.
     pub fn thread(&self, number: u32) -> Option<&Thread>
         ensures { option_copied result ≡ found self.now number }
     {
-        let at = place_of(self.numbers.as_slice(), number)?;
+        let at = self.place(number)?;
         let entries = self.entries.as_slice();
         Some(&entries[at].1)
     }
@@ -98,7 +128,7 @@ impl Roster {
         requires { found self.old number ≢ None }
         ensures { self.new ≡ changed_in self.old number (in_state (Running (Some reply))) }
     {
-        if let Some(at) = place_of(self.numbers.as_slice(), number) {
+        if let Some(at) = self.place(number) {
             self.entries[at].1.state = State::Running(Some(reply));
         }
     }
@@ -109,7 +139,7 @@ impl Roster {
         requires words { length words.now ≤ 64 }
         ensures { self.new ≡ changed_in self.old number (in_state (Running (Some (Ipc (message_of envelope words.now))))) }
     {
-        if let Some(at) = place_of(self.numbers.as_slice(), number) {
+        if let Some(at) = self.place(number) {
             self.entries[at].1.state.reply(envelope, words);
         }
     }
@@ -121,7 +151,7 @@ impl Roster {
         requires items { length items.now ≤ 31 }
         ensures { self.new ≡ changed_in self.old number (in_state (Sends (sending_of words.now items.now phase))) }
     {
-        if let Some(at) = place_of(self.numbers.as_slice(), number) {
+        if let Some(at) = self.place(number) {
             self.entries[at].1.state.send(words, items, phase);
         }
     }
@@ -131,7 +161,7 @@ impl Roster {
         requires { found self.old number ≢ None }
         ensures { self.new ≡ changed_in self.old number (in_state (Receives receiving)) }
     {
-        if let Some(at) = place_of(self.numbers.as_slice(), number) {
+        if let Some(at) = self.place(number) {
             self.entries[at].1.state.receive(receiving);
         }
     }
@@ -141,7 +171,7 @@ impl Roster {
         requires { found self.old number ≢ None }
         ensures { self.new ≡ changed_in self.old number (in_pager pager) }
     {
-        if let Some(at) = place_of(self.numbers.as_slice(), number) {
+        if let Some(at) = self.place(number) {
             self.entries[at].1.pager = pager;
         }
     }
@@ -159,6 +189,7 @@ impl Roster {
     {
         self.entries.retain(|entry| entry.0 != number);
         self.numbers.retain(|other| *other != number);
+        hint_all(&mut self.hints, self.numbers.as_slice());
     }
 
     /// Whether there is a sending thread of this number.

@@ -1,5 +1,7 @@
 -- A list of numbers, and where one stands in it. (this profile's own)
-use Rattle.std.specs.Prelude.{◌≡◌, ◌≢◌, ℕ, ◌<◌, List, Some, slice_get}
+use Rattle.std.specs.Prelude.{◌≡◌, ◌≢◌, ℕ, ◌<◌, List, Some, slice_get, map, length}
+use Rattle.l4_threads.specs.Inside.Entries.{Entries}
+use Rattle.l4_threads.specs.Queue.{IsOnce}
 
 -- the number first stands at this place
 pub record IsFirst (numbers : List ℕ) (n at : ℕ) : Type 0 where
@@ -9,3 +11,9 @@ pub record IsFirst (numbers : List ℕ) (n at : ℕ) : Type 0 where
 -- the number stands nowhere
 abbrev pub IsNowhere : List ℕ → ℕ → Type 0
 IsNowhere numbers n = (i m : ℕ) → slice_get numbers i ≡ Some m → m ≢ n
+
+-- the numbers of the table, of which each stands once, and the hints
+pub record AreNumbers (numbers hints : List ℕ) (es : Entries) : Type 0 where
+  pub listed : numbers ≡ map (λ e. e.0) es
+  pub once : IsOnce numbers
+  pub counted : length hints ≡ 256

@@ -1,9 +1,10 @@
-use Rattle.std.proofs.Common.{◌≡◌, ℕ, ◌==◌, not, map, sym, ap, ◌∙◌, rules}
+use Rattle.std.proofs.Common.{◌≡◌, ℕ, ◌==◌, not, map, sym, ap, ◌∙◌, subst, rules}
 use Rattle.arrayvec.proofs.ArrayVecLemmas.{filter-from_retain}
 use Rattle.l4_threads.specs.declared.Thread.{Thread}
 use Rattle.l4_threads.specs.Inside.Entries.{Entries, without_in}
 use Rattle.l4_threads.proofs.DeleteLemmas.{numbers-without_in}
-use Rattle.l4_threads.proofs.QueueLemmas.{left_by}
+use Rattle.l4_threads.specs.Queue.{IsOnce}
+use Rattle.l4_threads.proofs.QueueLemmas.{left_by, once-left_by}
 use Rattle.l4_threads.proofs.roster.Roster.remove.Goals as goal
 
 pub invariant_of-self : goal.invariant_of-self
@@ -12,7 +13,11 @@ invariant_of-self c =
     filter-from_retain _ (λ (e : ℕ × Thread). not (e.0 == c.args.number)) _ (λ x b f' y called. search rules) _ _ c.retain.ensures.filtered in
     let numbers : c.retain-2.new.self.items ≡ left_by c.args.number c.self.inside.numbers.items =
     filter-from_retain _ (λ (m : ℕ). not (m == c.args.number)) _ (λ x b f' y called. search rules) _ _ c.retain-2.ensures.filtered in
-    numbers ∙ ap (left_by c.args.number) c.self.invariant ∙ sym (ap (λ (es : Entries). map (λ e. e.0) es) entries ∙ numbers-without_in c.self.inside.entries.items c.args.number)
+    record {
+      listed = numbers ∙ ap (left_by c.args.number) c.self.invariant.listed ∙ sym (ap (λ (es : Entries). map (λ e. e.0) es) entries ∙ numbers-without_in c.self.inside.entries.items c.args.number);
+      once = subst IsOnce (sym numbers) (once-left_by c.args.number c.self.inside.numbers.items c.self.invariant.once);
+      counted = c.hint_all.ensures;
+    }
 
 pub returns : goal.returns
 returns c =

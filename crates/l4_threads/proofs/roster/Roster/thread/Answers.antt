@@ -3,18 +3,15 @@ use Rattle.std.proofs.lemmas.Option.{get_or_from_slice_get}
 use Rattle.l4_threads.specs.declared.Thread.{Thread}
 use Rattle.l4_threads.specs.Inside.Entries.{Entries}
 use Rattle.l4_threads.proofs.TableLemmas.{found_first}
-use Rattle.l4_threads.proofs.NumberLemmas.{is_at, not_found, at_within}
+use Rattle.l4_threads.proofs.NumberLemmas.{at_within}
 use Rattle.l4_threads.proofs.roster.Roster.thread.Goals as goal
 
 pub returns-in_err-at : goal.returns-in_err-at
-returns-in_err-at c =
-    rw (c.from_residual.ensures, ← c.self.view_is)
-    (sym (not_found c.self.inside.entries.items c.as_slice.result.now c.args.number (c.as_slice.ensures.value ∙ c.self.invariant) c.in_err-at.ensures))
+returns-in_err-at c = rw c.from_residual.ensures (sym c.in_err-at.ensures)
 
 pub bounds-entries-at : goal.bounds-entries-at
 bounds-entries-at c =
-    let first = is_at c.self.inside.entries.items c.as_slice.result.now c.args.number c.in_ok-at.at (c.as_slice.ensures.value ∙ c.self.invariant) c.in_ok-at.ensures in
-    subst (λ (es : Entries). c.in_ok-at.at < length es) (sym c.as_slice-entries.ensures.value) (at_within c.self.inside.entries.items c.args.number c.in_ok-at.at first)
+    subst (λ (es : Entries). c.in_ok-at.at < length es) (sym (c.as_slice-entries.ensures.value ∙ c.self.view_is)) (at_within c.args.self.now c.args.number c.in_ok-at.at c.in_ok-at.ensures)
 
 pub offset_bounds-entries-at : goal.offset_bounds-entries-at
 offset_bounds-entries-at c =
@@ -24,8 +21,7 @@ offset_bounds-entries-at c =
 
 pub returns : goal.returns
 returns c =
-    let first = is_at c.self.inside.entries.items c.as_slice.result.now c.args.number c.in_ok-at.at (c.as_slice.ensures.value ∙ c.self.invariant) c.in_ok-at.ensures in
-    let there = ap (λ (es : Entries). slice_get es c.in_ok-at.at) c.as_slice-entries.ensures.value ∙ first.there in
-    rw (← c.self.view_is)
-    (ap (λ (e : ℕ × Thread). Some e.1) (get_or_from_slice_get c.as_slice-entries.result.now c.in_ok-at.at (c.args.number, first.thread) c.index-entries-at.result there)
-    ∙ sym (found_first c.self.inside.entries.items c.args.number c.in_ok-at.at first.thread first.there first.first))
+    let first = c.in_ok-at.ensures in
+    let there = ap (λ (es : Entries). slice_get es c.in_ok-at.at) (c.as_slice-entries.ensures.value ∙ c.self.view_is) ∙ first.there in
+    ap (λ (e : ℕ × Thread). Some e.1) (get_or_from_slice_get c.as_slice-entries.result.now c.in_ok-at.at (c.args.number, first.thread) c.index-entries-at.result there)
+    ∙ sym (found_first c.args.self.now c.args.number c.in_ok-at.at first.thread first.there first.first)

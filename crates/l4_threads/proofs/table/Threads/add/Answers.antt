@@ -6,8 +6,12 @@ use Rattle.l4_threads.proofs.BootLemmas.{grown_table}
 use Rattle.l4_threads.proofs.ControlLemmas.{len_seen, next_space_seen, seen_grown}
 use Rattle.l4_threads.proofs.table.Threads.add.Goals as goal
 
-pub push-requires : goal.push-requires
-push-requires c = subst (λ (k : ℕ). k < 64) (len_seen c.self.inside.threads c.self.inside.queue.items c.self.inside.next_space c.args.self.now c.self.invariant c.self.view_is) c.requires.room
+pub push-requires-clause-free : goal.push-requires-clause-free
+push-requires-clause-free c =
+    rw c.number.ensures.value (sym (thread_at_seen c.self.inside.threads c.self.inside.queue.items c.self.inside.next_space c.args.self.now c.self.view_is (number_of c.args.id)) ∙ c.requires.free)
+
+pub push-requires-clause-room : goal.push-requires-clause-room
+push-requires-clause-room c = subst (λ (k : ℕ). k < 64) (len_seen c.self.inside.threads c.self.inside.queue.items c.self.inside.next_space c.args.self.now c.self.invariant c.self.view_is) c.requires.room
 
 pub invariant_of-self : goal.invariant_of-self
 invariant_of-self c =
