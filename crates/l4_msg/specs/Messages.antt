@@ -3,6 +3,7 @@
 use Rattle.std.specs.Prelude.{◌≡◌, ℕ, ◌+◌, ◌*◌, ◌%◌, ◌<◌, ◌≤◌, ◌⊎◌, List, ◌∷◌, ◌++◌, length, slice_index, slice_range}
 use Rattle.std.specs.List.{All}
 use Rattle.l4_msg.specs.Moves.{base_of}
+use Rattle.l4_msg.specs.Sizes.{max_untyped, base_unit, typed_place, label_place}
 use Rattle.l4_msg.specs.Tags.{untyped_of, typed_of, flags_of, label_of}
 use Rattle.l4_msg.specs.Words.{ItemsRead, FirstFails, items_words}
 use Rattle.l4_msg.specs.declared.items.ItemFault.TheVariants.{Bad, Unsupported as LeftOut}
@@ -21,7 +22,7 @@ typed_words words = slice_range words (1 + untyped_of (tag_of words)) (1 + untyp
 -- there is a tag, its words fit into a message, and they are there
 pub record IsWhole (words : List ℕ) : Type 0 where
   pub some : 0 < length words
-  pub fits : untyped_of (tag_of words) + typed_of (tag_of words) ≤ 63
+  pub fits : untyped_of (tag_of words) + typed_of (tag_of words) ≤ max_untyped
   pub there : 1 + untyped_of (tag_of words) + typed_of (tag_of words) ≤ length words
 
 -- what words are read as; those after the message mean nothing
@@ -41,22 +42,22 @@ pub record HasGoodTag (words : List ℕ) : Type 0 where
 
 -- why words are no message, each fault where no earlier one holds
 abbrev pub MessageFails : List ℕ → MsgFault → Type 0
-MessageFails words Short = (length words ≡ 0) ⊎ ((untyped_of (tag_of words) + typed_of (tag_of words) ≤ 63) × (length words < 1 + untyped_of (tag_of words) + typed_of (tag_of words)))
-MessageFails words TooManyWords = (0 < length words) × (63 < untyped_of (tag_of words) + typed_of (tag_of words))
+MessageFails words Short = (length words ≡ 0) ⊎ ((untyped_of (tag_of words) + typed_of (tag_of words) ≤ max_untyped) × (length words < 1 + untyped_of (tag_of words) + typed_of (tag_of words)))
+MessageFails words TooManyWords = (0 < length words) × (max_untyped < untyped_of (tag_of words) + typed_of (tag_of words))
 MessageFails words Flags = IsWhole words × (0 < flags_of (tag_of words))
 MessageFails words OddTyped = IsWhole words × (flags_of (tag_of words) ≡ 0) × (typed_of (tag_of words) % 2 ≡ 1)
 MessageFails words (Unsupported i) = HasGoodTag words × FirstFails (typed_words words) i LeftOut
 MessageFails words (BadItem i) = HasGoodTag words × FirstFails (typed_words words) i Bad
 MessageFails words BadWindow = ⊥
 
--- the words after the tag fit into the message registers, and each send base is a multiple of 1,024 bytes
+-- the words after the tag fit into the message registers, and each send base is a multiple of its unit
 pub record CanBeWritten (m : Message) : Type 0 where
-  pub fits : length m.untyped.items + 2 * length m.items.items ≤ 63
-  pub whole : All (λ item. base_of item % 1024 ≡ 0) m.items.items
+  pub fits : length m.untyped.items + 2 * length m.items.items ≤ max_untyped
+  pub whole : All (λ item. base_of item % base_unit ≡ 0) m.items.items
 
 -- the words that a message is written as: flags are zero
 abbrev pub message_words : Message → List ℕ
-message_words m = (m.label * 65536 + length (items_words m.items.items) * 64 + length m.untyped.items) ∷ (m.untyped.items ++ items_words m.items.items)
+message_words m = (m.label * label_place + length (items_words m.items.items) * typed_place + length m.untyped.items) ∷ (m.untyped.items ++ items_words m.items.items)
 
 -- the first word of the message's k-th item, among the message's words
 abbrev pub item_word : Message → List ℕ → ℕ → ℕ

@@ -56,4 +56,4 @@ pub record GivesPages (source target log : ℕ) (rights : RightsSet) (answer : M
   pub fpage : Fpage
   pub bytes : bytes_of fpage ≡ Some (record { base = source * page_bytes; log = log + page_log })
   pub rights_are : rights_of fpage ≡ rights
-  pub is : answer ≡ one_item (Map (target * 4096) fpage)
+  pub is : answer ≡ one_item (Map (target * page_bytes) fpage)

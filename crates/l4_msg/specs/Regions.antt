@@ -6,6 +6,7 @@ use Rattle.l4_fpage.specs.Pages.{IsBlock, InBlock, page_bytes, space_pages}
 use Rattle.l4_fpage.specs.Fpages.{bytes_of, rights_of}
 use Rattle.l4_fpage.specs.Rights.{is_none}
 use Rattle.l4_msg.specs.Moves.{ItemMoves, RegionMoves, IsMap, base_of, fpage_of, complete}
+use Rattle.l4_msg.specs.Sizes.{max_items}
 use Rattle.l4_msg.specs.declared.items.Item.{Item}
 use Rattle.l4_msg.specs.declared.regions.Region.{Region}
 
@@ -74,7 +75,7 @@ pub record IsSound (r : Region) : Type 0 where
 
 -- the items of a plan, at most: what a message of 62 words of items and a tag line has
 abbrev pub max_plan_items : ℕ
-max_plan_items = 31
+max_plan_items = max_items
 
 -- as many map items as a plan has at most, or fewer, move exactly the region
 abbrev pub HasShortRival : Region → Type 0

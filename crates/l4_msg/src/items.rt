@@ -37,6 +37,7 @@ impl Default for Item {
 
 impl Item {
     ghost use Rattle.l4_msg.specs.Moves.{base_of, fpage_of, is_grant};
+    ghost use Rattle.l4_msg.specs.Sizes.{base_unit};
     ghost use Rattle.l4_msg.specs.Words.{ItemReads, ItemFails, item_words};
     ghost use Rattle.l4_msg.specs.declared.items.Item.{Item as AnItem};
     ghost use Rattle.l4_msg.specs.declared.items.ItemFault.{ItemFault as AnItemFault};
@@ -98,7 +99,7 @@ impl Item {
     /// The two words of the item; `more`, its lowest bit, says that another item follows. The send
     /// base is a multiple of 1,024 bytes.
     pub(crate) fn words(&self, more: bool) -> (u32, u32)
-        requires { base_of self.now % 1024 ≡ 0 }
+        requires { base_of self.now % base_unit ≡ 0 }
         ensures value { result ≡ item_words self.now more }
         ensures reads { ItemReads result.0 result.1 self.now }
     {

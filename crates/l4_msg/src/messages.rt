@@ -2,6 +2,7 @@ ghost use Rattle.std.specs.Prelude.{◌≡◌, ℕ, ◌+◌, ◌*◌, ◌/◌, �
 ghost use Rattle.std.specs.List.{All};
 ghost use Rattle.arrayvec.specs.ArrayVec.{array_vec_len};
 ghost use Rattle.l4_msg.specs.Moves.{base_of};
+ghost use Rattle.l4_msg.specs.Sizes.{max_untyped, base_unit};
 
 use crate::items::{Item, ItemFault};
 use crate::tags::Tag;
@@ -133,8 +134,8 @@ impl Message {
     /// bits 9 to 4 are zero. The words after the tag are at most 63, and each send base is a
     /// multiple of 1,024 bytes.
     pub fn write(&self) -> ArrayVec<u32, MAX_WORDS>
-        requires fits { array_vec_len self.now.untyped + 2 * array_vec_len self.now.items ≤ 63 }
-        requires whole { All (λ item. base_of item % 1024 ≡ 0) self.now.items.items }
+        requires fits { array_vec_len self.now.untyped + 2 * array_vec_len self.now.items ≤ max_untyped }
+        requires whole { All (λ item. base_of item % base_unit ≡ 0) self.now.items.items }
         ensures value { result.items ≡ message_words self.now }
         ensures reads { MessageReads result.items self.now }
         ensures only { (other : AMessage) → MessageReads result.items other → other ≡ self.now }

@@ -37,12 +37,13 @@ pub struct FrameRequest {
 ghost use Rattle.l4_msg.specs.declared.items.Item.TheVariants.{Map};
 ghost use Rattle.l4_msg.specs.Messages.{CanBeWritten};
 ghost use Rattle.l4_msg.specs.Protocols.{one_item};
+ghost use Rattle.l4_msg.specs.Sizes.{base_unit};
 
 /// The message of one map item, by which a pager or sigma0 answers: label 0, no untyped words. The send base is in bytes. A nil
 /// fpage gives nothing.
 pub fn map_answer(base: u32, fpage: Fpage) -> Message
     ensures is { result ≡ one_item (Map base fpage) }
-    ensures writable { base % 1024 ≡ 0 → CanBeWritten result }
+    ensures writable { base % base_unit ≡ 0 → CanBeWritten result }
 {
     let mut items = ArrayVec::new();
     items.push(Item::Map { base, fpage });

@@ -1,4 +1,5 @@
 ghost use Rattle.std.specs.Prelude.{◌≡◌, ℕ, ◌<◌};
+ghost use Rattle.l4_msg.specs.Sizes.{counts, flag_sets};
 
 /// A message's first word (L4 X.2 manual, IPC: message tag): the label, four flags, and how many
 /// untyped and how many typed words follow it.
@@ -12,9 +13,9 @@ pub struct Tag {
     pub typed: u8,
     /// Bits 5 to 0, below 64, in words.
     pub untyped: u8,
-    pub ghost flags_small: { flags < 16 },
-    pub ghost typed_small: { typed < 64 },
-    pub ghost untyped_small: { untyped < 64 },
+    pub ghost flags_small: { flags < flag_sets },
+    pub ghost typed_small: { typed < counts },
+    pub ghost untyped_small: { untyped < counts },
 }
 
 impl Tag {

@@ -2,6 +2,7 @@ ghost use Rattle.std.specs.Prelude.{◌≡◌, ℕ, ◌+◌, ◌*◌, ◌%◌, �
 ghost use Rattle.std.specs.List.{All};
 ghost use Rattle.l4_msg.specs.Words.{ItemsRead, FirstFails, items_words};
 ghost use Rattle.l4_msg.specs.Moves.{base_of};
+ghost use Rattle.l4_msg.specs.Sizes.{max_items, max_typed, base_unit};
 
 use crate::items::{Item, ItemFault};
 use arrayvec::ArrayVec;
@@ -19,7 +20,7 @@ pub const MAX_TYPED: usize = 2 * MAX_ITEMS;
 /// The items of these words, or the first that fails, by its place from 0.
 pub fn read_items(words: &[u32]) -> Result<ArrayVec<Item, MAX_ITEMS>, (u32, ItemFault)>
     requires even { length words.now % 2 ≡ 0 }
-    requires few { length words.now ≤ 62 }
+    requires few { length words.now ≤ max_typed }
     ensures ok { IfOk result (λ items. ItemsRead words.now items.items) }
     ensures err { IfErr result (λ e. FirstFails words.now e.0 e.1) }
 {
@@ -35,8 +36,8 @@ pub fn read_items(words: &[u32]) -> Result<ArrayVec<Item, MAX_ITEMS>, (u32, Item
 
 /// The words of some items.
 pub fn write_items(items: &[Item]) -> ArrayVec<u32, MAX_TYPED>
-    requires few { length items.now ≤ 31 }
-    requires whole { All (λ item. base_of item % 1024 ≡ 0) items.now }
+    requires few { length items.now ≤ max_items }
+    requires whole { All (λ item. base_of item % base_unit ≡ 0) items.now }
     ensures value { result.items ≡ items_words items.now }
 {
     let mut words = ArrayVec::new();
