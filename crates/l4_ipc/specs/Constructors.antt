@@ -9,7 +9,7 @@ use Rattle.l4_ipc.specs.declared.calls.Call.TheVariants.{Ipc, Fault, Unmap, Cont
 use Rattle.l4_ipc.specs.declared.calls.IpcCall.{IpcCall}
 use Rattle.l4_ipc.specs.declared.constructors.Timeout.{Timeout}
 use Rattle.l4_ipc.specs.declared.constructors.Timeout.TheVariants.{Never, Zero}
-use Rattle.l4_ipc.specs.Start.{has_bad_timeout}
+use Rattle.l4_ipc.specs.Start.{has_bad_timeout, timeout_values}
 
 -- a timeout as a half of the timeouts word
 abbrev pub timeout_bits : Timeout → ℕ
@@ -20,7 +20,7 @@ timeout_bits Zero = 0x400
 -- message registers
 abbrev pub ipc_call : ThreadId → ThreadId → Timeout → Timeout → Fpage → List ℕ → IpcCall
 ipc_call to «from» send receive window words =
-    record { to = to; «from» = «from»; timeouts = timeout_bits send * 2 ^ 16 + timeout_bits receive; acceptor = fpage_word window; words = record { items = words } }
+    record { to = to; «from» = «from»; timeouts = timeout_bits send * timeout_values + timeout_bits receive; acceptor = fpage_word window; words = record { items = words } }
 
 -- no timeout of the call is refused
 abbrev pub HasGoodTimeouts : Call → Type 0

@@ -39,6 +39,10 @@ use Rattle.l4_ipc.specs.Machine.{Machine}
 
 -- WHAT THE PHASES OF AN IPC BRING
 
+-- the values of a timeout, one half of the timeouts word
+abbrev pub timeout_values : ℕ
+timeout_values = 2 ^ 16
+
 abbrev pub has_send : IpcCall → Bool
 has_send call = not (call.to.0 == 0)
 
@@ -46,10 +50,10 @@ abbrev pub has_receive : IpcCall → Bool
 has_receive call = not (call.«from».0 == 0)
 
 abbrev pub send_timeout : IpcCall → ℕ
-send_timeout call = call.timeouts / 2 ^ 16
+send_timeout call = call.timeouts / timeout_values
 
 abbrev pub receive_timeout : IpcCall → ℕ
-receive_timeout call = call.timeouts % 2 ^ 16
+receive_timeout call = call.timeouts % timeout_values
 
 -- a timeout is never, or zero
 abbrev pub is_timeout : ℕ → Bool

@@ -7,6 +7,7 @@ ghost use Rattle.l4_ipc.specs.Machine.{machine};
 ghost use Rattle.l4_threads.specs.Control.{asks_new};
 ghost use Rattle.l4_ipc.specs.Inside.Sound.{HaveSpaces};
 ghost use Rattle.l4_msg.specs.Messages.{HasGoodTag, tag_of};
+ghost use Rattle.l4_msg.specs.Sizes.{max_words, max_items};
 ghost use Rattle.l4_msg.specs.Tags.{TagReads};
 ghost use Rattle.l4_ipc.specs.Start.{has_send, has_bad_timeout, IsSent};
 ghost use Rattle.l4_ipc.specs.Inside.Turns.{reply_of, ended_if, sent_of};
@@ -84,8 +85,8 @@ fn start_message(
     requires timely { has_bad_timeout call.now ≡ false }
     requires sends { has_send call.now ≡ true }
     requires sent { IsSent true call.now.words.items (sent_of words.now items.now) }
-    requires words { length words.now ≤ 64 }
-    requires items { length items.now ≤ 31 }
+    requires words { length words.now ≤ max_words }
+    requires items { length items.now ≤ max_items }
     ensures { (s : Mappings) → Steps (machine threads.old s) (Start number (Ipc call.now)) result (machine threads.new s) }
 {
     let window = match call.window() {

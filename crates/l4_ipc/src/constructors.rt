@@ -2,6 +2,7 @@
 ghost use Rattle.std.specs.Prelude.{◌≡◌, ◌≤◌, ◌<◌, ◌⊎◌, length, false, [], MatchOption};
 ghost use Rattle.std.specs.List.{AllZip};
 ghost use Rattle.l4_fpage.specs.declared.fpages.Fpage.TheVariants.{Nil as NilFpage};
+ghost use Rattle.l4_msg.specs.Sizes.{max_words};
 ghost use Rattle.l4_threads.specs.Threads.{nilthread, anythread};
 ghost use Rattle.l4_unmap.specs.Unmap.{fpage_count, with_own};
 ghost use Rattle.l4_ipc.specs.Start.{has_bad_timeout};
@@ -65,7 +66,7 @@ fn make_ipc(
 
 /// The words of some fpages.
 fn fpage_words(fpages: &[Fpage]) -> ArrayVec<u32, MAX_WORDS>
-    requires { length fpages.now ≤ 64 }
+    requires { length fpages.now ≤ max_words }
     ensures { AllZip IsWordOf fpages.now result.items }
 {
     let mut words = ArrayVec::new();
@@ -78,7 +79,7 @@ fn fpage_words(fpages: &[Fpage]) -> ArrayVec<u32, MAX_WORDS>
 /// The control word of an Unmap of some fpages.
 fn unmap_control(own: bool, fpages: &[Fpage]) -> u32
     requires some { 1 ≤ length fpages.now }
-    requires few { length fpages.now ≤ 64 }
+    requires few { length fpages.now ≤ max_words }
     ensures count { fpage_count result ≡ length fpages.now }
     ensures own { with_own result ≡ own }
 {
@@ -155,7 +156,7 @@ impl Call {
     /// Takes the rights that 1 to 64 fpages name from all that was mapped from the caller's pages in them, and with `own` from
     /// those pages too (L4 X.2 manual, Unmap). None for no fpage and for more than 64.
     pub fn unmap(own: bool, fpages: &[Fpage]) -> Option<Call>
-        ensures { MatchOption result ((length fpages.now ≡ 0) ⊎ (64 < length fpages.now)) (IsUnmapOf own fpages.now) }
+        ensures { MatchOption result ((length fpages.now ≡ 0) ⊎ (max_words < length fpages.now)) (IsUnmapOf own fpages.now) }
     {
         if fpages.is_empty() || fpages.len() > MAX_WORDS {
             return None;

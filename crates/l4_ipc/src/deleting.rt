@@ -1,6 +1,7 @@
 //! Deletions of threads.
 ghost use Rattle.std.specs.Prelude.{◌≡◌, ◌<◌, ◌∷◌, length, IsTrue, MatchOption};
 ghost use Rattle.l4_mapdb.specs.Losing.{EndsSpace};
+ghost use Rattle.l4_threads.specs.Sizes.{max_threads};
 ghost use Rattle.l4_threads.specs.Threads.{runs};
 ghost use Rattle.l4_ipc.specs.Machine.{machine};
 ghost use Rattle.l4_ipc.specs.Steps.{Steps};
@@ -24,7 +25,7 @@ fn end_space(forest: &mut Forest, space: Option<u64>)
 
 /// The caller, and then the others.
 fn caller_first(number: u32, others: ArrayVec<u32, MAX_THREADS>) -> ArrayVec<u32, MAX_THREADS>
-    requires { length others.items < 64 }
+    requires { length others.items < max_threads }
     ensures { result.items ≡ number ∷ others.items }
 {
     let mut ended = others;

@@ -3,6 +3,7 @@ ghost use Rattle.std.specs.Prelude.{◌≡◌, ◌≢◌, ◌≤◌, ◌↔◌, 
 ghost use Rattle.std.specs.List.{AllZip};
 ghost use Rattle.std.specs.FinSet as set;
 ghost use Rattle.l4_fpage.specs.declared.fpages.Fpage.TheVariants.{Nil as NilFpage};
+ghost use Rattle.l4_msg.specs.Sizes.{max_words, max_items};
 ghost use Rattle.l4_threads.specs.Enabled.{IsFirstSender};
 ghost use Rattle.l4_ipc.specs.Moving.{Moves};
 ghost use Rattle.l4_ipc.specs.Inside.Delivering.{IsListed, outcome_of};
@@ -94,7 +95,7 @@ pub fn end_receiver(
     words: &[u32],
 )
     requires there { IsSome (state_of threads.old receiver) }
-    requires words { length words.now ≤ 64 }
+    requires words { length words.now ≤ max_words }
     ensures { threads.new ≡ end_call threads.old receiver (reply_or ending (Ipc (message_of envelope words.now))) }
 {
     match ending {
@@ -144,7 +145,7 @@ fn item_move(item: &Item, window: &Fpage) -> ItemMove
 
 /// What the items of a message move in a window. Each item keeps its number.
 fn listed(items: &[Item], window: &Fpage) -> ArrayVec<ItemMove, MAX_ITEMS>
-    requires { length items.now ≤ 31 }
+    requires { length items.now ≤ max_items }
     ensures { AllZip (IsListed window.now) items.now result.items }
 {
     let mut moves = ArrayVec::new();
@@ -178,7 +179,7 @@ fn outcome_of(cause: Cause) -> Outcome
 pub fn deliver(forest: &mut Forest, from: u64, to: u64, items: &[Item], window: &Fpage) -> Outcome
     requires from_there { IsTrue (set.contains forest.old.spaces from) }
     requires to_there { IsTrue (set.contains forest.old.spaces to) }
-    requires few { length items.now ≤ 31 }
+    requires few { length items.now ≤ max_items }
     ensures { Moves forest.old from to items.now window.now result forest.new }
 {
     if items.is_empty() {

@@ -35,6 +35,7 @@ impl Model for Kernel {
 }
 
 impl Kernel {
+    ghost use Rattle.l4_fpage.specs.Pages.{max_frames};
     ghost use Rattle.l4_threads.specs.Threads.{runs, space_of, IsConsistent};
     ghost use Rattle.l4_mapdb.specs.Mappings.{shown, IsForest};
     ghost use Rattle.l4_mapdb.specs.Places.{NonePresentFrom, IsNextPresent};
@@ -54,8 +55,8 @@ impl Kernel {
     /// `BadFrames` (K6) comes for any other number, and then `Lower(NoMemory)` where a growth was refused.
     pub fn boot(alloc: Global, frames: u32) -> Result<Kernel, Refused>
         ensures { MatchResult result
-            (λ m. (1 ≤ frames) × (frames ≤ 4096) × IsBoot frames m)
-            (λ e. (((frames ≡ 0) ⊎ (4096 < frames)) × (e ≡ BadFrames)) ⊎ ((1 ≤ frames) × (frames ≤ 4096) × (e ≡ IsLower WantOfMemory))) }
+            (λ m. (1 ≤ frames) × (frames ≤ max_frames) × IsBoot frames m)
+            (λ e. (((frames ≡ 0) ⊎ (max_frames < frames)) × (e ≡ BadFrames)) ⊎ ((1 ≤ frames) × (frames ≤ max_frames) × (e ≡ IsLower WantOfMemory))) }
     {
         if frames == 0 || frames > MAX_FRAMES {
             return Err(Refused::BadFrames);

@@ -1,6 +1,7 @@
 //! What the words of an Ipc say, and which of them are refused.
 ghost use Rattle.std.specs.Prelude.{◌≡◌, ◌==◌, ◌≤◌, true, length, IfOk, IfErr, IsOk};
 ghost use Rattle.l4_msg.specs.Messages.{IsWhole, tag_of};
+ghost use Rattle.l4_msg.specs.Sizes.{max_words};
 ghost use Rattle.l4_msg.specs.Tags.{TagReads};
 ghost use Rattle.l4_ipc.specs.Start.{is_timeout};
 
@@ -70,7 +71,7 @@ impl IpcCall {
         requires whole { IsWhole self.now.words.items }
         requires tag { TagReads (tag_of self.now.words.items) tag.now }
         ensures value { result.now ≡ counted_words self.now.words.items }
-        ensures fits { length result.now ≤ 64 }
+        ensures fits { length result.now ≤ max_words }
     {
         let words = self.words.as_slice();
         &words[..1 + usize::from(tag.untyped) + usize::from(tag.typed)]

@@ -1,10 +1,11 @@
 -- Creating, changing and deleting threads: each refusal in its order, and the effect. A profile of
 -- L4 X.2 manual, ThreadControl: the caller must be in the root space.
 use Rattle.std.specs.List.Sorted.{IsStrictlyIncreasing}
-use Rattle.std.specs.Prelude.{◌≡◌, ◌≢◌, ◌⊎◌, ◌↔◌, List, Contains, true, ℕ, ◌+◌, ◌-◌, ◌%◌, ◌^◌, ◌<◌, ◌≤◌, ◌==◌, ◌&&◌, ◌||◌, not, nat_lt, nat_le, Bool, false, if◌then◌else◌, Option, Some, None, is_some, option_and_then, Result, Ok, Err}
+use Rattle.std.specs.Prelude.{◌≡◌, ◌≢◌, ◌⊎◌, ◌↔◌, List, Contains, true, ℕ, ◌+◌, ◌-◌, ◌%◌, ◌<◌, ◌≤◌, ◌==◌, ◌&&◌, ◌||◌, not, nat_lt, nat_le, Bool, false, if◌then◌else◌, Option, Some, None, is_some, option_and_then, Result, Ok, Err}
 use Rattle.std.specs.Option.{option_map_or, option_map}
 use Rattle.std.specs.FinMap as fin
 use Rattle.std.specs.FinSet as set
+use Rattle.l4_threads.specs.Sizes.{max_threads, local_marks, word_values, space_numbers}
 use Rattle.l4_threads.specs.declared.ThreadId.{ThreadId}
 use Rattle.l4_threads.specs.declared.ThreadFault.{ThreadFault}
 use Rattle.l4_threads.specs.declared.ThreadFault.TheVariants.{NoPrivilege, BadId, Taken, Unknown, Full, Kept}
@@ -22,13 +23,13 @@ is_privileged t caller = option_map_or (λ space. space == 1) (space_of t caller
 -- no thread can have this id: it is nilthread or anythread, its number is 0, or the lower six bits of its
 -- version are 0, which mark a local id (L4 X.2 manual, ThreadId)
 abbrev pub is_bad_id : ThreadId → Bool
-is_bad_id id = (id.0 == 0) || ((id.0 == 0xffff_ffff) || ((number_of id == 0) || (id.0 % 2 ^ 6 == 0)))
+is_bad_id id = (id.0 == 0) || ((id.0 == 0xffff_ffff) || ((number_of id == 0) || (id.0 % local_marks == 0)))
 
 -- the id has this number and this version, and a thread can have it (L4 X.2 manual, ThreadId: global thread ids)
 pub record IsGlobalId (number version : ℕ) (id : ThreadId) : Type 0 where
   pub has_number : number_of id ≡ number
   pub has_version : version_of id ≡ version
-  pub one_word : id.0 < 2 ^ 32
+  pub one_word : id.0 < word_values
   pub good : is_bad_id id ≡ false
 
 -- `space` is the new thread's own id, which asks for a new space
@@ -39,9 +40,9 @@ asks_new id space = space.0 == id.0
 abbrev pub space_for : Threads → ThreadId → ThreadId → Option ℕ
 space_for t id space = if asks_new id space then Some t.next_space else option_and_then (space_of t) (named t space)
 
--- 64 threads exist, or a new space is asked and the space numbers are used up (this profile's own)
+-- there is no room for a thread, or a new space is asked and the space numbers are used up (this profile's own)
 abbrev pub is_full : Threads → Bool → Bool
-is_full t new_space = nat_le 64 (fin.len t.threads) || (new_space && nat_lt (2 ^ 64 - 2) t.next_space)
+is_full t new_space = nat_le max_threads (fin.len t.threads) || (new_space && nat_lt (space_numbers - 2) t.next_space)
 
 -- the first refusal of a Create that applies, or the space of the new thread
 abbrev pub create_test : Threads → ℕ → ThreadId → ThreadId → Result ℕ ThreadFault
@@ -55,9 +56,9 @@ create_test t caller id space =
 -- there was or the next one
 pub record CanCreate (t : Threads) (id : ThreadId) (own : ℕ) : Type 0 where
   pub free : thread_at t (number_of id) ≡ None
-  pub room : fin.len t.threads < 64
+  pub room : fin.len t.threads < max_threads
   pub space : own ≤ t.next_space
-  pub space_fits : own < 2 ^ 64 - 1
+  pub space_fits : own < space_numbers - 1
 
 -- a new thread runs at once, and has no reply yet (this profile's own)
 abbrev pub created : Threads → ThreadId → ℕ → ThreadId → Threads

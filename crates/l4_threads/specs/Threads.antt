@@ -1,11 +1,12 @@
 -- The threads as one value: who there is, what each does, and who stands before whom in the queue of senders.
-use Rattle.std.specs.Prelude.{◌≡◌, ◌≢◌, ℕ, ◌/◌, ◌%◌, ◌^◌, ◌<◌, ◌≤◌, ◌⊎◌, ◌==◌, ◌&&◌, not, Bool, true, false, if◌then◌else◌, List, [], map, filter_map, Option, Some, None, IsTrue, option_and_then, refl}
+use Rattle.std.specs.Prelude.{◌≡◌, ◌≢◌, ℕ, ◌/◌, ◌%◌, ◌<◌, ◌≤◌, ◌⊎◌, ◌==◌, ◌&&◌, not, Bool, true, false, if◌then◌else◌, List, [], map, filter_map, Option, Some, None, IsTrue, option_and_then, refl}
 use Rattle.std.specs.Option.{option_map_or, option_map}
 use Rattle.std.specs.Ordering.{nat_cmp, ordering_then}
 use Rattle.std.specs.declared.cmp.Ordering.{Ordering}
 use Rattle.std.specs.Coded.{Coded, code_by, coded×, coded_ℕ}
 use Rattle.std.specs.FinMap as fin
 use Rattle.std.specs.FinSet as set
+use Rattle.l4_threads.specs.Sizes.{max_threads, numbers, versions, space_numbers}
 use Rattle.l4_threads.specs.declared.ThreadId.{ThreadId}
 use Rattle.l4_msg.specs.declared.items.Item.{Item}
 use Rattle.l4_threads.specs.declared.SendPhase.{SendPhase}
@@ -56,11 +57,11 @@ anythread = record { 0 = 0xffff_ffff }
 
 -- the thread number in an id: its upper 18 bits (L4 X.2 manual, ThreadId: global thread ids)
 abbrev pub number_of : ThreadId → ℕ
-number_of id = id.0 / 2 ^ 14
+number_of id = id.0 / versions
 
 -- the version in an id: its lower 14 bits (L4 X.2 manual, ThreadId: global thread ids)
 abbrev pub version_of : ThreadId → ℕ
-version_of id = id.0 % 2 ^ 14
+version_of id = id.0 % versions
 
 -- the number of the thread that the id names: its whole word is equal, so its version too
 abbrev pub named : Threads → ThreadId → Option ℕ
@@ -156,10 +157,10 @@ no_thread = record { id = nilthread; space = 0; pager = nilthread; state = Runni
 -- the queue's pairs are a strict total order of the senders.
 pub record IsConsistent (t : Threads) : Type 0 where
   pub number : (n : ℕ) (thread : Thread) → thread_at t n ≡ Some thread → number_of thread.id ≡ n
-  pub small : (n : ℕ) (thread : Thread) → thread_at t n ≡ Some thread → n < 2 ^ 18
+  pub small : (n : ℕ) (thread : Thread) → thread_at t n ≡ Some thread → n < numbers
   pub space : (n : ℕ) (thread : Thread) → thread_at t n ≡ Some thread → thread.space < t.next_space
-  pub next_space : t.next_space < 2 ^ 64
-  pub few : fin.len t.threads ≤ 64
+  pub next_space : t.next_space < space_numbers
+  pub few : fin.len t.threads ≤ max_threads
   pub senders_only : (a b : ℕ) → Before t a b → IsTrue (sends t a) × IsTrue (sends t b)
   pub irreflexive : (a : ℕ) → ¬ (Before t a a)
   pub transitive : (a b c : ℕ) → Before t a b → Before t b c → Before t a c

@@ -5,6 +5,7 @@ ghost use Rattle.std.specs.Option.{option_map_or};
 ghost use Rattle.l4_threads.specs.Inside.Entries.{freed_in, ends_with, ended_in, rising_with, has_space, is_receiving, any_state};
 ghost use Rattle.l4_threads.specs.Inside.Transfers.{sender_to, with_transfer, expires_beside};
 ghost use Rattle.l4_threads.specs.Enabled.{expires};
+ghost use Rattle.l4_threads.specs.Sizes.{max_threads};
 
 use crate::{MAX_THREADS, State, Thread};
 use arrayvec::ArrayVec;
@@ -36,7 +37,7 @@ fn sender_to(transfers: &[(u32, u32)], receiver: u32) -> Option<u32>
 
 /// Adds a transfer, where there is none to this receiver.
 pub fn add_transfer(transfers: &mut ArrayVec<(u32, u32), MAX_THREADS>, sender: u32, receiver: u32)
-    requires { array_vec_len transfers.old < 64 }
+    requires { array_vec_len transfers.old < max_threads }
     ensures items { transfers.new.items ≡ with_transfer transfers.old.items sender receiver }
     ensures len { array_vec_len transfers.new ≤ array_vec_len transfers.old + 1 }
 {
@@ -73,7 +74,7 @@ fn place_in_order(list: &[u32], number: u32) -> usize
 
 /// Puts the number where it belongs in a rising list.
 fn insert_rising(list: &mut ArrayVec<u32, MAX_THREADS>, number: u32)
-    requires { array_vec_len list.old < 64 }
+    requires { array_vec_len list.old < max_threads }
     ensures items { list.new.items ≡ rising_with list.old.items number }
     ensures len { array_vec_len list.new ≡ array_vec_len list.old + 1 }
 {
@@ -90,7 +91,7 @@ fn ends_with(entry: &(u32, Thread), victim: u32) -> bool
 
 /// The numbers of the threads whose calls end with the victim, rising.
 pub fn ended_by(entries: &[(u32, Thread)], victim: u32) -> ArrayVec<u32, MAX_THREADS>
-    requires { length entries.now ≤ 64 }
+    requires { length entries.now ≤ max_threads }
     ensures { result.items ≡ ended_in entries.now victim [] }
 {
     let mut ended = ArrayVec::new();

@@ -192,6 +192,7 @@ impl ThreadId {
     ghost use Rattle.std.specs.Prelude.{◌≡◌, ◌<◌, ◌^◌, MatchOption};
     ghost use Rattle.l4_threads.specs.Threads.{nilthread, anythread, number_of, version_of};
     ghost use Rattle.l4_threads.specs.Control.{is_bad_id, IsGlobalId};
+    ghost use Rattle.l4_threads.specs.Sizes.{numbers, versions};
     ghost use Rattle.l4_threads.specs.declared.ThreadId.{ThreadId as AnId};
 
     /// The global id of this thread number and version. None where no thread can have one: the number is 0 or 2^18 or more, the
@@ -209,7 +210,7 @@ impl ThreadId {
     /// The thread number, below 2^18.
     pub fn number(self) -> u32
         ensures value { result ≡ number_of self }
-        ensures small { result < 2 ^ 18 }
+        ensures small { result < numbers }
     {
         self.0 >> VERSION_BITS
     }
@@ -217,7 +218,7 @@ impl ThreadId {
     /// The version, below 2^14.
     pub fn version(self) -> u32
         ensures value { result ≡ version_of self }
-        ensures small { result < 2 ^ 14 }
+        ensures small { result < versions }
     {
         self.0 % (1 << VERSION_BITS)
     }

@@ -63,6 +63,8 @@ impl Roster {
     ghost use Rattle.l4_threads.specs.Inside.Entries.{IsAt, found, changed_in, in_state, in_pager, freed_in, without_in};
     ghost use Rattle.l4_threads.specs.declared.State.TheVariants.{Running, Sending as Sends, Receiving as Receives};
     ghost use Rattle.l4_threads.specs.declared.Reply.TheVariants.{Ipc};
+    ghost use Rattle.l4_msg.specs.Sizes.{max_words, max_items};
+    ghost use Rattle.l4_threads.specs.Sizes.{max_threads};
     ghost use Rattle.l4_threads.specs.Threads.{sending_of, message_of};
 
     /// No thread.
@@ -79,21 +81,21 @@ impl Roster {
     /// The threads with their numbers.
     pub fn as_slice(&self) -> &[(u32, Thread)]
         ensures value { result.now ≡ self.now }
-        ensures fits { length result.now ≤ 64 }
+        ensures fits { length result.now ≤ max_threads }
     {
         self.entries.as_slice()
     }
 
     /// Whether there is no room for a thread.
     pub fn is_full(&self) -> bool
-        ensures { result ≡ (length self.now == 64) }
+        ensures { result ≡ (length self.now == max_threads) }
     {
         self.entries.is_full()
     }
 
     /// Adds a thread.
     pub fn push(&mut self, number: u32, thread: Thread)
-        requires room { length self.old < 64 }
+        requires room { length self.old < max_threads }
         requires free { found self.old number ≡ None }
         ensures { self.new ≡ self.old ++ (number, thread) ∷ [] }
     {
@@ -136,7 +138,7 @@ impl Roster {
     /// The thread of this number runs on, and its Ipc replies this.
     pub fn reply(&mut self, number: u32, envelope: Envelope, words: &[u32])
         requires there { found self.old number ≢ None }
-        requires words { length words.now ≤ 64 }
+        requires words { length words.now ≤ max_words }
         ensures { self.new ≡ changed_in self.old number (in_state (Running (Some (Ipc (message_of envelope words.now))))) }
     {
         if let Some(at) = self.place(number) {
@@ -147,8 +149,8 @@ impl Roster {
     /// The thread of this number sends.
     pub fn send(&mut self, number: u32, words: &[u32], items: &[Item], phase: SendPhase)
         requires there { found self.old number ≢ None }
-        requires words { length words.now ≤ 64 }
-        requires items { length items.now ≤ 31 }
+        requires words { length words.now ≤ max_words }
+        requires items { length items.now ≤ max_items }
         ensures { self.new ≡ changed_in self.old number (in_state (Sends (sending_of words.now items.now phase))) }
     {
         if let Some(at) = self.place(number) {

@@ -68,6 +68,7 @@ impl Threads {
     ghost use Rattle.l4_threads.specs.Inside.Taker.{taker};
     ghost use Rattle.l4_threads.specs.Inside.Transfers.{AreTransfers};
     ghost use Rattle.l4_threads.specs.Control.{is_privileged, space_for, is_full, create_test, CanCreate, created, set_pager_test, with_pager, delete_test, Deletes, IsEndedList, HasEnded, TellsEnd};
+    ghost use Rattle.l4_msg.specs.Sizes.{max_words, max_items};
     ghost use Rattle.l4_threads.specs.Inside.Ending.{ends_at};
     ghost use Rattle.l4_threads.specs.Queue.{pairs_of, IsOnce, is_in};
 
@@ -282,8 +283,8 @@ impl Threads {
     /// A running thread starts to send these words, in which these items stand: it goes to the end of the queue.
     pub fn start_message(&mut self, number: u32, words: &[u32], items: &[Item], phase: SendPhase)
         requires running { IsTrue (runs self.old number) }
-        requires words { length words.now ≤ 64 }
-        requires items { length items.now ≤ 31 }
+        requires words { length words.now ≤ max_words }
+        requires items { length items.now ≤ max_items }
         ensures { self.new ≡ start_send self.old number (sending_of words.now items.now phase) }
     {
         self.threads.send(number, words, items, phase);
@@ -311,7 +312,7 @@ impl Threads {
     /// An Ipc of a thread ends with this reply, whatever the thread does. It is in the queue no longer.
     pub fn end_ipc(&mut self, number: u32, envelope: Envelope, words: &[u32])
         requires there { IsSome (state_of self.old number) }
-        requires words { length words.now ≤ 64 }
+        requires words { length words.now ≤ max_words }
         ensures { self.new ≡ end_call self.old number (Ipc (message_of envelope words.now)) }
     {
         leave(&mut self.queue, number);

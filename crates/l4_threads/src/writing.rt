@@ -1,5 +1,6 @@
 //! States written where they stay. A state has room for a whole message, and a move would copy all of it, so each is first made blank and then filled.
 ghost use Rattle.std.specs.Prelude.{◌≡◌, ◌≤◌, [], length, Some};
+ghost use Rattle.l4_msg.specs.Sizes.{max_words, max_items};
 ghost use Rattle.l4_threads.specs.Threads.{sending_of, message_of};
 ghost use Rattle.l4_threads.specs.declared.State.TheVariants.{Running, Sending as Sends, Receiving as Receives};
 ghost use Rattle.l4_threads.specs.declared.Reply.TheVariants.{Ipc};
@@ -21,8 +22,8 @@ fn fill<T: Copy + Drop, const N: usize>(list: &mut ArrayVec<T, N>, elements: &[T
 impl State {
     /// The thread sends.
     pub(crate) fn send(&mut self, words: &[u32], items: &[Item], phase: SendPhase)
-        requires words { length words.now ≤ 64 }
-        requires items { length items.now ≤ 31 }
+        requires words { length words.now ≤ max_words }
+        requires items { length items.now ≤ max_items }
         ensures { self.new ≡ Sends (sending_of words.now items.now phase) }
     {
         *self = State::Sending(Sending {
@@ -60,7 +61,7 @@ impl State {
 
     /// The thread runs on, and its Ipc replies this.
     pub(crate) fn reply(&mut self, envelope: Envelope, words: &[u32])
-        requires { length words.now ≤ 64 }
+        requires { length words.now ≤ max_words }
         ensures { self.new ≡ Running (Some (Ipc (message_of envelope words.now))) }
     {
         *self = State::Running(Some(Reply::Ipc(IpcReply {

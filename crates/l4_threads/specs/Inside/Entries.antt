@@ -1,5 +1,5 @@
 -- The lists that the tables of threads keep: the threads with their numbers, and the queue of senders. (this profile's own)
-use Rattle.std.specs.Prelude.{◌≡◌, ◌≢◌, ℕ, ◌<◌, ◌≤◌, ◌^◌, length, ◌==◌, ◌&&◌, ◌||◌, Bool, false, true, not, nat_lt, filter, if◌then◌else◌, List, [], ◌∷◌, map, Option, Some, slice_get}
+use Rattle.std.specs.Prelude.{◌≡◌, ◌≢◌, ℕ, ◌<◌, ◌≤◌, length, ◌==◌, ◌&&◌, ◌||◌, Bool, false, true, not, nat_lt, filter, if◌then◌else◌, List, [], ◌∷◌, map, Option, Some, slice_get}
 use Rattle.std.specs.List.{list_any}
 use Rattle.std.specs.Option.{option_map_or, option_map}
 use Rattle.std.specs.Ordering.{nat_cmp}
@@ -12,6 +12,7 @@ use Rattle.l4_threads.specs.declared.ThreadId.{ThreadId}
 use Rattle.l4_threads.specs.declared.State.{State}
 use Rattle.l4_threads.specs.declared.State.TheVariants.{Running, Sending as Sends, Receiving as Receives}
 use Rattle.l4_threads.specs.Queue.{is_in, IsOnce}
+use Rattle.l4_threads.specs.Sizes.{max_threads, numbers, space_numbers}
 
 -- the threads with their numbers, in the order of their creation
 abbrev pub Entries : Type 0
@@ -85,13 +86,13 @@ abbrev pub any_state : (State → Bool) → Entries → Bool
 any_state such es = list_any (λ e. such e.1.state) es
 
 -- each number stands once in the table and in the queue, the queue holds just the senders, each thread's id has
--- its number, there are at most 64, and each space lies below the next one
+-- its number, there are no more than there is room for, and each space lies below the next one
 pub record IsTable (es : Entries) (queue : List ℕ) (next : ℕ) : Type 0 where
   pub once : IsOnce (map (λ e. e.0) es)
   pub number : (n : ℕ) (thread : Thread) → found es n ≡ Some thread → number_of thread.id ≡ n
-  pub small : (n : ℕ) (thread : Thread) → found es n ≡ Some thread → n < 2 ^ 18
+  pub small : (n : ℕ) (thread : Thread) → found es n ≡ Some thread → n < numbers
   pub space : (n : ℕ) (thread : Thread) → found es n ≡ Some thread → thread.space < next
-  pub few : length es ≤ 64
-  pub fits : next < 2 ^ 64
+  pub few : length es ≤ max_threads
+  pub fits : next < space_numbers
   pub queue_once : IsOnce queue
   pub queued : (n : ℕ) → is_in queue n ≡ sends_in es n
