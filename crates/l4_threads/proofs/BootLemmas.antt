@@ -33,7 +33,7 @@ absent_found (e ∷ es) n h =
       | inr ne ↦ ap (λ b. b || is_in (map (λ x. x.0) es) n) (differ n e.0 ne) ∙ absent_found es n (sym (found_further e es n ne) ∙ h)
     ]
 
-found_new : (es : Entries) (n : ℕ) (t : Thread) → found es n ≡ None → found (es ++ (n, t) ∷ []) n ≡ Some t
+pub found_new : (es : Entries) (n : ℕ) (t : Thread) → found es n ≡ None → found (es ++ (n, t) ∷ []) n ≡ Some t
 found_new [] n t h = found_here (n, t) [] n refl
 found_new (e ∷ es) n t h =
     elim (same_or n e.0) [
@@ -41,7 +41,7 @@ found_new (e ∷ es) n t h =
       | inr ne ↦ found_further e (es ++ (n, t) ∷ []) n ne ∙ found_new es n t (sym (found_further e es n ne) ∙ h)
     ]
 
-found_old : (es : Entries) (n : ℕ) (t : Thread) (q : ℕ) → q ≢ n → found (es ++ (n, t) ∷ []) q ≡ found es q
+pub found_old : (es : Entries) (n : ℕ) (t : Thread) (q : ℕ) → q ≢ n → found (es ++ (n, t) ∷ []) q ≡ found es q
 found_old [] n t q ne = found_further (n, t) [] q ne
 found_old (e ∷ es) n t q ne = ap (λ rest. cond (eq_by_cmp nat_cmp q e.0) (Some e.1) rest) (found_old es n t q ne)
 
@@ -86,10 +86,10 @@ map-grown es n t free = fin.from_entries_push nat_cmp_total exact_unsigned es n 
 
 -- THE START
 
-abbrev sigma0 : Thread
+abbrev pub sigma0 : Thread
 sigma0 = new_thread (record { 0 = 0x4001 }) 0 nilthread
 
-abbrev root : Thread
+abbrev pub root : Thread
 root = new_thread (record { 0 = 0x8001 }) 1 (record { 0 = 0x4001 })
 
 no_table : IsTable [] [] 0

@@ -8,3 +8,5 @@ pub mod TransferLemmas
 pub mod BootLemmas
 pub mod ControlLemmas
 pub mod DeleteLemmas
+pub mod FocusLemmas
+pub mod ActingLemmas

@@ -65,6 +65,17 @@ is_in-left_by n (x ∷ xs) q =
       and_false true = refl
       and_false false = refl
 
+-- a number that isn't there leaves nothing behind
+pub left_by_none : (n : ℕ) (xs : List ℕ) → is_in xs n ≡ false → left_by n xs ≡ xs
+left_by_none n [] out = refl
+left_by_none n (x ∷ xs) out =
+    elim (same_or n x) [
+      | inl is ↦ absurd (false≢true (sym out ∙ or_left _ _ (eq-eqb n x is)))
+      | inr ne ↦
+          ap (λ b. cond (not b) (x ∷ left_by n xs) (left_by n xs)) (differ x n (λ is. ne (sym is)))
+          ∙ ap (λ l. x ∷ l) (left_by_none n xs (sym (ap (λ b. b || is_in xs n) (differ n x ne)) ∙ out))
+    ]
+
 pub once-push : (xs : List ℕ) (n : ℕ) → IsOnce xs → is_in xs n ≡ false → IsOnce (xs ++ n ∷ [])
 once-push [] n once out = (refl, tt)
 once-push (x ∷ xs) n once out =

@@ -2,6 +2,7 @@
 #![tactic(auto)]
 
 mod entries;
+mod focus;
 mod roster;
 mod table;
 mod writing;

@@ -1,10 +1,11 @@
 //! The threads with their numbers, in the order of their creation. A thread is found among the numbers alone.
-ghost use Rattle.std.specs.Prelude.{◌≡◌, ◌≢◌, ◌==◌, ◌++◌, ◌∷◌, ◌<◌, ◌≤◌, [], length, filter, MatchOption, IfSome, Some, None};
+ghost use Rattle.std.specs.Prelude.{◌≡◌, ◌≢◌, ◌==◌, ◌++◌, ◌∷◌, ◌<◌, ◌≤◌, [], length, filter, not, MatchOption, IfSome, Some, None};
 ghost use Rattle.std.specs.Option.{option_copied};
 ghost use Rattle.l4_threads.specs.Inside.Entries.{sends_in};
+ghost use Rattle.l4_threads.specs.Queue.{is_in};
 ghost use Rattle.l4_threads.specs.Inside.Numbers.{IsFirst, IsNowhere};
 
-use crate::entries::free_all;
+use crate::entries::{free_all, leave};
 use crate::{Envelope, MAX_THREADS, Receiving, Reply, SendPhase, State, Thread, ThreadId};
 use arrayvec::ArrayVec;
 use l4_msg::Item;
@@ -210,4 +211,14 @@ pub fn keep_senders(queue: &mut ArrayVec<u32, MAX_THREADS>, roster: &Roster)
     ensures { queue.new.items ≡ filter (sends_in roster.now) queue.old.items }
 {
     queue.retain(|m| roster.sends(*m));
+}
+
+/// Takes the number out of the queue, where it stands only if that thread sends.
+pub fn leave_if_sending(queue: &mut ArrayVec<u32, MAX_THREADS>, roster: &Roster, number: u32)
+    requires { is_in queue.old.items number ≡ sends_in roster.now number }
+    ensures { queue.new.items ≡ filter (λ m. not (m == number)) queue.old.items }
+{
+    if roster.sends(number) {
+        leave(queue, number);
+    }
 }

@@ -5,9 +5,10 @@ ghost use Rattle.std.specs.FinSet as set;
 ghost use Rattle.std.specs.List.Sorted.{IsStrictlyIncreasing};
 
 use crate::entries::{
-    add_transfer, any_expires, any_receives, ended_by, expires_beside, is_inhabited, leave, lesser,
+    add_transfer, any_expires, any_receives, ended_by, expires_beside, is_inhabited, lesser,
 };
-use crate::roster::{Roster, keep_senders};
+use crate::focus::Focus;
+use crate::roster::{Roster, keep_senders, leave_if_sending};
 use crate::{
     Deleted, Envelope, MAX_THREADS, Receiving, Reply, SendPhase, Sending, State, Thread,
     ThreadFault, ThreadId,
@@ -28,6 +29,7 @@ pub struct Threads {
     threads: Roster,
     queue: ArrayVec<u32, MAX_THREADS>,
     next_space: u64,
+    focus: Focus,
 }
 
 impl Model for Threads {
@@ -65,7 +67,7 @@ impl Threads {
     ghost use Rattle.l4_threads.specs.Threads.{thread_at, state_of, space_of, pager_of, named, number_of, runs, sends, may_receive, with_state, sending_of, message_of, start_send, start_receive, end_call, first_threads, IsConsistent, Before};
     ghost use Rattle.l4_threads.specs.declared.Reply.TheVariants.{Ipc};
     ghost use Rattle.l4_threads.specs.Enabled.{Offers, IsFirstSender, IsNextTransfer, CanExpire, IsNextExpiry};
-    ghost use Rattle.l4_threads.specs.Inside.Taker.{taker};
+    ghost use Rattle.l4_threads.specs.Inside.Taker.{taker, TakesPart};
     ghost use Rattle.l4_threads.specs.Inside.Transfers.{AreTransfers};
     ghost use Rattle.l4_threads.specs.Control.{is_privileged, space_for, is_full, create_test, CanCreate, created, set_pager_test, with_pager, delete_test, Deletes, IsEndedList, HasEnded, TellsEnd};
     ghost use Rattle.l4_msg.specs.Sizes.{max_words, max_items};
@@ -100,6 +102,7 @@ impl Threads {
             threads,
             queue: ArrayVec::new(),
             next_space: 2,
+            focus: Focus::Nobody,
         }
     }
 
@@ -184,8 +187,33 @@ impl Threads {
         }
     }
 
-    /// The enabled transfer whose sender stands first in the queue: the sender's number and the receiver's.
-    pub fn next_transfer(&self) -> Option<(u32, u32)>
+    /// Whether the thread of this number sends.
+    fn sends(&self, number: u32) -> bool
+        ensures { result ≡ sends self.now number }
+    {
+        match self.state(number) {
+            Some(state) => state.is_sending(),
+            None => false,
+        }
+    }
+
+    /// The enabled transfer in which this thread takes part, where it does so in each.
+    #[tactic(auto, using(crate::proofs::ActingLemmas::none_to, crate::proofs::ActingLemmas::none_from, crate::proofs::ActingLemmas::next_to, crate::proofs::ActingLemmas::next_from))]
+    fn transfer_of(&self, number: u32) -> Option<(u32, u32)>
+        requires { TakesPart self.now number }
+        ensures { MatchOption result ((s r : ℕ) → ¬ (IsFirstSender self.now r s)) (IsNextTransfer self.now) }
+    {
+        self.law_consistent();
+        if self.sends(number) {
+            let receiver = self.taker(number)?;
+            return Some((number, receiver));
+        }
+        let sender = self.first_sender(number)?;
+        Some((sender, number))
+    }
+
+    /// The enabled transfer whose sender stands first in the queue, which a walk finds.
+    fn first_transfer(&self) -> Option<(u32, u32)>
         ensures { MatchOption result ((s r : ℕ) → ¬ (IsFirstSender self.now r s)) (IsNextTransfer self.now) }
     {
         if !any_receives(self.threads.as_slice()) {
@@ -197,6 +225,17 @@ impl Threads {
             }
         }
         None
+    }
+
+    /// The enabled transfer whose sender stands first in the queue: the sender's number and the receiver's.
+    pub fn next_transfer(&self) -> Option<(u32, u32)>
+        ensures { MatchOption result ((s r : ℕ) → ¬ (IsFirstSender self.now r s)) (IsNextTransfer self.now) }
+    {
+        match self.focus {
+            Focus::Nobody => None,
+            Focus::One(number) => self.transfer_of(number),
+            Focus::Anybody => self.first_transfer(),
+        }
     }
 
     /// Whether the thread waits with a timeout of zero and takes part in no enabled transfer.
@@ -227,8 +266,8 @@ impl Threads {
         transfers
     }
 
-    /// The least number of a thread that can expire.
-    pub fn next_expiry(&self) -> Option<u32>
+    /// The least number of a thread that can expire, which a walk finds.
+    fn first_expiry(&self) -> Option<u32>
         ensures { MatchOption result ((n : ℕ) → ¬ (CanExpire self.now n)) (IsNextExpiry self.now) }
     {
         if !any_expires(self.threads.as_slice()) {
@@ -243,6 +282,23 @@ impl Threads {
             }
         }
         least
+    }
+
+    /// The least number of a thread that can expire.
+    pub fn next_expiry(&self) -> Option<u32>
+        ensures { MatchOption result ((n : ℕ) → ¬ (CanExpire self.now n)) (IsNextExpiry self.now) }
+    {
+        match self.focus {
+            Focus::Nobody => None,
+            Focus::One(number) => {
+                if self.can_expire(number) {
+                    Some(number)
+                } else {
+                    None
+                }
+            }
+            Focus::Anybody => self.first_expiry(),
+        }
     }
 
     /// The senders' numbers, in the order in which their sends began.
@@ -289,6 +345,7 @@ impl Threads {
     {
         self.threads.send(number, words, items, phase);
         self.queue.push(number);
+        self.focus = self.focus.with_waiting(number);
     }
 
     /// A running or sending thread starts to receive. It is in the queue no longer.
@@ -296,8 +353,9 @@ impl Threads {
         requires { IsTrue (may_receive self.old number) }
         ensures { self.new ≡ start_receive self.old number receiving }
     {
-        leave(&mut self.queue, number);
+        leave_if_sending(&mut self.queue, &self.threads, number);
         self.threads.receive(number, receiving);
+        self.focus = self.focus.with_waiting(number);
     }
 
     /// The call of a thread ends with this reply, whatever the thread does. It is in the queue no longer.
@@ -305,8 +363,9 @@ impl Threads {
         requires { IsSome (state_of self.old number) }
         ensures { self.new ≡ end_call self.old number reply }
     {
-        leave(&mut self.queue, number);
+        leave_if_sending(&mut self.queue, &self.threads, number);
         self.threads.run(number, reply);
+        self.focus = self.focus.with_running(number);
     }
 
     /// An Ipc of a thread ends with this reply, whatever the thread does. It is in the queue no longer.
@@ -315,8 +374,9 @@ impl Threads {
         requires words { length words.now ≤ max_words }
         ensures { self.new ≡ end_call self.old number (Ipc (message_of envelope words.now)) }
     {
-        leave(&mut self.queue, number);
+        leave_if_sending(&mut self.queue, &self.threads, number);
         self.threads.reply(number, envelope, words);
+        self.focus = self.focus.with_running(number);
     }
 
     /// Whether the caller is in the root space.

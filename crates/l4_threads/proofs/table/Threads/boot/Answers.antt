@@ -1,8 +1,9 @@
 use Rattle.l4_threads.proofs.BootLemmas.{first_table, seen_first}
+use Rattle.l4_threads.proofs.FocusLemmas.{first_focused}
 use Rattle.l4_threads.proofs.table.Threads.boot.Goals as goal
 
 pub invariant_of-result : goal.invariant_of-result
-invariant_of-result c = rw (c.push-2.ensures, c.push.ensures, c.new-threads.ensures, c.new.ensures) first_table
+invariant_of-result c = rw (c.push-2.ensures, c.push.ensures, c.new-threads.ensures, c.new.ensures) (record { table = first_table; focused = first_focused })
 
 pub returns : goal.returns
 returns c = rw (c.push-2.ensures, c.push.ensures, c.new-threads.ensures, c.new.ensures) seen_first

@@ -1,5 +1,6 @@
 use Rattle.std.proofs.Common.{sym, ◌∙◌}
 use Rattle.l4_threads.proofs.ViewLemmas.{thread_at_seen, found_not_none, named_there, pager_table, seen_pager}
+use Rattle.l4_threads.proofs.FocusLemmas.{focused_pager}
 use Rattle.l4_threads.proofs.table.Threads.set_pager.Goals as goal
 
 pub set_pager-requires : goal.set_pager-requires
@@ -9,7 +10,10 @@ set_pager-requires c =
     (sym (thread_at_seen c.self.inside.threads c.self.inside.queue.items c.self.inside.next_space c.args.self.now c.self.view_is c.in-Some.number) ∙ there.1)
 
 pub invariant_of-self : goal.invariant_of-self
-invariant_of-self c = rw c.set_pager.ensures (pager_table c.self.inside.threads c.self.inside.queue.items c.self.inside.next_space c.in-Some.number c.args.pager c.self.invariant)
+invariant_of-self c = rw c.set_pager.ensures (record {
+  table = pager_table c.self.inside.threads c.self.inside.queue.items c.self.inside.next_space c.in-Some.number c.args.pager c.self.invariant.table;
+  focused = focused_pager c.self.inside.threads c.self.inside.focus c.in-Some.number c.args.pager c.self.invariant.focused;
+})
 
 pub returns-clause-ok : goal.returns-clause-ok
 returns-clause-ok c =

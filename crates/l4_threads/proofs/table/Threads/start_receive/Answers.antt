@@ -2,6 +2,7 @@ use Rattle.std.proofs.Common.{not, refl}
 use Rattle.l4_threads.specs.declared.State.TheVariants.{Receiving as Receives}
 use Rattle.l4_threads.specs.Threads.{is_receiving}
 use Rattle.l4_threads.proofs.ViewLemmas.{found_seen, found_not_none, left_table, seen_left}
+use Rattle.l4_threads.proofs.FocusLemmas.{focused_waiting}
 use Rattle.l4_threads.proofs.table.Threads.start_receive.Goals as goal
 
 pub receive-requires : goal.receive-requires
@@ -12,11 +13,14 @@ receive-requires c =
 pub invariant_of-self : goal.invariant_of-self
 invariant_of-self c =
     let there = found_seen c.self.inside.threads c.self.inside.queue.items c.self.inside.next_space c.args.self.now c.self.view_is (λ state. not (is_receiving state)) c.args.number c.requires in
-    rw (c.receive.ensures, c.leave.ensures)
-    (left_table c.self.inside.threads c.self.inside.queue.items c.self.inside.next_space c.args.number there.0 (Receives c.args.receiving) c.self.invariant there.1 refl)
+    record {
+      table = rw (c.receive.ensures, c.leave_if_sending.ensures)
+          (left_table c.self.inside.threads c.self.inside.queue.items c.self.inside.next_space c.args.number there.0 (Receives c.args.receiving) c.self.invariant.table there.1 refl);
+      focused = rw (c.receive.ensures, c.with_waiting-self-inside.ensures) (focused_waiting c.self.inside.threads c.self.inside.focus c.args.number (Receives c.args.receiving) c.self.invariant.focused);
+    }
 
 pub returns : goal.returns
 returns c =
     let there = found_seen c.self.inside.threads c.self.inside.queue.items c.self.inside.next_space c.args.self.now c.self.view_is (λ state. not (is_receiving state)) c.args.number c.requires in
-    rw (← c.self.view_is, c.receive.ensures, c.leave.ensures)
-    (seen_left c.self.inside.threads c.self.inside.queue.items c.self.inside.next_space c.args.number there.0 (Receives c.args.receiving) c.self.invariant there.1)
+    rw (← c.self.view_is, c.receive.ensures, c.leave_if_sending.ensures)
+    (seen_left c.self.inside.threads c.self.inside.queue.items c.self.inside.next_space c.args.number there.0 (Receives c.args.receiving) c.self.invariant.table there.1)

@@ -21,5 +21,5 @@ pub returns : goal.returns
 returns c =
     are_transfers c.args.self.now c.as_slice-sender-items.result.now
     (subst (IsQueueOf c.args.self.now) (sym c.as_slice-sender-items.ensures.value)
-    (queue_of c.self.inside.threads c.self.inside.queue.items c.self.inside.next_space c.args.self.now c.self.invariant c.self.view_is))
+    (queue_of c.self.inside.threads c.self.inside.queue.items c.self.inside.next_space c.args.self.now c.self.invariant.table c.self.view_is))
     c.loop-sender.sender-index c.loop-sender-test.false c.loop-sender.transfers.items c.loop-sender.invariant
