@@ -1,15 +1,15 @@
 -- The numbers of the table, listed once more on their own: where one stands, and what becomes of the list.
-use Rattle.std.proofs.Common.{◌≡◌, ◌≢◌, ℕ, zero, suc, ◌+◌, ◌<◌, ◌≤◌, ◌==◌, true, List, [], ◌∷◌, ◌++◌, map, length, Option, Some, None, sym, ap, ◌∙◌, subst, slice_get, arith, inl, inr, eq-eqb}
+use Rattle.std.proofs.Common.{◌≡◌, ◌≢◌, ℕ, zero, suc, ◌+◌, ◌<◌, ◌≤◌, ◌==◌, ◌||◌, true, false, cond, not, refl, List, [], ◌∷◌, ◌++◌, map, length, Option, Some, None, sym, ap, ◌∙◌, subst, slice_get, arith, inl, inr, eq-eqb}
 use Rattle.std.proofs.lemmas.Bool.{false≢true}
 use Rattle.std.proofs.lemmas.List.{length-map}
 use Rattle.std.proofs.lemmas.Option.{slice_get_within}
-use Rattle.std.specs.List.{refill, slice_set, slice_index_or}
+use Rattle.std.specs.List.{remove, refill, slice_set, slice_index_or}
 use Rattle.l4_threads.specs.declared.Thread.{Thread}
 use Rattle.l4_threads.specs.Inside.Entries.{Entries, found, changed_in, IsAt}
 use Rattle.l4_threads.specs.Inside.Numbers.{IsFirst, IsNowhere, AreNumbers}
 use Rattle.l4_threads.specs.Queue.{is_in, IsOnce}
-use Rattle.l4_threads.proofs.TableLemmas.{same_or, found_none, numbers-changed_in, written_change}
-use Rattle.l4_threads.proofs.QueueLemmas.{or_left, or_right, once-push}
+use Rattle.l4_threads.proofs.TableLemmas.{same_or, differ, found_none, numbers-changed_in, written_change}
+use Rattle.l4_threads.proofs.QueueLemmas.{or_left, or_right, once-push, left_by, left_by_none}
 use Rattle.l4_threads.proofs.BootLemmas.{numbers-push, absent_found}
 
 -- none of the numbers before a place is this one
@@ -81,6 +81,21 @@ none_before (x ∷ xs) once n (suc at) there (suc i) m lt here = none_before xs 
 
 pub once_at : (es : Entries) (numbers : List ℕ) (n at : ℕ) → numbers ≡ map (λ e. e.0) es → IsOnce numbers → slice_get numbers at ≡ Some n → IsAt es n at
 once_at es numbers n at same once there = is_at es numbers n at same (record { there = there; first = none_before numbers once n at there })
+
+-- what stands once and is taken from its place is nowhere
+pub removed_at : (xs : List ℕ) → IsOnce xs → (n at : ℕ) → slice_get xs at ≡ Some n → remove xs at ≡ left_by n xs
+removed_at [] once n at there = absurd (let k : ◌≡◌ {A = Option ℕ} None (Some n) = there in cc)
+removed_at (x ∷ xs) once n zero there =
+    let k : ◌≡◌ {A = Option ℕ} (Some x) (Some n) = there in
+    let v : x ≡ n = cc in
+    sym (ap (λ b. cond (not b) (x ∷ left_by n xs) (left_by n xs)) (eq-eqb x n v) ∙ left_by_none n xs (ap (is_in xs) (sym v) ∙ once.0))
+removed_at (x ∷ xs) once n (suc at) there =
+    let other : x ≢ n = λ is. false≢true (sym once.0 ∙ ap (is_in xs) is ∙ number_in xs at n there) in
+    ap (λ l. x ∷ l) (removed_at xs once.1 n at there) ∙ sym (ap (λ b. cond (not b) (x ∷ left_by n xs) (left_by n xs)) (differ x n other))
+
+pub not_listed : (xs : List ℕ) (n : ℕ) → IsNowhere xs n → is_in xs n ≡ false
+not_listed [] n none = refl
+not_listed (x ∷ xs) n none = ap (λ b. b || is_in xs n) (differ n x (λ is. none 0 x refl (sym is))) ∙ not_listed xs n (λ i m at. none (suc i) m at)
 
 pub at_within : (es : Entries) (n at : ℕ) → IsAt es n at → at < length es
 at_within es n at first = slice_get_within es at (n, first.thread) first.there

@@ -1,5 +1,5 @@
 //! Lists of threads with their numbers, and of numbers.
-ghost use Rattle.std.specs.Prelude.{◌≡◌, ◌==◌, not, filter, nat_lt, if◌then◌else◌, length, insert, ◌+◌, ◌<◌, ◌≤◌, []};
+ghost use Rattle.std.specs.Prelude.{◌≡◌, nat_lt, if◌then◌else◌, length, insert, ◌+◌, ◌<◌, ◌≤◌, []};
 ghost use Rattle.arrayvec.specs.ArrayVec.{array_vec_len};
 ghost use Rattle.std.specs.Option.{option_map_or};
 ghost use Rattle.l4_threads.specs.Inside.Entries.{freed_in, ends_with, ended_in, rising_with, has_space, is_receiving, any_state};
@@ -9,13 +9,6 @@ ghost use Rattle.l4_threads.specs.Sizes.{max_threads};
 
 use crate::{MAX_THREADS, State, Thread};
 use arrayvec::ArrayVec;
-
-/// Takes the number out of the queue.
-pub fn leave(queue: &mut ArrayVec<u32, MAX_THREADS>, number: u32)
-    ensures { queue.new.items ≡ filter (λ m. not (m == number)) queue.old.items }
-{
-    queue.retain(|m| *m != number);
-}
 
 /// The number, or the one that there was if that is less.
 pub fn lesser(least: Option<u32>, number: u32) -> u32

@@ -2,10 +2,10 @@
 ghost use Rattle.std.specs.Prelude.{◌≡◌, ◌≢◌, ◌==◌, ◌++◌, ◌∷◌, ◌<◌, ◌≤◌, [], length, filter, not, MatchOption, IfSome, Some, None};
 ghost use Rattle.std.specs.Option.{option_copied};
 ghost use Rattle.l4_threads.specs.Inside.Entries.{sends_in};
-ghost use Rattle.l4_threads.specs.Queue.{is_in};
+ghost use Rattle.l4_threads.specs.Queue.{is_in, IsOnce};
 ghost use Rattle.l4_threads.specs.Inside.Numbers.{IsFirst, IsNowhere};
 
-use crate::entries::{free_all, leave};
+use crate::entries::free_all;
 use crate::{Envelope, MAX_THREADS, Receiving, Reply, SendPhase, State, Thread, ThreadId};
 use arrayvec::ArrayVec;
 use l4_msg::Item;
@@ -213,9 +213,20 @@ pub fn keep_senders(queue: &mut ArrayVec<u32, MAX_THREADS>, roster: &Roster)
     queue.retain(|m| roster.sends(*m));
 }
 
+/// Takes the number out of the queue.
+fn leave(queue: &mut ArrayVec<u32, MAX_THREADS>, number: u32)
+    requires { IsOnce queue.old.items }
+    ensures { queue.new.items ≡ filter (λ m. not (m == number)) queue.old.items }
+{
+    if let Some(at) = place_of(queue.as_slice(), number) {
+        queue.remove(at);
+    }
+}
+
 /// Takes the number out of the queue, where it stands only if that thread sends.
 pub fn leave_if_sending(queue: &mut ArrayVec<u32, MAX_THREADS>, roster: &Roster, number: u32)
-    requires { is_in queue.old.items number ≡ sends_in roster.now number }
+    requires once { IsOnce queue.old.items }
+    requires senders { is_in queue.old.items number ≡ sends_in roster.now number }
     ensures { queue.new.items ≡ filter (λ m. not (m == number)) queue.old.items }
 {
     if roster.sends(number) {
