@@ -1,5 +1,6 @@
 pub mod Absent
 pub mod Along
+pub mod Apart
 pub mod Waiting
 pub mod Clashing
 pub mod Climbing
@@ -39,6 +40,7 @@ pub mod Placed
 pub mod Prepared
 pub mod Presence
 pub mod Restored
+pub mod RoomMade
 pub mod Rooming
 pub mod SameRights
 pub mod Sourced

@@ -27,7 +27,7 @@ abbrev opposite : (a b : Entries) → StandAlike a b → StandAlike b a
 opposite a b alike key = sym (alike key)
 
 -- something stands at the end of a chain
-leads_stands : (s : Entries) → AreTrees s → {low high : ℕ} → Leads (parent_of s) low high → IsStanding s high
+pub leads_stands : (s : Entries) → AreTrees s → {low high : ℕ} → Leads (parent_of s) low high → IsStanding s high
 leads_stands s trees {low} {high} (step is) none =
     elim (standing_at s low) as (λ (o : Option Standing). standing_at s low ≡ o → option_and_then (λ (t : Standing). t.parent) o ≡ Some high → ⊥) [
       | None ↦ λ _ h. (let k : ◌≡◌ {A = Option ℕ} None (Some high) = h in cc)

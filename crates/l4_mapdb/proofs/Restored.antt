@@ -131,7 +131,7 @@ module _ (old : Linked) (clean : IsClean old) (from to : ℕ) (items : List Item
     not_granted = λ key t stands. marks.not_granted key t (ap (option_and_then (λ (x : Entry). x.stands)) (sym (same key)) ∙ stands);
   }
 
-  wants_stands : (A : LinkPlace → Type 0) (o n : Option Entry) → Wants A o n → option_and_then (λ (x : Entry). x.stands) n ≡ option_and_then (λ (x : Entry). x.stands) o
+  pub wants_stands : (A : LinkPlace → Type 0) (o n : Option Entry) → Wants A o n → option_and_then (λ (x : Entry). x.stands) n ≡ option_and_then (λ (x : Entry). x.stands) o
   wants_stands A o n (inl same) = ap (option_and_then (λ (x : Entry). x.stands)) same
   wants_stands A o n (inr (inl w)) = ap (option_and_then (λ (x : Entry). x.stands)) w.3 ∙ sym (ap (option_and_then (λ (x : Entry). x.stands)) w.1)
   wants_stands A o n (inr (inr w)) = ap (option_and_then (λ (x : Entry). x.stands)) w.3 ∙ sym (ap (option_and_then (λ (x : Entry). x.stands)) w.1)

@@ -1,45 +1,55 @@
 //! What a message needs before its pages are moved: it is tested, room is made, and what its targets show goes.
 
-ghost use Rattle.std.specs.Prelude.{◌≡◌, ℕ, IsTrue, IsOk, OnOk, OnErr, IfErr};
+ghost use Rattle.std.specs.Prelude.{◌≡◌, ℕ, IsTrue, IsOk, OnOk, OnErr, IfOk, IfErr, false};
 ghost use Rattle.std.specs.FinSet as set;
-ghost use Rattle.l4_links.specs.Entries.{entry_at};
+ghost use Rattle.l4_links.specs.Entries.{entry_at, IsAt};
+ghost use Rattle.l4_mapdb.specs.declared.sources.UsedMove.{UsedMove as AUsedMove};
 ghost use Rattle.l4_mapdb.specs.Transfer.{IsUsed, IsEntangled, TargetsPresent};
 ghost use Rattle.l4_mapdb.specs.Causes.{HasCause};
 ghost use Rattle.l4_mapdb.specs.Inside.View.{mappings_of};
 ghost use Rattle.l4_mapdb.specs.Inside.Kept.{IsClean};
-ghost use Rattle.l4_mapdb.specs.Inside.Messages.{IsMoved, Roomed, LacksKey, Cleared};
+ghost use Rattle.l4_mapdb.specs.Inside.Messages.{IsMoved, Roomed, AreAbsent, LacksKey, Cleared};
 ghost use Rattle.l4_mapdb.specs.Inside.Tangles.{HasTangle};
 
 use crate::clearing::clear_targets;
 use crate::room::make_room;
-use crate::sources::mark_sources;
-use crate::tangles::marked_tangle;
+use crate::tangles::{has_tangle, room_tangle};
 use crate::unmarking::unmark;
 use crate::{Cause, ItemMove};
 use l4_links::Links;
 
+/// Why a message is refused that there was no memory for.
+fn refusal(links: &Links, from: u64, to: u64, items: &[ItemMove]) -> Cause
+    requires { (move : AUsedMove) × IsMoved links.now.entries from to items.now move × ((key : ℕ) → ¬ (IsAt links.now.entries move.target key)) }
+    ensures { LacksKey (IsMoved links.now.entries from to items.now) links.now.entries result }
+{
+    if has_tangle(links, from, to, items) {
+        return Cause::Entangled;
+    }
+    Cause::NoMemory
+}
+
 /// Marks the sources of the used moves and gives each target a key, unless the used moves contradict each other or memory is refused.
-fn make_ready(links: &mut Links, from: u64, to: u64, items: &[ItemMove]) -> Result<(), Cause>
+/// Whether a target had a key is given.
+fn make_ready(links: &mut Links, from: u64, to: u64, items: &[ItemMove]) -> Result<bool, Cause>
     requires clean { IsClean links.old }
     requires there { IsTrue (set.contains links.old.spaces to) }
     ensures ok { OnOk result (Roomed (IsMoved links.old.entries from to items.now) links.old.entries links.new.entries) }
     ensures free { OnOk result (¬ (HasTangle (IsMoved links.old.entries from to items.now) links.old.entries)) }
+    ensures had { IfOk result (λ had. had ≡ false → AreAbsent (IsMoved links.old.entries from to items.now) links.old.entries) }
     ensures err { OnErr result ((key : ℕ) → entry_at links.new.entries key ≡ entry_at links.old.entries key) }
     ensures cause { IfErr result (LacksKey (IsMoved links.old.entries from to items.now) links.old.entries) }
     ensures spaces { links.new.spaces ≡ links.old.spaces }
 {
-    mark_sources(links, from, to, items);
-    if marked_tangle(links, from, to, items) {
+    let Ok(had) = make_room(links, from, to, items) else {
+        unmark(links, from, to, items);
+        return Err(refusal(links, from, to, items));
+    };
+    if room_tangle(links, from, to, items, had) {
         unmark(links, from, to, items);
         return Err(Cause::Entangled);
     }
-    match make_room(links, from, to, items) {
-        Ok(()) => Ok(()),
-        Err(_) => {
-            unmark(links, from, to, items);
-            Err(Cause::NoMemory)
-        }
-    }
+    Ok(had)
 }
 
 /// Makes way for the used moves of a message: their sources are marked, what their targets show has gone with all that descends from it,
@@ -62,12 +72,15 @@ pub(crate) fn make_way(
 {
     links.law_places();
     links.law_trees();
-    match make_ready(links, from, to, items) {
-        Ok(()) => {}
+    let had = match make_ready(links, from, to, items) {
+        Ok(had) => had,
         Err(cause) => return Err(cause),
-    }
+    };
     links.law_places();
     links.law_trees();
+    if !had {
+        return Ok(());
+    }
     clear_targets(links, from, to, items);
     Ok(())
 }

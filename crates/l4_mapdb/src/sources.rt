@@ -1,11 +1,10 @@
-//! The used moves of a message, one after another by item and page, and the marks of their sources.
+//! The used moves of a message, one after another by item and page.
 
 ghost use Rattle.std.specs.Prelude.{◌≡◌, ◌≢◌, ◌<◌, ◌≤◌, ◌⊎◌, length, IsTrue, MatchOption, slice_get, ℕ, Some, None};
 ghost use Rattle.l4_fpage.specs.Pages.{space_pages, InBlock};
-ghost use Rattle.l4_links.specs.Entries.{IsSource, IsKeyOf, entry_at};
+ghost use Rattle.l4_links.specs.Entries.{IsKeyOf};
 ghost use Rattle.l4_mapdb.specs.declared.ItemMove.{ItemMove as AnItemMove};
-ghost use Rattle.l4_mapdb.specs.Inside.Kept.{IsClean};
-ghost use Rattle.l4_mapdb.specs.Inside.Messages.{IsMoved, turn, turn_of, IsNextMove, IsNextOfItem, Marks};
+ghost use Rattle.l4_mapdb.specs.Inside.Messages.{IsMoved, turn, turn_of, IsNextMove, IsNextOfItem};
 
 use crate::ItemMove;
 use crate::cutting::end_of;
@@ -146,24 +145,4 @@ pub(crate) fn next_move(
         start = 0;
     }
     None
-}
-
-/// Marks the source of each used move.
-pub(crate) fn mark_sources(links: &mut Links, from: u64, to: u64, items: &[ItemMove])
-    requires { IsClean links.old }
-    ensures marks { Marks (IsMoved links.old.entries from to items.now) links.old.entries links.new.entries }
-    ensures sources { (move : UsedMove) → IsMoved links.old.entries from to items.now move → IsSource links.new.entries move.source }
-    ensures spaces { links.new.spaces ≡ links.old.spaces }
-{
-    links.law_places();
-    let mut item = 0;
-    let mut page = 0;
-    loop {
-        let Some(used) = next_move(links, from, to, items, item, page) else {
-            return;
-        };
-        links.set_source(used.source, true);
-        item = used.item;
-        page = used.page + 1;
-    }
 }

@@ -1,12 +1,13 @@
 //! Whether what a message does would depend on the order of its items.
 
-ghost use Rattle.std.specs.Prelude.{◌≡◌, ◌≢◌, ◌↔◌, ◌<◌, ◌≤◌, ◌⊎◌, ℕ, length, IsTrue, MatchOption};
+ghost use Rattle.std.specs.Prelude.{◌≡◌, ◌≢◌, ◌↔◌, ◌<◌, ◌≤◌, ◌⊎◌, ℕ, length, IsTrue, MatchOption, true, false};
 ghost use Rattle.l4_links.specs.Entries.{entry_at, IsAt, IsStanding, IsSource, Descends};
 ghost use Rattle.l4_mapdb.specs.Inside.Messages.{IsMoved};
-ghost use Rattle.l4_mapdb.specs.Inside.Tangles.{IsTaken, Clashes, ClashesWith, Tangles, TanglesFrom, HasTangle, AboveSource, SourcesAre};
+ghost use Rattle.l4_mapdb.specs.Inside.Tangles.{IsTaken, Clashes, ClashesWith, Tangles, TanglesFrom, HasTangle, AboveSource, SourcesAre, AreApart, NoneReplaced};
 ghost use Rattle.l4_mapdb.specs.declared.sources.UsedMove.{UsedMove as AUsedMove};
 
 use crate::ItemMove;
+use crate::cutting::end_of;
 use crate::sources::{UsedMove, move_out, next_move};
 use l4_links::{Entry, Links, Place};
 
@@ -50,6 +51,23 @@ fn into_place(
         }
     }
     None
+}
+
+/// Whether each item's pages come after those of the items before it: the sender's, and the receiver's.
+fn are_apart(items: &[ItemMove]) -> bool
+    ensures { result ≡ true → AreApart items.now (length items.now) }
+{
+    let mut source = 0;
+    let mut target = 0;
+    for item in 0..items.len() {
+        let by = &items[item];
+        if by.mv.source.first < source || by.mv.target.first < target {
+            return false;
+        }
+        source = end_of(by.mv.source);
+        target = end_of(by.mv.target);
+    }
+    true
 }
 
 /// Whether the item `other`, if it is another one, fills what the used move fills, or moves what it grants.
@@ -176,7 +194,7 @@ fn tangles(links: &mut Links, from: u64, to: u64, items: &[ItemMove], used: &Use
 }
 
 /// Whether the used moves contradict each other, where the sources of all are marked. Each node is visited once.
-pub(crate) fn marked_tangle(links: &mut Links, from: u64, to: u64, items: &[ItemMove]) -> bool
+fn marked_tangle(links: &mut Links, from: u64, to: u64, items: &[ItemMove]) -> bool
     requires { SourcesAre (IsMoved links.old.entries from to items.now) links.old.entries }
     ensures same { (key : ℕ) → entry_at links.new.entries key ≡ entry_at links.old.entries key }
     ensures answer { IsTrue result ↔ HasTangle (IsMoved links.old.entries from to items.now) links.old.entries }
@@ -195,4 +213,25 @@ pub(crate) fn marked_tangle(links: &mut Links, from: u64, to: u64, items: &[Item
         item = used.item;
         page = used.page + 1;
     }
+}
+
+/// Whether the used moves contradict each other, where the sources of all are marked. Where no target shows anything, as is said with
+/// `had`, and the items are apart, there is nothing to look at.
+pub(crate) fn room_tangle(
+    links: &mut Links,
+    from: u64,
+    to: u64,
+    items: &[ItemMove],
+    had: bool,
+) -> bool
+    requires sources { SourcesAre (IsMoved links.old.entries from to items.now) links.old.entries }
+    requires had { had ≡ false → NoneReplaced (IsMoved links.old.entries from to items.now) links.old.entries }
+    ensures same { (key : ℕ) → entry_at links.new.entries key ≡ entry_at links.old.entries key }
+    ensures answer { IsTrue result ↔ HasTangle (IsMoved links.old.entries from to items.now) links.old.entries }
+    ensures spaces { links.new.spaces ≡ links.old.spaces }
+{
+    if !had && are_apart(items) {
+        return false;
+    }
+    marked_tangle(links, from, to, items)
 }

@@ -159,6 +159,10 @@ pub record Roomed (Used : UsedMove → Type 0) (old new : Entries) : Type 0 wher
   pub sources : (move : UsedMove) → Used move → IsSource new move.source
   pub targets : (move : UsedMove) → Used move → IsWanted new move.target
 
+-- the target of no used move has a key
+abbrev pub AreAbsent : (UsedMove → Type 0) → Entries → Type 0
+AreAbsent Used s = (move : UsedMove) → Used move → (key : ℕ) → ¬ (IsAt s move.target key)
+
 -- The used moves contradict each other; or they don't, and the target of one has no key.
 abbrev pub LacksKey : (UsedMove → Type 0) → Entries → Cause → Type 0
 LacksKey Used s Entangled = HasTangle Used s

@@ -1,15 +1,17 @@
-use Rattle.std.proofs.Common.{◌≡◌, ℕ, ◌-◌, ◌≤◌, ◌<◌, ◌*◌, length}
-use Rattle.l4_links.specs.Entries.{entry_at}
+use Rattle.std.proofs.Common.{◌≡◌, ℕ, ◌-◌, ◌≤◌, ◌<◌, ◌*◌, false, length}
+use Rattle.l4_links.specs.Entries.{IsAt}
 use Rattle.l4_mapdb.specs.declared.sources.UsedMove.{UsedMove}
-use Rattle.l4_mapdb.specs.Inside.Messages.{IsMoved, turn, turn_of, IsWanted, IsFilled, Wants}
+use Rattle.l4_mapdb.specs.Inside.Messages.{IsMoved, turn, turn_of, IsWanted, Marks, SourcesMarked}
 use Rattle.l4_mapdb.proofs.room.make_room.Given as goal
 
--- the targets of the used moves before this turn are wanted, and no others
+-- the sources of the used moves before this turn are marked and their targets wanted, and no others
 abbrev pub invariant-loop-used : goal.invariant-loop-used
 invariant-loop-used l = record {
   fits : l.page ≤ 1048576;
-  wants : (key : ℕ) → Wants (IsFilled (IsMoved l.fn.links.entries l.from l.to l.items)) (entry_at l.fn.links.entries key) (entry_at l.links.entries key);
+  marks : Marks (IsMoved l.fn.links.entries l.from l.to l.items) l.fn.links.entries l.links.entries;
+  sources : SourcesMarked l.from l.to l.items l.fn.links.entries l.links.entries (turn l.item l.page);
   wanted : (move : UsedMove) → IsMoved l.fn.links.entries l.from l.to l.items move → turn_of move < turn l.item l.page → IsWanted l.links.entries move.target;
+  absent : l.had ≡ false → (move : UsedMove) → IsMoved l.fn.links.entries l.from l.to l.items move → turn_of move < turn l.item l.page → (key : ℕ) → ¬ (IsAt l.fn.links.entries move.target key);
   spaces : l.links.spaces ≡ l.fn.links.spaces;
 }
 
