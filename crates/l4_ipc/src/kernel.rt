@@ -5,6 +5,7 @@ ghost use Rattle.std.specs.Option.{option_copied};
 ghost use Rattle.l4_mapdb.specs.declared.Place.{Place};
 
 use crate::acting::{expire, start, transfer};
+use crate::calls::Call;
 use crate::steps::{Answer, Lower, Refused, Step};
 use l4_mapdb::{Forest, MAX_FRAMES, Mapping, NoMemory};
 use l4_threads::{ROOT_SPACE, Reply, State, Threads};
@@ -48,6 +49,7 @@ impl Kernel {
     ghost use Rattle.l4_ipc.specs.Reading.{reply_of};
     ghost use Rattle.l4_ipc.specs.declared.steps.Refused.TheVariants.{BadFrames, Lower as IsLower};
     ghost use Rattle.l4_ipc.specs.declared.steps.Lower.TheVariants.{NoMemory as WantOfMemory};
+    ghost use Rattle.l4_ipc.specs.declared.steps.Step.TheVariants.{Start};
 
     /// The kernel as it boots: sigma0 is thread 1 in space 0, which shows each frame below `frames` at the page of its number with
     /// all rights, and root is thread 2 in space 1, which shows none. There are 1 to 4,096 frames.
@@ -93,6 +95,13 @@ impl Kernel {
             ),
             Step::Expire(number) => expire(&mut self.threads, *number),
         }
+    }
+
+    /// Does the step that starts this call. `step` says what it refuses.
+    pub fn start(&mut self, number: u32, call: &Call) -> Result<Answer, Refused>
+        ensures { Steps self.old (Start number call.now) result self.new }
+    {
+        start(&mut self.threads, &mut self.forest, number, call)
     }
 
     /// What holds of the threads at all times: the queue is a strict order of the senders. It does nothing.

@@ -3,9 +3,11 @@ ghost use Rattle.std.specs.Prelude.{◌≡◌, ◌≢◌, ◌+◌, ◌<◌, ◌^
 ghost use Rattle.l4_lock.specs.Inside.Packing.{entry_at, read_all, AreRead};
 ghost use Rattle.l4_lock.specs.Lists.{EntryList, entry_list, entry_outline};
 ghost use Rattle.std.specs.Option.{option_map};
+ghost use Rattle.l4_ipc.specs.declared.steps.Step.TheVariants.{Start};
 
 use crate::entries::{Entry, EntryOutline};
-use crate::packed::{read_entry, read_entry_outline, write_entry};
+use crate::packed::{read_entry, read_entry_outline, write_entry, write_start};
+use l4_ipc::{Answer, Call, Step};
 use l4_packed::{Record, Records};
 use std::alloc::{AllocError, Global};
 use std::marker::Model;
@@ -93,13 +95,23 @@ impl History {
         self.entries.reserve(more)
     }
 
-    /// Appends an entry for which there is room.
-    pub(crate) fn push(&mut self, entry: Entry)
+    /// Appends the entry of these parts, for which there is room.
+    pub(crate) fn push(&mut self, seat: u32, step: &Step, answer: &Answer)
         requires { length self.old.entries < self.old.room }
-        ensures entries { self.new.entries ≡ self.old.entries ++ entry ∷ [] }
+        ensures entries { self.new.entries ≡ self.old.entries ++ record { seat = seat; step = step.now; answer = answer.now } ∷ [] }
         ensures room { (length self.new.entries ≡ length self.old.entries + 1) × (self.new.room ≡ self.old.room) }
     {
-        write_entry(&mut self.packed, &entry);
+        write_entry(&mut self.packed, seat, step, answer);
+        self.entries.push(&self.packed.words());
+    }
+
+    /// Appends the entry of the start of a call, for which there is room.
+    pub(crate) fn push_start(&mut self, number: u32, call: &Call, answer: &Answer)
+        requires { length self.old.entries < self.old.room }
+        ensures entries { self.new.entries ≡ self.old.entries ++ record { seat = number; step = Start number call.now; answer = answer.now } ∷ [] }
+        ensures room { (length self.new.entries ≡ length self.old.entries + 1) × (self.new.room ≡ self.old.room) }
+    {
+        write_start(&mut self.packed, number, call, answer);
         self.entries.push(&self.packed.words());
     }
 }

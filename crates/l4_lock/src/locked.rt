@@ -160,7 +160,7 @@ impl Locked {
         ensures ok { IfOk result (λ e. Enters self.old self.new seat.old.number call × Tells self.old self.new seat.old seat.new call e) }
         ensures err { IfErr result (λ e. Refuses self.old seat.old.number call e × (self.new ≡ self.old) × (seat.new ≡ seat.old)) }
     {
-        let at = match self.admit(seat, call) {
+        let at = match self.admit(seat, &call) {
             Ok(at) => at,
             Err(refusal) => return Err(refusal),
         };
@@ -171,9 +171,9 @@ impl Locked {
     }
 
     /// The same, and hands no reply out: the seat's receipt and the kernel have it.
-    pub fn enter_untold(&mut self, seat: &mut Seat, call: Call) -> Result<(), LockRefusal>
-        ensures ok { IfOk result (λ _. Enters self.old self.new seat.old.number call × ((e : AnEntered) × Tells self.old self.new seat.old seat.new call e)) }
-        ensures err { IfErr result (λ e. Refuses self.old seat.old.number call e × (self.new ≡ self.old) × (seat.new ≡ seat.old)) }
+    pub fn enter_untold(&mut self, seat: &mut Seat, call: &Call) -> Result<(), LockRefusal>
+        ensures ok { IfOk result (λ _. Enters self.old self.new seat.old.number call.now × ((e : AnEntered) × Tells self.old self.new seat.old seat.new call.now e)) }
+        ensures err { IfErr result (λ e. Refuses self.old seat.old.number call.now e × (self.new ≡ self.old) × (seat.new ≡ seat.old)) }
     {
         let at = match self.admit(seat, call) {
             Ok(at) => at,
@@ -184,9 +184,9 @@ impl Locked {
     }
 
     /// Enters a call up to what its seat gains, and answers where its account stands.
-    fn admit(&mut self, seat: &mut Seat, call: Call) -> Result<usize, LockRefusal>
-        ensures ok { IfOk result (λ at. IsAdmitted self.old self.new seat.old seat.new call at) }
-        ensures err { IfErr result (λ e. Refuses self.old seat.old.number call e × (self.new ≡ self.old) × (seat.new ≡ seat.old)) }
+    fn admit(&mut self, seat: &mut Seat, call: &Call) -> Result<usize, LockRefusal>
+        ensures ok { IfOk result (λ at. IsAdmitted self.old self.new seat.old seat.new call.now at) }
+        ensures err { IfErr result (λ e. Refuses self.old seat.old.number call.now e × (self.new ≡ self.old) × (seat.new ≡ seat.old)) }
     {
         let number = seat.number();
         if reply_waits(self.accounts.as_slice(), number) {

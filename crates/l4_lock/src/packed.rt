@@ -1,22 +1,41 @@
 //! Entries and receipts as words.
-ghost use Rattle.std.specs.Prelude.{◌≡◌, Some};
+ghost use Rattle.std.specs.Prelude.{◌≡◌, ◌≤◌, ◌++◌, ◌∷◌, [], length, Some};
+ghost use Rattle.l4_ipc.specs.declared.steps.Step.TheVariants.{Start};
+ghost use Rattle.l4_packed.specs.Codes.{answer_code, AnswerFits};
 ghost use Rattle.l4_lock.specs.Inside.Packing.{entry_at, entry_outline_at, receipt_at};
 
 use crate::entries::{Entry, EntryOutline, Receipt};
-use l4_ipc::{Call, Reply};
+use l4_ipc::{Answer, Call, Reply, Step};
 use l4_packed::{
-    Record, Words, put_answer, put_call, put_place, put_reply, put_step, read_answer, read_call,
+    ANSWER_WORDS, Record, Words, put_answer, put_call, put_place, put_reply, put_start, put_step, read_answer, read_call,
     read_outline, read_place, read_reply, read_step, read_word,
 };
 
-/// Writes an entry in the place of what the record holds.
-pub fn write_entry(out: &mut Record, entry: &Entry)
-    ensures { entry_at out.new.items ≡ Some entry.now }
+/// Writes what an entry begins with in the place of what the record holds.
+fn write_head(out: &mut Record, seat: u32, answer: &Answer)
+    ensures items { out.new.items ≡ seat ∷ [] ++ answer_code answer.now }
+    ensures fits { AnswerFits answer.now }
+    ensures short { length (answer_code answer.now) ≤ ANSWER_WORDS }
 {
     out.clear();
-    out.push(entry.seat);
-    put_answer(out, &entry.answer);
-    put_step(out, &entry.step);
+    out.push(seat);
+    put_answer(out, answer);
+}
+
+/// Writes the entry of these parts in the place of what the record holds.
+pub fn write_entry(out: &mut Record, seat: u32, step: &Step, answer: &Answer)
+    ensures { entry_at out.new.items ≡ Some (record { seat = seat; step = step.now; answer = answer.now }) }
+{
+    write_head(out, seat, answer);
+    put_step(out, step);
+}
+
+/// Writes the entry of the start of a call in the place of what the record holds.
+pub fn write_start(out: &mut Record, number: u32, call: &Call, answer: &Answer)
+    ensures { entry_at out.new.items ≡ Some (record { seat = number; step = Start number call.now; answer = answer.now }) }
+{
+    write_head(out, number, answer);
+    put_start(out, number, call);
 }
 
 /// The entry that words begin with.

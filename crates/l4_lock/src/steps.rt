@@ -9,11 +9,10 @@ ghost use Rattle.l4_ipc.specs.declared.steps.Refused.{Refused as ARefused};
 ghost use Rattle.l4_ipc.specs.declared.steps.Step.TheVariants.{Start};
 ghost use Rattle.l4_lock.specs.declared.refusals.LockRefusal.TheVariants.{NoMemory, Kernel as ByKernel};
 
-use crate::entries::Entry;
 use crate::history::History;
 use crate::refusals::LockRefusal;
 use crate::seats::Account;
-use l4_ipc::{Call, Kernel, Refused, Step};
+use l4_ipc::{Answer, Call, Kernel, Refused, Step};
 
 /// Where the account of a number stands.
 pub fn position(accounts: &[Account], number: u32) -> Option<usize>
@@ -63,19 +62,39 @@ fn note_all(accounts: &mut Vec<Account>, kernel: &Kernel, ended: &[u32], place: 
 }
 
 /// Appends a step that was done.
-pub fn append(kernel: &Kernel, history: &mut History, accounts: &mut Vec<Account>, entry: Entry)
+fn append(
+    kernel: &Kernel,
+    history: &mut History,
+    accounts: &mut Vec<Account>,
+    seat: u32,
+    step: &Step,
+    answer: &Answer,
+)
     requires { length history.old.entries < history.old.room }
-    ensures history { history.new.entries ≡ history.old.entries ++ entry ∷ [] }
+    ensures history { history.new.entries ≡ history.old.entries ++ record { seat = seat; step = step.now; answer = answer.now } ∷ [] }
     ensures room { (length history.new.entries ≡ length history.old.entries + 1) × (history.new.room ≡ history.old.room) }
-    ensures accounts { accounts.new.items ≡ map (noted kernel.now entry.answer.ended.items (length history.old.entries)) accounts.old.items }
+    ensures accounts { accounts.new.items ≡ map (noted kernel.now answer.now.ended.items (length history.old.entries)) accounts.old.items }
 {
-    note_all(
-        accounts,
-        kernel,
-        entry.answer.ended.as_slice(),
-        history.len(),
-    );
-    history.push(entry);
+    note_all(accounts, kernel, answer.ended.as_slice(), history.len());
+    history.push(seat, step, answer);
+}
+
+/// Appends the start of a call that was done.
+fn append_start(
+    kernel: &Kernel,
+    history: &mut History,
+    accounts: &mut Vec<Account>,
+    number: u32,
+    call: &Call,
+    answer: &Answer,
+)
+    requires { length history.old.entries < history.old.room }
+    ensures history { history.new.entries ≡ history.old.entries ++ record { seat = number; step = Start number call.now; answer = answer.now } ∷ [] }
+    ensures room { (length history.new.entries ≡ length history.old.entries + 1) × (history.new.room ≡ history.old.room) }
+    ensures accounts { accounts.new.items ≡ map (noted kernel.now answer.now.ended.items (length history.old.entries)) accounts.old.items }
+{
+    note_all(accounts, kernel, answer.ended.as_slice(), history.len());
+    history.push_start(number, call, answer);
 }
 
 /// Does the steps that come next, until there is none.
@@ -87,7 +106,7 @@ pub fn follow(kernel: &mut Kernel, history: &mut History, accounts: &mut Vec<Acc
     kernel.law_consistent();
     while let Some((step, answer)) = kernel.step_next() {
         kernel.law_forest();
-        append(kernel, history, accounts, Entry { seat, step, answer });
+        append(kernel, history, accounts, seat, &step, &answer);
     }
 }
 
@@ -98,35 +117,25 @@ pub fn begin(
     accounts: &mut Vec<Account>,
     at: usize,
     number: u32,
-    call: Call,
+    call: &Call,
 ) -> Result<(), LockRefusal>
     requires room { length history.old.entries + max_steps + 1 ≤ history.old.room }
     requires at { at < length accounts.old.items }
     requires book { IsReady accounts.old.items at number history.old.entries kernel.old }
-    ensures ok { IfOk result (λ _. Begins number call kernel.old kernel.new history.old.entries history.new.entries accounts.old.items accounts.new.items at) }
+    ensures ok { IfOk result (λ _. Begins number call.now kernel.old kernel.new history.old.entries history.new.entries accounts.old.items accounts.new.items at) }
     ensures same { OnErr result ((kernel.new ≡ kernel.old) × (history.new.entries ≡ history.old.entries) × (accounts.new.items ≡ accounts.old.items)) }
-    ensures err { IfErr result (λ e. (e ≡ NoMemory) ⊎ ((r : ARefused) × (e ≡ ByKernel r) × Steps kernel.old (Start number call) (Err r) kernel.old)) }
+    ensures err { IfErr result (λ e. (e ≡ NoMemory) ⊎ ((r : ARefused) × (e ≡ ByKernel r) × Steps kernel.old (Start number call.now) (Err r) kernel.old)) }
 {
     if accounts[at].is_pending() {
         return Err(LockRefusal::Kernel(Refused::Busy));
     }
-    if accounts[at].begin(&call, history.len()).is_err() {
+    if accounts[at].begin(call, history.len()).is_err() {
         return Err(LockRefusal::NoMemory);
     }
-    let step = Step::Start(number, call);
-    match kernel.step(&step) {
+    match kernel.start(number, call) {
         Ok(answer) => {
             kernel.law_forest();
-            append(
-                kernel,
-                history,
-                accounts,
-                Entry {
-                    seat: number,
-                    step,
-                    answer,
-                },
-            );
+            append_start(kernel, history, accounts, number, call, &answer);
             follow(kernel, history, accounts, number);
             Ok(())
         }

@@ -2,13 +2,14 @@
 ghost use Rattle.std.specs.Prelude.{◌≡◌, ◌+◌, ◌≤◌, ◌++◌, ◌∷◌, [], length, ℕ, List, Some};
 ghost use Rattle.l4_ipc.specs.declared.steps.Answer.{Answer as AnAnswer};
 ghost use Rattle.l4_ipc.specs.declared.steps.Step.{Step as AStep};
+ghost use Rattle.l4_ipc.specs.declared.steps.Step.TheVariants.{Start};
 ghost use Rattle.l4_packed.specs.Codes.{step_code, outcome_code, answer_code, StepFits, AnswerFits};
 ghost use Rattle.l4_packed.specs.Outlines.{step_outline, outline_at};
 ghost use Rattle.l4_packed.specs.Reading.{step_at, outcome_at, answer_at};
 
 use crate::calls::{CALL_WORDS, put_call, read_call};
 use crate::words::{RECORD_WORDS, Record, Words, put_counted, read_counted, read_word};
-use l4_ipc::{Answer, MAX_THREADS, Outcome, Step};
+use l4_ipc::{Answer, Call, MAX_THREADS, Outcome, Step};
 
 /// A step without the call of a start.
 #[derive(Clone, Copy, Debug, PartialEq, Eq)]
@@ -27,6 +28,18 @@ pub const STEP_WORDS: usize = CALL_WORDS + 2;
 /// The greatest number of words of an answer.
 pub const ANSWER_WORDS: usize = MAX_THREADS + 2;
 
+/// Appends the step that starts a call.
+pub fn put_start(out: &mut Record, number: u32, call: &Call)
+    requires { length out.old.items + STEP_WORDS ≤ RECORD_WORDS }
+    ensures items { out.new.items ≡ out.old.items ++ step_code (Start number call.now) }
+    ensures fits { StepFits (Start number call.now) }
+    ensures short { length (step_code (Start number call.now)) ≤ STEP_WORDS }
+{
+    out.push(0);
+    out.push(number);
+    put_call(out, call);
+}
+
 /// Appends a step.
 pub fn put_step(out: &mut Record, step: &Step)
     requires { length out.old.items + STEP_WORDS ≤ RECORD_WORDS }
@@ -35,11 +48,7 @@ pub fn put_step(out: &mut Record, step: &Step)
     ensures short { length (step_code step.now) ≤ STEP_WORDS }
 {
     match step {
-        Step::Start(number, call) => {
-            out.push(0);
-            out.push(*number);
-            put_call(out, call);
-        }
+        Step::Start(number, call) => put_start(out, *number, call),
         Step::Transfer(sender, receiver) => {
             out.push(1);
             out.push(*sender);

@@ -54,14 +54,14 @@ pub fn enter_at(
     seats: &mut Vec<Seat>,
     at: usize,
     number: u32,
-    call: Call,
+    call: &Call,
 ) -> Result<(), LockRefusal>
     requires at { seat_at seats.old.items number ≡ slice_get seats.old.items at }
     requires within { at < length seats.old.items }
     requires seats { AreSeats locked.old.books seats.old.items }
-    ensures ok { IfOk result (λ _. EntersAndTakes locked.old locked.new number call × IsIdle locked.new.kernel
+    ensures ok { IfOk result (λ _. EntersAndTakes locked.old locked.new number call.now × IsIdle locked.new.kernel
         × AreSeats locked.new.books seats.new.items × (numbers_of seats.new.items ≡ numbers_of seats.old.items)) }
-    ensures err { IfErr result (λ e. Refuses locked.old number call e × (locked.new ≡ locked.old) × (seats.new.items ≡ seats.old.items)) }
+    ensures err { IfErr result (λ e. Refuses locked.old number call.now e × (locked.new ≡ locked.old) × (seats.new.items ≡ seats.old.items)) }
 {
     match locked.enter_untold(&mut seats[at], call) {
         Ok(_) => {

@@ -110,9 +110,9 @@ impl SeatedKernel {
     ///
     /// Refusals in this order: `Kernel(UnknownThread)` (L5) for a number that has no seat, `HistoryFull` (L1), `NoMemory` (L2), `Kernel` (L5).
     /// After any of them nothing has changed.
-    pub fn enter(&mut self, number: u32, call: Call) -> Result<(), LockRefusal>
-        ensures ok { IfOk result (λ _. Enters self.old self.new number call) }
-        ensures err { IfErr result (λ e. Refuses self.old.machine (length self.old.history) self.old.numbers number call e × (self.new ≡ self.old)) }
+    pub fn enter(&mut self, number: u32, call: &Call) -> Result<(), LockRefusal>
+        ensures ok { IfOk result (λ _. Enters self.old self.new number call.now) }
+        ensures err { IfErr result (λ e. Refuses self.old.machine (length self.old.history) self.old.numbers number call.now e × (self.new ≡ self.old)) }
     {
         let SeatedKernel {
             locked,

@@ -73,14 +73,14 @@ fn is_message(reply: Option<&Reply>) -> bool {
 fn message(rt: HostRuntime) {
     let mut kernel = SeatedKernel::new(rt.alloc(), FRAMES).expect(&rt, "a kernel");
     assert!(rt; kernel.give(ROOT).is_ok() && kernel.give(THIRD).is_ok());
-    assert!(rt; kernel.enter(ROOT, create()).is_ok());
-    assert!(rt; kernel.enter(THIRD, receive()).is_ok());
+    assert!(rt; kernel.enter(ROOT, &create()).is_ok());
+    assert!(rt; kernel.enter(THIRD, &receive()).is_ok());
     assert!(rt; kernel.kernel().reply(THIRD).is_none());
     assert_eq!(rt; kernel.steps(), 2);
-    assert!(rt; kernel.enter(ROOT, send()).is_ok());
+    assert!(rt; kernel.enter(ROOT, &send()).is_ok());
     assert!(rt; is_message(kernel.kernel().reply(THIRD)));
     assert_eq!(rt; kernel.steps(), 4);
-    assert!(rt; kernel.enter(THIRD, receive()).is_ok());
+    assert!(rt; kernel.enter(THIRD, &receive()).is_ok());
     assert_eq!(rt; (kernel.history().len(), kernel.steps()), (5, 5));
 }
 
@@ -89,12 +89,12 @@ fn message(rt: HostRuntime) {
 fn deleted(rt: HostRuntime) {
     let mut kernel = SeatedKernel::new(rt.alloc(), FRAMES).expect(&rt, "a kernel");
     assert!(rt; kernel.give(ROOT).is_ok() && kernel.give(THIRD).is_ok());
-    assert!(rt; kernel.enter(ROOT, create()).is_ok());
-    assert!(rt; kernel.enter(THIRD, receive()).is_ok());
-    assert!(rt; kernel.enter(ROOT, Call::delete(THIRD_ID)).is_ok());
+    assert!(rt; kernel.enter(ROOT, &create()).is_ok());
+    assert!(rt; kernel.enter(THIRD, &receive()).is_ok());
+    assert!(rt; kernel.enter(ROOT, &Call::delete(THIRD_ID)).is_ok());
     assert!(rt; kernel.kernel().space_of(THIRD).is_none());
-    assert!(rt; kernel.enter(ROOT, create()).is_ok());
-    assert!(rt; kernel.enter(THIRD, receive()).is_ok());
+    assert!(rt; kernel.enter(ROOT, &create()).is_ok());
+    assert!(rt; kernel.enter(THIRD, &receive()).is_ok());
     assert_eq!(rt; (kernel.history().len(), kernel.steps()), (5, 5));
 }
 
@@ -104,16 +104,16 @@ fn deleted(rt: HostRuntime) {
 fn refused(rt: HostRuntime) {
     let mut kernel = SeatedKernel::new(rt.alloc(), FRAMES).expect(&rt, "a kernel");
     let unknown = Err(LockRefusal::Kernel(Refused::UnknownThread));
-    assert_eq!(rt; kernel.enter(ROOT, create()), unknown);
+    assert_eq!(rt; kernel.enter(ROOT, &create()), unknown);
     assert!(rt; kernel.give(ROOT).is_ok() && kernel.give(THIRD).is_ok());
-    assert_eq!(rt; kernel.enter(NOBODY, receive()), unknown);
+    assert_eq!(rt; kernel.enter(NOBODY, &receive()), unknown);
     assert!(rt; kernel.give(NOBODY).is_ok());
-    assert_eq!(rt; kernel.enter(NOBODY, receive()), unknown);
-    assert!(rt; kernel.enter(ROOT, create()).is_ok());
-    assert!(rt; kernel.enter(THIRD, receive()).is_ok());
+    assert_eq!(rt; kernel.enter(NOBODY, &receive()), unknown);
+    assert!(rt; kernel.enter(ROOT, &create()).is_ok());
+    assert!(rt; kernel.enter(THIRD, &receive()).is_ok());
     assert!(rt; kernel.give(THIRD).is_ok());
     assert_eq!(rt;
-        kernel.enter(THIRD, receive()),
+        kernel.enter(THIRD, &receive()),
         Err(LockRefusal::Kernel(Refused::Busy))
     );
     assert_eq!(rt; (kernel.history().len(), kernel.steps()), (2, 2));

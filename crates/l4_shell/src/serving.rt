@@ -104,7 +104,7 @@ pub(crate) fn enter_call<W: Write>(
 {
     let (caller, call) = entry;
     let first = kernel.history().len();
-    match kernel.enter(caller, call) {
+    match kernel.enter(caller, &call) {
         Ok(()) => Ok(tell_entries(kernel, first, thread, out, writer)),
         Err(refusal) => Err(refusal),
     }

@@ -1,13 +1,12 @@
-use Rattle.std.proofs.Common.{◌≡◌, ◌++◌, ◌∷◌, [], ap, ◌∙◌, List, ℕ, append_assoc}
-use Rattle.l4_packed.specs.Codes.{step_code, answer_code}
+use Rattle.std.proofs.Common.{◌≡◌, ◌++◌, ap, ◌∙◌, List, ℕ, append_assoc}
+use Rattle.l4_packed.specs.Codes.{step_code}
+use Rattle.l4_lock.specs.declared.entries.Entry.{Entry}
 use Rattle.l4_lock.specs.Inside.Packing.{entry_code, entry_at}
 use Rattle.l4_lock.proofs.Packing.{entry_again}
 use Rattle.l4_lock.proofs.packed.write_entry.Goals as goal
 
 pub returns : goal.returns
 returns c =
-    let entry = c.args.entry.now in
-    let words : c.put_step.new.out.items ≡ entry_code entry =
-    c.put_step.ensures.items
-    ∙ ap (λ (t : List ℕ). t ++ step_code entry.step) (c.put_answer.ensures.items ∙ ap (λ (t : List ℕ). t ++ answer_code entry.answer) (c.push.ensures.items ∙ ap (λ (t : List ℕ). t ++ entry.seat ∷ []) c.clear.ensures)) in
-    ap entry_at words ∙ entry_again entry c.put_step.ensures.fits c.put_answer.ensures.fits
+    let entry : Entry = record { seat = c.args.seat; step = c.args.step.now; answer = c.args.answer.now } in
+    let words : c.put_step.new.out.items ≡ entry_code entry = c.put_step.ensures.items ∙ ap (λ (t : List ℕ). t ++ step_code entry.step) c.write_head.ensures.items in
+    ap entry_at words ∙ entry_again entry c.put_step.ensures.fits c.write_head.ensures.fits

@@ -10,6 +10,6 @@ push-requires c =
 
 pub invariant_of-self : goal.invariant_of-self
 invariant_of-self c =
-    let here : entry_at c.words.result ≡ Some c.args.entry = ap entry_at c.words.ensures ∙ c.write_entry.ensures in
+    let here : entry_at c.words.result ≡ Some (record { seat = c.args.seat; step = c.args.step.now; answer = c.args.answer.now }) = ap entry_at c.words.ensures ∙ c.write_entry.ensures in
     subst (λ (records : List (List ℕ)). AreRead entry_at records) (sym c.push.ensures.records)
-    (are_read_more entry_at c.self.inside.entries.records c.words.result c.args.entry here c.self.invariant)
+    (are_read_more entry_at c.self.inside.entries.records c.words.result (record { seat = c.args.seat; step = c.args.step.now; answer = c.args.answer.now }) here c.self.invariant)

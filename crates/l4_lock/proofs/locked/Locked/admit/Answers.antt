@@ -19,9 +19,9 @@ begin-requires-clause-book c =
 
 pub returns-in-Err-clause-err : goal.returns-in-Err-clause-err
 returns-in-Err-clause-err c = (
-  subst (λ (l : Lock). Refuses l c.args.seat.now.number c.args.call c.in-Err.refusal) c.self.view_is
-      (subst (λ (n : ℕ). Refuses (lock c.self.inside.frames c.self.inside.kernel c.self.inside.history.entries c.self.inside.accounts.items c.self.inside.publisher.board c.self.inside.publisher.shown) n c.args.call c.in-Err.refusal) c.number-number.ensures
-      (refuses c.self.inside.frames c.self.inside.history.entries c.self.inside.kernel c.self.inside.accounts.items c.self.inside.publisher.board c.self.inside.publisher.shown c.number-number.result c.args.call c.in-Err.refusal
+  subst (λ (l : Lock). Refuses l c.args.seat.now.number c.args.call.now c.in-Err.refusal) c.self.view_is
+      (subst (λ (n : ℕ). Refuses (lock c.self.inside.frames c.self.inside.kernel c.self.inside.history.entries c.self.inside.accounts.items c.self.inside.publisher.board c.self.inside.publisher.shown) n c.args.call.now c.in-Err.refusal) c.number-number.ensures
+      (refuses c.self.inside.frames c.self.inside.history.entries c.self.inside.kernel c.self.inside.accounts.items c.self.inside.publisher.board c.self.inside.publisher.shown c.number-number.result c.args.call.now c.in-Err.refusal
       (subst (λ (l : List Book). reply_waits l c.number-number.result ≡ false) c.as_slice.ensures.value (sym c.if-reply_waits.ensures))
       (let no_more = c.if-len-gt-LAST_START.false in let l = c.len.ensures in omega (arith, no_more, l))
       (let lt : c.in-Some.at < length c.self.inside.accounts.items = subst (λ (l : List Book). c.in-Some.at < length l) c.as_slice-2.ensures.value c.in-Some.ensures.0 in
@@ -35,20 +35,20 @@ returns-in-Err-clause-err c = (
 
 pub invariant_of-self-2 : goal.invariant_of-self-2
 invariant_of-self-2 c =
-    let b : Begins c.number-number.result c.args.call c.self.inside.kernel c.begin.new.kernel c.self.inside.history.entries c.begin.new.history.entries c.self.inside.accounts.items c.begin.new.accounts.items c.in-Some.at =
-    subst (λ (h : List Entry). Begins c.number-number.result c.args.call c.self.inside.kernel c.begin.new.kernel h c.begin.new.history.entries c.self.inside.accounts.items c.begin.new.accounts.items c.in-Some.at) c.reserve.ensures.entries c.in_default-begin.ensures.ok in
+    let b : Begins c.number-number.result c.args.call.now c.self.inside.kernel c.begin.new.kernel c.self.inside.history.entries c.begin.new.history.entries c.self.inside.accounts.items c.begin.new.accounts.items c.in-Some.at =
+    subst (λ (h : List Entry). Begins c.number-number.result c.args.call.now c.self.inside.kernel c.begin.new.kernel h c.begin.new.history.entries c.self.inside.accounts.items c.begin.new.accounts.items c.in-Some.at) c.reserve.ensures.entries c.in_default-begin.ensures.ok in
     begun_kept c.self.inside.frames c.self.inside.history.entries c.begin.new.history.entries c.self.inside.kernel c.begin.new.kernel c.self.inside.accounts.items c.begin.new.accounts.items c.self.inside.publisher.board c.publish.new.self.board
-    c.self.inside.publisher.shown c.publish.new.self.shown c.number-number.result c.in-Some.at c.args.call c.self.invariant
+    c.self.inside.publisher.shown c.publish.new.self.shown c.number-number.result c.in-Some.at c.args.call.now c.self.invariant
     (let no_more = c.if-len-gt-LAST_START.false in let l = c.len.ensures in omega (arith, no_more, l)) b (ap (λ (p : Publishing). p.shown) c.publish.ensures ∙ c.len-2.ensures)
 
 pub returns-clause-ok : goal.returns-clause-ok
 returns-clause-ok c =
-    subst (λ (l : Lock). IsAdmitted l (lock c.self.inside.frames c.begin.new.kernel c.begin.new.history.entries c.begin.new.accounts.items c.publish.new.self.board c.publish.new.self.shown) c.args.seat.now c.wait_more.new.self c.args.call c.in-Some.at) c.self.view_is
+    subst (λ (l : Lock). IsAdmitted l (lock c.self.inside.frames c.begin.new.kernel c.begin.new.history.entries c.begin.new.accounts.items c.publish.new.self.board c.publish.new.self.shown) c.args.seat.now c.wait_more.new.self c.args.call.now c.in-Some.at) c.self.view_is
     (record {
       apart = c.self.invariant.right.apart;
       room = (let no_more = c.if-len-gt-LAST_START.false in let l = c.len.ensures in omega (arith, no_more, l));
-      begins = subst (λ (n : ℕ). Begins n c.args.call c.self.inside.kernel c.begin.new.kernel c.self.inside.history.entries c.begin.new.history.entries c.self.inside.accounts.items c.begin.new.accounts.items c.in-Some.at) c.number-number.ensures
-          (subst (λ (h : List Entry). Begins c.number-number.result c.args.call c.self.inside.kernel c.begin.new.kernel h c.begin.new.history.entries c.self.inside.accounts.items c.begin.new.accounts.items c.in-Some.at) c.reserve.ensures.entries c.in_default-begin.ensures.ok);
+      begins = subst (λ (n : ℕ). Begins n c.args.call.now c.self.inside.kernel c.begin.new.kernel c.self.inside.history.entries c.begin.new.history.entries c.self.inside.accounts.items c.begin.new.accounts.items c.in-Some.at) c.number-number.ensures
+          (subst (λ (h : List Entry). Begins c.number-number.result c.args.call.now c.self.inside.kernel c.begin.new.kernel h c.begin.new.history.entries c.self.inside.accounts.items c.begin.new.accounts.items c.in-Some.at) c.reserve.ensures.entries c.in_default-begin.ensures.ok);
       same = (refl, ap (λ (p : Publishing). p.board) c.publish.ensures);
       seat = ok_part _ _ _ c.wait_more.ensures (sym c.if-is_err-2.ensures.value);
     })

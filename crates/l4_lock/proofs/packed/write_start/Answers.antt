@@ -1,0 +1,13 @@
+use Rattle.std.proofs.Common.{◌≡◌, ◌++◌, ap, ◌∙◌, List, ℕ, append_assoc}
+use Rattle.l4_ipc.specs.declared.steps.Step.TheVariants.{Start}
+use Rattle.l4_packed.specs.Codes.{step_code}
+use Rattle.l4_lock.specs.declared.entries.Entry.{Entry}
+use Rattle.l4_lock.specs.Inside.Packing.{entry_code, entry_at}
+use Rattle.l4_lock.proofs.Packing.{entry_again}
+use Rattle.l4_lock.proofs.packed.write_start.Goals as goal
+
+pub returns : goal.returns
+returns c =
+    let entry : Entry = record { seat = c.args.number; step = Start c.args.number c.args.call.now; answer = c.args.answer.now } in
+    let words : c.put_start.new.out.items ≡ entry_code entry = c.put_start.ensures.items ∙ ap (λ (t : List ℕ). t ++ step_code entry.step) c.write_head.ensures.items in
+    ap entry_at words ∙ entry_again entry c.put_start.ensures.fits c.write_head.ensures.fits
