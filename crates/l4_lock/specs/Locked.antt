@@ -3,6 +3,7 @@ use Rattle.std.specs.Prelude.{◌≡◌, ◌≢◌, ℕ, ◌+◌, ◌<◌, ◌�
 use Rattle.std.specs.Option.{option_map}
 use Rattle.std.specs.Coded.{Coded, code_by, coded×, coded_ℕ, coded_list}
 use Rattle.atomic_table.specs.Seated.{TableId, table_id_coded}
+use Rattle.l4_fpage.specs.Pages.{max_frames}
 use Rattle.l4_threads.specs.declared.Reply.{Reply}
 use Rattle.l4_threads.specs.declared.Thread.{Thread}
 use Rattle.l4_ipc.specs.declared.calls.Call.{Call}
@@ -95,7 +96,7 @@ pub record IsLeft (old new : Lock) (before after : SeatState) : Type 0 where
 -- why no locked kernel is made: the number of frames is out of range, or a growth was refused
 abbrev pub RefusesBoot : ℕ → LockRefusal → Type 0
 RefusesBoot frames e =
-    (e ≡ NoMemory) ⊎ (e ≡ ByKernel (Lower LowerNoMemory)) ⊎ (((frames ≡ 0) ⊎ (4096 < frames)) × (e ≡ ByKernel BadFrames))
+    (e ≡ NoMemory) ⊎ (e ≡ ByKernel (Lower LowerNoMemory)) ⊎ (((frames ≡ 0) ⊎ (max_frames < frames)) × (e ≡ ByKernel BadFrames))
 
 -- why a call is not entered: the first of these that applies
 abbrev pub Refuses : Lock → ℕ → Call → LockRefusal → Type 0
