@@ -1,5 +1,5 @@
 -- The eight sets of rights and their bits.
-use Rattle.std.proofs.Common.{◌≡◌, ℕ, zero, suc, ◌+◌, ◌/◌, ◌%◌, ◌<◌, ◌==◌, arith, refl, ◌∙◌, bit_and, bit_or, Bool, true, false, not, ◌&&◌, IsTrue}
+use Rattle.std.proofs.Common.{◌≡◌, ℕ, zero, suc, ◌+◌, ◌/◌, ◌%◌, ◌<◌, ◌==◌, arith, refl, ◌∙◌, bit_and, bit_or, Bool, true, false, not, ◌&&◌, IsTrue, List, [], ◌∷◌, get_or, ap}
 use Rattle.std.proofs.lemmas.Bool.{false≢true}
 use Rattle.bitflags.specs.Sets.{without as bits_without}
 use Rattle.l4_fpage.specs.Rights.{Read, Write, Execute, RightsSet, set_of_bits, bits_of, common, either, without, is_none, Within}
@@ -16,64 +16,34 @@ below_eight P a b c d e f g h (suc (suc (suc (suc (suc (suc zero)))))) lt = g
 below_eight P a b c d e f g h (suc (suc (suc (suc (suc (suc (suc zero))))))) lt = h
 below_eight P a b c d e f g h (suc (suc (suc (suc (suc (suc (suc (suc n)))))))) lt = absurd (omega arith)
 
--- an operation on bits that is this one on sets
-abbrev Agrees : (ℕ → ℕ → ℕ) → (RightsSet → RightsSet → RightsSet) → ℕ → ℕ → Type 0
-Agrees on_bits on_sets a b = set_of_bits (on_bits a b) ≡ on_sets (set_of_bits a) (set_of_bits b)
+-- two operations that agree on each number below eight
+abbrev Same : {A : Type 0} → (ℕ → A) → (ℕ → A) → Type 0
+Same f g = (n : ℕ) → n < 8 → f n ≡ g n
 
-abbrev Row : (ℕ → ℕ → Type 0) → ℕ → Type 0
-Row P a = (b : ℕ) → b < 8 → P a b
+-- the values of an operation at the numbers below eight
+abbrev values : {A : Type 0} → (ℕ → A) → List A
+values f = f 0 ∷ f 1 ∷ f 2 ∷ f 3 ∷ f 4 ∷ f 5 ∷ f 6 ∷ f 7 ∷ []
+
+same_values : {A : Type 0} (f g : ℕ → A) → values f ≡ values g → Same f g
+same_values f g e =
+    let at : (i : ℕ) → get_or (values f) i (f 0) ≡ get_or (values g) i (f 0) = λ i. ap (λ l. get_or l i (f 0)) e in
+    below_eight (λ n. f n ≡ g n) (at 0) (at 1) (at 2) (at 3) (at 4) (at 5) (at 6) (at 7)
+
+-- operations on two numbers below eight are the same where their tables are
+same_tables : {A : Type 0} (f g : ℕ → ℕ → A) → values (λ a. values (f a)) ≡ values (λ a. values (g a)) → (a b : ℕ) → a < 8 → b < 8 → f a b ≡ g a b
+same_tables f g e a b la lb = same_values (f a) (g a) (same_values (λ a. values (f a)) (λ a. values (g a)) e a la) b lb
 
 pub and_is : (a b : ℕ) → a < 8 → b < 8 → set_of_bits (bit_and a b) ≡ common (set_of_bits a) (set_of_bits b)
-and_is a b la lb =
-    let P : ℕ → ℕ → Type 0 = Agrees bit_and common in
-    below_eight (Row P)
-    (below_eight (P 0) refl refl refl refl refl refl refl refl)
-    (below_eight (P 1) refl refl refl refl refl refl refl refl)
-    (below_eight (P 2) refl refl refl refl refl refl refl refl)
-    (below_eight (P 3) refl refl refl refl refl refl refl refl)
-    (below_eight (P 4) refl refl refl refl refl refl refl refl)
-    (below_eight (P 5) refl refl refl refl refl refl refl refl)
-    (below_eight (P 6) refl refl refl refl refl refl refl refl)
-    (below_eight (P 7) refl refl refl refl refl refl refl refl) a la b lb
+and_is = same_tables (λ a b. set_of_bits (bit_and a b)) (λ a b. common (set_of_bits a) (set_of_bits b)) refl
 
 pub or_is : (a b : ℕ) → a < 8 → b < 8 → set_of_bits (bit_or a b) ≡ either (set_of_bits a) (set_of_bits b)
-or_is a b la lb =
-    let P : ℕ → ℕ → Type 0 = Agrees bit_or either in
-    below_eight (Row P)
-    (below_eight (P 0) refl refl refl refl refl refl refl refl)
-    (below_eight (P 1) refl refl refl refl refl refl refl refl)
-    (below_eight (P 2) refl refl refl refl refl refl refl refl)
-    (below_eight (P 3) refl refl refl refl refl refl refl refl)
-    (below_eight (P 4) refl refl refl refl refl refl refl refl)
-    (below_eight (P 5) refl refl refl refl refl refl refl refl)
-    (below_eight (P 6) refl refl refl refl refl refl refl refl)
-    (below_eight (P 7) refl refl refl refl refl refl refl refl) a la b lb
+or_is = same_tables (λ a b. set_of_bits (bit_or a b)) (λ a b. either (set_of_bits a) (set_of_bits b)) refl
 
 pub without_is : (a b : ℕ) → a < 8 → b < 8 → set_of_bits (bits_without 8 a b) ≡ without (set_of_bits a) (set_of_bits b)
-without_is a b la lb =
-    let P : ℕ → ℕ → Type 0 = Agrees (bits_without 8) without in
-    below_eight (Row P)
-    (below_eight (P 0) refl refl refl refl refl refl refl refl)
-    (below_eight (P 1) refl refl refl refl refl refl refl refl)
-    (below_eight (P 2) refl refl refl refl refl refl refl refl)
-    (below_eight (P 3) refl refl refl refl refl refl refl refl)
-    (below_eight (P 4) refl refl refl refl refl refl refl refl)
-    (below_eight (P 5) refl refl refl refl refl refl refl refl)
-    (below_eight (P 6) refl refl refl refl refl refl refl refl)
-    (below_eight (P 7) refl refl refl refl refl refl refl refl) a la b lb
+without_is = same_tables (λ a b. set_of_bits (bits_without 8 a b)) (λ a b. without (set_of_bits a) (set_of_bits b)) refl
 
 pub contains_is : (a b : ℕ) → a < 8 → b < 8 → (bit_and a b == b) ≡ is_none (without (set_of_bits b) (set_of_bits a))
-contains_is a b la lb =
-    let P : ℕ → ℕ → Type 0 = λ a b. (bit_and a b == b) ≡ is_none (without (set_of_bits b) (set_of_bits a)) in
-    below_eight (Row P)
-    (below_eight (P 0) refl refl refl refl refl refl refl refl)
-    (below_eight (P 1) refl refl refl refl refl refl refl refl)
-    (below_eight (P 2) refl refl refl refl refl refl refl refl)
-    (below_eight (P 3) refl refl refl refl refl refl refl refl)
-    (below_eight (P 4) refl refl refl refl refl refl refl refl)
-    (below_eight (P 5) refl refl refl refl refl refl refl refl)
-    (below_eight (P 6) refl refl refl refl refl refl refl refl)
-    (below_eight (P 7) refl refl refl refl refl refl refl refl) a la b lb
+contains_is = same_tables (λ a b. bit_and a b == b) (λ a b. is_none (without (set_of_bits b) (set_of_bits a))) refl
 
 both_true : (a b : Bool) → a && b ≡ true → (a ≡ true) × (b ≡ true)
 both_true true true e = (refl, refl)

@@ -1,5 +1,5 @@
 -- Values with the same fields are the same: their facts have one proof.
-use Rattle.std.proofs.Common.{◌≡◌, ℕ, ◌*◌, ◌/◌, ◌%◌, ◌^◌, ◌<◌, ◌≤◌, inl, inr, refl, sym, ap, ◌∙◌, subst, arith}
+use Rattle.std.proofs.Common.{◌≡◌, ℕ, ◌*◌, ◌/◌, ◌%◌, ◌^◌, ◌≤◌, inl, inr, refl, sym, ap, ◌∙◌, subst, arith}
 use Rattle.std.proofs.Props.{props}
 use Rattle.l4_fpage.specs.declared.fpages.Extent.{Extent}
 use Rattle.l4_fpage.specs.declared.fpages.Fpage.{Fpage}
