@@ -1,8 +1,16 @@
-use Rattle.std.proofs.Common.{◌≡◌, None, List, subst}
+use Rattle.std.proofs.Common.{◌≡◌, None, List, slice_set, subst}
 use Rattle.l4_lock.specs.Books.{SeatState}
 use Rattle.l4_seats.specs.Inside.Keeping.{seat_at}
-use Rattle.l4_seats.proofs.Held.{some_seat, taken_one, within, placed}
+use Rattle.l4_seats.proofs.Held.{Taken, some_seat, taken_one, within, placed}
 use Rattle.l4_seats.proofs.keeping.take_one.Goals as goal
+
+taken : (c : goal.After-take_untold) → Taken c.args.locked.now c.take_untold.new.self c.args.seats.now.items (slice_set c.args.seats.now.items c.in-Some.at c.take_untold.new.seat)
+taken c =
+    taken_one c.args.locked.now c.take_untold.new.self c.args.seats.now.items c.in-Some.at c.args.number c.index_mut.result.now c.take_untold.new.seat c.take_untold.result
+    (within c.args.seats.now.items c.as_slice.result.now c.in-Some.at c.as_slice.ensures.value c.in-Some.ensures.0)
+    c.index_mut.ensures.value
+    (placed c.args.seats.now.items c.as_slice.result.now c.args.number c.in-Some.at c.as_slice.ensures.value c.in-Some.ensures.1)
+    c.requires.theirs c.requires.waits c.take_untold.ensures.taken c.take_untold.ensures.none
 
 pub unreachable-requires : goal.unreachable-requires
 unreachable-requires c =
@@ -10,25 +18,10 @@ unreachable-requires c =
     (subst (λ (l : List SeatState). seat_at l c.args.number ≡ None) c.as_slice.ensures.value c.in_default.ensures)
 
 pub returns-clause-theirs : goal.returns-clause-theirs
-returns-clause-theirs c =
-    (taken_one c.args.locked.now c.take_untold.new.self c.args.seats.now.items c.in-Some.at c.args.number c.index_mut.result.now c.take_untold.new.seat c.take_untold.result
-    (within c.args.seats.now.items c.as_slice.result.now c.in-Some.at c.as_slice.ensures.value c.in-Some.ensures.0)
-    c.index_mut.ensures.value
-    (placed c.args.seats.now.items c.as_slice.result.now c.args.number c.in-Some.at c.as_slice.ensures.value c.in-Some.ensures.1)
-    c.requires.theirs c.requires.waits c.take_untold.ensures.taken c.take_untold.ensures.none).theirs
+returns-clause-theirs c = (taken c).theirs
 
 pub returns-clause-numbers : goal.returns-clause-numbers
-returns-clause-numbers c =
-    (taken_one c.args.locked.now c.take_untold.new.self c.args.seats.now.items c.in-Some.at c.args.number c.index_mut.result.now c.take_untold.new.seat c.take_untold.result
-    (within c.args.seats.now.items c.as_slice.result.now c.in-Some.at c.as_slice.ensures.value c.in-Some.ensures.0)
-    c.index_mut.ensures.value
-    (placed c.args.seats.now.items c.as_slice.result.now c.args.number c.in-Some.at c.as_slice.ensures.value c.in-Some.ensures.1)
-    c.requires.theirs c.requires.waits c.take_untold.ensures.taken c.take_untold.ensures.none).numbers
+returns-clause-numbers c = (taken c).numbers
 
 pub returns-clause-fewer : goal.returns-clause-fewer
-returns-clause-fewer c =
-    (taken_one c.args.locked.now c.take_untold.new.self c.args.seats.now.items c.in-Some.at c.args.number c.index_mut.result.now c.take_untold.new.seat c.take_untold.result
-    (within c.args.seats.now.items c.as_slice.result.now c.in-Some.at c.as_slice.ensures.value c.in-Some.ensures.0)
-    c.index_mut.ensures.value
-    (placed c.args.seats.now.items c.as_slice.result.now c.args.number c.in-Some.at c.as_slice.ensures.value c.in-Some.ensures.1)
-    c.requires.theirs c.requires.waits c.take_untold.ensures.taken c.take_untold.ensures.none).fewer
+returns-clause-fewer c = (taken c).fewer
