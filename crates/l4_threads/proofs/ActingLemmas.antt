@@ -1,6 +1,7 @@
 -- What is enabled, where it is remembered who may act.
-use Rattle.std.proofs.Common.{◌≡◌, ℕ, true, false, List, Option, Some, None, sym, ap, ◌∙◌, subst, inl, inr, ◌⊎◌, arith}
+use Rattle.std.proofs.Common.{◌≡◌, ℕ, true, false, List, Option, Some, None, refl, sym, ap, ◌∙◌, subst, inl, inr, ◌⊎◌, arith}
 use Rattle.std.specs.Option.{option_map, option_map_or}
+use Rattle.std.specs.List.{find}
 use Rattle.std.proofs.lemmas.Bool.{false≢true}
 use Rattle.l4_threads.specs.declared.focus.Focus.{Focus}
 use Rattle.l4_threads.specs.declared.focus.Focus.TheVariants.{Nobody, One}
@@ -9,12 +10,12 @@ use Rattle.l4_threads.specs.declared.State.TheVariants.{Running, Sending as Send
 use Rattle.l4_threads.specs.Threads.{Threads, state_of, sends, is_sending, Before, IsConsistent}
 use Rattle.l4_threads.specs.Enabled.{offers_to, Offers, IsFirstSender, IsNextTransfer, expires, CanExpire, IsNextExpiry}
 use Rattle.l4_threads.specs.Inside.Taker.{taker, TakesPart}
-use Rattle.l4_threads.specs.Inside.Entries.{Entries, is_receiving}
+use Rattle.l4_threads.specs.Inside.Entries.{Entries, is_receiving, IsTable}
 use Rattle.l4_threads.specs.Inside.Kept.{threads_of}
 use Rattle.l4_threads.specs.Inside.Focused.{may_act, state_in, IsFocused}
 use Rattle.l4_threads.proofs.TableLemmas.{same_of}
 use Rattle.l4_threads.proofs.QueueLemmas.{or_true}
-use Rattle.l4_threads.proofs.EnabledLemmas.{offer_sends, offer_receives, taker_offers, offer_taker, one_sender}
+use Rattle.l4_threads.proofs.EnabledLemmas.{queue_of, no_sender, first_sender_is, offer_sends, offer_receives, taker_offers, offer_taker, one_sender}
 use Rattle.l4_threads.proofs.ViewLemmas.{thread_at_seen}
 
 both : (o : Option State) → option_map_or is_sending o false ≡ true → option_map_or is_receiving o false ≡ true → ⊥
@@ -100,3 +101,30 @@ only_expiry t m only can = record { can_expire = can; least = λ other it. let s
 
 pub no_expiry : (t : Threads) (m : ℕ) → ((n : ℕ) → CanExpire t n → n ≡ m) → ¬ (CanExpire t m) → (n : ℕ) → ¬ (CanExpire t n)
 no_expiry t m only cannot n can = cannot (subst (CanExpire t) (only n can) can)
+
+-- where nothing is enabled, nobody may act
+pub focused_idle : (es : Entries) (queue : List ℕ) (next : ℕ) (t : Threads) → IsTable es queue next → (is : threads_of es queue next ≡ t) → ((s r : ℕ) → ¬ (IsFirstSender t r s)) → ((n : ℕ) → ¬ (CanExpire t n))
+    → IsFocused es Nobody
+focused_idle es queue next t table is none_moves none_expires = record {
+  offers = λ s r h. absurd (unmet s r (find (λ n. offers_to (state_of t n) (state_of t r) n r) queue) refl (at s r ∙ h));
+  zero = λ n h. absurd (waits n (state_of t n) refl (ap (λ o. option_map_or expires o false) (seen n) ∙ h));
+} where
+  seen : (n : ℕ) → state_of t n ≡ state_in es n
+  seen n = ap (option_map (λ thread. thread.state)) (thread_at_seen es queue next t is n)
+
+  at : (s r : ℕ) → offers_to (state_of t s) (state_of t r) s r ≡ offers_to (state_in es s) (state_in es r) s r
+  at s r = λ i. offers_to (seen s i) (seen r i) s r
+
+  unmet : (s r : ℕ) (o : Option ℕ) → find (λ n. offers_to (state_of t n) (state_of t r) n r) queue ≡ o → Offers t s r → ⊥
+  unmet s r None none offers = no_sender t queue (queue_of es queue next t table is) r none s offers
+  unmet s r (Some first) it offers = none_moves first r (first_sender_is t queue (queue_of es queue next t table is) r first it)
+
+  waits : (n : ℕ) (o : Option State) → state_of t n ≡ o → option_map_or expires (state_of t n) false ≡ true → ⊥
+  waits n None there h = false≢true (sym (ap (λ o. option_map_or expires o false) there) ∙ h)
+  waits n (Some state) there h = none_expires n (record {
+    state = state;
+    at = there;
+    zero = sym (ap (λ o. option_map_or expires o false) there) ∙ h;
+    sends_none = λ other. none_moves n other;
+    receives_none = λ other. none_moves other n;
+  })

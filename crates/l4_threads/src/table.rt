@@ -301,6 +301,15 @@ impl Threads {
         }
     }
 
+    /// Remembers that nothing is enabled, so that the next call that waits is the one that may act. Nothing that is seen changes.
+    pub fn settle(&mut self)
+        requires no_transfer { (s r : ℕ) → ¬ (IsFirstSender self.old r s) }
+        requires no_expiry { (n : ℕ) → ¬ (CanExpire self.old n) }
+        ensures { self.new ≡ self.old }
+    {
+        self.focus = Focus::Nobody;
+    }
+
     /// The senders' numbers, in the order in which their sends began.
     pub fn queue(&self) -> &[u32]
         ensures pairs { self.now.before ≡ set.from_list (pairs_of result.now) }
