@@ -144,6 +144,7 @@ impl Links {
 
     /// The least page of the space with a key that is not below `page`, and its key, if it is below `end`. Nothing from `end` on is
     /// looked at.
+    #[inline]
     pub fn next_key_in(&self, space: u64, page: u32, end: u32) -> Option<(u32, usize)>
         ensures { MatchOption result (NoKeyIn self.now.entries space page end)
             (λ found. IsNextKeyIn self.now.entries space page end found.0 × IsKeyOf self.now.entries (record { space = space; page = found.0 }) found.1) }

@@ -65,7 +65,7 @@ module _ (s : Entries) (from to : ℕ) (items : List ItemMove) (apart : AreApart
     | inr ge ↦ let r = rising n m b a (omega (arith, ge, ne)) in (λ e. r.0 (sym e), λ e. r.1 (sym e))
   ]
 
-  none_clashes : (m : UsedMove) → Used m → ¬ (Clashes Used m)
+  pub none_clashes : (m : UsedMove) → Used m → ¬ (Clashes Used m)
   none_clashes m used (inl f) = (differing m f.other used f.used f.differ).1 (ap (λ (p : LinkPlace). p.page) (sym f.target))
   none_clashes m used (inr g) = (differing m g.1.other used g.1.used g.1.differ).0 (sym g.1.page_is)
 

@@ -97,10 +97,22 @@ fn clashes_with(
     false
 }
 
-/// Whether another item fills what the used move fills, or moves what it grants.
-fn clashes(links: &Links, from: u64, to: u64, items: &[ItemMove], used: &UsedMove) -> bool
+/// Whether another item fills what the used move fills, or moves what it grants. Nothing is looked at where the items are known to be apart.
+fn clashes(
+    links: &Links,
+    from: u64,
+    to: u64,
+    items: &[ItemMove],
+    used: &UsedMove,
+    apart: bool,
+) -> bool
+    requires used { IsMoved links.now.entries from to items.now used.now }
+    requires apart { apart ≡ true → AreApart items.now (length items.now) }
     ensures { IsTrue result ↔ Clashes (IsMoved links.now.entries from to items.now) used.now }
 {
+    if apart {
+        return false;
+    }
     for other in 0..items.len() {
         if clashes_with(links, from, to, items, used, other) {
             return true;
@@ -134,10 +146,19 @@ fn is_taken(links: &Links, from: u64, to: u64, items: &[ItemMove], key: usize) -
 }
 
 /// Whether the used move contradicts another one, or its source goes.
-fn tangles_from(links: &Links, from: u64, to: u64, items: &[ItemMove], used: &UsedMove) -> bool
+fn tangles_from(
+    links: &Links,
+    from: u64,
+    to: u64,
+    items: &[ItemMove],
+    used: &UsedMove,
+    apart: bool,
+) -> bool
+    requires used { IsMoved links.now.entries from to items.now used.now }
+    requires apart { apart ≡ true → AreApart items.now (length items.now) }
     ensures { IsTrue result ↔ TanglesFrom (IsMoved links.now.entries from to items.now) links.now.entries used.now }
 {
-    if clashes(links, from, to, items, used) {
+    if clashes(links, from, to, items, used, apart) {
         return true;
     }
     is_taken(links, from, to, items, used.source)
@@ -148,13 +169,14 @@ pub(crate) fn has_tangle(links: &Links, from: u64, to: u64, items: &[ItemMove]) 
     ensures { IsTrue result ↔ HasTangle (IsMoved links.now.entries from to items.now) links.now.entries }
 {
     links.law_places();
+    let apart = are_apart(items);
     let mut item = 0;
     let mut page = 0;
     loop {
         let Some(used) = next_move(links, from, to, items, item, page) else {
             return false;
         };
-        if tangles_from(links, from, to, items, &used) {
+        if tangles_from(links, from, to, items, &used, apart) {
             return true;
         }
         item = used.item;
@@ -181,21 +203,37 @@ fn is_above_source(links: &mut Links, place: Place) -> bool
 }
 
 /// Whether the used move contradicts another one, or its target is above a source. The sources of all used moves are marked.
-fn tangles(links: &mut Links, from: u64, to: u64, items: &[ItemMove], used: &UsedMove) -> bool
-    requires { SourcesAre (IsMoved links.old.entries from to items.now) links.old.entries }
+fn tangles(
+    links: &mut Links,
+    from: u64,
+    to: u64,
+    items: &[ItemMove],
+    used: &UsedMove,
+    apart: bool,
+) -> bool
+    requires used { IsMoved links.old.entries from to items.now used.now }
+    requires apart { apart ≡ true → AreApart items.now (length items.now) }
+    requires sources { SourcesAre (IsMoved links.old.entries from to items.now) links.old.entries }
     ensures same { (key : ℕ) → entry_at links.new.entries key ≡ entry_at links.old.entries key }
     ensures answer { IsTrue result ↔ Tangles (IsMoved links.old.entries from to items.now) links.old.entries used.now }
     ensures spaces { links.new.spaces ≡ links.old.spaces }
 {
-    if clashes(links, from, to, items, used) {
+    if clashes(links, from, to, items, used, apart) {
         return true;
     }
     is_above_source(links, used.target)
 }
 
 /// Whether the used moves contradict each other, where the sources of all are marked. Each node is visited once.
-fn marked_tangle(links: &mut Links, from: u64, to: u64, items: &[ItemMove]) -> bool
-    requires { SourcesAre (IsMoved links.old.entries from to items.now) links.old.entries }
+fn marked_tangle(
+    links: &mut Links,
+    from: u64,
+    to: u64,
+    items: &[ItemMove],
+    apart: bool,
+) -> bool
+    requires apart { apart ≡ true → AreApart items.now (length items.now) }
+    requires sources { SourcesAre (IsMoved links.old.entries from to items.now) links.old.entries }
     ensures same { (key : ℕ) → entry_at links.new.entries key ≡ entry_at links.old.entries key }
     ensures answer { IsTrue result ↔ HasTangle (IsMoved links.old.entries from to items.now) links.old.entries }
     ensures spaces { links.new.spaces ≡ links.old.spaces }
@@ -207,7 +245,7 @@ fn marked_tangle(links: &mut Links, from: u64, to: u64, items: &[ItemMove]) -> b
         let Some(used) = next_move(links, from, to, items, item, page) else {
             return false;
         };
-        if tangles(links, from, to, items, &used) {
+        if tangles(links, from, to, items, &used, apart) {
             return true;
         }
         item = used.item;
@@ -230,8 +268,9 @@ pub(crate) fn room_tangle(
     ensures answer { IsTrue result ↔ HasTangle (IsMoved links.old.entries from to items.now) links.old.entries }
     ensures spaces { links.new.spaces ≡ links.old.spaces }
 {
-    if !had && are_apart(items) {
+    let apart = are_apart(items);
+    if apart && !had {
         return false;
     }
-    marked_tangle(links, from, to, items)
+    marked_tangle(links, from, to, items, apart)
 }

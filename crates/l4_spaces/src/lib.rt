@@ -63,6 +63,7 @@ impl Model for Spaces {
 }
 
 /// Where the space stands. Where no space has ended, it stands at its number.
+#[inline]
 fn index_of(spaces: &Vec<(u64, Vec<Vec<Option<usize>>>)>, space: u64) -> Option<usize>
     requires { IsOnce spaces.now.items }
     ensures at { MatchOption result (has spaces.now.items space ≡ false) (StandsAt space spaces.now.items) }
@@ -237,6 +238,7 @@ impl Spaces {
 
     /// The least present page of the space that is not below `page`, with the key of its node, if it is below `end`. Nothing from
     /// `end` on is looked at.
+    #[inline]
     pub fn next_node(&self, space: u64, page: u32, end: u32) -> Option<(u32, usize)>
         ensures { MatchOption result (NonePresentIn self.now space page end) (λ found. IsNextIn self.now space page end found.0 × (key_of self.now space found.0 ≡ Some found.1)) }
     {

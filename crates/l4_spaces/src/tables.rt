@@ -177,7 +177,10 @@ pub(crate) fn next_page(
     if let Some(key) = key_in(tables, page) {
         return Some((page, key));
     }
-    seek(tables, page, end)
+    let Some((next, key)) = seek(tables, page, end) else {
+        return None;
+    };
+    Some((next, key))
 }
 
 /// The first page with a key from `page` on and below `end`, with the key. Tables that are absent are stepped over, and no place

@@ -10,7 +10,11 @@ pub loop-used-init : goal.loop-used-init
 loop-used-init c = record { fits = omega arith; same = λ k. refl; none = λ m used lt. absurd (omega (arith, lt)); spaces = refl }
 
 pub tangles-requires : goal.tangles-requires
-tangles-requires c = same_sources c.args.links.now.entries c.loop-used.links.entries c.loop-used.invariant.same c.args.from c.args.to c.args.items.now c.requires
+tangles-requires c = record {
+  used = c.in-Some.ensures.moved;
+  apart = c.requires.apart;
+  sources = same_sources c.args.links.now.entries c.loop-used.links.entries c.loop-used.invariant.same c.args.from c.args.to c.args.items.now c.requires.sources;
+}
 
 pub returns-in_default : goal.returns-in_default
 returns-in_default c = record {
