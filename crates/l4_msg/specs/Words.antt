@@ -36,6 +36,10 @@ pub record FirstFails (words : List ℕ) (i : ℕ) (fault : ItemFault) : Type 0 
   pub fails : ItemFails (slice_index words (2 * i)) (slice_index words (2 * i + 1)) fault
   pub before : (k : ℕ) → k < i → (item : Item) × ItemReads (slice_index words (2 * k)) (slice_index words (2 * k + 1)) item
 
+-- bits 9 to 4 of an item's first word, which mean nothing
+abbrev pub unused_of : ℕ → ℕ
+unused_of first = first / 16 % 64
+
 -- the kind's bits of an item's first word
 abbrev pub kind_bits : Item → ℕ
 kind_bits (Map base fpage) = 8

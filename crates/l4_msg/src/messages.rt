@@ -57,7 +57,7 @@ pub fn copied<const N: usize>(words: &[u32]) -> ArrayVec<u32, N>
 impl Message {
     ghost use Rattle.l4_msg.specs.Messages.{MessageReads, MessageFails, HasGoodTag, CanBeWritten, tag_of, typed_words, message_words, item_word};
     ghost use Rattle.l4_msg.specs.Tags.{TagReads};
-    ghost use Rattle.l4_msg.specs.Words.{ItemsRead};
+    ghost use Rattle.l4_msg.specs.Words.{ItemsRead, unused_of};
     ghost use Rattle.l4_msg.specs.declared.messages.Message.{Message as AMessage};
     ghost use Rattle.l4_msg.specs.declared.messages.MsgFault.{MsgFault as AMsgFault};
 
@@ -140,7 +140,7 @@ impl Message {
         ensures reads { MessageReads result.items self.now }
         ensures only { (other : AMessage) → MessageReads result.items other → other ≡ self.now }
         ensures follows { (k : ℕ) → k < array_vec_len self.now.items → item_word self.now result.items k % 2 ≡ (if nat_lt (k + 1) (array_vec_len self.now.items) then 1 else 0) }
-        ensures middle { (k : ℕ) → k < array_vec_len self.now.items → item_word self.now result.items k / 16 % 64 ≡ 0 }
+        ensures middle { (k : ℕ) → k < array_vec_len self.now.items → unused_of (item_word self.now result.items k) ≡ 0 }
         ensures len { array_vec_len result ≡ 1 + array_vec_len self.now.untyped + 2 * array_vec_len self.now.items }
     {
         let typed = write_items(self.items.as_slice());

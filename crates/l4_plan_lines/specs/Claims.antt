@@ -31,13 +31,17 @@ AreItemLines [] [] [] = Unit {0}
 AreItemLines (line ∷ lines) (item ∷ items) (page ∷ pages) = IsItemLine line item page × AreItemLines lines items pages
 AreItemLines lines items pages = ⊥
 
--- the first line says which of the two is claimed, and each line after it adds an item or a page, up to 64
+-- the items or pages of a claim, at most
+abbrev pub claim_lines : ℕ
+claim_lines = 64
+
+-- the first line says which of the two is claimed, and each line after it adds an item or a page
 abbrev pub IsClaim : List (List ℕ) → Option Head → List Item → List ℕ → Type 0
 IsClaim [] None items pages = (items ≡ []) × (pages ≡ [])
 IsClaim [] (Some head) items pages = ⊥
 IsClaim (line ∷ lines) None items pages = ⊥
-IsClaim (line ∷ lines) (Some (Plan tag)) items pages = IsTagLine line tag × AreItemLines lines items pages × (length pages ≤ 64)
-IsClaim (line ∷ lines) (Some TooLong) items pages = (line ≡ long_line) × (items ≡ []) × AllZip IsPageLine lines pages × (length pages ≤ 64)
+IsClaim (line ∷ lines) (Some (Plan tag)) items pages = IsTagLine line tag × AreItemLines lines items pages × (length pages ≤ claim_lines)
+IsClaim (line ∷ lines) (Some TooLong) items pages = (line ≡ long_line) × (items ≡ []) × AllZip IsPageLine lines pages × (length pages ≤ claim_lines)
 
 -- the lines are a claim, whole or so far
 abbrev pub IsBeginning : List (List ℕ) → Type 0

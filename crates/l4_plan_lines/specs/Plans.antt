@@ -2,6 +2,7 @@
 use Rattle.std.specs.Prelude.{◌≡◌, ℕ, ◌+◌, ◌*◌, ◌<◌, ◌≤◌, ◌⊎◌, Bool, true, false, List, [], ◌∷◌, ◌++◌, length, codes}
 use Rattle.std.specs.List.{flat_map}
 use Rattle.l4_msg.specs.Regions.{max_plan_items, IsEmpty, InSpace, IsOutOfSpace, HasNoRights, IsSound, IsPlan, IsCertificate, NeedsAtLeast, NeedsMoreThan, max_plan_items}
+use Rattle.l4_msg.specs.Sizes.{typed_place}
 use Rattle.l4_msg.specs.Words.{items_words}
 use Rattle.l4_msg.specs.declared.regions.Region.{Region}
 use Rattle.l4_plan.specs.Plan.{Listing}
@@ -21,7 +22,7 @@ message_text (tag ∷ words) pages = ended (tag_line tag) ++ item_texts words pa
 -- the words of the message that sends some items: label 0, no untyped words, and the typed words counted in the tag
 -- (L4 X.2 manual, IPC: message tag)
 abbrev pub plan_words : Listing → List ℕ
-plan_words p = (length (items_words p.items) * 64) ∷ items_words p.items
+plan_words p = (length (items_words p.items) * typed_place) ∷ items_words p.items
 
 abbrev pub plan_text : Listing → List ℕ
 plan_text p = message_text (plan_words p) p.pages
