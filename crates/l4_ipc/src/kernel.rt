@@ -159,13 +159,21 @@ impl Kernel {
         ensures { MatchOption result (IsIdle self.old × (self.new ≡ self.old))
             (λ done. IsNext self.old done.0 × Steps self.old done.0 (Ok done.1) self.new) }
     {
-        let Some(step) = self.enabled() else {
+        let enabled = self.threads.next_transfer();
+        if let Some((sender, receiver)) = enabled {
+            let Ok(answer) = transfer(&mut self.threads, &mut self.forest, sender, receiver) else {
+                return None;
+            };
+            return Some((Step::Transfer(sender, receiver), answer));
+        }
+        let Some(number) = self.threads.next_expiry() else {
+            self.threads.settle();
             return None;
         };
-        let Ok(answer) = self.step(&step) else {
+        let Ok(answer) = expire(&mut self.threads, number) else {
             return None;
         };
-        Some((step, answer))
+        Some((Step::Expire(number), answer))
     }
 
     /// The reply of the last ended call of a thread that runs.
