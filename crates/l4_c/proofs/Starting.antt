@@ -1,38 +1,62 @@
 -- Calls that were started, as they are told.
-use Rattle.std.proofs.Common.{◌≡◌, ℕ, List, Option, None, Some, Ok, Err, inl, inr, subst}
+use Rattle.std.proofs.Common.{◌≡◌, ℕ, List, Some, Ok, Err, refl, sym, ap, ◌∙◌, inl, inr, subst, arith}
 use Rattle.l4_ipc.specs.Machine.{Machine}
 use Rattle.l4_ipc.specs.Steps.{Steps}
-use Rattle.l4_ipc.specs.declared.steps.Answer.{Answer}
 use Rattle.l4_ipc.specs.declared.steps.Refused.{Refused}
-use Rattle.l4_ipc.specs.declared.steps.Step.{Step}
-use Rattle.l4_ipc.specs.declared.steps.Step.TheVariants.{Start, Transfer, Expire}
-use Rattle.l4_c.specs.Called.{IsStart}
-use Rattle.l4_c.specs.Told.{answer_result, step_result}
-use Rattle.l4_c.specs.Exports.{Answers, Starts, Follows, Goes}
+use Rattle.l4_ipc.specs.declared.steps.Refused.TheVariants.{NotEnabled, UnknownThread, Busy, BadTimeout, Lower, BadFrames}
+use Rattle.l4_ipc.specs.declared.steps.Lower.TheVariants.{Message, Unmap, Thread, NoMemory}
+use Rattle.l4_ipc.specs.declared.steps.Step.TheVariants.{Start}
+use Rattle.l4_unmap.specs.declared.UnmapFault.TheVariants.{BadFpage, TooFew}
+use Rattle.l4_msg.specs.declared.messages.MsgFault.TheVariants.{TooManyWords, OddTyped, BadItem, Unsupported, Flags, BadWindow, Short}
+use Rattle.l4_threads.specs.declared.ThreadFault.TheVariants.{NoPrivilege, BadId, Taken, Unknown, Full, Kept}
+use Rattle.l4_answers.specs.Refusals.{kernel_refusal}
+use Rattle.l4_c.specs.Told.{spelled}
+use Rattle.l4_c.specs.Exports.{Starts, Follows, Goes}
 use Rattle.l4_c.specs.declared.calls.CallGiven.{CallGiven}
-use Rattle.l4_c.specs.declared.results.EnterResult.{EnterResult}
 use Rattle.l4_c.specs.declared.results.NextResult.{NextResult}
 use Rattle.l4_c.specs.declared.results.StepResult.{StepResult}
 
-pub starts : (old : Option Machine) (thread : ℕ) (g : CallGiven) (words : List ℕ) (step : Step) (r : StepResult) (new : Option Machine)
-    → IsStart thread g words step → Answers old step r new → Starts old thread g words r new
-starts None thread g words step r new is h = h
-starts (Some m) thread g words (Start n call) r new is h = inr (call, is.1, subst (λ (t : ℕ). Answers (Some m) (Start t call) r new) is.0 h)
-starts (Some m) thread g words (Transfer sender receiver) r new is h = absurd is
-starts (Some m) thread g words (Expire n) r new is h = absurd is
+-- a refusal of the kernel isn't told as 0
+told_refusal : (e : Refused) → spelled (kernel_refusal e).name ≡ 0 → ⊥
+told_refusal NotEnabled h = absurd (omega (arith, h))
+told_refusal UnknownThread h = absurd (omega (arith, h))
+told_refusal Busy h = absurd (omega (arith, h))
+told_refusal BadTimeout h = absurd (omega (arith, h))
+told_refusal (Lower (Message TooManyWords)) h = absurd (omega (arith, h))
+told_refusal (Lower (Message OddTyped)) h = absurd (omega (arith, h))
+told_refusal (Lower (Message (BadItem item))) h = absurd (omega (arith, h))
+told_refusal (Lower (Message (Unsupported item))) h = absurd (omega (arith, h))
+told_refusal (Lower (Message Flags)) h = absurd (omega (arith, h))
+told_refusal (Lower (Message BadWindow)) h = absurd (omega (arith, h))
+told_refusal (Lower (Message Short)) h = absurd (omega (arith, h))
+told_refusal (Lower (Unmap (BadFpage word))) h = absurd (omega (arith, h))
+told_refusal (Lower (Unmap TooFew)) h = absurd (omega (arith, h))
+told_refusal (Lower (Thread NoPrivilege)) h = absurd (omega (arith, h))
+told_refusal (Lower (Thread BadId)) h = absurd (omega (arith, h))
+told_refusal (Lower (Thread Taken)) h = absurd (omega (arith, h))
+told_refusal (Lower (Thread Unknown)) h = absurd (omega (arith, h))
+told_refusal (Lower (Thread Full)) h = absurd (omega (arith, h))
+told_refusal (Lower (Thread Kept)) h = absurd (omega (arith, h))
+told_refusal (Lower NoMemory) h = absurd (omega (arith, h))
+told_refusal BadFrames h = absurd (omega (arith, h))
 
-pub goes_nowhere : (old new : Machine) (thread : ℕ) (g : CallGiven) (words : List ℕ) (step : Step) (fault : Refused) (places written : List NextResult)
-    (r : EnterResult) → IsStart thread g words step → Steps old step (Err fault) new → r ≡ record { start = step_result (Err fault); step_count = 0 }
-    → written ≡ places → Goes old thread g words places r written new
-goes_nowhere old new thread g words (Start n call) fault places written r is s e f =
-    inr (call, is.1, inl (fault, subst (λ (t : ℕ). Steps old (Start t call) (Err fault) new) is.0 s, e, f))
-goes_nowhere old new thread g words (Transfer sender receiver) fault places written r is s e f = absurd is
-goes_nowhere old new thread g words (Expire n) fault places written r is s e f = absurd is
+some_is : (m n : Machine) → Some m ≡ Some n → m ≡ n
+some_is m n e = cc
 
-pub goes_on : (old started new : Machine) (thread : ℕ) (g : CallGiven) (words : List ℕ) (step : Step) (answer : Answer)
-    (places written : List NextResult) (r : EnterResult) → IsStart thread g words step → Steps old step (Ok answer) started
-    → r.start ≡ answer_result answer → Follows started places r.step_count written new → Goes old thread g words places r written new
-goes_on old started new thread g words (Start n call) answer places written r is s e f =
-    inr (call, is.1, inr (answer, started, subst (λ (t : ℕ). Steps old (Start t call) (Ok answer) started) is.0 s, e, f))
-goes_on old started new thread g words (Transfer sender receiver) answer places written r is s e f = absurd is
-goes_on old started new thread g words (Expire n) answer places written r is s e f = absurd is
+-- a call that is told as started goes on
+pub goes_on : (old started new : Machine) (thread : ℕ) (g : CallGiven) (words : List ℕ) (places written : List NextResult) (start : StepResult) (count : ℕ)
+    → Starts (Some old) thread g words start (Some started) → start.refusal ≡ 0 → Follows started places count written new
+    → Goes old thread g words places (record { start = start; step_count = count }) written new
+goes_on old started new thread g words places written start count (inl kind) zeroed follows = let e : 16947 ≡ 0 = sym (ap (λ (r : StepResult). r.refusal) kind.1) ∙ zeroed in absurd (omega (arith, e))
+goes_on old started new thread g words places written start count (inr (call, is, (Ok answer, after, steps, told, held))) zeroed follows =
+    inr (call, is, inr (answer, after, steps, told, subst (λ (m : Machine). Follows m places count written new) (some_is started after held) follows))
+goes_on old started new thread g words places written start count (inr (call, is, (Err e, after, steps, told, held))) zeroed follows =
+    absurd (told_refusal e (sym (ap (λ (r : StepResult). r.refusal) told) ∙ zeroed))
+
+-- a call that is told as refused does nothing
+pub goes_nowhere : (old new : Machine) (thread : ℕ) (g : CallGiven) (words : List ℕ) (places : List NextResult) (start : StepResult)
+    → Starts (Some old) thread g words start (Some new) → (start.refusal ≡ 0 → ⊥) → Goes old thread g words places (record { start = start; step_count = 0 }) places new
+goes_nowhere old new thread g words places start (inl kind) refused = inl (kind.0, ap (λ (r : StepResult). record { start = r; step_count = 0 }) kind.1, refl, some_is new old kind.2)
+goes_nowhere old new thread g words places start (inr (call, is, (Ok answer, after, steps, told, held))) refused = absurd (refused (ap (λ (r : StepResult). r.refusal) told))
+goes_nowhere old new thread g words places start (inr (call, is, (Err e, after, steps, told, held))) refused =
+    inr (call, is, inl (e, subst (λ (m : Machine). Steps old (Start thread call) (Err e) m) (sym (some_is new after held)) steps, ap (λ (r : StepResult). record { start = r; step_count = 0 }) told, refl))

@@ -1,16 +1,21 @@
 -- The calls that C gives (this profile's own).
-use Rattle.std.specs.Prelude.{◌≡◌, ◌⊎◌, ℕ, ◌<◌, List, take}
+use Rattle.std.specs.Prelude.{◌≡◌, ◌⊎◌, ℕ, ◌<◌, List, [], take}
 use Rattle.l4_fpage.specs.Rights.{set_of_bits}
 use Rattle.l4_ipc.specs.declared.calls.Call.{Call}
 use Rattle.l4_ipc.specs.declared.calls.Call.TheVariants.{Ipc, Fault, Unmap, Control as Controls}
 use Rattle.l4_ipc.specs.declared.calls.Control.TheVariants.{Create, SetPager, Delete}
-use Rattle.l4_ipc.specs.declared.steps.Step.{Step}
-use Rattle.l4_ipc.specs.declared.steps.Step.TheVariants.{Start, Transfer, Expire}
 use Rattle.l4_c.specs.declared.calls.CallGiven.{CallGiven}
 
 -- the kind is none of the six
 abbrev pub IsNoKind : CallGiven → Type 0
 IsNoKind g = (g.kind ≡ 0) ⊎ (6 < g.kind)
+
+-- an Ipc without words
+abbrev pub IsBlank : Call → Type 0
+IsBlank (Ipc call) = call.words.items ≡ []
+IsBlank (Fault call) = ⊥
+IsBlank (Unmap call) = ⊥
+IsBlank (Controls control) = ⊥
 
 -- The call that is given by its kind, its members and the words, of which those beyond the first 64 mean nothing.
 abbrev pub IsCall : CallGiven → List ℕ → Call → Type 0
@@ -22,9 +27,3 @@ IsCall g words (Unmap call) = (g.kind ≡ 3) × (call.control ≡ g.control) × 
 IsCall g words (Controls (Create c)) = (g.kind ≡ 4) × (c.id.0 ≡ g.id) × (c.space.0 ≡ g.space) × (c.pager.0 ≡ g.pager)
 IsCall g words (Controls (SetPager c)) = (g.kind ≡ 5) × (c.id.0 ≡ g.id) × (c.pager.0 ≡ g.pager)
 IsCall g words (Controls (Delete id)) = (g.kind ≡ 6) × (id.0 ≡ g.id)
-
--- the step in which the thread starts the call that is given
-abbrev pub IsStart : ℕ → CallGiven → List ℕ → Step → Type 0
-IsStart thread g words (Start n call) = (n ≡ thread) × IsCall g words call
-IsStart thread g words (Transfer sender receiver) = ⊥
-IsStart thread g words (Expire n) = ⊥

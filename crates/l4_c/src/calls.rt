@@ -1,13 +1,12 @@
 //! Calls as C gives them.
-ghost use Rattle.std.specs.Prelude.{◌≡◌, ◌≤◌, length, take, MatchOption};
+ghost use Rattle.std.specs.Prelude.{◌≡◌, ◌≤◌, [], true, false, length, take};
 ghost use Rattle.l4_fpage.specs.Rights.{set_of_bits};
-ghost use Rattle.l4_c.specs.Called.{IsCall, IsNoKind, IsStart};
+ghost use Rattle.l4_c.specs.Called.{IsBlank, IsCall, IsNoKind};
 
 use l4_ipc::{
-    ArrayVec, Call, Control, Create, FaultCall, IpcCall, MAX_WORDS, Rights, SetPager, Step,
-    ThreadId, UnmapCall,
+    ArrayVec, Call, Control, Create, FaultCall, IpcCall, MAX_WORDS, Rights, SetPager, ThreadId,
+    UnmapCall,
 };
-use l4_msg::copied;
 
 /// A call of a thread. Only the members of its kind are read.
 #[repr(C)]
@@ -28,14 +27,22 @@ pub struct CallGiven {
 }
 
 /// The first words, as many as a message has.
-fn registers(words: &[u32]) -> ArrayVec<u32, MAX_WORDS>
-    ensures { result.items ≡ take 64 words.now }
+fn registers(words: &[u32]) -> &[u32]
+    ensures first { result.now ≡ take 64 words.now }
+    ensures fits { length result.now ≤ 64 }
 {
     if words.len() <= MAX_WORDS {
-        copied(words)
-    } else {
-        copied(&words[..MAX_WORDS])
+        return words;
     }
+    &words[..MAX_WORDS]
+}
+
+/// Puts the first words into an empty list.
+fn fill(list: &mut ArrayVec<u32, MAX_WORDS>, words: &[u32])
+    requires { list.old.items ≡ [] }
+    ensures { list.new.items ≡ take 64 words.now }
+{
+    let _ = list.try_extend_from_slice(registers(words));
 }
 
 /// The rights of a word's low three bits.
@@ -46,17 +53,32 @@ pub fn rights(word: u32) -> Rights
     Rights::of_bits((word & 7) as u8)
 }
 
-fn ipc(given: &CallGiven, words: &[u32]) -> Call
-    requires { given.now.kind ≡ 1 }
-    ensures { IsCall given.now words.now result }
+fn write_ipc(call: &mut Call, given: &CallGiven, words: &[u32])
+    requires kind { given.now.kind ≡ 1 }
+    requires blank { IsBlank call.old }
+    ensures { IsCall given.now words.now call.new }
 {
-    Call::Ipc(IpcCall {
-        to: ThreadId(given.to),
-        from: ThreadId(given.from),
-        timeouts: given.timeouts,
-        acceptor: given.acceptor,
-        words: registers(words),
-    })
+    if let Call::Ipc(ipc) = call {
+        ipc.to = ThreadId(given.to);
+        ipc.from = ThreadId(given.from);
+        ipc.timeouts = given.timeouts;
+        ipc.acceptor = given.acceptor;
+        fill(&mut ipc.words, words);
+    }
+}
+
+fn write_unmap(call: &mut Call, given: &CallGiven, words: &[u32])
+    requires { given.now.kind ≡ 3 }
+    ensures { IsCall given.now words.now call.new }
+{
+    *call = Call::Unmap(UnmapCall {
+        control: 0,
+        words: ArrayVec::new(),
+    });
+    if let Call::Unmap(unmap) = call {
+        unmap.control = given.control;
+        fill(&mut unmap.words, words);
+    }
 }
 
 fn fault(given: &CallGiven, words: &[u32]) -> Call
@@ -67,16 +89,6 @@ fn fault(given: &CallGiven, words: &[u32]) -> Call
         address: given.address,
         ip: given.ip,
         access: rights(given.access),
-    })
-}
-
-fn unmap(given: &CallGiven, words: &[u32]) -> Call
-    requires { given.now.kind ≡ 3 }
-    ensures { IsCall given.now words.now result }
-{
-    Call::Unmap(UnmapCall {
-        control: given.control,
-        words: registers(words),
     })
 }
 
@@ -108,17 +120,20 @@ fn delete(given: &CallGiven, words: &[u32]) -> Call
     Call::Control(Control::Delete(ThreadId(given.id)))
 }
 
-/// The step in which the thread starts the call that is given; none where its kind is no kind.
-pub fn start_of(thread: u32, given: &CallGiven, words: &[u32]) -> Option<Step>
-    ensures { MatchOption result (IsNoKind given.now) (IsStart thread given.now words.now) }
+/// Writes the call that is given over a blank one: a call has room for a whole message, which a move would copy. False where its kind is no kind.
+pub fn write_call(call: &mut Call, given: &CallGiven, words: &[u32]) -> bool
+    requires { IsBlank call.old }
+    ensures is { result ≡ true → IsCall given.now words.now call.new }
+    ensures none { result ≡ false → IsNoKind given.now }
 {
     match given.kind {
-        1 => Some(Step::Start(thread, ipc(given, words))),
-        2 => Some(Step::Start(thread, fault(given, words))),
-        3 => Some(Step::Start(thread, unmap(given, words))),
-        4 => Some(Step::Start(thread, create(given, words))),
-        5 => Some(Step::Start(thread, set_pager(given, words))),
-        6 => Some(Step::Start(thread, delete(given, words))),
-        _ => None,
+        1 => write_ipc(call, given, words),
+        2 => *call = fault(given, words),
+        3 => write_unmap(call, given, words),
+        4 => *call = create(given, words),
+        5 => *call = set_pager(given, words),
+        6 => *call = delete(given, words),
+        _ => return false,
     }
+    true
 }

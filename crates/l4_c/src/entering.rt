@@ -1,15 +1,17 @@
 //! Calls that are entered: their start, and the steps that come next.
-ghost use Rattle.std.specs.Prelude.{◌≡◌, ◌≤◌, ◌<◌, Ok, Err, length, slice_set};
+ghost use Rattle.std.specs.Prelude.{◌≡◌, ◌≤◌, ◌<◌, Ok, length, slice_set};
 ghost use Rattle.l4_ipc.specs.Machine.{Machine};
+ghost use Rattle.l4_ipc.specs.declared.steps.Answer.{Answer};
 ghost use Rattle.l4_ipc.specs.Steps.{Steps, IsNext};
-ghost use Rattle.l4_c.specs.Told.{done_result, step_result};
+ghost use Rattle.l4_c.specs.Told.{done_result};
 ghost use Rattle.l4_c.specs.Exports.{Follows, Goes, Enters};
 
-use crate::calls::{CallGiven, start_of};
+use crate::calls::CallGiven;
 use crate::kernels::KernelHandle;
-use crate::numbers::{EMPTY, NO_SUCH_CALL, kernel_detail, kernel_number};
-use crate::results::{EnterResult, NextResult, StepResult, answered, done_told, refused};
-use l4_ipc::{Answer, Kernel, Refused, Step};
+use crate::numbers::EMPTY;
+use crate::results::{EnterResult, NextResult, done_told, refused};
+use crate::stepping::start;
+use l4_ipc::{Answer, Kernel, Step};
 use std::alloc::Global;
 
 /// Writes down a step that was done, where there is room.
@@ -24,34 +26,28 @@ fn note(steps: &mut [NextResult], at: u32, step: &Step, answer: &Answer)
     }
 }
 
+/// Does the step that comes next, and writes it down where there is room.
+fn go_on(kernel: &mut Kernel, step: &Step, steps: &mut [NextResult], at: u32)
+    requires { IsNext kernel.old step.now }
+    ensures { (answer : Answer) × Steps kernel.old step.now (Ok answer) kernel.new
+        × (at < length steps.old → steps.new ≡ slice_set steps.old at (done_result step.now answer)) × (length steps.old ≤ at → steps.new ≡ steps.old) }
+{
+    if let Ok(answer) = &kernel.step(step) {
+        note(steps, at, step, answer);
+    }
+}
+
 /// Does the steps that come next, until there is none, and counts them.
 fn follow(kernel: &mut Kernel, steps: &mut [NextResult]) -> u32
     ensures { Follows kernel.old steps.old result steps.new kernel.new }
 {
     kernel.law_consistent();
     let mut count = 0u32;
-    while let Some(done) = kernel.step_next() {
-        note(steps, count, &done.0, &done.1);
+    while let Some(step) = kernel.enabled() {
+        go_on(kernel, &step, steps, count);
         count += 1;
     }
     count
-}
-
-/// A call of which no more than the start is told.
-fn only_start(start: StepResult) -> EnterResult
-    ensures { result ≡ record { start = start; step_count = 0 } }
-{
-    EnterResult {
-        start,
-        step_count: 0,
-    }
-}
-
-/// A call that the kernel refuses to start.
-fn not_started(refusal: Refused) -> EnterResult
-    ensures { result ≡ record { start = step_result (Err refusal); step_count = 0 } }
-{
-    only_start(refused(kernel_number(refusal), kernel_detail(refusal)))
 }
 
 /// Enters a call of a thread.
@@ -64,17 +60,14 @@ fn enter(
 ) -> EnterResult
     ensures { Goes kernel.old thread given.now words.now steps.old result steps.new kernel.new }
 {
-    let Some(step) = start_of(thread, given, words) else {
-        return only_start(refused(NO_SUCH_CALL, 0));
+    let mut entered = EnterResult {
+        start: start(kernel, thread, given, words),
+        step_count: 0,
     };
-    match kernel.step(&step) {
-        Ok(answer) => {
-            let start = answered(&answer);
-            let step_count = follow(kernel, steps);
-            EnterResult { start, step_count }
-        }
-        Err(refusal) => not_started(refusal),
+    if entered.start.refusal == 0 {
+        entered.step_count = follow(kernel, steps);
     }
+    entered
 }
 
 /// Enters a call of a thread: its start and the steps that come next.
@@ -90,7 +83,10 @@ pub extern "C" fn l4_enter(
     ensures { Enters handle.old.value thread call.now words.now steps.old result steps.new handle.new.value }
 {
     let Some(mut kernel) = handle.take(alloc) else {
-        return only_start(refused(EMPTY, 0));
+        return EnterResult {
+            start: refused(EMPTY, 0),
+            step_count: 0,
+        };
     };
     let entered = enter(&mut kernel, thread, call, words, steps);
     handle.put(kernel);

@@ -1,16 +1,15 @@
 //! Steps.
-ghost use Rattle.std.specs.Prelude.{◌≡◌, ℕ, List, None, Some, Result, MatchOption};
+ghost use Rattle.std.specs.Prelude.{◌≡◌, None, Some, MatchOption};
 ghost use Rattle.l4_ipc.specs.Machine.{Machine};
 ghost use Rattle.l4_ipc.specs.Steps.{Steps};
 ghost use Rattle.l4_ipc.specs.declared.steps.Step.TheVariants.{Transfer, Expire};
-ghost use Rattle.l4_c.specs.Called.{IsNoKind};
 ghost use Rattle.l4_c.specs.Exports.{Answers, Starts, Names, GoesOn};
 
-use crate::calls::{CallGiven, start_of};
+use crate::calls::{CallGiven, write_call};
 use crate::kernels::KernelHandle;
 use crate::numbers::{EMPTY, NO_SUCH_CALL};
 use crate::results::{NextResult, StepResult, done_told, no_step, refused, step_told, told};
-use l4_ipc::Step;
+use l4_ipc::{ArrayVec, Call, IpcCall, Kernel, Step, ThreadId};
 use std::alloc::Global;
 
 /// Does a step of the kernel that the handle holds.
@@ -46,15 +45,22 @@ pub extern "C" fn l4_expire(alloc: Global, handle: &mut KernelHandle, thread: u3
     step(alloc, handle, &Step::Expire(thread))
 }
 
-/// Refuses a call of no kind.
-fn refuse_kind(alloc: Global, handle: &mut KernelHandle) -> StepResult
-    ensures { (thread : ℕ) (g : CallGiven) (words : List ℕ) → IsNoKind g → Starts handle.old.value thread g words result handle.new.value }
+/// Starts a call of a thread.
+#[inline(always)]
+pub fn start(kernel: &mut Kernel, thread: u32, given: &CallGiven, words: &[u32]) -> StepResult
+    ensures { Starts (Some kernel.old) thread given.now words.now result (Some kernel.new) }
 {
-    let Some(kernel) = handle.take(alloc) else {
-        return refused(EMPTY, 0);
-    };
-    handle.put(kernel);
-    refused(NO_SUCH_CALL, 0)
+    let mut call = Call::Ipc(IpcCall {
+        to: ThreadId(0),
+        from: ThreadId(0),
+        timeouts: 0,
+        acceptor: 0,
+        words: ArrayVec::new(),
+    });
+    if !write_call(&mut call, given, words) {
+        return refused(NO_SUCH_CALL, 0);
+    }
+    told(&kernel.start(thread, &call))
 }
 
 /// Starts a call of a thread.
@@ -68,10 +74,12 @@ pub extern "C" fn l4_start(
 ) -> StepResult
     ensures { Starts handle.old.value thread call.now words.now result handle.new.value }
 {
-    match start_of(thread, call, words) {
-        Some(start) => step(alloc, handle, &start),
-        None => refuse_kind(alloc, handle),
-    }
+    let Some(mut kernel) = handle.take(alloc) else {
+        return refused(EMPTY, 0);
+    };
+    let started = start(&mut kernel, thread, call, words);
+    handle.put(kernel);
+    started
 }
 
 /// The step that comes next.
