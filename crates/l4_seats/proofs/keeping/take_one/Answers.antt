@@ -4,7 +4,7 @@ use Rattle.l4_seats.specs.Inside.Keeping.{seat_at}
 use Rattle.l4_seats.proofs.Held.{Taken, some_seat, taken_one, within, placed}
 use Rattle.l4_seats.proofs.keeping.take_one.Goals as goal
 
-taken : (c : goal.After-take_untold) → Taken c.args.locked.now c.take_untold.new.self c.args.seats.now.items (slice_set c.args.seats.now.items c.in-Some.at c.take_untold.new.seat)
+taken : (c : goal.After-seats-1) → Taken c.args.locked.now c.take_untold.new.self c.args.seats.now.items (slice_set c.args.seats.now.items c.in-Some.at c.take_untold.new.seat)
 taken c =
     taken_one c.args.locked.now c.take_untold.new.self c.args.seats.now.items c.in-Some.at c.args.number c.index_mut.result.now c.take_untold.new.seat c.take_untold.result
     (within c.args.seats.now.items c.as_slice.result.now c.in-Some.at c.as_slice.ensures.value c.in-Some.ensures.0)
