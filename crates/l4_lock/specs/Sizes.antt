@@ -12,7 +12,3 @@ max_steps = 128
 -- the greatest number of entries with which another call is entered: a start and the steps that follow it still fit
 abbrev pub last_start : ℕ
 last_start = 999871
-
--- the greatest number of threads, each of which waits for at most one step
-abbrev pub max_threads : ℕ
-max_threads = 64

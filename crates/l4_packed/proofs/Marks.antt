@@ -1,9 +1,9 @@
 -- Marks: a piece from a marked record on, and one record more.
-use Rattle.std.proofs.Common.{◌≡◌, ◌≢◌, ℕ, ◌+◌, ◌-◌, ◌*◌, ◌%◌, ◌/◌, ◌<◌, ◌≤◌, ◌==◌, ◌⊎◌, inl, inr, Bool, true, false, if◌then◌else◌, List, [], ◌∷◌, ◌++◌, length, take, drop, min, get_or, set, replicate, All, Some, refl, sym, ap, subst, ◌∙◌, arith}
+use Rattle.std.proofs.Common.{◌≡◌, ◌≢◌, ℕ, ◌+◌, ◌-◌, ◌*◌, ◌/◌, ◌<◌, ◌≤◌, ◌==◌, inl, inr, Bool, true, false, List, [], ◌∷◌, ◌++◌, length, take, drop, min, get_or, replicate, All, Some, refl, sym, ap, subst, ◌∙◌, arith}
 use Rattle.std.specs.Prelude.{slice_get}
 use Rattle.std.proofs.lemmas.Bool.{false≢true}
 use Rattle.std.proofs.lemmas.Bool.Decides.{eqb_tells}
-use Rattle.std.proofs.lemmas.List.{append-nil, length_push, length-append, length-drop, get_or-drop, take_rest, drop-append-le, get_or-set_same, get_or-set_other, length-set, get_or-replicate, length-replicate}
+use Rattle.std.proofs.lemmas.List.{append-nil, length_push, length-append, length-drop, get_or-drop, take_rest, drop-append-le, get_or-replicate, length-replicate}
 use Rattle.std.proofs.lemmas.List.Concat.{flat_map-append}
 use Rattle.std.proofs.lemmas.Option.{slice_get-get_or}
 use Rattle.std.proofs.Math.Seq.{drop-length}
@@ -80,22 +80,6 @@ last_mark records bytes number all =
       number_within = omega (arith, all);
       offset_within = omega arith;
       rest = drop-length bytes ∙ sym (ap (λ k. records_code (drop k records)) all ∙ ap records_code (drop-length records));
-    }
-
-pub marks_set : (marks : List ℕ) (records : List (List ℕ)) (bytes : List ℕ) (number count : ℕ) → AreMarks marks records bytes → count ≡ length records → count % 8 ≡ 0 → number ≡ count / 8
-    → AreMarks (set marks number (length bytes)) records bytes
-marks_set marks records bytes number count are all whole at =
-    record {
-      counted = length-set marks number (length bytes) ∙ are.counted;
-      right = λ k lt some. elim (eqb_tells k number) [
-        | inl here ↦
-            let in_list : number < length marks = omega (arith, here.1, lt, are.counted) in
-            let value : get_or (set marks number (length bytes)) k 0 ≡ length bytes = ap (λ j. get_or (set marks number (length bytes)) j 0) here.1 ∙ get_or-set_same marks number (length bytes) 0 in_list in
-            subst (λ o. IsMark records bytes (8 * k) o) (sym value) (last_mark records bytes (8 * k) (omega (arith, here.1, at, whole, all)))
-        | inr other ↦
-            let value : get_or (set marks number (length bytes)) k 0 ≡ get_or marks k 0 = get_or-set_other marks number k (length bytes) 0 other.1 in
-            subst (λ o. IsMark records bytes (8 * k) o) (sym value) (are.right k lt (subst (λ o. 0 < o) value some))
-      ];
     }
 
 pub no_marks : (marks : List ℕ) (records : List (List ℕ)) (bytes : List ℕ) → marks ≡ replicate 64 0 → AreMarks marks records bytes

@@ -12,9 +12,6 @@ use Rattle.l4_packed.proofs.Unpacking.{frame_again, records_again, records_have_
 pub record Behind (records : List (List ℕ)) (i : ℕ) (bytes : List ℕ) : Type 0 where
   pub rest : bytes ≡ records_code (drop i records)
 
-pub behind_none : (count : ℕ) (bytes : List ℕ) → IsPacked count bytes → Behind (records_in count bytes) 0 bytes
-behind_none count bytes packed = record { rest = packed.whole }
-
 pub next_frame : (records : List (List ℕ)) (i : ℕ) (bytes : List ℕ) → i < length records → Behind records i bytes → frame_at bytes ≡ Some (numbers_code (get_or records i []), records_code (drop (i + 1) records))
 next_frame records i bytes lt behind =
     ap frame_at (behind.rest ∙ ap records_code (drop_more records i [] lt)) ∙ frame_again (get_or records i []) (records_code (drop (i + 1) records))

@@ -15,7 +15,8 @@ use Rattle.l4_ipc.specs.declared.steps.Outcome.{Outcome}
 use Rattle.l4_ipc.specs.declared.steps.Outcome.TheVariants.{Started, Done, NoWindow, Entangled, NoMemory, Expired}
 use Rattle.l4_ipc.specs.declared.steps.Answer.{Answer}
 use Rattle.l4_packed.specs.Words.{counted, counted_at}
-use Rattle.l4_packed.specs.Codes.{max_words, max_threads, control_code, call_code, step_code, outcome_code, answer_code, reply_code, place_code, CallFits, StepFits, AnswerFits, ReplyFits}
+use Rattle.l4_threads.specs.Sizes.{max_threads}
+use Rattle.l4_packed.specs.Codes.{max_words, control_code, call_code, step_code, outcome_code, answer_code, reply_code, place_code, CallFits, StepFits, AnswerFits, ReplyFits}
 use Rattle.l4_packed.specs.Reading.{control_at, call_at, step_at, outcome_at, answer_at, reply_at, place_at}
 
 pub counted_again : (limit : ℕ) (words rest : List ℕ) → length words ≤ limit → counted_at limit (counted words ++ rest) ≡ Some (words, rest)

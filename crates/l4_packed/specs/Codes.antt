@@ -2,6 +2,7 @@
 -- variants; a list stands behind its length. (this profile's own)
 use Rattle.std.specs.Prelude.{ℕ, ◌/◌, ◌%◌, ◌^◌, ◌≤◌, ⊤, List, [], ◌∷◌, length}
 use Rattle.l4_fpage.specs.Rights.{bits_of}
+use Rattle.l4_threads.specs.Sizes.{max_threads}
 use Rattle.l4_threads.specs.declared.Reply.{Reply}
 use Rattle.l4_threads.specs.declared.Reply.TheVariants.{Ipc as ByIpc, Hit, Answered, FaultFailed, Unmapped, Controlled, Gone}
 use Rattle.l4_ipc.specs.declared.calls.Call.{Call}
@@ -15,12 +16,9 @@ use Rattle.l4_ipc.specs.declared.steps.Outcome.TheVariants.{Started, Done, NoWin
 use Rattle.l4_ipc.specs.declared.steps.Answer.{Answer}
 use Rattle.l4_packed.specs.Words.{counted}
 
--- the greatest number of message registers, and of threads
+-- the greatest number of message registers
 abbrev pub max_words : ℕ
 max_words = 64
-
-abbrev pub max_threads : ℕ
-max_threads = 64
 
 abbrev pub control_code : Control → List ℕ
 control_code (Create c) = 0 ∷ c.id.0 ∷ c.space.0 ∷ c.pager.0 ∷ []

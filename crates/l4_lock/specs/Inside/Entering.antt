@@ -8,7 +8,8 @@ use Rattle.l4_lock.specs.History.{GoesOn}
 use Rattle.l4_ipc.specs.declared.calls.Call.{Call}
 use Rattle.l4_ipc.specs.declared.steps.Answer.{Answer}
 use Rattle.l4_lock.specs.declared.entries.Pending.{Pending}
-use Rattle.l4_lock.specs.Sizes.{max_threads, last_start}
+use Rattle.l4_threads.specs.Sizes.{max_threads}
+use Rattle.l4_lock.specs.Sizes.{last_start}
 use Rattle.l4_lock.specs.Books.{SeatState, Book, plain, numbers, IsOnce, HasNotEnded, AreRight}
 use Rattle.l4_lock.specs.Locked.{Lock, start_entry}
 
