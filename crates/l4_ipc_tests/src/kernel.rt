@@ -1,4 +1,5 @@
 ghost use Rattle.std.specs.Prelude.{◌≤◌, length};
+ghost use Rattle.l4_msg.specs.Sizes.{max_words};
 
 use l4_fpage::{Fpage, Rights};
 use l4_ipc::{
@@ -45,7 +46,7 @@ fn ipc(
     acceptor: u32,
     words: &[u32],
 ) -> Step
-    requires { length words.now ≤ 64 }
+    requires { length words.now ≤ max_words }
 {
     let call = IpcCall {
         to,
@@ -59,7 +60,7 @@ fn ipc(
 
 /// A send phase without an end.
 fn send(number: u32, to: ThreadId, words: &[u32]) -> Step
-    requires { length words.now ≤ 64 }
+    requires { length words.now ≤ max_words }
 {
     ipc(number, to, NOBODY, 0, 0, words)
 }
@@ -71,7 +72,7 @@ fn receive(number: u32, from: ThreadId, acceptor: u32) -> Step {
 
 /// An Unmap.
 fn unmap(number: u32, control: u32, words: &[u32]) -> Step
-    requires { length words.now ≤ 64 }
+    requires { length words.now ≤ max_words }
 {
     let call = UnmapCall {
         control,
@@ -675,7 +676,7 @@ fn refused_unmaps(rt: HostRuntime) -> Result<(), Fail> {
 
 /// Whether a thread that receives from anybody in the window of all pages is sent a message, and the transfer ends so.
 fn delivers(kernel: &mut Kernel, from: u32, to: ThreadId, words: &[u32], outcome: Outcome) -> bool
-    requires { length words.now ≤ 64 }
+    requires { length words.now ≤ max_words }
 {
     let calls = [
         receive(to.number(), ANYBODY, COMPLETE),
@@ -692,7 +693,7 @@ fn delivers(kernel: &mut Kernel, from: u32, to: ThreadId, words: &[u32], outcome
 
 /// Whether a thread that receives from anybody in the window of all pages gets a message.
 fn maps(kernel: &mut Kernel, from: u32, to: ThreadId, words: &[u32]) -> bool
-    requires { length words.now ≤ 64 }
+    requires { length words.now ≤ max_words }
 {
     delivers(kernel, from, to, words, Outcome::Done)
 }
