@@ -1,6 +1,6 @@
 -- Items whose pages rise share none.
-use Rattle.std.proofs.Common.{◌≡◌, ◌≢◌, ℕ, ◌+◌, ◌<◌, ◌≤◌, ◌^◌, List, length, Some, ap, sym, ◌∙◌, slice_get, inl, inr, arith}
-use Rattle.std.proofs.lemmas.Bool.{cases_lt}
+use Rattle.std.proofs.Common.{◌≡◌, ◌≢◌, ℕ, ◌+◌, ◌<◌, ◌≤◌, ◌^◌, ◌⊎◌, Bool, true, false, ◌||◌, List, length, Some, refl, ap, sym, ◌∙◌, slice_get, inl, inr, arith}
+use Rattle.std.proofs.lemmas.Bool.{cases_lt, false≢true}
 use Rattle.l4_links.specs.declared.Place.{Place as LinkPlace}
 use Rattle.l4_links.specs.Entries.{Entries}
 use Rattle.l4_mapdb.specs.declared.ItemMove.{ItemMove}
@@ -9,65 +9,98 @@ use Rattle.l4_mapdb.specs.Inside.Messages.{IsMoved}
 use Rattle.l4_mapdb.specs.Inside.Tangles.{AreApart, Clashes, HasTangle, NoneReplaced}
 use Rattle.l4_mapdb.proofs.Moves.{one_by, move_item}
 use Rattle.l4_mapdb.proofs.Marking.{by_key}
+use Rattle.l4_mapdb.proofs.Restored.{by_bool}
 
--- the items before this number end before these pages
-pub record EndBy (items : List ItemMove) (end source target : ℕ) : Type 0 where
+-- the items before this number end before these pages, and grant only where that is said
+pub record EndBy (items : List ItemMove) (end source target : ℕ) (grants : Bool) : Type 0 where
   pub sources : (item : ℕ) (by : ItemMove) → item < end → slice_get items item ≡ Some by → by.mv.source.first + 2 ^ by.mv.source.log ≤ source
   pub targets : (item : ℕ) (by : ItemMove) → item < end → slice_get items item ≡ Some by → by.mv.target.first + 2 ^ by.mv.target.log ≤ target
+  pub none : grants ≡ false → (item : ℕ) (by : ItemMove) → item < end → slice_get items item ≡ Some by → by.grant ≡ false
 
--- one more
-pub ends_more : (items : List ItemMove) (item source target next_source next_target : ℕ) (by : ItemMove) → slice_get items item ≡ Some by → source ≤ by.mv.source.first → target ≤ by.mv.target.first
-    → next_source ≡ by.mv.source.first + 2 ^ by.mv.source.log → next_target ≡ by.mv.target.first + 2 ^ by.mv.target.log → EndBy items item source target → EndBy items (item + 1) next_source next_target
-ends_more items item source target next_source next_target by at s t source_end target_end ends = record {
-  sources = λ k other lt is. by_key k item
-      (λ e. let same : other ≡ by = one_by items item other by (ap (slice_get items) (sym e) ∙ is) at in
-      let n : other.mv.source.first + 2 ^ other.mv.source.log ≡ by.mv.source.first + 2 ^ by.mv.source.log = ap (λ (x : ItemMove). x.mv.source.first + 2 ^ x.mv.source.log) same in omega (arith, n, source_end))
-      (λ ne. let before = ends.sources k other (omega (arith, lt, ne)) is in omega (arith, before, s, source_end));
-  targets = λ k other lt is. by_key k item
-      (λ e. let same : other ≡ by = one_by items item other by (ap (slice_get items) (sym e) ∙ is) at in
-      let n : other.mv.target.first + 2 ^ other.mv.target.log ≡ by.mv.target.first + 2 ^ by.mv.target.log = ap (λ (x : ItemMove). x.mv.target.first + 2 ^ x.mv.target.log) same in omega (arith, n, target_end))
-      (λ ne. let before = ends.targets k other (omega (arith, lt, ne)) is in omega (arith, before, t, target_end));
-}
+either_no : (a b : Bool) → a || b ≡ false → (a ≡ false) × (b ≡ false)
+either_no false b h = (refl, h)
+either_no true b h = absurd (let k : true ≡ false = h in cc)
 
-pub apart_more : (items : List ItemMove) (item source target : ℕ) (by : ItemMove) → slice_get items item ≡ Some by → source ≤ by.mv.source.first → target ≤ by.mv.target.first → EndBy items item source target
-    → AreApart items item → AreApart items (item + 1)
-apart_more items item source target by at s t ends apart low high a b less lt is_low is_high = by_key high item
-    (λ e.
-    let same : b ≡ by = one_by items item b by (ap (slice_get items) (sym e) ∙ is_high) at in
-    let sources = ends.sources low a (omega (arith, less, e)) is_low in
-    let targets = ends.targets low a (omega (arith, less, e)) is_low in
-    let source_is : b.mv.source.first ≡ by.mv.source.first = ap (λ (x : ItemMove). x.mv.source.first) same in
-    let target_is : b.mv.target.first ≡ by.mv.target.first = ap (λ (x : ItemMove). x.mv.target.first) same in
-    record { source = omega (arith, sources, s, source_is); target = omega (arith, targets, t, target_is) })
-    (λ ne. apart low high a b less (omega (arith, lt, ne)) is_low is_high)
+either_yes : (a b : Bool) → b ≡ true → a || b ≡ true
+either_yes false b h = h
+either_yes true b h = refl
+
+first_yes : (a b : Bool) → a ≡ true → a || b ≡ true
+first_yes true b h = refl
+first_yes false b h = absurd (let k : false ≡ true = h in cc)
+
+module _ (items : List ItemMove) (item source target : ℕ) (grants : Bool) (by : ItemMove) (at : slice_get items item ≡ Some by) (t : target ≤ by.mv.target.first) (ends : EndBy items item source target grants) where
+  same_item : (k : ℕ) (other : ItemMove) → k ≡ item → slice_get items k ≡ Some other → other ≡ by
+  same_item k other e is = one_by items item other by (ap (slice_get items) (sym e) ∙ is) at
+
+  -- one more
+  pub ends_more : (own next_source next_target : ℕ) → source ≤ next_source → own ≤ next_source → own ≡ by.mv.source.first + 2 ^ by.mv.source.log → next_target ≡ by.mv.target.first + 2 ^ by.mv.target.log
+      → EndBy items (item + 1) next_source next_target (grants || by.grant)
+  ends_more own next_source next_target source_on own_on source_end target_end = record {
+    sources = λ k other lt is. by_key k item
+        (λ e. let n : other.mv.source.first + 2 ^ other.mv.source.log ≡ by.mv.source.first + 2 ^ by.mv.source.log = ap (λ (x : ItemMove). x.mv.source.first + 2 ^ x.mv.source.log) (same_item k other e is) in
+        omega (arith, n, source_end, own_on))
+        (λ ne. let before = ends.sources k other (omega (arith, lt, ne)) is in omega (arith, before, source_on));
+    targets = λ k other lt is. by_key k item
+        (λ e. let n : other.mv.target.first + 2 ^ other.mv.target.log ≡ by.mv.target.first + 2 ^ by.mv.target.log = ap (λ (x : ItemMove). x.mv.target.first + 2 ^ x.mv.target.log) (same_item k other e is) in
+        omega (arith, n, target_end))
+        (λ ne. let before = ends.targets k other (omega (arith, lt, ne)) is in omega (arith, before, t, target_end));
+    none = λ no k other lt is. by_key k item
+        (λ e. ap (λ (x : ItemMove). x.grant) (same_item k other e is) ∙ (either_no grants by.grant no).1)
+        (λ ne. ends.none (either_no grants by.grant no).0 k other (omega (arith, lt, ne)) is);
+  }
+
+  pub apart_more : (grants || by.grant ≡ true → source ≤ by.mv.source.first) → AreApart items item → AreApart items (item + 1)
+  apart_more s apart low high a b less lt is_low is_high = by_key high item
+      (λ e.
+      let same : b ≡ by = same_item high b e is_high in
+      let sources = ends.sources low a (omega (arith, less, e)) is_low in
+      let targets = ends.targets low a (omega (arith, less, e)) is_low in
+      let source_is : b.mv.source.first ≡ by.mv.source.first = ap (λ (x : ItemMove). x.mv.source.first) same in
+      let target_is : b.mv.target.first ≡ by.mv.target.first = ap (λ (x : ItemMove). x.mv.target.first) same in
+      record {
+        source = λ one.
+            let le = s (elim one [
+              | inl first ↦ by_bool grants
+                  (λ yes. first_yes grants by.grant yes)
+                  (λ no. absurd (false≢true (sym (ends.none no low a (omega (arith, less, e)) is_low) ∙ first)))
+              | inr second ↦ either_yes grants by.grant (ap (λ (x : ItemMove). x.grant) (sym same) ∙ second)
+            ]) in
+            omega (arith, sources, le, source_is);
+        target = omega (arith, targets, t, target_is);
+      })
+      (λ ne. apart low high a b less (omega (arith, lt, ne)) is_low is_high)
 
 module _ (s : Entries) (from to : ℕ) (items : List ItemMove) (apart : AreApart items (length items)) where
   abbrev Used : UsedMove → Type 0
   Used = IsMoved s from to items
 
-  -- used moves of an item and of a later one share no page
-  rising : (m n : UsedMove) → Used m → Used n → m.item < n.item → (m.page ≢ n.page) × (m.target.page ≢ n.target.page)
+  -- used moves of an item and of a later one fill no page in common, and where one of them grants they move none
+  rising : (m n : UsedMove) → Used m → Used n → m.item < n.item → ((m.grant ≡ true) ⊎ (n.grant ≡ true) → m.page ≢ n.page) × (m.target.page ≢ n.target.page)
   rising m n a b less =
       let ends = apart m.item n.item a.by b.by less (move_item s from to items n b) a.item b.item in
       let size : 2 ^ a.by.mv.source.log ≡ 2 ^ a.by.mv.target.log = ap (λ (k : ℕ). 2 ^ k) a.by.mv.same_size in
-      let source = ends.source in
       let target = ends.target in
       let within = a.pages.within in
       let from_a : m.page ≡ a.by.mv.source.first + a.pages.index = a.pages.source_is in
       let into_a : m.target.page ≡ a.by.mv.target.first + a.pages.index = a.pages.target_is in
       let from_b : n.page ≡ b.by.mv.source.first + b.pages.index = b.pages.source_is in
-      let into_b : n.target.page ≡ b.by.mv.target.first + b.pages.index = b.pages.target_is in
-      (λ e. absurd (omega (arith, source, within, from_a, from_b, e)), λ e. absurd (omega (arith, target, within, into_a, into_b, e, size)))
+      let into_b : n.target.page ≡ b.by.mv.target.first + b.pages.index = b.pages.target_is in (
+        (λ one e.
+            let source = ends.source (elim one [ inl x ↦ inl (sym a.grant ∙ x) | inr y ↦ inr (sym b.grant ∙ y) ]) in
+            absurd (omega (arith, source, within, from_a, from_b, e))),
+        λ e. absurd (omega (arith, target, within, into_a, into_b, e, size)),
+      )
 
-  differing : (m n : UsedMove) → Used m → Used n → m.item ≢ n.item → (m.page ≢ n.page) × (m.target.page ≢ n.target.page)
+  differing : (m n : UsedMove) → Used m → Used n → m.item ≢ n.item → (m.grant ≡ true → m.page ≢ n.page) × (m.target.page ≢ n.target.page)
   differing m n a b ne = elim (cases_lt m.item n.item) [
-    | inl less ↦ rising m n a b less
-    | inr ge ↦ let r = rising n m b a (omega (arith, ge, ne)) in (λ e. r.0 (sym e), λ e. r.1 (sym e))
+    | inl less ↦ let r = rising m n a b less in (λ g. r.0 (inl g), r.1)
+    | inr ge ↦ let r = rising n m b a (omega (arith, ge, ne)) in (λ g e. r.0 (inr g) (sym e), λ e. r.1 (sym e))
   ]
 
   pub none_clashes : (m : UsedMove) → Used m → ¬ (Clashes Used m)
   none_clashes m used (inl f) = (differing m f.other used f.used f.differ).1 (ap (λ (p : LinkPlace). p.page) (sym f.target))
-  none_clashes m used (inr g) = (differing m g.1.other used g.1.used g.1.differ).0 (sym g.1.page_is)
+  none_clashes m used (inr g) = (differing m g.1.other used g.1.used g.1.differ).0 g.0 (sym g.1.page_is)
 
   pub none_tangled : NoneReplaced Used s → ¬ (HasTangle Used s)
   none_tangled spared h = elim h.tangles [ inl clash ↦ none_clashes h.move h.used clash | inr r ↦ spared h.move h.used r ]

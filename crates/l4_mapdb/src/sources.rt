@@ -84,7 +84,7 @@ pub(crate) fn move_out(
 }
 
 /// The greater of two pages.
-fn later_page(a: u32, b: u32) -> u32
+pub(crate) fn later_page(a: u32, b: u32) -> u32
     ensures first { a ≤ result }
     ensures second { b ≤ result }
     ensures one { (result ≡ a) ⊎ (result ≡ b) }

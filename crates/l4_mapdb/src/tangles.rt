@@ -8,7 +8,7 @@ ghost use Rattle.l4_mapdb.specs.declared.sources.UsedMove.{UsedMove as AUsedMove
 
 use crate::ItemMove;
 use crate::cutting::end_of;
-use crate::sources::{UsedMove, move_out, next_move};
+use crate::sources::{UsedMove, later_page, move_out, next_move};
 use l4_links::{Entry, Links, Place};
 
 /// The used move of the item of this number into the place.
@@ -53,18 +53,24 @@ fn into_place(
     None
 }
 
-/// Whether each item's pages come after those of the items before it: the sender's, and the receiver's.
+/// Whether each item fills pages after those that the items before it fill, and moves pages after those that they move, where one of
+/// them is a grant.
 fn are_apart(items: &[ItemMove]) -> bool
     ensures { result ≡ true → AreApart items.now (length items.now) }
 {
     let mut source = 0;
     let mut target = 0;
+    let mut grants = false;
     for item in 0..items.len() {
         let by = &items[item];
-        if by.mv.source.first < source || by.mv.target.first < target {
+        grants = grants | by.grant;
+        if by.mv.target.first < target {
             return false;
         }
-        source = end_of(by.mv.source);
+        if grants && by.mv.source.first < source {
+            return false;
+        }
+        source = later_page(source, end_of(by.mv.source));
         target = end_of(by.mv.target);
     }
     true
@@ -225,13 +231,7 @@ fn tangles(
 }
 
 /// Whether the used moves contradict each other, where the sources of all are marked. Each node is visited once.
-fn marked_tangle(
-    links: &mut Links,
-    from: u64,
-    to: u64,
-    items: &[ItemMove],
-    apart: bool,
-) -> bool
+fn marked_tangle(links: &mut Links, from: u64, to: u64, items: &[ItemMove], apart: bool) -> bool
     requires apart { apart ≡ true → AreApart items.now (length items.now) }
     requires sources { SourcesAre (IsMoved links.old.entries from to items.now) links.old.entries }
     ensures same { (key : ℕ) → entry_at links.new.entries key ≡ entry_at links.old.entries key }
