@@ -11,3 +11,4 @@ pub mod Taking
 pub mod Booting
 pub mod Back
 pub mod Packing
+pub mod Begun

@@ -16,7 +16,7 @@ use Rattle.l4_ipc.specs.declared.steps.Step.{Step}
 use Rattle.l4_packed.specs.declared.steps.StepOutline.{StepOutline}
 use Rattle.l4_packed.specs.Words.{◌>>=◌}
 use Rattle.l4_packed.specs.Reading.{step_at, answer_at}
-use Rattle.l4_packed.specs.Outlines.{step_outline, outline_at}
+use Rattle.l4_packed.specs.Outlines.{outline_at}
 use Rattle.l4_packed.proofs.Outlining.{outline_same}
 use Rattle.l4_lock.specs.Lists.{entry_outline}
 use Rattle.l4_lock.specs.declared.entries.EntryOutline.{EntryOutline}

@@ -3,3 +3,4 @@ pub mod Closing
 pub mod Entering
 pub mod Noting
 pub mod Packing
+pub mod Pending

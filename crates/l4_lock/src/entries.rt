@@ -38,14 +38,14 @@ pub struct Receipt {
     pub reply: Reply,
 }
 
-/// How a call has ended that isn't taken yet.
+/// How a call has ended that isn't taken yet. No value of it is made.
 #[derive(Drop)]
 pub struct Ended {
     pub entry: usize,
     pub reply: Reply,
 }
 
-/// A call that isn't taken yet.
+/// A call that isn't taken yet, as contracts see it. No value of it is made.
 #[derive(Drop)]
 pub struct Pending {
     pub call: Call,

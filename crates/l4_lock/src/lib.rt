@@ -8,6 +8,7 @@ mod entries;
 mod history;
 mod locked;
 mod packed;
+mod pending;
 mod receipts;
 mod refusals;
 mod seats;

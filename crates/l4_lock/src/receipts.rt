@@ -1,5 +1,5 @@
 //! The receipts of a seat as a list.
-ghost use Rattle.std.specs.Prelude.{◌≡◌, ◌≢◌, ◌+◌, ◌<◌, ◌≤◌, ◌++◌, ◌∷◌, ◌^◌, [], drop, nat_eq, length, slice_get, true, false, List, OnOk};
+ghost use Rattle.std.specs.Prelude.{◌≡◌, ◌≢◌, ◌+◌, ◌<◌, ◌≤◌, ◌++◌, ◌∷◌, ◌^◌, [], drop, nat_eq, length, slice_get, true, false, Some, IsTrue, is_some, OnOk};
 ghost use Rattle.l4_lock.specs.Inside.Packing.{receipt_at, read_all, AreRead};
 ghost use Rattle.l4_lock.specs.Lists.{ReceiptList, receipt_list};
 ghost use Rattle.l4_lock.specs.declared.entries.Receipt.{Receipt as AReceipt};
@@ -7,7 +7,7 @@ ghost use Rattle.l4_lock.specs.declared.entries.Receipt.{Receipt as AReceipt};
 use crate::entries::Receipt;
 use crate::packed::{read_receipt, write_receipt};
 use l4_ipc::{Call, Reply};
-use l4_packed::{Record, Records};
+use l4_packed::{Record, Records, Words};
 use std::alloc::{AllocError, Global};
 use std::marker::Model;
 
@@ -85,15 +85,6 @@ impl Receipts {
         self.receipts.reserve(more)
     }
 
-    /// Appends a receipt for which there is room.
-    pub(crate) fn push(&mut self, receipt: Receipt)
-        requires { length self.old.items < self.old.room }
-        ensures items { self.new.items ≡ self.old.items ++ receipt ∷ [] }
-        ensures room { (length self.new.items ≡ length self.old.items + 1) × (self.new.room ≡ self.old.room) }
-    {
-        self.push_parts(&receipt.call, receipt.start, receipt.end, &receipt.reply);
-    }
-
     /// Appends the receipt of these parts, for which there is room.
     pub(crate) fn push_parts(&mut self, call: &Call, start: usize, end: usize, reply: &Reply)
         requires { length self.old.items < self.old.room }
@@ -104,17 +95,14 @@ impl Receipts {
         self.receipts.push(&self.packed.words());
     }
 
-    /// Appends the last receipt of another list, as it is packed there. There is room for it.
-    pub(crate) fn push_last_of(&mut self, other: &Receipts)
+    /// Appends the receipt of these words, for which there is room.
+    pub(crate) fn push_words(&mut self, words: &Words<'_>)
         requires room { length self.old.items < self.old.room }
-        requires last { 0 < length other.now.items }
-        ensures items { (front : List AReceipt) (receipt : AReceipt) → other.now.items ≡ front ++ receipt ∷ [] → self.new.items ≡ self.old.items ++ receipt ∷ [] }
+        requires read { IsTrue (is_some (receipt_at words.now)) }
+        ensures items { (receipt : AReceipt) → receipt_at words.now ≡ Some receipt → self.new.items ≡ self.old.items ++ receipt ∷ [] }
         ensures room { (length self.new.items ≡ length self.old.items + 1) × (self.new.room ≡ self.old.room) }
     {
-        let Some(words) = other.receipts.get(other.len() - 1) else {
-            unreachable!()
-        };
-        self.receipts.push(&words);
+        self.receipts.push(words);
     }
 
     /// Whether these are the same receipts.

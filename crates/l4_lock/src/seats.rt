@@ -1,13 +1,16 @@
 //! Seats, and what the lock keeps of each.
-ghost use Rattle.std.specs.Prelude.{◌≡◌, ◌≢◌, ◌+◌, ◌<◌, ◌≤◌, ℕ, Some, None, [], ◌∷◌, ◌++◌, length, IfSome, IfNone, MatchResult, is_some, true, false};
+ghost use Rattle.std.specs.Prelude.{◌≡◌, ◌≢◌, ◌+◌, ◌<◌, ◌≤◌, ℕ, Some, None, [], ◌∷◌, ◌++◌, length, IfSome, IfNone, MatchResult, IsTrue, is_some, true, false};
 ghost use Rattle.std.specs.Option.{option_map_or, option_copied};
-ghost use Rattle.l4_lock.specs.Books.{SeatState, seat_state, starts, Book, book, pending_count, receipt, has_ended, Settles};
-ghost use Rattle.l4_lock.specs.Inside.Noting.{started_by, noted, noted_call, reply_in, reply_pending, own_call};
+ghost use Rattle.l4_lock.specs.Books.{SeatState, seat_state, starts, Book, book, pending_count, has_ended, Settles};
+ghost use Rattle.l4_lock.specs.Inside.Noting.{started_by, noted, reply_pending, own_call};
+ghost use Rattle.l4_lock.specs.Inside.Packing.{receipt_at};
+ghost use Rattle.l4_lock.specs.declared.entries.Receipt.{Receipt as AReceipt};
 
-use crate::copies::{copy_call, copy_reply};
-use crate::entries::{Ended, Pending};
+use crate::packed::read_receipt;
+use crate::pending::PendingCall;
 use crate::receipts::Receipts;
 use l4_ipc::{Call, Kernel, Reply};
+use l4_packed::Words;
 use std::alloc::{AllocError, Global};
 use std::marker::Model;
 
@@ -88,45 +91,30 @@ impl Seat {
         self.waiting -= 1;
     }
 
-    /// A call that was left waiting has its receipt.
-    fn receive(&mut self, call: &Call, start: usize, ended: &Ended)
-        requires { self.old.waiting ≢ 0 }
-        ensures receipts { self.new.receipts ≡ self.old.receipts ++ receipt call.now start ended.now ∷ [] }
+    /// A call that was left waiting has the receipt of these words.
+    fn receive(&mut self, words: &Words<'_>)
+        requires waiting { self.old.waiting ≢ 0 }
+        requires read { IsTrue (is_some (receipt_at words.now)) }
+        ensures receipts { (receipt : AReceipt) → receipt_at words.now ≡ Some receipt → self.new.receipts ≡ self.old.receipts ++ receipt ∷ [] }
         ensures waiting { (self.old.waiting ≡ self.new.waiting + 1) × (self.new.number ≡ self.old.number) }
     {
         self.waiting -= 1;
-        add_receipt(&mut self.receipts, call, start, ended);
+        self.receipts.push_words(words);
     }
-}
 
-/// Adds a receipt for which there is room.
-fn add_receipt(receipts: &mut Receipts, call: &Call, start: usize, ended: &Ended)
-    requires { length receipts.old.items < receipts.old.room }
-    ensures items { receipts.new.items ≡ receipts.old.items ++ receipt call.now start ended.now ∷ [] }
-    ensures room { (length receipts.new.items ≡ length receipts.old.items + 1) × (receipts.new.room ≡ receipts.old.room) }
-{
-    receipts.push_parts(call, start, ended.entry, &ended.reply);
-}
-
-/// The reply of a thread's last ended call, Gone where the thread is there no longer.
-fn last_reply(kernel: &Kernel, number: u32) -> Reply
-    ensures { result ≡ reply_in kernel.now number }
-{
-    match kernel.reply(number) {
-        Some(reply) => copy_reply(reply),
-        None => Reply::Gone,
-    }
-}
-
-/// Notes at a pending call that these calls ended in the entry of this place.
-fn note_call(pending: &mut Pending, kernel: &Kernel, ended: &[u32], place: usize, number: u32)
-    ensures { pending.new ≡ noted_call kernel.now ended.now place number pending.old }
-{
-    if pending.ended.is_none() && ended.contains(&number) {
-        pending.ended = Some(Ended {
-            entry: place,
-            reply: last_reply(kernel, number),
-        });
+    /// The same, where the receipt has the call that the seat's holder knows of.
+    fn receive_own(&mut self, words: Words<'_>, call: &Call)
+        requires waiting { self.old.waiting ≢ 0 }
+        requires read { IsTrue (is_some (receipt_at words)) }
+        ensures receipts { (receipt : AReceipt) → receipt_at words.entry ≡ Some receipt → self.new.receipts ≡ self.old.receipts ++ record receipt { call = call.now } ∷ [] }
+        ensures waiting { (self.old.waiting ≡ self.new.waiting + 1) × (self.new.number ≡ self.old.number) }
+    {
+        let Some(receipt) = read_receipt(words) else {
+            unreachable!()
+        };
+        self.waiting -= 1;
+        self.receipts
+            .push_parts(call, receipt.start, receipt.end, &receipt.reply);
     }
 }
 
@@ -134,7 +122,7 @@ fn note_call(pending: &mut Pending, kernel: &Kernel, ended: &[u32], place: usize
 #[derive(Drop)]
 pub(crate) struct Account {
     number: u32,
-    pending: Option<Pending>,
+    pending: PendingCall,
     receipts: Receipts,
 }
 
@@ -150,15 +138,13 @@ impl Model for Account {
 }
 
 impl Account {
-    ghost use Rattle.l4_lock.specs.declared.entries.Pending.{Pending as APending};
-
     /// The account of a number whose seat was just given.
     pub fn new(alloc: Global, number: u32) -> Account
         ensures { result ≡ book number None [] }
     {
         Account {
             number,
-            pending: None,
+            pending: PendingCall::none(),
             receipts: Receipts::new(alloc),
         }
     }
@@ -199,10 +185,7 @@ impl Account {
     pub fn has_reply(&self) -> bool
         ensures { result ≡ option_map_or has_ended self.now.pending false }
     {
-        match &self.pending {
-            Some(pending) => pending.ended.is_some(),
-            None => false,
-        }
+        self.pending.has_ended()
     }
 
     /// Begins a call, and makes room for its receipt.
@@ -213,11 +196,7 @@ impl Account {
             (λ _. self.new ≡ self.old) }
     {
         self.receipts.reserve(1)?;
-        self.pending = Some(Pending {
-            call: copy_call(call),
-            start,
-            ended: None,
-        });
+        self.pending.begin(call, start);
         Ok(())
     }
 
@@ -225,39 +204,35 @@ impl Account {
     pub fn cancel(&mut self)
         ensures { self.new ≡ record self.old { pending = None } }
     {
-        self.pending = None;
+        self.pending.forget();
     }
 
     /// Notes that these calls ended in the entry of this place.
     pub fn note(&mut self, kernel: &Kernel, ended: &[u32], place: usize)
         ensures { self.new ≡ noted kernel.now ended.now place self.old }
     {
-        if let Some(pending) = &mut self.pending {
-            note_call(pending, kernel, ended, place, self.number);
-        }
+        self.pending.note(kernel, ended, place, self.number);
     }
 
     /// The reply of the call that isn't taken yet, if it has ended.
     fn reply(&self) -> Option<Reply>
         ensures { result ≡ reply_pending self.now.pending }
     {
-        let Some(pending) = &self.pending else {
-            return None;
-        };
-        let Some(ended) = &pending.ended else {
-            return None;
-        };
-        Some(copy_reply(&ended.reply))
+        self.pending.reply()
     }
 }
 
-/// The call that the seat knows of, and else the account's.
-fn known<'a>(own: Option<&'a Call>, call: &'a Call) -> &'a Call
-    ensures { result.now ≡ own_call (option_copied own.entry) call.now }
+/// The seat gains the receipt of these words, or one that has the call which the seat's holder knows of.
+fn hand_over(seat: &mut Seat, words: Words<'_>, own: Option<&Call>)
+    requires waiting { seat.old.waiting ≢ 0 }
+    requires read { IsTrue (is_some (receipt_at words)) }
+    ensures receipts { (receipt : AReceipt) → receipt_at words.entry ≡ Some receipt
+        → seat.new.receipts ≡ seat.old.receipts ++ record receipt { call = own_call (option_copied own.entry) receipt.call } ∷ [] }
+    ensures waiting { (seat.old.waiting ≡ seat.new.waiting + 1) × (seat.new.number ≡ seat.old.number) }
 {
     match own {
-        Some(own) => own,
-        None => call,
+        Some(call) => seat.receive_own(words, call),
+        None => seat.receive(&words),
     }
 }
 
@@ -272,15 +247,13 @@ pub(crate) fn settle(account: &mut Account, seat: &mut Seat, own: Option<&Call>)
         pending,
         receipts,
     } = account;
-    let Some(open) = &*pending else {
+    if !pending.has_ended() {
         return false;
-    };
-    let Some(ended) = &open.ended else {
-        return false;
-    };
-    add_receipt(receipts, &open.call, open.start, ended);
-    seat.receive(known(own, &open.call), open.start, ended);
-    *pending = None;
+    }
+    let words = pending.receipt();
+    receipts.push_words(&words);
+    hand_over(seat, words, own);
+    pending.forget();
     true
 }
 

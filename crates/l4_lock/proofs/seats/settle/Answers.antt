@@ -1,22 +1,21 @@
 use Rattle.std.proofs.Common.{None, ◌++◌, ◌∷◌, [], refl, sym, ap, ◌∙◌}
-use Rattle.l4_ipc.specs.declared.calls.Call.{Call}
-use Rattle.l4_lock.specs.Books.{Book, book, receipt, receipt_of}
+use Rattle.l4_lock.specs.Books.{Book, book, receipt_of}
 use Rattle.l4_lock.proofs.seats.settle.Goals as goal
 
 pub returns-clause-settles : goal.returns-clause-settles
-returns-clause-settles c = λ _. (
-  c.in-Some-ended.ended.reply,
-  record {
-    pending = c.in-Some.open;
-    pending_is = ap (λ (b : Book). b.pending) (sym c.account.view_is) ∙ c.in-Some.is;
-    ended = c.in-Some-ended.ended;
-    ended_is = c.in-Some-ended.is;
-    answers = refl;
-    book_is = ap (book c.account.inside.number None) c.add_receipt.ensures.items
-        ∙ ap (λ (b : Book). book b.number None (b.receipts ++ receipt_of c.in-Some.open c.in-Some-ended.ended ∷ [])) c.account.view_is;
-    number = c.receive.ensures.waiting.1;
-    waiting = c.receive.ensures.waiting.0;
-    receipts = c.receive.ensures.receipts
-        ∙ ap (λ (call : Call). c.args.seat.now.receipts ++ receipt call c.in-Some.open.start c.in-Some-ended.ended ∷ []) c.known.ensures;
-  },
-)
+returns-clause-settles c = λ _.
+    let r = c.receipt-words.ensures in (
+      r.1.reply,
+      record {
+        pending = r.0;
+        pending_is = ap (λ (b : Book). b.pending) (sym c.account.view_is) ∙ r.2;
+        ended = r.1;
+        ended_is = r.3;
+        answers = refl;
+        book_is = (λ i. book c.account.inside.number (c.forget.ensures i) (c.push_words.ensures.items (receipt_of r.0 r.1) r.4 i))
+            ∙ ap (λ (b : Book). book b.number None (b.receipts ++ receipt_of r.0 r.1 ∷ [])) c.account.view_is;
+        number = c.hand_over.ensures.waiting.1;
+        waiting = c.hand_over.ensures.waiting.0;
+        receipts = c.hand_over.ensures.receipts (receipt_of r.0 r.1) r.4;
+      },
+    )
