@@ -22,8 +22,8 @@
  * has changed, and the other members are 0, but for detail, the number that some refusals carry.
  *
  * Threads go by their numbers (uint32_t thread) as callers, and by whole thread ids (number in bits 31 to 14, version below) as
- * partners, as in the kernel's own words. Pages are 4,096 bytes and are counted from 0, below 1,048,576 in a space; rights are the sum
- * of L4_READ, L4_WRITE and L4_EXECUTE, and further bits mean nothing.
+ * partners, as in the kernel's own words. Pages have L4_PAGE_BYTES bytes and are counted from 0, below L4_SPACE_PAGES in a space;
+ * rights are the sum of L4_READ, L4_WRITE and L4_EXECUTE, and further bits mean nothing.
  */
 #ifndef L4_H
 #define L4_H
@@ -34,6 +34,10 @@
 #ifdef __cplusplus
 extern "C" {
 #endif
+
+/* A page has 2^L4_PAGE_LOG bytes. */
+#define L4_PAGE_LOG 12
+#define L4_PAGE_BYTES (UINT32_C(1) << L4_PAGE_LOG)
 
 /* The greatest number of threads, of words of a message, of its map and grant items, of pages that show that a plan is too long, of
  * frames, of pages of a space, and of regions of a pager's table. */

@@ -94,7 +94,7 @@ static void fault(struct guest *guest) {
 
 /* An answer that leaves the page without the right would be asked for again for ever. */
 static void end_fault(struct guest *guest, const l4_reply *reply) {
-    uint32_t page = guest->stop.address / PAGE_BYTES;
+    uint32_t page = guest->stop.address / L4_PAGE_BYTES;
     l4_mapping mapping = machine_mapping(guest->machine, machine_space(guest->machine, guest->thread), page);
     check_holds(reply->kind != L4_REPLY_HIT, "an engine lacks a page that the kernel shows");
     if (mapping.there && (mapping.rights & guest->stop.access) != 0)

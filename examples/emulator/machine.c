@@ -11,7 +11,7 @@ const uint32_t no_words[1] = {0};
 void machine_boot(struct machine *machine) {
     machine->kernel = (l4_kernel)L4_EMPTY;
     check_library(l4_boot(&machine->kernel, FRAME_COUNT), "boot");
-    machine->frames = calloc(FRAME_COUNT, PAGE_BYTES);
+    machine->frames = calloc(FRAME_COUNT, L4_PAGE_BYTES);
     check_holds(machine->frames != NULL, "no memory for the frames");
 }
 
@@ -22,7 +22,7 @@ void machine_free(struct machine *machine) {
 
 unsigned char *machine_frame(struct machine *machine, uint32_t frame) {
     check_holds(frame < FRAME_COUNT, "a frame that the machine doesn't have");
-    return machine->frames + (size_t)frame * PAGE_BYTES;
+    return machine->frames + (size_t)frame * L4_PAGE_BYTES;
 }
 
 l4_call machine_call(uint32_t kind) {

@@ -1,6 +1,40 @@
 #include "pager.h"
 #include "check.h"
 
+void pager_make(struct pager *pager, struct machine *machine, uint32_t thread) {
+    pager->machine = machine;
+    pager->thread = thread;
+    pager->table_count = 0;
+}
+
+static struct table *new_table(struct pager *pager, uint32_t thread) {
+    static const l4_pager empty = L4_EMPTY;
+    struct table *table = &pager->tables[pager->table_count];
+    check_holds(pager->table_count < MAX_TABLES, "more tables than there is room for");
+    table->thread = thread;
+    table->regions = empty;
+    check_library(l4_pager_new(&table->regions), "make a table");
+    pager->table_count++;
+    return table;
+}
+
+void pager_add(struct pager *pager, uint32_t thread, const l4_region *region) {
+    uint32_t refusal = L4_P1;
+    size_t k;
+    for (k = 0; k < pager->table_count && refusal == L4_P1; k++) {
+        if (pager->tables[k].thread == thread)
+            refusal = l4_pager_add(&pager->tables[k].regions, region);
+    }
+    if (refusal == L4_P1)
+        refusal = l4_pager_add(&new_table(pager, thread)->regions, region);
+    check_library(refusal, "add a region");
+}
+
+void pager_free(struct pager *pager) {
+    while (pager->table_count > 0)
+        l4_pager_free(&pager->tables[--pager->table_count].regions);
+}
+
 static l4_call receive_from_anybody(uint32_t window) {
     l4_call call = machine_call(L4_IPC);
     call.from = L4_ANYTHREAD;
@@ -22,36 +56,39 @@ void pager_begin(struct pager *pager) {
     receive(pager, 0);
 }
 
-static const struct region *region_of(const struct pager *pager, uint32_t thread, uint32_t page, uint32_t access) {
+/* The thread's first table that has the page with this access; the last one where none has. */
+static l4_pager *table_for(struct pager *pager, uint32_t thread, uint32_t page, uint32_t access) {
+    l4_pager *found = NULL;
     size_t k;
-    for (k = 0; k < pager->region_count; k++) {
-        const struct region *region = &pager->regions[k];
-        int holds = region->thread == thread && region->page <= page && page - region->page < region->count;
-        if (holds && (access & ~region->rights) == 0)
-            return region;
+    for (k = 0; k < pager->table_count; k++) {
+        struct table *table = &pager->tables[k];
+        if (table->thread != thread)
+            continue;
+        found = &table->regions;
+        if (l4_pager_find(found, page, access).refusal == L4_OK)
+            return found;
     }
-    return NULL;
+    return found;
 }
 
 static int is_fault(const l4_reply *reply) {
     return reply->kind == L4_REPLY_IPC && (reply->tag & ~(ALL_RIGHTS << FAULT_ACCESS_SHIFT)) == FAULT_TAG;
 }
 
-/* One map item for a fault, which moves nothing where no region has the page with this access. */
+/* The table's answer: one map item, which moves nothing where the table doesn't have the page with this access. */
 static void answer(struct pager *pager, const l4_reply *fault) {
-    uint32_t page = fault->words[0] / PAGE_BYTES;
+    const uint32_t words[FAULT_WORDS] = {fault->tag, fault->words[0], fault->words[1]};
     uint32_t access = fault->tag >> FAULT_ACCESS_SHIFT & ALL_RIGHTS;
-    const struct region *region = region_of(pager, thread_number(fault->from), page, access);
-    uint32_t words[ONE_ITEM_WORDS] = {ONE_ITEM_TAG, MAP_ITEM, 0};
+    l4_pager *table = table_for(pager, thread_number(fault->from), fault->words[0] / L4_PAGE_BYTES, access);
     l4_call call = receive_from_anybody(0);
-    if (region != NULL) {
-        words[1] = page * PAGE_BYTES | MAP_ITEM;
-        words[2] = fpage(region->source + (page - region->page), 0, region->rights);
-    }
+    l4_message message;
+    check_holds(table != NULL, "a fault of a thread without a table");
+    message = l4_pager_answer(table, words, FAULT_WORDS);
+    check_library(message.refusal, "the table answers");
     call.to = fault->from;
     /* who doesn't wait for the answer doesn't hold up the pager */
     call.timeouts = L4_ZERO_TIMEOUT << 16;
-    check_library(machine_enter(pager->machine, pager->thread, &call, words, ONE_ITEM_WORDS), "the pager answers");
+    check_library(machine_enter(pager->machine, pager->thread, &call, message.words, message.word_count), "the pager answers");
 }
 
 void pager_serve(struct pager *pager) {

@@ -4,22 +4,28 @@
 
 #include "machine.h"
 
-/* Pages that a thread may get for its faults, the pages of the pager's space that it gets there, and the rights. A fault is answered by
- * the first region that has its page with the access. */
-struct region {
+/* The greatest number of tables. */
+#define MAX_TABLES 4
+
+/* The pages that a thread may get for its faults, and the pages of the pager's space that it gets there with which rights. A table has a
+ * page once: what a thread gets of a page only for a further right stands in a further table of the thread. */
+struct table {
     uint32_t thread;
-    uint32_t page;
-    uint32_t count;
-    uint32_t source;
-    uint32_t rights;
+    l4_pager regions;
 };
 
 struct pager {
     struct machine *machine;
     uint32_t thread;
-    const struct region *regions;
-    size_t region_count;
+    size_t table_count;
+    struct table tables[MAX_TABLES];
 };
+
+/* A pager without tables. */
+void pager_make(struct pager *pager, struct machine *machine, uint32_t thread);
+
+/* Adds a region to the thread's first table that has none of its pages. */
+void pager_add(struct pager *pager, uint32_t thread, const l4_region *region);
 
 /* Gets all frames from sigma0, each to the page of its number, and waits for faults. */
 void pager_begin(struct pager *pager);
@@ -29,5 +35,7 @@ void pager_serve(struct pager *pager);
 
 /* The bytes of a page of the pager's space. */
 unsigned char *pager_page(struct pager *pager, uint32_t page);
+
+void pager_free(struct pager *pager);
 
 #endif

@@ -23,17 +23,17 @@ static uint32_t engine_rights(uint32_t rights) {
 }
 
 static void hide(struct view *view, const struct shown *shown) {
-    uint64_t first = (uint64_t)shown->page * PAGE_BYTES;
+    uint64_t first = (uint64_t)shown->page * L4_PAGE_BYTES;
     /* the engine would execute what it has translated there without a look at the page */
-    check_engine(uc_ctl_remove_cache(view->engine, first, first + PAGE_BYTES), "forget a page's code");
-    check_engine(uc_mem_unmap(view->engine, first, PAGE_BYTES), "unmap a page");
+    check_engine(uc_ctl_remove_cache(view->engine, first, first + L4_PAGE_BYTES), "forget a page's code");
+    check_engine(uc_mem_unmap(view->engine, first, L4_PAGE_BYTES), "unmap a page");
     printf("%u page %u gone\n", view->thread, shown->page);
 }
 
 static void show(struct view *view, const struct shown *shown) {
     unsigned char *bytes = machine_frame(view->machine, shown->frame);
-    uint64_t first = (uint64_t)shown->page * PAGE_BYTES;
-    check_engine(uc_mem_map_ptr(view->engine, first, PAGE_BYTES, engine_rights(shown->rights), bytes), "map a page");
+    uint64_t first = (uint64_t)shown->page * L4_PAGE_BYTES;
+    check_engine(uc_mem_map_ptr(view->engine, first, L4_PAGE_BYTES, engine_rights(shown->rights), bytes), "map a page");
     printf("%u ", view->thread);
     print_page(shown->page, shown->frame, shown->rights);
     printf("\n");

@@ -4,10 +4,6 @@
 
 #include <l4.h>
 
-/* An address has 32 bits. */
-#define PAGE_BYTES ((uint32_t)((UINT64_C(1) << 32) / L4_SPACE_PAGES))
-#define PAGE_LOG 12u
-
 /* A window that is the whole space. */
 #define COMPLETE_WINDOW 0x10u
 
@@ -19,6 +15,7 @@
 /* The tag of a page fault's message, but for the bits of the access. */
 #define FAULT_TAG 0xFFE00002u
 #define FAULT_ACCESS_SHIFT 16
+#define FAULT_WORDS 3u
 #define ALL_RIGHTS (L4_READ | L4_WRITE | L4_EXECUTE)
 
 /* The id of the thread of this number, and the number of the thread of this id. */
@@ -32,7 +29,7 @@ static inline uint32_t thread_number(uint32_t id) {
 
 /* The fpage of 2^log pages from this one on. */
 static inline uint32_t fpage(uint32_t page, uint32_t log, uint32_t rights) {
-    return page * PAGE_BYTES | (PAGE_LOG + log) << 4 | rights;
+    return page * L4_PAGE_BYTES | (L4_PAGE_LOG + log) << 4 | rights;
 }
 
 #endif

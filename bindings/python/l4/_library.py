@@ -12,6 +12,8 @@ from ctypes import POINTER, Structure, c_char_p, c_size_t, c_uint32, c_uint64, c
 from pathlib import Path
 from typing import Any, Dict, List, Sequence, Tuple
 
+L4_PAGE_LOG = 12
+L4_PAGE_BYTES = 4096
 L4_MAX_THREADS = 64
 L4_MAX_WORDS = 64
 L4_MAX_ITEMS = 31

@@ -9,7 +9,7 @@ from . import _library
 from ._library import number
 
 #: The bytes of a page.
-PAGE_BYTES = 4096
+PAGE_BYTES = _library.L4_PAGE_BYTES
 #: The pages of a space.
 SPACE_PAGES = _library.L4_SPACE_PAGES
 #: The greatest number of frames of a machine.
@@ -128,7 +128,7 @@ class Fpage:
         """2^log pages from the page `first`, a multiple of 2^log, on: all pages of a space where `log` is 20."""
         if not 0 <= log <= 20:
             raise ValueError(f"no fpage has 2^{log} pages")
-        return cls(first * PAGE_BYTES, log + 12, rights)
+        return cls(first * PAGE_BYTES, log + _library.L4_PAGE_LOG, rights)
 
     @classmethod
     def page(cls, page: int, rights: Rights) -> Fpage:

@@ -1,7 +1,7 @@
 """Drawings of mappings."""
 import unittest
 
-from l4 import Call, Fpage, Item, Kernel, Message, Rights, ThreadId, draw
+from l4 import PAGE_BYTES, Call, Fpage, Item, Kernel, Message, Rights, ThreadId, draw
 
 TREE = """digraph frame_16 {
     node [shape=box];
@@ -30,9 +30,9 @@ def chain():
     thread = ThreadId.of(3)
     kernel.enter(2, Call.create(thread, thread))
     kernel.enter(2, Call.receive(window=Fpage.complete()))
-    send(kernel, 1, ThreadId.ROOT, Item.map(Fpage.page(16, Rights.ALL), 32 * 4096))
+    send(kernel, 1, ThreadId.ROOT, Item.map(Fpage.page(16, Rights.ALL), 32 * PAGE_BYTES))
     kernel.enter(3, Call.receive(window=Fpage.complete()))
-    send(kernel, 2, thread, Item.map(Fpage.page(32, Rights.READ | Rights.EXECUTE), 7 * 4096))
+    send(kernel, 2, thread, Item.map(Fpage.page(32, Rights.READ | Rights.EXECUTE), 7 * PAGE_BYTES))
     return kernel
 
 
@@ -50,7 +50,7 @@ class Drawings(unittest.TestCase):
         other = ThreadId.of(4)
         kernel.enter(2, Call.create(other, ThreadId.of(3)))
         kernel.enter(4, Call.receive(window=Fpage.complete()))
-        send(kernel, 3, other, Item.map(Fpage.page(7, Rights.READ), 8 * 4096))
+        send(kernel, 3, other, Item.map(Fpage.page(7, Rights.READ), 8 * PAGE_BYTES))
         self.assertEqual(draw.space(kernel, 2), SPACE)
         self.assertEqual(draw.space(kernel, 9), "digraph space_9 {\n    node [shape=box];\n}\n")
 

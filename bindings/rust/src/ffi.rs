@@ -63,6 +63,8 @@ macro_rules! functions {
 }
 
 constants! {
+    L4_PAGE_LOG = 12;
+    L4_PAGE_BYTES = 4096;
     L4_MAX_THREADS = 64;
     L4_MAX_WORDS = 64;
     L4_MAX_ITEMS = 31;

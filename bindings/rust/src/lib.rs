@@ -8,14 +8,14 @@
 //! its end is a [`Reply`].
 //!
 //! ```
-//! use l4::{Call, Fpage, Item, Kernel, Message, Rights, ThreadId, Timeout};
+//! use l4::{Call, Fpage, Item, Kernel, Message, Rights, ThreadId, Timeout, PAGE_BYTES};
 //!
 //! let mut kernel = Kernel::boot(256)?;
 //! // root waits for anybody's message, and accepts pages everywhere
 //! kernel.start(2, &Call::receive(ThreadId::ANY, Fpage::complete(Rights::NONE), Timeout::Never))?;
 //! // sigma0 maps its page 16 to page 32
 //! let page = Fpage::page(16, Rights::ALL).expect("page 16 is one of a space's");
-//! let message = Message::new(0, &[], &[Item::map(page, 32 * 4096)])?;
+//! let message = Message::new(0, &[], &[Item::map(page, 32 * PAGE_BYTES)])?;
 //! let entered = kernel.enter(1, &Call::send(ThreadId::ROOT, &message, Timeout::Never))?;
 //! assert_eq!(entered.steps[0].ended, [1, 2]);
 //! let space = kernel.space_of(2).expect("root is there");
@@ -27,7 +27,7 @@
 //! # Numbers
 //!
 //! Threads go by their numbers (`u32`) where they act, and by whole [`ThreadId`]s as partners, as in the kernel's own words. Pages have
-//! 4,096 bytes and are counted from 0, below [`SPACE_PAGES`] in a space. Spaces have numbers (`u64`) that are never used twice.
+//! [`PAGE_BYTES`] bytes and are counted from 0, below [`SPACE_PAGES`] in a space. Spaces have numbers (`u64`) that are never used twice.
 //!
 //! # What can't happen
 //!
@@ -62,7 +62,7 @@ pub use tables::{Pager, Sigma0};
 pub use words::{BadFpage, Fpage, Item, Message, Rights, ThreadId, TooManyWords};
 
 /// The bytes of a page.
-pub const PAGE_BYTES: u32 = 4096;
+pub const PAGE_BYTES: u32 = ffi::L4_PAGE_BYTES;
 
 /// The pages of a space: they are numbered from 0 to `SPACE_PAGES - 1`.
 pub const SPACE_PAGES: u32 = ffi::L4_SPACE_PAGES;

@@ -1,8 +1,11 @@
 //! The words of the kernel's interface: thread ids, rights, fpages, items and messages.
-use crate::{MAX_WORDS, PAGE_BYTES, SPACE_PAGES};
+use crate::{ffi, MAX_WORDS, PAGE_BYTES, SPACE_PAGES};
 use std::error::Error;
 use std::fmt;
 use std::ops::{BitAnd, BitOr, Range, Sub};
+
+/// The binary logarithm of the bytes of a page.
+const PAGE_LOG: u8 = ffi::L4_PAGE_LOG as u8;
 
 /// A thread id: a thread number in bits 31 to 14, and a version in bits 13 to 0 (L4 X.2 manual, ThreadId).
 #[derive(Clone, Copy, PartialEq, Eq, PartialOrd, Ord, Hash)]
@@ -207,7 +210,7 @@ impl Fpage {
     pub fn pages(first: u32, log: u8, rights: Rights) -> Option<Fpage> {
         match (first, log) {
             (0, 20) => Some(Fpage::complete(rights)),
-            (0..SPACE_PAGES, 0..=19) => Fpage::bytes(first * PAGE_BYTES, log + 12, rights),
+            (0..SPACE_PAGES, 0..=19) => Fpage::bytes(first * PAGE_BYTES, log + PAGE_LOG, rights),
             _ => None,
         }
     }
@@ -264,10 +267,10 @@ impl Fpage {
     /// The pages all of whose bytes it names; none for the nil fpage and for one of 1 or 2 KiB.
     pub const fn page_range(self) -> Range<u32> {
         let first = self.base / PAGE_BYTES;
-        if self.log < 12 {
+        if self.log < PAGE_LOG {
             return first..first;
         }
-        first..first + (1 << (self.log - 12))
+        first..first + (1 << (self.log - PAGE_LOG))
     }
 }
 
