@@ -1,6 +1,9 @@
 //! Entries of the history, and receipts of calls.
 
-use l4_ipc::{Answer, Call, Reply, Step};
+ghost use Rattle.std.specs.Prelude.{◌≡◌, []};
+
+use arrayvec::ArrayVec;
+use l4_ipc::{Answer, Call, Outcome, Reply, Step};
 use l4_packed::StepOutline;
 
 /// One step of the history.
@@ -23,6 +26,22 @@ pub struct EntryOutline {
     pub step: StepOutline,
     /// What it did, and whose calls ended in it.
     pub answer: Answer,
+}
+
+impl EntryOutline {
+    /// A place for outlines that are read.
+    pub fn new() -> EntryOutline
+        ensures { result.answer.ended.items ≡ [] }
+    {
+        EntryOutline {
+            seat: 0,
+            step: StepOutline::Start(0),
+            answer: Answer {
+                outcome: Outcome::Started,
+                ended: ArrayVec::new(),
+            },
+        }
+    }
 }
 
 /// A seat's evidence of one call that has ended. Places count entries of the history, from 0 on.

@@ -4,6 +4,7 @@ ghost use Rattle.l4_lock.specs.Inside.Packing.{entry_at, read_all, AreRead};
 ghost use Rattle.l4_lock.specs.Lists.{EntryList, entry_list, entry_outline};
 ghost use Rattle.std.specs.Option.{option_map};
 ghost use Rattle.l4_ipc.specs.declared.steps.Step.TheVariants.{Start};
+ghost use Rattle.l4_packed.specs.Words.{Gives};
 
 use crate::entries::{Entry, EntryOutline};
 use crate::packed::{read_entry, read_entry_outline, write_entry, write_start};
@@ -65,12 +66,12 @@ impl History {
         }
     }
 
-    /// The entry at this place without the call of a start, None beyond the end. It costs less than `get`.
-    pub fn outline(&self, at: usize) -> Option<EntryOutline>
-        ensures { result ≡ option_map entry_outline (slice_get self.now.entries at) }
+    /// Reads the entry at this place without the call of a start in the place of another, None beyond the end. It costs less than `get`.
+    pub fn outline(&self, at: usize, entry: &mut EntryOutline) -> Option<()>
+        ensures { Gives (λ _. entry.new) result (option_map entry_outline (slice_get self.now.entries at)) }
     {
         match self.entries.get(at) {
-            Some(words) => read_entry_outline(words),
+            Some(words) => read_entry_outline(words, entry),
             None => None,
         }
     }

@@ -2,13 +2,14 @@
 ghost use Rattle.std.specs.Prelude.{◌≡◌, ◌≤◌, ◌++◌, ◌∷◌, [], length, Some};
 ghost use Rattle.l4_ipc.specs.declared.steps.Step.TheVariants.{Start};
 ghost use Rattle.l4_packed.specs.Codes.{answer_code, AnswerFits};
+ghost use Rattle.l4_packed.specs.Words.{Gives};
 ghost use Rattle.l4_lock.specs.Inside.Packing.{entry_at, entry_outline_at, receipt_at};
 
 use crate::entries::{Entry, EntryOutline, Receipt};
 use l4_ipc::{Answer, Call, Reply, Step};
 use l4_packed::{
     ANSWER_WORDS, Record, Words, put_answer, put_call, put_place, put_reply, put_start, put_step,
-    read_answer, read_call, read_outline, read_place, read_reply, read_step, read_word,
+    read_answer, read_answer_into, read_call, read_outline, read_place, read_reply, read_step, read_word,
 };
 
 /// Writes what an entry begins with in the place of what the record holds.
@@ -49,15 +50,16 @@ pub fn read_entry(words: Words<'_>) -> Option<Entry>
     Some(Entry { seat, step, answer })
 }
 
-/// The entry that words begin with, without the call of a start, whose words aren't read.
+/// Reads the entry that words begin with, without the call of a start, whose words aren't read, in the place of another.
 #[tactic(auto, unfolding(crate::specs::Inside::Packing::entry_outline_at))]
-pub fn read_entry_outline(words: Words<'_>) -> Option<EntryOutline>
-    ensures { result ≡ entry_outline_at words.entry }
+pub fn read_entry_outline(words: Words<'_>, entry: &mut EntryOutline) -> Option<()>
+    ensures { Gives (λ _. entry.new) result (entry_outline_at words.entry) }
 {
     let (seat, rest) = read_word(words)?;
-    let (answer, rest) = read_answer(rest)?;
-    let step = read_outline(rest)?;
-    Some(EntryOutline { seat, step, answer })
+    let rest = read_answer_into(rest, &mut entry.answer)?;
+    entry.seat = seat;
+    entry.step = read_outline(rest)?;
+    Some(())
 }
 
 /// Writes the receipt of these parts in the place of what the record holds.

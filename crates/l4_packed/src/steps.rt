@@ -6,9 +6,10 @@ ghost use Rattle.l4_ipc.specs.declared.steps.Step.TheVariants.{Start};
 ghost use Rattle.l4_packed.specs.Codes.{step_code, outcome_code, answer_code, StepFits, AnswerFits};
 ghost use Rattle.l4_packed.specs.Outlines.{step_outline, outline_at};
 ghost use Rattle.l4_packed.specs.Reading.{step_at, outcome_at, answer_at};
+ghost use Rattle.l4_packed.specs.Words.{Gives};
 
 use crate::calls::{CALL_WORDS, put_call, read_call};
-use crate::words::{RECORD_WORDS, Record, Words, put_counted, read_counted, read_word};
+use crate::words::{RECORD_WORDS, Record, Words, put_counted, read_counted, read_counted_into, read_word};
 use l4_ipc::{Answer, Call, MAX_THREADS, Outcome, Step};
 
 /// A step without the call of a start.
@@ -152,6 +153,16 @@ pub fn read_answer(words: Words<'_>) -> Option<(Answer, Words<'_>)>
     ensures again { (answer : AnAnswer) (rest : List ℕ) → AnswerFits answer → words.entry ≡ answer_code answer ++ rest → result ≡ Some (answer, rest) }
 {
     next_answer(words)
+}
+
+/// Reads an answer in the place of another, and gives the words after it.
+#[tactic(auto, unfolding(crate::specs::Reading::answer_at))]
+pub fn read_answer_into<'a>(words: Words<'a>, answer: &mut Answer) -> Option<Words<'a>>
+    ensures { Gives (λ rest. (answer.new, rest)) result (answer_at words.entry) }
+{
+    let (outcome, rest) = next_outcome(words)?;
+    answer.outcome = outcome;
+    read_counted_into(rest, &mut answer.ended)
 }
 
 /// A step without the call of a start.

@@ -127,29 +127,43 @@ pub fn read_word(words: Words<'_>) -> Option<(u32, Words<'_>)>
 }
 
 /// A list that stands behind its length, and the words after it. None where it is longer than its type has room for.
-#[tactic(auto, unfolding(crate::specs::Words::counted_at))]
 pub(crate) fn read_counted<const LIMIT: usize>(
     words: Words<'_>,
 ) -> Option<(ArrayVec<u32, LIMIT>, Words<'_>)>
     ensures { Gives (λ x. (x.0.items, x.1)) result (counted_at LIMIT words.entry) }
+{
+    let mut list = ArrayVec::new();
+    let rest = read_counted_into(words, &mut list)?;
+    Some((list, rest))
+}
+
+/// Reads a list that stands behind its length in the place of another, and answers the words after it. None where it is longer than its
+/// type has room for.
+#[tactic(auto, unfolding(crate::specs::Words::counted_at))]
+pub(crate) fn read_counted_into<'a, const LIMIT: usize>(
+    words: Words<'a>,
+    list: &mut ArrayVec<u32, LIMIT>,
+) -> Option<Words<'a>>
+    ensures { Gives (λ rest. (list.new.items, rest)) result (counted_at LIMIT words.entry) }
 {
     let (count, rest) = read_word(words)?;
     let count = count as usize;
     if count > LIMIT {
         return None;
     }
-    read_list(rest, count)
+    read_list(rest, count, list)
 }
 
-/// A list of so many words, and the words after it.
-fn read_list<const LIMIT: usize>(
-    words: Words<'_>,
+/// Reads a list of so many words in the place of another, and answers the words after it.
+fn read_list<'a, const LIMIT: usize>(
+    words: Words<'a>,
     count: usize,
-) -> Option<(ArrayVec<u32, LIMIT>, Words<'_>)>
+    list: &mut ArrayVec<u32, LIMIT>,
+) -> Option<Words<'a>>
     requires { count ≤ LIMIT }
-    ensures { Gives (λ x. (x.0.items, x.1)) result (list_at count words.entry) }
+    ensures { Gives (λ rest. (list.new.items, rest)) result (list_at count words.entry) }
 {
-    let mut list = ArrayVec::new();
+    list.clear();
     let mut rest = words;
     for _ in 0..count {
         let Some((word, after)) = read_word(rest) else {
@@ -158,7 +172,7 @@ fn read_list<const LIMIT: usize>(
         list.push(word);
         rest = after;
     }
-    Some((list, rest))
+    Some(rest)
 }
 
 /// Appends a place in a history.
