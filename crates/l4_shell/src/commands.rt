@@ -43,13 +43,39 @@ impl<'a> Model for Words<'a> {
 }
 
 impl<'a> Words<'a> {
+    ghost use Rattle.std.specs.Prelude.{[]};
+
+    /// No words.
+    pub(crate) fn none() -> Words<'static>
+        ensures { result ≡ [] }
+    {
+        Words { words: &[] }
+    }
+
+    /// The words that these registers hold.
+    pub(crate) fn of(registers: &'a ArrayVec<u32, MAX_WORDS>) -> Words<'a>
+        ensures { result ≡ registers.now.items }
+    {
+        Words {
+            words: registers.as_slice(),
+        }
+    }
+
     /// Message registers with these words.
     pub(crate) fn registers(self) -> ArrayVec<u32, MAX_WORDS>
         ensures { result.items ≡ self.entry }
     {
         let mut registers = ArrayVec::new();
-        let _ = registers.try_extend_from_slice(self.words);
+        self.write_to(&mut registers);
         registers
+    }
+
+    /// Puts these words into message registers, in the place of those that are there.
+    pub(crate) fn write_to(self, registers: &mut ArrayVec<u32, MAX_WORDS>)
+        ensures { registers.new.items ≡ self.entry }
+    {
+        registers.clear();
+        let _ = registers.try_extend_from_slice(self.words);
     }
 }
 
@@ -227,9 +253,7 @@ fn read_words<'a>(line: &[u8], words: &'a mut ArrayVec<u32, MAX_WORDS>) -> Optio
     for count in 0..MAX_WORDS {
         match next_token(rest) {
             None => {
-                return Some(Words {
-                    words: words.as_slice(),
-                });
+                return Some(Words::of(words));
             }
             Some((token, after)) => {
                 words.push(number(token)?);
@@ -238,9 +262,7 @@ fn read_words<'a>(line: &[u8], words: &'a mut ArrayVec<u32, MAX_WORDS>) -> Optio
         }
     }
     match next_token(rest) {
-        None => Some(Words {
-            words: words.as_slice(),
-        }),
+        None => Some(Words::of(words)),
         Some(_) => None,
     }
 }

@@ -1,25 +1,40 @@
 //! What a command comes to: a call that a thread enters, or pages that are told.
 ghost use Rattle.std.specs.Prelude.{◌≡◌};
+ghost use Rattle.l4_ipc.specs.declared.calls.Call.TheVariants.{Fault as Faults};
 ghost use Rattle.l4_shell.specs.Requests.{script_id, partner_id, space_id, create_call, set_pager_call, delete_call, receive_call, send_call, ipc_call, unmap_call, request_of};
 
-use crate::commands::Command;
+use crate::commands::{Command, Words};
 use crate::partners::{NewSpace, Partner};
-use arrayvec::ArrayVec;
-use l4_ipc::{Call, Control, Create, IpcCall, SetPager, UnmapCall};
-use l4_msg::{MAX_WORDS, Region};
+use l4_ipc::{Call, Control, Create, FaultCall, IpcCall, SetPager, UnmapCall};
+use l4_msg::Region;
 use l4_pager::Entry;
 use l4_threads::ThreadId;
+use std::marker::Model;
 
 /// The thread that creates and deletes threads, and names their pagers.
 pub(crate) const ROOT: u32 = 2;
 
+/// A call that stands in a place that lines use in turn.
+#[derive(Drop)]
+pub(crate) struct LentCall<'a> {
+    pub(crate) call: &'a Call,
+}
+
+impl<'a> Model for LentCall<'a> {
+    ghost use Rattle.l4_ipc.specs.declared.calls.Call.{Call as ACall};
+
+    ghost Value = { ACall };
+
+    ghost view = { λ c. c.call.now };
+}
+
 /// What a command comes to. Threads go by their numbers.
 #[derive(Drop)]
-pub(crate) enum Request {
+pub(crate) enum Request<'a> {
     /// The thread enters the call.
-    Enter(u32, Call),
+    Enter(u32, LentCall<'a>),
     /// Root enters the call that creates the thread of this number.
-    CreateThread(u32, Call),
+    CreateThread(u32, LentCall<'a>),
     /// Root deletes the thread.
     EndThread(u32),
     /// The thread sends the message of the region's plan.
@@ -64,25 +79,27 @@ fn id_of_space(number: u32, space: NewSpace) -> ThreadId
     }
 }
 
-/// Root's call that creates a thread.
-fn create_call(number: u32, space: NewSpace, pager: Partner) -> Call
+/// Makes root's call that creates a thread.
+fn put_create(call: &mut Call, number: u32, space: NewSpace, pager: Partner) -> LentCall<'_>
     ensures { result ≡ create_call number space pager }
 {
-    Call::Control(Control::Create(Create {
+    *call = Call::Control(Control::Create(Create {
         id: id_of(number),
         space: id_of_space(number, space),
         pager: id_of_partner(pager),
-    }))
+    }));
+    LentCall { call }
 }
 
-/// Root's call that changes a thread's pager.
-fn set_pager_call(number: u32, pager: Partner) -> Call
+/// Makes root's call that changes a thread's pager.
+fn put_pager(call: &mut Call, number: u32, pager: Partner) -> LentCall<'_>
     ensures { result ≡ set_pager_call number pager }
 {
-    Call::Control(Control::SetPager(SetPager {
+    *call = Call::Control(Control::SetPager(SetPager {
         id: id_of(number),
         pager: id_of_partner(pager),
-    }))
+    }));
+    LentCall { call }
 }
 
 /// Root's call that deletes a thread.
@@ -92,48 +109,71 @@ pub(crate) fn delete_call(number: u32) -> Call
     Call::Control(Control::Delete(id_of(number)))
 }
 
-/// An Ipc of these parts.
-fn ipc_call(
+/// Makes an Ipc of these parts.
+fn put_ipc<'a>(
+    call: &'a mut Call,
     to: Partner,
     from: Partner,
     timeouts: u32,
     window: u32,
-    words: ArrayVec<u32, MAX_WORDS>,
-) -> Call
-    ensures { result ≡ ipc_call to «from» timeouts window words.items }
+    words: Words<'_>,
+) -> LentCall<'a>
+    ensures { result ≡ ipc_call to «from» timeouts window words.entry }
 {
-    Call::Ipc(IpcCall {
-        to: id_of_partner(to),
-        from: id_of_partner(from),
-        timeouts,
-        acceptor: window,
-        words,
-    })
+    let (to, from) = (id_of_partner(to), id_of_partner(from));
+    if let Call::Ipc(ipc) = call {
+        ipc.to = to;
+        ipc.from = from;
+        ipc.timeouts = timeouts;
+        ipc.acceptor = window;
+        words.write_to(&mut ipc.words);
+    } else {
+        *call = Call::Ipc(IpcCall {
+            to,
+            from,
+            timeouts,
+            acceptor: window,
+            words: words.registers(),
+        });
+    }
+    LentCall { call }
 }
 
-/// A receive phase alone, without timeout.
-fn receive_call(from: Partner, window: u32) -> Call
+/// Makes a receive phase alone, without timeout.
+fn put_receive(call: &mut Call, from: Partner, window: u32) -> LentCall<'_>
     ensures { result ≡ receive_call «from» window }
 {
-    ipc_call(Partner::Nil, from, 0, window, ArrayVec::new())
+    put_ipc(call, Partner::Nil, from, 0, window, Words::none())
 }
 
-/// A send phase alone, without timeout.
-pub(crate) fn send_call(to: Partner, words: ArrayVec<u32, MAX_WORDS>) -> Call
-    ensures { result ≡ send_call to words.items }
+/// Makes a send phase alone, without timeout.
+pub(crate) fn put_send<'a>(call: &'a mut Call, to: Partner, words: Words<'_>) -> LentCall<'a>
+    ensures { result ≡ send_call to words.entry }
 {
-    ipc_call(to, Partner::Nil, 0, 0, words)
+    put_ipc(call, to, Partner::Nil, 0, 0, words)
 }
 
-/// An Unmap of these parts.
-fn unmap_call(control: u32, words: ArrayVec<u32, MAX_WORDS>) -> Call
-    ensures { result ≡ unmap_call control words.items }
+/// Makes an Unmap of these parts.
+fn put_unmap<'a>(call: &'a mut Call, control: u32, words: Words<'_>) -> LentCall<'a>
+    ensures { result ≡ unmap_call control words.entry }
 {
-    Call::Unmap(UnmapCall { control, words })
+    *call = Call::Unmap(UnmapCall {
+        control,
+        words: words.registers(),
+    });
+    LentCall { call }
 }
 
-/// What a command comes to.
-pub(crate) fn request_of(command: Command<'_>) -> Request
+/// Makes a page fault.
+fn put_fault(call: &mut Call, fault: FaultCall) -> LentCall<'_>
+    ensures { result ≡ Faults «fault» }
+{
+    *call = Call::Fault(fault);
+    LentCall { call }
+}
+
+/// What a command comes to. Where that is a call, it is made in a place.
+pub(crate) fn request_of<'a>(command: Command<'_>, call: &'a mut Call) -> Request<'a>
     ensures { result ≡ request_of command.entry }
 {
     match command {
@@ -141,19 +181,16 @@ pub(crate) fn request_of(command: Command<'_>) -> Request
             number,
             space,
             pager,
-        } => Request::CreateThread(number, create_call(number, space, pager)),
-        Command::SetPager { number, pager } => Request::Enter(ROOT, set_pager_call(number, pager)),
+        } => Request::CreateThread(number, put_create(call, number, space, pager)),
+        Command::SetPager { number, pager } => Request::Enter(ROOT, put_pager(call, number, pager)),
         Command::Delete { number } => Request::EndThread(number),
         Command::Receive {
             number,
             from,
             window,
-        } => Request::Enter(number, receive_call(from, window)),
-        Command::Send { number, to, words } => Request::Enter(
-            number,
-            send_call(to, words.registers()),
-        ),
-        Command::Fault(number, fault) => Request::Enter(number, Call::Fault(fault)),
+        } => Request::Enter(number, put_receive(call, from, window)),
+        Command::Send { number, to, words } => Request::Enter(number, put_send(call, to, words)),
+        Command::Fault(number, fault) => Request::Enter(number, put_fault(call, fault)),
         Command::Delegate { number, to, region } => Request::SendPlan(number, to, region),
         Command::Ipc {
             number,
@@ -162,15 +199,12 @@ pub(crate) fn request_of(command: Command<'_>) -> Request
             timeouts,
             window,
             words,
-        } => Request::Enter(
-            number,
-            ipc_call(to, from, timeouts, window, words.registers()),
-        ),
+        } => Request::Enter(number, put_ipc(call, to, from, timeouts, window, words)),
         Command::Unmap {
             number,
             control,
             words,
-        } => Request::Enter(number, unmap_call(control, words.registers())),
+        } => Request::Enter(number, put_unmap(call, control, words)),
         Command::Show(number, first, count) => Request::ListPages(number, first, count),
         Command::Parent { number, page } => Request::TellParent(number, page),
         Command::Region(number, entry) => Request::AddRegion(number, entry),

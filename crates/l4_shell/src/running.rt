@@ -6,9 +6,7 @@ ghost use Rattle.l4_shell.specs.Inside.Scripts.{TellsScript, HasFirstSeats};
 ghost use Rattle.l4_shell.specs.Sessions.{session};
 
 use crate::requests::ROOT;
-use crate::session::answer_line;
-use arrayvec::ArrayVec;
-use l4_msg::MAX_WORDS;
+use crate::session::{Places, answer_line};
 use l4_seats::SeatedKernel;
 use l4_servers::Servers;
 use l4_text::{Ending, Line, Output, RunFault, Source, next_line};
@@ -47,7 +45,7 @@ fn answer_all<R: Read, W: Write>(
 {
     let mut source = Source::new();
     let mut line = Line::new();
-    let mut registers: ArrayVec<u32, MAX_WORDS> = ArrayVec::new();
+    let mut places = Places::new();
     for number in 1..u64::MAX {
         out.send_before_read(&source, writer);
         if out.has_failed() {
@@ -65,7 +63,7 @@ fn answer_all<R: Read, W: Write>(
             servers,
             (number, ending),
             line.as_slice(),
-            &mut registers,
+            &mut places,
             out,
             writer,
         );

@@ -5,9 +5,10 @@ ghost use Rattle.l4_shell.specs.Sessions.{session, ended_text, is_among, waiting
 ghost use Rattle.l4_shell.specs.Inside.Telling.{outline_line, outline_text, TellsEntries, TellsCall, TellsNothing, TellsActs};
 
 use crate::refusals::lock_code;
+use crate::requests::LentCall;
 use crate::texts::refused_act_text;
 use l4_answers::{add_waits, expire_text, put_reply, transfer_text};
-use l4_ipc::{Answer, Call, Kernel, Outcome};
+use l4_ipc::{Answer, Kernel, Outcome};
 use l4_lock::{EntryOutline, LockRefusal, StepOutline};
 use l4_seats::SeatedKernel;
 use l4_servers::Servers;
@@ -79,8 +80,9 @@ fn tell_entries<W: Write>(
         (W.contents writer.old) (W.contents writer.new) out.old out.new }
 {
     let mut ended = false;
+    let mut entry = EntryOutline::new();
     for place in first..kernel.history().len() {
-        let Some(entry) = kernel.history().outline(place) else {
+        let Some(()) = kernel.history().outline(place, &mut entry) else {
             return ended;
         };
         tell(kernel.kernel(), &entry, out, writer);
@@ -93,18 +95,18 @@ fn tell_entries<W: Write>(
 /// refusal nothing is told.
 pub(crate) fn enter_call<W: Write>(
     kernel: &mut SeatedKernel,
-    entry: (u32, Call),
+    entry: (u32, LentCall<'_>),
     thread: u32,
     out: &mut Output,
     writer: &mut W,
 ) -> Result<bool, LockRefusal>
     ensures { MatchResult result
-        (λ ended. TellsCall kernel.old entry.0 entry.1 thread ended kernel.new (W.contents writer.old) (W.contents writer.new) out.old out.new)
-        (λ e. TellsNothing kernel.old entry.0 entry.1 e kernel.new (W.contents writer.old) (W.contents writer.new) out.old out.new) }
+        (λ ended. TellsCall kernel.old entry.entry.0 entry.entry.1 thread ended kernel.new (W.contents writer.old) (W.contents writer.new) out.old out.new)
+        (λ e. TellsNothing kernel.old entry.entry.0 entry.entry.1 e kernel.new (W.contents writer.old) (W.contents writer.new) out.old out.new) }
 {
     let (caller, call) = entry;
     let first = kernel.history().len();
-    match kernel.enter(caller, &call) {
+    match kernel.enter(caller, call.call) {
         Ok(()) => Ok(tell_entries(kernel, first, thread, out, writer)),
         Err(refusal) => Err(refusal),
     }
@@ -128,6 +130,7 @@ fn serve<W: Write>(
         let Some((server, call)) = servers.next_act(kernel.kernel()) else {
             return ended;
         };
+        let call = LentCall { call: &call };
         match enter_call(kernel, (server, call), thread, out, writer) {
             Ok(own) => ended = ended | own,
             Err(refusal) => {

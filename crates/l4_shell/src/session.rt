@@ -8,11 +8,11 @@ ghost use Rattle.l4_shell.specs.Inside.Telling.{TellsCall, TellsRefusal};
 ghost use Rattle.l4_pager.specs.Serving.{waiting};
 ghost use Rattle.l4_servers.specs.Servers.{Servers as AllServers, is_served};
 
-use crate::commands::{Command, ScriptFault, read_command};
+use crate::commands::{Command, ScriptFault, Words, read_command};
 use crate::delegations::plan_words;
 use crate::partners::Partner;
 use crate::refusals::{lock_code, memory_code, plan_code, region_code, script_code};
-use crate::requests::{ROOT, Request, delete_call, request_of, send_call};
+use crate::requests::{LentCall, ROOT, Request, delete_call, put_send, request_of};
 use crate::serving::{enter_call, follow};
 use crate::texts::{region_text, steps_text};
 use arrayvec::ArrayVec;
@@ -24,6 +24,24 @@ use l4_seats::SeatedKernel;
 use l4_servers::Servers;
 use l4_text::{Ending, Output, Text, next_token};
 use std::io::Write;
+
+/// The places of a line's words and of its call, which lines use in turn.
+#[derive(Drop)]
+pub(crate) struct Places {
+    registers: ArrayVec<u32, MAX_WORDS>,
+    call: Call,
+}
+
+impl Places {
+    pub(crate) fn new() -> Places
+        ensures { result.call ≡ waiting }
+    {
+        Places {
+            registers: ArrayVec::new(),
+            call: wait(),
+        }
+    }
+}
 
 /// Whether a line's first byte is `#`.
 fn is_comment(line: &[u8]) -> bool
@@ -73,13 +91,13 @@ fn start<W: Write>(
     kernel: &mut SeatedKernel,
     line: u64,
     thread: u32,
-    call: Call,
+    call: LentCall<'_>,
     out: &mut Output,
     writer: &mut W,
 ) -> Option<bool>
     ensures { MatchOption result
-        (TellsRefusal kernel.old line thread call kernel.new (W.contents writer.old) (W.contents writer.new) out.old out.new)
-        (λ ended. TellsCall kernel.old thread call thread ended kernel.new (W.contents writer.old) (W.contents writer.new) out.old out.new) }
+        (TellsRefusal kernel.old line thread call.entry kernel.new (W.contents writer.old) (W.contents writer.new) out.old out.new)
+        (λ ended. TellsCall kernel.old thread call.entry thread ended kernel.new (W.contents writer.old) (W.contents writer.new) out.old out.new) }
 {
     match enter_call(kernel, (thread, call), thread, out, writer) {
         Ok(ended) => Some(ended),
@@ -95,11 +113,11 @@ fn enter<W: Write>(
     kernel: &mut SeatedKernel,
     servers: &mut Servers,
     line: u64,
-    entry: (u32, Call),
+    entry: (u32, LentCall<'_>),
     out: &mut Output,
     writer: &mut W,
 )
-    ensures { (text : List ℕ) × Enters (session kernel.old servers.old) line entry.0 entry.1 text (session kernel.new servers.new)
+    ensures { (text : List ℕ) × Enters (session kernel.old servers.old) line entry.entry.0 entry.entry.1 text (session kernel.new servers.new)
         × Tells (W.contents writer.old) (W.contents writer.new) out.old out.new text }
 {
     let (thread, call) = entry;
@@ -115,11 +133,11 @@ fn create_thread<W: Write>(
     kernel: &mut SeatedKernel,
     servers: &mut Servers,
     line: u64,
-    creation: (u32, Call),
+    creation: (u32, LentCall<'_>),
     out: &mut Output,
     writer: &mut W,
 )
-    ensures { (text : List ℕ) × Creates (session kernel.old servers.old) line creation.0 creation.1 text (session kernel.new servers.new)
+    ensures { (text : List ℕ) × Creates (session kernel.old servers.old) line creation.entry.0 creation.entry.1 text (session kernel.new servers.new)
         × Tells (W.contents writer.old) (W.contents writer.new) out.old out.new text }
 {
     let (number, call) = creation;
@@ -142,7 +160,8 @@ fn end_thread<W: Write>(
     ensures { (text : List ℕ) × Deletes (session kernel.old servers.old) line thread text (session kernel.new servers.new)
         × Tells (W.contents writer.old) (W.contents writer.new) out.old out.new text }
 {
-    let Some(ended) = start(kernel, line, ROOT, delete_call(thread), out, writer) else {
+    let call = delete_call(thread);
+    let Some(ended) = start(kernel, line, ROOT, LentCall { call: &call }, out, writer) else {
         return;
     };
     servers.forget(thread);
@@ -165,7 +184,8 @@ fn refuse_to_serve<W: Write>(
     if kernel.may_enter(thread) {
         return refuse(line, &memory_code(), out, writer);
     }
-    let _ = start(kernel, line, thread, wait(), out, writer);
+    let call = wait();
+    let _ = start(kernel, line, thread, LentCall { call: &call }, out, writer);
 }
 
 /// A thread waits for anybody's message, and is served from then on.
@@ -184,7 +204,8 @@ fn serve_thread<W: Write>(
     let Ok(begins) = servers.serve(thread) else {
         return refuse_to_serve(kernel, line, thread, out, writer);
     };
-    let Some(ended) = start(kernel, line, thread, wait(), out, writer) else {
+    let call = wait();
+    let Some(ended) = start(kernel, line, thread, LentCall { call: &call }, out, writer) else {
         if begins {
             return servers.take_back(thread);
         }
@@ -232,14 +253,11 @@ fn delegate<W: Write>(
 {
     let (thread, to, region) = delegation;
     match plan_words(&region) {
-        Ok(words) => enter(
-            kernel,
-            servers,
-            line,
-            (thread, send_call(to, words)),
-            out,
-            writer,
-        ),
+        Ok(words) => {
+            let mut place = wait();
+            let call = put_send(&mut place, to, Words::of(&words));
+            enter(kernel, servers, line, (thread, call), out, writer)
+        }
         Err(refusal) => refuse(line, &plan_code(&refusal), out, writer),
     }
 }
@@ -342,11 +360,11 @@ fn carry_out<W: Write>(
     kernel: &mut SeatedKernel,
     servers: &mut Servers,
     line: u64,
-    request: Request,
+    request: Request<'_>,
     out: &mut Output,
     writer: &mut W,
 )
-    ensures { (text : List ℕ) × CarriesOut (session kernel.old servers.old) line request text (session kernel.new servers.new)
+    ensures { (text : List ℕ) × CarriesOut (session kernel.old servers.old) line request.entry text (session kernel.new servers.new)
         × Tells (W.contents writer.old) (W.contents writer.new) out.old out.new text }
 {
     match request {
@@ -378,7 +396,7 @@ pub(crate) fn answer_line<W: Write>(
     servers: &mut Servers,
     line: (u64, Ending),
     bytes: &[u8],
-    registers: &mut ArrayVec<u32, MAX_WORDS>,
+    places: &mut Places,
     out: &mut Output,
     writer: &mut W,
 )
@@ -386,9 +404,12 @@ pub(crate) fn answer_line<W: Write>(
         × Tells (W.contents writer.old) (W.contents writer.new) out.old out.new text }
 {
     let (number, ending) = line;
-    match asked(ending, bytes, registers) {
+    match asked(ending, bytes, &mut places.registers) {
         Ok(None) => {}
-        Ok(Some(command)) => carry_out(kernel, servers, number, request_of(command), out, writer),
+        Ok(Some(command)) => {
+            let request = request_of(command, &mut places.call);
+            carry_out(kernel, servers, number, request, out, writer)
+        }
         Err(fault) => refuse(number, &script_code(fault), out, writer),
     }
 }

@@ -156,9 +156,10 @@ fn entered(line: &[u8]) -> Result<(u32, Call), Fail> {
     let Ok(command) = read_command(name, rest, &mut registers) else {
         return Err("not read".into());
     };
-    match request_of(command) {
-        Request::Enter(caller, call) => Ok((caller, call)),
-        Request::CreateThread(_, call) => Ok((ROOT, call)),
+    let mut place = delete_call(0);
+    match request_of(command, &mut place) {
+        Request::Enter(caller, made) => Ok((caller, made.call.clone()?)),
+        Request::CreateThread(_, made) => Ok((ROOT, made.call.clone()?)),
         Request::EndThread(thread) => Ok((ROOT, delete_call(thread))),
         _ => Err("no call".into()),
     }

@@ -1,8 +1,12 @@
-use Rattle.std.proofs.Common.{List, length, ap, ◌∙◌}
+use Rattle.std.proofs.Common.{List, length, ap, subst, ◌∙◌}
+use Rattle.l4_ipc.specs.declared.calls.Call.{Call}
 use Rattle.l4_lock.specs.declared.entries.Entry.{Entry}
+use Rattle.l4_seats.specs.Seated.{Enters as EntersCall}
 use Rattle.l4_shell.proofs.Going.{calls_on}
 use Rattle.l4_shell.proofs.serving.enter_call.Goals as goal
 
 pub returns-in-Ok : goal.returns-in-Ok
 returns-in-Ok g c =
-    calls_on _ _ _ _ _ _ _ _ _ _ _ c.in-Ok.ensures.ok (c.len-first.ensures ∙ ap (λ (l : List Entry). length l) c.history.ensures) c.tell_entries.ensures
+    calls_on _ _ _ _ _ _ _ _ _ _ _
+    (subst (λ (call : Call). EntersCall c.args.kernel.now c.enter.new.self c.args.entry.0 call) c.call.view_is c.in-Ok.ensures.ok)
+    (c.len-first.ensures ∙ ap (λ (l : List Entry). length l) c.history.ensures) c.tell_entries.ensures

@@ -13,12 +13,12 @@ pub returns-in_default : goal.returns-in_default
 returns-in_default g c =
     absurd (there c.args.kernel.now.history c.loop-place.place
     (let lt = c.loop-place-test.true in let n = c.len-place-end.ensures in let e = ap (λ (l : List Entry). length l) c.history.ensures in omega (arith, lt, n, e))
-    (none_there _ (sym c.in_default.is ∙ c.outline.ensures ∙ ap (λ (l : List Entry). option_map entry_outline (slice_get l c.loop-place.place)) c.history-in-loop-place.ensures)))
+    (none_there _ (sym c.in_default.ensures ∙ ap (λ (l : List Entry). option_map entry_outline (slice_get l c.loop-place.place)) c.history-in-loop-place.ensures)))
 
 pub loop-place-preserved : goal.loop-place-preserved
 loop-place-preserved g c =
-    telling_outline _ _ _ _ _ _ _ _ _ _ _ _ _ c.kernel.result.now c.in-Some.entry c.loop-place.invariant
-    (sym c.in-Some.is ∙ c.outline.ensures ∙ ap (λ (l : List Entry). option_map entry_outline (slice_get l c.loop-place.place)) c.history-in-loop-place.ensures) c.kernel.ensures c.tell.ensures c.has_ended-ended.ensures
+    telling_outline _ _ _ _ _ _ _ _ _ _ _ _ _ c.kernel.result.now c.outline.new.entry c.loop-place.invariant
+    (sym c.in-Some.ensures ∙ ap (λ (l : List Entry). option_map entry_outline (slice_get l c.loop-place.place)) c.history-in-loop-place.ensures) c.kernel.ensures c.tell.ensures c.has_ended-ended.ensures
 
 pub returns : goal.returns
 returns g c =

@@ -9,4 +9,4 @@ returns-then-may_enter g c = λ s first.
 
 pub returns : goal.returns
 returns g c = λ s first.
-    refuses c.start.result _ _ s _ _ _ c.may_enter.result _ _ _ _ c.wait.ensures c.if-may_enter.false c.may_enter.ensures.1 c.start.ensures
+    refuses c.start.result _ _ s _ _ _ c.may_enter.result _ _ _ _ c.wait-call.ensures c.if-may_enter.false c.may_enter.ensures.1 c.start.ensures
