@@ -1,5 +1,6 @@
 -- What calls from C do (this profile's own).
 use Rattle.std.specs.Prelude.{◌≡◌, ◌⊎◌, ℕ, ◌<◌, ◌≤◌, List, [], ◌∷◌, length, codes, Option, None, Some, Result, Ok, Err}
+use Rattle.l4_fpage.specs.Pages.{max_frames}
 use Rattle.l4_ipc.specs.Machine.{Machine, IsBoot}
 use Rattle.l4_ipc.specs.Steps.{Steps, IsNext, IsIdle}
 use Rattle.l4_ipc.specs.declared.calls.Call.{Call}
@@ -26,9 +27,9 @@ Answers (Some old) step r new =
 abbrev pub Boots : Option Machine → ℕ → ℕ → Option Machine → Type 0
 Boots (Some old) frames number new = (number ≡ spelled (codes "B2")) × (new ≡ Some old)
 Boots None frames number new =
-    ((m : Machine) × (1 ≤ frames) × (frames ≤ 4096) × IsBoot frames m × (number ≡ 0) × (new ≡ Some m))
-    ⊎ (((frames ≡ 0) ⊎ (4096 < frames)) × (number ≡ spelled (codes "K6")) × (new ≡ None))
-    ⊎ ((1 ≤ frames) × (frames ≤ 4096) × (number ≡ spelled (codes "NoMemory")) × (new ≡ None))
+    ((m : Machine) × (1 ≤ frames) × (frames ≤ max_frames) × IsBoot frames m × (number ≡ 0) × (new ≡ Some m))
+    ⊎ (((frames ≡ 0) ⊎ (max_frames < frames)) × (number ≡ spelled (codes "K6")) × (new ≡ None))
+    ⊎ ((1 ≤ frames) × (frames ≤ max_frames) × (number ≡ spelled (codes "NoMemory")) × (new ≡ None))
 
 -- a thread of a kernel that is held starts the call that is given; an empty handle is refused (B1), and then a kind that is none (B3)
 abbrev pub Starts : Option Machine → ℕ → CallGiven → List ℕ → StepResult → Option Machine → Type 0

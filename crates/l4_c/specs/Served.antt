@@ -1,6 +1,7 @@
 -- The tables of pagers and of sigma0 as C has them (this profile's own).
 use Rattle.std.specs.Prelude.{◌≡◌, ◌⊎◌, ℕ, ◌<◌, ◌≤◌, List, [], ◌∷◌, ◌++◌, length, codes, Option, None, Some, MatchOption}
 use Rattle.std.specs.FinMap as fin
+use Rattle.l4_fpage.specs.Pages.{max_frames}
 use Rattle.l4_fpage.specs.Rights.{set_of_bits}
 use Rattle.l4_msg.specs.Messages.{MessageReads, MessageFails, message_words}
 use Rattle.l4_msg.specs.declared.messages.Message.{Message}
@@ -70,9 +71,9 @@ TellsTablesAnswer (Some es) words r =
 abbrev pub MakesOwners : Option Owners → ℕ → ℕ → Option Owners → Type 0
 MakesOwners (Some old) frames number new = (number ≡ spelled (codes "B2")) × (new ≡ Some old)
 MakesOwners None frames number new =
-    ((1 ≤ frames) × (frames ≤ 4096) × (number ≡ 0) × (new ≡ Some (record { frames = frames; owner = fin.empty })))
-    ⊎ (((frames ≡ 0) ⊎ (4096 < frames)) × (number ≡ spelled (codes "K6")) × (new ≡ None))
-    ⊎ ((1 ≤ frames) × (frames ≤ 4096) × (number ≡ spelled (codes "NoMemory")) × (new ≡ None))
+    ((1 ≤ frames) × (frames ≤ max_frames) × (number ≡ 0) × (new ≡ Some (record { frames = frames; owner = fin.empty })))
+    ⊎ (((frames ≡ 0) ⊎ (max_frames < frames)) × (number ≡ spelled (codes "K6")) × (new ≡ None))
+    ⊎ ((1 ≤ frames) × (frames ≤ max_frames) × (number ≡ spelled (codes "NoMemory")) × (new ≡ None))
 
 -- the words are a message of the space, which sigma0 answers; after a refusal nothing has changed
 abbrev pub TellsSigma0sAnswer : Option Owners → ℕ → List ℕ → MessageResult → Option Owners → Type 0
