@@ -1,7 +1,9 @@
 -- What the tokens of a line ask for (this profile's own).
-use Rattle.std.specs.Prelude.{ℕ, ◌^◌, ◌==◌, Bool, true, false, List, [], ◌∷◌, length, nat_le, slice_index, Option, Some, None, Result, Err, option_and_then, ok_or, if◌then◌else◌, codes}
+use Rattle.std.specs.Prelude.{ℕ, ◌==◌, Bool, true, false, List, [], ◌∷◌, length, nat_le, slice_index, Option, Some, None, Result, Err, option_and_then, ok_or, if◌then◌else◌, codes}
 use Rattle.std.specs.Str.{bytes_eq}
 use Rattle.l4_fpage.specs.Rights.{RightsSet}
+use Rattle.l4_msg.specs.Sizes.{max_words}
+use Rattle.l4_threads.specs.Sizes.{numbers}
 use Rattle.l4_msg.specs.declared.regions.Region.{Region as Delegated}
 use Rattle.l4_shell.specs.declared.partners.Partner.{Partner}
 use Rattle.l4_shell.specs.declared.partners.Partner.TheVariants.{Nil, Any, Thread as One}
@@ -23,7 +25,7 @@ is_word word token = bytes_eq token word
 
 -- a thread's number
 unfoldable pub thread_of : List ℕ → Option ℕ
-thread_of text = below (2 ^ 18) (number_of text)
+thread_of text = below numbers (number_of text)
 
 -- nil, or a thread's number
 unfoldable pub nil_or_thread_of : List ℕ → Option Partner
@@ -125,9 +127,9 @@ abbrev pub numbers_of : List (List ℕ) → Option (List ℕ)
 numbers_of [] = Some []
 numbers_of (token ∷ tokens) = number_of token >>= λ n. numbers_of tokens >>= λ ns. Some (n ∷ ns)
 
--- at most 64 words
+-- words that message registers hold
 unfoldable pub words_of : List (List ℕ) → Option (List ℕ)
-words_of tokens = if nat_le (length tokens) 64 then numbers_of tokens else None
+words_of tokens = if nat_le (length tokens) max_words then numbers_of tokens else None
 
 -- N TO WORD..
 abbrev pub send_asked : List (List ℕ) → Option Command

@@ -1,7 +1,8 @@
 -- What a line asks for, and the call that it enters (this profile's own).
-use Rattle.std.specs.Prelude.{ℕ, ◌+◌, ◌*◌, ◌%◌, ◌^◌, ◌==◌, ◌||◌, nat_lt, Bool, true, false, List, [], ◌∷◌, length, Option, Some, None, Result, Ok, Err, if◌then◌else◌}
+use Rattle.std.specs.Prelude.{ℕ, ◌+◌, ◌*◌, ◌%◌, ◌==◌, ◌||◌, nat_lt, Bool, true, false, List, [], ◌∷◌, length, Option, Some, None, Result, Ok, Err, if◌then◌else◌}
 use Rattle.l4_threads.specs.declared.ThreadId.{ThreadId}
 use Rattle.l4_threads.specs.Threads.{nilthread, anythread}
+use Rattle.l4_threads.specs.Sizes.{versions, word_values}
 use Rattle.l4_ipc.specs.declared.calls.Call.{Call}
 use Rattle.l4_ipc.specs.declared.calls.Call.TheVariants.{Ipc as Exchanges, Fault as Faults, Unmap as Unmaps, Control as Controls}
 use Rattle.l4_ipc.specs.declared.calls.Control.TheVariants.{Create, SetPager as ChangePager, Delete as End}
@@ -26,7 +27,7 @@ use Rattle.l4_shell.specs.Commands.{command_of}
 
 -- the id of a script's thread: its number in the bits from 14 on, and version 1; of a number below 2^18 no bit is lost
 abbrev pub script_id : ℕ → ThreadId
-script_id number = record { 0 = number * 2 ^ 14 % 2 ^ 32 + 1 }
+script_id number = record { 0 = number * versions % word_values + 1 }
 
 abbrev pub partner_id : Partner → ThreadId
 partner_id Nil = nilthread

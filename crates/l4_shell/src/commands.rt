@@ -34,12 +34,13 @@ pub(crate) struct Words<'a> {
 
 impl<'a> Model for Words<'a> {
     ghost use Rattle.std.specs.Prelude.{ℕ, List, ◌≤◌, length};
+    ghost use Rattle.l4_msg.specs.Sizes.{max_words};
 
     ghost Value = { List ℕ };
 
     ghost view = { λ a. a.words.now };
 
-    ghost invariant = { λ a. length a.words.now ≤ 64 };
+    ghost invariant = { λ a. length a.words.now ≤ max_words };
 }
 
 impl<'a> Words<'a> {
