@@ -6,7 +6,7 @@ use Rattle.l4_fpage.specs.Rights.{RightsSet, common, no_rights, is_none}
 use Rattle.l4_links.specs.declared.Standing.{Standing}
 use Rattle.l4_links.specs.declared.nodes.Node.{Node}
 use Rattle.l4_links.specs.Inside.Orders.{IsIn, first_of}
-use Rattle.l4_links.specs.Inside.Nodes.{Slots, node_at, values, Worth, Doom, dooms, Writes, Caps, Closes, Comes, Clears}
+use Rattle.l4_links.specs.Inside.Nodes.{Slots, node_at, values, Worth, Doom, dooms, Writes, Caps, Lowers, Closes, Comes, Clears}
 use Rattle.l4_links.specs.Inside.Stacks.{IsStacked, IsStack, HasStack}
 use Rattle.l4_links.specs.Inside.Keeping.{standing_of, entries_of}
 use Rattle.l4_links.specs.Entries.{standing_at, HaveRights}
@@ -18,6 +18,14 @@ use Rattle.l4_links.proofs.Seen.{standing_is}
 -- the key has no node, or one with a right
 abbrev pub HasRight : Slots → ℕ → Type 0
 HasRight slots key = (d : Doom) → dooms slots key ≡ Some d → d.rights ≢ no_rights
+
+-- a node that is lowered is written so
+pub lowered : (key : ℕ) (rights : RightsSet) (doomed : Option ℕ) (old new : Slots) (n : Node) → node_at old key ≡ Some n → Lowers key rights doomed old new → Writes key (Some (record n { rights = rights; doomed = doomed })) old new
+lowered key rights doomed old new n at w = record {
+  here = λ _. w.here ∙ ap (option_map {T = Node} (λ m. record m { rights = rights; doomed = doomed })) at;
+  others = w.others;
+  spots_same = w.spots_same;
+}
 
 -- a set that is said to be empty
 none_of : (a b c : Bool) → not a && not b && not c ≡ true → ◌≡◌ {A = RightsSet} (record { r = a; w = b; x = c }) no_rights

@@ -4,7 +4,7 @@ ghost use Rattle.std.specs.Prelude.{◌≡◌, ◌+◌, ◌<◌, false, Some};
 ghost use Rattle.std.specs.Option.{option_map};
 ghost use Rattle.l4_links.specs.Inside.Stacks.{HasStack};
 ghost use Rattle.l4_links.specs.Inside.Keeping.{standing_of};
-ghost use Rattle.l4_links.specs.Inside.Nodes.{node_at, slot_at, spots, wanted_in, Writes, SetsWanted, Gives, SetsNext, SetsPrev, Caps, Closes, Sees, SetsSource, SetsPlain};
+ghost use Rattle.l4_links.specs.Inside.Nodes.{node_at, slot_at, spots, wanted_in, Writes, SetsWanted, Gives, SetsNext, SetsPrev, Caps, Lowers, Closes, Sees, SetsSource, SetsPlain};
 ghost use Rattle.l4_links.specs.declared.nodes.Slot.{Slot as ASlot};
 ghost use Rattle.l4_links.specs.declared.nodes.Node.{Node as ANode};
 
@@ -147,6 +147,19 @@ pub(crate) fn set_prev(nodes: &mut Slab<Slot>, at: Option<usize>, prev: Option<u
     }
 }
 
+/// Lets the node have these rights, and this key after it on the stack of nodes without rights.
+fn lower(nodes: &mut Slab<Slot>, key: usize, rights: Rights, doomed: Option<usize>)
+    ensures { Lowers key rights doomed nodes.old.slots nodes.new.slots }
+{
+    let Some(slot) = nodes.get_mut(key) else {
+        return;
+    };
+    if let Some(node) = &mut slot.node {
+        node.rights = rights;
+        node.doomed = doomed;
+    }
+}
+
 /// Lets the node have no other rights than these. A node that loses its last right goes on the stack that begins with the key
 /// `doomed`. The key that the stack begins with then is given.
 pub(crate) fn cap_at(
@@ -167,18 +180,10 @@ pub(crate) fn cap_at(
     }
     let rights = node.rights.intersection(cap);
     if rights.is_empty() {
-        write(
-            nodes,
-            key,
-            Some(Node {
-                rights,
-                doomed,
-                ..node
-            }),
-        );
+        lower(nodes, key, rights, doomed);
         return Some(key);
     }
-    write(nodes, key, Some(Node { rights, ..node }));
+    lower(nodes, key, rights, node.doomed);
     doomed
 }
 
