@@ -20,6 +20,9 @@ const PIECE_RECORDS: usize = PIECE_BYTES / RECORD_BYTES;
 /// There are fewer records than this.
 const MOST_RECORDS: usize = 0x4000_0000_0000_0000;
 
+/// Room for this many records or more isn't made, as it is made by whole pieces.
+const MOST_ASKED: usize = MOST_RECORDS - PIECE_RECORDS;
+
 /// Which piece holds the record of this place.
 fn position(pieces: &[Piece], place: usize) -> usize
     requires numbered { AreNumbered pieces.now }
@@ -157,15 +160,16 @@ impl Records {
         ensures room { (self.old.room ≤ self.new.room) × (self.new.room < 2 ^ 62) }
     {
         let len = self.len();
-        if more >= MOST_RECORDS - len {
+        if more >= MOST_ASKED || len >= MOST_ASKED - more {
             return Err(AllocError);
+        }
+        if len + more <= self.room {
+            return Ok(());
         }
         let wanted = more / PIECE_RECORDS + 1;
         self.full.reserve(wanted)?;
         add_spare(self.alloc, &mut self.spare, wanted)?;
-        if self.room < len + more {
-            self.room = len + more;
-        }
+        self.room = len + PIECE_RECORDS * wanted;
         Ok(())
     }
 
