@@ -6,4 +6,3 @@ pub mod PagerValues
 pub mod Sigma0Values
 pub mod Starting
 pub mod Values
-pub mod Wording

@@ -10,7 +10,7 @@ use Rattle.l4_unmap.specs.declared.UnmapFault.TheVariants.{BadFpage, TooFew}
 use Rattle.l4_msg.specs.declared.messages.MsgFault.TheVariants.{TooManyWords, OddTyped, BadItem, Unsupported, Flags, BadWindow, Short}
 use Rattle.l4_threads.specs.declared.ThreadFault.TheVariants.{NoPrivilege, BadId, Taken, Unknown, Full, Kept}
 use Rattle.l4_answers.specs.Refusals.{kernel_refusal}
-use Rattle.l4_c.specs.Told.{spelled}
+use Rattle.l4_refusals.specs.Texts.{spelled}
 use Rattle.l4_c.specs.Exports.{Starts, Follows, Goes}
 use Rattle.l4_c.specs.declared.calls.CallGiven.{CallGiven}
 use Rattle.l4_c.specs.declared.results.NextResult.{NextResult}

@@ -10,7 +10,8 @@ use Rattle.l4_mapdb.specs.Places.{NonePresentFrom, IsNextPresent}
 use Rattle.l4_mapdb.specs.declared.Mapping.{Mapping}
 use Rattle.l4_mapdb.specs.declared.Place.{Place}
 use Rattle.l4_ipc.specs.Machine.{Machine}
-use Rattle.l4_c.specs.Told.{spelled, filled}
+use Rattle.l4_refusals.specs.Texts.{spelled}
+use Rattle.l4_c.specs.Told.{filled}
 use Rattle.l4_c.specs.declared.results.ReplyResult.{ReplyResult}
 use Rattle.l4_c.specs.declared.results.SpaceResult.{SpaceResult}
 use Rattle.l4_c.specs.declared.results.MappingResult.{MappingResult}

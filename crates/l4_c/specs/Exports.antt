@@ -10,7 +10,8 @@ use Rattle.l4_ipc.specs.declared.steps.Answer.{Answer}
 use Rattle.l4_ipc.specs.declared.steps.Step.{Step}
 use Rattle.l4_ipc.specs.Following.{Done, AreNext}
 use Rattle.l4_c.specs.Called.{IsCall, IsNoKind}
-use Rattle.l4_c.specs.Told.{spelled, refusal_result, answer_result, step_result, no_step_result, next_result, done_result}
+use Rattle.l4_refusals.specs.Texts.{spelled}
+use Rattle.l4_c.specs.Told.{refusal_result, answer_result, step_result, no_step_result, next_result, done_result}
 use Rattle.l4_c.specs.declared.calls.CallGiven.{CallGiven}
 use Rattle.l4_c.specs.declared.results.EnterResult.{EnterResult}
 use Rattle.l4_c.specs.declared.results.NextResult.{NextResult}

@@ -4,5 +4,5 @@ pub mod Exports
 pub mod Inside
 pub mod Planned
 pub mod Served
-pub mod Texts
 pub mod Told
+pub mod Written

@@ -13,7 +13,8 @@ use Rattle.l4_plan_check.specs.Faults.{Holds, IsFirstFault, LongHolds, IsFirstLo
 use Rattle.l4_plan_check.specs.declared.faults.Fault.{Fault as AFault}
 use Rattle.l4_plan_check.specs.declared.faults.Fault.TheVariants.{Region as InRegion, Item as InItem, Gap, Count, Page, Pair}
 use Rattle.l4_answers.specs.Refusals.{message_refusal}
-use Rattle.l4_c.specs.Told.{spelled, carried, filled}
+use Rattle.l4_refusals.specs.Texts.{spelled}
+use Rattle.l4_c.specs.Told.{carried, filled}
 use Rattle.l4_c.specs.declared.regions.RegionGiven.{RegionGiven}
 use Rattle.l4_c.specs.declared.planning.PlanResult.{PlanResult}
 use Rattle.l4_c.specs.declared.planning.Verdict.{Verdict}

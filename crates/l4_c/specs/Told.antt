@@ -1,5 +1,5 @@
 -- Results as they are told to C (this profile's own).
-use Rattle.std.specs.Prelude.{ℕ, ◌+◌, ◌-◌, ◌*◌, List, [], ◌++◌, length, replicate, slice_index_or, Option, None, Some, Result, Ok, Err}
+use Rattle.std.specs.Prelude.{ℕ, ◌-◌, List, [], ◌++◌, length, replicate, Option, None, Some, Result, Ok, Err}
 use Rattle.l4_ipc.specs.declared.steps.Refused.{Refused}
 use Rattle.l4_ipc.specs.declared.steps.Answer.{Answer}
 use Rattle.l4_ipc.specs.declared.steps.Step.{Step}
@@ -7,12 +7,9 @@ use Rattle.l4_ipc.specs.declared.steps.Step.TheVariants.{Start, Transfer, Expire
 use Rattle.l4_ipc.specs.declared.steps.Outcome.{Outcome}
 use Rattle.l4_ipc.specs.declared.steps.Outcome.TheVariants.{Started, Done, NoWindow, Entangled, NoMemory, Expired}
 use Rattle.l4_answers.specs.Refusals.{kernel_refusal}
+use Rattle.l4_refusals.specs.Texts.{spelled}
 use Rattle.l4_c.specs.declared.results.StepResult.{StepResult}
 use Rattle.l4_c.specs.declared.results.NextResult.{NextResult}
-
--- a refusal's number is the first two bytes of its printed code
-abbrev pub spelled : List ℕ → ℕ
-spelled code = slice_index_or code 0 0 * 256 + slice_index_or code 1 0
 
 -- the number that a refusal carries, or 0
 abbrev pub carried : Option ℕ → ℕ

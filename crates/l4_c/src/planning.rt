@@ -1,6 +1,6 @@
 //! Plans of regions, and checks of plans.
 ghost use Rattle.std.specs.Prelude.{◌≡◌, ◌≤◌, [], length, codes};
-ghost use Rattle.l4_c.specs.Told.{spelled};
+ghost use Rattle.l4_refusals.specs.Texts.{spelled};
 ghost use Rattle.l4_c.specs.Planned.{region_of, told_place, plan_result, PlanIsTold, TellsPlan, verdict_of, fault_verdict, TellsCheck, TellsLongCheck};
 
 use crate::numbers::{message_detail, message_number};
