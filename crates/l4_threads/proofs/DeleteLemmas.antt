@@ -129,11 +129,6 @@ ends_not es i v e ended lt at so_far stays =
     so_far ∙ at_drop_more (λ l. ended_in l v ended) es i e lt ∙ ap (λ x. ended_in (x ∷ drop (i + 1) es) v ended) (sym at)
     ∙ ap (λ b. ended_in (drop (i + 1) es) v (if b then rising_with ended e.0 else ended)) stays
 
-pub sends_at : (es : Entries) (n at : ℕ) (d : ℕ × Thread) → IsAt es n at → is_sending (get_or es at d).1.state ≡ sends_in es n
-sends_at es n at d first =
-    ap (λ (e : ℕ × Thread). is_sending e.1.state) (get_or_from_slice_get es at (n, first.thread) d first.there)
-    ∙ ap (λ o. option_map_or is_sending (option_map (λ thread. thread.state) o) false) (sym (found_first es n at first.thread first.there first.first))
-
 -- THE ONES THAT ARE FREED
 
 freed_when : (v : ℕ) (t : Thread) → frees v t.state ≡ true → without_partner v t.state ≡ Running (Some (freed_reply t.state))

@@ -6,7 +6,7 @@ use Rattle.std.proofs.lemmas.Option.{slice_get_within}
 use Rattle.std.specs.List.{remove, refill, slice_set, slice_index_or}
 use Rattle.l4_threads.specs.declared.Thread.{Thread}
 use Rattle.l4_threads.specs.Inside.Entries.{Entries, found, changed_in, IsAt}
-use Rattle.l4_threads.specs.Inside.Numbers.{IsFirst, IsNowhere, AreNumbers}
+use Rattle.l4_threads.specs.Inside.Numbers.{hint_count, IsFirst, IsNowhere, AreNumbers}
 use Rattle.l4_threads.specs.Queue.{is_in, IsOnce}
 use Rattle.l4_threads.proofs.TableLemmas.{same_or, differ, found_none, numbers-changed_in, written_change}
 use Rattle.l4_threads.proofs.QueueLemmas.{or_left, or_right, once-push, left_by, left_by_none}
@@ -116,14 +116,10 @@ written_numbers es seen xs numbers hints n at f d are same is first = record {
 }
 
 -- with one more number
-pub pushed_numbers : (es : Entries) (numbers hints : List ℕ) (n : ℕ) (t : Thread) (more : List ℕ) → AreNumbers numbers hints es → found es n ≡ None → length more ≡ 256
+pub pushed_numbers : (es : Entries) (numbers hints : List ℕ) (n : ℕ) (t : Thread) (more : List ℕ) → AreNumbers numbers hints es → found es n ≡ None → length more ≡ hint_count
     → AreNumbers (numbers ++ n ∷ []) more (es ++ (n, t) ∷ [])
 pushed_numbers es numbers hints n t more are free counted = record {
   listed = ap (λ (l : List ℕ). l ++ n ∷ []) are.listed ∙ sym (numbers-push es (n, t));
   once = once-push numbers n are.once (ap (λ (l : List ℕ). is_in l n) are.listed ∙ absent_found es n free);
   counted = counted;
 }
-
--- as many numbers are there as threads
-pub as_many : (es : Entries) (numbers : List ℕ) → numbers ≡ map (λ e. e.0) es → length numbers ≡ length es
-as_many es numbers same = ap length same ∙ simp length-map

@@ -3,7 +3,8 @@ ghost use Rattle.std.specs.Prelude.{◌≡◌, ◌≢◌, ◌==◌, ◌++◌, �
 ghost use Rattle.std.specs.Option.{option_copied};
 ghost use Rattle.l4_threads.specs.Inside.Entries.{sends_in};
 ghost use Rattle.l4_threads.specs.Queue.{is_in, IsOnce};
-ghost use Rattle.l4_threads.specs.Inside.Numbers.{IsFirst, IsNowhere};
+ghost use Rattle.l4_threads.specs.Inside.Numbers.{IsFirst, IsNowhere, hint_count};
+ghost use Rattle.l4_threads.specs.Sizes.{max_threads};
 
 use crate::entries::free_all;
 use crate::{Envelope, MAX_THREADS, Receiving, Reply, SendPhase, State, Thread, ThreadId};
@@ -51,9 +52,9 @@ fn place_of(numbers: &[u32], number: u32) -> Option<usize>
 
 /// Hints at where each number stands.
 fn hint_all(hints: &mut [u8], numbers: &[u32])
-    requires counted { length hints.old ≡ 256 }
-    requires few { length numbers.now ≤ 64 }
-    ensures { length hints.new ≡ 256 }
+    requires counted { length hints.old ≡ hint_count }
+    requires few { length numbers.now ≤ max_threads }
+    ensures { length hints.new ≡ hint_count }
 {
     for place in 0..numbers.len() {
         hints[numbers[place] as usize % HINTS] = place as u8;
@@ -65,7 +66,6 @@ impl Roster {
     ghost use Rattle.l4_threads.specs.declared.State.TheVariants.{Running, Sending as Sends, Receiving as Receives};
     ghost use Rattle.l4_threads.specs.declared.Reply.TheVariants.{Ipc};
     ghost use Rattle.l4_msg.specs.Sizes.{max_words, max_items};
-    ghost use Rattle.l4_threads.specs.Sizes.{max_threads};
     ghost use Rattle.l4_threads.specs.Threads.{sending_of, message_of};
 
     /// No thread.

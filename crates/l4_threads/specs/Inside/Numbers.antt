@@ -12,8 +12,12 @@ pub record IsFirst (numbers : List ℕ) (n at : ℕ) : Type 0 where
 abbrev pub IsNowhere : List ℕ → ℕ → Type 0
 IsNowhere numbers n = (i m : ℕ) → slice_get numbers i ≡ Some m → m ≢ n
 
+-- how many hints there are
+abbrev pub hint_count : ℕ
+hint_count = 256
+
 -- the numbers of the table, of which each stands once, and the hints
 pub record AreNumbers (numbers hints : List ℕ) (es : Entries) : Type 0 where
   pub listed : numbers ≡ map (λ e. e.0) es
   pub once : IsOnce numbers
-  pub counted : length hints ≡ 256
+  pub counted : length hints ≡ hint_count
