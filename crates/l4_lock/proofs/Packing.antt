@@ -1,12 +1,11 @@
 -- Entries and receipts are read as they were written, and each where it stands.
-use Rattle.std.proofs.Common.{◌≡◌, ℕ, zero, suc, ◌+◌, ◌-◌, ◌*◌, ◌/◌, ◌%◌, ◌^◌, ◌<◌, List, [], ◌∷◌, ◌++◌, length, drop, get_or, Option, Some, None, refl, sym, ap, subst, ◌∙◌, arith}
+use Rattle.std.proofs.Common.{◌≡◌, ℕ, zero, suc, ◌+◌, ◌*◌, ◌/◌, ◌%◌, ◌^◌, ◌<◌, List, [], ◌∷◌, ◌++◌, length, drop, Option, Some, None, refl, sym, ap, subst, ◌∙◌, arith}
 use Rattle.std.specs.Prelude.{slice_get, is_some, IsTrue}
 use Rattle.std.specs.Option.{option_to_list, option_and_then, option_map}
 use Rattle.std.proofs.lemmas.Bool.{false≢true}
 use Rattle.std.specs.Iterator.{YieldsFirst}
 use Rattle.std.proofs.lemmas.Option.{slice_get-get_or, slice_get_within, get_or_from_slice_get}
-use Rattle.std.proofs.Math.Seq.{get_or-append_seam}
-use Rattle.std.proofs.lemmas.List.{append-nil, drop_more, length_push}
+use Rattle.std.proofs.lemmas.List.{append-nil, drop_more}
 use Rattle.std.proofs.lemmas.List.Elements.{All-push}
 use Rattle.std.proofs.lemmas.List.Concat.{flat_map-append}
 use Rattle.l4_packed.specs.Codes.{step_code, answer_code, call_code, place_code, reply_code, StepFits, AnswerFits, CallFits, ReplyFits}
@@ -107,16 +106,6 @@ module _ {X : Type 0} where
 
   pub are_read_longer : (read : List ℕ → Option X) (records : List (List ℕ)) (words : List ℕ) → IsTrue (is_some (read words)) → AreRead read records → AreRead read (records ++ words ∷ [])
   are_read_longer read records words some each = All-push (λ ws. IsTrue (is_some (read ws))) records words each some
-
-  -- the last record is the last value
-  pub last_read : (read : List ℕ → Option X) (records : List (List ℕ)) (words : List ℕ) (place : ℕ) (front : List X) (x : X)
-      → AreRead read records → slice_get records place ≡ Some words → place ≡ length (read_all read records) - 1 → read_all read records ≡ front ++ x ∷ [] → read words ≡ Some x
-  last_read read records words place front x each here last is =
-      let at : place ≡ length front = omega (arith, last, ap length is, length_push front x) in
-      let seam : get_or (front ++ x ∷ []) (length front) x ≡ x = get_or-append_seam front x [] x in
-      let lt : length front < length (front ++ x ∷ []) = omega (arith, length_push front x) in
-      sym (ap (option_and_then read) here) ∙ sym (get_read read records place each) ∙ ap (λ (xs : List X). slice_get xs place) is
-      ∙ ap (slice_get (front ++ x ∷ [])) at ∙ slice_get-get_or (front ++ x ∷ []) (length front) x lt ∙ ap (λ (y : X). Some y) seam
 
   -- the next of what is left
   pub yields : (xs : List X) (place : ℕ) (next : Option X) → place < length xs → next ≡ slice_get xs place → YieldsFirst (λ (s : List X). s) (drop place xs) next (drop (place + 1) xs)
