@@ -121,6 +121,7 @@ fn delete(given: &CallGiven, words: &[u32]) -> Call
 }
 
 /// Writes the call that is given over a blank one: a call has room for a whole message, which a move would copy. False where its kind is no kind.
+#[inline(always)]
 pub fn write_call(call: &mut Call, given: &CallGiven, words: &[u32]) -> bool
     requires { IsBlank call.old }
     ensures is { result ≡ true → IsCall given.now words.now call.new }

@@ -3,7 +3,7 @@
 
 ghost use Rattle.std.specs.Prelude.{◌≡◌, ◌++◌, ℕ, List, MatchOption, map};
 ghost use Rattle.l4_refusals.specs.Texts.{spelled, texts, text_in, kernel_texts, message_texts, control_texts, plan_texts, check_texts, table_texts};
-ghost use Rattle.l4_refusals.specs.Inside.Bytes.{bytes_of};
+ghost use Rattle.l4_refusals.specs.Bytes.{bytes_of};
 
 /// A printed code, and what it means.
 #[derive(Clone, Copy)]

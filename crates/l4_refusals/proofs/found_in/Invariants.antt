@@ -1,6 +1,6 @@
 use Rattle.std.proofs.Common.{◌≡◌, ◌++◌, ℕ, List, map, drop}
 use Rattle.l4_refusals.specs.Texts.{text_in}
-use Rattle.l4_refusals.specs.Inside.Bytes.{bytes_of}
+use Rattle.l4_refusals.specs.Bytes.{bytes_of}
 use Rattle.l4_refusals.proofs.found_in.Given as goal
 
 abbrev pub invariant-loop-text : goal.invariant-loop-text
