@@ -1,4 +1,3 @@
-pub mod Boards
 pub mod Replies
 pub mod Laws
 pub mod Examples

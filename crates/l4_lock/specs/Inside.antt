@@ -1,4 +1,3 @@
-pub mod Board
 pub mod Closing
 pub mod Entering
 pub mod Noting

@@ -1,5 +1,4 @@
 pub mod Sizes
-pub mod Board
 pub mod History
 pub mod Laws
 pub mod Receipts

@@ -1,7 +1,6 @@
 //! The locked kernel: a kernel with its history, the seats that enter calls, and the board that shows how far it has come.
 #![tactic(auto)]
 
-mod board;
 mod closing;
 mod copies;
 mod entries;
@@ -15,10 +14,10 @@ mod seats;
 mod shared;
 mod steps;
 
-pub use board::{Board, Watch};
 pub use closing::{Mismatch, Unclosed};
 pub use entries::{Entry, EntryOutline, Receipt};
 pub use history::{Entries, History};
+pub use l4_board::{Board, Watch};
 pub use l4_packed::StepOutline;
 pub use locked::{Locked, MAX_ENTRIES, MAX_STEPS};
 pub use receipts::{Receipts, ReceiptsFrom};

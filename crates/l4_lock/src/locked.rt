@@ -9,15 +9,15 @@ ghost use Rattle.l4_lock.specs.declared.refusals.LockRefusal.TheVariants.{SeatTa
 ghost use Rattle.l4_threads.specs.declared.Reply.{Reply as AReply};
 ghost use Rattle.l4_lock.specs.declared.refusals.Entered.{Entered as AnEntered};
 ghost use Rattle.l4_lock.specs.Inside.Entering.{IsAdmitted};
-ghost use Rattle.l4_lock.specs.Board.{IsNewWatch};
+ghost use Rattle.l4_board.specs.Board.{IsNewWatch};
 ghost use Rattle.std.specs.List.{All};
 
-use crate::board::{Board, Publisher, Watch};
 use crate::closing::{Unclosed, first_mismatch};
 use crate::history::History;
 use crate::refusals::{Entered, LockRefusal};
 use crate::seats::{Account, Seat, finish, settle};
 use crate::steps::{begin, first_reply, position, reply_waits};
+use l4_board::{Board, Publisher, Watch};
 use l4_ipc::{Call, Kernel, Refused, Reply};
 use std::alloc::Global;
 use std::marker::Model;

@@ -1,17 +1,17 @@
 //! The locked kernel under a lock that threads share.
 ghost use Rattle.std.specs.Prelude.{◌≡◌, ◌⊎◌, ◌+◌, ◌≤◌, ℕ, List, [], ◌∷◌, ◌++◌, drop, length, vec_len, map, IfOk, IfErr, OnErr, MatchResult};
-ghost use Rattle.l4_lock.specs.Board.{IsNewWatch};
+ghost use Rattle.l4_board.specs.Board.{IsNewWatch};
 ghost use Rattle.std.specs.List.{All};
 ghost use Rattle.l4_lock.specs.Books.{seat_state};
 ghost use Rattle.l4_lock.specs.Locked.{IsKept, RefusesBoot};
 ghost use Rattle.l4_lock.specs.declared.refusals.LockRefusal.TheVariants.{SeatTaken, NoMemory as WantOfMemory};
 ghost use Rattle.l4_lock.specs.Shared.{IsAnswered, Declines, gate_state, pairs_of};
 
-use crate::board::{Board, Watch};
 use crate::copies::copy_call;
 use crate::locked::Locked;
 use crate::refusals::{Entered, LockRefusal};
 use crate::seats::Seat;
+use l4_board::{Board, Watch};
 use l4_ipc::{Call, Reply};
 use l4_pager::{Gate, GateFault};
 use std::alloc::Global;

@@ -3,7 +3,7 @@ use Rattle.l4_lock.specs.declared.entries.Entry.{Entry}
 use Rattle.l4_lock.specs.Books.{Book, book_at, reply_waits}
 use Rattle.l4_lock.specs.Locked.{Lock, lock, Refuses}
 use Rattle.l4_lock.specs.Inside.Entering.{IsReady, Begins, IsAdmitted}
-use Rattle.l4_lock.specs.Inside.Board.{Publishing}
+use Rattle.l4_board.specs.Board.{Publishing}
 use Rattle.l4_lock.proofs.Openings.{ok_part}
 use Rattle.l4_lock.proofs.Started.{ready, get_there}
 use Rattle.l4_lock.proofs.Taking.{begun_kept, seat_back, refuses, some_there}

@@ -1,8 +1,7 @@
 //! The board: one word that shows the length of the history to whoever watches it.
 ghost use Rattle.std.specs.Prelude.{◌≡◌, ◌+◌, ◌≤◌, ℕ, false, true, [], IfOk, vec_len};
 ghost use Rattle.std.specs.List.{All};
-ghost use Rattle.l4_lock.specs.Board.{IsNewWatch, watching};
-ghost use Rattle.l4_lock.specs.Inside.Board.{publishing};
+ghost use Rattle.l4_board.specs.Board.{IsNewWatch, publishing, watching};
 
 use atomic_table::{Play, Seat, Table, TableRule};
 use std::alloc::{AllocError, Global};
@@ -21,7 +20,7 @@ pub struct View {
 pub struct BoardRule;
 
 impl TableRule<(), View, ()> for BoardRule {
-    ghost use Rattle.l4_lock.specs.Inside.Board.{IsBoard, view};
+    ghost use Rattle.l4_board.specs.Inside.Board.{IsBoard, view};
     ghost use Rattle.std.specs.Prelude.{true};
 
     ghost holds = { λ _ s. IsBoard s };
@@ -33,7 +32,7 @@ impl TableRule<(), View, ()> for BoardRule {
 struct Begin;
 
 impl Play<(), View> for Begin {
-    ghost use Rattle.l4_lock.specs.Inside.Board.{Begins};
+    ghost use Rattle.l4_board.specs.Inside.Board.{Begins};
 
     ghost then = { Begins };
 }
@@ -42,7 +41,7 @@ impl Play<(), View> for Begin {
 struct Publish;
 
 impl Play<(), View> for Publish {
-    ghost use Rattle.l4_lock.specs.Inside.Board.{Publishes};
+    ghost use Rattle.l4_board.specs.Inside.Board.{Publishes};
 
     ghost then = { Publishes };
 }
@@ -51,7 +50,7 @@ impl Play<(), View> for Publish {
 struct Look;
 
 impl Play<(), View> for Look {
-    ghost use Rattle.l4_lock.specs.Inside.Board.{Looks};
+    ghost use Rattle.l4_board.specs.Inside.Board.{Looks};
 
     ghost then = { Looks };
 }
@@ -84,7 +83,7 @@ pub struct Watch {
 
 impl Model for Watch {
     ghost use Rattle.std.specs.Prelude.{◌≡◌, false};
-    ghost use Rattle.l4_lock.specs.Board.{Watching, watching, watching_code};
+    ghost use Rattle.l4_board.specs.Board.{Watching, watching, watching_code};
 
     ghost Value = { Watching };
 
@@ -97,14 +96,14 @@ impl Model for Watch {
 
 /// The one place at a board from which to publish. Contracts see its board and the number that it showed last.
 #[derive(Drop)]
-pub(crate) struct Publisher {
+pub struct Publisher {
     board: Board,
     seat: Seat<(), View>,
 }
 
 impl Model for Publisher {
     ghost use Rattle.std.specs.Prelude.{◌≡◌, true, []};
-    ghost use Rattle.l4_lock.specs.Inside.Board.{Publishing, publishing, publishing_code};
+    ghost use Rattle.l4_board.specs.Board.{Publishing, publishing, publishing_code};
 
     ghost Value = { Publishing };
 
@@ -145,7 +144,7 @@ impl Board {
     }
 
     /// As many new watches.
-    pub(crate) fn watches(&self, alloc: Global, count: usize) -> Result<Vec<Watch>, AllocError>
+    pub fn watches(&self, alloc: Global, count: usize) -> Result<Vec<Watch>, AllocError>
         ensures { IfOk result (λ v. (vec_len v ≡ count) × All (IsNewWatch self.now) v.items) }
     {
         let mut watches = Vec::with_capacity(alloc, count)?;

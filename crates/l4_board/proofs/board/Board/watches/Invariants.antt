@@ -1,7 +1,7 @@
 use Rattle.std.proofs.Common.{◌≡◌, vec_len, vec_capacity}
 use Rattle.std.specs.List.{All}
-use Rattle.l4_lock.specs.Board.{IsNewWatch}
-use Rattle.l4_lock.proofs.board.Board.watches.Given as goal
+use Rattle.l4_board.specs.Board.{IsNewWatch}
+use Rattle.l4_board.proofs.board.Board.watches.Given as goal
 
 -- as many watches as rounds, each of the board and new
 abbrev pub invariant-loop-i : goal.invariant-loop-i

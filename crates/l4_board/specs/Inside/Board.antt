@@ -1,9 +1,7 @@
 -- What the board's one word is kept to. (this profile's own)
-use Rattle.std.specs.Prelude.{◌≡◌, ℕ, ◌+◌, ◌≤◌, Bool, true, false, [], ◌∷◌, refl}
-use Rattle.std.specs.Coded.{Coded, code_by, coded×, coded_ℕ}
-use Rattle.atomic_table.specs.Seated.{TableId, table_id_coded}
+use Rattle.std.specs.Prelude.{◌≡◌, ℕ, ◌+◌, ◌≤◌, Bool, true, false, [], ◌∷◌}
 use Rattle.atomic_table.specs.Table.{State, Step, Me}
-use Rattle.l4_lock.specs.declared.board.View.{View}
+use Rattle.l4_board.specs.declared.board.View.{View}
 use mathlib.Core.Option.{some}
 use lib.ListN.{get_elem?}
 
@@ -29,14 +27,3 @@ Publishes s me stored after = (after.0 ≡ view true me.0.looks stored) × (afte
 -- to look is to load the word: it is not below what was seen, it is what is seen from then on, and the looks rise by one
 abbrev pub Looks : {S : Type 0} → Step S → Me S View → ℕ → Me S View → Type 0
 Looks s me found after = (me.0.seen ≤ found) × (after.0 ≡ view false (me.0.looks + 1) found)
-
--- what a contract sees of the publisher: its board, and the number that it showed last
-pub record Publishing : Type 0 where
-  pub board : TableId
-  pub shown : ℕ
-
-abbrev pub publishing : TableId → ℕ → Publishing
-publishing board shown = record { board = board; shown = shown }
-
-abbrev pub publishing_code : Coded Publishing
-publishing_code = code_by (TableId × ℕ) (coded× table_id_coded coded_ℕ) (λ p. (p.board, p.shown)) (λ p. publishing p.0 p.1) (λ _. refl)

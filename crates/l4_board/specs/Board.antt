@@ -18,3 +18,14 @@ watching_code = code_by (TableId × (ℕ × ℕ)) (coded× table_id_coded (coded
 -- a watch of this board that has looked at nothing
 abbrev pub IsNewWatch : TableId → Watching → Type 0
 IsNewWatch board w = w ≡ watching board 0 0
+
+-- what a contract sees of the publisher: its board, and the number that it showed last
+pub record Publishing : Type 0 where
+  pub board : TableId
+  pub shown : ℕ
+
+abbrev pub publishing : TableId → ℕ → Publishing
+publishing board shown = record { board = board; shown = shown }
+
+abbrev pub publishing_code : Coded Publishing
+publishing_code = code_by (TableId × ℕ) (coded× table_id_coded coded_ℕ) (λ p. (p.board, p.shown)) (λ p. publishing p.0 p.1) (λ _. refl)

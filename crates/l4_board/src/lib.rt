@@ -1,0 +1,6 @@
+//! The board: one word that shows a number that never falls, from the one who publishes it to all who watch.
+#![tactic(auto)]
+
+mod board;
+
+pub use board::{Board, Publisher, Watch};
