@@ -9,7 +9,8 @@ use crate::entries::{Entry, EntryOutline, Receipt};
 use l4_ipc::{Answer, Call, Reply, Step};
 use l4_packed::{
     ANSWER_WORDS, Record, Words, put_answer, put_call, put_place, put_reply, put_start, put_step,
-    read_answer, read_answer_into, read_call, read_outline, read_place, read_reply, read_step, read_word,
+    read_answer, read_answer_into, read_call, read_outline, read_place, read_reply, read_step,
+    read_word,
 };
 
 /// Writes what an entry begins with in the place of what the record holds.

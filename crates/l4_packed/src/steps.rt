@@ -9,7 +9,9 @@ ghost use Rattle.l4_packed.specs.Reading.{step_at, outcome_at, answer_at};
 ghost use Rattle.l4_packed.specs.Words.{Gives};
 
 use crate::calls::{CALL_WORDS, put_call, read_call};
-use crate::words::{RECORD_WORDS, Record, Words, put_counted, read_counted, read_counted_into, read_word};
+use crate::words::{
+    RECORD_WORDS, Record, Words, put_counted, read_counted, read_counted_into, read_word,
+};
 use l4_ipc::{Answer, Call, MAX_THREADS, Outcome, Step};
 
 /// A step without the call of a start.
