@@ -8,7 +8,7 @@ use Rattle.l4_links.specs.declared.nodes.Slot.{Slot}
 use Rattle.l4_links.specs.Leads.{Leads}
 use Rattle.l4_links.specs.Inside.Trees.{Limb, parent_at}
 use Rattle.l4_links.specs.Inside.Orders.{Link, position}
-use Rattle.l4_links.specs.Inside.Nodes.{Slots, slot_at, node_at, limbs, links, values, sources, marks, Worth, IsLow, Ends, place_of, SetsSource, SetsPlain, TakesOver}
+use Rattle.l4_links.specs.Inside.Nodes.{Slots, slot_at, node_at, limbs, links, values, sources, marks, Worth, IsLow, IsMarked, Ends, place_of, SetsSource, SetsPlain, TakesOver}
 use Rattle.l4_links.specs.Inside.Keeping.{IsWithin, IsFresh, IsSound}
 use Rattle.l4_links.proofs.Writes.{map_at, marks_of, stamped_same}
 use Rattle.l4_links.proofs.Neighbours.{worth_of}
@@ -85,6 +85,16 @@ module _ (old new : Slots) (quiet : IsQuiet old new) where
   limbs_path : limbs old ≡ limbs new
   limbs_path = λ i k. sym (quiet_limbs k) i
 
+  -- a run ends where it did
+  quiet_ends : (keys : List ℕ) (k : ℕ) (n : Node) (was : WasQuiet old k n) → Ends (limbs old) keys k was.node.depth was.node.end → Ends (limbs new) keys k n.depth n.end
+  quiet_ends keys k n was ends =
+      subst (λ (g : ℕ → Option Limb). Ends g keys k n.depth n.end) limbs_path
+      (subst (λ (z : ℕ). Ends (limbs old) keys k z n.end) (sym (ap (λ (z : Node). z.depth) was.same))
+      (subst (λ (z : Option ℕ). Ends (limbs old) keys k was.node.depth z) (sym (ap (λ (z : Node). z.end) was.same)) ends))
+
+  quiet_mark : (k : ℕ) (n : Node) (was : WasQuiet old k n) (stamp : ℕ) → IsMarked stamp n.mark → IsMarked stamp was.node.mark
+  quiet_mark k n was stamp mark = record { same = sym (ap (λ (z : Node). z.mark) was.same) ∙ mark.same; some = mark.some }
+
   -- the marks stay right where no source has come
   pub sound_quiet : (first : Option ℕ) (stamp walk : ℕ) → ((k : ℕ) → sources new k ≡ Some true → sources old k ≡ Some true) → IsSound old first stamp walk → IsSound new first stamp walk
   sound_quiet first stamp walk less s = record {
@@ -98,14 +108,10 @@ module _ (old new : Slots) (quiet : IsQuiet old new) where
       forest = forest_links old new m.keys quiet_limbs quiet_links m.forest;
       marked = λ k n at mark.
           let v = quiet_was k n at in
-          let d = m.marked k v.node v.at (record { same = sym (ap (λ (z : Node). z.mark) v.same) ∙ mark.same; some = mark.some }) in
-          let e : Ends (limbs new) m.keys k n.depth n.end =
-          subst (λ (g : ℕ → Option Limb). Ends g m.keys k n.depth n.end) limbs_path
-          (subst (λ (z : ℕ). Ends (limbs old) m.keys k z n.end) (sym (ap (λ (z : Node). z.depth) v.same))
-          (subst (λ (z : Option ℕ). Ends (limbs old) m.keys k v.node.depth z) (sym (ap (λ (z : Node). z.end) v.same)) d.ends)) in
+          let d = m.marked k v.node v.at (quiet_mark k n v stamp mark) in
           let end_is : n.end ≡ v.node.end = ap (λ (z : Node). z.end) v.same in
           record {
-            ends = e;
+            ends = quiet_ends m.keys k n v d.ends;
             low = λ j o at_j lo hi.
                 let u = quiet_was j o at_j in
                 subst (λ (z : RightsSet). IsLow (set_of_bits walk) z) (sym (ap (λ (z : Node). z.rights) u.same)) (d.low j u.node u.at lo (before m.keys j n.end v.node.end end_is hi));
@@ -116,13 +122,9 @@ module _ (old new : Slots) (quiet : IsQuiet old new) where
       forest = forest_links old new m.keys quiet_limbs quiet_links m.forest;
       marked = λ k n at mark.
           let v = quiet_was k n at in
-          let d = m.marked k v.node v.at (record { same = sym (ap (λ (z : Node). z.mark) v.same) ∙ mark.same; some = mark.some }) in
-          let ends : Ends (limbs new) m.keys k n.depth n.end =
-          subst (λ (g : ℕ → Option Limb). Ends g m.keys k n.depth n.end) limbs_path
-          (subst (λ (z : ℕ). Ends (limbs old) m.keys k z n.end) (sym (ap (λ (z : Node). z.depth) v.same))
-          (subst (λ (z : Option ℕ). Ends (limbs old) m.keys k v.node.depth z) (sym (ap (λ (z : Node). z.end) v.same)) d.ends)) in
+          let d = m.marked k v.node v.at (quiet_mark k n v stamp mark) in
           let end_is : n.end ≡ v.node.end = ap (λ (z : Node). z.end) v.same in
-          record { ends = ends; free = λ j lo hi z. d.free j lo (before m.keys j n.end v.node.end end_is hi) (less j z) };
+          record { ends = quiet_ends m.keys k n v d.ends; free = λ j lo hi z. d.free j lo (before m.keys j n.end v.node.end end_is hi) (less j z) };
       seen = λ k n at mark j l z.
           let v = quiet_was k n at in
           m.seen k v.node v.at (record { same = sym (ap (λ (q : Node). q.seen) v.same) ∙ mark.same; some = mark.some }) j (subst (λ (g : ℕ → Option Limb). Leads (parent_at g) j k) (sym limbs_path) l) (less j z);
