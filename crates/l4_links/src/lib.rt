@@ -284,22 +284,21 @@ impl Links {
         ensures caps { CapsBelow top cap self.old.entries self.new.entries }
         ensures spaces { self.new.spaces ≡ self.old.spaces }
     {
-        let Some(node) = node_of(&self.nodes, top) else {
-            return;
-        };
-        if cap.contains(node.rights) {
-            return;
-        }
-        let walk = cap.bits();
-        let stamp = stamp_for(self.stamp, self.walk, walk);
-        self.stamp = stamp;
-        self.walk = walk;
-        self.doomed = walks::cap_below(&mut self.nodes, top, cap, stamp, self.doomed);
+        self.cap_run(top, cap, false);
     }
 
     /// Lets what stands under the key, and all that descends from it, have no other rights than these.
     pub fn cap_tree(&mut self, top: usize, cap: Rights)
         ensures caps { CapsTree top cap self.old.entries self.new.entries }
+        ensures spaces { self.new.spaces ≡ self.old.spaces }
+    {
+        self.cap_run(top, cap, true);
+    }
+
+    /// Lets what stands under the key, where that is meant, and all that descends from it have no other rights than these.
+    fn cap_run(&mut self, top: usize, cap: Rights, with_top: bool)
+        ensures below { with_top ≡ false → CapsBelow top cap self.old.entries self.new.entries }
+        ensures tree { with_top ≡ true → CapsTree top cap self.old.entries self.new.entries }
         ensures spaces { self.new.spaces ≡ self.old.spaces }
     {
         let Some(node) = node_of(&self.nodes, top) else {
@@ -313,6 +312,10 @@ impl Links {
         self.stamp = stamp;
         self.walk = walk;
         let doomed = walks::cap_below(&mut self.nodes, top, cap, stamp, self.doomed);
+        if !with_top {
+            self.doomed = doomed;
+            return;
+        }
         self.doomed = cap_at(&mut self.nodes, top, cap, doomed);
     }
 
