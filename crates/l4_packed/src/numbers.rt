@@ -50,6 +50,32 @@ pub(crate) fn number_len(number: u32) -> usize
     }
 }
 
+/// Appends the bytes of a number. What they are appended to is pushed to by a method of its own, so this is no function.
+macro_rules! append_number {
+    ($out:ident.$push:ident, $number:ident) => {
+        if $number < u32::from(TWO) {
+            $out.$push($number as u8);
+        } else if $number < TWO_LIMIT {
+            $out.$push(TWO);
+            $out.$push(($number % 256) as u8);
+            $out.$push(($number / 256) as u8);
+        } else if $number < THREE_LIMIT {
+            $out.$push(THREE);
+            $out.$push(($number % 256) as u8);
+            $out.$push(($number / 256 % 256) as u8);
+            $out.$push(($number / TWO_LIMIT) as u8);
+        } else if $number == u32::MAX {
+            $out.$push(GREATEST);
+        } else {
+            $out.$push(FOUR);
+            $out.$push(($number % 256) as u8);
+            $out.$push(($number / 256 % 256) as u8);
+            $out.$push(($number / TWO_LIMIT % 256) as u8);
+            $out.$push(($number / THREE_LIMIT) as u8);
+        }
+    };
+}
+
 /// Appends a number, for whose bytes there is room.
 #[tactic(auto, unfolding(crate::specs::Inside::Bytes::number_code))]
 pub(crate) fn put_number(out: &mut Vec<u8>, number: u32)
@@ -58,26 +84,7 @@ pub(crate) fn put_number(out: &mut Vec<u8>, number: u32)
     ensures len { vec_len out.new ≡ vec_len out.old + length (number_code number) }
     ensures capacity { vec_capacity out.new ≡ vec_capacity out.old }
 {
-    if number < u32::from(TWO) {
-        out.push_reserved(number as u8);
-    } else if number < TWO_LIMIT {
-        out.push_reserved(TWO);
-        out.push_reserved((number % 256) as u8);
-        out.push_reserved((number / 256) as u8);
-    } else if number < THREE_LIMIT {
-        out.push_reserved(THREE);
-        out.push_reserved((number % 256) as u8);
-        out.push_reserved((number / 256 % 256) as u8);
-        out.push_reserved((number / TWO_LIMIT) as u8);
-    } else if number == u32::MAX {
-        out.push_reserved(GREATEST);
-    } else {
-        out.push_reserved(FOUR);
-        out.push_reserved((number % 256) as u8);
-        out.push_reserved((number / 256 % 256) as u8);
-        out.push_reserved((number / TWO_LIMIT % 256) as u8);
-        out.push_reserved((number / THREE_LIMIT) as u8);
-    }
+    append_number!(out.push_reserved, number);
 }
 
 /// Appends a number to the bytes of words.
@@ -86,26 +93,7 @@ pub(crate) fn add_number(out: &mut Bytes, number: u32)
     requires { length out.old.items + NUMBER_BYTES ≤ WORDS_BYTES }
     ensures { out.new.items ≡ out.old.items ++ number_code number }
 {
-    if number < u32::from(TWO) {
-        out.push(number as u8);
-    } else if number < TWO_LIMIT {
-        out.push(TWO);
-        out.push((number % 256) as u8);
-        out.push((number / 256) as u8);
-    } else if number < THREE_LIMIT {
-        out.push(THREE);
-        out.push((number % 256) as u8);
-        out.push((number / 256 % 256) as u8);
-        out.push((number / TWO_LIMIT) as u8);
-    } else if number == u32::MAX {
-        out.push(GREATEST);
-    } else {
-        out.push(FOUR);
-        out.push((number % 256) as u8);
-        out.push((number / 256 % 256) as u8);
-        out.push((number / TWO_LIMIT % 256) as u8);
-        out.push((number / THREE_LIMIT) as u8);
-    }
+    append_number!(out.push, number);
 }
 
 /// A number of two bytes, and the bytes after it.
