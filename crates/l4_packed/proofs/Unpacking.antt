@@ -49,24 +49,28 @@ numbers_again (suc k) (w ∷ ws) few =
     ap (λ (read : Option (ℕ × List ℕ)). elim read as (λ _. List ℕ) [ None ↦ [] | Some next ↦ next.0 ∷ numbers_in k next.1 ]) (number_again w (numbers_code ws))
     ∙ ap (λ (others : List ℕ). w ∷ others) (numbers_again k ws (omega (arith, few)))
 
-some_of_four : (n : ℕ) (greatest : Bool) → 1 ≤ length (if greatest then 255 ∷ [] else 254 ∷ n % 256 ∷ n / 256 % 256 ∷ n / 2 ^ 16 % 256 ∷ n / 2 ^ 24 ∷ [])
-some_of_four n true = omega arith
-some_of_four n false = omega arith
+-- one to five bytes a number
+abbrev Few : List ℕ → Type 0
+Few bytes = (1 ≤ length bytes) × (length bytes ≤ 5)
 
-some_bytes : (n : ℕ) → 1 ≤ length (number_code n)
+few_of_four : (n : ℕ) (greatest : Bool) → Few (if greatest then 255 ∷ [] else 254 ∷ n % 256 ∷ n / 256 % 256 ∷ n / 2 ^ 16 % 256 ∷ n / 2 ^ 24 ∷ [])
+few_of_four n true = (omega arith, omega arith)
+few_of_four n false = (omega arith, omega arith)
+
+few_bytes : (n : ℕ) → Few (number_code n)
 unfolding number_code
-some_bytes n =
+few_bytes n =
     elim (cases_lt n 252) [
-      | inl one ↦ let b : ltb n 252 ≡ true = lt-ltb _ _ one in rw b (omega arith)
+      | inl one ↦ let b : ltb n 252 ≡ true = lt-ltb _ _ one in rw b (omega arith, omega arith)
       | inr more ↦
           let b : ltb n 252 ≡ false = le-ltb _ _ more in
           elim (cases_lt n (2 ^ 16)) [
-            | inl two ↦ let b2 : ltb n (2 ^ 16) ≡ true = lt-ltb _ _ two in rw (b, b2) (omega arith)
+            | inl two ↦ let b2 : ltb n (2 ^ 16) ≡ true = lt-ltb _ _ two in rw (b, b2) (omega arith, omega arith)
             | inr more2 ↦
                 let b2 : ltb n (2 ^ 16) ≡ false = le-ltb _ _ more2 in
                 elim (cases_lt n (2 ^ 24)) [
-                  | inl three ↦ let b3 : ltb n (2 ^ 24) ≡ true = lt-ltb _ _ three in rw (b, b2, b3) (omega arith)
-                  | inr more3 ↦ let b3 : ltb n (2 ^ 24) ≡ false = le-ltb _ _ more3 in rw (b, b2, b3) (some_of_four n (n == 4294967295))
+                  | inl three ↦ let b3 : ltb n (2 ^ 24) ≡ true = lt-ltb _ _ three in rw (b, b2, b3) (omega arith, omega arith)
+                  | inr more3 ↦ let b3 : ltb n (2 ^ 24) ≡ false = le-ltb _ _ more3 in rw (b, b2, b3) (few_of_four n (n == 4294967295))
                 ]
           ]
     ]
@@ -74,34 +78,11 @@ some_bytes n =
 -- there are at least as many bytes as numbers
 pub enough_bytes : (words : List ℕ) → length words ≤ length (numbers_code words)
 enough_bytes [] = omega arith
-enough_bytes (w ∷ ws) = omega (arith, length-append (number_code w) (numbers_code ws), some_bytes w, enough_bytes ws)
-
--- at most five bytes a number
-few_of_four : (n : ℕ) (greatest : Bool) → length (if greatest then 255 ∷ [] else 254 ∷ n % 256 ∷ n / 256 % 256 ∷ n / 2 ^ 16 % 256 ∷ n / 2 ^ 24 ∷ []) ≤ 5
-few_of_four n true = omega arith
-few_of_four n false = omega arith
-
-few_bytes : (n : ℕ) → length (number_code n) ≤ 5
-unfolding number_code
-few_bytes n =
-    elim (cases_lt n 252) [
-      | inl one ↦ let b : ltb n 252 ≡ true = lt-ltb _ _ one in rw b (omega arith)
-      | inr more ↦
-          let b : ltb n 252 ≡ false = le-ltb _ _ more in
-          elim (cases_lt n (2 ^ 16)) [
-            | inl two ↦ let b2 : ltb n (2 ^ 16) ≡ true = lt-ltb _ _ two in rw (b, b2) (omega arith)
-            | inr more2 ↦
-                let b2 : ltb n (2 ^ 16) ≡ false = le-ltb _ _ more2 in
-                elim (cases_lt n (2 ^ 24)) [
-                  | inl three ↦ let b3 : ltb n (2 ^ 24) ≡ true = lt-ltb _ _ three in rw (b, b2, b3) (omega arith)
-                  | inr more3 ↦ let b3 : ltb n (2 ^ 24) ≡ false = le-ltb _ _ more3 in rw (b, b2, b3) (few_of_four n (n == 4294967295))
-                ]
-          ]
-    ]
+enough_bytes (w ∷ ws) = omega (arith, length-append (number_code w) (numbers_code ws), (few_bytes w).0, enough_bytes ws)
 
 pub few_bytes_each : (words : List ℕ) → length (numbers_code words) ≤ 5 * length words
 few_bytes_each [] = omega arith
-few_bytes_each (w ∷ ws) = omega (arith, length-append (number_code w) (numbers_code ws), few_bytes w, few_bytes_each ws)
+few_bytes_each (w ∷ ws) = omega (arith, length-append (number_code w) (numbers_code ws), (few_bytes w).1, few_bytes_each ws)
 
 pub words_again : (words : List ℕ) → words_in (numbers_code words) ≡ words
 words_again words = numbers_again (length (numbers_code words)) words (enough_bytes words)
@@ -185,4 +166,4 @@ pub records_have_bytes : (records : List (List ℕ)) → length records ≤ leng
 unfolding record_code
 records_have_bytes [] = omega arith
 records_have_bytes (r ∷ rs) =
-    omega (arith, length-append (record_code r) (records_code rs), length-append (number_code (length (numbers_code r))) (numbers_code r), some_bytes (length (numbers_code r)), records_have_bytes rs)
+    omega (arith, length-append (record_code r) (records_code rs), length-append (number_code (length (numbers_code r))) (numbers_code r), (few_bytes (length (numbers_code r))).0, records_have_bytes rs)
