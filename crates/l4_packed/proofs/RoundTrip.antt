@@ -3,6 +3,7 @@ use Rattle.std.proofs.Common.{◌≡◌, ℕ, ◌+◌, ◌*◌, ◌/◌, ◌%◌
 use Rattle.std.proofs.lemmas.Bool.{le-ltb}
 use Rattle.std.proofs.lemmas.List.{take_at, drop_at, length-append}
 use Rattle.l4_fpage.specs.Rights.{set_of_bits, bits_of}
+use Rattle.l4_msg.specs.Sizes.{max_words}
 use Rattle.l4_threads.specs.declared.Reply.{Reply}
 use Rattle.l4_threads.specs.declared.Reply.TheVariants.{Ipc as ByIpc, Hit, Answered, FaultFailed, Unmapped, Controlled, Gone}
 use Rattle.l4_ipc.specs.declared.calls.Call.{Call}
@@ -16,7 +17,7 @@ use Rattle.l4_ipc.specs.declared.steps.Outcome.TheVariants.{Started, Done, NoWin
 use Rattle.l4_ipc.specs.declared.steps.Answer.{Answer}
 use Rattle.l4_packed.specs.Words.{counted, counted_at}
 use Rattle.l4_threads.specs.Sizes.{max_threads}
-use Rattle.l4_packed.specs.Codes.{max_words, control_code, call_code, step_code, outcome_code, answer_code, reply_code, place_code, CallFits, StepFits, AnswerFits, ReplyFits}
+use Rattle.l4_packed.specs.Codes.{control_code, call_code, step_code, outcome_code, answer_code, reply_code, place_code, CallFits, StepFits, AnswerFits, ReplyFits}
 use Rattle.l4_packed.specs.Reading.{control_at, call_at, step_at, outcome_at, answer_at, reply_at, place_at}
 
 pub counted_again : (limit : ℕ) (words rest : List ℕ) → length words ≤ limit → counted_at limit (counted words ++ rest) ≡ Some (words, rest)

@@ -2,6 +2,7 @@
 -- variants; a list stands behind its length. (this profile's own)
 use Rattle.std.specs.Prelude.{ℕ, ◌/◌, ◌%◌, ◌^◌, ◌≤◌, ⊤, List, [], ◌∷◌, length}
 use Rattle.l4_fpage.specs.Rights.{bits_of}
+use Rattle.l4_msg.specs.Sizes.{max_words}
 use Rattle.l4_threads.specs.Sizes.{max_threads}
 use Rattle.l4_threads.specs.declared.Reply.{Reply}
 use Rattle.l4_threads.specs.declared.Reply.TheVariants.{Ipc as ByIpc, Hit, Answered, FaultFailed, Unmapped, Controlled, Gone}
@@ -15,10 +16,6 @@ use Rattle.l4_ipc.specs.declared.steps.Outcome.{Outcome}
 use Rattle.l4_ipc.specs.declared.steps.Outcome.TheVariants.{Started, Done, NoWindow, Entangled, NoMemory, Expired}
 use Rattle.l4_ipc.specs.declared.steps.Answer.{Answer}
 use Rattle.l4_packed.specs.Words.{counted}
-
--- the greatest number of message registers
-abbrev pub max_words : ℕ
-max_words = 64
 
 abbrev pub control_code : Control → List ℕ
 control_code (Create c) = 0 ∷ c.id.0 ∷ c.space.0 ∷ c.pager.0 ∷ []

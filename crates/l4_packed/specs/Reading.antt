@@ -1,6 +1,7 @@
 -- Reading calls, steps, answers and replies from the front of a list of words: the value and the words after it. (this profile's own)
 use Rattle.std.specs.Prelude.{ℕ, zero, suc, ◌+◌, ◌*◌, ◌^◌, List, Option, Some, None, nat_lt, if◌then◌else◌}
 use Rattle.l4_fpage.specs.Rights.{set_of_bits}
+use Rattle.l4_msg.specs.Sizes.{max_words}
 use Rattle.l4_threads.specs.declared.Reply.{Reply}
 use Rattle.l4_threads.specs.declared.Reply.TheVariants.{Ipc as ByIpc, Hit, Answered, FaultFailed, Unmapped, Controlled, Gone}
 use Rattle.l4_ipc.specs.declared.calls.Call.{Call}
@@ -15,7 +16,6 @@ use Rattle.l4_ipc.specs.declared.steps.Outcome.TheVariants.{Started, Done, NoWin
 use Rattle.l4_ipc.specs.declared.steps.Answer.{Answer}
 use Rattle.l4_packed.specs.Words.{◌>>=◌, word_at, counted_at}
 use Rattle.l4_threads.specs.Sizes.{max_threads}
-use Rattle.l4_packed.specs.Codes.{max_words}
 
 abbrev pub control_of : ℕ → List ℕ → Option (Control × List ℕ)
 control_of zero words = do
