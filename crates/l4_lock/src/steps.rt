@@ -1,5 +1,5 @@
 //! Steps of the kernel with their entries.
-ghost use Rattle.std.specs.Prelude.{◌≡◌, ◌≢◌, ◌⊎◌, ◌+◌, ◌<◌, ◌≤◌, ◌++◌, ◌∷◌, [], ℕ, Ok, Err, None, IfOk, IfErr, OnErr, map, length, MatchOption, slice_get};
+ghost use Rattle.std.specs.Prelude.{◌≡◌, ◌≢◌, ◌⊎◌, ◌+◌, ◌<◌, ◌≤◌, ℕ, Ok, Err, None, IfOk, IfErr, OnErr, map, length, MatchOption, slice_get};
 ghost use Rattle.l4_ipc.specs.Steps.{Steps, IsIdle};
 ghost use Rattle.l4_lock.specs.Inside.Noting.{noted, first_reply};
 ghost use Rattle.l4_lock.specs.Books.{book_at, reply_waits};
@@ -13,7 +13,7 @@ ghost use Rattle.l4_lock.specs.declared.refusals.LockRefusal.TheVariants.{NoMemo
 use crate::history::History;
 use crate::refusals::LockRefusal;
 use crate::seats::Account;
-use l4_ipc::{Answer, Call, Kernel, Refused, Step};
+use l4_ipc::{Call, Kernel, Refused};
 
 /// Where the account of a number stands.
 pub fn position(accounts: &[Account], number: u32) -> Option<usize>
@@ -62,42 +62,6 @@ fn note_all(accounts: &mut Vec<Account>, kernel: &Kernel, ended: &[u32], place: 
     }
 }
 
-/// Appends a step that was done.
-fn append(
-    kernel: &Kernel,
-    history: &mut History,
-    accounts: &mut Vec<Account>,
-    seat: u32,
-    step: &Step,
-    answer: &Answer,
-)
-    requires { length history.old.entries < history.old.room }
-    ensures history { history.new.entries ≡ history.old.entries ++ record { seat = seat; step = step.now; answer = answer.now } ∷ [] }
-    ensures room { (length history.new.entries ≡ length history.old.entries + 1) × (history.new.room ≡ history.old.room) }
-    ensures accounts { accounts.new.items ≡ map (noted kernel.now answer.now.ended.items (length history.old.entries)) accounts.old.items }
-{
-    note_all(accounts, kernel, answer.ended.as_slice(), history.len());
-    history.push(seat, step, answer);
-}
-
-/// Appends the start of a call that was done.
-fn append_start(
-    kernel: &Kernel,
-    history: &mut History,
-    accounts: &mut Vec<Account>,
-    number: u32,
-    call: &Call,
-    answer: &Answer,
-)
-    requires { length history.old.entries < history.old.room }
-    ensures history { history.new.entries ≡ history.old.entries ++ record { seat = number; step = Start number call.now; answer = answer.now } ∷ [] }
-    ensures room { (length history.new.entries ≡ length history.old.entries + 1) × (history.new.room ≡ history.old.room) }
-    ensures accounts { accounts.new.items ≡ map (noted kernel.now answer.now.ended.items (length history.old.entries)) accounts.old.items }
-{
-    note_all(accounts, kernel, answer.ended.as_slice(), history.len());
-    history.push_start(number, call, answer);
-}
-
 /// Does the steps that come next, until there is none.
 pub fn follow(kernel: &mut Kernel, history: &mut History, accounts: &mut Vec<Account>, seat: u32)
     requires { length history.old.entries + max_threads ≤ history.old.room }
@@ -107,7 +71,8 @@ pub fn follow(kernel: &mut Kernel, history: &mut History, accounts: &mut Vec<Acc
     kernel.law_consistent();
     while let Some((step, answer)) = kernel.step_next() {
         kernel.law_forest();
-        append(kernel, history, accounts, seat, &step, &answer);
+        note_all(accounts, kernel, answer.ended.as_slice(), history.len());
+        history.push(seat, &step, &answer);
     }
 }
 
@@ -136,7 +101,8 @@ pub fn begin(
     match kernel.start(number, call) {
         Ok(answer) => {
             kernel.law_forest();
-            append_start(kernel, history, accounts, number, call, &answer);
+            note_all(accounts, kernel, answer.ended.as_slice(), history.len());
+            history.push_start(number, call, &answer);
             follow(kernel, history, accounts, number);
             Ok(())
         }
