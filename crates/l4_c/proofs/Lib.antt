@@ -1,8 +1,7 @@
 pub mod Following
+pub mod Forms
+pub mod Handles
 pub mod Holding
-pub mod KernelValues
 pub mod Lists
-pub mod PagerValues
-pub mod Sigma0Values
 pub mod Starting
 pub mod Values
