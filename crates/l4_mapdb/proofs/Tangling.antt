@@ -179,6 +179,10 @@ answer_no same out = not_so (λ a. out (same.0 a))
 pub answer_yes : {A B : Type 0} → A ↔ B → B → IsTrue true ↔ A
 answer_yes same b = so (same.1 b)
 
+-- what is taken from above one key is taken from above another one that is as well below
+taken_for : (Used : UsedMove → Type 0) (s : Entries) (from to : ℕ) (t : IsTaken Used s from) → (to ≡ t.key) ⊎ Descends s to t.key → IsTaken Used s to
+taken_for Used s from to t above = record { key = t.key; stands = t.stands; other = t.other; used = t.used; at = t.at; above = above }
+
 module _ (Used : UsedMove → Type 0) (s : Entries) (at : ℕ) where
   stands_here : (e : Entry) (t : Standing) → entry_at s at ≡ Some e → e.stands ≡ Some t → standing_at s at ≡ Some t
   stands_here e t here stands = ap (option_and_then (λ (x : Entry). x.stands)) here ∙ stands
@@ -228,22 +232,8 @@ module _ (Used : UsedMove → Type 0) (s : Entries) (at : ℕ) where
       → IsTaken Used s at ↔ IsTaken Used s parent
   taken_up e t parent here stands is free =
       let up = parent_here e t (Some parent) here stands is in (
-        λ k. record {
-          key = k.key;
-          stands = k.stands;
-          other = k.other;
-          used = k.used;
-          at = k.at;
-          above = elim k.above [ inl same ↦ absurd (free_here e here free k same) | inr d ↦ leads_up (parent_of s) parent up d ];
-        },
-        λ k. record {
-          key = k.key;
-          stands = k.stands;
-          other = k.other;
-          used = k.used;
-          at = k.at;
-          above = inr (elim k.above [ inl same ↦ step (up ∙ ap (λ (x : ℕ). Some x) same) | inr d ↦ steps up d ]);
-        },
+        λ k. taken_for Used s at parent k (elim k.above [ inl same ↦ absurd (free_here e here free k same) | inr d ↦ leads_up (parent_of s) parent up d ]),
+        λ k. taken_for Used s parent at k (inr (elim k.above [ inl same ↦ step (up ∙ ap (λ (x : ℕ). Some x) same) | inr d ↦ steps up d ])),
       )
 
 -- a key that a walk has come to has an entry no longer

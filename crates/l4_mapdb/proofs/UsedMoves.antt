@@ -41,9 +41,9 @@ module _ (old : Mappings) (sender receiver : ℕ) (items : List ItemMove) where
       let rights : u.rights ≡ v.rights = a.rights ∙ (λ i. common (shows i).rights (by i).rights) ∙ sym b.rights in
       λ i. record { item = item i; source = source i; target = target i; grant = grant i; shows = shows i; rights = rights i }
 
-  -- an item has one move out of a place
-  pub same_source : (u v : PageMove) → Used u → Used v → u.item ≡ v.item → u.source ≡ v.source → u ≡ v
-  same_source u v a b item source =
+  -- an item's targets are as far from one another as its sources
+  one_distance : (u v : PageMove) → Used u → Used v → u.item ≡ v.item → u.source.page + v.target.page ≡ v.source.page + u.target.page
+  one_distance u v a b item =
       let by = one_item u v a b item in
       let first : a.by.mv.source.first ≡ b.by.mv.source.first = ap (λ (x : ItemMove). x.mv.source.first) by in
       let to : a.by.mv.target.first ≡ b.by.mv.target.first = ap (λ (x : ItemMove). x.mv.target.first) by in
@@ -51,6 +51,12 @@ module _ (old : Mappings) (sender receiver : ℕ) (items : List ItemMove) where
       let q : v.source.page ≡ b.by.mv.source.first + b.pages.index = b.pages.source_is in
       let r : u.target.page ≡ a.by.mv.target.first + a.pages.index = a.pages.target_is in
       let s : v.target.page ≡ b.by.mv.target.first + b.pages.index = b.pages.target_is in
+      omega arith
+
+  -- an item has one move out of a place
+  pub same_source : (u v : PageMove) → Used u → Used v → u.item ≡ v.item → u.source ≡ v.source → u ≡ v
+  same_source u v a b item source =
+      let apart = one_distance u v a b item in
       let same : u.source.page ≡ v.source.page = ap (λ (x : Place). x.page) source in
       let page : u.target.page ≡ v.target.page = omega arith in
       let space : u.target.space ≡ v.target.space = a.to_space ∙ sym b.to_space in
@@ -59,13 +65,7 @@ module _ (old : Mappings) (sender receiver : ℕ) (items : List ItemMove) where
   -- an item has one move into a place
   pub same_target : (u v : PageMove) → Used u → Used v → u.item ≡ v.item → u.target ≡ v.target → u ≡ v
   same_target u v a b item target =
-      let by = one_item u v a b item in
-      let first : a.by.mv.source.first ≡ b.by.mv.source.first = ap (λ (x : ItemMove). x.mv.source.first) by in
-      let to : a.by.mv.target.first ≡ b.by.mv.target.first = ap (λ (x : ItemMove). x.mv.target.first) by in
-      let p : u.source.page ≡ a.by.mv.source.first + a.pages.index = a.pages.source_is in
-      let q : v.source.page ≡ b.by.mv.source.first + b.pages.index = b.pages.source_is in
-      let r : u.target.page ≡ a.by.mv.target.first + a.pages.index = a.pages.target_is in
-      let s : v.target.page ≡ b.by.mv.target.first + b.pages.index = b.pages.target_is in
+      let apart = one_distance u v a b item in
       let same : u.target.page ≡ v.target.page = ap (λ (x : Place). x.page) target in
       let page : u.source.page ≡ v.source.page = omega arith in
       let space : u.source.space ≡ v.source.space = a.from_space ∙ sym b.from_space in
