@@ -1,5 +1,5 @@
 -- Marks of what a message moves and fills, and how they are taken away.
-use Rattle.std.proofs.Common.{◌≡◌, ◌≢◌, ℕ, ◌+◌, ◌<◌, ◌≤◌, ◌==◌, Bool, true, List, length, Option, Some, None, option_and_then, option_map, refl, sym, ap, ◌∙◌, subst, slice_get, inl, inr, arith}
+use Rattle.std.proofs.Common.{◌≡◌, ◌≢◌, ℕ, ◌+◌, ◌<◌, ◌≤◌, ◌==◌, Bool, true, List, Option, Some, None, option_and_then, option_map, refl, sym, ap, ◌∙◌, subst, slice_get, inl, inr, arith}
 use Rattle.std.proofs.lemmas.Bool.{cases_lt, false≢true}
 use Rattle.std.proofs.lemmas.Bool.Decides.{nat_tests}
 use Rattle.l4_links.specs.declared.Place.{Place as LinkPlace}
@@ -12,7 +12,7 @@ use Rattle.l4_mapdb.proofs.Unique.{same_value}
 use Rattle.l4_mapdb.specs.declared.sources.UsedMove.{UsedMove}
 use Rattle.l4_mapdb.specs.Inside.Kept.{IsClean}
 use Rattle.l4_mapdb.specs.Inside.Messages.{plain, stand_at, StandAlike, IsMoved, turn, turn_of, IsNextMove, IsWaiting, Marks, SourcesMarked}
-use Rattle.l4_mapdb.proofs.Moves.{stand_of, found_of, with_place, one_by, move_at, move_page, move_item}
+use Rattle.l4_mapdb.proofs.Moves.{stand_of, found_of, with_place, one_by, move_at, move_page}
 
 -- by cases on keys
 pub by_key : {A : Type 0} (a b : ℕ) → (a ≡ b → A) → (a ≢ b → A) → A
@@ -158,10 +158,6 @@ module _ (old : Linked) (have : HavePlaces old) (from to : ℕ) (items : List It
   pub turn_all : (P : UsedMove → Type 0) (cur : Entries) (start : ℕ) → StandAlike old.entries cur → ((m : UsedMove) → IsMoved cur from to items m → turn_of m < start)
       → ((m : UsedMove) → Used m → turn_of m < start → P m) → (m : UsedMove) → Used m → P m
   turn_all P cur start alike none before m used = before m used (none m (moved_still old.entries cur from to items alike m used))
-
-  -- the turns fall
-  pub turn_fits : (cur : Entries) (start : ℕ) (u : UsedMove) → IsNextMove cur from to items start u → (start ≤ turn_of u) × (u.page < 1048576) × (u.item < length items)
-  turn_fits cur start u is = (is.after, move_page cur from to items u is.moved, move_item cur from to items u is.moved)
 
   -- a source is marked
   pub marks_source : (cur new : Entries) (start : ℕ) (u : UsedMove) → IsNextMove cur from to items start u → SetsSource u.source true cur new → Marks Used old.entries cur → Marks Used old.entries new

@@ -6,7 +6,7 @@ ghost use Rattle.l4_mapdb.specs.declared.sources.UsedMove.{UsedMove as AUsedMove
 ghost use Rattle.l4_mapdb.specs.Inside.Messages.{IsMoved, IsWanted, IsClearedAt, Goes};
 
 use crate::ItemMove;
-use crate::sources::next_move;
+use crate::sources::UsedMoves;
 use l4_links::{Links, Place};
 
 /// Clears what stands at the place, if it has a key.
@@ -31,14 +31,8 @@ pub(crate) fn clear_targets(links: &mut Links, from: u64, to: u64, items: &[Item
 {
     links.law_places();
     links.law_trees();
-    let mut item = 0;
-    let mut page = 0;
-    loop {
-        let Some(used) = next_move(links, from, to, items, item, page) else {
-            return;
-        };
+    let mut moves = UsedMoves::new();
+    while let Some(used) = moves.next(links, from, to, items) {
         clear_page(links, used.target);
-        item = used.item;
-        page = used.page + 1;
     }
 }

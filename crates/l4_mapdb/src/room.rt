@@ -9,7 +9,7 @@ ghost use Rattle.l4_mapdb.specs.Inside.Kept.{IsClean};
 ghost use Rattle.l4_mapdb.specs.Inside.Messages.{IsMoved, IsWanted, Wants, Marks, Roomed, AreAbsent};
 
 use crate::ItemMove;
-use crate::sources::next_move;
+use crate::sources::UsedMoves;
 use l4_links::{Links, NoMemory, Place};
 
 /// Gives the page a key if it has none, and notes that it is wanted. Whether it had a key is given.
@@ -53,18 +53,13 @@ pub(crate) fn make_room(
 {
     links.law_places();
     let mut had = false;
-    let mut item = 0;
-    let mut page = 0;
-    loop {
-        let Some(used) = next_move(links, from, to, items, item, page) else {
-            return Ok(had);
-        };
+    let mut moves = UsedMoves::new();
+    while let Some(used) = moves.next(links, from, to, items) {
         links.set_source(used.source, true);
         match want_page(links, used.target) {
             Ok(here) => had = had | here,
             Err(refused) => return Err(refused),
         }
-        item = used.item;
-        page = used.page + 1;
     }
+    Ok(had)
 }

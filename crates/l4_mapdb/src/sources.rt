@@ -1,10 +1,10 @@
 //! The used moves of a message, one after another by item and page.
 
-ghost use Rattle.std.specs.Prelude.{◌≡◌, ◌≢◌, ◌<◌, ◌≤◌, ◌⊎◌, length, IsTrue, MatchOption, slice_get, ℕ, Some, None};
+ghost use Rattle.std.specs.Prelude.{◌≡◌, ◌≢◌, ◌<◌, ◌≤◌, ◌+◌, ◌⊎◌, length, IsTrue, IfSome, MatchOption, OnSome, slice_get, ℕ, Some, None};
 ghost use Rattle.l4_fpage.specs.Pages.{space_pages, InBlock};
 ghost use Rattle.l4_links.specs.Entries.{IsKeyOf};
 ghost use Rattle.l4_mapdb.specs.declared.ItemMove.{ItemMove as AnItemMove};
-ghost use Rattle.l4_mapdb.specs.Inside.Messages.{IsMoved, turn, turn_of, IsNextMove, IsNextOfItem};
+ghost use Rattle.l4_mapdb.specs.Inside.Messages.{IsMoved, turn_of, turn_in, turns_left, IsNextMove, IsNextOfItem};
 
 use crate::ItemMove;
 use crate::cutting::end_of;
@@ -123,26 +123,46 @@ fn next_of_item(
     }
 }
 
-/// The first used move from this page of this item on, in the order of items and of their pages.
-pub(crate) fn next_move(
-    links: &Links,
-    from: u64,
-    to: u64,
-    items: &[ItemMove],
+/// A walk over the used moves of a message, in the order of items and of their pages. It goes on from this page of this item.
+#[derive(Drop)]
+pub(crate) struct UsedMoves {
     item: usize,
     page: u32,
-) -> Option<UsedMove>
-    requires { page ≤ space_pages }
-    ensures { MatchOption result
-        ((move : UsedMove) → IsMoved links.now.entries from to items.now move → turn_of move < turn item page)
-        (IsNextMove links.now.entries from to items.now (turn item page)) }
-{
-    let mut start = page;
-    for number in item..items.len() {
-        if let Some(used) = next_of_item(links, from, to, items, number, start) {
-            return Some(used);
-        }
-        start = 0;
+}
+
+impl UsedMoves {
+    /// The walk from the first page of the first item on.
+    pub(crate) fn new() -> UsedMoves
+        ensures { result ≡ record { item = 0; page = 0 } }
+    {
+        UsedMoves { item: 0, page: 0 }
     }
-    None
+
+    /// The first used move that the walk hasn't passed, which it passes then.
+    pub(crate) fn next(
+        &mut self,
+        links: &Links,
+        from: u64,
+        to: u64,
+        items: &[ItemMove],
+    ) -> Option<UsedMove>
+        requires { self.old.page ≤ space_pages }
+        ensures gives { MatchOption result
+            ((move : UsedMove) → IsMoved links.now.entries from to items.now move → turn_of move < turn_in self.old)
+            (IsNextMove links.now.entries from to items.now (turn_in self.old)) }
+        ensures passes { IfSome result (λ m. self.new ≡ record { item = m.item; page = m.page + 1 }) }
+        ensures fits { IfSome result (λ m. m.page < space_pages) }
+        ensures falls { OnSome result (turns_left items.now self.new < turns_left items.now self.old) }
+    {
+        let mut start = self.page;
+        for number in self.item..items.len() {
+            if let Some(used) = next_of_item(links, from, to, items, number, start) {
+                self.item = number;
+                self.page = used.page + 1;
+                return Some(used);
+            }
+            start = 0;
+        }
+        None
+    }
 }

@@ -8,7 +8,7 @@ ghost use Rattle.l4_mapdb.specs.declared.sources.UsedMove.{UsedMove as AUsedMove
 
 use crate::ItemMove;
 use crate::cutting::end_of;
-use crate::sources::{UsedMove, later_page, move_out, next_move};
+use crate::sources::{UsedMove, UsedMoves, later_page, move_out};
 use l4_links::{Entry, Links, Place};
 
 /// The used move of the item of this number into the place.
@@ -176,18 +176,13 @@ pub(crate) fn has_tangle(links: &Links, from: u64, to: u64, items: &[ItemMove]) 
 {
     links.law_places();
     let apart = are_apart(items);
-    let mut item = 0;
-    let mut page = 0;
-    loop {
-        let Some(used) = next_move(links, from, to, items, item, page) else {
-            return false;
-        };
+    let mut moves = UsedMoves::new();
+    while let Some(used) = moves.next(links, from, to, items) {
         if tangles_from(links, from, to, items, &used, apart) {
             return true;
         }
-        item = used.item;
-        page = used.page + 1;
     }
+    false
 }
 
 /// Whether what stands at the place is a source, or above one.
@@ -239,18 +234,13 @@ fn marked_tangle(links: &mut Links, from: u64, to: u64, items: &[ItemMove], apar
     ensures spaces { links.new.spaces ≡ links.old.spaces }
 {
     links.law_places();
-    let mut item = 0;
-    let mut page = 0;
-    loop {
-        let Some(used) = next_move(links, from, to, items, item, page) else {
-            return false;
-        };
+    let mut moves = UsedMoves::new();
+    while let Some(used) = moves.next(links, from, to, items) {
         if tangles(links, from, to, items, &used, apart) {
             return true;
         }
-        item = used.item;
-        page = used.page + 1;
     }
+    false
 }
 
 /// Whether the used moves contradict each other, where the sources of all are marked. Where no target shows anything, as is said with

@@ -1,5 +1,5 @@
 -- What a message moves, by keys, and what is done to pages before they are moved. (this profile's own)
-use Rattle.std.specs.Prelude.{◌≡◌, ◌≢◌, ◌⊎◌, ◌<◌, ◌≤◌, ◌+◌, ◌*◌, ◌^◌, ℕ, Bool, List, Option, Some, None, true, false, slice_get, option_and_then, option_map}
+use Rattle.std.specs.Prelude.{◌≡◌, ◌≢◌, ◌⊎◌, ◌<◌, ◌≤◌, ◌+◌, ◌-◌, ◌*◌, ◌^◌, ℕ, Bool, List, Option, Some, None, true, false, length, slice_get, option_and_then, option_map}
 use Rattle.l4_fpage.specs.Pages.{space_pages}
 use Rattle.l4_fpage.specs.Rights.{common, no_rights}
 use Rattle.l4_msg.specs.Moves.{MovePairs}
@@ -12,6 +12,7 @@ use Rattle.l4_mapdb.specs.declared.Cause.TheVariants.{Entangled, NoMemory}
 use Rattle.l4_mapdb.specs.declared.ItemMove.{ItemMove}
 use Rattle.l4_mapdb.specs.Transfer.{PageMove, IsGone}
 use Rattle.l4_mapdb.specs.declared.sources.UsedMove.{UsedMove}
+use Rattle.l4_mapdb.specs.declared.sources.UsedMoves.{UsedMoves}
 use Rattle.l4_mapdb.specs.Inside.View.{link_place, map_place, mappings_of}
 use Rattle.l4_mapdb.specs.Inside.Tangles.{HasTangle}
 
@@ -44,6 +45,14 @@ turn item page = item * space_pages + page
 
 abbrev pub turn_of : UsedMove → ℕ
 turn_of move = turn move.item move.page
+
+-- the turn that a walk over the used moves goes on from
+abbrev pub turn_in : UsedMoves → ℕ
+turn_in moves = turn moves.item moves.page
+
+-- how many turns are left of such a walk
+abbrev pub turns_left : List ItemMove → UsedMoves → ℕ
+turns_left items moves = length items * space_pages - turn_in moves
 
 -- the used move is the first one from this turn on
 pub record IsNextMove (s : Entries) (from to : ℕ) (items : List ItemMove) (start : ℕ) (move : UsedMove) : Type 0 where

@@ -1,18 +1,18 @@
-use Rattle.std.proofs.Common.{◌≡◌, ℕ, ◌-◌, ◌≤◌, ◌<◌, ◌*◌, length}
+use Rattle.std.proofs.Common.{◌≡◌, ℕ, ◌≤◌, ◌<◌}
 use Rattle.l4_links.specs.Entries.{entry_at}
 use Rattle.l4_mapdb.specs.declared.sources.UsedMove.{UsedMove}
-use Rattle.l4_mapdb.specs.Inside.Messages.{IsMoved, turn, turn_of}
+use Rattle.l4_mapdb.specs.Inside.Messages.{IsMoved, turn_in, turns_left, turn_of}
 use Rattle.l4_mapdb.specs.Inside.Tangles.{Tangles}
 use Rattle.l4_mapdb.proofs.tangles.marked_tangle.Given as goal
 
 -- no used move before this turn tangles, and nothing has changed
 abbrev pub invariant-loop-used : goal.invariant-loop-used
 invariant-loop-used l = record {
-  fits : l.page ≤ 1048576;
+  fits : l.moves.page ≤ 1048576;
   same : (key : ℕ) → entry_at l.links.entries key ≡ entry_at l.fn.links.entries key;
-  none : (move : UsedMove) → IsMoved l.fn.links.entries l.from l.to l.items move → turn_of move < turn l.item l.page → ¬ (Tangles (IsMoved l.fn.links.entries l.from l.to l.items) l.fn.links.entries move);
+  none : (move : UsedMove) → IsMoved l.fn.links.entries l.from l.to l.items move → turn_of move < turn_in l.moves → ¬ (Tangles (IsMoved l.fn.links.entries l.from l.to l.items) l.fn.links.entries move);
   spaces : l.links.spaces ≡ l.fn.links.spaces;
 }
 
 abbrev pub decreases-loop-used : goal.decreases-loop-used
-decreases-loop-used l = length l.items * 1048576 - turn l.item l.page
+decreases-loop-used l = turns_left l.items l.moves

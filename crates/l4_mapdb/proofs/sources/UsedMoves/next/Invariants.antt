@@ -1,12 +1,12 @@
 use Rattle.std.proofs.Common.{◌≤◌}
-use Rattle.l4_mapdb.specs.Inside.Messages.{turn}
+use Rattle.l4_mapdb.specs.Inside.Messages.{turn, turn_in}
 use Rattle.l4_mapdb.proofs.Moves.{NoneFrom}
-use Rattle.l4_mapdb.proofs.sources.next_move.Given as goal
+use Rattle.l4_mapdb.proofs.sources.UsedMoves.next.Given as goal
 
 -- no used move stands between the turn that is asked for and this one
 abbrev pub invariant-loop-number : goal.invariant-loop-number
 invariant-loop-number l = record {
   fits : l.start ≤ 1048576;
-  after : turn l.item l.fn.page ≤ turn l.number l.start;
-  none : NoneFrom l.links.entries l.from l.to l.items (turn l.item l.fn.page) l.number l.start;
+  after : turn_in l.fn.self ≤ turn l.number l.start;
+  none : NoneFrom l.links.entries l.from l.to l.items (turn_in l.fn.self) l.number l.start;
 }
