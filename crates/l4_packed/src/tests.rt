@@ -17,13 +17,18 @@ fn some_words() -> ArrayVec<u32, MAX_WORDS> {
     words
 }
 
+/// Whether this value was read, and no word is left.
+fn is_all<T: PartialEq + Drop>(read: Option<(T, Words<'_>)>, value: &T) -> bool {
+    match read {
+        Some((again, rest)) => &again == value && read_word(rest).is_none(),
+        None => false,
+    }
+}
+
 fn check_step(rt: &impl Abort, step: &Step) {
     let mut out = Record::new();
     put_step(&mut out, step);
-    match read_step(out.words()) {
-        Some((again, rest)) => assert!(rt; &again == step && read_word(rest).is_none()),
-        None => panic!(rt; "nothing is read"),
-    }
+    assert!(rt; is_all(read_step(out.words()), step));
 }
 
 fn check_call(rt: &impl Abort, call: Call) {
@@ -33,10 +38,7 @@ fn check_call(rt: &impl Abort, call: Call) {
 fn check_reply(rt: &impl Abort, reply: &Reply) {
     let mut out = Record::new();
     put_reply(&mut out, reply);
-    match read_reply(out.words()) {
-        Some((again, rest)) => assert!(rt; &again == reply && read_word(rest).is_none()),
-        None => panic!(rt; "nothing is read"),
-    }
+    assert!(rt; is_all(read_reply(out.words()), reply));
 }
 
 fn check_outcome(rt: &impl Abort, outcome: Outcome) {
@@ -46,10 +48,7 @@ fn check_outcome(rt: &impl Abort, outcome: Outcome) {
     };
     let mut out = Record::new();
     put_answer(&mut out, &answer);
-    match read_answer(out.words()) {
-        Some((again, rest)) => assert!(rt; again == answer && read_word(rest).is_none()),
-        None => panic!(rt; "nothing is read"),
-    }
+    assert!(rt; is_all(read_answer(out.words()), &answer));
 }
 
 #[test]
