@@ -1,6 +1,7 @@
 //! The texts of the kernel's answers: steps, replies, pages and the codes of refusals.
 #![tactic(auto)]
 
+mod lines;
 mod pages;
 mod refusals;
 mod replies;

@@ -3,6 +3,7 @@ ghost use Rattle.std.specs.Prelude.{◌≡◌, ◌≤◌, ◌+◌, ◌++◌, len
 ghost use Rattle.l4_answers.specs.Pages.{rights_text, page_words, page_text, shown_text, place_or_none, parent_text};
 ghost use Rattle.l4_text.specs.Sizes.{text_bytes};
 
+use crate::lines::number_line;
 use l4_fpage::Rights;
 use l4_mapdb::{Mapping, Place};
 use l4_text::Text;
@@ -47,11 +48,7 @@ pub fn add_page_line(text: &mut Text, page: u32, mapping: &Mapping)
 pub fn shown_text(count: u32) -> Text
     ensures { result ≡ shown_text count }
 {
-    let mut text = Text::new();
-    text.add(b"shown ");
-    text.add_number(u64::from(count));
-    text.push(b'\n');
-    text
+    number_line(b"shown ", count)
 }
 
 /// Adds a place's space and page, or `none`.

@@ -5,6 +5,7 @@ ghost use Rattle.l4_answers.specs.Replies.{outcome_word, transfer_text, expire_t
 ghost use Rattle.l4_text.specs.Streams.{Tells};
 ghost use Rattle.l4_text.specs.Sizes.{text_bytes};
 
+use crate::lines::number_line;
 use l4_ipc::Outcome;
 use l4_text::{Output, Text};
 use l4_threads::{IpcReply, Reply, ThreadId};
@@ -43,11 +44,7 @@ pub fn transfer_text(sender: u32, receiver: u32, outcome: Outcome) -> Text
 pub fn expire_text(number: u32) -> Text
     ensures { result ≡ expire_text number }
 {
-    let mut text = Text::new();
-    text.add(b"expire ");
-    text.add_number(u64::from(number));
-    text.push(b'\n');
-    text
+    number_line(b"expire ", number)
 }
 
 /// Adds a thread's number, and these bytes.
