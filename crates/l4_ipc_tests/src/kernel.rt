@@ -134,6 +134,11 @@ fn ends(kernel: &mut Kernel, step: &Step, outcome: Outcome, ended: &[u32]) -> bo
     }
 }
 
+/// Whether the step starts, and ends the calls of these threads.
+fn starts(kernel: &mut Kernel, step: &Step, ended: &[u32]) -> bool {
+    ends(kernel, step, Outcome::Started, ended)
+}
+
 /// Whether the step is refused so.
 fn is_refused(kernel: &mut Kernel, step: &Step, want: Refused) -> bool {
     kernel.step(step).err() == Some(want)
@@ -185,6 +190,11 @@ fn replied(
             && reply.words.as_slice() == words,
         _ => false,
     }
+}
+
+/// Whether the thread's Ipc failed with this ErrorCode.
+fn ipc_failed(kernel: &Kernel, number: u32, error: u32) -> bool {
+    replied(kernel, number, 0x8000, error, NOBODY, &[])
 }
 
 /// The complete window.
@@ -301,18 +311,13 @@ fn maps_a_page_of_sigma0(rt: HostRuntime) -> Result<(), Fail> {
     }
 
     let space = kernel.space_of(3).ok_or("thread 3 is missing")?;
-    let shown = Mapping {
-        frame: 16,
-        rights: Rights::all(),
-        parent: Some(Place { space: 0, page: 16 }),
-    };
-    assert_eq!(rt; kernel.mapping(space, 32), Some(shown));
+    assert_eq!(rt; kernel.mapping(space, 32), mapped(16, 7, 0, 16));
     assert_eq!(rt; kernel.mapping(space, 33), None);
     assert_eq!(rt; kernel.next_page(space, 0), Some(32));
     assert_eq!(rt; kernel.next_page(space, 33), None);
     assert!(rt; replied(&kernel, 3, 0x80, 0, SIGMA0, &[0x2_0008, 0x1_00c7]));
     assert!(rt; replied(&kernel, 1, 0, 0, NOBODY, &[]));
-    assert!(rt; matches!(kernel.reply(2), Some(Reply::Controlled)));
+    assert!(rt; is_controlled(&kernel, 2));
     Ok(())
 }
 
@@ -424,14 +429,7 @@ fn a_page_and_its_way_from_sigma0(rt: HostRuntime) -> Result<(), Fail> {
     step_all(&mut kernel, &steps).expect(&rt, "two messages");
     assert!(rt; kernel.mapping(4, 7) == mapped(5, 4, 2, 5));
     assert!(rt; kernel.next_page(3, 0).is_none());
-    assert!(rt;
-        ends(
-            &mut kernel,
-            &unmap(3, 0x40, &[0x50c7]),
-            Outcome::Started,
-            &[3]
-        )
-    );
+    assert!(rt; starts(&mut kernel, &unmap(3, 0x40, &[0x50c7]), &[3]));
     assert!(rt; kernel.next_page(4, 0).is_none());
     assert!(rt; kernel.next_page(2, 0).is_none());
     assert!(rt; kernel.next_page(0, 5) == Some(5));
@@ -490,8 +488,8 @@ fn a_message_without_a_window(rt: HostRuntime) -> Result<(), Fail> {
             &[1, 3]
         )
     );
-    assert!(rt; replied(&kernel, 1, 0x8000, 8, NOBODY, &[]));
-    assert!(rt; replied(&kernel, 3, 0x8000, 9, NOBODY, &[]));
+    assert!(rt; ipc_failed(&kernel, 1, 8));
+    assert!(rt; ipc_failed(&kernel, 3, 9));
     assert!(rt; kernel.next_page(2, 0).is_none());
     Ok(())
 }
@@ -499,12 +497,12 @@ fn a_message_without_a_window(rt: HostRuntime) -> Result<(), Fail> {
 #[test]
 fn partners_that_are_missing(rt: HostRuntime) -> Result<(), Fail> {
     let mut kernel = Kernel::boot(rt.alloc(), 1)?;
-    assert!(rt; ends(&mut kernel, &send(2, THIRD, &[0]), Outcome::Started, &[2]));
-    assert!(rt; replied(&kernel, 2, 0x8000, 4, NOBODY, &[]));
-    assert!(rt; ends(&mut kernel, &receive(2, THIRD, 0), Outcome::Started, &[2]));
-    assert!(rt; replied(&kernel, 2, 0x8000, 5, NOBODY, &[]));
-    assert!(rt; ends(&mut kernel, &send(2, ROOT, &[0]), Outcome::Started, &[2]));
-    assert!(rt; replied(&kernel, 2, 0x8000, 4, NOBODY, &[]));
+    assert!(rt; starts(&mut kernel, &send(2, THIRD, &[0]), &[2]));
+    assert!(rt; ipc_failed(&kernel, 2, 4));
+    assert!(rt; starts(&mut kernel, &receive(2, THIRD, 0), &[2]));
+    assert!(rt; ipc_failed(&kernel, 2, 5));
+    assert!(rt; starts(&mut kernel, &send(2, ROOT, &[0]), &[2]));
+    assert!(rt; ipc_failed(&kernel, 2, 4));
     Ok(())
 }
 
@@ -512,28 +510,14 @@ fn partners_that_are_missing(rt: HostRuntime) -> Result<(), Fail> {
 fn a_call_that_is_answered(rt: HostRuntime) -> Result<(), Fail> {
     let mut kernel = waiting(rt.alloc(), COMPLETE)?;
     let calls = ipc(2, THIRD, THIRD, 0, 0, &[0x1, 7]);
-    assert!(rt; ends(&mut kernel, &calls, Outcome::Started, &[]));
+    assert!(rt; starts(&mut kernel, &calls, &[]));
     assert!(rt; ends(&mut kernel, &Step::Transfer(2, 3), Outcome::Done, &[3]));
     assert!(rt; replied(&kernel, 3, 0x1, 0, ROOT, &[7]));
     assert!(rt; kernel.reply(2).is_none());
     // The receive phase takes no other thread's message.
-    assert!(rt;
-        ends(
-            &mut kernel,
-            &send(1, ROOT, &[0x1, 9]),
-            Outcome::Started,
-            &[]
-        )
-    );
+    assert!(rt; starts(&mut kernel, &send(1, ROOT, &[0x1, 9]), &[]));
     assert!(rt; kernel.enabled().is_none());
-    assert!(rt;
-        ends(
-            &mut kernel,
-            &send(3, ROOT, &[0x1, 8]),
-            Outcome::Started,
-            &[]
-        )
-    );
+    assert!(rt; starts(&mut kernel, &send(3, ROOT, &[0x1, 8]), &[]));
     assert!(rt; transfers_next(&kernel, 3, 2));
     assert!(rt; ends(&mut kernel, &Step::Transfer(3, 2), Outcome::Done, &[3, 2]));
     assert!(rt; replied(&kernel, 2, 0x1, 0, THIRD, &[8]));
@@ -544,17 +528,17 @@ fn a_call_that_is_answered(rt: HostRuntime) -> Result<(), Fail> {
 /// Whether the wait of a thread with a timeout of zero is the step that comes next, and ends with this ErrorCode.
 fn expires(kernel: &mut Kernel, number: u32, error: u32) -> bool {
     comes_next(kernel, &Step::Expire(number), Outcome::Expired, &[number])
-        && replied(kernel, number, 0x8000, error, NOBODY, &[])
+        && ipc_failed(kernel, number, error)
 }
 
 #[test]
 fn waits_that_expire(rt: HostRuntime) -> Result<(), Fail> {
     let mut kernel = waiting(rt.alloc(), COMPLETE)?;
     let receives = ipc(2, NOBODY, ANYBODY, 0x0400, 0, &[]);
-    assert!(rt; ends(&mut kernel, &receives, Outcome::Started, &[]));
+    assert!(rt; starts(&mut kernel, &receives, &[]));
     assert!(rt; expires(&mut kernel, 2, 3));
     let sends = ipc(2, SIGMA0, NOBODY, 0x0400_0000, 0, &[0]);
-    assert!(rt; ends(&mut kernel, &sends, Outcome::Started, &[]));
+    assert!(rt; starts(&mut kernel, &sends, &[]));
     assert!(rt; expires(&mut kernel, 2, 2));
     Ok(())
 }
@@ -563,7 +547,7 @@ fn waits_that_expire(rt: HostRuntime) -> Result<(), Fail> {
 fn a_wait_that_expires_after_its_send(rt: HostRuntime) -> Result<(), Fail> {
     let mut kernel = waiting(rt.alloc(), COMPLETE)?;
     let both = ipc(2, THIRD, ANYBODY, 0x0400_0400, 0, &[0x1, 7]);
-    assert!(rt; ends(&mut kernel, &both, Outcome::Started, &[]));
+    assert!(rt; starts(&mut kernel, &both, &[]));
     // A send that can be taken doesn't expire.
     assert!(rt; is_refused(&mut kernel, &Step::Expire(2), Refused::NotEnabled));
     assert!(rt; transfers_next(&kernel, 2, 3));
@@ -748,8 +732,8 @@ fn a_page_onto_its_ancestor(rt: HostRuntime) -> Result<(), Fail> {
     assert!(rt; maps(&mut kernel, 3, FOURTH, &there));
     let back = [0x80, 0x5008, 0x90c7];
     assert!(rt; delivers(&mut kernel, 4, THIRD, &back, Outcome::Entangled));
-    assert!(rt; replied(&kernel, 4, 0x8000, 8, NOBODY, &[]));
-    assert!(rt; replied(&kernel, 3, 0x8000, 9, NOBODY, &[]));
+    assert!(rt; ipc_failed(&kernel, 4, 8));
+    assert!(rt; ipc_failed(&kernel, 3, 9));
     assert!(rt; kernel.mapping(2, 5) == mapped(5, 7, 0, 5));
     assert!(rt; kernel.mapping(3, 9) == mapped(5, 7, 2, 5));
     Ok(())
@@ -795,18 +779,11 @@ fn two_items_for_one_page(rt: HostRuntime) -> Result<(), Fail> {
 fn an_unmap(rt: HostRuntime) -> Result<(), Fail> {
     let mut kernel = with_page(rt.alloc())?;
     assert!(rt; maps(&mut kernel, 3, FOURTH, &[0x80, 0x9008, 0x50c7]));
-    assert!(rt; ends(&mut kernel, &unmap(3, 0, &[0x50c2]), Outcome::Started, &[3]));
+    assert!(rt; starts(&mut kernel, &unmap(3, 0, &[0x50c2]), &[3]));
     assert!(rt; matches!(kernel.reply(3), Some(Reply::Unmapped)));
     assert!(rt; kernel.mapping(2, 5) == mapped(5, 7, 0, 5));
     assert!(rt; kernel.mapping(3, 9) == mapped(5, 5, 2, 5));
-    assert!(rt;
-        ends(
-            &mut kernel,
-            &unmap(3, 0x40, &[0x50c7]),
-            Outcome::Started,
-            &[3]
-        )
-    );
+    assert!(rt; starts(&mut kernel, &unmap(3, 0x40, &[0x50c7]), &[3]));
     assert!(rt; kernel.next_page(2, 0).is_none());
     assert!(rt; kernel.next_page(3, 0).is_none());
     assert!(rt; kernel.next_page(0, 5) == Some(5));
@@ -835,13 +812,13 @@ fn a_fault_that_is_a_hit(rt: HostRuntime) -> Result<(), Fail> {
     assert!(rt; maps(&mut kernel, 1, THIRD, &[0x80, 0x6008, 0x60c4]));
     for (address, access) in [(0x5000, 7), (0x5fff, 2), (0x6abc, 4), (0x6000, 0)] {
         let faults = fault(3, address, access);
-        assert!(rt; ends(&mut kernel, &faults, Outcome::Started, &[3]));
+        assert!(rt; starts(&mut kernel, &faults, &[3]));
         assert!(rt; is_hit(&kernel, 3));
     }
     // A page lacks a right of the access, or isn't there.
     for (address, access) in [(0x6000, 6), (0x6000, 1), (0x4fff, 4), (0x7000, 0)] {
         let faults = fault(3, address, access);
-        assert!(rt; ends(&mut kernel, &faults, Outcome::Started, &[3]));
+        assert!(rt; starts(&mut kernel, &faults, &[3]));
         assert!(rt; fault_failed(&kernel, 3, 4));
     }
     Ok(())
@@ -859,9 +836,9 @@ fn paged(alloc: Global) -> Result<Kernel, Fail> {
 
 /// Whether the fault of thread 4 at this address reaches thread 3, its pager.
 fn reaches_pager(kernel: &mut Kernel, address: u32, access: u8) -> bool {
-    ends(kernel, &fault(4, address, access), Outcome::Started, &[])
+    starts(kernel, &fault(4, address, access), &[])
         && kernel.enabled().is_none()
-        && ends(kernel, &receive(3, ANYBODY, 0), Outcome::Started, &[])
+        && starts(kernel, &receive(3, ANYBODY, 0), &[])
         && transfers_next(kernel, 4, 3)
         && ends(kernel, &Step::Transfer(4, 3), Outcome::Done, &[3])
 }
@@ -872,22 +849,15 @@ fn a_fault_that_the_pager_answers(rt: HostRuntime) -> Result<(), Fail> {
     assert!(rt; reaches_pager(&mut kernel, 0x9123, 6));
     assert!(rt; replied(&kernel, 3, 0xffe6_0002, 0, FOURTH, &[0x9123, 0x1234]));
     // The fault takes no other thread's message, and never expires.
-    assert!(rt;
-        ends(
-            &mut kernel,
-            &send(1, FOURTH, &[0x1, 9]),
-            Outcome::Started,
-            &[]
-        )
-    );
+    assert!(rt; starts(&mut kernel, &send(1, FOURTH, &[0x1, 9]), &[]));
     assert!(rt; kernel.enabled().is_none());
     let answers = send(3, FOURTH, &[0x80, 0x9008, 0x50c7]);
-    assert!(rt; ends(&mut kernel, &answers, Outcome::Started, &[]));
+    assert!(rt; starts(&mut kernel, &answers, &[]));
     assert!(rt; transfers_next(&kernel, 3, 4));
     assert!(rt; ends(&mut kernel, &Step::Transfer(3, 4), Outcome::Done, &[3, 4]));
     assert!(rt; matches!(kernel.reply(4), Some(Reply::Answered)));
     assert!(rt; kernel.mapping(3, 9) == mapped(5, 7, 2, 5));
-    assert!(rt; ends(&mut kernel, &fault(4, 0x9123, 6), Outcome::Started, &[4]));
+    assert!(rt; starts(&mut kernel, &fault(4, 0x9123, 6), &[4]));
     assert!(rt; is_hit(&kernel, 4));
     Ok(())
 }
@@ -896,15 +866,8 @@ fn a_fault_that_the_pager_answers(rt: HostRuntime) -> Result<(), Fail> {
 fn a_fault_without_a_pager(rt: HostRuntime) -> Result<(), Fail> {
     let mut kernel = with_page(rt.alloc())?;
     for pager in [NOBODY, ANYBODY, THIRD, ThreadId(6 * 16384 + 1)] {
-        assert!(rt;
-            ends(
-                &mut kernel,
-                &set_pager(2, THIRD, pager),
-                Outcome::Started,
-                &[2]
-            )
-        );
-        assert!(rt; ends(&mut kernel, &fault(3, 0x9000, 4), Outcome::Started, &[3]));
+        assert!(rt; starts(&mut kernel, &set_pager(2, THIRD, pager), &[2]));
+        assert!(rt; starts(&mut kernel, &fault(3, 0x9000, 4), &[3]));
         assert!(rt; fault_failed(&kernel, 3, 4));
     }
     Ok(())
@@ -915,7 +878,7 @@ fn a_fault_that_is_answered_amiss(rt: HostRuntime) -> Result<(), Fail> {
     let mut kernel = paged(rt.alloc())?;
     assert!(rt; reaches_pager(&mut kernel, 0x9000, 4));
     let both = send(3, FOURTH, &[0x100, 0x5009, 0x50c7, 0x5008, 0x50c7]);
-    assert!(rt; ends(&mut kernel, &both, Outcome::Started, &[]));
+    assert!(rt; starts(&mut kernel, &both, &[]));
     assert!(rt;
         ends(
             &mut kernel,
@@ -924,7 +887,7 @@ fn a_fault_that_is_answered_amiss(rt: HostRuntime) -> Result<(), Fail> {
             &[3, 4]
         )
     );
-    assert!(rt; replied(&kernel, 3, 0x8000, 8, NOBODY, &[]));
+    assert!(rt; ipc_failed(&kernel, 3, 8));
     assert!(rt; fault_failed(&kernel, 4, 9));
     assert!(rt; kernel.next_page(3, 0).is_none());
     Ok(())
@@ -941,10 +904,10 @@ fn a_thread_that_is_deleted(rt: HostRuntime) -> Result<(), Fail> {
         receive(1, ANYBODY, 0),
     ];
     step_all(&mut kernel, &waits).expect(&rt, "three calls");
-    assert!(rt; ends(&mut kernel, &delete(2, THIRD), Outcome::Started, &[2, 4, 5]));
+    assert!(rt; starts(&mut kernel, &delete(2, THIRD), &[2, 4, 5]));
     assert!(rt; is_controlled(&kernel, 2));
-    assert!(rt; replied(&kernel, 4, 0x8000, 4, NOBODY, &[]));
-    assert!(rt; replied(&kernel, 5, 0x8000, 5, NOBODY, &[]));
+    assert!(rt; ipc_failed(&kernel, 4, 4));
+    assert!(rt; ipc_failed(&kernel, 5, 5));
     assert!(rt; kernel.reply(1).is_none());
     assert!(rt; has_gone(&mut kernel));
     // The number of a space is never used again.
@@ -972,10 +935,10 @@ fn a_space_goes_with_its_last_thread(rt: HostRuntime) -> Result<(), Fail> {
     )
     .expect(&rt, "two threads");
     assert!(rt; maps(&mut kernel, 1, THIRD, &[0x80, 0x5008, 0x50c7]));
-    assert!(rt; ends(&mut kernel, &receive(3, ANYBODY, 0), Outcome::Started, &[]));
-    assert!(rt; ends(&mut kernel, &delete(2, THIRD), Outcome::Started, &[2, 3]));
+    assert!(rt; starts(&mut kernel, &receive(3, ANYBODY, 0), &[]));
+    assert!(rt; starts(&mut kernel, &delete(2, THIRD), &[2, 3]));
     assert!(rt; kernel.mapping(2, 5) == mapped(5, 7, 0, 5));
-    assert!(rt; ends(&mut kernel, &delete(2, FOURTH), Outcome::Started, &[2]));
+    assert!(rt; starts(&mut kernel, &delete(2, FOURTH), &[2]));
     assert!(rt; kernel.next_page(2, 0).is_none());
     Ok(())
 }
@@ -991,7 +954,7 @@ fn a_thread_never_deletes_itself(rt: HostRuntime) -> Result<(), Fail> {
     let kept = Refused::Lower(Lower::Thread(ThreadFault::Kept));
     assert!(rt; is_refused(&mut kernel, &delete(3, THIRD), kept));
     assert!(rt; kernel.reply(3).is_none());
-    assert!(rt; ends(&mut kernel, &delete(3, FOURTH), Outcome::Started, &[3]));
+    assert!(rt; starts(&mut kernel, &delete(3, FOURTH), &[3]));
     assert!(rt; kernel.space_of(4).is_none());
     assert!(rt; kernel.space_of(3) == Some(1));
     Ok(())
@@ -1007,7 +970,7 @@ fn a_pager_that_is_deleted(rt: HostRuntime) -> Result<(), Fail> {
         fault(4, 0x9000, 4),
     ];
     step_all(&mut kernel, &calls).expect(&rt, "two faults");
-    assert!(rt; ends(&mut kernel, &delete(2, THIRD), Outcome::Started, &[2, 4, 5]));
+    assert!(rt; starts(&mut kernel, &delete(2, THIRD), &[2, 4, 5]));
     assert!(rt; fault_failed(&kernel, 4, 4));
     assert!(rt; fault_failed(&kernel, 5, 5));
     assert!(rt; kernel.enabled().is_none());
@@ -1018,16 +981,9 @@ fn a_pager_that_is_deleted(rt: HostRuntime) -> Result<(), Fail> {
 fn another_pager(rt: HostRuntime) -> Result<(), Fail> {
     let mut kernel = waiting(rt.alloc(), COMPLETE)?;
     for id in [THIRD, ROOT, SIGMA0] {
-        assert!(rt; ends(&mut kernel, &receive(2, FOURTH, 0), Outcome::Started, &[2]));
-        assert!(rt; replied(&kernel, 2, 0x8000, 5, NOBODY, &[]));
-        assert!(rt;
-            ends(
-                &mut kernel,
-                &set_pager(2, id, FOURTH),
-                Outcome::Started,
-                &[2]
-            )
-        );
+        assert!(rt; starts(&mut kernel, &receive(2, FOURTH, 0), &[2]));
+        assert!(rt; ipc_failed(&kernel, 2, 5));
+        assert!(rt; starts(&mut kernel, &set_pager(2, id, FOURTH), &[2]));
         assert!(rt; is_controlled(&kernel, 2));
     }
     step_all(
