@@ -4,7 +4,7 @@ use Rattle.std.proofs.lemmas.Bool.{false≢true}
 use Rattle.std.proofs.lemmas.Bool.Decides.{nat_tests}
 use Rattle.std.proofs.lemmas.List.{append-nil, take_all}
 use Rattle.std.proofs.lemmas.List.Elements.{All-nil, All-push}
-use Rattle.std.specs.Io.KnownBytes.{Consumes}
+use Rattle.std.specs.Io.KnownBytes.{Consumes, IsAtEnd}
 use Rattle.std.specs.List.{All, flat_map}
 use denote.Enum.Bare.{sameb}
 use Rattle.l4_text.proofs.LineSteps.{consumes_more, consumes_same, empty_list}
@@ -16,7 +16,10 @@ use Rattle.l4_plan_lines.specs.Lines.{ended}
 use Rattle.l4_plan_lines.specs.Claims.{IsClaim, IsBeginning}
 use Rattle.l4_plan_lines.specs.Inside.Claims.{SaysMore, SaysAll}
 use Rattle.l4_plan_lines.specs.Inputs.{IsLine, IsWrongWhole, IsFirstWrong}
-use Rattle.l4_plan_lines.specs.Inside.Inputs.{Reflects, Stops, EndsSo, TakesOne, HasRead}
+use Rattle.l4_plan_lines.specs.Answers.{IsAnswer, answer_line, is_proved, Answered}
+use Rattle.l4_plan_lines.specs.Inside.Inputs.{Reflects, Stops, EndsSo, TakesOne, HasEnded, HasRead}
+use Rattle.l4_plan_lines.specs.declared.answers.Answer.{Answer}
+use Rattle.l4_msg.specs.declared.regions.Region.{Region}
 use Rattle.l4_plan_lines.specs.declared.found.Found.{Found}
 use Rattle.l4_plan_lines.specs.declared.found.WrongLine.{WrongLine}
 use Rattle.l4_plan_lines.specs.declared.found.LineFault.{LineFault}
@@ -167,6 +170,16 @@ rest_same old mid new now after kept s a l =
     ap (λ x. x ++ l.takes.read) a.same ∙ append_assoc (flat_map ended a.lines) now.0 l.takes.read
     ∙ ap (λ x. flat_map ended a.lines ++ x) (l.takes.same ∙ ap (λ x. l.bytes ++ x) l.empty ∙ append-nil l.bytes)
 
+-- the lines so far and what is left after them are all that there is
+all_read : (old mid new : Option (List ℕ)) (now after : List ℕ × ℕ) (kept : List ℕ × Bool) (s t : Found) → (a : SoFar old mid now s) → (l : TakesRest mid new now after kept) → IsAtEnd new
+    → Stops t a.lines l.bytes → HasRead old new t
+all_read old mid new now after kept s t a l end state = record {
+  bytes = a.read ++ l.takes.read;
+  read = consumes_more old mid new a.read l.takes.read a.from l.takes.from;
+  end = end;
+  ended = record { lines = a.lines; rest = l.bytes; splits = record { text = rest_same old mid new now after kept s a l; whole = a.whole; cut = l.plain }; state = state };
+}
+
 stop_state : (P : Type 0) (lines : List (List ℕ)) (rest : List ℕ) (w : Option WrongLine) → MatchOption w P (λ v. IsWrongWhole lines v.number v.fault) → rest ≡ []
     → MatchOption w (P × (rest ≡ [])) (λ v. IsFirstWrong lines rest v.number v.fault)
 stop_state P lines rest None h e = (h, e)
@@ -182,17 +195,7 @@ ends_here old mid new now after kept s r a gives is =
     let g = subst (λ (o : Option Ending). GivesLine mid new now after kept (Ok o)) is gives in
     let l = g.0 in
     let none : l.bytes ≡ [] = nothing_kept l.bytes (sym (ap (λ k. k.0) l.kept_is) ∙ g.2) in
-    record {
-      bytes = a.read ++ l.takes.read;
-      read = consumes_more old mid new a.read l.takes.read a.from l.takes.from;
-      end = g.1;
-      ended = record {
-        lines = a.lines;
-        rest = l.bytes;
-        splits = record { text = rest_same old mid new now after kept s a l; whole = a.whole; cut = l.plain };
-        state = stop_state (IsClaim a.lines s.claim.head s.claim.items.items s.claim.pages.items) a.lines l.bytes s.wrong a.state none;
-      };
-    }
+    all_read old mid new now after kept s s a l g.1 (stop_state (IsClaim a.lines s.claim.head s.claim.items.items s.claim.pages.items) a.lines l.bytes s.wrong a.state none)
 
 -- after a line: the lines so far, or with a cut line all that there are
 abbrev pub AfterLine : Ending → Option (List ℕ) → Option (List ℕ) → List ℕ × ℕ → Found → Type 0
@@ -222,17 +225,7 @@ after_line Cut old mid new now after kept s t r a gives is takes =
     let g = subst (λ (o : Option Ending). GivesLine mid new now after kept (Ok o)) is gives in
     let l = g.0 in
     let some : 0 < length (take 4096 l.bytes) = omega (arith, g.2, ap (λ k. length k.0) l.kept_is) in
-    record {
-      bytes = a.read ++ l.takes.read;
-      read = consumes_more old mid new a.read l.takes.read a.from l.takes.from;
-      end = g.1;
-      ended = record {
-        lines = a.lines;
-        rest = l.bytes;
-        splits = record { text = rest_same old mid new now after kept s a l; whole = a.whole; cut = l.plain };
-        state = takes a.lines l.bytes (omega (arith, some, length-take 4096 l.bytes)) a.state;
-      };
-    }
+    all_read old mid new now after kept s t a l g.1 (takes a.lines l.bytes (omega (arith, some, length-take 4096 l.bytes)) a.state)
 
 -- the line was cut
 pub after_cut : (ending : Ending) (old new : Option (List ℕ)) (now : List ℕ × ℕ) (s : Found) → AfterLine ending old new now s → true ≡ sameb the_type ending Cut → HasRead old new s
@@ -249,3 +242,16 @@ goes_on Cut old new now s a cut = absurd (false≢true cut)
 -- the bytes of the line are those that were kept
 pub same_bytes : (ending : Ending) (bytes kept : List ℕ) (s t : Found) → bytes ≡ kept → Takes ending bytes s t → Takes ending kept s t
 same_bytes ending bytes kept s t is h = subst (λ (b : List ℕ). Takes ending b s t) is h
+
+-- the answer to what was read
+pub answered : (r : Region) (old new : Option (List ℕ)) (s : Found) (answer : Answer) (proved : Bool) (text : List ℕ) → HasRead old new s
+    → ((input : List ℕ) → HasEnded s input → IsAnswer r input answer) → proved ≡ is_proved answer → text ≡ ended (answer_line answer) → Answered r old new proved text
+answered r old new s answer proved text read is flag spelled = record {
+  input = read.bytes;
+  read = read.read;
+  end = read.end;
+  answer = answer;
+  answered = is read.bytes read.ended;
+  flag = flag;
+  spelled = spelled;
+}
