@@ -253,8 +253,9 @@ same_counts l kept k b there =
 pub by_history_agree : (l : Lock) → IsKept l → (p : SeatState) → AllAgree started_by l.books p → AllAgree (by_history l.history) l.books p
 by_history_agree l kept p h k b there number = let a = h k b there number in ((same_counts l kept k b there).count ∙ a.0, a.1)
 
-pub wrong_by_history : (l : Lock) (seats : List SeatState) (n : ℕ) → IsKept l → IsWrong started_by l.books seats n → IsWrong (by_history l.history) l.books seats n
-wrong_by_history l seats n kept w = record {
+-- counts that are the same of each book: a seat that one is wrong about, the other is
+wrong_alike : (counts others : Book → ℕ) (books : List Book) (seats : List SeatState) (n : ℕ) → ((k : ℕ) (b : Book) → slice_get books k ≡ Some b → counts b ≡ others b) → IsWrong counts books seats n → IsWrong others books seats n
+wrong_alike counts others books seats n alike w = record {
   at = w.at;
   seat = w.seat;
   there = w.there;
@@ -263,21 +264,14 @@ wrong_by_history l seats n kept w = record {
   book = w.book;
   given = w.given;
   same = w.same;
-  differs = λ a. w.differs (sym (same_counts l kept w.place w.book w.given).count ∙ a.0, a.1);
+  differs = λ a. w.differs (alike w.place w.book w.given ∙ a.0, a.1);
 }
 
+pub wrong_by_history : (l : Lock) (seats : List SeatState) (n : ℕ) → IsKept l → IsWrong started_by l.books seats n → IsWrong (by_history l.history) l.books seats n
+wrong_by_history l seats n kept = wrong_alike started_by (by_history l.history) l.books seats n (λ k b there. sym (same_counts l kept k b there).count)
+
 wrong_by_books : (l : Lock) (seats : List SeatState) (n : ℕ) → IsKept l → IsWrong (by_history l.history) l.books seats n → IsWrong started_by l.books seats n
-wrong_by_books l seats n kept w = record {
-  at = w.at;
-  seat = w.seat;
-  there = w.there;
-  number = w.number;
-  place = w.place;
-  book = w.book;
-  given = w.given;
-  same = w.same;
-  differs = λ a. w.differs ((same_counts l kept w.place w.book w.given).count ∙ a.0, a.1);
-}
+wrong_by_books l seats n kept = wrong_alike (by_history l.history) started_by l.books seats n (λ k b there. (same_counts l kept k b there).count)
 
 pub mismatches : (l : Lock) (seats : List SeatState) (m : Mismatch) → IsKept l → Mismatches started_by l.books seats m → Mismatches (by_history l.history) l.books seats m
 mismatches l seats (Missing n) kept h = h
