@@ -5,6 +5,7 @@ use l4_ipc::{
     ArrayVec, Call, Fpage, IpcReply, MAX_WORDS, Refused, Reply, Rights, ThreadId, Timeout,
 };
 use l4_lock::LockRefusal;
+use std::alloc::Global;
 use std::process::Abort;
 
 const FRAMES: u32 = 16;
@@ -68,13 +69,24 @@ fn is_message(reply: Option<&Reply>) -> bool {
     }
 }
 
+/// Root makes the third thread, which waits for a message.
+fn make_third(rt: &impl Abort, kernel: &mut SeatedKernel) {
+    assert!(rt; kernel.enter(ROOT, &create()).is_ok());
+    assert!(rt; kernel.enter(THIRD, &receive()).is_ok());
+}
+
+/// A kernel with the seats of root and of the third thread, which waits for a message.
+fn waiting(rt: &impl Abort, alloc: Global) -> SeatedKernel {
+    let mut kernel = SeatedKernel::new(alloc, FRAMES).expect(rt, "a kernel");
+    assert!(rt; kernel.give(ROOT).is_ok() && kernel.give(THIRD).is_ok());
+    make_third(rt, &mut kernel);
+    kernel
+}
+
 /// A thread that was left waiting gets a message, and enters another call: nobody but the kernel keeps its reply.
 #[test]
 fn message(rt: HostRuntime) {
-    let mut kernel = SeatedKernel::new(rt.alloc(), FRAMES).expect(&rt, "a kernel");
-    assert!(rt; kernel.give(ROOT).is_ok() && kernel.give(THIRD).is_ok());
-    assert!(rt; kernel.enter(ROOT, &create()).is_ok());
-    assert!(rt; kernel.enter(THIRD, &receive()).is_ok());
+    let mut kernel = waiting(&rt, rt.alloc());
     assert!(rt; kernel.kernel().reply(THIRD).is_none());
     assert_eq!(rt; kernel.steps(), 2);
     assert!(rt; kernel.enter(ROOT, &send()).is_ok());
@@ -87,14 +99,10 @@ fn message(rt: HostRuntime) {
 /// A thread is deleted as it waits, and a new one with its number enters calls at once.
 #[test]
 fn deleted(rt: HostRuntime) {
-    let mut kernel = SeatedKernel::new(rt.alloc(), FRAMES).expect(&rt, "a kernel");
-    assert!(rt; kernel.give(ROOT).is_ok() && kernel.give(THIRD).is_ok());
-    assert!(rt; kernel.enter(ROOT, &create()).is_ok());
-    assert!(rt; kernel.enter(THIRD, &receive()).is_ok());
+    let mut kernel = waiting(&rt, rt.alloc());
     assert!(rt; kernel.enter(ROOT, &Call::delete(THIRD_ID)).is_ok());
     assert!(rt; kernel.kernel().space_of(THIRD).is_none());
-    assert!(rt; kernel.enter(ROOT, &create()).is_ok());
-    assert!(rt; kernel.enter(THIRD, &receive()).is_ok());
+    make_third(&rt, &mut kernel);
     assert_eq!(rt; (kernel.history().len(), kernel.steps()), (5, 5));
 }
 
@@ -109,8 +117,7 @@ fn refused(rt: HostRuntime) {
     assert_eq!(rt; kernel.enter(NOBODY, &receive()), unknown);
     assert!(rt; kernel.give(NOBODY).is_ok());
     assert_eq!(rt; kernel.enter(NOBODY, &receive()), unknown);
-    assert!(rt; kernel.enter(ROOT, &create()).is_ok());
-    assert!(rt; kernel.enter(THIRD, &receive()).is_ok());
+    make_third(&rt, &mut kernel);
     assert!(rt; kernel.give(THIRD).is_ok());
     assert_eq!(rt;
         kernel.enter(THIRD, &receive()),
