@@ -153,6 +153,23 @@ impl Kernel {
         Some(Step::Expire(number))
     }
 
+    /// The step that comes next, as `enabled` names it. Where there is none, that is remembered, so that the next call that waits is the
+    /// one that may act. Nothing that is seen changes.
+    #[inline]
+    pub fn next_enabled(&mut self) -> Option<Step>
+        ensures next { MatchOption result (IsIdle self.old) (IsNext self.old) }
+        ensures kept { self.new ≡ self.old }
+    {
+        if let Some((from, to)) = self.threads.next_transfer() {
+            return Some(Step::Transfer(from, to));
+        }
+        if let Some(number) = self.threads.next_expiry() {
+            return Some(Step::Expire(number));
+        }
+        self.threads.settle();
+        None
+    }
+
     /// Does the step that comes next, as `enabled` names it, and gives it with its answer. None where none is enabled, and then nothing
     /// changes.
     pub fn step_next(&mut self) -> Option<(Step, Answer)>
