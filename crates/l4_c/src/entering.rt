@@ -43,8 +43,8 @@ fn follow(kernel: &mut Kernel, steps: &mut [NextResult]) -> u32
 {
     kernel.law_consistent();
     let mut count = 0u32;
-    while let Some(step) = kernel.enabled() {
-        go_on(kernel, &step, steps, count);
+    while let Some(step) = &kernel.next_enabled() {
+        go_on(kernel, step, steps, count);
         count += 1;
     }
     count
