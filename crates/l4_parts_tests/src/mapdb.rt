@@ -3,15 +3,31 @@ use l4_mapdb::{Forest, ItemMove, Mapping, NoMemory, Place};
 use l4_msg::Move;
 use std::test::Fail;
 
+/// What a page shows that no page was moved to.
+fn root(frame: u32, rights: Rights) -> Mapping {
+    Mapping {
+        frame,
+        rights,
+        parent: None,
+    }
+}
+
+/// An item that maps page 5 to page 5.
+fn onto_itself() -> ItemMove {
+    ItemMove {
+        mv: Move {
+            source: Block { first: 5, log: 0 },
+            target: Block { first: 5, log: 0 },
+        },
+        rights: Rights::all(),
+        grant: false,
+    }
+}
+
 #[test]
 fn starts_with_frames(rt: HostRuntime) -> Result<(), Fail> {
     let forest = Forest::new(rt.alloc(), 256)?;
-    let shown = Mapping {
-        frame: 255,
-        rights: Rights::all(),
-        parent: None,
-    };
-    assert_eq!(rt; forest.at(0, 255), Some(shown));
+    assert_eq!(rt; forest.at(0, 255), Some(root(255, Rights::all())));
     assert_eq!(rt; forest.at(0, 256), None);
     assert_eq!(rt; forest.next_present(0, 16), Some(16));
     assert_eq!(rt; forest.next_present(0, 256), None);
@@ -25,23 +41,11 @@ fn revokes_and_tangles(rt: HostRuntime) -> Result<(), Fail> {
     let mut forest = Forest::new(rt.alloc(), 256)?;
     assert_eq!(rt; forest.root(5), Some(Place { space: 0, page: 5 }));
     assert_eq!(rt; forest.root(256), None);
-    let onto_itself = [ItemMove {
-        mv: Move {
-            source: Block { first: 5, log: 0 },
-            target: Block { first: 5, log: 0 },
-        },
-        rights: Rights::all(),
-        grant: false,
-    }];
+    let onto_itself = [onto_itself()];
     assert!(rt; forest.is_entangled(0, 0, &onto_itself));
     assert!(rt; !forest.is_entangled(0, 2, &onto_itself));
     forest.revoke(Place { space: 0, page: 5 }, Rights::of_bits(2), true);
-    let left = Mapping {
-        frame: 5,
-        rights: Rights::of_bits(5),
-        parent: None,
-    };
-    assert_eq!(rt; forest.at(0, 5), Some(left));
+    assert_eq!(rt; forest.at(0, 5), Some(root(5, Rights::of_bits(5))));
     forest.revoke(Place { space: 0, page: 5 }, Rights::all(), true);
     assert_eq!(rt; forest.at(0, 5), None);
     Ok(())
@@ -52,14 +56,7 @@ fn ends_a_space(rt: HostRuntime) -> Result<(), Fail> {
     let mut forest = Forest::new(rt.alloc(), 256)?;
     forest.new_space(2)?;
     forest.new_space(3)?;
-    let page = [ItemMove {
-        mv: Move {
-            source: Block { first: 5, log: 0 },
-            target: Block { first: 5, log: 0 },
-        },
-        rights: Rights::all(),
-        grant: false,
-    }];
+    let page = [onto_itself()];
     match forest.map_all(0, 2, &page) {
         Ok(()) => {}
         Err(_) => return Err(NoMemory.into()),
@@ -71,12 +68,7 @@ fn ends_a_space(rt: HostRuntime) -> Result<(), Fail> {
     assert_eq!(rt; forest.next_present(2, 0), Some(5));
     assert_eq!(rt; forest.next_present(3, 0), Some(5));
     forest.end_space(2);
-    let shown = Mapping {
-        frame: 5,
-        rights: Rights::all(),
-        parent: None,
-    };
-    assert_eq!(rt; forest.at(0, 5), Some(shown));
+    assert_eq!(rt; forest.at(0, 5), Some(root(5, Rights::all())));
     assert_eq!(rt; forest.at(2, 5), None);
     assert_eq!(rt; forest.at(3, 5), None);
     assert_eq!(rt; forest.next_present(2, 0), None);
