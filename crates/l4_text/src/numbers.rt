@@ -23,20 +23,27 @@ fn hex_digit(byte: u8) -> Option<u8>
     }
 }
 
+/// The number that one to so many digits of a base spell. What a digit is says a function that is named, so this is no function.
+macro_rules! spelled {
+    ($text:ident, $base:literal, $digit:ident, $most:literal) => {{
+        if $text.is_empty() || $text.len() > $most {
+            return None;
+        }
+        let mut value = 0u64;
+        for byte in $text {
+            let next = $digit(*byte)?;
+            value = value * $base + u64::from(next);
+        }
+        Some(value)
+    }};
+}
+
 /// The number that one to ten decimal digits spell, of any size.
 #[tactic(auto, unfolding(crate::specs::Numbers::decimal_of))]
 fn decimal(text: &[u8]) -> Option<u64>
     ensures { result ≡ decimal_of text.now }
 {
-    if text.is_empty() || text.len() > 10 {
-        return None;
-    }
-    let mut value = 0u64;
-    for byte in text {
-        let next = digit(*byte)?;
-        value = value * 10 + u64::from(next);
-    }
-    Some(value)
+    spelled!(text, 10, digit, 10)
 }
 
 /// The number that one to eight hexadecimal digits spell.
@@ -44,15 +51,7 @@ fn decimal(text: &[u8]) -> Option<u64>
 fn hexadecimal(text: &[u8]) -> Option<u64>
     ensures { result ≡ hex_of text.now }
 {
-    if text.is_empty() || text.len() > 8 {
-        return None;
-    }
-    let mut value = 0u64;
-    for byte in text {
-        let next = hex_digit(*byte)?;
-        value = value * 16 + u64::from(next);
-    }
-    Some(value)
+    spelled!(text, 16, hex_digit, 8)
 }
 
 /// The number, where it is below 2^32.
