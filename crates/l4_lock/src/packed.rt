@@ -6,7 +6,6 @@ ghost use Rattle.l4_packed.specs.Words.{Gives};
 ghost use Rattle.l4_lock.specs.Inside.Packing.{entry_at, entry_outline_at, receipt_at};
 
 use crate::entries::{Entry, EntryOutline, Receipt};
-use crate::packed_list::FromWords;
 use l4_ipc::{Answer, Call, Reply, Step};
 use l4_packed::{
     ANSWER_WORDS, Record, Words, put_answer, put_call, put_place, put_reply, put_start, put_step,
@@ -41,16 +40,15 @@ pub fn write_start(out: &mut Record, number: u32, call: &Call, answer: &Answer)
     put_start(out, number, call);
 }
 
-impl FromWords for Entry {
-    ghost item_at = { entry_at };
-
-    #[tactic(auto, unfolding(crate::specs::Inside::Packing::entry_at))]
-    fn from_words(words: Words<'_>) -> Option<Entry> {
-        let (seat, rest) = read_word(words)?;
-        let (answer, rest) = read_answer(rest)?;
-        let (step, _) = read_step(rest)?;
-        Some(Entry { seat, step, answer })
-    }
+/// The entry that words begin with.
+#[tactic(auto, unfolding(crate::specs::Inside::Packing::entry_at))]
+pub fn read_entry(words: Words<'_>) -> Option<Entry>
+    ensures { result ≡ entry_at words.entry }
+{
+    let (seat, rest) = read_word(words)?;
+    let (answer, rest) = read_answer(rest)?;
+    let (step, _) = read_step(rest)?;
+    Some(Entry { seat, step, answer })
 }
 
 /// Reads the entry that words begin with, without the call of a start, whose words aren't read, in the place of another.
@@ -76,20 +74,19 @@ pub fn write_receipt(out: &mut Record, call: &Call, start: usize, end: usize, re
     put_reply(out, reply);
 }
 
-impl FromWords for Receipt {
-    ghost item_at = { receipt_at };
-
-    #[tactic(auto, unfolding(crate::specs::Inside::Packing::receipt_at))]
-    fn from_words(words: Words<'_>) -> Option<Receipt> {
-        let (call, rest) = read_call(words)?;
-        let (start, rest) = read_place(rest)?;
-        let (end, rest) = read_place(rest)?;
-        let (reply, _) = read_reply(rest)?;
-        Some(Receipt {
-            call,
-            start,
-            end,
-            reply,
-        })
-    }
+/// The receipt that words begin with.
+#[tactic(auto, unfolding(crate::specs::Inside::Packing::receipt_at))]
+pub fn read_receipt(words: Words<'_>) -> Option<Receipt>
+    ensures { result ≡ receipt_at words.entry }
+{
+    let (call, rest) = read_call(words)?;
+    let (start, rest) = read_place(rest)?;
+    let (end, rest) = read_place(rest)?;
+    let (reply, _) = read_reply(rest)?;
+    Some(Receipt {
+        call,
+        start,
+        end,
+        reply,
+    })
 }
