@@ -2,13 +2,13 @@
 use Rattle.std.specs.Prelude.{◌≡◌, ◌⊎◌, ℕ, ◌<◌, ◌≤◌, List, [], length, min, codes}
 use Rattle.l4_fpage.specs.Rights.{set_of_bits}
 use Rattle.l4_msg.specs.Messages.{MessageReads, MessageFails, message_words}
-use Rattle.l4_msg.specs.Regions.{IsEmpty, IsOutOfSpace, InSpace, HasNoRights, IsSound, IsRival, IsPlan, IsCertificate, NeedsAtLeast, NeedsMoreThan, max_plan_items}
+use Rattle.l4_msg.specs.Regions.{IsEmpty, IsOutOfSpace, InSpace, HasNoRights, IsRival, IsCertificate, NeedsAtLeast, NeedsMoreThan, max_plan_items}
 use Rattle.l4_msg.specs.declared.items.Item.{Item}
 use Rattle.l4_msg.specs.declared.regions.Region.{Region}
 use Rattle.l4_msg.specs.declared.messages.Message.{Message}
 use Rattle.l4_msg.specs.declared.messages.MsgFault.{MsgFault}
 use Rattle.l4_plan.specs.Plan.{Listing}
-use Rattle.l4_plan.specs.Largest.{AreStarts}
+use Rattle.l4_plan.specs.Shortest.{IsShortest, IsTooLong}
 use Rattle.l4_plan_check.specs.Faults.{Holds, IsFirstFault, LongHolds, IsFirstLongFault}
 use Rattle.l4_plan_check.specs.declared.faults.Fault.{Fault as AFault}
 use Rattle.l4_plan_check.specs.declared.faults.Fault.TheVariants.{Region as InRegion, Item as InItem, Gap, Count, Page, Pair}
@@ -42,31 +42,13 @@ pub record Sends (m : Message) (plan : Listing) : Type 0 where
 abbrev pub PlanIsTold : Listing → PlanResult → Type 0
 PlanIsTold plan p = (m : Message) × Sends m plan × (p ≡ plan_result 0 (message_words m) plan.pages)
 
--- A list of map items that move exactly the region, 31 at most, each as large as it can be, and pages, one an item, that show that none is
--- shorter.
-pub record IsShortest (r : Region) (list : Listing) : Type 0 where
-  pub sound : IsSound r
-  pub plan : IsPlan r list.items list.pages
-  pub one_each : length list.pages ≡ length list.items
-  pub few : length list.items ≤ max_plan_items
-  pub starts : AreStarts r r.source list.pages
-  pub shortest : NeedsAtLeast r (length list.items)
-
--- the pages show that each list of map items has more than 31
-pub record ShowsTooLong (r : Region) (pages : List ℕ) : Type 0 where
-  pub sound : IsSound r
-  pub certificate : IsCertificate r pages
-  pub many : length pages ≡ 32
-  pub starts : AreStarts r r.source pages
-  pub too_long : NeedsMoreThan r max_plan_items
-
 abbrev pub TellsPlan : Region → PlanResult → Type 0
 TellsPlan r p =
     ((list : Listing) × IsShortest r list × PlanIsTold list p)
     ⊎ (IsEmpty r × (p ≡ plan_result (spelled (codes "N1")) [] []))
     ⊎ ((0 < r.count) × IsOutOfSpace r × (p ≡ plan_result (spelled (codes "N2")) [] []))
     ⊎ ((0 < r.count) × InSpace r × HasNoRights r × (p ≡ plan_result (spelled (codes "N3")) [] []))
-    ⊎ ((pages : List ℕ) × ShowsTooLong r pages × (p ≡ plan_result (spelled (codes "N4")) [] pages))
+    ⊎ ((pages : List ℕ) × IsTooLong r pages × (p ≡ plan_result (spelled (codes "N4")) [] pages))
 
 -- a place, where detail has that number, and else the greatest that it has
 abbrev pub told_place : ℕ → ℕ

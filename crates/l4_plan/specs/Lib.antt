@@ -1,3 +1,4 @@
 pub mod Largest
 pub mod Plan
 pub mod Refusals
+pub mod Shortest

@@ -5,7 +5,8 @@ use Rattle.l4_msg.specs.declared.regions.Region.{Region}
 use Rattle.l4_plan.specs.Plan.{Listing}
 use Rattle.l4_plan_lines.proofs.LargestBlocks.{same_starts}
 use Rattle.l4_plan_lines.proofs.SamePlans.{same_items}
-use Rattle.l4_plan_lines.specs.Plans.{IsPlanText, IsShortest, IsTooLong, plan_text, too_long_text}
+use Rattle.l4_plan.specs.Shortest.{IsShortest, IsTooLong}
+use Rattle.l4_plan_lines.specs.Plans.{IsPlanText, plan_text, too_long_text}
 
 same_pages : (r : Region) (p q : Listing) → InSpace r → IsShortest r p → IsShortest r q → p.pages ≡ q.pages
 same_pages r p q space a b =

@@ -13,7 +13,8 @@ use Rattle.l4_plan.specs.Largest.{AreStarts}
 use Rattle.l4_plan.specs.Refusals.{IfTooLong}
 use Rattle.l4_plan.specs.declared.plans.PlanRefusal.{PlanRefusal}
 use Rattle.l4_plan.specs.declared.plans.PlanRefusal.TheVariants.{Empty, OutOfSpace, NoRights, TooLong}
-use Rattle.l4_plan_lines.specs.Plans.{item_texts, message_text, IsTooLong}
+use Rattle.l4_plan.specs.Shortest.{IsTooLong}
+use Rattle.l4_plan_lines.specs.Plans.{item_texts, message_text}
 
 ten_digits : (n : ℕ) → n < 2 ^ 32 → length (decimal n) ≤ 10
 ten_digits n small = length-decimal-le 10 n (omega arith) (omega arith) (omega arith)

@@ -1,12 +1,12 @@
 -- What is written of the plan of a region (own).
-use Rattle.std.specs.Prelude.{◌≡◌, ℕ, ◌+◌, ◌*◌, ◌<◌, ◌≤◌, ◌⊎◌, Bool, true, false, List, [], ◌∷◌, ◌++◌, length, codes}
+use Rattle.std.specs.Prelude.{◌≡◌, ℕ, ◌*◌, ◌<◌, ◌⊎◌, Bool, true, false, List, [], ◌∷◌, ◌++◌, length, codes}
 use Rattle.std.specs.List.{flat_map}
-use Rattle.l4_msg.specs.Regions.{max_plan_items, IsEmpty, InSpace, IsOutOfSpace, HasNoRights, IsSound, IsPlan, IsCertificate, NeedsAtLeast, NeedsMoreThan, max_plan_items}
+use Rattle.l4_msg.specs.Regions.{IsEmpty, InSpace, IsOutOfSpace, HasNoRights}
 use Rattle.l4_msg.specs.Sizes.{typed_place}
 use Rattle.l4_msg.specs.Words.{items_words}
 use Rattle.l4_msg.specs.declared.regions.Region.{Region}
 use Rattle.l4_plan.specs.Plan.{Listing}
-use Rattle.l4_plan.specs.Largest.{AreStarts}
+use Rattle.l4_plan.specs.Shortest.{IsShortest, IsTooLong}
 use Rattle.l4_plan_lines.specs.Lines.{ended, tag_line, item_line, page_line, long_line}
 
 -- two words and a page a line
@@ -29,23 +29,6 @@ plan_text p = message_text (plan_words p) p.pages
 
 abbrev pub too_long_text : List ℕ → List ℕ
 too_long_text pages = ended long_line ++ flat_map (λ page. ended (page_line page)) pages
-
--- the shortest list of map items that moves exactly the region, and the first pages of its items
-pub record IsShortest (r : Region) (p : Listing) : Type 0 where
-  pub sound : IsSound r
-  pub plan : IsPlan r p.items p.pages
-  pub one_each : length p.pages ≡ length p.items
-  pub few : length p.items ≤ max_plan_items
-  pub starts : AreStarts r r.source p.pages
-  pub shortest : NeedsAtLeast r (length p.items)
-
--- one page more than a plan has items, which show that each such list is too long
-pub record IsTooLong (r : Region) (pages : List ℕ) : Type 0 where
-  pub sound : IsSound r
-  pub many : length pages ≡ max_plan_items + 1
-  pub certificate : IsCertificate r pages
-  pub starts : AreStarts r r.source pages
-  pub none : NeedsMoreThan r max_plan_items
 
 -- the text of a region's plan; the truth value says whether there is one
 abbrev pub IsPlanText : Region → Bool → List ℕ → Type 0

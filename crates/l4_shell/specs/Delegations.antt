@@ -5,7 +5,8 @@ use Rattle.l4_msg.specs.declared.regions.Region.{Region}
 use Rattle.l4_plan.specs.Plan.{Listing}
 use Rattle.l4_plan.specs.declared.plans.PlanRefusal.{PlanRefusal}
 use Rattle.l4_plan.specs.declared.plans.PlanRefusal.TheVariants.{Empty, OutOfSpace, NoRights, TooLong}
-use Rattle.l4_plan_lines.specs.Plans.{IsShortest, IsTooLong, plan_words}
+use Rattle.l4_plan.specs.Shortest.{IsShortest, IsTooLong}
+use Rattle.l4_plan_lines.specs.Plans.{plan_words}
 
 -- the words of the message of the shortest list of map items that moves exactly the region
 abbrev pub ArePlanWords : Region → List ℕ → Type 0

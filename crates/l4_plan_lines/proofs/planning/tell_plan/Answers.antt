@@ -5,7 +5,8 @@ use Rattle.l4_plan.specs.Refusals.{IfTooLong}
 use Rattle.l4_plan.specs.declared.plans.PlanRefusal.{PlanRefusal}
 use Rattle.l4_plan_lines.proofs.TextSteps.{long_of}
 use Rattle.l4_plan_lines.specs.Lines.{ended}
-use Rattle.l4_plan_lines.specs.Plans.{plan_text, too_long_text, IsTooLong}
+use Rattle.l4_plan.specs.Shortest.{IsTooLong}
+use Rattle.l4_plan_lines.specs.Plans.{plan_text, too_long_text}
 use Rattle.l4_plan_lines.proofs.planning.tell_plan.Goals as goal
 
 pub returns-in-Ok : goal.returns-in-Ok

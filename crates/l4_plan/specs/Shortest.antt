@@ -1,0 +1,24 @@
+-- What is known of the plan of a region, and where there is none (own).
+use Rattle.std.specs.Prelude.{◌≡◌, ℕ, ◌+◌, ◌≤◌, List, length}
+use Rattle.l4_msg.specs.Regions.{IsSound, IsPlan, IsCertificate, NeedsAtLeast, NeedsMoreThan, max_plan_items}
+use Rattle.l4_msg.specs.declared.regions.Region.{Region}
+use Rattle.l4_plan.specs.Plan.{Listing}
+use Rattle.l4_plan.specs.Largest.{AreStarts}
+
+-- A list of map items that move exactly the region, 31 at most, each as large as it can be, and the first pages of its items, which
+-- show that none is shorter.
+pub record IsShortest (r : Region) (p : Listing) : Type 0 where
+  pub sound : IsSound r
+  pub plan : IsPlan r p.items p.pages
+  pub one_each : length p.pages ≡ length p.items
+  pub few : length p.items ≤ max_plan_items
+  pub starts : AreStarts r r.source p.pages
+  pub shortest : NeedsAtLeast r (length p.items)
+
+-- one page more than a plan has items, which show that each such list is too long
+pub record IsTooLong (r : Region) (pages : List ℕ) : Type 0 where
+  pub sound : IsSound r
+  pub many : length pages ≡ max_plan_items + 1
+  pub certificate : IsCertificate r pages
+  pub starts : AreStarts r r.source pages
+  pub none : NeedsMoreThan r max_plan_items
