@@ -8,6 +8,9 @@ use l4_ipc::{
     UnmapCall,
 };
 
+/// The kind of a Delete.
+pub const DELETE: u32 = 6;
+
 /// A call of a thread. Only the members of its kind are read.
 #[repr(C)]
 #[derive(Clone, Copy)]
@@ -113,7 +116,7 @@ fn set_pager(given: &CallGiven, words: &[u32]) -> Call
     }))
 }
 
-fn delete(given: &CallGiven, words: &[u32]) -> Call
+pub fn delete(given: &CallGiven, words: &[u32]) -> Call
     requires { given.now.kind ≡ 6 }
     ensures { IsCall given.now words.now result }
 {
@@ -133,7 +136,7 @@ pub fn write_call(call: &mut Call, given: &CallGiven, words: &[u32]) -> bool
         3 => write_unmap(call, given, words),
         4 => *call = create(given, words),
         5 => *call = set_pager(given, words),
-        6 => *call = delete(given, words),
+        DELETE => *call = delete(given, words),
         _ => return false,
     }
     true

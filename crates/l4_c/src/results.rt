@@ -2,11 +2,12 @@
 ghost use Rattle.std.specs.Prelude.{◌≡◌, ◌≤◌, Ok, length};
 ghost use Rattle.l4_ipc.specs.Machine.{Machine};
 ghost use Rattle.l4_ipc.specs.Steps.{Steps, IsNext};
+ghost use Rattle.l4_ipc.specs.OwnCall.{answered_if};
 ghost use Rattle.l4_c.specs.Asked.{no_page_result, page_result};
 ghost use Rattle.l4_c.specs.Told.{filled, refusal_result, answer_result, step_result, no_step_result, next_result, done_result};
 
 use crate::numbers::{kernel_detail, kernel_number, outcome_number};
-use l4_ipc::{Answer, MAX_THREADS, MAX_WORDS, Refused, Step};
+use l4_ipc::{Answer, MAX_THREADS, MAX_WORDS, Outcome, Refused, Step};
 
 /// What a step did, or why it was refused.
 #[repr(C)]
@@ -162,8 +163,23 @@ pub fn done_told(step: &Step, answer: &Answer) -> NextResult
     let mut told = step_told(step);
     told.outcome = outcome_number(answer.outcome);
     told.ended_count = answer.ended.len() as u32;
-    told.ended = padded(answer.ended.as_slice());
+    told.ended = first_two(answer.ended.as_slice());
     told
+}
+
+/// At most two numbers, and 0 after them. They are read by fixed places, so that no list of them is copied.
+#[inline(always)]
+fn first_two(numbers: &[u32]) -> [u32; 2]
+    requires { length numbers.now ≤ 2 }
+    ensures { result ≡ filled 2 numbers.now }
+{
+    if numbers.len() == 2 {
+        return [numbers[0], numbers[1]];
+    }
+    if numbers.len() == 1 {
+        return [numbers[0], 0];
+    }
+    [0, 0]
 }
 
 /// The numbers, and 0 after them.
@@ -189,6 +205,25 @@ pub fn answered(answer: &Answer) -> StepResult
         ended_count: answer.ended.len() as u32,
         ended: padded(answer.ended.as_slice()),
     }
+}
+
+/// A call that was started, which has ended or hasn't, and no other call has.
+#[inline(always)]
+pub fn started_told(ends: bool, thread: u32) -> StepResult
+    ensures { result ≡ step_result (answered_if thread (Ok ends)) }
+{
+    let mut told = StepResult {
+        refusal: 0,
+        detail: 0,
+        outcome: outcome_number(Outcome::Started),
+        ended_count: 0,
+        ended: [0; MAX_THREADS],
+    };
+    if ends {
+        told.ended_count = 1;
+        told.ended[0] = thread;
+    }
+    told
 }
 
 /// What a step gave.

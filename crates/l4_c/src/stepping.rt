@@ -5,10 +5,12 @@ ghost use Rattle.l4_ipc.specs.Steps.{Steps};
 ghost use Rattle.l4_ipc.specs.declared.steps.Step.TheVariants.{Transfer, Expire};
 ghost use Rattle.l4_c.specs.Exports.{Answers, Starts, Names, GoesOn};
 
-use crate::calls::{CallGiven, write_call};
+use crate::calls::{CallGiven, DELETE, delete, write_call};
 use crate::kernels::KernelHandle;
-use crate::numbers::{EMPTY, NO_SUCH_CALL};
-use crate::results::{NextResult, StepResult, done_told, no_step, refused, step_told, told};
+use crate::numbers::{EMPTY, NO_SUCH_CALL, kernel_detail, kernel_number};
+use crate::results::{
+    NextResult, StepResult, done_told, no_step, refused, started_told, step_told, told,
+};
 use l4_ipc::{ArrayVec, Call, IpcCall, Kernel, Step, ThreadId};
 use std::alloc::Global;
 
@@ -45,11 +47,23 @@ pub extern "C" fn l4_expire(alloc: Global, handle: &mut KernelHandle, thread: u3
     step(alloc, handle, &Step::Expire(thread))
 }
 
+/// Starts a Delete, which ends any number of calls.
+fn start_delete(kernel: &mut Kernel, thread: u32, given: &CallGiven, words: &[u32]) -> StepResult
+    requires { given.now.kind ≡ 6 }
+    ensures { Starts (Some kernel.old) thread given.now words.now result (Some kernel.new) }
+{
+    let call = delete(given, words);
+    told(&kernel.start(thread, &call))
+}
+
 /// Starts a call of a thread.
 #[inline(always)]
 pub fn start(kernel: &mut Kernel, thread: u32, given: &CallGiven, words: &[u32]) -> StepResult
     ensures { Starts (Some kernel.old) thread given.now words.now result (Some kernel.new) }
 {
+    if given.kind == DELETE {
+        return start_delete(kernel, thread, given, words);
+    }
     let mut call = Call::Ipc(IpcCall {
         to: ThreadId(0),
         from: ThreadId(0),
@@ -60,7 +74,10 @@ pub fn start(kernel: &mut Kernel, thread: u32, given: &CallGiven, words: &[u32])
     if !write_call(&mut call, given, words) {
         return refused(NO_SUCH_CALL, 0);
     }
-    told(&kernel.start(thread, &call))
+    match kernel.enter(thread, &call) {
+        Ok(ends) => started_told(ends, thread),
+        Err(e) => refused(kernel_number(e), kernel_detail(e)),
+    }
 }
 
 /// Starts a call of a thread.

@@ -1,5 +1,5 @@
 -- Starts, as the machine says them.
-use Rattle.std.proofs.Common.{◌≡◌, ◌≢◌, ℕ, ◌+◌, ◌-◌, ◌==◌, List, length, take, drop, arith, Bool, true, false, if◌then◌else◌, not, Option, Some, None, [], ◌∷◌, Ok, MatchOption, IsTrue, IsSome, refl, sym, ap, ◌∙◌, subst}
+use Rattle.std.proofs.Common.{◌≡◌, ◌≢◌, ℕ, ◌+◌, ◌-◌, ◌==◌, List, length, take, drop, arith, Bool, true, false, if◌then◌else◌, not, Option, Some, None, [], ◌∷◌, Result, Ok, Err, MatchOption, IsTrue, IsSome, refl, sym, ap, ◌∙◌, subst}
 use Rattle.std.specs.Option.{option_map_or, option_map}
 use Rattle.std.specs.List.{slice_range}
 use Rattle.std.proofs.lemmas.Bool.{false≢true}
@@ -33,6 +33,7 @@ use Rattle.l4_ipc.specs.declared.steps.Refused.{Refused}
 use Rattle.l4_ipc.specs.declared.steps.Refused.TheVariants.{UnknownThread}
 use Rattle.l4_ipc.specs.declared.steps.Step.TheVariants.{Start, Expire}
 use Rattle.l4_ipc.specs.Machine.{Machine, machine}
+use Rattle.l4_ipc.specs.OwnCall.{answered_if, Enters}
 use Rattle.l4_ipc.specs.Start.{has_send, send_timeout, counted_words, partner, IsSent, IsAccepted, CallRefuses, RefusesIn, StartRefuses, later_of, ipc_next, going_on, enters, ended_by}
 use Rattle.l4_ipc.specs.Inside.Entering.{CanEnter}
 use Rattle.l4_ipc.specs.Inside.Turns.{sent_of}
@@ -186,3 +187,10 @@ sends_to t n call words items window to expires later h there e l =
     (λ i. Sends (sending_of words items (record { to = to; expires = e i; «then» = l i; fault = false })))
     ∙ ap (λ o. option_map_or (λ to. Sends (sending_of words items (record { to = to; expires = send_timeout call == 0x400; «then» = later_of call window; fault = false }))) o (Ends (failed false 4))) there
     ∙ sym (sends_next t n call words items window h)
+
+-- a start that tells only of its own call is the step all the same
+pub entered : (deletes : Bool) (old new : Machine) (n : ℕ) (call : Call) (told : Result Bool Refused)
+    → Enters deletes old n call told new → (given : Result Answer Refused) × Steps old (Start n call) given new
+entered true old new n call (Ok ended) h = (Ok h.0, h.1)
+entered true old new n call (Err e) h = (Err e, h)
+entered false old new n call told h = (answered_if n told, h)

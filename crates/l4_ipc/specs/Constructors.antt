@@ -1,5 +1,5 @@
 -- The calls that threads usually make. (L4 X.2 manual, IPC: Call, Send, Receive, ReplyWait and Wait; Unmap. Timeouts of never and zero alone are this profile's own.)
-use Rattle.std.specs.Prelude.{⊤, ◌≡◌, ℕ, ◌+◌, ◌*◌, ◌^◌, Bool, false, List}
+use Rattle.std.specs.Prelude.{⊤, ◌≡◌, ℕ, ◌+◌, ◌*◌, Bool, false, List}
 use Rattle.l4_fpage.specs.Fpages.{fpage_word, ReadsAs}
 use Rattle.l4_fpage.specs.declared.fpages.Fpage.{Fpage}
 use Rattle.l4_threads.specs.declared.ThreadId.{ThreadId}

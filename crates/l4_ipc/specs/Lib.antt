@@ -2,6 +2,7 @@ pub mod Machine
 pub mod Start
 pub mod Moving
 pub mod Steps
+pub mod OwnCall
 pub mod Runs
 pub mod Reading
 pub mod Following

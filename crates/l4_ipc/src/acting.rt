@@ -1,5 +1,5 @@
 //! The steps on the kernel's parts.
-ghost use Rattle.std.specs.Prelude.{◌≡◌, ◌≤◌, ◌++◌, ◌∷◌, [], ℕ, length, true, false, IsTrue, IsSome, OnOk, OnErr};
+ghost use Rattle.std.specs.Prelude.{◌≡◌, ◌≤◌, ◌++◌, ◌∷◌, [], ℕ, length, true, false, IsTrue, IsSome, MatchOption, Err, OnOk, OnErr};
 ghost use Rattle.l4_mapdb.specs.Mappings.{Mappings};
 ghost use Rattle.l4_threads.specs.Threads.{state_of, runs, end_call};
 ghost use Rattle.l4_threads.specs.declared.Reply.TheVariants.{Controlled};
@@ -10,12 +10,14 @@ ghost use Rattle.l4_msg.specs.Messages.{HasGoodTag, tag_of};
 ghost use Rattle.l4_msg.specs.Sizes.{max_words, max_items};
 ghost use Rattle.l4_msg.specs.Tags.{TagReads};
 ghost use Rattle.l4_ipc.specs.Start.{has_send, has_bad_timeout, IsSent};
-ghost use Rattle.l4_ipc.specs.Inside.Turns.{reply_of, ended_if, sent_of};
+ghost use Rattle.l4_ipc.specs.Inside.Turns.{reply_of, sent_of};
+ghost use Rattle.l4_ipc.specs.OwnCall.{ended_if, answered_if, is_delete, Enters};
 ghost use Rattle.l4_ipc.specs.Steps.{expiry, with_space, Steps};
 ghost use Rattle.l4_ipc.specs.declared.steps.Step.TheVariants.{Start, Transfer as Transfers, Expire as Expires};
 ghost use Rattle.l4_ipc.specs.declared.steps.Outcome.TheVariants.{Started};
+ghost use Rattle.l4_ipc.specs.declared.calls.Call.{Call};
 ghost use Rattle.l4_ipc.specs.declared.calls.Call.TheVariants.{Ipc, Fault as Faults, Unmap as Unmaps, Control as Controls};
-ghost use Rattle.l4_ipc.specs.declared.calls.Control.TheVariants.{Create as Creates, SetPager as SetsPager};
+ghost use Rattle.l4_ipc.specs.declared.calls.Control.TheVariants.{Create as Creates, SetPager as SetsPager, Delete as Deletes};
 
 use crate::calls::{Call, Control, Create, FaultCall, IpcCall, SetPager, UnmapCall};
 use crate::deleting::delete;
@@ -29,7 +31,7 @@ use crate::turns::Ending;
 use arrayvec::ArrayVec;
 use l4_mapdb::{Forest, NoMemory};
 use l4_msg::{Item, MAX_WORDS, Message, Tag, copied};
-use l4_threads::{Envelope, MAX_THREADS, Reply, SendPhase, State, Threads};
+use l4_threads::{Envelope, MAX_THREADS, Reply, SendPhase, State, ThreadId, Threads};
 use l4_unmap::unmap;
 
 /// A list of one thread, where its call ends.
@@ -55,11 +57,22 @@ fn started(ends: bool, number: u32) -> Answer
     }
 }
 
-/// Starts an Ipc without a send phase of a running thread: of the message, nothing is read.
-fn start_receive(threads: &mut Threads, number: u32, call: &IpcCall) -> Result<Answer, Refused>
+/// The answer of a call that was entered, or why it is refused: a list of threads has room for all of them, so it is made once and last.
+#[inline(always)]
+fn answered(entered: Result<bool, Refused>, number: u32) -> Result<Answer, Refused>
+    ensures { result ≡ answered_if number entered }
+{
+    match entered {
+        Ok(ends) => Ok(started(ends, number)),
+        Err(e) => Err(e),
+    }
+}
+
+/// Starts an Ipc without a send phase of a running thread: of the message, nothing is read. True says that the call has ended.
+fn start_receive(threads: &mut Threads, number: u32, call: &IpcCall) -> Result<bool, Refused>
     requires running { IsTrue (runs threads.old number) }
     requires receives { has_send call.now ≡ false }
-    ensures { (s : Mappings) → Steps (machine threads.old s) (Start number (Ipc call.now)) result (machine threads.new s) }
+    ensures { (s : Mappings) → Steps (machine threads.old s) (Start number (Ipc call.now)) (answered_if number result) (machine threads.new s) }
 {
     if call.has_bad_timeout() {
         return Err(Refused::BadTimeout);
@@ -69,25 +82,25 @@ fn start_receive(threads: &mut Threads, number: u32, call: &IpcCall) -> Result<A
         Err(fault) => return Err(Refused::Lower(Lower::Message(fault))),
     };
     let turn = going_on(threads, call.later(window), false);
-    let ends = enter(threads, number, turn);
-    Ok(started(ends, number))
+    Ok(enter(threads, number, turn))
 }
 
-/// Starts the send phase of a running thread's Ipc, with the registers of its message and the items in them.
+/// Starts the send phase of a running thread's Ipc, with the registers of its message and the items in them. True says that the call
+/// has ended.
 fn start_message(
     threads: &mut Threads,
     number: u32,
     call: &IpcCall,
     words: &[u32],
     items: &[Item],
-) -> Result<Answer, Refused>
+) -> Result<bool, Refused>
     requires running { IsTrue (runs threads.old number) }
     requires timely { has_bad_timeout call.now ≡ false }
     requires sends { has_send call.now ≡ true }
     requires sent { IsSent true call.now.words.items (sent_of words.now items.now) }
     requires words { length words.now ≤ max_words }
     requires items { length items.now ≤ max_items }
-    ensures { (s : Mappings) → Steps (machine threads.old s) (Start number (Ipc call.now)) result (machine threads.new s) }
+    ensures { (s : Mappings) → Steps (machine threads.old s) (Start number (Ipc call.now)) (answered_if number result) (machine threads.new s) }
 {
     let window = match call.window() {
         Ok(window) => window,
@@ -95,7 +108,7 @@ fn start_message(
     };
     let Some(to) = partner(threads, number, call.to) else {
         end(threads, number, Ending::Failed(false, 4));
-        return Ok(started(true, number));
+        return Ok(true);
     };
     let phase = SendPhase {
         to,
@@ -104,7 +117,7 @@ fn start_message(
         fault: false,
     };
     threads.start_message(number, words, items, phase);
-    Ok(started(false, number))
+    Ok(false)
 }
 
 /// Starts the send phase of a running thread's Ipc whose message has items.
@@ -113,13 +126,13 @@ fn start_items(
     number: u32,
     call: &IpcCall,
     tag: &Tag,
-) -> Result<Answer, Refused>
+) -> Result<bool, Refused>
     requires running { IsTrue (runs threads.old number) }
     requires timely { has_bad_timeout call.now ≡ false }
     requires sends { has_send call.now ≡ true }
     requires good { HasGoodTag call.now.words.items }
     requires tag { TagReads (tag_of call.now.words.items) tag.now }
-    ensures { (s : Mappings) → Steps (machine threads.old s) (Start number (Ipc call.now)) result (machine threads.new s) }
+    ensures { (s : Mappings) → Steps (machine threads.old s) (Start number (Ipc call.now)) (answered_if number result) (machine threads.new s) }
 {
     let items = match Message::read_typed(call.words.as_slice(), tag) {
         Ok(items) => items,
@@ -135,9 +148,9 @@ fn start_items(
 }
 
 /// Starts an Ipc of a running thread.
-fn start_ipc(threads: &mut Threads, number: u32, call: &IpcCall) -> Result<Answer, Refused>
+fn start_ipc(threads: &mut Threads, number: u32, call: &IpcCall) -> Result<bool, Refused>
     requires { IsTrue (runs threads.old number) }
-    ensures { (s : Mappings) → Steps (machine threads.old s) (Start number (Ipc call.now)) result (machine threads.new s) }
+    ensures { (s : Mappings) → Steps (machine threads.old s) (Start number (Ipc call.now)) (answered_if number result) (machine threads.new s) }
 {
     if !call.has_send() {
         return start_receive(threads, number, call);
@@ -161,16 +174,16 @@ fn start_fault(
     forest: &Forest,
     number: u32,
     call: &FaultCall,
-) -> Result<Answer, Refused>
+) -> Result<bool, Refused>
     requires { IsTrue (runs threads.old number) }
-    ensures { Steps (machine threads.old forest.now) (Start number (Faults call.now)) result (machine threads.new forest.now) }
+    ensures { Steps (machine threads.old forest.now) (Start number (Faults call.now)) (answered_if number result) (machine threads.new forest.now) }
 {
     let Some(thread) = threads.thread(number) else {
         return Err(Refused::UnknownThread);
     };
     let (space, pager) = (thread.space, thread.pager);
     let ends = enter_fault(threads, forest, number, space, pager, call);
-    Ok(started(ends, number))
+    Ok(ends)
 }
 
 /// Takes rights away for a running thread.
@@ -179,9 +192,9 @@ fn start_unmap(
     forest: &mut Forest,
     number: u32,
     call: &UnmapCall,
-) -> Result<Answer, Refused>
+) -> Result<bool, Refused>
     requires { IsTrue (runs threads.old number) }
-    ensures { Steps (machine threads.old forest.old) (Start number (Unmaps call.now)) result (machine threads.new forest.new) }
+    ensures { Steps (machine threads.old forest.old) (Start number (Unmaps call.now)) (answered_if number result) (machine threads.new forest.new) }
 {
     let Some(space) = threads.space_of(number) else {
         return Err(Refused::UnknownThread);
@@ -190,18 +203,15 @@ fn start_unmap(
         return Err(Refused::Lower(Lower::Unmap(fault)));
     }
     threads.end_call(number, Reply::Unmapped);
-    Ok(started(true, number))
+    Ok(true)
 }
 
-/// The call of a control of threads ends, and no other call.
-fn controlled(threads: &mut Threads, number: u32) -> Answer
+/// The call of a control of threads ends.
+fn controlled(threads: &mut Threads, number: u32)
     requires { IsSome (state_of threads.old number) }
-    ensures threads { threads.new ≡ end_call threads.old number Controlled }
-    ensures outcome { result.outcome ≡ Started }
-    ensures ended { result.ended.items ≡ number ∷ [] }
+    ensures { threads.new ≡ end_call threads.old number Controlled }
 {
     threads.end_call(number, Reply::Controlled);
-    started(true, number)
 }
 
 /// Begins the space of a new thread, where the thread isn't put in the space of another.
@@ -223,9 +233,9 @@ fn create(
     forest: &mut Forest,
     number: u32,
     call: &Create,
-) -> Result<Answer, Refused>
+) -> Result<bool, Refused>
     requires { IsTrue (runs threads.old number) }
-    ensures { Steps (machine threads.old forest.old) (Start number (Controls (Creates call.now))) result (machine threads.new forest.new) }
+    ensures { Steps (machine threads.old forest.old) (Start number (Controls (Creates call.now))) (answered_if number result) (machine threads.new forest.new) }
 {
     let space = match threads.test_create(number, call.id, call.space) {
         Ok(space) => space,
@@ -235,34 +245,94 @@ fn create(
         return Err(Refused::Lower(Lower::NoMemory));
     }
     let _ = threads.create(number, call.id, call.space, call.pager);
-    Ok(controlled(threads, number))
+    controlled(threads, number);
+    Ok(true)
 }
 
 /// Gives a thread another pager for a running thread.
-fn set_pager(threads: &mut Threads, number: u32, call: &SetPager) -> Result<Answer, Refused>
+fn set_pager(threads: &mut Threads, number: u32, call: &SetPager) -> Result<bool, Refused>
     requires { IsTrue (runs threads.old number) }
-    ensures { (s : Mappings) → Steps (machine threads.old s) (Start number (Controls (SetsPager call.now))) result (machine threads.new s) }
+    ensures { (s : Mappings) → Steps (machine threads.old s) (Start number (Controls (SetsPager call.now))) (answered_if number result) (machine threads.new s) }
 {
     if let Err(fault) = threads.set_pager(number, call.id, call.pager) {
         return Err(Refused::Lower(Lower::Thread(fault)));
     }
-    Ok(controlled(threads, number))
+    controlled(threads, number);
+    Ok(true)
+}
+
+/// Deletes a thread for a running thread, whose call it ends.
+fn delete_untold(
+    threads: &mut Threads,
+    forest: &mut Forest,
+    number: u32,
+    id: ThreadId,
+) -> Result<bool, Refused>
+    requires { IsTrue (runs threads.old number) }
+    ensures { Enters true (machine threads.old forest.old) number (Controls (Deletes id)) result (machine threads.new forest.new) }
+{
+    match delete(threads, forest, number, id) {
+        Ok(_) => Ok(true),
+        Err(e) => Err(e),
+    }
 }
 
 /// Starts a control of threads by a running thread.
-fn start_control(
+fn enter_control(
     threads: &mut Threads,
     forest: &mut Forest,
     number: u32,
     control: &Control,
-) -> Result<Answer, Refused>
+) -> Result<bool, Refused>
     requires { IsTrue (runs threads.old number) }
-    ensures { Steps (machine threads.old forest.old) (Start number (Controls control.now)) result (machine threads.new forest.new) }
+    ensures { Enters (is_delete (Controls control.now)) (machine threads.old forest.old) number (Controls control.now) result (machine threads.new forest.new) }
 {
     match control {
         Control::Create(call) => create(threads, forest, number, call),
         Control::SetPager(call) => set_pager(threads, number, call),
-        Control::Delete(id) => delete(threads, forest, number, *id),
+        Control::Delete(id) => delete_untold(threads, forest, number, *id),
+    }
+}
+
+/// Why a thread can start no call, where it can't.
+fn not_running(threads: &Threads, number: u32) -> Option<Refused>
+    ensures { MatchOption result (IsTrue (runs threads.now number))
+        (λ e. (call : Call) (s : Mappings) → Steps (machine threads.now s) (Start number call) (Err e) (machine threads.now s)) }
+{
+    match threads.state(number) {
+        None => Some(Refused::UnknownThread),
+        Some(State::Running(_)) => None,
+        Some(_) => Some(Refused::Busy),
+    }
+}
+
+/// Starts a call, and tells whether it has ended.
+pub fn enter_call(
+    threads: &mut Threads,
+    forest: &mut Forest,
+    number: u32,
+    call: &Call,
+) -> Result<bool, Refused>
+    ensures { Enters (is_delete call.now) (machine threads.old forest.old) number call.now result (machine threads.new forest.new) }
+{
+    if let Some(e) = not_running(threads, number) {
+        return Err(e);
+    }
+    match call {
+        Call::Ipc(call) => start_ipc(threads, number, call),
+        Call::Unmap(call) => start_unmap(threads, forest, number, call),
+        Call::Fault(call) => start_fault(threads, forest, number, call),
+        Call::Control(control) => enter_control(threads, forest, number, control),
+    }
+}
+
+/// The thread that a Delete names.
+fn victim(call: &Call) -> Option<ThreadId>
+    ensures { MatchOption result (is_delete call.now ≡ false) (λ id. call.now ≡ Controls (Deletes id)) }
+{
+    match call {
+        Call::Control(Control::Delete(id)) => Some(*id),
+        _ => None,
     }
 }
 
@@ -275,17 +345,13 @@ pub fn start(
 ) -> Result<Answer, Refused>
     ensures { Steps (machine threads.old forest.old) (Start number call.now) result (machine threads.new forest.new) }
 {
-    match threads.state(number) {
-        None => return Err(Refused::UnknownThread),
-        Some(State::Running(_)) => {}
-        Some(_) => return Err(Refused::Busy),
+    let Some(id) = victim(call) else {
+        return answered(enter_call(threads, forest, number, call), number);
+    };
+    if let Some(e) = not_running(threads, number) {
+        return Err(e);
     }
-    match call {
-        Call::Ipc(call) => start_ipc(threads, number, call),
-        Call::Unmap(call) => start_unmap(threads, forest, number, call),
-        Call::Fault(call) => start_fault(threads, forest, number, call),
-        Call::Control(control) => start_control(threads, forest, number, control),
-    }
+    delete(threads, forest, number, id)
 }
 
 /// Does a transfer.

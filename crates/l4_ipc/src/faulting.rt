@@ -3,7 +3,8 @@ ghost use Rattle.std.specs.Prelude.{◌≡◌, IsTrue};
 ghost use Rattle.l4_mapdb.specs.Mappings.{rights_at};
 ghost use Rattle.l4_threads.specs.Threads.{runs};
 ghost use Rattle.l4_ipc.specs.Start.{has_page, fault_words, fault_next, enters, ended_by};
-ghost use Rattle.l4_ipc.specs.Inside.Turns.{next_of_fault, ended_if};
+ghost use Rattle.l4_ipc.specs.Inside.Turns.{next_of_fault};
+ghost use Rattle.l4_ipc.specs.OwnCall.{ended_if};
 ghost use Rattle.l4_ipc.specs.declared.turns.FaultTurn.TheVariants.{Tells};
 
 use crate::calls::FaultCall;

@@ -4,7 +4,7 @@ ghost use Rattle.std.specs.List.{All};
 ghost use Rattle.std.specs.Option.{option_copied};
 ghost use Rattle.l4_mapdb.specs.declared.Place.{Place};
 
-use crate::acting::{expire, start, transfer};
+use crate::acting::{enter_call, expire, start, transfer};
 use crate::calls::Call;
 use crate::steps::{Answer, Lower, Refused, Step};
 use l4_mapdb::{Forest, MAX_FRAMES, Mapping, NoMemory};
@@ -42,6 +42,7 @@ impl Kernel {
     ghost use Rattle.l4_mapdb.specs.Places.{NonePresentFrom, IsNextPresent};
     ghost use Rattle.l4_ipc.specs.Machine.{IsBoot};
     ghost use Rattle.l4_ipc.specs.Steps.{IsNext, IsIdle, Steps};
+    ghost use Rattle.l4_ipc.specs.OwnCall.{is_delete, Enters};
     ghost use Rattle.l4_ipc.specs.Runs.{Run};
     ghost use Rattle.l4_ipc.specs.Events.{Event, IsTrace, IsOnlyTrace};
     ghost use Rattle.l4_ipc.specs.Provenance.{HaveProvenance, NoneThroughFlushed};
@@ -102,6 +103,14 @@ impl Kernel {
         ensures { Steps self.old (Start number call.now) result self.new }
     {
         start(&mut self.threads, &mut self.forest, number, call)
+    }
+
+    /// Does the step that starts this call, and tells whether the call has ended. No call of another thread ends in it, but in a
+    /// Delete: of that, `start` tells them all. `step` says what it refuses.
+    pub fn enter(&mut self, number: u32, call: &Call) -> Result<bool, Refused>
+        ensures { Enters (is_delete call.now) self.old number call.now result self.new }
+    {
+        enter_call(&mut self.threads, &mut self.forest, number, call)
     }
 
     /// What holds of the threads at all times: the queue is a strict order of the senders. It does nothing.

@@ -4,7 +4,8 @@ ghost use Rattle.l4_threads.specs.Threads.{nilthread, state_of, end_call};
 ghost use Rattle.l4_threads.specs.declared.Reply.TheVariants.{Ipc};
 ghost use Rattle.l4_ipc.specs.Start.{receiving, going_on, partner, enters, ended_by};
 ghost use Rattle.l4_ipc.specs.Inside.Entering.{CanEnter};
-ghost use Rattle.l4_ipc.specs.Inside.Turns.{reply_of, next_of, ended_if};
+ghost use Rattle.l4_ipc.specs.Inside.Turns.{reply_of, next_of};
+ghost use Rattle.l4_ipc.specs.OwnCall.{ended_if};
 
 use crate::turns::{Ending, Turn};
 use l4_threads::{Envelope, Later, Receiving, Reply, Source, ThreadId, Threads};

@@ -476,6 +476,28 @@ fn steps_that_come_next(rt: HostRuntime) -> Result<(), Fail> {
     Ok(())
 }
 
+/// Whether the call that is started has ended, or None where it is refused.
+fn has_ended(kernel: &mut Kernel, start: &Step) -> Option<bool> {
+    match start {
+        Step::Start(number, call) => kernel.enter(*number, call).ok(),
+        _ => None,
+    }
+}
+
+#[test]
+fn calls_that_are_entered(rt: HostRuntime) -> Result<(), Fail> {
+    let mut kernel = waiting(rt.alloc(), COMPLETE)?;
+    assert!(rt; has_ended(&mut kernel, &send(2, THIRD, &[0x1, 7])) == Some(false));
+    assert!(rt; has_ended(&mut kernel, &unmap(2, 0, &[0x1_00c7])).is_none());
+    assert!(rt; comes_next(&mut kernel, &Step::Transfer(2, 3), Outcome::Done, &[2, 3]));
+    assert!(rt; has_ended(&mut kernel, &unmap(3, 0, &[0x1_00c7])) == Some(true));
+    assert!(rt; has_ended(&mut kernel, &create(2, FOURTH, THIRD)) == Some(true));
+    assert!(rt; has_ended(&mut kernel, &receive(3, FOURTH, COMPLETE)) == Some(false));
+    assert!(rt; has_ended(&mut kernel, &delete(2, FOURTH)) == Some(true));
+    assert!(rt; ipc_failed(&kernel, 3, 5));
+    Ok(())
+}
+
 #[test]
 fn a_message_without_a_window(rt: HostRuntime) -> Result<(), Fail> {
     let mut kernel = waiting(rt.alloc(), 0)?;

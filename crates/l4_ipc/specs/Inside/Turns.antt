@@ -1,5 +1,5 @@
 -- What a thread does next, said in few words. (this profile's own)
-use Rattle.std.specs.Prelude.{ℕ, Bool, true, false, List, [], ◌∷◌, drop, slice_index, Option, Some, None}
+use Rattle.std.specs.Prelude.{ℕ, true, false, List, [], drop, slice_index, Option, Some, None}
 use Rattle.l4_fpage.specs.Rights.{all_rights}
 use Rattle.l4_fpage.specs.declared.fpages.Fpage.TheVariants.{Complete}
 use Rattle.l4_msg.specs.declared.items.Item.{Item}
@@ -47,11 +47,6 @@ abbrev pub next_of_fault : ThreadId → FaultCall → FaultTurn → Next
 next_of_fault pager call (FaultEnds ending) = NextEnds (reply_of ending)
 next_of_fault pager call (Tells to) =
     NextSends (sending_of (fault_words call) [] (record { to = to; expires = false; «then» = Some (record { «from» = pager; window = Complete all_rights; expires = false }); fault = true }))
-
--- the list of the thread, if its call ends
-abbrev pub ended_if : Bool → ℕ → List ℕ
-ended_if true n = n ∷ []
-ended_if false n = []
 
 -- what is sent where these are the words and the items in them
 abbrev pub sent_of : List ℕ → List Item → Sent

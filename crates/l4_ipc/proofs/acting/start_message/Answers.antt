@@ -23,7 +23,7 @@ returns-in_default c = λ s.
     started c.args.threads.now c.end.new.threads s c.args.number call sent c.in-Ok.window (Ends (failed false 4)) _ c.requires.running
     (record { timeouts = c.requires.timely; sends = sends_some call sent c.requires.sends c.requires.sent; receives = c.in-Ok.ensures.ok })
     (sends_nobody c.args.threads.now c.args.number call c.args.words.now c.args.items.now c.in-Ok.window c.requires.sends c.in_default.ensures)
-    c.started.ensures.outcome c.started.ensures.ended c.end.ensures
+    refl refl c.end.ensures
 
 pub returns : goal.returns
 returns c = λ s.
@@ -32,4 +32,4 @@ returns c = λ s.
     started c.args.threads.now c.start_message.new.self s c.args.number call sent c.in-Ok.window _ _ c.requires.running
     (record { timeouts = c.requires.timely; sends = sends_some call sent c.requires.sends c.requires.sent; receives = c.in-Ok.ensures.ok })
     (sends_to c.args.threads.now c.args.number call c.args.words.now c.args.items.now c.in-Ok.window c.in-Some.to c.sends_at_once.result c.later.result c.requires.sends c.in-Some.ensures c.sends_at_once.ensures c.later.ensures)
-    c.started-2.ensures.outcome c.started-2.ensures.ended c.start_message.ensures
+    refl refl c.start_message.ensures

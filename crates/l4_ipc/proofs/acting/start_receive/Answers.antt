@@ -13,13 +13,13 @@ returns-in-Err c = λ s. (
   refl,
 )
 
-pub enter-ends-requires : goal.enter-ends-requires
-enter-ends-requires c = can_receive c.args.threads.now c.args.number c.later.result (next_of c.going_on-turn.result) c.requires.running c.going_on-turn.ensures
+pub enter-requires : goal.enter-requires
+enter-requires c = can_receive c.args.threads.now c.args.number c.later.result (next_of c.going_on-turn.result) c.requires.running c.going_on-turn.ensures
 
 pub returns : goal.returns
 returns c = λ s.
-    started c.args.threads.now c.enter-ends.new.threads s c.args.number c.args.call.now nothing c.in-Ok.window (next_of c.going_on-turn.result) _
+    started c.args.threads.now c.enter.new.threads s c.args.number c.args.call.now nothing c.in-Ok.window (next_of c.going_on-turn.result) _
     c.requires.running
     (record { timeouts = sym c.if-has_bad_timeout.ensures; sends = sends_nothing c.args.call.now c.requires.receives; receives = c.in-Ok.ensures.ok })
     (c.going_on-turn.ensures ∙ ap (λ l. going_on c.args.threads.now l false) c.later.ensures ∙ sym (receives_next c.args.threads.now c.args.number c.args.call.now c.in-Ok.window c.requires.receives))
-    c.started.ensures.outcome (c.started.ensures.ended ∙ c.enter-ends.ensures.ended) c.enter-ends.ensures.threads
+    refl c.enter.ensures.ended c.enter.ensures.threads
