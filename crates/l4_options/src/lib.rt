@@ -13,6 +13,3 @@ pub use commands::options;
 pub use programs::{NOT_UNDERSTOOD, command_words, misread, show, status_of, stopped};
 pub use requests::{OptionFault, Options, StepOptions};
 pub use step_commands::step_options;
-
-#[cfg(test)]
-mod tests;

@@ -18,6 +18,3 @@ pub use steps::{
     read_answer_into, read_outline, read_step,
 };
 pub use words::{PLACE_WORDS, RECORD_WORDS, Record, Words, put_place, read_place, read_word};
-
-#[cfg(test)]
-mod tests;

@@ -1,4 +1,4 @@
-//! Tests of the crates that the kernel stands on.
+//! Tests of the crates that the kernel stands on, and of those for plans, texts and sigma0.
 #![tactic(auto)]
 
 #[cfg(test)]
@@ -10,7 +10,15 @@ mod mapdb;
 #[cfg(test)]
 mod msg;
 #[cfg(test)]
+mod plan;
+#[cfg(test)]
+mod plan_check;
+#[cfg(test)]
+mod sigma0;
+#[cfg(test)]
 mod spaces;
+#[cfg(test)]
+mod text;
 #[cfg(test)]
 mod threads;
 #[cfg(test)]

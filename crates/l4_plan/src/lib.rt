@@ -7,6 +7,3 @@ mod plans;
 pub use l4_msg::TOO_MANY;
 pub use planner::plan;
 pub use plans::{Plan, PlanRefusal};
-
-#[cfg(test)]
-mod tests;

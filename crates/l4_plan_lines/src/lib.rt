@@ -14,6 +14,3 @@ pub use checking::check_lines;
 pub use l4_text::RunFault;
 pub use laws::{answer_is_unique, plan_text_is_unique};
 pub use planning::plan_lines;
-
-#[cfg(test)]
-mod tests;

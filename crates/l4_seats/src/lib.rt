@@ -5,6 +5,3 @@ mod keeping;
 mod seated;
 
 pub use seated::SeatedKernel;
-
-#[cfg(test)]
-mod tests;

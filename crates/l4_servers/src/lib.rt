@@ -4,6 +4,3 @@
 mod servers;
 
 pub use servers::{RegionRefusal, Servers};
-
-#[cfg(test)]
-mod tests;

@@ -17,6 +17,3 @@ pub use l4_options::options;
 pub use l4_plan_lines::{check_lines, plan_lines};
 pub use l4_text::RunFault;
 pub use running::run;
-
-#[cfg(test)]
-mod tests;

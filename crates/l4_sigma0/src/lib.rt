@@ -4,6 +4,3 @@
 mod owners;
 
 pub use owners::{MAX_FRAMES, Sigma0};
-
-#[cfg(test)]
-mod tests;

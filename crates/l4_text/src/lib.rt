@@ -16,6 +16,3 @@ pub use numbers::{decimal_number, number, word};
 pub use output::Output;
 pub use texts::Text;
 pub use tokens::next_token;
-
-#[cfg(test)]
-mod tests;

@@ -1,4 +1,4 @@
-use crate::{Ending, Line, Output, Sip, Source, Text, next_line, next_token, number};
+use l4_text::{Ending, Line, Output, Sip, Source, Text, next_line, next_token, number};
 use std::test::Fail;
 
 #[test]

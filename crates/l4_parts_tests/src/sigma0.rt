@@ -1,6 +1,6 @@
-use crate::Sigma0;
 use l4_fpage::{Fpage, Rights};
 use l4_msg::{Message, PageFault, map_answer};
+use l4_sigma0::Sigma0;
 
 /// The fpage of a word.
 fn fpage(word: u32) -> Fpage {

@@ -1,10 +1,10 @@
 //! Calls of several threads, entered by the seats that are all in one hand.
 
-use crate::SeatedKernel;
 use l4_ipc::{
     ArrayVec, Call, Fpage, IpcReply, MAX_WORDS, Refused, Reply, Rights, ThreadId, Timeout,
 };
 use l4_lock::LockRefusal;
+use l4_seats::SeatedKernel;
 use std::alloc::Global;
 use std::process::Abort;
 

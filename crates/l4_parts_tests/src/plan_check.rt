@@ -1,7 +1,7 @@
-use crate::{Fault, Proved, check, check_too_long};
 use arrayvec::ArrayVec;
 use l4_fpage::Rights;
 use l4_msg::{Item, MAX_ITEMS, Message, Region};
+use l4_plan_check::{Fault, Proved, check, check_too_long};
 use std::test::Fail;
 
 /// A region with all rights.

@@ -1,6 +1,6 @@
-use crate::{RunFault, check_lines, plan_lines};
 use l4_fpage::Rights;
 use l4_msg::Region;
+use l4_plan_lines::{RunFault, check_lines, plan_lines};
 use l4_text::{Drip, Sip};
 use std::test::Fail;
 

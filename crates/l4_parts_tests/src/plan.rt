@@ -1,7 +1,7 @@
-use crate::{Plan, PlanRefusal, TOO_MANY, plan};
 use arrayvec::ArrayVec;
 use l4_fpage::Rights;
 use l4_msg::{MAX_ITEMS, MAX_WORDS, Region};
+use l4_plan::{Plan, PlanRefusal, TOO_MANY, plan};
 use std::test::Fail;
 
 /// A region with all rights.

@@ -1,11 +1,11 @@
-use crate::{
-    Record, Records, StepOutline, Words, put_answer, put_place, put_reply, put_step, read_answer,
-    read_outline, read_place, read_reply, read_step, read_word,
-};
 use arrayvec::ArrayVec;
 use l4_ipc::{
     Answer, Call, Control, Create, FaultCall, IpcCall, IpcReply, MAX_WORDS, Outcome, Reply, Rights,
     SetPager, Step, ThreadId, UnmapCall,
+};
+use l4_packed::{
+    Record, Records, StepOutline, Words, put_answer, put_place, put_reply, put_step, read_answer,
+    read_outline, read_place, read_reply, read_step, read_word,
 };
 use std::process::Abort;
 use std::test::Fail;

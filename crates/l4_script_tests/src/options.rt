@@ -1,6 +1,6 @@
-use crate::{OptionFault, Options, StepOptions, options, step_options};
 use l4_fpage::Rights;
 use l4_msg::Region;
+use l4_options::{OptionFault, Options, StepOptions, options, step_options};
 use std::test::Fail;
 
 #[test]

@@ -1,6 +1,6 @@
-use crate::{RegionRefusal, Servers};
 use l4_fpage::Rights;
 use l4_pager::{Entry, PagerRefusal};
+use l4_servers::{RegionRefusal, Servers};
 use std::test::Fail;
 
 /// Pages 4 to 7 from pages 100 to 103.

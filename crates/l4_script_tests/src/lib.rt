@@ -1,0 +1,15 @@
+//! Tests of the crates that stand between the kernel and the programs.
+#![tactic(auto)]
+
+#[cfg(test)]
+mod options;
+#[cfg(test)]
+mod packed;
+#[cfg(test)]
+mod plan_lines;
+#[cfg(test)]
+mod seats;
+#[cfg(test)]
+mod servers;
+#[cfg(test)]
+mod shell;
