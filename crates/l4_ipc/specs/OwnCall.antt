@@ -15,9 +15,13 @@ abbrev pub ended_if : Bool → ℕ → List ℕ
 ended_if true n = n ∷ []
 ended_if false n = []
 
--- the answer of a start in which this thread's call ended alone, or none did, or why it is refused
+-- the answer of a start in which this thread's call ended alone, or none did
+abbrev pub own_answer : Bool → ℕ → Answer
+own_answer ended n = record { outcome = Started; ended = record { items = ended_if ended n } }
+
+-- that answer, or why the start is refused
 abbrev pub answered_if : ℕ → Result Bool Refused → Result Answer Refused
-answered_if n (Ok ended) = Ok (record { outcome = Started; ended = record { items = ended_if ended n } })
+answered_if n (Ok ended) = Ok (own_answer ended n)
 answered_if n (Err e) = Err e
 
 -- the call deletes a thread

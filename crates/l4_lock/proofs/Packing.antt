@@ -1,5 +1,5 @@
 -- Entries and receipts are read as they were written, and each where it stands.
-use Rattle.std.proofs.Common.{◌≡◌, ℕ, zero, suc, ◌+◌, ◌*◌, ◌/◌, ◌%◌, ◌^◌, ◌<◌, List, [], ◌∷◌, ◌++◌, length, drop, Option, Some, None, refl, sym, ap, subst, ◌∙◌, arith}
+use Rattle.std.proofs.Common.{◌≡◌, ℕ, zero, suc, ◌+◌, ◌*◌, ◌/◌, ◌%◌, ◌^◌, ◌<◌, List, [], ◌∷◌, ◌++◌, length, drop, Option, Some, None, MatchOption, refl, sym, ap, subst, ◌∙◌, arith}
 use Rattle.std.specs.Prelude.{slice_get, is_some, IsTrue}
 use Rattle.std.specs.Option.{option_to_list, option_and_then, option_map}
 use Rattle.std.proofs.lemmas.Bool.{false≢true}
@@ -91,21 +91,21 @@ module _ {X : Type 0} where
   get_read read (words ∷ records) (suc place) each =
       get_other read records (read words) place (each 0 words (omega arith)) ∙ get_read read records place (others read words records each)
 
-  pub read_more : (read : List ℕ → Option X) (records : List (List ℕ)) (words : List ℕ) (x : X) → read words ≡ Some x → read_all read (records ++ words ∷ []) ≡ read_all read records ++ x ∷ []
-  read_more read records words x here =
-      flat_map-append (λ ws. option_to_list (read ws)) records (words ∷ [])
-      ∙ ap (λ (y : Option X). read_all read records ++ (option_to_list y ++ [])) here
+  -- the words that stand in a place, if any do
+  pub words_read : (read : List ℕ → Option X) (records : List (List ℕ)) (place : ℕ) (here : Option (List ℕ)) → AreRead read records → here ≡ slice_get records place
+      → MatchOption here (slice_get (read_all read records) place ≡ None) (λ words. (slice_get (read_all read records) place ≡ read words) × IsTrue (is_some (read words)))
+  words_read read records place None each is = get_read read records place each ∙ ap (option_and_then read) (sym is)
+  words_read read records place (Some words) each is = (
+    get_read read records place each ∙ ap (option_and_then read) (sym is),
+    ap (λ ws. is_some (read ws)) (sym (get_or_from_slice_get records place words [] (sym is))) ∙ each place [] (slice_get_within records place words (sym is)),
+  )
 
-  pub are_read_more : (read : List ℕ → Option X) (records : List (List ℕ)) (words : List ℕ) (x : X) → read words ≡ Some x → AreRead read records → AreRead read (records ++ words ∷ [])
-  are_read_more read records words x here each = All-push (λ ws. IsTrue (is_some (read ws))) records words each (ap is_some here)
+  pub read_more : (read : List ℕ → Option X) (records : List (List ℕ)) (words : List ℕ) → read_all read (records ++ words ∷ []) ≡ read_all read records ++ option_to_list (read words)
+  read_more read records words =
+      flat_map-append (λ ws. option_to_list (read ws)) records (words ∷ []) ∙ ap (λ (xs : List X). read_all read records ++ xs) (append-nil (option_to_list (read words)))
 
-  -- a record that stands in a list which can be read
-  pub is_read : (read : List ℕ → Option X) (records : List (List ℕ)) (words : List ℕ) (place : ℕ) → AreRead read records → slice_get records place ≡ Some words → IsTrue (is_some (read words))
-  is_read read records words place each here =
-      ap (λ (ws : List ℕ). is_some (read ws)) (sym (get_or_from_slice_get records place words [] here)) ∙ each place [] (slice_get_within records place words here)
-
-  pub are_read_longer : (read : List ℕ → Option X) (records : List (List ℕ)) (words : List ℕ) → IsTrue (is_some (read words)) → AreRead read records → AreRead read (records ++ words ∷ [])
-  are_read_longer read records words some each = All-push (λ ws. IsTrue (is_some (read ws))) records words each some
+  pub are_read_more : (read : List ℕ → Option X) (records : List (List ℕ)) (words : List ℕ) → IsTrue (is_some (read words)) → AreRead read records → AreRead read (records ++ words ∷ [])
+  are_read_more read records words some each = All-push (λ ws. IsTrue (is_some (read ws))) records words each some
 
   -- the next of what is left
   pub yields : (xs : List X) (place : ℕ) (next : Option X) → place < length xs → next ≡ slice_get xs place → YieldsFirst (λ (s : List X). s) (drop place xs) next (drop (place + 1) xs)

@@ -1,34 +1,35 @@
 //! The history as a list of entries.
 ghost use Rattle.std.specs.Prelude.{◌≡◌, ◌≢◌, ◌+◌, ◌<◌, ◌^◌, ◌≤◌, ◌++◌, ◌∷◌, [], ℕ, drop, nat_eq, length, slice_get, OnOk};
-ghost use Rattle.l4_lock.specs.Inside.Packing.{entry_at, read_all, AreRead};
 ghost use Rattle.l4_lock.specs.Lists.{EntryList, entry_list, entry_outline};
 ghost use Rattle.std.specs.Option.{option_map};
 ghost use Rattle.l4_ipc.specs.declared.steps.Step.TheVariants.{Start};
 ghost use Rattle.l4_packed.specs.Words.{Gives};
+ghost use Rattle.l4_ipc.specs.OwnCall.{own_answer};
 
 use crate::entries::{Entry, EntryOutline};
-use crate::packed::{read_entry, read_entry_outline, write_entry, write_start};
+use crate::packed::{read_entry_outline, write_entry, write_own_start, write_start};
+use crate::packed_list::{ItemsFrom, PackedList};
 use l4_ipc::{Answer, Call, Step};
-use l4_packed::{Record, Records};
+use l4_packed::Record;
 use std::alloc::{AllocError, Global};
 use std::marker::Model;
+
+/// Entries of a history, one after another. Contracts see those that are left.
+pub type Entries<'a> = ItemsFrom<'a, Entry>;
 
 /// The entries of a locked kernel, in order. They are stored packed.
 #[derive(Drop)]
 pub struct History {
-    entries: Records,
+    entries: PackedList<Entry>,
     packed: Record,
 }
 
 impl Model for History {
-    ghost use Rattle.l4_lock.specs.Inside.Packing.{entry_at, read_all, AreRead};
     ghost use Rattle.l4_lock.specs.Lists.{EntryList, entry_list};
 
     ghost Value = { EntryList };
 
-    ghost view = { λ h. entry_list (read_all entry_at h.entries.records) h.entries.room };
-
-    ghost invariant = { λ h. AreRead entry_at h.entries.records };
+    ghost view = { λ h. entry_list h.entries.items h.entries.room };
 }
 
 impl History {
@@ -37,7 +38,7 @@ impl History {
         ensures { result.entries ≡ [] }
     {
         History {
-            entries: Records::new(alloc),
+            entries: PackedList::new(alloc),
             packed: Record::new(),
         }
     }
@@ -60,17 +61,14 @@ impl History {
     pub fn get(&self, place: usize) -> Option<Entry>
         ensures { result ≡ slice_get self.now.entries place }
     {
-        match self.entries.get(place) {
-            Some(words) => read_entry(words),
-            None => None,
-        }
+        self.entries.get(place)
     }
 
     /// Reads the entry at this place without the call of a start in the place of another, None beyond the end. It costs less than `get`.
     pub fn outline(&self, at: usize, entry: &mut EntryOutline) -> Option<()>
         ensures { Gives (λ _. entry.new) result (option_map entry_outline (slice_get self.now.entries at)) }
     {
-        match self.entries.get(at) {
+        match self.entries.words(at) {
             Some(words) => read_entry_outline(words, entry),
             None => None,
         }
@@ -81,11 +79,7 @@ impl History {
         ensures entries { result ≡ drop place self.now.entries }
         ensures bound { length result < 2 ^ 64 }
     {
-        let _count = self.len();
-        Entries {
-            history: self,
-            place,
-        }
+        self.entries.items_from(place)
     }
 
     /// Makes room for more entries.
@@ -115,39 +109,14 @@ impl History {
         write_start(&mut self.packed, number, call, answer);
         self.entries.push(&self.packed.words());
     }
-}
 
-/// Entries of a history, one after another. Contracts see those that are left.
-#[derive(Drop)]
-pub struct Entries<'a> {
-    history: &'a History,
-    place: usize,
-}
-
-impl<'a> Model for Entries<'a> {
-    ghost use Rattle.std.specs.Prelude.{List, drop};
-    ghost use Rattle.l4_lock.specs.declared.entries.Entry.{Entry as AnEntry};
-
-    ghost Value = { List AnEntry };
-
-    ghost view = { λ e. drop e.place e.history.now.entries };
-}
-
-impl<'a> Iterator for Entries<'a> {
-    ghost use Rattle.std.specs.Iterator.{YieldsFirst, item_count};
-
-    type Item = Entry;
-
-    ghost remaining = { item_count (λ s. s) };
-
-    ghost next_gives = { YieldsFirst (λ s. s) };
-
-    fn next(&mut self) -> Option<Entry> {
-        if self.place >= self.history.len() {
-            return None;
-        }
-        let entry = self.history.get(self.place);
-        self.place += 1;
-        entry
+    /// Appends the entry of the start of a call in which the call of its thread ended alone, or none did. There is room for it.
+    pub(crate) fn push_own_start(&mut self, number: u32, call: &Call, ended: bool)
+        requires { length self.old.entries < self.old.room }
+        ensures entries { self.new.entries ≡ self.old.entries ++ record { seat = number; step = Start number call.now; answer = own_answer ended number } ∷ [] }
+        ensures room { (length self.new.entries ≡ length self.old.entries + 1) × (self.new.room ≡ self.old.room) }
+    {
+        write_own_start(&mut self.packed, number, call, ended);
+        self.entries.push(&self.packed.words());
     }
 }

@@ -7,6 +7,7 @@ mod entries;
 mod history;
 mod locked;
 mod packed;
+mod packed_list;
 mod pending;
 mod receipts;
 mod refusals;

@@ -1,16 +1,18 @@
 //! Entries and receipts as words.
 ghost use Rattle.std.specs.Prelude.{◌≡◌, ◌≤◌, ◌++◌, ◌∷◌, [], length, Some};
 ghost use Rattle.l4_ipc.specs.declared.steps.Step.TheVariants.{Start};
+ghost use Rattle.l4_ipc.specs.OwnCall.{own_answer};
 ghost use Rattle.l4_packed.specs.Codes.{answer_code, AnswerFits};
 ghost use Rattle.l4_packed.specs.Words.{Gives};
 ghost use Rattle.l4_lock.specs.Inside.Packing.{entry_at, entry_outline_at, receipt_at};
 
 use crate::entries::{Entry, EntryOutline, Receipt};
+use crate::packed_list::FromWords;
 use l4_ipc::{Answer, Call, Reply, Step};
 use l4_packed::{
-    ANSWER_WORDS, Record, Words, put_answer, put_call, put_place, put_reply, put_start, put_step,
-    read_answer, read_answer_into, read_call, read_outline, read_place, read_reply, read_step,
-    read_word,
+    ANSWER_WORDS, Record, Words, put_answer, put_call, put_own_answer, put_place, put_reply,
+    put_start, put_step, read_answer, read_answer_into, read_call, read_outline, read_place,
+    read_reply, read_step, read_word,
 };
 
 /// Writes what an entry begins with in the place of what the record holds.
@@ -40,15 +42,26 @@ pub fn write_start(out: &mut Record, number: u32, call: &Call, answer: &Answer)
     put_start(out, number, call);
 }
 
-/// The entry that words begin with.
-#[tactic(auto, unfolding(crate::specs::Inside::Packing::entry_at))]
-pub fn read_entry(words: Words<'_>) -> Option<Entry>
-    ensures { result ≡ entry_at words.entry }
+/// Writes the entry of the start of a call in which the call of its thread ended alone, or none did, in the place of what the record holds.
+pub fn write_own_start(out: &mut Record, number: u32, call: &Call, ended: bool)
+    ensures { entry_at out.new.items ≡ Some (record { seat = number; step = Start number call.now; answer = own_answer ended number }) }
 {
-    let (seat, rest) = read_word(words)?;
-    let (answer, rest) = read_answer(rest)?;
-    let (step, _) = read_step(rest)?;
-    Some(Entry { seat, step, answer })
+    out.clear();
+    out.push(number);
+    put_own_answer(out, number, ended);
+    put_start(out, number, call);
+}
+
+impl FromWords for Entry {
+    ghost item_at = { entry_at };
+
+    #[tactic(auto, unfolding(crate::specs::Inside::Packing::entry_at))]
+    fn from_words(words: Words<'_>) -> Option<Entry> {
+        let (seat, rest) = read_word(words)?;
+        let (answer, rest) = read_answer(rest)?;
+        let (step, _) = read_step(rest)?;
+        Some(Entry { seat, step, answer })
+    }
 }
 
 /// Reads the entry that words begin with, without the call of a start, whose words aren't read, in the place of another.
@@ -74,19 +87,20 @@ pub fn write_receipt(out: &mut Record, call: &Call, start: usize, end: usize, re
     put_reply(out, reply);
 }
 
-/// The receipt that words begin with.
-#[tactic(auto, unfolding(crate::specs::Inside::Packing::receipt_at))]
-pub fn read_receipt(words: Words<'_>) -> Option<Receipt>
-    ensures { result ≡ receipt_at words.entry }
-{
-    let (call, rest) = read_call(words)?;
-    let (start, rest) = read_place(rest)?;
-    let (end, rest) = read_place(rest)?;
-    let (reply, _) = read_reply(rest)?;
-    Some(Receipt {
-        call,
-        start,
-        end,
-        reply,
-    })
+impl FromWords for Receipt {
+    ghost item_at = { receipt_at };
+
+    #[tactic(auto, unfolding(crate::specs::Inside::Packing::receipt_at))]
+    fn from_words(words: Words<'_>) -> Option<Receipt> {
+        let (call, rest) = read_call(words)?;
+        let (start, rest) = read_place(rest)?;
+        let (end, rest) = read_place(rest)?;
+        let (reply, _) = read_reply(rest)?;
+        Some(Receipt {
+            call,
+            start,
+            end,
+            reply,
+        })
+    }
 }

@@ -8,7 +8,7 @@ ghost use Rattle.l4_lock.specs.Inside.Noting.{noted_call, reply_pending};
 ghost use Rattle.l4_lock.specs.Inside.Packing.{receipt_at};
 
 use crate::entries::Receipt;
-use crate::packed::read_receipt;
+use crate::packed_list::FromWords;
 use l4_ipc::{Call, Kernel, Reply};
 use l4_packed::{Record, Words, put_call, put_place, put_reply};
 use std::marker::Model;
@@ -146,7 +146,7 @@ impl PendingCall {
         if !self.has_ended() {
             return None;
         }
-        match read_receipt(self.packed.words()) {
+        match Receipt::from_words(self.packed.words()) {
             Some(receipt) => Some(reply_of(receipt)),
             None => None,
         }

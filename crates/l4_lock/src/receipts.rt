@@ -1,32 +1,33 @@
 //! The receipts of a seat as a list.
 ghost use Rattle.std.specs.Prelude.{◌≡◌, ◌≢◌, ◌+◌, ◌<◌, ◌≤◌, ◌++◌, ◌∷◌, ◌^◌, [], drop, nat_eq, length, slice_get, true, false, Some, IsTrue, is_some, OnOk};
-ghost use Rattle.l4_lock.specs.Inside.Packing.{receipt_at, read_all, AreRead};
+ghost use Rattle.l4_lock.specs.Inside.Packing.{receipt_at};
 ghost use Rattle.l4_lock.specs.Lists.{ReceiptList, receipt_list};
 ghost use Rattle.l4_lock.specs.declared.entries.Receipt.{Receipt as AReceipt};
 
 use crate::entries::Receipt;
-use crate::packed::{read_receipt, write_receipt};
+use crate::packed::write_receipt;
+use crate::packed_list::{ItemsFrom, PackedList};
 use l4_ipc::{Call, Reply};
-use l4_packed::{Record, Records, Words};
+use l4_packed::{Record, Words};
 use std::alloc::{AllocError, Global};
 use std::marker::Model;
+
+/// Receipts of a seat, one after another. Contracts see those that are left.
+pub type ReceiptsFrom<'a> = ItemsFrom<'a, Receipt>;
 
 /// The receipts of a seat, in the order in which it got them. They are stored packed.
 #[derive(Drop)]
 pub struct Receipts {
-    receipts: Records,
+    receipts: PackedList<Receipt>,
     packed: Record,
 }
 
 impl Model for Receipts {
-    ghost use Rattle.l4_lock.specs.Inside.Packing.{receipt_at, read_all, AreRead};
     ghost use Rattle.l4_lock.specs.Lists.{ReceiptList, receipt_list};
 
     ghost Value = { ReceiptList };
 
-    ghost view = { λ r. receipt_list (read_all receipt_at r.receipts.records) r.receipts.room };
-
-    ghost invariant = { λ r. AreRead receipt_at r.receipts.records };
+    ghost view = { λ r. receipt_list r.receipts.items r.receipts.room };
 }
 
 impl Receipts {
@@ -35,7 +36,7 @@ impl Receipts {
         ensures { (result.items ≡ []) × (result.room < 2 ^ 63) }
     {
         Receipts {
-            receipts: Records::new(alloc),
+            receipts: PackedList::new(alloc),
             packed: Record::new(),
         }
     }
@@ -58,10 +59,7 @@ impl Receipts {
     pub fn get(&self, place: usize) -> Option<Receipt>
         ensures { result ≡ slice_get self.now.items place }
     {
-        match self.receipts.get(place) {
-            Some(words) => read_receipt(words),
-            None => None,
-        }
+        self.receipts.get(place)
     }
 
     /// The receipts from this place on.
@@ -69,11 +67,7 @@ impl Receipts {
         ensures receipts { result ≡ drop place self.now.items }
         ensures bound { length result < 2 ^ 64 }
     {
-        let _count = self.len();
-        ReceiptsFrom {
-            receipts: self,
-            place,
-        }
+        self.receipts.items_from(place)
     }
 
     /// Makes room for more receipts.
@@ -119,41 +113,6 @@ impl Receipts {
             }
         }
         true
-    }
-}
-
-/// Receipts of a seat, one after another. Contracts see those that are left.
-#[derive(Drop)]
-pub struct ReceiptsFrom<'a> {
-    receipts: &'a Receipts,
-    place: usize,
-}
-
-impl<'a> Model for ReceiptsFrom<'a> {
-    ghost use Rattle.std.specs.Prelude.{List, drop};
-    ghost use Rattle.l4_lock.specs.declared.entries.Receipt.{Receipt as AReceipt};
-
-    ghost Value = { List AReceipt };
-
-    ghost view = { λ r. drop r.place r.receipts.now.items };
-}
-
-impl<'a> Iterator for ReceiptsFrom<'a> {
-    ghost use Rattle.std.specs.Iterator.{YieldsFirst, item_count};
-
-    type Item = Receipt;
-
-    ghost remaining = { item_count (λ s. s) };
-
-    ghost next_gives = { YieldsFirst (λ s. s) };
-
-    fn next(&mut self) -> Option<Receipt> {
-        if self.place >= self.receipts.len() {
-            return None;
-        }
-        let receipt = self.receipts.get(self.place);
-        self.place += 1;
-        receipt
     }
 }
 

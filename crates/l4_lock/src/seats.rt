@@ -6,7 +6,8 @@ ghost use Rattle.l4_lock.specs.Inside.Noting.{started_by, noted, reply_pending, 
 ghost use Rattle.l4_lock.specs.Inside.Packing.{receipt_at};
 ghost use Rattle.l4_lock.specs.declared.entries.Receipt.{Receipt as AReceipt};
 
-use crate::packed::read_receipt;
+use crate::entries::Receipt;
+use crate::packed_list::FromWords;
 use crate::pending::PendingCall;
 use crate::receipts::Receipts;
 use l4_ipc::{Call, Kernel, Reply};
@@ -109,7 +110,7 @@ impl Seat {
         ensures receipts { (receipt : AReceipt) → receipt_at words.entry ≡ Some receipt → self.new.receipts ≡ self.old.receipts ++ record receipt { call = call.now } ∷ [] }
         ensures waiting { (self.old.waiting ≡ self.new.waiting + 1) × (self.new.number ≡ self.old.number) }
     {
-        let Some(receipt) = read_receipt(words) else {
+        let Some(receipt) = Receipt::from_words(words) else {
             unreachable!()
         };
         self.waiting -= 1;

@@ -1,10 +1,11 @@
 //! Steps of the kernel with their entries.
-ghost use Rattle.std.specs.Prelude.{◌≡◌, ◌≢◌, ◌⊎◌, ◌+◌, ◌<◌, ◌≤◌, ℕ, Ok, Err, None, IfOk, IfErr, OnErr, map, length, MatchOption, slice_get};
+ghost use Rattle.std.specs.Prelude.{false, ◌≡◌, ◌≢◌, ◌⊎◌, ◌+◌, ◌<◌, ◌≤◌, ℕ, Ok, Err, None, IfOk, IfErr, OnErr, map, length, MatchOption, slice_get};
 ghost use Rattle.l4_ipc.specs.Steps.{Steps, IsIdle};
 ghost use Rattle.l4_lock.specs.Inside.Noting.{noted, first_reply};
 ghost use Rattle.l4_lock.specs.Books.{book_at, reply_waits};
-ghost use Rattle.l4_lock.specs.Inside.Entering.{Went, Begins, IsReady};
+ghost use Rattle.l4_lock.specs.Inside.Entering.{Went, Begins, IsReady, IsStarted};
 ghost use Rattle.l4_threads.specs.Sizes.{max_threads};
+ghost use Rattle.l4_ipc.specs.OwnCall.{is_delete, ended_if};
 ghost use Rattle.l4_lock.specs.Sizes.{max_steps};
 ghost use Rattle.l4_ipc.specs.declared.steps.Refused.{Refused as ARefused};
 ghost use Rattle.l4_ipc.specs.declared.steps.Step.TheVariants.{Start};
@@ -13,7 +14,7 @@ ghost use Rattle.l4_lock.specs.declared.refusals.LockRefusal.TheVariants.{NoMemo
 use crate::history::History;
 use crate::refusals::LockRefusal;
 use crate::seats::Account;
-use l4_ipc::{Call, Kernel, Refused};
+use l4_ipc::{Call, Control, Kernel, Refused};
 
 /// Where the account of a number stands.
 pub fn position(accounts: &[Account], number: u32) -> Option<usize>
@@ -62,6 +63,15 @@ fn note_all(accounts: &mut Vec<Account>, kernel: &Kernel, ended: &[u32], place: 
     }
 }
 
+/// Notes at each account that the call of this thread ended in the entry of this place, where it has ended.
+fn note_own(accounts: &mut Vec<Account>, kernel: &Kernel, number: u32, ended: bool, place: usize)
+    ensures { accounts.new.items ≡ map (noted kernel.now (ended_if ended number) place) accounts.old.items }
+{
+    if ended {
+        note_all(accounts, kernel, &[number], place);
+    }
+}
+
 /// Does the steps that come next, until there is none.
 pub fn follow(kernel: &mut Kernel, history: &mut History, accounts: &mut Vec<Account>, seat: u32)
     requires { length history.old.entries + max_threads ≤ history.old.room }
@@ -74,6 +84,55 @@ pub fn follow(kernel: &mut Kernel, history: &mut History, accounts: &mut Vec<Acc
         note_all(accounts, kernel, answer.ended.as_slice(), history.len());
         history.push(seat, &step, &answer);
     }
+}
+
+/// Whether a call deletes a thread, so that it may end calls of other threads.
+fn is_delete(call: &Call) -> bool
+    ensures { result ≡ is_delete call.now }
+{
+    matches!(call, Call::Control(Control::Delete(_)))
+}
+
+/// `start` of a call that is no Delete, so that no call of another thread ends in it. It costs less.
+fn start_untold(
+    kernel: &mut Kernel,
+    history: &mut History,
+    accounts: &mut Vec<Account>,
+    number: u32,
+    call: &Call,
+) -> Result<(), Refused>
+    requires own { is_delete call.now ≡ false }
+    requires room { length history.old.entries < history.old.room }
+    ensures ok { IfOk result (λ _. IsStarted number call.now kernel.old kernel.new history.old history.new accounts.old.items accounts.new.items) }
+    ensures err { IfErr result (λ r. Steps kernel.old (Start number call.now) (Err r) kernel.new) }
+    ensures same { OnErr result ((history.new.entries ≡ history.old.entries) × (accounts.new.items ≡ accounts.old.items)) }
+{
+    let ended = kernel.enter(number, call)?;
+    note_own(accounts, kernel, number, ended, history.len());
+    history.push_own_start(number, call, ended);
+    Ok(())
+}
+
+/// Does the step that starts a call, notes all calls that end in it, and appends its entry.
+fn start(
+    kernel: &mut Kernel,
+    history: &mut History,
+    accounts: &mut Vec<Account>,
+    number: u32,
+    call: &Call,
+) -> Result<(), Refused>
+    requires { length history.old.entries < history.old.room }
+    ensures ok { IfOk result (λ _. IsStarted number call.now kernel.old kernel.new history.old history.new accounts.old.items accounts.new.items) }
+    ensures err { IfErr result (λ r. Steps kernel.old (Start number call.now) (Err r) kernel.new) }
+    ensures same { OnErr result ((history.new.entries ≡ history.old.entries) × (accounts.new.items ≡ accounts.old.items)) }
+{
+    if !is_delete(call) {
+        return start_untold(kernel, history, accounts, number, call);
+    }
+    let answer = kernel.start(number, call)?;
+    note_all(accounts, kernel, answer.ended.as_slice(), history.len());
+    history.push_start(number, call, &answer);
+    Ok(())
 }
 
 /// Begins a call, and does the steps that come next until there is none. After a refusal nothing has changed.
@@ -98,11 +157,9 @@ pub fn begin(
     if accounts[at].begin(call, history.len()).is_err() {
         return Err(LockRefusal::NoMemory);
     }
-    match kernel.start(number, call) {
-        Ok(answer) => {
+    match start(kernel, history, accounts, number, call) {
+        Ok(()) => {
             kernel.law_forest();
-            note_all(accounts, kernel, answer.ended.as_slice(), history.len());
-            history.push_start(number, call, &answer);
             follow(kernel, history, accounts, number);
             Ok(())
         }

@@ -1,8 +1,10 @@
 //! The calls that the tests enter, and what they count in a history.
+ghost use Rattle.std.specs.Prelude.{◌≡◌};
 
 use arrayvec::ArrayVec;
 use l4_ipc::{Call, Fpage, MAX_WORDS, Rights, Step, ThreadId, Timeout};
-use l4_lock::{History, KernelLock, Locked, Seat, Unclosed};
+use l4_lock::{History, KernelLock, Locked, Seat, Unclosed, Watch};
+use std::alloc::Global;
 use std::process::Abort;
 
 /// The page frames of the tests' kernels.
@@ -20,6 +22,15 @@ pub fn id(number: u32) -> ThreadId {
         Some(id) => id,
         None => ThreadId::nil(),
     }
+}
+
+/// A lock that no call was entered in, and a watch of its board.
+pub fn watched(rt: &impl Abort, alloc: Global) -> (KernelLock, Watch)
+    ensures { result.1.board ≡ result.0 }
+{
+    let (lock, mut watches) = KernelLock::new(alloc, FRAMES, 1).expect(rt, "a lock");
+    let watch = watches.pop().expect(rt, "a watch");
+    (lock, watch)
 }
 
 /// Makes a thread in a space of its own.

@@ -1,7 +1,7 @@
 //! Ten messages from one thread to another, while a third watches.
 ghost use Rattle.std.specs.Prelude.{◌≡◌};
 
-use crate::calls::{FRAMES, ROOT, closed, create, receive, send, starts_of};
+use crate::calls::{ROOT, closed, create, receive, send, starts_of, watched};
 use l4_lock::{Board, KernelLock, Seat, Watch};
 use std::sync::Wait;
 use std::thread::{Threads, join, sleep};
@@ -91,8 +91,7 @@ fn exchange<R: Threads + Wait + Clock + Sync>(
 
 #[test]
 fn ten_messages(rt: HostRuntime) {
-    let (lock, mut watches) = KernelLock::new(rt.alloc(), FRAMES, 1).expect(&rt, "a lock");
-    let mut watch = watches.pop().expect(&rt, "a watch");
+    let (lock, mut watch) = watched(&rt, rt.alloc());
     let mut root = lock.seat(&rt, ROOT).expect(&rt, "a seat");
     let mut partner = lock.seat(&rt, PARTNER).expect(&rt, "a seat");
     assert!(rt; lock.call(&rt, &mut root, create(PARTNER)).is_ok());

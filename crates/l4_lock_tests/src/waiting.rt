@@ -1,7 +1,7 @@
 //! Calls that were left waiting, and threads that are deleted as they wait.
 ghost use Rattle.std.specs.Prelude.{◌≡◌};
 
-use crate::calls::{FRAMES, ROOT, closed, create, delete, receive};
+use crate::calls::{FRAMES, ROOT, closed, create, delete, receive, watched};
 use l4_ipc::{Refused, Reply};
 use l4_lock::{Board, Entered, KernelLock, LockRefusal, Locked, Seat, Watch};
 use std::sync::Wait;
@@ -112,8 +112,7 @@ fn wait_and_replace<R: Threads + Wait + Clock + Sync>(
 
 #[test]
 fn gone_on_threads(rt: HostRuntime) {
-    let (lock, mut watches) = KernelLock::new(rt.alloc(), FRAMES, 1).expect(&rt, "a lock");
-    let mut watch = watches.pop().expect(&rt, "a watch");
+    let (lock, mut watch) = watched(&rt, rt.alloc());
     let mut root = lock.seat(&rt, ROOT).expect(&rt, "a seat");
     let mut third = lock.seat(&rt, THIRD).expect(&rt, "a seat");
     assert!(rt; lock.call(&rt, &mut root, create(THIRD)).is_ok());

@@ -3,6 +3,7 @@ ghost use Rattle.std.specs.Prelude.{◌≡◌, ◌+◌, ◌≤◌, ◌++◌, ◌
 ghost use Rattle.l4_ipc.specs.declared.steps.Answer.{Answer as AnAnswer};
 ghost use Rattle.l4_ipc.specs.declared.steps.Step.{Step as AStep};
 ghost use Rattle.l4_ipc.specs.declared.steps.Step.TheVariants.{Start};
+ghost use Rattle.l4_ipc.specs.OwnCall.{own_answer};
 ghost use Rattle.l4_packed.specs.Codes.{step_code, outcome_code, answer_code, StepFits, AnswerFits};
 ghost use Rattle.l4_packed.specs.Outlines.{step_outline, outline_at};
 ghost use Rattle.l4_packed.specs.Reading.{step_at, outcome_at, answer_at};
@@ -87,6 +88,22 @@ pub fn put_answer(out: &mut Record, answer: &Answer)
 {
     out.push(outcome_word(answer.outcome));
     put_counted(out, answer.ended.as_slice());
+}
+
+/// Appends the answer of a start in which the call of this thread ended alone, or none did.
+pub fn put_own_answer(out: &mut Record, thread: u32, ended: bool)
+    requires { length out.old.items + ANSWER_WORDS ≤ RECORD_WORDS }
+    ensures items { out.new.items ≡ out.old.items ++ answer_code (own_answer ended thread) }
+    ensures fits { AnswerFits (own_answer ended thread) }
+    ensures short { length (answer_code (own_answer ended thread)) ≤ ANSWER_WORDS }
+{
+    out.push(0);
+    if ended {
+        out.push(1);
+        out.push(thread);
+    } else {
+        out.push(0);
+    }
 }
 
 /// A step, and the words after it.

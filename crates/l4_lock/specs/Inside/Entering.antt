@@ -12,6 +12,8 @@ use Rattle.l4_threads.specs.Sizes.{max_threads}
 use Rattle.l4_lock.specs.Sizes.{last_start}
 use Rattle.l4_lock.specs.Books.{SeatState, Book, plain, numbers, IsOnce, HasNotEnded, AreRight}
 use Rattle.l4_lock.specs.Locked.{Lock, start_entry}
+use Rattle.l4_lock.specs.Lists.{EntryList}
+use Rattle.l4_lock.specs.Inside.Noting.{noted}
 
 -- the seat of the last entry
 abbrev pub last_seat : Option ℕ → List Entry → Option ℕ
@@ -31,6 +33,15 @@ pub record Went (seat : ℕ) (old new : Machine) (before after : List Entry) (bo
 abbrev pub IsReady : List Book → ℕ → ℕ → List Entry → Machine → Type 0
 IsReady books place n history m =
     (b : Book) × (slice_get books place ≡ Some b) × (b.number ≡ n) × ((p : Pending) → b.pending ≡ Some p → HasNotEnded history m n p.start)
+
+-- A start was done: the books are noted what it ended, and its entry stands at the end of the history, whose room is the same.
+pub record IsStarted (n : ℕ) (call : Call) (old new : Machine) (before after : EntryList) (books later : List Book) : Type 0 where
+  pub answer : Answer
+  pub starts : Steps old (Start n call) (Ok answer) new
+  pub notes : later ≡ map (noted new answer.ended.items (length before.entries)) books
+  pub history : after.entries ≡ before.entries ++ start_entry n call answer ∷ []
+  pub longer : length after.entries ≡ length before.entries + 1
+  pub room : after.room ≡ before.room
 
 -- A call was begun: its start and the steps that come next stand at the end of the history, and its book knows of it.
 pub record Begins (n : ℕ) (call : Call) (old new : Machine) (before after : List Entry) (books later : List Book) (place : ℕ) : Type 0 where

@@ -48,3 +48,11 @@ read_all read records = flat_map (λ words. option_to_list (read words)) records
 -- each record can be read
 abbrev pub AreRead : {X : Type 0} → (List ℕ → Option X) → List (List ℕ) → Type 0
 AreRead read records = All (λ words. IsTrue (is_some (read words))) records
+
+-- what a contract sees of a packed list: its items, and for how many there is room
+pub record ItemList (X : Type 0) : Type 0 where
+  pub items : List X
+  pub room : ℕ
+
+abbrev pub item_list : {X : Type 0} → List X → ℕ → ItemList X
+item_list items room = record { items = items; room = room }
