@@ -6,10 +6,10 @@ use Rattle.l4_fpage.specs.Rights.{set_of_bits}
 use Rattle.l4_msg.specs.Messages.{MessageReads, MessageFails, message_words}
 use Rattle.l4_msg.specs.declared.messages.Message.{Message}
 use Rattle.l4_msg.specs.declared.messages.MsgFault.{MsgFault}
-use Rattle.l4_pager.specs.Regions.{CanAdd, AddFails, entry_for, source_of, Answers as AnswersByTable}
+use Rattle.l4_pager.specs.Regions.{CanAdd, AddFails, code_of, entry_for, source_of, Answers as AnswersByTable}
 use Rattle.l4_pager.specs.declared.regions.Entry.{Entry}
 use Rattle.l4_pager.specs.declared.regions.PagerRefusal.{PagerRefusal}
-use Rattle.l4_pager.specs.declared.regions.PagerRefusal.TheVariants.{Overlap, NoRegion, Full, BadRegion}
+use Rattle.l4_pager.specs.declared.regions.PagerRefusal.TheVariants.{NoRegion}
 use Rattle.l4_sigma0.specs.Owners.{Owners, Answers as AnswersByOwners}
 use Rattle.l4_answers.specs.Refusals.{message_refusal}
 use Rattle.l4_refusals.specs.Texts.{spelled}
@@ -20,10 +20,7 @@ use Rattle.l4_c.specs.declared.results.PageResult.{PageResult}
 use Rattle.l4_c.specs.declared.messages.MessageResult.{MessageResult}
 
 abbrev pub entry_refusal : PagerRefusal → ℕ
-entry_refusal Overlap = spelled (codes "P1")
-entry_refusal NoRegion = spelled (codes "P2")
-entry_refusal Full = spelled (codes "P3")
-entry_refusal BadRegion = spelled (codes "P4")
+entry_refusal refusal = spelled (code_of refusal)
 
 -- the region as an entry of a table: its target pages are those that are served
 abbrev pub entry_of : RegionGiven → Entry
@@ -45,7 +42,7 @@ Adds (Some es) g number new =
 abbrev pub FindsSource : Option (List Entry) → ℕ → ℕ → PageResult → Type 0
 FindsSource None page access r = r ≡ no_page_result (spelled (codes "B1"))
 FindsSource (Some es) page access r =
-    MatchOption (entry_for es page (set_of_bits access)) (r ≡ no_page_result (spelled (codes "P2"))) (λ e. r ≡ page_result (source_of e page))
+    MatchOption (entry_for es page (set_of_bits access)) (r ≡ no_page_result (entry_refusal NoRegion)) (λ e. r ≡ page_result (source_of e page))
 
 -- a refusal with its number, and no word
 abbrev pub no_message_result : ℕ → ℕ → MessageResult

@@ -1,5 +1,5 @@
 -- A pager's regions, and its answers (this profile's own).
-use Rattle.std.specs.Prelude.{◌≡◌, ℕ, ◌+◌, ◌-◌, ◌*◌, ◌/◌, ◌^◌, ◌<◌, ◌≤◌, ◌⊎◌, ◌&&◌, Bool, nat_le, nat_lt, List, [], ◌∷◌, Option, Some, None, MatchOption, IsTrue, length}
+use Rattle.std.specs.Prelude.{◌≡◌, ℕ, ◌+◌, ◌-◌, ◌*◌, ◌/◌, ◌^◌, ◌<◌, ◌≤◌, ◌⊎◌, ◌&&◌, Bool, nat_le, nat_lt, codes, List, [], ◌∷◌, Option, Some, None, MatchOption, IsTrue, length}
 use Rattle.std.specs.List.{All, Any, AllPairs, find}
 use Rattle.l4_fpage.specs.Rights.{RightsSet, is_none, without}
 use Rattle.l4_fpage.specs.Pages.{page_bytes, space_pages}
@@ -32,6 +32,13 @@ AddFails es e BadRegion = IsBad e
 AddFails es e Overlap = (¬ IsBad e) × Any (Meet e) es
 AddFails es e Full = (¬ IsBad e) × All (λ other. ¬ Meet e other) es × (max_regions ≤ length es)
 AddFails es e NoRegion = ⊥
+
+-- the code of a refusal, as texts and C have it
+abbrev pub code_of : PagerRefusal → List ℕ
+code_of Overlap = codes "P1"
+code_of NoRegion = codes "P2"
+code_of Full = codes "P3"
+code_of BadRegion = codes "P4"
 
 -- nothing refuses the entry
 pub record CanAdd (es : List Entry) (e : Entry) : Type 0 where

@@ -4,7 +4,7 @@ use Rattle.l4_answers.specs.Refusals.{Refusal, plainly, kernel_refusal}
 use Rattle.l4_lock.specs.declared.refusals.LockRefusal.{LockRefusal}
 use Rattle.l4_lock.specs.declared.refusals.LockRefusal.TheVariants.{HistoryFull, NoMemory as WantOfMemory, ReplyWaiting, SeatTaken, Kernel as ByKernel}
 use Rattle.l4_pager.specs.declared.regions.PagerRefusal.{PagerRefusal}
-use Rattle.l4_pager.specs.declared.regions.PagerRefusal.TheVariants.{Overlap, NoRegion, Full, BadRegion}
+use Rattle.l4_pager.specs.Regions.{code_of}
 use Rattle.l4_servers.specs.declared.servers.RegionRefusal.{RegionRefusal}
 use Rattle.l4_servers.specs.declared.servers.RegionRefusal.TheVariants.{Pager, NoMemory}
 use Rattle.l4_plan.specs.declared.plans.PlanRefusal.{PlanRefusal}
@@ -40,10 +40,7 @@ lock_refusal (ByKernel refusal) = kernel_refusal refusal
 
 -- the code of what a pager's table refuses
 abbrev pub pager_refusal : PagerRefusal → Refusal
-pager_refusal Overlap = plainly (codes "P1")
-pager_refusal NoRegion = plainly (codes "P2")
-pager_refusal Full = plainly (codes "P3")
-pager_refusal BadRegion = plainly (codes "P4")
+pager_refusal refusal = plainly (code_of refusal)
 
 -- the code of a region that isn't added
 abbrev pub region_refusal : RegionRefusal → Refusal
