@@ -19,7 +19,7 @@ use Rattle.l4_threads.specs.Inside.Entries.{Entries, found, in_state, IsAt, prec
 use Rattle.l4_threads.specs.Queue.{is_in, IsOnce}
 use Rattle.l4_threads.specs.Inside.Kept.{threads_of}
 use Rattle.l4_threads.proofs.TableLemmas.{same_or, differ, same_of, found_here, found_further, found_absent, found_first, refill_same}
-use Rattle.l4_threads.proofs.QueueLemmas.{and_true, or_true, or_left, or_right, both_true, is_in_head, left_by, once-left_by}
+use Rattle.l4_threads.proofs.QueueLemmas.{and_true, or_true, or_left, or_right, both_true, is_in_head, is_in-filter, once-filter, precedes-filter, left_by, once-left_by}
 use Rattle.l4_threads.proofs.ViewLemmas.{thread_at-threads_of, contains-pairs_of, thread_at_seen, sends-threads_of, order_seen}
 
 -- A NUMBER IN A RISING LIST
@@ -268,75 +268,6 @@ kept_by_gone P n same es each m thread at =
                 subst (P m) v (same m old (each m old there))
           ] refl (sym (found-gone_in_other es n m ne) ∙ at)
     ]
-
--- the queue with those that pass a test
-pub is_in-filter : (p : ℕ → Bool) (xs : List ℕ) (q : ℕ) → is_in (filter p xs) q ≡ (is_in xs q && p q)
-is_in-filter p [] q = refl
-is_in-filter p (x ∷ xs) q =
-    elim (same_or q x) [
-      | inl is ↦
-          elim (p x) as (λ b. p x ≡ b → is_in (cond b (x ∷ filter p xs) (filter p xs)) q ≡ (((q == x) || is_in xs q) && p q)) [
-            | true ↦ λ t. or_left _ _ (eq-eqb q x is) ∙ sym (λ i. or_left (q == x) (is_in xs q) (eq-eqb q x is) i && (ap p is ∙ t) i)
-            | false ↦ λ t. is_in-filter p xs q ∙ ap (λ b. is_in xs q && b) (ap p is ∙ t) ∙ and_no (is_in xs q) ((q == x) || is_in xs q) ∙ ap (λ b. ((q == x) || is_in xs q) && b) (sym (ap p is ∙ t))
-          ] refl
-      | inr ne ↦
-          elim (p x) as (λ b. is_in (cond b (x ∷ filter p xs) (filter p xs)) q ≡ is_in (filter p xs) q) [
-            | true ↦ ap (λ b. b || is_in (filter p xs) q) (differ q x ne)
-            | false ↦ refl
-          ] ∙ is_in-filter p xs q ∙ ap (λ b. (b || is_in xs q) && p q) (sym (differ q x ne))
-    ] where
-      and_no : (a b : Bool) → (a && false) ≡ (b && false)
-      and_no true true = refl
-      and_no true false = refl
-      and_no false true = refl
-      and_no false false = refl
-
-pub once-filter : (p : ℕ → Bool) (xs : List ℕ) → IsOnce xs → IsOnce (filter p xs)
-once-filter p [] once = tt
-once-filter p (x ∷ xs) once =
-    elim (p x) as (λ b. IsOnce (cond b (x ∷ filter p xs) (filter p xs))) [
-      | true ↦ (is_in-filter p xs x ∙ ap (λ b. b && p x) once.0, once-filter p xs once.1)
-      | false ↦ once-filter p xs once.1
-    ]
-
-pub precedes-filter : (p : ℕ → Bool) (xs : List ℕ) (a b : ℕ) → precedes (filter p xs) a b ≡ (precedes xs a b && (p a && p b))
-precedes-filter p [] a b = refl
-precedes-filter p (x ∷ xs) a b =
-    elim (p x) as (λ t. p x ≡ t → precedes (cond t (x ∷ filter p xs) (filter p xs)) a b ≡ ((((a == x) && is_in xs b) || precedes xs a b) && (p a && p b))) [
-      | true ↦ λ t.
-          (λ i. ((a == x) && is_in-filter p xs b i) || precedes-filter p xs a b i)
-          ∙ elim (same_or a x) [
-            | inl is ↦
-                ap (λ u. ((a == x) && (is_in xs b && p b)) || (precedes xs a b && (u && p b))) (ap p is ∙ t)
-                ∙ kept (a == x) (is_in xs b) (precedes xs a b) (p b)
-                ∙ ap (λ u. (((a == x) && is_in xs b) || precedes xs a b) && (u && p b)) (sym (ap p is ∙ t))
-            | inr ne ↦
-                ap (λ u. (u && (is_in xs b && p b)) || (precedes xs a b && (p a && p b))) (differ a x ne)
-                ∙ ap (λ u. ((u && is_in xs b) || precedes xs a b) && (p a && p b)) (sym (differ a x ne))
-          ]
-      | false ↦ λ t.
-          precedes-filter p xs a b
-          ∙ elim (same_or a x) [
-            | inl is ↦
-                ap (λ u. precedes xs a b && (u && p b)) (ap p is ∙ t)
-                ∙ and_no (precedes xs a b) (((a == x) && is_in xs b) || precedes xs a b)
-                ∙ ap (λ u. (((a == x) && is_in xs b) || precedes xs a b) && (u && p b)) (sym (ap p is ∙ t))
-            | inr ne ↦ ap (λ u. ((u && is_in xs b) || precedes xs a b) && (p a && p b)) (sym (differ a x ne))
-          ]
-    ] refl where
-      and_no : (a b : Bool) → (a && false) ≡ (b && false)
-      and_no true true = refl
-      and_no true false = refl
-      and_no false true = refl
-      and_no false false = refl
-
-      kept : (t i p o : Bool) → ((t && (i && o)) || (p && (true && o))) ≡ (((t && i) || p) && (true && o))
-      kept true true true true = refl
-      kept true true true false = refl
-      kept true true false true = refl
-      kept true true false false = refl
-      kept true false p o = refl
-      kept false i p o = refl
 
 quiet_stays : (n : ℕ) (s : State) → is_sending (without_partner n s) ≡ true → is_sending s ≡ true
 quiet_stays n (Running reply) h = h

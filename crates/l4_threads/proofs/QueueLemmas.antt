@@ -39,31 +39,76 @@ is_in-push (x ∷ xs) n q = ap (λ b. (q == x) || b) (is_in-push xs n q) ∙ reg
   regroup true b c = refl
   regroup false b c = refl
 
+and_no : (a b : Bool) → (a && false) ≡ (b && false)
+and_no true true = refl
+and_no true false = refl
+and_no false true = refl
+and_no false false = refl
+
+-- the queue with those that pass a test
+pub is_in-filter : (p : ℕ → Bool) (xs : List ℕ) (q : ℕ) → is_in (filter p xs) q ≡ (is_in xs q && p q)
+is_in-filter p [] q = refl
+is_in-filter p (x ∷ xs) q =
+    elim (same_or q x) [
+      | inl is ↦
+          elim (p x) as (λ b. p x ≡ b → is_in (cond b (x ∷ filter p xs) (filter p xs)) q ≡ (((q == x) || is_in xs q) && p q)) [
+            | true ↦ λ t. or_left _ _ (eq-eqb q x is) ∙ sym (λ i. or_left (q == x) (is_in xs q) (eq-eqb q x is) i && (ap p is ∙ t) i)
+            | false ↦ λ t. is_in-filter p xs q ∙ ap (λ b. is_in xs q && b) (ap p is ∙ t) ∙ and_no (is_in xs q) ((q == x) || is_in xs q) ∙ ap (λ b. ((q == x) || is_in xs q) && b) (sym (ap p is ∙ t))
+          ] refl
+      | inr ne ↦
+          elim (p x) as (λ b. is_in (cond b (x ∷ filter p xs) (filter p xs)) q ≡ is_in (filter p xs) q) [
+            | true ↦ ap (λ b. b || is_in (filter p xs) q) (differ q x ne)
+            | false ↦ refl
+          ] ∙ is_in-filter p xs q ∙ ap (λ b. (b || is_in xs q) && p q) (sym (differ q x ne))
+    ]
+
+pub once-filter : (p : ℕ → Bool) (xs : List ℕ) → IsOnce xs → IsOnce (filter p xs)
+once-filter p [] once = tt
+once-filter p (x ∷ xs) once =
+    elim (p x) as (λ b. IsOnce (cond b (x ∷ filter p xs) (filter p xs))) [
+      | true ↦ (is_in-filter p xs x ∙ ap (λ b. b && p x) once.0, once-filter p xs once.1)
+      | false ↦ once-filter p xs once.1
+    ]
+
+pub precedes-filter : (p : ℕ → Bool) (xs : List ℕ) (a b : ℕ) → precedes (filter p xs) a b ≡ (precedes xs a b && (p a && p b))
+precedes-filter p [] a b = refl
+precedes-filter p (x ∷ xs) a b =
+    elim (p x) as (λ t. p x ≡ t → precedes (cond t (x ∷ filter p xs) (filter p xs)) a b ≡ ((((a == x) && is_in xs b) || precedes xs a b) && (p a && p b))) [
+      | true ↦ λ t.
+          (λ i. ((a == x) && is_in-filter p xs b i) || precedes-filter p xs a b i)
+          ∙ elim (same_or a x) [
+            | inl is ↦
+                ap (λ u. ((a == x) && (is_in xs b && p b)) || (precedes xs a b && (u && p b))) (ap p is ∙ t)
+                ∙ kept (a == x) (is_in xs b) (precedes xs a b) (p b)
+                ∙ ap (λ u. (((a == x) && is_in xs b) || precedes xs a b) && (u && p b)) (sym (ap p is ∙ t))
+            | inr ne ↦
+                ap (λ u. (u && (is_in xs b && p b)) || (precedes xs a b && (p a && p b))) (differ a x ne)
+                ∙ ap (λ u. ((u && is_in xs b) || precedes xs a b) && (p a && p b)) (sym (differ a x ne))
+          ]
+      | false ↦ λ t.
+          precedes-filter p xs a b
+          ∙ elim (same_or a x) [
+            | inl is ↦
+                ap (λ u. precedes xs a b && (u && p b)) (ap p is ∙ t)
+                ∙ and_no (precedes xs a b) (((a == x) && is_in xs b) || precedes xs a b)
+                ∙ ap (λ u. (((a == x) && is_in xs b) || precedes xs a b) && (u && p b)) (sym (ap p is ∙ t))
+            | inr ne ↦ ap (λ u. ((u && is_in xs b) || precedes xs a b) && (p a && p b)) (sym (differ a x ne))
+          ]
+    ] refl where
+      kept : (t i p o : Bool) → ((t && (i && o)) || (p && (true && o))) ≡ (((t && i) || p) && (true && o))
+      kept true true true true = refl
+      kept true true true false = refl
+      kept true true false true = refl
+      kept true true false false = refl
+      kept true false p o = refl
+      kept false i p o = refl
+
 -- the queue without the one number
 abbrev pub left_by : ℕ → List ℕ → List ℕ
 left_by n xs = filter (λ m. not (m == n)) xs
 
 pub is_in-left_by : (n : ℕ) (xs : List ℕ) (q : ℕ) → is_in (left_by n xs) q ≡ (is_in xs q && not (q == n))
-is_in-left_by n [] q = refl
-is_in-left_by n (x ∷ xs) q =
-    elim (same_or q x) [
-      | inl is ↦
-          subst (λ (x : ℕ). is_in (cond (not (x == n)) (x ∷ left_by n xs) (left_by n xs)) q ≡ (((q == x) || is_in xs q) && not (q == n))) is
-          (elim (q == n) as (λ b. is_in (left_by n xs) q ≡ (is_in xs q && not b) → is_in (cond (not b) (q ∷ left_by n xs) (left_by n xs)) q ≡ (((q == q) || is_in xs q) && not b)) [
-            | true ↦ λ h. h ∙ and_false (is_in xs q) ∙ sym (and_false ((q == q) || is_in xs q))
-            | false ↦ λ h. is_in_head q (left_by n xs) ∙ sym (ap (λ b. b && true) (is_in_head q xs))
-          ] (is_in-left_by n xs q))
-      | inr ne ↦
-          elim (not (x == n)) as (λ b. is_in (cond b (x ∷ left_by n xs) (left_by n xs)) q ≡ is_in (left_by n xs) q) [
-            | true ↦ ap (λ b. b || is_in (left_by n xs) q) (differ q x ne)
-            | false ↦ refl
-          ]
-          ∙ is_in-left_by n xs q
-          ∙ ap (λ b. (b || is_in xs q) && not (q == n)) (sym (differ q x ne))
-    ] where
-      and_false : (b : Bool) → (b && false) ≡ false
-      and_false true = refl
-      and_false false = refl
+is_in-left_by n = is_in-filter (λ m. not (m == n))
 
 -- a number that isn't there leaves nothing behind
 pub left_by_none : (n : ℕ) (xs : List ℕ) → is_in xs n ≡ false → left_by n xs ≡ xs
@@ -88,12 +133,7 @@ once-push (x ∷ xs) n once out =
     ]
 
 pub once-left_by : (n : ℕ) (xs : List ℕ) → IsOnce xs → IsOnce (left_by n xs)
-once-left_by n [] once = tt
-once-left_by n (x ∷ xs) once =
-    elim (not (x == n)) as (λ b. IsOnce (cond b (x ∷ left_by n xs) (left_by n xs))) [
-      | true ↦ (is_in-left_by n xs x ∙ ap (λ b. b && not (x == n)) once.0, once-left_by n xs once.1)
-      | false ↦ once-left_by n xs once.1
-    ]
+once-left_by n = once-filter (λ m. not (m == n))
 
 length-left_by : (n : ℕ) (xs : List ℕ) → length (left_by n xs) ≤ length xs
 length-left_by n [] = omega arith
@@ -187,46 +227,7 @@ precedes_total (x ∷ xs) a b h k ne =
     ]
 
 pub precedes-left_by : (n : ℕ) (xs : List ℕ) (a b : ℕ) → precedes (left_by n xs) a b ≡ (precedes xs a b && (not (a == n) && not (b == n)))
-precedes-left_by n [] a b = refl
-precedes-left_by n (x ∷ xs) a b =
-    elim (same_or x n) [
-      | inl is ↦
-          ap (λ t. precedes (cond (not t) (x ∷ left_by n xs) (left_by n xs)) a b) (eq-eqb x n is)
-          ∙ precedes-left_by n xs a b
-          ∙ gone (a == n) (is_in xs b) (precedes xs a b) (not (b == n))
-          ∙ ap (λ y. (((a == y) && is_in xs b) || precedes xs a b) && (not (a == n) && not (b == n))) (sym is)
-      | inr ne ↦
-          ap (λ t. precedes (cond (not t) (x ∷ left_by n xs) (left_by n xs)) a b) (differ x n ne)
-          ∙ (λ i. ((a == x) && is_in-left_by n xs b i) || precedes-left_by n xs a b i)
-          ∙ elim (same_or a x) [
-            | inl is ↦
-                let out : (a == n) ≡ false = ap (λ y. y == n) is ∙ differ x n ne in
-                ap (λ t. ((a == x) && (is_in xs b && not (b == n))) || (precedes xs a b && (not t && not (b == n)))) out
-                ∙ kept (a == x) (is_in xs b) (precedes xs a b) (not (b == n))
-                ∙ ap (λ t. (((a == x) && is_in xs b) || precedes xs a b) && (not t && not (b == n))) (sym out)
-            | inr other ↦
-                ap (λ t. (t && (is_in xs b && not (b == n))) || (precedes xs a b && (not (a == n) && not (b == n)))) (differ a x other)
-                ∙ ap (λ t. ((t && is_in xs b) || precedes xs a b) && (not (a == n) && not (b == n))) (sym (differ a x other))
-          ]
-    ] where
-      gone : (t i p o : Bool) → (p && (not t && o)) ≡ (((t && i) || p) && (not t && o))
-      gone true i true o = and_none true i o where
-        and_none : (p i o : Bool) → (p && false) ≡ ((i || p) && false)
-        and_none true true o = refl
-        and_none true false o = refl
-        and_none false true o = refl
-        and_none false false o = refl
-      gone true true false o = refl
-      gone true false false o = refl
-      gone false i p o = refl
-
-      kept : (t i p o : Bool) → ((t && (i && o)) || (p && (true && o))) ≡ (((t && i) || p) && (true && o))
-      kept true true true true = refl
-      kept true true true false = refl
-      kept true true false true = refl
-      kept true true false false = refl
-      kept true false p o = refl
-      kept false i p o = refl
+precedes-left_by n = precedes-filter (λ m. not (m == n))
 
 -- WHO IS FIRST
 
