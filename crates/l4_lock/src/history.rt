@@ -8,9 +8,8 @@ ghost use Rattle.l4_ipc.specs.OwnCall.{own_answer};
 
 use crate::entries::{Entry, EntryOutline};
 use crate::packed::{read_entry_outline, write_entry, write_own_start, write_start};
-use crate::packed_list::{ItemsFrom, PackedList};
 use l4_ipc::{Answer, Call, Step};
-use l4_packed::Record;
+use l4_packed::{ItemsFrom, PackedList, Record};
 use std::alloc::{AllocError, Global};
 use std::marker::Model;
 
@@ -54,7 +53,7 @@ impl History {
     pub fn is_empty(&self) -> bool
         ensures { result ≡ nat_eq (length self.now.entries) 0 }
     {
-        self.entries.len() == 0
+        self.entries.is_empty()
     }
 
     /// The entry at this place, None beyond the end.

@@ -7,7 +7,6 @@ mod entries;
 mod history;
 mod locked;
 mod packed;
-mod packed_list;
 mod pending;
 mod receipts;
 mod refusals;

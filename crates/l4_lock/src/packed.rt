@@ -7,12 +7,11 @@ ghost use Rattle.l4_packed.specs.Words.{Gives};
 ghost use Rattle.l4_lock.specs.Inside.Packing.{entry_at, entry_outline_at, receipt_at};
 
 use crate::entries::{Entry, EntryOutline, Receipt};
-use crate::packed_list::FromWords;
 use l4_ipc::{Answer, Call, Reply, Step};
 use l4_packed::{
-    ANSWER_WORDS, Record, Words, put_answer, put_call, put_own_answer, put_place, put_reply,
-    put_start, put_step, read_answer, read_answer_into, read_call, read_outline, read_place,
-    read_reply, read_step, read_word,
+    ANSWER_WORDS, FromWords, Record, Words, put_answer, put_call, put_own_answer, put_place,
+    put_reply, put_start, put_step, read_answer, read_answer_into, read_call, read_outline,
+    read_place, read_reply, read_step, read_word,
 };
 
 /// Writes what an entry begins with in the place of what the record holds.

@@ -8,9 +8,8 @@ ghost use Rattle.l4_lock.specs.Inside.Noting.{noted_call, reply_pending};
 ghost use Rattle.l4_lock.specs.Inside.Packing.{receipt_at};
 
 use crate::entries::Receipt;
-use crate::packed_list::FromWords;
 use l4_ipc::{Call, Kernel, Reply};
-use l4_packed::{Record, Words, put_call, put_place, put_reply};
+use l4_packed::{FromWords, Record, Words, put_call, put_place, put_reply};
 use std::marker::Model;
 
 /// How far a call has come.

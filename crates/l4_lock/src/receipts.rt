@@ -6,9 +6,8 @@ ghost use Rattle.l4_lock.specs.declared.entries.Receipt.{Receipt as AReceipt};
 
 use crate::entries::Receipt;
 use crate::packed::write_receipt;
-use crate::packed_list::{ItemsFrom, PackedList};
 use l4_ipc::{Call, Reply};
-use l4_packed::{Record, Words};
+use l4_packed::{ItemsFrom, PackedList, Record, Words};
 use std::alloc::{AllocError, Global};
 use std::marker::Model;
 
@@ -52,7 +51,7 @@ impl Receipts {
     pub fn is_empty(&self) -> bool
         ensures { result ≡ nat_eq (length self.now.items) 0 }
     {
-        self.receipts.len() == 0
+        self.receipts.is_empty()
     }
 
     /// The receipt at this place, None beyond the end.

@@ -7,11 +7,10 @@ ghost use Rattle.l4_lock.specs.Inside.Packing.{receipt_at};
 ghost use Rattle.l4_lock.specs.declared.entries.Receipt.{Receipt as AReceipt};
 
 use crate::entries::Receipt;
-use crate::packed_list::FromWords;
 use crate::pending::PendingCall;
 use crate::receipts::Receipts;
 use l4_ipc::{Call, Kernel, Reply};
-use l4_packed::Words;
+use l4_packed::{FromWords, Words};
 use std::alloc::{AllocError, Global};
 use std::marker::Model;
 

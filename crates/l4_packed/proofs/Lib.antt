@@ -6,3 +6,4 @@ pub mod Storing
 pub mod Listed
 pub mod Outlining
 pub mod Marks
+pub mod ReadRecords

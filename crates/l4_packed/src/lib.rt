@@ -3,6 +3,7 @@
 
 mod calls;
 mod numbers;
+mod packed_list;
 mod packing;
 mod pieces;
 mod records;
@@ -11,6 +12,7 @@ mod steps;
 mod words;
 
 pub use calls::{CALL_WORDS, put_call, read_call};
+pub use packed_list::{FromWords, ItemsFrom, PackedList};
 pub use records::Records;
 pub use replies::{REPLY_WORDS, put_reply, read_reply};
 pub use steps::{

@@ -1,7 +1,5 @@
 -- Entries and receipts as words. (this profile's own)
-use Rattle.std.specs.Prelude.{ℕ, List, ◌∷◌, ◌++◌, Option, Some, IsTrue, is_some}
-use Rattle.std.specs.List.{flat_map, All}
-use Rattle.std.specs.Option.{option_to_list}
+use Rattle.std.specs.Prelude.{ℕ, List, ◌∷◌, ◌++◌, Option, Some}
 use Rattle.l4_packed.specs.Words.{◌>>=◌, word_at}
 use Rattle.l4_packed.specs.Codes.{step_code, answer_code, call_code, place_code, reply_code}
 use Rattle.l4_packed.specs.Reading.{step_at, answer_at, call_at, place_at, reply_at}
@@ -40,19 +38,3 @@ receipt_at words = do
   last ← place_at start.1
   reply ← reply_at last.1
   Some (record { call = call.0; start = start.0; end = last.0; reply = reply.0 })
-
--- what records of words are, those read that can be
-abbrev pub read_all : {X : Type 0} → (List ℕ → Option X) → List (List ℕ) → List X
-read_all read records = flat_map (λ words. option_to_list (read words)) records
-
--- each record can be read
-abbrev pub AreRead : {X : Type 0} → (List ℕ → Option X) → List (List ℕ) → Type 0
-AreRead read records = All (λ words. IsTrue (is_some (read words))) records
-
--- what a contract sees of a packed list: its items, and for how many there is room
-pub record ItemList (X : Type 0) : Type 0 where
-  pub items : List X
-  pub room : ℕ
-
-abbrev pub item_list : {X : Type 0} → List X → ℕ → ItemList X
-item_list items room = record { items = items; room = room }

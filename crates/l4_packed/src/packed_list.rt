@@ -1,9 +1,11 @@
 //! Lists that are stored packed: each item as the words of a record.
-ghost use Rattle.std.specs.Prelude.{◌≡◌, ◌+◌, ◌<◌, ◌≤◌, ◌++◌, ◌^◌, [], ℕ, List, Option, None, drop, length, slice_get, is_some, IsTrue, MatchOption, OnOk};
+ghost use Rattle.std.specs.Prelude.{◌≡◌, ◌+◌, ◌<◌, ◌≤◌, ◌++◌, ◌^◌, [], ℕ, List, Option, None, drop, length, nat_eq, slice_get, is_some, IsTrue, MatchOption, OnOk};
 ghost use Rattle.std.specs.Option.{option_to_list};
-ghost use Rattle.l4_lock.specs.Inside.Packing.{ItemList, read_all, AreRead};
+ghost use Rattle.l4_packed.specs.ItemLists.{ItemList};
+ghost use Rattle.l4_packed.specs.Inside.ReadRecords.{read_all, AreRead};
 
-use l4_packed::{Records, Words};
+use crate::records::Records;
+use crate::words::Words;
 use std::alloc::{AllocError, Global};
 use std::marker::{Model, PhantomData};
 
@@ -25,7 +27,8 @@ pub struct PackedList<T: FromWords> {
 }
 
 impl<T: FromWords> Model for PackedList<T> {
-    ghost use Rattle.l4_lock.specs.Inside.Packing.{ItemList, item_list, read_all, AreRead};
+    ghost use Rattle.l4_packed.specs.ItemLists.{ItemList, item_list};
+    ghost use Rattle.l4_packed.specs.Inside.ReadRecords.{read_all, AreRead};
 
     ghost Value = { ItemList T };
 
@@ -50,6 +53,13 @@ impl<T: FromWords> PackedList<T> {
         ensures { result ≡ length self.now.items }
     {
         self.records.len()
+    }
+
+    /// Whether there is no item.
+    pub fn is_empty(&self) -> bool
+        ensures { result ≡ nat_eq (length self.now.items) 0 }
+    {
+        self.len() == 0
     }
 
     /// The words of the item at this place, None beyond the end.

@@ -1,7 +1,7 @@
 use Rattle.std.proofs.Common.{length, sym, ap, ◌∙◌}
-use Rattle.l4_lock.specs.Inside.Packing.{ItemList}
-use Rattle.l4_lock.proofs.Packing.{length_read}
-use Rattle.l4_lock.proofs.packed_list.PackedList.len.Goals as goal
+use Rattle.l4_packed.specs.ItemLists.{ItemList}
+use Rattle.l4_packed.proofs.ReadRecords.{length_read}
+use Rattle.l4_packed.proofs.packed_list.PackedList.len.Goals as goal
 
 pub returns : goal.returns
 returns g c =

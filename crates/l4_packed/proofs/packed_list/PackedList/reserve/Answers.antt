@@ -1,7 +1,7 @@
 use Rattle.std.proofs.Common.{sym, subst, List, ℕ}
-use Rattle.l4_lock.specs.Inside.Packing.{AreRead}
-use Rattle.l4_lock.proofs.Packing.{length_read}
-use Rattle.l4_lock.proofs.packed_list.PackedList.reserve.Goals as goal
+use Rattle.l4_packed.specs.Inside.ReadRecords.{AreRead}
+use Rattle.l4_packed.proofs.ReadRecords.{length_read}
+use Rattle.l4_packed.proofs.packed_list.PackedList.reserve.Goals as goal
 
 pub returns-clause-ok : goal.returns-clause-ok
 returns-clause-ok g c =

@@ -1,8 +1,8 @@
 use Rattle.std.proofs.Common.{◌≡◌, None, MatchOption, subst}
 use Rattle.std.specs.Prelude.{slice_get, IsTrue, is_some}
-use Rattle.l4_lock.specs.Inside.Packing.{ItemList}
-use Rattle.l4_lock.proofs.Packing.{words_read}
-use Rattle.l4_lock.proofs.packed_list.PackedList.words.Goals as goal
+use Rattle.l4_packed.specs.ItemLists.{ItemList}
+use Rattle.l4_packed.proofs.ReadRecords.{words_read}
+use Rattle.l4_packed.proofs.packed_list.PackedList.words.Goals as goal
 
 pub returns : goal.returns
 returns g c =

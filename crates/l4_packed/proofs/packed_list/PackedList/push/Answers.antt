@@ -1,9 +1,10 @@
 use Rattle.std.proofs.Common.{◌∷◌, ◌++◌, [], length, sym, ap, subst, ◌∙◌, arith, List, ℕ}
 use Rattle.std.specs.Option.{option_to_list}
 use Rattle.std.proofs.lemmas.List.{length_push}
-use Rattle.l4_lock.specs.Inside.Packing.{ItemList, read_all, AreRead}
-use Rattle.l4_lock.proofs.Packing.{length_read, are_read_more, read_more}
-use Rattle.l4_lock.proofs.packed_list.PackedList.push.Goals as goal
+use Rattle.l4_packed.specs.ItemLists.{ItemList}
+use Rattle.l4_packed.specs.Inside.ReadRecords.{read_all, AreRead}
+use Rattle.l4_packed.proofs.ReadRecords.{length_read, are_read_more, read_more}
+use Rattle.l4_packed.proofs.packed_list.PackedList.push.Goals as goal
 
 pub push-requires : goal.push-requires
 push-requires g c =

@@ -1,7 +1,7 @@
 use Rattle.std.proofs.Common.{◌+◌, ◌<◌, length, drop, subst, List, arith}
 use Rattle.std.specs.Iterator.{YieldsFirst}
-use Rattle.l4_lock.proofs.Packing.{yields}
-use Rattle.l4_lock.proofs.packed_list.ItemsFromIterator.next.Goals as goal
+use Rattle.l4_packed.proofs.ReadRecords.{yields}
+use Rattle.l4_packed.proofs.packed_list.ItemsFromIterator.next.Goals as goal
 
 pub returns-clause-steps : goal.returns-clause-steps
 returns-clause-steps g c =
