@@ -3,3 +3,4 @@ pub mod Entering
 pub mod Kept
 pub mod Sound
 pub mod Turns
+pub mod Untold

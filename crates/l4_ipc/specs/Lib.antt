@@ -3,6 +3,7 @@ pub mod Start
 pub mod Moving
 pub mod Steps
 pub mod OwnCall
+pub mod NextSteps
 pub mod Runs
 pub mod Reading
 pub mod Following

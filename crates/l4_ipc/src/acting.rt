@@ -1,5 +1,5 @@
 //! The steps on the kernel's parts.
-ghost use Rattle.std.specs.Prelude.{◌≡◌, ◌≤◌, ◌++◌, ◌∷◌, [], ℕ, length, true, false, IsTrue, IsSome, MatchOption, Err, OnOk, OnErr};
+ghost use Rattle.std.specs.Prelude.{◌≡◌, ◌≤◌, ◌++◌, ◌∷◌, [], ℕ, length, true, false, IsTrue, IsSome, MatchOption, Ok, Err, IfOk, IfErr, OnOk, OnErr};
 ghost use Rattle.l4_mapdb.specs.Mappings.{Mappings};
 ghost use Rattle.l4_threads.specs.Threads.{state_of, runs, end_call};
 ghost use Rattle.l4_threads.specs.declared.Reply.TheVariants.{Controlled};
@@ -12,6 +12,8 @@ ghost use Rattle.l4_msg.specs.Tags.{TagReads};
 ghost use Rattle.l4_ipc.specs.Start.{has_send, has_bad_timeout, IsSent};
 ghost use Rattle.l4_ipc.specs.Inside.Turns.{reply_of, sent_of};
 ghost use Rattle.l4_ipc.specs.OwnCall.{ended_if, answered_if, is_delete, Enters};
+ghost use Rattle.l4_ipc.specs.NextSteps.{transfer_answer, expire_answer};
+ghost use Rattle.l4_ipc.specs.Inside.Untold.{transferred};
 ghost use Rattle.l4_ipc.specs.Steps.{expiry, with_space, Steps};
 ghost use Rattle.l4_ipc.specs.declared.steps.Step.TheVariants.{Start, Transfer as Transfers, Expire as Expires};
 ghost use Rattle.l4_ipc.specs.declared.steps.Outcome.TheVariants.{Started};
@@ -354,15 +356,15 @@ pub fn start(
     delete(threads, forest, number, id)
 }
 
-/// Does a transfer.
-pub fn transfer(
+/// Does a transfer, and tells what it did, and whether the sender's call ended.
+pub fn transfer_untold(
     threads: &mut Threads,
     forest: &mut Forest,
     sender: u32,
     receiver: u32,
-) -> Result<Answer, Refused>
+) -> Result<(Outcome, bool), Refused>
     requires { HaveSpaces forest.old.spaces threads.old }
-    ensures { Steps (machine threads.old forest.old) (Transfers sender receiver) result (machine threads.new forest.new) }
+    ensures { Steps (machine threads.old forest.old) (Transfers sender receiver) (transferred sender receiver result) (machine threads.new forest.new) }
 {
     let Some(meeting) = meet(threads, sender, receiver) else {
         return Err(Refused::NotEnabled);
@@ -387,9 +389,32 @@ pub fn transfer(
     let turn = sender_turn(done, threads, meeting.sends);
     end_receiver(threads, receiver, ending, envelope, words.as_slice());
     let ends = enter(threads, sender, turn);
+    Ok((outcome, ends))
+}
+
+/// The answer of a transfer.
+pub fn transfer_answer(sender: u32, receiver: u32, outcome: Outcome, ends: bool) -> Answer
+    ensures { result ≡ transfer_answer sender receiver outcome ends }
+{
     let mut ended = list_if(ends, sender);
     ended.push(receiver);
-    Ok(Answer { outcome, ended })
+    Answer { outcome, ended }
+}
+
+/// Does a transfer.
+pub fn transfer(
+    threads: &mut Threads,
+    forest: &mut Forest,
+    sender: u32,
+    receiver: u32,
+) -> Result<Answer, Refused>
+    requires { HaveSpaces forest.old.spaces threads.old }
+    ensures { Steps (machine threads.old forest.old) (Transfers sender receiver) result (machine threads.new forest.new) }
+{
+    match transfer_untold(threads, forest, sender, receiver) {
+        Ok((outcome, ends)) => Ok(transfer_answer(sender, receiver, outcome, ends)),
+        Err(e) => Err(e),
+    }
 }
 
 /// How a call that expires ends.
@@ -403,9 +428,10 @@ fn expiry(state: &State) -> Ending
     }
 }
 
-/// Ends a wait with a timeout of zero.
-pub fn expire(threads: &mut Threads, number: u32) -> Result<Answer, Refused>
-    ensures { (s : Mappings) → Steps (machine threads.old s) (Expires number) result (machine threads.new s) }
+/// Ends a wait with a timeout of zero, and tells no more.
+pub fn expire_untold(threads: &mut Threads, number: u32) -> Result<(), Refused>
+    ensures ok { IfOk result (λ _. (s : Mappings) → Steps (machine threads.old s) (Expires number) (Ok (expire_answer number)) (machine threads.new s)) }
+    ensures err { IfErr result (λ e. (s : Mappings) → Steps (machine threads.old s) (Expires number) (Err e) (machine threads.new s)) }
 {
     if !threads.can_expire(number) {
         return Err(Refused::NotEnabled);
@@ -415,8 +441,25 @@ pub fn expire(threads: &mut Threads, number: u32) -> Result<Answer, Refused>
     };
     let ending = expiry(state);
     end(threads, number, ending);
-    Ok(Answer {
+    Ok(())
+}
+
+/// The answer of a wait that ended.
+pub fn expire_answer(number: u32) -> Answer
+    ensures { result ≡ expire_answer number }
+{
+    Answer {
         outcome: Outcome::Expired,
         ended: list_if(true, number),
-    })
+    }
+}
+
+/// Ends a wait with a timeout of zero.
+pub fn expire(threads: &mut Threads, number: u32) -> Result<Answer, Refused>
+    ensures { (s : Mappings) → Steps (machine threads.old s) (Expires number) result (machine threads.new s) }
+{
+    match expire_untold(threads, number) {
+        Ok(()) => Ok(expire_answer(number)),
+        Err(e) => Err(e),
+    }
 }

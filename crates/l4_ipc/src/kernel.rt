@@ -4,9 +4,9 @@ ghost use Rattle.std.specs.List.{All};
 ghost use Rattle.std.specs.Option.{option_copied};
 ghost use Rattle.l4_mapdb.specs.declared.Place.{Place};
 
-use crate::acting::{enter_call, expire, start, transfer};
+use crate::acting::{enter_call, expire, expire_untold, start, transfer, transfer_untold};
 use crate::calls::Call;
-use crate::steps::{Answer, Lower, Refused, Step};
+use crate::steps::{Answer, Lower, NextStep, Refused, Step};
 use l4_mapdb::{Forest, MAX_FRAMES, Mapping, NoMemory};
 use l4_threads::{ROOT_SPACE, Reply, State, Threads};
 use std::alloc::Global;
@@ -43,6 +43,7 @@ impl Kernel {
     ghost use Rattle.l4_ipc.specs.Machine.{IsBoot};
     ghost use Rattle.l4_ipc.specs.Steps.{IsNext, IsIdle, Steps};
     ghost use Rattle.l4_ipc.specs.OwnCall.{is_delete, Enters};
+    ghost use Rattle.l4_ipc.specs.NextSteps.{step_of, answer_of};
     ghost use Rattle.l4_ipc.specs.Runs.{Run};
     ghost use Rattle.l4_ipc.specs.Events.{Event, IsTrace, IsOnlyTrace};
     ghost use Rattle.l4_ipc.specs.Provenance.{HaveProvenance, NoneThroughFlushed};
@@ -179,27 +180,41 @@ impl Kernel {
         None
     }
 
+    /// Does the step that comes next, as `enabled` names it, and tells what it did without a list of threads. None where none is enabled,
+    /// and then nothing changes.
+    pub fn enter_next(&mut self) -> Option<NextStep>
+        ensures { MatchOption result (IsIdle self.old × (self.new ≡ self.old))
+            (λ done. IsNext self.old (step_of done) × Steps self.old (step_of done) (Ok (answer_of done)) self.new) }
+    {
+        let enabled = self.threads.next_transfer();
+        if let Some((from, to)) = enabled {
+            let Ok((outcome, ends)) =
+                transfer_untold(&mut self.threads, &mut self.forest, from, to)
+            else {
+                return None;
+            };
+            return Some(NextStep::Transfer(from, to, outcome, ends));
+        }
+        let Some(number) = self.threads.next_expiry() else {
+            self.threads.settle();
+            return None;
+        };
+        let Ok(()) = expire_untold(&mut self.threads, number) else {
+            return None;
+        };
+        Some(NextStep::Expire(number))
+    }
+
     /// Does the step that comes next, as `enabled` names it, and gives it with its answer. None where none is enabled, and then nothing
     /// changes.
     pub fn step_next(&mut self) -> Option<(Step, Answer)>
         ensures { MatchOption result (IsIdle self.old × (self.new ≡ self.old))
             (λ done. IsNext self.old done.0 × Steps self.old done.0 (Ok done.1) self.new) }
     {
-        let enabled = self.threads.next_transfer();
-        if let Some((sender, receiver)) = enabled {
-            let Ok(answer) = transfer(&mut self.threads, &mut self.forest, sender, receiver) else {
-                return None;
-            };
-            return Some((Step::Transfer(sender, receiver), answer));
+        match self.enter_next() {
+            Some(done) => Some((done.step(), done.answer())),
+            None => None,
         }
-        let Some(number) = self.threads.next_expiry() else {
-            self.threads.settle();
-            return None;
-        };
-        let Ok(answer) = expire(&mut self.threads, number) else {
-            return None;
-        };
-        Some((Step::Expire(number), answer))
     }
 
     /// The reply of the last ended call of a thread that runs.

@@ -42,6 +42,16 @@ pub struct Answer {
     pub ended: ArrayVec<u32, MAX_THREADS>,
 }
 
+/// A step that came next and was done: a Transfer or an Expire, told without a list of threads.
+#[derive(Clone, Copy, Debug, PartialEq, Eq)]
+pub enum NextStep {
+    /// The first thread's message went to the second, or what else the outcome says. The second thread's call ended, and where it is
+    /// true the first one's too.
+    Transfer(u32, u32, Outcome, bool),
+    /// The thread's wait with a timeout of zero ended.
+    Expire(u32),
+}
+
 /// A refusal that comes from below the kernel's steps.
 #[derive(Clone, Copy, Debug, PartialEq, Eq)]
 pub enum Lower {

@@ -3,8 +3,8 @@ ghost use Rattle.l4_msg.specs.Sizes.{max_words};
 
 use l4_fpage::{Fpage, Rights};
 use l4_ipc::{
-    Answer, Call, Control, Create, FaultCall, IpcCall, Kernel, Lower, Outcome, Refused, SetPager,
-    Step, Timeout, UnmapCall,
+    Answer, Call, Control, Create, FaultCall, IpcCall, Kernel, Lower, NextStep, Outcome, Refused,
+    SetPager, Step, Timeout, UnmapCall,
 };
 use l4_mapdb::{Mapping, Place};
 use l4_msg::{MsgFault, copied};
@@ -473,6 +473,34 @@ fn steps_that_come_next(rt: HostRuntime) -> Result<(), Fail> {
     assert!(rt; comes_next(&mut kernel, &Step::Transfer(2, 3), Outcome::Done, &[2, 3]));
     assert!(rt; comes_next(&mut kernel, &Step::Expire(1), Outcome::Expired, &[1]));
     assert!(rt; kernel.step_next().is_none());
+    Ok(())
+}
+
+/// Whether this step comes next, and is done and told so.
+fn tells_next(kernel: &mut Kernel, want: NextStep) -> bool {
+    match kernel.enter_next() {
+        Some(next) => next == want,
+        None => false,
+    }
+}
+
+/// Whether this is what comes next, and asking changes nothing of it.
+fn is_next(kernel: &mut Kernel, want: Option<Step>) -> bool {
+    kernel.next_enabled() == want && kernel.enabled() == want
+}
+
+#[test]
+fn steps_that_are_told_without_a_list(rt: HostRuntime) -> Result<(), Fail> {
+    let mut kernel = waiting(rt.alloc(), COMPLETE)?;
+    assert!(rt; is_next(&mut kernel, None));
+    let expiring = ipc(1, NOBODY, ANYBODY, 0x0400, 0, &[]);
+    step_all(&mut kernel, &[send(2, THIRD, &[0x1, 7]), expiring]).expect(&rt, "two calls");
+    assert!(rt; is_next(&mut kernel, Some(Step::Transfer(2, 3))));
+    assert!(rt; tells_next(&mut kernel, NextStep::Transfer(2, 3, Outcome::Done, true)));
+    assert!(rt; is_next(&mut kernel, Some(Step::Expire(1))));
+    assert!(rt; tells_next(&mut kernel, NextStep::Expire(1)));
+    assert!(rt; is_next(&mut kernel, None));
+    assert!(rt; kernel.enter_next().is_none());
     Ok(())
 }
 

@@ -5,10 +5,11 @@ ghost use Rattle.std.specs.Option.{option_map};
 ghost use Rattle.l4_ipc.specs.declared.steps.Step.TheVariants.{Start};
 ghost use Rattle.l4_packed.specs.Words.{Gives};
 ghost use Rattle.l4_ipc.specs.OwnCall.{own_answer};
+ghost use Rattle.l4_ipc.specs.NextSteps.{step_of, answer_of};
 
 use crate::entries::{Entry, EntryOutline};
-use crate::packed::{read_entry_outline, write_entry, write_own_start, write_start};
-use l4_ipc::{Answer, Call, Step};
+use crate::packed::{read_entry_outline, write_next, write_own_start, write_start};
+use l4_ipc::{Answer, Call, NextStep};
 use l4_packed::{ItemsFrom, PackedList, Record};
 use std::alloc::{AllocError, Global};
 use std::marker::Model;
@@ -90,12 +91,12 @@ impl History {
     }
 
     /// Appends the entry of these parts, for which there is room.
-    pub(crate) fn push(&mut self, seat: u32, step: &Step, answer: &Answer)
+    pub(crate) fn push_next(&mut self, seat: u32, next: NextStep)
         requires { length self.old.entries < self.old.room }
-        ensures entries { self.new.entries ≡ self.old.entries ++ record { seat = seat; step = step.now; answer = answer.now } ∷ [] }
+        ensures entries { self.new.entries ≡ self.old.entries ++ record { seat = seat; step = step_of next; answer = answer_of next } ∷ [] }
         ensures room { (length self.new.entries ≡ length self.old.entries + 1) × (self.new.room ≡ self.old.room) }
     {
-        write_entry(&mut self.packed, seat, step, answer);
+        write_next(&mut self.packed, seat, next);
         self.entries.push(&self.packed.words());
     }
 

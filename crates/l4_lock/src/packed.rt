@@ -1,43 +1,35 @@
 //! Entries and receipts as words.
-ghost use Rattle.std.specs.Prelude.{◌≡◌, ◌≤◌, ◌++◌, ◌∷◌, [], length, Some};
+ghost use Rattle.std.specs.Prelude.{◌≡◌, Some};
 ghost use Rattle.l4_ipc.specs.declared.steps.Step.TheVariants.{Start};
 ghost use Rattle.l4_ipc.specs.OwnCall.{own_answer};
-ghost use Rattle.l4_packed.specs.Codes.{answer_code, AnswerFits};
+ghost use Rattle.l4_ipc.specs.NextSteps.{step_of, answer_of};
 ghost use Rattle.l4_packed.specs.Words.{Gives};
 ghost use Rattle.l4_lock.specs.Inside.Packing.{entry_at, entry_outline_at, receipt_at};
 
 use crate::entries::{Entry, EntryOutline, Receipt};
-use l4_ipc::{Answer, Call, Reply, Step};
+use l4_ipc::{Answer, Call, NextStep, Reply};
 use l4_packed::{
-    ANSWER_WORDS, FromWords, Record, Words, put_answer, put_call, put_own_answer, put_place,
-    put_reply, put_start, put_step, read_answer, read_answer_into, read_call, read_outline,
-    read_place, read_reply, read_step, read_word,
+    FromWords, Record, Words, put_answer, put_call, put_next, put_own_answer, put_place, put_reply,
+    put_start, read_answer, read_answer_into, read_call, read_outline, read_place, read_reply,
+    read_step, read_word,
 };
 
-/// Writes what an entry begins with in the place of what the record holds.
-fn write_head(out: &mut Record, seat: u32, answer: &Answer)
-    ensures items { out.new.items ≡ seat ∷ [] ++ answer_code answer.now }
-    ensures fits { AnswerFits answer.now }
-    ensures short { length (answer_code answer.now) ≤ ANSWER_WORDS }
+/// Writes the entry of a step that came next in the place of what the record holds.
+pub fn write_next(out: &mut Record, seat: u32, next: NextStep)
+    ensures { entry_at out.new.items ≡ Some (record { seat = seat; step = step_of next; answer = answer_of next }) }
 {
     out.clear();
     out.push(seat);
-    put_answer(out, answer);
-}
-
-/// Writes the entry of these parts in the place of what the record holds.
-pub fn write_entry(out: &mut Record, seat: u32, step: &Step, answer: &Answer)
-    ensures { entry_at out.new.items ≡ Some (record { seat = seat; step = step.now; answer = answer.now }) }
-{
-    write_head(out, seat, answer);
-    put_step(out, step);
+    put_next(out, next);
 }
 
 /// Writes the entry of the start of a call in the place of what the record holds.
 pub fn write_start(out: &mut Record, number: u32, call: &Call, answer: &Answer)
     ensures { entry_at out.new.items ≡ Some (record { seat = number; step = Start number call.now; answer = answer.now }) }
 {
-    write_head(out, number, answer);
+    out.clear();
+    out.push(number);
+    put_answer(out, answer);
     put_start(out, number, call);
 }
 

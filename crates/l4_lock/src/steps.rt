@@ -6,6 +6,7 @@ ghost use Rattle.l4_lock.specs.Books.{book_at, reply_waits};
 ghost use Rattle.l4_lock.specs.Inside.Entering.{Went, Begins, IsReady, IsStarted};
 ghost use Rattle.l4_threads.specs.Sizes.{max_threads};
 ghost use Rattle.l4_ipc.specs.OwnCall.{is_delete, ended_if};
+ghost use Rattle.l4_ipc.specs.NextSteps.{answer_of};
 ghost use Rattle.l4_lock.specs.Sizes.{max_steps};
 ghost use Rattle.l4_ipc.specs.declared.steps.Refused.{Refused as ARefused};
 ghost use Rattle.l4_ipc.specs.declared.steps.Step.TheVariants.{Start};
@@ -14,7 +15,7 @@ ghost use Rattle.l4_lock.specs.declared.refusals.LockRefusal.TheVariants.{NoMemo
 use crate::history::History;
 use crate::refusals::LockRefusal;
 use crate::seats::Account;
-use l4_ipc::{Call, Control, Kernel, Refused};
+use l4_ipc::{Call, Control, Kernel, NextStep, Refused};
 
 /// Where the account of a number stands.
 pub fn position(accounts: &[Account], number: u32) -> Option<usize>
@@ -72,6 +73,19 @@ fn note_own(accounts: &mut Vec<Account>, kernel: &Kernel, number: u32, ended: bo
     }
 }
 
+/// Notes at each account the calls that ended in a step that came next, whose entry is that of this place.
+fn note_next(accounts: &mut Vec<Account>, kernel: &Kernel, next: NextStep, place: usize)
+    ensures { accounts.new.items ≡ map (noted kernel.now (answer_of next).ended.items place) accounts.old.items }
+{
+    match next {
+        NextStep::Transfer(sender, receiver, _, true) => {
+            note_all(accounts, kernel, &[sender, receiver], place)
+        }
+        NextStep::Transfer(_, receiver, _, false) => note_all(accounts, kernel, &[receiver], place),
+        NextStep::Expire(number) => note_all(accounts, kernel, &[number], place),
+    }
+}
+
 /// Does the steps that come next, until there is none.
 pub fn follow(kernel: &mut Kernel, history: &mut History, accounts: &mut Vec<Account>, seat: u32)
     requires { length history.old.entries + max_threads ≤ history.old.room }
@@ -79,10 +93,10 @@ pub fn follow(kernel: &mut Kernel, history: &mut History, accounts: &mut Vec<Acc
     ensures idle { IsIdle kernel.new }
 {
     kernel.law_consistent();
-    while let Some((step, answer)) = kernel.step_next() {
+    while let Some(next) = kernel.enter_next() {
         kernel.law_forest();
-        note_all(accounts, kernel, answer.ended.as_slice(), history.len());
-        history.push(seat, &step, &answer);
+        note_next(accounts, kernel, next, history.len());
+        history.push_next(seat, next);
     }
 }
 

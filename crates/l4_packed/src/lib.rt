@@ -16,7 +16,7 @@ pub use packed_list::{FromWords, ItemsFrom, PackedList};
 pub use records::Records;
 pub use replies::{REPLY_WORDS, put_reply, read_reply};
 pub use steps::{
-    ANSWER_WORDS, STEP_WORDS, StepOutline, put_answer, put_own_answer, put_start, put_step,
-    read_answer, read_answer_into, read_outline, read_step,
+    ANSWER_WORDS, STEP_WORDS, StepOutline, put_answer, put_next, put_own_answer, put_start,
+    put_step, read_answer, read_answer_into, read_outline, read_step,
 };
 pub use words::{PLACE_WORDS, RECORD_WORDS, Record, Words, put_place, read_place, read_word};

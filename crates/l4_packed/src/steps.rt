@@ -4,6 +4,7 @@ ghost use Rattle.l4_ipc.specs.declared.steps.Answer.{Answer as AnAnswer};
 ghost use Rattle.l4_ipc.specs.declared.steps.Step.{Step as AStep};
 ghost use Rattle.l4_ipc.specs.declared.steps.Step.TheVariants.{Start};
 ghost use Rattle.l4_ipc.specs.OwnCall.{own_answer};
+ghost use Rattle.l4_ipc.specs.NextSteps.{step_of, answer_of};
 ghost use Rattle.l4_packed.specs.Codes.{step_code, outcome_code, answer_code, StepFits, AnswerFits};
 ghost use Rattle.l4_packed.specs.Outlines.{step_outline, outline_at};
 ghost use Rattle.l4_packed.specs.Reading.{step_at, outcome_at, answer_at};
@@ -13,7 +14,7 @@ use crate::calls::{CALL_WORDS, put_call, read_call};
 use crate::words::{
     RECORD_WORDS, Record, Words, put_counted, read_counted, read_counted_into, read_word,
 };
-use l4_ipc::{Answer, Call, MAX_THREADS, Outcome, Step};
+use l4_ipc::{Answer, Call, MAX_THREADS, NextStep, Outcome, Step};
 
 /// A step without the call of a start.
 #[derive(Clone, Copy, Debug, PartialEq, Eq)]
@@ -103,6 +104,36 @@ pub fn put_own_answer(out: &mut Record, thread: u32, ended: bool)
         out.push(thread);
     } else {
         out.push(0);
+    }
+}
+
+/// Appends the answer of a step that came next, and then the step.
+pub fn put_next(out: &mut Record, next: NextStep)
+    requires { length out.old.items + ANSWER_WORDS + STEP_WORDS ≤ RECORD_WORDS }
+    ensures items { out.new.items ≡ out.old.items ++ (answer_code (answer_of next) ++ step_code (step_of next)) }
+    ensures fits { AnswerFits (answer_of next) × StepFits (step_of next) }
+{
+    match next {
+        NextStep::Transfer(sender, receiver, outcome, ends) => {
+            out.push(outcome_word(outcome));
+            if ends {
+                out.push(2);
+                out.push(sender);
+            } else {
+                out.push(1);
+            }
+            out.push(receiver);
+            out.push(1);
+            out.push(sender);
+            out.push(receiver);
+        }
+        NextStep::Expire(waiter) => {
+            out.push(5);
+            out.push(1);
+            out.push(waiter);
+            out.push(2);
+            out.push(waiter);
+        }
     }
 }
 

@@ -1,8 +1,11 @@
-use Rattle.std.proofs.Common.{refl}
-use Rattle.l4_ipc.specs.Inside.Turns.{reply_of}
-use Rattle.l4_ipc.proofs.Starts.{expired}
+use Rattle.std.proofs.Common.{sym, subst, Ok}
+use Rattle.l4_ipc.specs.declared.steps.Answer.{Answer}
+use Rattle.l4_ipc.specs.declared.steps.Step.TheVariants.{Expire}
+use Rattle.l4_ipc.specs.Machine.{machine}
+use Rattle.l4_ipc.specs.Steps.{Steps}
 use Rattle.l4_ipc.proofs.acting.expire.Goals as goal
 
-pub returns : goal.returns
-returns c = λ s. expired c.args.threads.now c.end.new.threads s c.args.number c.in-Some.state.now (reply_of c.expiry-ending.result) _
-    (c.if-not-can_expire.ensures.0 refl) c.in-Some.ensures c.expiry-ending.ensures refl c.list_if.ensures.items c.end.ensures
+pub returns-in-Ok : goal.returns-in-Ok
+returns-in-Ok c = λ s.
+    subst (λ (answer : Answer). Steps (machine c.args.threads.now s) (Expire c.args.number) (Ok answer) (machine c.expire_untold.new.threads s))
+    (sym c.expire_answer.ensures) (c.in-Ok.ensures.ok s)

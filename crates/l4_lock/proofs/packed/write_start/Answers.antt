@@ -1,6 +1,6 @@
-use Rattle.std.proofs.Common.{◌≡◌, ◌++◌, ap, ◌∙◌, List, ℕ}
+use Rattle.std.proofs.Common.{◌≡◌, [], ◌∷◌, ◌++◌, ap, ◌∙◌, List, ℕ, rules}
 use Rattle.l4_ipc.specs.declared.steps.Step.TheVariants.{Start}
-use Rattle.l4_packed.specs.Codes.{step_code}
+use Rattle.l4_packed.specs.Codes.{step_code, answer_code}
 use Rattle.l4_lock.specs.declared.entries.Entry.{Entry}
 use Rattle.l4_lock.specs.Inside.Packing.{entry_code, entry_at}
 use Rattle.l4_lock.proofs.Packing.{entry_again}
@@ -9,5 +9,7 @@ use Rattle.l4_lock.proofs.packed.write_start.Goals as goal
 pub returns : goal.returns
 returns c =
     let entry : Entry = record { seat = c.args.number; step = Start c.args.number c.args.call.now; answer = c.args.answer.now } in
-    let words : c.put_start.new.out.items ≡ entry_code entry = c.put_start.ensures.items ∙ ap (λ (t : List ℕ). t ++ step_code entry.step) c.write_head.ensures.items in
-    ap entry_at words ∙ entry_again entry c.put_start.ensures.fits c.write_head.ensures.fits
+    let number : c.push.new.self.items ≡ c.args.number ∷ [] = search rules in
+    let head : c.put_answer.new.out.items ≡ c.args.number ∷ answer_code entry.answer = c.put_answer.ensures.items ∙ ap (λ (t : List ℕ). t ++ answer_code entry.answer) number in
+    let words : c.put_start.new.out.items ≡ entry_code entry = c.put_start.ensures.items ∙ ap (λ (t : List ℕ). t ++ step_code entry.step) head in
+    ap entry_at words ∙ entry_again entry c.put_start.ensures.fits c.put_answer.ensures.fits

@@ -1,4 +1,4 @@
-use Rattle.std.proofs.Common.{◌≡◌, sym, ap, ◌∙◌, refl, map, [], Bool}
+use Rattle.std.proofs.Common.{sym, ap, ◌∙◌, refl, map, [], Bool}
 use Rattle.l4_ipc.specs.OwnCall.{ended_if}
 use Rattle.l4_lock.specs.Inside.Noting.{noted}
 use Rattle.l4_lock.proofs.Books.{all_noted}

@@ -1,5 +1,5 @@
-use Rattle.std.proofs.Common.{◌≡◌, ◌∙◌, Ok, Bool, List, ℕ, ap, map, subst, length}
-use Rattle.l4_ipc.specs.OwnCall.{Enters, own_answer, ended_if}
+use Rattle.std.proofs.Common.{◌∙◌, Ok, Bool, ℕ, ap, map, subst}
+use Rattle.l4_ipc.specs.OwnCall.{Enters, own_answer}
 use Rattle.l4_lock.specs.Inside.Noting.{noted}
 use Rattle.l4_lock.proofs.steps.start_untold.Goals as goal
 

@@ -1,5 +1,5 @@
-use Rattle.std.proofs.Common.{◌≡◌, ◌+◌, ◌-◌, ◌++◌, ◌∷◌, [], length, sym, ap, subst, ◌∙◌, vec_len, vec_capacity, arith, List, ℕ, refl}
-use Rattle.l4_packed.specs.Inside.Bytes.{record_code, records_in}
+use Rattle.std.proofs.Common.{◌≡◌, ◌+◌, ◌++◌, ◌∷◌, [], sym, ap, subst, ◌∙◌, arith, List, ℕ}
+use Rattle.l4_packed.specs.Inside.Bytes.{records_in}
 use Rattle.l4_packed.specs.Inside.Pieces.{IsPacked, AreMarks, PieceState}
 use Rattle.l4_packed.proofs.Marks.{marks_more}
 use Rattle.l4_packed.proofs.Packed.{packed_more, is_packed_more, few_records}

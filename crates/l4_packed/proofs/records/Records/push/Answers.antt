@@ -1,7 +1,7 @@
-use Rattle.std.proofs.Common.{◌+◌, ◌≤◌, ◌<◌, ◌++◌, length, vec_capacity, subst, sym, ap, arith}
+use Rattle.std.proofs.Common.{◌+◌, ◌≤◌, ◌<◌, ◌++◌, length, vec_capacity, ap, arith}
 use Rattle.std.proofs.lemmas.List.{length-append}
 use Rattle.l4_packed.specs.Inside.Bytes.{record_code}
-use Rattle.l4_packed.specs.Inside.Pieces.{PieceState, IsStore, records_of}
+use Rattle.l4_packed.specs.Inside.Pieces.{records_of}
 use Rattle.l4_packed.specs.Records.{RecordList}
 use Rattle.l4_packed.proofs.Storing.{store_more}
 use Rattle.l4_packed.proofs.records.Records.push.Goals as goal

@@ -1,4 +1,4 @@
-use Rattle.std.proofs.Common.{[], ap}
+use Rattle.std.proofs.Common.{ap}
 use Rattle.l4_packed.specs.Inside.Bytes.{numbers_in, words_in}
 use Rattle.l4_packed.proofs.Unpacking.{are_words_none}
 use Rattle.l4_packed.proofs.words.Record.clear.Goals as goal

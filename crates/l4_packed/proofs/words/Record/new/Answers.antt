@@ -1,6 +1,5 @@
-use Rattle.std.proofs.Common.{[], ap}
+use Rattle.std.proofs.Common.{ap}
 use Rattle.l4_packed.specs.Inside.Bytes.{numbers_in, words_in}
-use Rattle.l4_packed.specs.Words.{word_list}
 use Rattle.l4_packed.proofs.Unpacking.{are_words_none}
 use Rattle.l4_packed.proofs.words.Record.new.Goals as goal
 

@@ -1,0 +1,29 @@
+use Rattle.std.proofs.Common.{Ok, refl}
+use Rattle.l4_ipc.specs.declared.steps.Step.TheVariants.{Transfer, Expire}
+use Rattle.l4_ipc.specs.Machine.{machine}
+use Rattle.l4_ipc.specs.NextSteps.{transfer_answer, expire_answer}
+use Rattle.l4_ipc.proofs.SoundKept.{sound_step}
+use Rattle.l4_ipc.proofs.kernel.Kernel.enter_next.Goals as goal
+
+pub invariant_of-self-in-Some : goal.invariant_of-self-in-Some
+invariant_of-self-in-Some c =
+    sound_step (machine c.self.inside.threads c.self.inside.forest) (Transfer c.in-Some.from c.in-Some.to) (Ok (transfer_answer c.in-Some.from c.in-Some.to c.in-Ok.outcome c.in-Ok.ends)) (machine c.transfer_untold.new.threads c.transfer_untold.new.forest) c.in-Ok.ensures c.self.invariant
+
+pub returns-in-Some : goal.returns-in-Some
+returns-in-Some c = rw (← c.self.view_is) (c.in-Some.ensures, c.in-Ok.ensures)
+
+pub returns-in_default-next_expiry : goal.returns-in_default-next_expiry
+returns-in_default-next_expiry c = rw (← c.self.view_is, c.settle.ensures) (record { no_transfer = c.in_default.ensures; no_expiry = c.in_default-next_expiry.ensures }, refl)
+
+pub invariant_of-self-in_default-expire_untold : goal.invariant_of-self-in_default-expire_untold
+invariant_of-self-in_default-expire_untold c = absurd ((c.in_default-expire_untold.ensures.err c.self.inside.forest).0 c.in-Some-next_expiry.ensures.can_expire)
+
+pub returns-in_default-expire_untold : goal.returns-in_default-expire_untold
+returns-in_default-expire_untold c = absurd ((c.in_default-expire_untold.ensures.err c.self.inside.forest).0 c.in-Some-next_expiry.ensures.can_expire)
+
+pub invariant_of-self-2 : goal.invariant_of-self-2
+invariant_of-self-2 c =
+    sound_step (machine c.self.inside.threads c.self.inside.forest) (Expire c.in-Some-next_expiry.number) (Ok (expire_answer c.in-Some-next_expiry.number)) (machine c.expire_untold.new.threads c.self.inside.forest) (c.in-Ok-expire_untold.ensures.ok c.self.inside.forest) c.self.invariant
+
+pub returns : goal.returns
+returns c = rw (← c.self.view_is) ((c.in_default.ensures, c.in-Some-next_expiry.ensures), c.in-Ok-expire_untold.ensures.ok c.self.inside.forest)
