@@ -188,8 +188,7 @@ impl Kernel {
     {
         let enabled = self.threads.next_transfer();
         if let Some((from, to)) = enabled {
-            let Ok((outcome, ends)) =
-                transfer_untold(&mut self.threads, &mut self.forest, from, to)
+            let Ok((outcome, ends)) = transfer_untold(&mut self.threads, &mut self.forest, from, to)
             else {
                 return None;
             };

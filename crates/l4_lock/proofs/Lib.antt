@@ -4,6 +4,7 @@ pub mod Examples
 pub mod Right
 pub mod Going
 pub mod Books
+pub mod Noting
 pub mod Started
 pub mod Openings
 pub mod Taking

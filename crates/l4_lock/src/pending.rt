@@ -1,5 +1,5 @@
 //! The call of a number that isn't taken yet.
-ghost use Rattle.std.specs.Prelude.{◌≡◌, Option, Some, None, is_some, true, false};
+ghost use Rattle.std.specs.Prelude.{◌≡◌, Option, Some, None, [], ◌∷◌, is_some, true, false};
 ghost use Rattle.std.specs.Option.{option_map, option_map_or};
 ghost use Rattle.l4_lock.specs.declared.entries.Pending.{Pending as APending};
 ghost use Rattle.l4_lock.specs.declared.entries.Ended.{Ended as AnEnd};
@@ -104,8 +104,8 @@ impl PendingCall {
         self.phase = Phase::Idle;
     }
 
-    /// The call ends in the entry of this place.
-    fn end(&mut self, place: usize, reply: &Reply)
+    /// The call ends in the entry of this place with this reply.
+    fn end_with(&mut self, place: usize, reply: &Reply)
         requires { (p : APending) × (self.old ≡ Some p) × (p.ended ≡ None) }
         ensures { self.new ≡ option_map (λ (p : APending). record p { ended = Some (record { entry = place; reply = reply.now }) }) self.old }
     {
@@ -114,19 +114,16 @@ impl PendingCall {
         self.phase = Phase::Ended;
     }
 
-    /// Notes that these calls ended in the entry of this place.
-    pub fn note(&mut self, kernel: &Kernel, ended: &[u32], place: usize, number: u32)
-        ensures { self.new ≡ option_map (noted_call kernel.now ended.now place number) self.old }
+    /// Notes that the number's call, if one goes on, ended in the entry of this place.
+    pub fn end(&mut self, kernel: &Kernel, place: usize, number: u32)
+        ensures { self.new ≡ option_map (noted_call kernel.now (number ∷ []) place number) self.old }
     {
         if !self.goes_on() {
             return;
         }
-        if !ended.contains(&number) {
-            return;
-        }
         match kernel.reply(number) {
-            Some(reply) => self.end(place, reply),
-            None => self.end(place, &Reply::Gone),
+            Some(reply) => self.end_with(place, reply),
+            None => self.end_with(place, &Reply::Gone),
         }
     }
 

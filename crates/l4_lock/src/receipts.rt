@@ -18,7 +18,6 @@ pub type ReceiptsFrom<'a> = ItemsFrom<'a, Receipt>;
 #[derive(Drop)]
 pub struct Receipts {
     receipts: PackedList<Receipt>,
-    packed: Record,
 }
 
 impl Model for Receipts {
@@ -36,7 +35,6 @@ impl Receipts {
     {
         Receipts {
             receipts: PackedList::new(alloc),
-            packed: Record::new(),
         }
     }
 
@@ -84,8 +82,9 @@ impl Receipts {
         ensures items { self.new.items ≡ self.old.items ++ record { call = call.now; start = start; end = end; reply = reply.now } ∷ [] }
         ensures room { (length self.new.items ≡ length self.old.items + 1) × (self.new.room ≡ self.old.room) }
     {
-        write_receipt(&mut self.packed, call, start, end, reply);
-        self.receipts.push(&self.packed.words());
+        let mut packed = Record::new();
+        write_receipt(&mut packed, call, start, end, reply);
+        self.receipts.push(&packed.words());
     }
 
     /// Appends the receipt of these words, for which there is room.

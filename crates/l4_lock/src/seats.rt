@@ -207,11 +207,11 @@ impl Account {
         self.pending.forget();
     }
 
-    /// Notes that these calls ended in the entry of this place.
-    pub fn note(&mut self, kernel: &Kernel, ended: &[u32], place: usize)
-        ensures { self.new ≡ noted kernel.now ended.now place self.old }
+    /// Notes that its call, if one goes on, ended in the entry of this place.
+    pub fn end(&mut self, kernel: &Kernel, place: usize)
+        ensures { self.new ≡ noted kernel.now (self.old.number ∷ []) place self.old }
     {
-        self.pending.note(kernel, ended, place, self.number);
+        self.pending.end(kernel, place, self.number);
     }
 
     /// The reply of the call that isn't taken yet, if it has ended.

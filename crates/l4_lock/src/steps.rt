@@ -1,8 +1,8 @@
 //! Steps of the kernel with their entries.
-ghost use Rattle.std.specs.Prelude.{false, ◌≡◌, ◌≢◌, ◌⊎◌, ◌+◌, ◌<◌, ◌≤◌, ℕ, Ok, Err, None, IfOk, IfErr, OnErr, map, length, MatchOption, slice_get};
+ghost use Rattle.std.specs.Prelude.{false, ◌≡◌, ◌≢◌, ◌⊎◌, ◌+◌, ◌<◌, ◌≤◌, ℕ, Ok, Err, None, [], ◌∷◌, IfOk, IfErr, OnErr, map, length, MatchOption, slice_get};
 ghost use Rattle.l4_ipc.specs.Steps.{Steps, IsIdle};
 ghost use Rattle.l4_lock.specs.Inside.Noting.{noted, first_reply};
-ghost use Rattle.l4_lock.specs.Books.{book_at, reply_waits};
+ghost use Rattle.l4_lock.specs.Books.{book_at, reply_waits, numbers, IsOnce};
 ghost use Rattle.l4_lock.specs.Inside.Entering.{Went, Begins, IsReady, IsStarted};
 ghost use Rattle.l4_threads.specs.Sizes.{max_threads};
 ghost use Rattle.l4_ipc.specs.OwnCall.{is_delete, ended_if};
@@ -17,11 +17,16 @@ use crate::refusals::LockRefusal;
 use crate::seats::Account;
 use l4_ipc::{Call, Control, Kernel, NextStep, Refused};
 
-/// Where the account of a number stands.
+/// Where the account of a number stands. Nothing is searched where the seats were given in the order of their numbers, from 1 on.
 pub fn position(accounts: &[Account], number: u32) -> Option<usize>
+    requires { IsOnce (numbers accounts.now) }
     ensures { MatchOption result (book_at accounts.now number ≡ None)
         (λ at. (at < length accounts.now) × (book_at accounts.now number ≡ slice_get accounts.now at)) }
 {
+    let guess = (number as usize).wrapping_sub(1);
+    if guess < accounts.len() && accounts[guess].number() == number {
+        return Some(guess);
+    }
     for (i, account) in accounts.iter().enumerate() {
         if account.number() == number {
             return Some(i);
@@ -32,6 +37,7 @@ pub fn position(accounts: &[Account], number: u32) -> Option<usize>
 
 /// Whether an ended call of this number hasn't been taken.
 pub fn reply_waits(accounts: &[Account], number: u32) -> bool
+    requires { IsOnce (numbers accounts.now) }
     ensures { result ≡ reply_waits accounts.now number }
 {
     match position(accounts, number) {
@@ -52,20 +58,29 @@ pub fn first_reply(accounts: &[Account]) -> Option<u32>
     None
 }
 
+/// Notes at the account of this number that its call ended in the entry of this place.
+fn note_one(accounts: &mut Vec<Account>, kernel: &Kernel, number: u32, place: usize)
+    requires { IsOnce (numbers accounts.old.items) }
+    ensures { accounts.new.items ≡ map (noted kernel.now (number ∷ []) place) accounts.old.items }
+{
+    if let Some(at) = position(accounts.as_slice(), number) {
+        accounts[at].end(kernel, place);
+    }
+}
+
 /// Notes at each account that these calls ended in the entry of this place.
 fn note_all(accounts: &mut Vec<Account>, kernel: &Kernel, ended: &[u32], place: usize)
+    requires { IsOnce (numbers accounts.old.items) }
     ensures { accounts.new.items ≡ map (noted kernel.now ended.now place) accounts.old.items }
 {
-    if ended.is_empty() {
-        return;
-    }
-    for i in 0..accounts.len() {
-        accounts[i].note(kernel, ended, place);
+    for i in 0..ended.len() {
+        note_one(accounts, kernel, ended[i], place);
     }
 }
 
 /// Notes at each account that the call of this thread ended in the entry of this place, where it has ended.
 fn note_own(accounts: &mut Vec<Account>, kernel: &Kernel, number: u32, ended: bool, place: usize)
+    requires { IsOnce (numbers accounts.old.items) }
     ensures { accounts.new.items ≡ map (noted kernel.now (ended_if ended number) place) accounts.old.items }
 {
     if ended {
@@ -75,6 +90,7 @@ fn note_own(accounts: &mut Vec<Account>, kernel: &Kernel, number: u32, ended: bo
 
 /// Notes at each account the calls that ended in a step that came next, whose entry is that of this place.
 fn note_next(accounts: &mut Vec<Account>, kernel: &Kernel, next: NextStep, place: usize)
+    requires { IsOnce (numbers accounts.old.items) }
     ensures { accounts.new.items ≡ map (noted kernel.now (answer_of next).ended.items place) accounts.old.items }
 {
     match next {
@@ -88,7 +104,8 @@ fn note_next(accounts: &mut Vec<Account>, kernel: &Kernel, next: NextStep, place
 
 /// Does the steps that come next, until there is none.
 pub fn follow(kernel: &mut Kernel, history: &mut History, accounts: &mut Vec<Account>, seat: u32)
-    requires { length history.old.entries + max_threads ≤ history.old.room }
+    requires room { length history.old.entries + max_threads ≤ history.old.room }
+    requires once { IsOnce (numbers accounts.old.items) }
     ensures went { Went seat kernel.old kernel.new history.old.entries history.new.entries accounts.old.items accounts.new.items }
     ensures idle { IsIdle kernel.new }
 {
@@ -116,6 +133,7 @@ fn start_untold(
     call: &Call,
 ) -> Result<(), Refused>
     requires own { is_delete call.now ≡ false }
+    requires once { IsOnce (numbers accounts.old.items) }
     requires room { length history.old.entries < history.old.room }
     ensures ok { IfOk result (λ _. IsStarted number call.now kernel.old kernel.new history.old history.new accounts.old.items accounts.new.items) }
     ensures err { IfErr result (λ r. Steps kernel.old (Start number call.now) (Err r) kernel.new) }
@@ -135,7 +153,8 @@ fn start(
     number: u32,
     call: &Call,
 ) -> Result<(), Refused>
-    requires { length history.old.entries < history.old.room }
+    requires room { length history.old.entries < history.old.room }
+    requires once { IsOnce (numbers accounts.old.items) }
     ensures ok { IfOk result (λ _. IsStarted number call.now kernel.old kernel.new history.old history.new accounts.old.items accounts.new.items) }
     ensures err { IfErr result (λ r. Steps kernel.old (Start number call.now) (Err r) kernel.new) }
     ensures same { OnErr result ((history.new.entries ≡ history.old.entries) × (accounts.new.items ≡ accounts.old.items)) }
@@ -160,6 +179,7 @@ pub fn begin(
 ) -> Result<(), LockRefusal>
     requires room { length history.old.entries + max_steps + 1 ≤ history.old.room }
     requires at { at < length accounts.old.items }
+    requires once { IsOnce (numbers accounts.old.items) }
     requires book { IsReady accounts.old.items at number history.old.entries kernel.old }
     ensures ok { IfOk result (λ _. Begins number call.now kernel.old kernel.new history.old.entries history.new.entries accounts.old.items accounts.new.items at) }
     ensures same { OnErr result ((kernel.new ≡ kernel.old) × (history.new.entries ≡ history.old.entries) × (accounts.new.items ≡ accounts.old.items)) }

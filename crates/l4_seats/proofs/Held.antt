@@ -99,6 +99,12 @@ own_at (x ∷ xs) (suc i) s at once =
       | inr ne ↦ ap (λ t. if t then Some x else seat_at xs s.number) ne.0 ∙ own_at xs i s at once.1
     ]
 
+-- where a seat of the number stands is the number's place
+pub at_guess : (xs : List SeatState) (n i : ℕ) (d : SeatState) → IsOnce (numbers_of xs) → i < length xs → (get_or xs i d).number ≡ n → seat_at xs n ≡ slice_get xs i
+at_guess xs n i d once lt is =
+    let there = slice_get-get_or xs i d lt in
+    subst (λ (k : ℕ). seat_at xs k ≡ slice_get xs i) is (own_at xs i (get_or xs i d) there once ∙ sym there)
+
 waiting_set : (xs : List SeatState) (i : ℕ) (s after : SeatState) → slice_get xs i ≡ Some s → s.waiting ≡ after.waiting + 1 → waiting_in xs ≡ waiting_in (slice_set xs i after) + 1
 waiting_set [] i s after at less = absurd (let k : ◌≡◌ {A = Option SeatState} None (Some s) = at in cc)
 waiting_set (x ∷ xs) zero s after at less = let w = ap (λ (y : SeatState). y.waiting) (same_seat x s at) in omega (arith, w, less)

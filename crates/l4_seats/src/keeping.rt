@@ -1,6 +1,6 @@
 //! Seats, each of which takes its replies.
 ghost use Rattle.std.specs.Prelude.{◌≡◌, ◌<◌, ℕ, true, None, IfOk, IfErr, MatchOption, length, slice_get};
-ghost use Rattle.l4_lock.specs.Books.{reply_waits};
+ghost use Rattle.l4_lock.specs.Books.{IsOnce, reply_waits};
 ghost use Rattle.l4_lock.specs.Locked.{Refuses};
 ghost use Rattle.l4_ipc.specs.Steps.{IsIdle};
 ghost use Rattle.l4_seats.specs.Inside.Keeping.{numbers_of, seat_at, AreTheirs, AreSeats, waiting_in, OnlyTakes, EntersAndTakes};
@@ -8,11 +8,16 @@ ghost use Rattle.l4_seats.specs.Inside.Keeping.{numbers_of, seat_at, AreTheirs, 
 use l4_ipc::Call;
 use l4_lock::{LockRefusal, Locked, Seat};
 
-/// Where the seat of a number stands.
+/// Where the seat of a number stands. Nothing is searched where the seats were given in the order of their numbers, from 1 on.
 pub fn position(seats: &[Seat], number: u32) -> Option<usize>
+    requires { IsOnce (numbers_of seats.now) }
     ensures { MatchOption result (seat_at seats.now number ≡ None)
         (λ at. (at < length seats.now) × (seat_at seats.now number ≡ slice_get seats.now at)) }
 {
+    let guess = (number as usize).wrapping_sub(1);
+    if guess < seats.len() && seats[guess].number() == number {
+        return Some(guess);
+    }
     for (i, seat) in seats.iter().enumerate() {
         if seat.number() == number {
             return Some(i);

@@ -2,12 +2,16 @@ use Rattle.std.proofs.Common.{sym, subst, arith, rules}
 use Rattle.l4_ipc.specs.Machine.{Machine}
 use Rattle.l4_ipc.specs.NextSteps.{step_of, answer_of}
 use Rattle.l4_lock.specs.Inside.Entering.{Went}
+use Rattle.l4_lock.proofs.Noting.{once_same}
 use Rattle.l4_lock.proofs.Going.{going_first, going_more, going_done}
 use Rattle.l4_ipc.proofs.Work.{fewer}
 use Rattle.l4_lock.proofs.steps.follow.Goals as goal
 
 pub loop-next-init : goal.loop-next-init
-loop-next-init c = going_first _ _ _ _ _ _ c.law_consistent.ensures c.requires
+loop-next-init c = going_first _ _ _ _ _ _ c.law_consistent.ensures c.requires.room
+
+pub note_next-requires : goal.note_next-requires
+note_next-requires c = once_same c.args.accounts.now.items c.loop-next.accounts.items c.loop-next.invariant.same c.requires.once
 
 pub push_next-requires : goal.push_next-requires
 push_next-requires c =

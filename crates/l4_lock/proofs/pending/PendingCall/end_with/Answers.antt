@@ -5,7 +5,7 @@ use Rattle.l4_lock.specs.Inside.Packing.{receipt_at}
 use Rattle.l4_lock.specs.Inside.Pending.{ended_call}
 use Rattle.l4_packed.specs.Codes.{reply_code}
 use Rattle.l4_lock.proofs.Begun.{ends}
-use Rattle.l4_lock.proofs.pending.PendingCall.end.Goals as goal
+use Rattle.l4_lock.proofs.pending.PendingCall.end_with.Goals as goal
 
 pub invariant_of-self : goal.invariant_of-self
 invariant_of-self c =
