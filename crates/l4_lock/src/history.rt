@@ -90,7 +90,7 @@ impl History {
         self.entries.reserve(more)
     }
 
-    /// Appends the entry of these parts, for which there is room.
+    /// Appends the entry of a step that came next, for which there is room.
     pub(crate) fn push_next(&mut self, seat: u32, next: NextStep)
         requires { length self.old.entries < self.old.room }
         ensures entries { self.new.entries ≡ self.old.entries ++ record { seat = seat; step = step_of next; answer = answer_of next } ∷ [] }
