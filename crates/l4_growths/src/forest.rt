@@ -15,18 +15,24 @@ const SPACES: u64 = 4;
 
 const FRAMES: u32 = 8;
 
+/// Tells all pages of a space.
+fn show_pages(rt: &impl Print, forest: &Forest, space: u64) -> io::Result<()> {
+    let mut from = 0;
+    for _ in 0..SPACE_PAGES {
+        let Some(page) = forest.next_present(space, from) else {
+            break;
+        };
+        println!(rt; "page {space} {page} {:?}", forest.at(space, page))?;
+        from = page.saturating_add(1);
+    }
+    Ok(())
+}
+
 /// Tells what was done, all pages of all spaces, and where each frame is shown first.
 fn show(rt: &impl Print, told: &str, forest: &Forest) -> io::Result<()> {
     println!(rt; "{told}")?;
     for space in 0..SPACES {
-        let mut from = 0;
-        for _ in 0..SPACE_PAGES {
-            let Some(page) = forest.next_present(space, from) else {
-                break;
-            };
-            println!(rt; "page {space} {page} {:?}", forest.at(space, page))?;
-            from = page.saturating_add(1);
-        }
+        show_pages(rt, forest, space)?;
     }
     for frame in 0..FRAMES {
         println!(rt; "root {frame} {:?}", forest.root(frame))?;

@@ -2,8 +2,8 @@
 
 use crate::{end_memory, stop};
 use l4_ipc::{
-    ArrayVec, Call, Fpage, Kernel, MAX_WORDS, Outcome, Rights, SPACE_PAGES, Step, ThreadId,
-    Timeout, UnmapCall,
+    Answer, ArrayVec, Call, Fpage, Kernel, MAX_WORDS, Outcome, Refused, Rights, SPACE_PAGES, Step,
+    ThreadId, Timeout, UnmapCall,
 };
 use std::io;
 
@@ -64,8 +64,8 @@ fn unmap(words: &[u32]) -> Call {
     })
 }
 
-/// Tells all threads, the step that comes next, and all pages of all spaces.
-pub fn show(rt: &impl Print, kernel: &Kernel) -> io::Result<()> {
+/// Tells all threads, and the step that comes next.
+fn show_threads(rt: &impl Print, kernel: &Kernel) -> io::Result<()> {
     for number in 0..THREADS {
         let space = kernel.space_of(number);
         println!(rt;
@@ -73,16 +73,27 @@ pub fn show(rt: &impl Print, kernel: &Kernel) -> io::Result<()> {
             kernel.reply(number)
         )?;
     }
-    println!(rt; "enabled {:?}", kernel.enabled())?;
+    println!(rt; "enabled {:?}", kernel.enabled())
+}
+
+/// Tells all pages of a space.
+fn show_pages(rt: &impl Print, kernel: &Kernel, space: u64) -> io::Result<()> {
+    let mut from = 0;
+    for _ in 0..SPACE_PAGES {
+        let Some(page) = kernel.next_page(space, from) else {
+            break;
+        };
+        println!(rt; "page {space} {page} {:?}", kernel.mapping(space, page))?;
+        from = page.saturating_add(1);
+    }
+    Ok(())
+}
+
+/// Tells all threads, the step that comes next, and all pages of all spaces.
+pub fn show(rt: &impl Print, kernel: &Kernel) -> io::Result<()> {
+    show_threads(rt, kernel)?;
     for space in 0..SPACES {
-        let mut from = 0;
-        for _ in 0..SPACE_PAGES {
-            let Some(page) = kernel.next_page(space, from) else {
-                break;
-            };
-            println!(rt; "page {space} {page} {:?}", kernel.mapping(space, page))?;
-            from = page.saturating_add(1);
-        }
+        show_pages(rt, kernel, space)?;
     }
     println!(rt; ".")
 }
@@ -100,14 +111,13 @@ fn step(rt: &impl Print, kernel: &mut Kernel, step: &Step) -> io::Result<()> {
     show(rt, kernel)
 }
 
-/// Does steps of which none is refused. Answers whether there was memory for all of them.
-fn run_once(rt: &impl Print, kernel: &mut Kernel, steps: &[Step]) -> io::Result<bool> {
-    let Ok(answers) = kernel.run(steps) else {
-        println!(rt; "refused run")?;
-        show(rt, kernel)?;
-        return Ok(false);
-    };
-    for answer in answers.as_slice() {
+/// Tells steps of which none is refused. Answers whether there was memory for all of them.
+fn show_run(
+    rt: &impl Print,
+    kernel: &Kernel,
+    answers: &[Result<Answer, Refused>],
+) -> io::Result<bool> {
+    for answer in answers {
         let Ok(answer) = answer else {
             return Err(stop());
         };
@@ -120,6 +130,16 @@ fn run_once(rt: &impl Print, kernel: &mut Kernel, steps: &[Step]) -> io::Result<
     println!(rt; "done run {}", answers.len())?;
     show(rt, kernel)?;
     Ok(true)
+}
+
+/// Does these steps. Answers whether there was memory for all of them.
+fn run_once(rt: &impl Print, kernel: &mut Kernel, steps: &[Step]) -> io::Result<bool> {
+    let Ok(answers) = kernel.run(steps) else {
+        println!(rt; "refused run")?;
+        show(rt, kernel)?;
+        return Ok(false);
+    };
+    show_run(rt, kernel, answers.as_slice())
 }
 
 /// The same, once more where memory was lacking.
@@ -169,24 +189,31 @@ fn spare<R: Input + Print>(rt: &R, kernel: &mut Kernel) -> io::Result<()> {
     Ok(())
 }
 
-/// Boots, makes threads, maps pages, and does steps that take no memory. Answers whether there was memory to boot.
-fn tell_once<R: AllocGlobal + Input + Print>(rt: &R) -> io::Result<bool> {
-    let Ok(mut kernel) = Kernel::boot(rt.alloc(), FRAMES) else {
-        println!(rt; "refused boot\n.")?;
-        return Ok(false);
-    };
+/// Makes threads, and maps pages.
+fn take_memory(rt: &impl Print, kernel: &mut Kernel) -> io::Result<()> {
     println!(rt; "done boot")?;
-    show(rt, &kernel)?;
-    step(rt, &mut kernel, &Step::Start(ROOT, create(3)))?;
-    step(rt, &mut kernel, &Step::Start(ROOT, create(4)))?;
+    show(rt, kernel)?;
+    for number in [3, 4] {
+        step(rt, kernel, &Step::Start(ROOT, create(number)))?;
+    }
     for words in [MAPS, MAPS_FOUR] {
         let steps = [
             Step::Start(3, receive()),
             Step::Start(1, send(3, &words)),
             Step::Transfer(1, 3),
         ];
-        run(rt, &mut kernel, &steps)?;
+        run(rt, kernel, &steps)?;
     }
+    Ok(())
+}
+
+/// Boots, makes threads, maps pages, and does steps that take no memory. Answers whether there was memory to boot.
+fn tell_once<R: AllocGlobal + Input + Print>(rt: &R) -> io::Result<bool> {
+    let Ok(mut kernel) = Kernel::boot(rt.alloc(), FRAMES) else {
+        println!(rt; "refused boot\n.")?;
+        return Ok(false);
+    };
+    take_memory(rt, &mut kernel)?;
     spare(rt, &mut kernel)?;
     Ok(true)
 }

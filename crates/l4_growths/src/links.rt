@@ -9,21 +9,27 @@ use std::io;
 /// The spaces that are looked at.
 const SPACES: u64 = 2;
 
+/// Tells the keys of all pages of a space, and what stands under each.
+fn show_keys(rt: &impl Print, links: &Links, space: u64) -> io::Result<()> {
+    let mut from = 0;
+    for _ in 0..SPACE_PAGES {
+        let Some(page) = links.next_key(space, from) else {
+            break;
+        };
+        let Some(key) = links.find(Place { space, page }) else {
+            return Err(stop());
+        };
+        println!(rt; "page {space} {page} key {key} {:?}", links.at(key))?;
+        from = page.saturating_add(1);
+    }
+    Ok(())
+}
+
 /// Tells what was done, the keys of all pages, and what stands under each.
 fn show(rt: &impl Print, told: &str, links: &Links) -> io::Result<()> {
     println!(rt; "{told}")?;
     for space in 0..SPACES {
-        let mut from = 0;
-        for _ in 0..SPACE_PAGES {
-            let Some(page) = links.next_key(space, from) else {
-                break;
-            };
-            let Some(key) = links.find(Place { space, page }) else {
-                return Err(stop());
-            };
-            println!(rt; "page {space} {page} key {key} {:?}", links.at(key))?;
-            from = page.saturating_add(1);
-        }
+        show_keys(rt, links, space)?;
     }
     println!(rt; ".")
 }

@@ -3,8 +3,8 @@ ghost use Rattle.std.specs.Prelude.{◌≡◌};
 
 use crate::kernel::{create, receive, send};
 use crate::{end_memory, kernel, stop};
-use l4_ipc::Call;
-use l4_lock::{Board, KernelLock, Locked, Seat, Watch};
+use l4_ipc::{Call, Kernel};
+use l4_lock::{Board, History, KernelLock, Locked, Seat, Watch};
 use std::io;
 
 const FRAMES: u32 = 8;
@@ -29,7 +29,37 @@ impl Asked {
     }
 }
 
-/// Tells the history, the seats, the board's word and the kernel.
+/// Tells the history.
+fn show_history(rt: &impl Print, history: &History) -> io::Result<()> {
+    for entry in history.entries_from(0) {
+        println!(rt; "entry {entry:?}")?;
+    }
+    Ok(())
+}
+
+/// Tells a seat and its receipts.
+fn show_seat(rt: &impl Print, seat: &Seat) -> io::Result<()> {
+    println!(rt;
+        "seat {} starts {} waiting {}",
+        seat.number(),
+        seat.starts(),
+        seat.waiting()
+    )?;
+    for receipt in seat.receipts().receipts_from(0) {
+        println!(rt; "receipt {receipt:?}")?;
+    }
+    Ok(())
+}
+
+/// Tells the seats, and then the kernel.
+fn show_seats(rt: &impl Print, seats: &[Seat], kernel: &Kernel) -> io::Result<()> {
+    for seat in seats {
+        show_seat(rt, seat)?;
+    }
+    kernel::show(rt, kernel)
+}
+
+/// Tells the board's word, the history, the seats and the kernel.
 fn show(
     rt: &impl Print,
     locked: &Locked,
@@ -42,21 +72,24 @@ fn show(
 {
     let word = board.look(watch);
     println!(rt; "board {word}")?;
-    for entry in locked.history().entries_from(0) {
-        println!(rt; "entry {entry:?}")?;
-    }
-    for seat in seats {
-        println!(rt;
-            "seat {} starts {} waiting {}",
-            seat.number(),
-            seat.starts(),
-            seat.waiting()
-        )?;
-        for receipt in seat.receipts().receipts_from(0) {
-            println!(rt; "receipt {receipt:?}")?;
-        }
-    }
-    kernel::show(rt, locked.kernel())
+    show_history(rt, locked.history())?;
+    show_seats(rt, seats, locked.kernel())
+}
+
+/// Tells what was done, and all that `show` tells.
+fn show_done(
+    rt: &impl Print,
+    done: &str,
+    locked: &Locked,
+    seats: &[Seat],
+    board: &Board,
+    watch: &mut Watch,
+) -> io::Result<()>
+    requires { watch.old.board ≡ board.now }
+    ensures { watch.new.board ≡ board.now }
+{
+    println!(rt; "done {done}")?;
+    show(rt, locked, seats, board, watch)
 }
 
 /// Lets a seat enter a call, and take the reply of the call before.
@@ -82,8 +115,7 @@ fn enter(
             return Err(stop());
         }
     }
-    println!(rt; "done enter")?;
-    show(rt, locked, seats, board, watch)
+    show_done(rt, "enter", locked, seats, board, watch)
 }
 
 /// The seat of a number.
@@ -97,38 +129,35 @@ fn seat(
     requires { watch.old.board ≡ board.now }
     ensures { watch.new.board ≡ board.now }
 {
-    let refusal = match locked.seat(number) {
-        Ok(seat) => {
-            println!(rt; "done seat")?;
+    let seat = match locked.seat(number) {
+        Ok(seat) => seat,
+        Err(refusal) => {
+            println!(rt; "refused seat {refusal:?}")?;
             show(rt, locked, &[], board, watch)?;
-            return Ok(seat);
+            let Ok(seat) = locked.seat(number) else {
+                return Err(stop());
+            };
+            seat
         }
-        Err(refusal) => refusal,
     };
-    println!(rt; "refused seat {refusal:?}")?;
-    show(rt, locked, &[], board, watch)?;
-    let Ok(seat) = locked.seat(number) else {
-        return Err(stop());
-    };
-    println!(rt; "done seat")?;
-    show(rt, locked, &[], board, watch)?;
+    show_done(rt, "seat", locked, &[], board, watch)?;
     Ok(seat)
 }
 
-/// Lets the first seat make the second one's thread, and send words to it.
-fn exchange(
+/// The seats of the root and of the thread that it makes.
+fn both_seats(
     rt: &impl Print,
     locked: &mut Locked,
-    seats: &mut [Seat],
     board: &Board,
     watch: &mut Watch,
-) -> io::Result<()>
+) -> io::Result<(Seat, Seat)>
     requires { watch.old.board ≡ board.now }
     ensures { watch.new.board ≡ board.now }
 {
-    enter(rt, locked, seats, 0, Asked::Create, board, watch)?;
-    enter(rt, locked, seats, 1, Asked::Receive, board, watch)?;
-    enter(rt, locked, seats, 0, Asked::Send, board, watch)
+    show_done(rt, "new_lock", locked, &[], board, watch)?;
+    let root = seat(rt, locked, ROOT, board, watch)?;
+    let third = seat(rt, locked, 3, board, watch)?;
+    Ok((root, third))
 }
 
 /// The second seat takes its reply.
@@ -150,52 +179,71 @@ fn take(
     show(rt, locked, seats, board, watch)
 }
 
+/// Lets the first seat make the second one's thread and send words to it, which the second one takes.
+fn exchange<R: Input + Print>(
+    rt: &R,
+    locked: &mut Locked,
+    seats: &mut [Seat],
+    board: &Board,
+    watch: &mut Watch,
+) -> io::Result<()>
+    requires { watch.old.board ≡ board.now }
+    ensures { watch.new.board ≡ board.now }
+{
+    show_done(rt, "seats", locked, seats, board, watch)?;
+    enter(rt, locked, seats, 0, Asked::Create, board, watch)?;
+    enter(rt, locked, seats, 1, Asked::Receive, board, watch)?;
+    enter(rt, locked, seats, 0, Asked::Send, board, watch)?;
+    end_memory(rt)?;
+    take(rt, locked, seats, board, watch)
+}
+
+/// Tells the history's length and the kernel.
+fn show_parts(rt: &impl Print, told: &str, history: &History, kernel: &Kernel) -> io::Result<()> {
+    println!(rt; "{told} {}", history.len())?;
+    kernel::show(rt, kernel)
+}
+
 /// Closes the lock, and tells the history's length and the kernel.
 fn close(rt: &impl Print, locked: Locked, seats: Vec<Seat>) -> io::Result<()> {
     let Ok((history, kernel)) = locked.close(seats) else {
         return Err(stop());
     };
-    println!(rt; "done close {}", history.len())?;
-    kernel::show(rt, &kernel)
+    show_parts(rt, "done close", &history, &kernel)
+}
+
+/// Tells that there was no memory for what is told.
+fn refused(rt: &impl Print, told: &str) -> io::Result<bool> {
+    println!(rt; "refused {told}\n.")?;
+    Ok(false)
 }
 
 /// Takes a kernel out of a lock that threads may share. Answers whether there was memory for the lock.
 fn unlock<R: AllocGlobal + Input + Print>(rt: &R) -> io::Result<bool> {
     let Ok((lock, _watches)) = KernelLock::new(rt.alloc(), FRAMES, 1) else {
-        println!(rt; "refused unlock\n.")?;
-        return Ok(false);
+        return refused(rt, "unlock");
     };
     end_memory(rt)?;
     let locked = lock.unlock();
-    println!(rt; "done unlock {}", locked.history().len())?;
-    kernel::show(rt, locked.kernel())?;
+    show_parts(rt, "done unlock", locked.history(), locked.kernel())?;
     Ok(true)
 }
 
 /// Lets two seats exchange words, takes a reply and closes the lock. Answers whether there was memory for a lock.
 fn tell_once<R: AllocGlobal + Input + Print>(rt: &R) -> io::Result<bool> {
     let Ok(mut seats) = Vec::with_capacity(rt.alloc(), 2) else {
-        println!(rt; "refused new_lock\n.")?;
-        return Ok(false);
+        return refused(rt, "new_lock");
     };
     let Ok((mut locked, board, mut watches)) = Locked::new(rt.alloc(), FRAMES, 1) else {
-        println!(rt; "refused new_lock\n.")?;
-        return Ok(false);
+        return refused(rt, "new_lock");
     };
     let Some(mut watch) = watches.pop() else {
         return Err(stop());
     };
-    println!(rt; "done new_lock")?;
-    show(rt, &locked, &[], &board, &mut watch)?;
-    let root = seat(rt, &mut locked, ROOT, &board, &mut watch)?;
-    let third = seat(rt, &mut locked, 3, &board, &mut watch)?;
+    let (root, third) = both_seats(rt, &mut locked, &board, &mut watch)?;
     seats.push_reserved(root);
     seats.push_reserved(third);
-    println!(rt; "done seats")?;
-    show(rt, &locked, seats.as_slice(), &board, &mut watch)?;
     exchange(rt, &mut locked, seats.as_mut_slice(), &board, &mut watch)?;
-    end_memory(rt)?;
-    take(rt, &mut locked, seats.as_mut_slice(), &board, &mut watch)?;
     close(rt, locked, seats)?;
     Ok(true)
 }

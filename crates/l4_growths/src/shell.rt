@@ -37,7 +37,15 @@ fn read_once<R: AllocGlobal + Print>(rt: &R, words: &[&str]) -> io::Result<bool>
     Ok(true)
 }
 
-/// The same of the command line of lists of steps.
+/// The same, once more where memory was lacking.
+fn read<R: AllocGlobal + Print>(rt: &R, words: &[&str]) -> io::Result<()> {
+    if read_once(rt, words)? || read_once(rt, words)? {
+        return Ok(());
+    }
+    Err(stop())
+}
+
+/// Reads the words of the command line of lists of steps. Answers whether there was memory to read them.
 fn read_steps_once<R: AllocGlobal + Print>(rt: &R, words: &[&str]) -> io::Result<bool> {
     let asked = step_options(rt.alloc(), words);
     if let Err(OptionFault::Memory) = asked {
@@ -48,7 +56,15 @@ fn read_steps_once<R: AllocGlobal + Print>(rt: &R, words: &[&str]) -> io::Result
     Ok(true)
 }
 
-/// Reads each command line, once more where memory was lacking, and runs a script.
+/// The same, once more where memory was lacking.
+fn read_steps<R: AllocGlobal + Print>(rt: &R, words: &[&str]) -> io::Result<()> {
+    if read_steps_once(rt, words)? || read_steps_once(rt, words)? {
+        return Ok(());
+    }
+    Err(stop())
+}
+
+/// Runs a script, and reads each command line.
 pub fn tell<R: AllocGlobal + Print>(rt: &R) -> io::Result<()> {
     if !run_once(rt)? && !run_once(rt)? {
         return Err(stop());
@@ -63,17 +79,13 @@ pub fn tell<R: AllocGlobal + Print>(rt: &R) -> io::Result<()> {
         ["l4", "frob"].as_slice(),
         ["l4", "--version"].as_slice(),
     ] {
-        if !read_once(rt, words)? && !read_once(rt, words)? {
-            return Err(stop());
-        }
+        read(rt, words)?;
     }
     for words in [
         ["l4_steps", "--frames", "5"].as_slice(),
         ["l4_steps", "--bogus"].as_slice(),
     ] {
-        if !read_steps_once(rt, words)? && !read_steps_once(rt, words)? {
-            return Err(stop());
-        }
+        read_steps(rt, words)?;
     }
     Ok(())
 }

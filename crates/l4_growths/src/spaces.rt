@@ -10,19 +10,25 @@ use std::io;
 /// The spaces that are looked at.
 const SPACES: u64 = 3;
 
+/// Tells whether a space is there, and all its pages.
+fn show_space(rt: &impl Print, spaces: &Spaces, space: u64) -> io::Result<()> {
+    println!(rt; "space {space} {}", spaces.has(space))?;
+    let mut from = 0;
+    for _ in 0..SPACE_PAGES {
+        let Some(page) = spaces.next_present(space, from) else {
+            break;
+        };
+        println!(rt; "page {page} key {:?}", spaces.get(space, page))?;
+        from = page.saturating_add(1);
+    }
+    Ok(())
+}
+
 /// Tells what was done, and all pages of all spaces.
 fn show(rt: &impl Print, told: &str, spaces: &Spaces) -> io::Result<()> {
     println!(rt; "{told}")?;
     for space in 0..SPACES {
-        println!(rt; "space {space} {}", spaces.has(space))?;
-        let mut from = 0;
-        for _ in 0..SPACE_PAGES {
-            let Some(page) = spaces.next_present(space, from) else {
-                break;
-            };
-            println!(rt; "page {page} key {:?}", spaces.get(space, page))?;
-            from = page.saturating_add(1);
-        }
+        show_space(rt, spaces, space)?;
     }
     println!(rt; ".")
 }
