@@ -14,8 +14,13 @@ programs:
 	cd crates/l4 && rt run -- --version
 	cd crates/l4_steps && rt run -- --version
 
+# BUILT=yes takes the archive if it is there, and else builds it over the libraries that `rt ci` has just left.
 library:
+ifdef BUILT
+	test -f $(OUT)/libl4_c.a || tests/c-library || (cd crates/l4_c && rt lib)
+else
 	cd crates/l4_c && rt lib
+endif
 	cp $(OUT)/libl4_c.a $(OUT)/libl4.a
 	cd $(OUT) && ar x $(HEAP) heap.pic.o && ar qs libl4.a heap.pic.o && rm heap.pic.o
 
