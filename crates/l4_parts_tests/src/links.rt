@@ -90,31 +90,40 @@ fn shown(links: &Links, key: usize) -> Option<(Rights, Option<usize>)> {
     Some((standing.rights, standing.parent))
 }
 
+/// Whether these rights and parents stand under these keys.
+fn stand_so(links: &Links, rows: &[(usize, u8, Option<usize>)]) -> bool {
+    for (key, rights, parent) in rows {
+        if shown(links, *key) != Some((Rights::of_bits(*rights), *parent)) {
+            return false;
+        }
+    }
+    true
+}
+
+/// A root, a child of it, and a child of that one: the three keys from the top.
+fn chain(links: &mut Links) -> Result<[usize; 3], NoMemory> {
+    let top = root(links, 5)?;
+    let middle = child(links, top, 10)?;
+    let low = child(links, middle, 11)?;
+    Ok([top, middle, low])
+}
+
 #[test]
 fn caps_a_chain(rt: HostRuntime) -> Result<(), Fail> {
     let mut links = Links::new(rt.alloc());
-    let top = root(&mut links, 5)?;
-    let middle = child(&mut links, top, 10)?;
-    let low = child(&mut links, middle, 11)?;
+    let [top, middle, low] = chain(&mut links)?;
     links.cap_below(middle, Rights::of_bits(5));
-    assert_eq!(rt; shown(&links, top), Some((Rights::all(), None)));
-    assert_eq!(rt; shown(&links, middle), Some((Rights::all(), Some(top))));
-    assert_eq!(rt;
-        shown(&links, low),
-        Some((Rights::of_bits(5), Some(middle)))
-    );
+    let rows = [
+        (top, 7, None),
+        (middle, 7, Some(top)),
+        (low, 5, Some(middle)),
+    ];
+    assert!(rt; stand_so(&links, &rows));
     // the second walk passes by the run of the first, and caps what the first left
     links.cap_below(top, Rights::of_bits(5));
-    assert_eq!(rt;
-        shown(&links, middle),
-        Some((Rights::of_bits(5), Some(top)))
-    );
+    assert!(rt; stand_so(&links, &[(middle, 5, Some(top))]));
     links.cap_tree(top, Rights::of_bits(3));
-    assert_eq!(rt; shown(&links, top), Some((Rights::of_bits(3), None)));
-    assert_eq!(rt;
-        shown(&links, low),
-        Some((Rights::of_bits(1), Some(middle)))
-    );
+    assert!(rt; stand_so(&links, &[(top, 3, None), (low, 1, Some(middle))]));
     Ok(())
 }
 
@@ -127,40 +136,56 @@ fn blank_entry(page: u32, wanted: bool) -> Option<Entry> {
     })
 }
 
+/// A root with three children, of which the second has a child, and that one too: the keys in the order of their pages.
+fn three_children(links: &mut Links) -> Result<[usize; 6], NoMemory> {
+    let top = root(links, 5)?;
+    let last = child(links, top, 10)?;
+    let middle = child(links, top, 11)?;
+    let low = child(links, middle, 12)?;
+    let lowest = child(links, low, 13)?;
+    let first = child(links, top, 14)?;
+    Ok([top, last, middle, low, lowest, first])
+}
+
 #[test]
 fn clears_a_node_in_the_middle(rt: HostRuntime) -> Result<(), Fail> {
     let mut links = Links::new(rt.alloc());
-    let top = root(&mut links, 5)?;
-    let last = child(&mut links, top, 10)?;
-    let gone = child(&mut links, top, 11)?;
-    let low = child(&mut links, gone, 12)?;
-    let lowest = child(&mut links, low, 13)?;
-    let first = child(&mut links, top, 14)?;
+    let [top, last, gone, low, lowest, first] = three_children(&mut links)?;
     links.set_wanted(lowest, true);
     clear(&mut links, gone);
-    assert_eq!(rt; links.at(gone), blank_entry(11, false));
-    assert_eq!(rt; links.at(low), None);
-    assert_eq!(rt; links.find(place(12)), None);
     // a wanted page is left as a blank
-    assert_eq!(rt; links.at(lowest), blank_entry(13, true));
-    assert_eq!(rt; links.find(place(13)), Some(lowest));
+    assert_eq!(rt;
+        [links.at(gone), links.at(low), links.at(lowest)],
+        [blank_entry(11, false), None, blank_entry(13, true)]
+    );
+    assert_eq!(rt;
+        [links.find(place(12)), links.find(place(13))],
+        [None, Some(lowest)]
+    );
     // the list goes on from the node before the run to the one after it
     links.cap_below(top, Rights::of_bits(4));
-    assert_eq!(rt; shown(&links, first), Some((Rights::of_bits(4), Some(top))));
-    assert_eq!(rt; shown(&links, last), Some((Rights::of_bits(4), Some(top))));
+    assert!(rt; stand_so(&links, &[(first, 4, Some(top)), (last, 4, Some(top))]));
     Ok(())
+}
+
+/// A root at the frame's page with a child at the page: the two keys.
+fn root_with_child(links: &mut Links, frame: u32, page: u32) -> Result<[usize; 2], NoMemory>
+    requires frame { IsPage frame }
+    requires page { IsPage page }
+{
+    let top = root(links, frame)?;
+    let below = child(links, top, page)?;
+    Ok([top, below])
 }
 
 #[test]
 fn clears_a_root_at_the_beginning(rt: HostRuntime) -> Result<(), Fail> {
     let mut links = Links::new(rt.alloc());
-    let top = root(&mut links, 5)?;
-    let first = child(&mut links, top, 14)?;
+    let [top, first] = root_with_child(&mut links, 5, 14)?;
     clear(&mut links, top);
-    assert_eq!(rt; links.at(first), None);
+    assert!(rt; links.at(first).is_none());
     // another root comes in its place
-    let second = root(&mut links, 6)?;
-    let below = child(&mut links, second, 20)?;
+    let [second, below] = root_with_child(&mut links, 6, 20)?;
     let shows = Standing {
         frame: 6,
         rights: Rights::all(),
@@ -182,34 +207,31 @@ fn clears_a_root_at_the_beginning(rt: HostRuntime) -> Result<(), Fail> {
 #[test]
 fn grants_a_page(rt: HostRuntime) -> Result<(), Fail> {
     let mut links = Links::new(rt.alloc());
-    let top = root(&mut links, 5)?;
-    let granted = child(&mut links, top, 10)?;
-    let low = child(&mut links, granted, 11)?;
+    let [top, granted, low] = chain(&mut links)?;
     links.set_source(granted, true);
     grant(&mut links, granted, 12, Rights::of_bits(5))?;
-    assert_eq!(rt; links.find(place(10)), None);
-    assert_eq!(rt; links.find(place(12)), Some(granted));
     assert_eq!(rt;
-        links.standing(granted),
-        Some(Standing {
-            frame: 5,
-            rights: Rights::all(),
-            source: true,
-            granted: Some(Rights::of_bits(5)),
-            parent: Some(top),
-        })
+        [links.find(place(10)), links.find(place(12))],
+        [None, Some(granted)]
     );
-    assert_eq!(rt; shown(&links, low), Some((Rights::all(), Some(granted))));
+    let source = links.standing(granted);
+    assert!(rt; stand_so(&links, &[(low, 7, Some(granted))]));
     links.set_plain(granted);
+    let page = Standing {
+        frame: 5,
+        rights: Rights::all(),
+        source: true,
+        granted: Some(Rights::of_bits(5)),
+        parent: Some(top),
+    };
+    let plain = Standing {
+        source: false,
+        granted: None,
+        ..page
+    };
     assert_eq!(rt;
-        links.standing(granted),
-        Some(Standing {
-            frame: 5,
-            rights: Rights::all(),
-            source: false,
-            granted: None,
-            parent: Some(top),
-        })
+        [source, links.standing(granted)],
+        [Some(page), Some(plain)]
     );
     Ok(())
 }
@@ -222,14 +244,29 @@ fn finds_pages(rt: HostRuntime) -> Result<(), Fail> {
     links.law_places();
     links.law_trees();
     assert!(rt; links.bound() >= 2);
-    assert_eq!(rt; links.find(place(3)), Some(key));
-    assert_eq!(rt; links.find(place(4)), None);
-    assert_eq!(rt; links.next_key(0, 0), Some(3));
-    assert_eq!(rt; links.next_key(0, 4), Some(1_048_575));
-    assert_eq!(rt; links.next_key(1, 0), None);
-    assert_eq!(rt; links.next_key_in(0, 0, 4), Some((3, key)));
-    assert_eq!(rt; links.next_key_in(0, 4, 1_048_575), None);
-    assert_eq!(rt; links.find(place(1_048_575)), Some(far));
+    assert_eq!(rt;
+        [
+            links.find(place(3)),
+            links.find(place(4)),
+            links.find(place(1_048_575))
+        ],
+        [Some(key), None, Some(far)]
+    );
+    assert_eq!(rt;
+        [
+            links.next_key(0, 0),
+            links.next_key(0, 4),
+            links.next_key(1, 0)
+        ],
+        [Some(3), Some(1_048_575), None]
+    );
+    assert_eq!(rt;
+        [
+            links.next_key_in(0, 0, 4),
+            links.next_key_in(0, 4, 1_048_575)
+        ],
+        [Some((3, key)), None]
+    );
     Ok(())
 }
 
@@ -238,31 +275,35 @@ fn takes_a_blank_and_its_space(rt: HostRuntime) -> Result<(), Fail> {
     let mut links = Links::new(rt.alloc());
     let key = blank(&mut links, 3)?;
     links.take_blank(key);
-    assert_eq!(rt; links.at(key), None);
-    assert_eq!(rt; links.find(place(3)), None);
+    assert!(rt; links.at(key).is_none());
+    assert!(rt; links.find(place(3)).is_none());
     let None = links.next_key(0, 0) else {
         return Ok(());
     };
     links.end_space(0);
-    assert_eq!(rt; links.next_key(0, 0), None);
+    assert!(rt; links.next_key(0, 0).is_none());
     Ok(())
+}
+
+/// A root with two children, of which the first has a child: the four keys from the top.
+fn nephew(links: &mut Links) -> Result<[usize; 4], NoMemory> {
+    let top = root(links, 5)?;
+    let left = child(links, top, 10)?;
+    let right = child(links, top, 11)?;
+    let low = child(links, left, 12)?;
+    Ok([top, left, right, low])
 }
 
 #[test]
 fn finds_sources(rt: HostRuntime) -> Result<(), Fail> {
     let mut links = Links::new(rt.alloc());
-    let top = root(&mut links, 5)?;
-    let left = child(&mut links, top, 10)?;
-    let right = child(&mut links, top, 11)?;
-    let low = child(&mut links, left, 12)?;
+    let [top, left, right, low] = nephew(&mut links)?;
     links.set_source(low, true);
     assert!(rt; !links.has_source_below(right));
     assert!(rt; !links.has_source_below(low));
-    assert!(rt; links.has_source_below(top));
-    assert!(rt; links.has_source_below(left));
+    assert!(rt; links.has_source_below(top) && links.has_source_below(left));
     links.set_source(low, false);
-    assert!(rt; !links.has_source_below(top));
-    assert!(rt; !links.has_source_below(left));
+    assert!(rt; !links.has_source_below(top) && !links.has_source_below(left));
     Ok(())
 }
 
@@ -276,9 +317,14 @@ fn family(links: &mut Links) -> Result<[usize; 5], NoMemory> {
     Ok([top, left, right, low, lowest])
 }
 
-/// Whether these rights and this parent stand under the key.
-fn shows(links: &Links, key: usize, rights: u8, parent: Option<usize>) -> bool {
-    shown(links, key) == Some((Rights::of_bits(rights), parent))
+/// Whether nothing stands at these keys, and no place is noted either.
+fn are_free(links: &Links, keys: &[usize]) -> bool {
+    for key in keys {
+        if links.at(*key).is_some() {
+            return false;
+        }
+    }
+    true
 }
 
 #[test]
@@ -287,32 +333,26 @@ fn buries_what_has_no_rights(rt: HostRuntime) -> Result<(), Fail> {
     let [top, left, right, low, lowest] = family(&mut links)?;
     // the parent stands on the stack before its children
     links.cap_tree(right, Rights::of_bits(0));
-    assert!(rt; shows(&links, low, 0, Some(right)));
+    assert!(rt; stand_so(&links, &[(low, 0, Some(right))]));
     links.bury();
-    for key in [right, low, lowest] {
-        assert!(rt; links.at(key).is_none(), "key {key}");
-    }
-    assert!(rt; links.find(place(11)).is_none());
-    assert!(rt; links.find(place(13)).is_none());
-    assert!(rt; shows(&links, left, 7, Some(top)));
+    assert!(rt; are_free(&links, &[right, low, lowest]));
+    assert!(rt; links.find(place(11)).is_none() && links.find(place(13)).is_none());
+    assert!(rt; stand_so(&links, &[(left, 7, Some(top))]));
     // the list goes on without them, and takes other nodes
     let next = child(&mut links, left, 11)?;
     links.cap_below(top, Rights::of_bits(4));
-    assert!(rt; shows(&links, left, 4, Some(top)));
-    assert!(rt; shows(&links, next, 4, Some(left)));
+    assert!(rt; stand_so(&links, &[(left, 4, Some(top)), (next, 4, Some(left))]));
     // a second walk finds what the first left without rights on the stack
     links.cap_below(left, Rights::of_bits(3));
     links.cap_below(top, Rights::of_bits(3));
     links.bury();
-    assert!(rt; links.at(next).is_none());
-    assert!(rt; links.at(left).is_none());
-    assert!(rt; shows(&links, top, 7, None));
+    assert!(rt; are_free(&links, &[next, left]));
+    assert!(rt; stand_so(&links, &[(top, 7, None)]));
     // the first node of the list goes too
     links.cap_tree(top, Rights::of_bits(0));
     links.bury();
     assert!(rt; links.find(place(5)).is_none());
     let second = root(&mut links, 5)?;
-    assert!(rt; shows(&links, second, 7, None));
-    assert!(rt; have_rights(&links));
+    assert!(rt; stand_so(&links, &[(second, 7, None)]) && have_rights(&links));
     Ok(())
 }

@@ -27,11 +27,18 @@ fn onto_itself() -> ItemMove {
 #[test]
 fn starts_with_frames(rt: HostRuntime) -> Result<(), Fail> {
     let forest = Forest::new(rt.alloc(), 256)?;
-    assert_eq!(rt; forest.at(0, 255), Some(root(255, Rights::all())));
-    assert_eq!(rt; forest.at(0, 256), None);
-    assert_eq!(rt; forest.next_present(0, 16), Some(16));
-    assert_eq!(rt; forest.next_present(0, 256), None);
-    assert_eq!(rt; forest.next_present(2, 0), None);
+    assert_eq!(rt;
+        [forest.at(0, 255), forest.at(0, 256)],
+        [Some(root(255, Rights::all())), None]
+    );
+    assert_eq!(rt;
+        [
+            forest.next_present(0, 16),
+            forest.next_present(0, 256),
+            forest.next_present(2, 0)
+        ],
+        [Some(16), None, None]
+    );
     forest.law_forest();
     Ok(())
 }
@@ -39,11 +46,16 @@ fn starts_with_frames(rt: HostRuntime) -> Result<(), Fail> {
 #[test]
 fn revokes_and_tangles(rt: HostRuntime) -> Result<(), Fail> {
     let mut forest = Forest::new(rt.alloc(), 256)?;
-    assert_eq!(rt; forest.root(5), Some(Place { space: 0, page: 5 }));
-    assert_eq!(rt; forest.root(256), None);
+    assert_eq!(rt;
+        [forest.root(5), forest.root(256)],
+        [Some(Place { space: 0, page: 5 }), None]
+    );
     let onto_itself = [onto_itself()];
-    assert!(rt; forest.is_entangled(0, 0, &onto_itself));
-    assert!(rt; !forest.is_entangled(0, 2, &onto_itself));
+    let tangled = [
+        forest.is_entangled(0, 0, &onto_itself),
+        forest.is_entangled(0, 2, &onto_itself),
+    ];
+    assert_eq!(rt; tangled, [true, false]);
     forest.revoke(Place { space: 0, page: 5 }, Rights::of_bits(2), true);
     assert_eq!(rt; forest.at(0, 5), Some(root(5, Rights::of_bits(5))));
     forest.revoke(Place { space: 0, page: 5 }, Rights::all(), true);
@@ -65,14 +77,19 @@ fn ends_a_space(rt: HostRuntime) -> Result<(), Fail> {
         Ok(()) => {}
         Err(_) => return Err(NoMemory.into()),
     }
-    assert_eq!(rt; forest.next_present(2, 0), Some(5));
-    assert_eq!(rt; forest.next_present(3, 0), Some(5));
+    assert_eq!(rt;
+        [forest.next_present(2, 0), forest.next_present(3, 0)],
+        [Some(5), Some(5)]
+    );
     forest.end_space(2);
-    assert_eq!(rt; forest.at(0, 5), Some(root(5, Rights::all())));
-    assert_eq!(rt; forest.at(2, 5), None);
-    assert_eq!(rt; forest.at(3, 5), None);
-    assert_eq!(rt; forest.next_present(2, 0), None);
-    assert_eq!(rt; forest.next_present(3, 0), None);
+    assert_eq!(rt;
+        [forest.at(0, 5), forest.at(2, 5), forest.at(3, 5)],
+        [Some(root(5, Rights::all())), None, None]
+    );
+    assert_eq!(rt;
+        [forest.next_present(2, 0), forest.next_present(3, 0)],
+        [None, None]
+    );
     Ok(())
 }
 
@@ -103,15 +120,12 @@ fn grants_a_page_with_a_child(rt: HostRuntime) -> Result<(), Fail> {
         Err(_) => return Err(NoMemory.into()),
     }
     let granted = Place { space: 2, page: 9 };
-    assert_eq!(rt; forest.at(0, 5), None);
+    let child = Mapping {
+        frame: 5,
+        rights: Rights::of_bits(5),
+        parent: Some(granted),
+    };
+    assert_eq!(rt; [forest.at(0, 5), forest.at(3, 9)], [None, Some(child)]);
     assert_eq!(rt; forest.root(5), Some(granted));
-    assert_eq!(rt;
-        forest.at(3, 9),
-        Some(Mapping {
-            frame: 5,
-            rights: Rights::of_bits(5),
-            parent: Some(granted)
-        })
-    );
     Ok(())
 }

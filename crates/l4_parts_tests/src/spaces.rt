@@ -38,10 +38,15 @@ fn keeps_pages(rt: HostRuntime) -> Result<(), Fail> {
     spaces.set(7, 5, 50);
     spaces.set(7, 3, 30);
     spaces.set(7, 5, 51);
-    assert_eq!(rt; spaces.get(7, 3), Some(30));
-    assert_eq!(rt; spaces.get(7, 5), Some(51));
-    assert_eq!(rt; spaces.get(7, 4), None);
-    assert_eq!(rt; spaces.get(8, 5), None);
+    assert_eq!(rt;
+        [
+            spaces.get(7, 3),
+            spaces.get(7, 5),
+            spaces.get(7, 4),
+            spaces.get(8, 5)
+        ],
+        [Some(30), Some(51), None, None]
+    );
     for (page, next) in [
         (0, Some(3)),
         (3, Some(3)),
@@ -49,16 +54,18 @@ fn keeps_pages(rt: HostRuntime) -> Result<(), Fail> {
         (5, Some(5)),
         (6, None),
     ] {
-        assert_eq!(rt; spaces.next_present(7, page), next, "from {page}");
-        assert_eq!(rt; spaces.next_in(7, page, 6), next, "below 6, from {page}");
+        // among all pages, and among those below 6
+        let found = [spaces.next_present(7, page), spaces.next_in(7, page, 6)];
+        assert_eq!(rt; found, [next, next], "from {page}");
     }
-    assert_eq!(rt; spaces.next_in(7, 4, 5), None);
-    assert_eq!(rt; spaces.next_present(6, 0), None);
+    assert_eq!(rt;
+        [spaces.next_in(7, 4, 5), spaces.next_present(6, 0)],
+        [None, None]
+    );
     spaces.clear(7, 3);
     spaces.clear(7, 4);
     assert_eq!(rt; spaces.next_present(7, 0), Some(5));
     spaces.remove(7);
-    assert!(rt; !spaces.has(7));
-    assert_eq!(rt; spaces.get(7, 5), None);
+    assert_eq!(rt; (spaces.has(7), spaces.get(7, 5)), (false, None));
     Ok(())
 }

@@ -64,13 +64,22 @@ fn end(threads: &mut Threads, number: u32) -> Result<(), &'static str> {
 #[test]
 fn the_start(rt: HostRuntime) {
     let threads = Threads::boot();
-    assert_eq!(rt; threads.space_of(1), Some(0));
-    assert_eq!(rt; threads.space_of(2), Some(1));
-    assert_eq!(rt; threads.pager_of(1), Some(ThreadId::nil()));
-    assert_eq!(rt; threads.pager_of(2), Some(SIGMA0));
-    assert_eq!(rt; threads.named(ROOT), Some(2));
-    assert_eq!(rt; threads.named(ThreadId(0x8002)), None);
-    assert_eq!(rt; threads.named(ThreadId::any()), None);
+    assert_eq!(rt;
+        [threads.space_of(1), threads.space_of(2)],
+        [Some(0), Some(1)]
+    );
+    assert_eq!(rt;
+        [threads.pager_of(1), threads.pager_of(2)],
+        [Some(ThreadId::nil()), Some(SIGMA0)]
+    );
+    assert_eq!(rt;
+        [
+            threads.named(ROOT),
+            threads.named(ThreadId(0x8002)),
+            threads.named(ThreadId::any())
+        ],
+        [Some(2), None, None]
+    );
     assert!(rt; threads.thread(3).is_none());
     assert_eq!(rt; threads.queue().len(), 0);
     threads.law_consistent();
@@ -78,66 +87,82 @@ fn the_start(rt: HostRuntime) {
 
 #[test]
 fn ids_of_numbers_and_versions(rt: HostRuntime) {
-    assert_eq!(rt; ThreadId::global(3, 1), Some(ThreadId(0xc001)));
-    assert_eq!(rt; ThreadId::global(0x3ffff, 1), Some(ThreadId(0xffff_c001)));
-    for (number, version) in [
-        (0, 1),
-        (3, 0x40),
-        (3, 0x4001),
-        (0x40000, 1),
-        (0x3ffff, 0x3fff),
+    for (number, version, id) in [
+        (3, 1, Some(ThreadId(0xc001))),
+        (0x3ffff, 1, Some(ThreadId(0xffff_c001))),
+        (0, 1, None),
+        (3, 0x40, None),
+        (3, 0x4001, None),
+        (0x40000, 1, None),
+        (0x3ffff, 0x3fff, None),
     ] {
-        assert_eq!(rt; ThreadId::global(number, version), None);
+        assert_eq!(rt; ThreadId::global(number, version), id);
     }
-    assert_eq!(rt; ThreadId(0xc041).number(), 3);
-    assert_eq!(rt; ThreadId(0xc041).version(), 65);
+    let id = ThreadId(0xc041);
+    assert_eq!(rt; (id.number(), id.version()), (3, 65));
 }
 
 #[test]
-fn a_new_thread(rt: HostRuntime) -> Result<(), Fail> {
+fn a_new_thread(rt: HostRuntime) {
     let mut threads = Threads::boot();
     assert_eq!(rt;
-        threads.test_create(1, THIRD, THIRD),
-        Err(ThreadFault::NoPrivilege)
-    );
-    assert_eq!(rt;
-        threads.test_create(2, ThreadId::any(), THIRD),
-        Err(ThreadFault::BadId)
-    );
-    assert_eq!(rt; threads.test_create(2, ROOT, ROOT), Err(ThreadFault::Taken));
-    assert_eq!(rt;
-        threads.test_create(2, THIRD, ThreadId(0xc041)),
-        Err(ThreadFault::Unknown)
-    );
-    assert_eq!(rt; threads.test_create(2, THIRD, ROOT), Ok(1));
-    assert_eq!(rt;
-        threads.create(1, THIRD, ROOT, ROOT),
-        Err(ThreadFault::NoPrivilege)
+        [
+            threads.test_create(1, THIRD, THIRD),
+            threads.test_create(2, ThreadId::any(), THIRD),
+            threads.test_create(2, ROOT, ROOT),
+            threads.test_create(2, THIRD, ThreadId(0xc041)),
+            threads.test_create(2, THIRD, ROOT),
+            threads.create(1, THIRD, ROOT, ROOT)
+        ],
+        [
+            Err(ThreadFault::NoPrivilege),
+            Err(ThreadFault::BadId),
+            Err(ThreadFault::Taken),
+            Err(ThreadFault::Unknown),
+            Ok(1),
+            Err(ThreadFault::NoPrivilege)
+        ]
     );
     assert!(rt; threads.thread(3).is_none());
-    assert_eq!(rt; grow(&mut threads, THIRD)?, 2);
+    assert_eq!(rt;
+        [
+            grow(&mut threads, THIRD),
+            grow(&mut threads, ThreadId(0x10001))
+        ],
+        [Ok(2), Ok(3)]
+    );
     assert_eq!(rt; threads.space_of(3), Some(2));
-    assert_eq!(rt; grow(&mut threads, ThreadId(0x10001))?, 3);
+}
+
+/// Lets thread 3 receive from anybody, 1 send to 2, and 2 to 3.
+fn start_calls(threads: &mut Threads) -> Result<(), Fail> {
+    grow(threads, THIRD)?;
+    receive(threads, 3, wait(Source::Anyone, true))?;
+    send(threads, 1, message(2, false))?;
+    send(threads, 2, message(3, false))?;
     Ok(())
 }
 
 #[test]
 fn a_transfer_and_an_expiry(rt: HostRuntime) -> Result<(), Fail> {
     let mut threads = Threads::boot();
-    grow(&mut threads, THIRD)?;
-    receive(&mut threads, 3, wait(Source::Anyone, true))?;
-    send(&mut threads, 1, message(2, false))?;
-    send(&mut threads, 2, message(3, false))?;
+    start_calls(&mut threads)?;
     assert_eq!(rt; threads.queue(), [1, 2].as_slice());
-    assert_eq!(rt; threads.first_sender(3), Some(2));
-    assert_eq!(rt; threads.first_sender(2), None);
+    assert_eq!(rt;
+        [threads.first_sender(3), threads.first_sender(2)],
+        [Some(2), None]
+    );
     assert!(rt; threads.can_transfer(2, 3));
-    assert_eq!(rt; threads.next_transfer(), Some((2, 3)));
-    assert_eq!(rt; threads.next_expiry(), None);
+    assert_eq!(rt;
+        (threads.next_transfer(), threads.next_expiry()),
+        (Some((2, 3)), None)
+    );
     end(&mut threads, 2)?;
-    assert_eq!(rt; threads.next_transfer(), None);
     assert!(rt; threads.can_expire(3));
-    assert_eq!(rt; threads.next_expiry(), Some(3));
+    assert_eq!(rt;
+        (threads.next_transfer(), threads.next_expiry()),
+        (None, Some(3))
+    );
     Ok(())
 }
 
@@ -145,35 +170,42 @@ fn a_transfer_and_an_expiry(rt: HostRuntime) -> Result<(), Fail> {
 fn another_pager(rt: HostRuntime) {
     let mut threads = Threads::boot();
     assert_eq!(rt;
-        threads.set_pager(1, ROOT, ROOT),
-        Err(ThreadFault::NoPrivilege)
+        [
+            threads.set_pager(1, ROOT, ROOT),
+            threads.set_pager(2, THIRD, ROOT),
+            threads.set_pager(2, SIGMA0, ROOT)
+        ],
+        [
+            Err(ThreadFault::NoPrivilege),
+            Err(ThreadFault::Unknown),
+            Ok(1)
+        ]
     );
-    assert_eq!(rt;
-        threads.set_pager(2, THIRD, ROOT),
-        Err(ThreadFault::Unknown)
-    );
-    assert_eq!(rt; threads.set_pager(2, SIGMA0, ROOT), Ok(1));
     assert_eq!(rt; threads.pager_of(1), Some(ROOT));
+}
+
+/// Creates threads 4 and 3, of which 4 sends to 3, and lets 3 receive from anybody and 1 from 3.
+fn start_more_calls(threads: &mut Threads) -> Result<(), Fail> {
+    grow(threads, ThreadId(0x10001))?;
+    grow(threads, THIRD)?;
+    send(threads, 4, message(3, false))?;
+    receive(threads, 1, wait(Source::Thread(3), false))?;
+    receive(threads, 3, wait(Source::Anyone, false))?;
+    Ok(())
 }
 
 #[test]
 fn a_deletion(rt: HostRuntime) -> Result<(), Fail> {
     let mut threads = Threads::boot();
-    let fourth = ThreadId(0x10001);
-    grow(&mut threads, fourth)?;
-    grow(&mut threads, THIRD)?;
-    send(&mut threads, 4, message(3, false))?;
-    receive(&mut threads, 1, wait(Source::Thread(3), false))?;
-    receive(&mut threads, 3, wait(Source::Anyone, false))?;
+    start_more_calls(&mut threads)?;
     let Err(ThreadFault::Kept) = threads.delete(2, SIGMA0) else {
         return Err("sigma0 is kept".into());
     };
     let Ok(deleted) = threads.delete(2, THIRD) else {
         return Err("refused".into());
     };
-    assert_eq!(rt; deleted.number, 3);
+    assert_eq!(rt; (deleted.number, deleted.space), (3, Some(3)));
     assert_eq!(rt; deleted.ended.as_slice(), [1, 3, 4].as_slice());
-    assert_eq!(rt; deleted.space, Some(3));
     assert_eq!(rt; threads.queue().len(), 0);
     assert!(rt; threads.thread(3).is_none());
     Ok(())
@@ -182,12 +214,17 @@ fn a_deletion(rt: HostRuntime) -> Result<(), Fail> {
 #[test]
 fn ids(rt: HostRuntime) {
     assert_eq!(rt; THIRD.number(), 3);
-    assert!(rt; !THIRD.is_bad());
-    assert!(rt; ThreadId(0x3fff).is_bad());
-    assert!(rt; ThreadId(0xc040).is_bad());
+    assert_eq!(rt;
+        [
+            THIRD.is_bad(),
+            ThreadId(0x3fff).is_bad(),
+            ThreadId(0xc040).is_bad()
+        ],
+        [false, true, true]
+    );
     assert!(rt; matches!(Reply::failed(true, 4), Reply::FaultFailed(4)));
     assert!(rt; State::Running(None).is_running());
     assert!(rt; State::Sending(message(1, true)).is_sending());
-    assert!(rt; Source::Thread(3).takes(3));
-    assert!(rt; !Source::Thread(3).takes(2));
+    let third = Source::Thread(3);
+    assert_eq!(rt; [third.takes(3), third.takes(2)], [true, false]);
 }

@@ -43,9 +43,14 @@ fn takes_what_two_fpages_name(rt: HostRuntime) -> Result<(), Fail> {
     // to write page 254 and 255, to read page 255 alone, and a word that isn't counted
     let words = [0xf_e0d2, 0xf_f0c4, 0x20];
     assert_eq!(rt; unmap(&mut forest, 0, 1, &words), Ok(()));
-    assert_eq!(rt; forest.at(2, 6), child(254, Rights::of_bits(5)));
-    assert_eq!(rt; forest.at(2, 7), child(255, Rights::of_bits(1)));
-    assert_eq!(rt; forest.at(0, 255), own);
+    assert_eq!(rt;
+        [forest.at(2, 6), forest.at(2, 7), forest.at(0, 255)],
+        [
+            child(254, Rights::of_bits(5)),
+            child(255, Rights::of_bits(1)),
+            own
+        ]
+    );
 
     // all rights of the complete fpage, by the child, which loses nothing of its own
     assert_eq!(rt; unmap(&mut forest, 2, 0, &[0x17]), Ok(()));
@@ -59,9 +64,14 @@ fn takes_own_pages_too(rt: HostRuntime) -> Result<(), Fail> {
 
     // the nil fpage, and all rights of the pages from 128 on
     assert_eq!(rt; unmap(&mut forest, 0, 0x41, &[7, 0x8_0137]), Ok(()));
-    assert_eq!(rt; forest.next_present(0, 127), Some(127));
-    assert_eq!(rt; forest.next_present(0, 128), None);
-    assert_eq!(rt; forest.next_present(2, 0), None);
+    assert_eq!(rt;
+        [
+            forest.next_present(0, 127),
+            forest.next_present(0, 128),
+            forest.next_present(2, 0)
+        ],
+        [Some(127), None, None]
+    );
     Ok(())
 }
 
