@@ -21,25 +21,31 @@ fn pages(word: u32) -> Option<(u32, u8)> {
 
 #[test]
 fn words_of_fpages(rt: HostRuntime) {
-    assert_eq!(rt; sized(0x5ce7), Some((0x4000, 14, 7)));
-    assert_eq!(rt; rewritten(0x5ce7), Some(0x40e7));
-    assert_eq!(rt; sized(0x100cf), sized(0x100c7));
+    assert_eq!(rt;
+        [sized(0x5ce7), sized(0x100cf), sized(0xb7)],
+        [Some((0x4000, 14, 7)), sized(0x100c7), Some((0, 11, 7))]
+    );
+    assert_eq!(rt;
+        [rewritten(0x5ce7), rewritten(0x207), rewritten(0xfffffc07)],
+        [Some(0x40e7), Some(0x17), Some(0)]
+    );
     assert_eq!(rt; Fpage::read(0x207), Ok(Fpage::Complete(Rights::all())));
-    assert_eq!(rt; rewritten(0x207), Some(0x17));
     assert!(rt; Fpage::read(0x217).is_err());
-    assert_eq!(rt; sized(0xb7), Some((0, 11, 7)));
-    assert_eq!(rt; rewritten(0xfffffc07), Some(0));
 }
 
 #[test]
 fn pages_of_fpages(rt: HostRuntime) {
-    assert_eq!(rt; pages(0xb7), None);
-    assert_eq!(rt; pages(0x0), None);
-    assert_eq!(rt; pages(0x100c7), Some((16, 0)));
-    assert_eq!(rt; pages(0x40e7), Some((4, 2)));
-    assert_eq!(rt; pages(0x80f7), Some((8, 3)));
-    assert_eq!(rt; pages(0x17), Some((0, 20)));
-    assert_eq!(rt; pages(0x80001b7), Some((32768, 15)));
+    for (word, block) in [
+        (0xb7, None),
+        (0x0, None),
+        (0x100c7, Some((16, 0))),
+        (0x40e7, Some((4, 2))),
+        (0x80f7, Some((8, 3))),
+        (0x17, Some((0, 20))),
+        (0x80001b7, Some((32768, 15))),
+    ] {
+        assert_eq!(rt; pages(word), block);
+    }
 }
 
 #[test]
@@ -53,8 +59,11 @@ fn sizes_of_words(rt: HostRuntime) {
     ] {
         for size in first..=last {
             let word = size << 4 | 7;
-            assert_eq!(rt; Fpage::read(word).is_ok(), is_fpage, "size {size}");
-            assert_eq!(rt; sized(word).is_some(), is_sized, "size {size}");
+            assert_eq!(rt;
+                (Fpage::read(word).is_ok(), sized(word).is_some()),
+                (is_fpage, is_sized),
+                "size {size}"
+            );
         }
     }
     assert!(rt; Fpage::read(0x417).is_err());
@@ -84,33 +93,48 @@ fn blocks(rt: HostRuntime) {
     }
 }
 
+/// The pages that two blocks have in common.
+fn common(left: Option<Block>, right: Option<Block>) -> Option<Block> {
+    left?.intersection(right?)
+}
+
 #[test]
 fn common_pages_of_blocks(rt: HostRuntime) {
     let small = Block::new(4, 1);
     let large = Block::new(0, 3);
     let apart = Block::new(8, 3);
-    assert_eq!(rt; small.and_then(|block| block.intersection(large?)), small);
-    assert_eq!(rt; large.and_then(|block| block.intersection(small?)), small);
-    assert_eq!(rt; large.and_then(|block| block.intersection(apart?)), None);
+    assert_eq!(rt;
+        [
+            common(small, large),
+            common(large, small),
+            common(large, apart)
+        ],
+        [small, small, None]
+    );
+}
+
+/// The word of the block's fpage with all rights.
+fn word_of(block: Option<Block>) -> Option<u32> {
+    Some(Fpage::of_block(block?, Rights::all()).word())
 }
 
 #[test]
 fn sets_of_rights(rt: HostRuntime) {
     let read_write = Rights::of_bits(6);
     let execute = Rights::of_bits(9);
-    assert_eq!(rt; execute.bits(), 1);
-    assert_eq!(rt; read_write.union(execute), Rights::all());
+    assert_eq!(rt; (execute.bits(), Rights::each().len()), (1, 3));
+    assert_eq!(rt;
+        [
+            read_write.union(execute),
+            Rights::all().difference(execute),
+            Rights::R.union(Rights::W),
+            Rights::X,
+            Fpage::Complete(execute).rights()
+        ],
+        [Rights::all(), read_write, read_write, execute, execute]
+    );
     assert!(rt; read_write.intersection(execute).is_empty());
-    assert_eq!(rt; Rights::all().difference(execute), read_write);
     assert!(rt; Rights::all().contains(execute));
     assert!(rt; !execute.contains(read_write));
-    assert_eq!(rt; Rights::each().len(), 3);
-    assert_eq!(rt; Rights::R.union(Rights::W), read_write);
-    assert_eq!(rt; Rights::X, execute);
-    let block = Block::new(16, 0);
-    assert_eq!(rt;
-        block.map(|pages| Fpage::of_block(pages, Rights::all()).word()),
-        Some(0x100c7)
-    );
-    assert_eq!(rt; Fpage::Complete(execute).rights(), execute);
+    assert_eq!(rt; word_of(Block::new(16, 0)), Some(0x100c7));
 }

@@ -3,7 +3,6 @@ use l4_msg::{
     Acceptor, FrameRequest, Item, ItemFault, Message, MsgFault, PageFault, Tag, item_moves,
     map_answer,
 };
-use std::test::Fail;
 
 /// The label, the number of untyped words and the number of items of the message that words begin
 /// with.
@@ -21,21 +20,20 @@ fn moved(first: u32, second: u32, window: u32) -> Option<(u32, u32, u8)> {
 
 #[test]
 fn refusals_of_messages(rt: HostRuntime) {
-    assert_eq!(rt; counted(&[]), Err(MsgFault::Short));
-    assert_eq!(rt; counted(&[0x40]), Err(MsgFault::Short));
-    assert_eq!(rt; counted(&[0x40, 0]), Err(MsgFault::OddTyped));
-    assert_eq!(rt; counted(&[0xfc1]), Err(MsgFault::TooManyWords));
-    assert_eq!(rt; counted(&[0x1000]), Err(MsgFault::Flags));
-    assert_eq!(rt; counted(&[0x80, 0xe, 0]), Err(MsgFault::BadItem(0)));
-    assert_eq!(rt; counted(&[0x80, 0xc, 0]), Err(MsgFault::Unsupported(0)));
-    assert_eq!(rt;
-        counted(&[0x100, 0x9, 0x17, 0xe, 0]),
-        Err(MsgFault::BadItem(1))
-    );
-    assert_eq!(rt;
-        counted(&[0x100, 0x9, 0x17, 0x8, 0x217]),
-        Err(MsgFault::BadItem(1))
-    );
+    let rows: [(&[u32], MsgFault); 9] = [
+        (&[], MsgFault::Short),
+        (&[0x40], MsgFault::Short),
+        (&[0x40, 0], MsgFault::OddTyped),
+        (&[0xfc1], MsgFault::TooManyWords),
+        (&[0x1000], MsgFault::Flags),
+        (&[0x80, 0xe, 0], MsgFault::BadItem(0)),
+        (&[0x80, 0xc, 0], MsgFault::Unsupported(0)),
+        (&[0x100, 0x9, 0x17, 0xe, 0], MsgFault::BadItem(1)),
+        (&[0x100, 0x9, 0x17, 0x8, 0x217], MsgFault::BadItem(1)),
+    ];
+    for (words, fault) in rows {
+        assert_eq!(rt; counted(words), Err(fault));
+    }
 }
 
 /// 64 words: a tag, then map items of one page.
@@ -114,11 +112,21 @@ fn kinds_of_items(rt: HostRuntime) {
         base: 0x5000,
         fpage,
     };
-    assert_eq!(rt; Item::read(0x20008, 0x17), Ok(map));
-    assert_eq!(rt; Item::read(0x203f9, 0x17), Ok(map));
-    assert_eq!(rt; Item::read(0x500a, 0x17), Ok(grant));
-    assert_eq!(rt; (map.base(), map.is_grant()), (0x20000, false));
-    assert_eq!(rt; (grant.base(), grant.is_grant()), (0x5000, true));
+    assert_eq!(rt;
+        [
+            Item::read(0x20008, 0x17),
+            Item::read(0x203f9, 0x17),
+            Item::read(0x500a, 0x17)
+        ],
+        [Ok(map), Ok(map), Ok(grant)]
+    );
+    assert_eq!(rt;
+        [
+            (map.base(), map.is_grant()),
+            (grant.base(), grant.is_grant())
+        ],
+        [(0x20000, false), (0x5000, true)]
+    );
     assert_eq!(rt; grant.fpage(), fpage);
 }
 
@@ -131,38 +139,45 @@ fn sizes_in_items_and_windows(rt: HostRuntime) {
         (33, 63, false),
     ] {
         for size in first..=last {
+            let item = Item::read(0x8, size << 4 | 7);
+            let window = Acceptor::read(size << 4 | 15);
             assert_eq!(rt;
-                Item::read(0x8, size << 4 | 7).is_ok(),
-                is_fpage,
-                "size {size}"
-            );
-            assert_eq!(rt;
-                Acceptor::read(size << 4 | 15).is_ok(),
-                is_fpage,
+                (item.is_ok(), window.is_ok()),
+                (is_fpage, is_fpage),
                 "size {size}"
             );
         }
     }
-    assert_eq!(rt; Acceptor::read(0x217), Err(MsgFault::BadWindow));
-    assert_eq!(rt; Acceptor::read(0xf), Ok(Fpage::Nil));
     assert_eq!(rt;
-        Acceptor::read(0x10),
-        Ok(Fpage::Complete(Rights::of_bits(0)))
+        [
+            Acceptor::read(0x217),
+            Acceptor::read(0xf),
+            Acceptor::read(0x10)
+        ],
+        [
+            Err(MsgFault::BadWindow),
+            Ok(Fpage::Nil),
+            Ok(Fpage::Complete(Rights::of_bits(0)))
+        ]
     );
 }
 
 #[test]
 fn moves_of_items(rt: HostRuntime) {
-    assert_eq!(rt; moved(0xb008, 0x80f7, 0x200c0), Some((11, 32, 0)));
-    assert_eq!(rt; moved(0xd008, 0x100c7, 0x400f0), Some((16, 69, 0)));
-    assert_eq!(rt; moved(0xc009, 0x40e7, 0x10), Some((4, 12, 2)));
-    assert_eq!(rt; moved(0x8, 0x17, 0x10), Some((0, 0, 20)));
-    assert_eq!(rt; moved(0x8, 0x100c7, 0), None);
-    assert_eq!(rt; moved(0x8, 0x17, 0x400b0), None);
+    for (first, second, window, pages) in [
+        (0xb008, 0x80f7, 0x200c0, Some((11, 32, 0))),
+        (0xd008, 0x100c7, 0x400f0, Some((16, 69, 0))),
+        (0xc009, 0x40e7, 0x10, Some((4, 12, 2))),
+        (0x8, 0x17, 0x10, Some((0, 0, 20))),
+        (0x8, 0x100c7, 0, None),
+        (0x8, 0x17, 0x400b0, None),
+    ] {
+        assert_eq!(rt; moved(first, second, window), pages);
+    }
 }
 
 #[test]
-fn writes_what_it_read(rt: HostRuntime) -> Result<(), Fail> {
+fn writes_what_it_read(rt: HostRuntime) {
     for (read, written) in [
         (
             [0xab0101u32, 5, 0xc009, 0x40e7, 0x10008, 0x80f7],
@@ -173,14 +188,11 @@ fn writes_what_it_read(rt: HostRuntime) -> Result<(), Fail> {
             [0x101, 5, 0xc009, 0x40e7, 0x1000a, 0x17],
         ),
     ] {
-        let Ok(message) = Message::read(&read) else {
-            return Err("no message".into());
-        };
+        let message = Message::read(&read).ok().expect(&rt, "a message");
         let words = message.write();
         assert_eq!(rt; words.as_slice(), written.as_slice());
         assert_eq!(rt; Message::read(words.as_slice()), Ok(message));
     }
-    Ok(())
 }
 
 #[test]
@@ -194,15 +206,20 @@ fn faults_and_requests(rt: HostRuntime) {
         fault.message().write().as_slice(),
         [0xffe4_0002, 0x5678, 0x40_0100].as_slice()
     );
-    assert_eq!(rt; PageFault::read(&fault.message()), Some(fault));
-    assert_eq!(rt; FrameRequest::read(&fault.message()), None);
+    let message = fault.message();
+    assert_eq!(rt;
+        (PageFault::read(&message), FrameRequest::read(&message)),
+        (Some(fault), None)
+    );
     let request = FrameRequest {
         fpage: Acceptor::read(0x50c0).unwrap_or(Fpage::Nil),
         attributes: 0,
     };
     if let Ok(message) = Message::read(&[0xffa0_0002, 0x50c7, 0]) {
-        assert_eq!(rt; FrameRequest::read(&message), Some(request));
-        assert_eq!(rt; PageFault::read(&message), None);
+        assert_eq!(rt;
+            (FrameRequest::read(&message), PageFault::read(&message)),
+            (Some(request), None)
+        );
     }
     assert_eq!(rt;
         map_answer(0, Fpage::Nil).write().as_slice(),

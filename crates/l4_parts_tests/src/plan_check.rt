@@ -2,7 +2,6 @@ use arrayvec::ArrayVec;
 use l4_fpage::Rights;
 use l4_msg::{Item, MAX_ITEMS, Message, Region};
 use l4_plan_check::{Fault, Proved, check, check_too_long};
-use std::test::Fail;
 
 /// A region with all rights.
 fn region(source: u32, target: u32, count: u32) -> Region {
@@ -15,63 +14,65 @@ fn region(source: u32, target: u32, count: u32) -> Region {
 }
 
 /// The items of a message.
-fn items_of(words: &[u32]) -> Result<ArrayVec<Item, MAX_ITEMS>, Fail> {
-    match Message::read(words) {
-        Ok(message) => Ok(message.items),
-        Err(_) => Err("no message".into()),
-    }
+fn items_of(words: &[u32]) -> Option<ArrayVec<Item, MAX_ITEMS>> {
+    Some(Message::read(words).ok()?.items)
 }
 
 const TWO_ITEMS: [u32; 5] = [0x100, 0xc009, 0x40e7, 0x0001_0008, 0x80f7];
 
 #[test]
-fn accepts_a_plan(rt: HostRuntime) -> Result<(), Fail> {
-    let items = items_of(&TWO_ITEMS)?;
+fn accepts_a_plan(rt: HostRuntime) {
+    let items = items_of(&TWO_ITEMS).expect(&rt, "a message");
     assert_eq!(rt;
         check(&region(4, 12, 12), items.as_slice(), &[4, 8]),
         Ok(Proved)
     );
-    Ok(())
 }
 
 #[test]
-fn names_the_first_fault(rt: HostRuntime) -> Result<(), Fail> {
-    let two = items_of(&TWO_ITEMS)?;
+fn names_the_first_fault(rt: HostRuntime) {
+    let two = items_of(&TWO_ITEMS).expect(&rt, "a message");
     let items = two.as_slice();
     let whole = region(4, 12, 12);
-    assert_eq!(rt;
-        check(&region(4, 12, 0), items, &[4, 8]),
-        Err(Fault::Region)
-    );
+    let empty = region(4, 12, 0);
     let read = Region {
         rights: Rights::of_bits(4),
         ..whole
     };
-    assert_eq!(rt; check(&read, items, &[4, 8]), Err(Fault::Item(0)));
-    assert_eq!(rt; check(&whole, items, &[4]), Err(Fault::Count));
-    assert_eq!(rt; check(&whole, items, &[4, 16]), Err(Fault::Page(1)));
-    assert_eq!(rt; check(&whole, items, &[8, 9]), Err(Fault::Pair(1)));
-    Ok(())
+    assert_eq!(rt;
+        [
+            check(&empty, items, &[4, 8]),
+            check(&read, items, &[4, 8]),
+            check(&whole, items, &[4]),
+            check(&whole, items, &[4, 16]),
+            check(&whole, items, &[8, 9])
+        ],
+        [
+            Err(Fault::Region),
+            Err(Fault::Item(0)),
+            Err(Fault::Count),
+            Err(Fault::Page(1)),
+            Err(Fault::Pair(1))
+        ]
+    );
 }
 
 #[test]
-fn names_the_least_gap(rt: HostRuntime) -> Result<(), Fail> {
-    let items = items_of(&[0x80, 0xc008, 0x40e7])?;
+fn names_the_least_gap(rt: HostRuntime) {
+    let items = items_of(&[0x80, 0xc008, 0x40e7]).expect(&rt, "a message");
     assert_eq!(rt;
         check(&region(4, 12, 12), items.as_slice(), &[4]),
         Err(Fault::Gap(8))
     );
-    Ok(())
 }
 
 #[test]
-fn a_block_in_two_items_is_a_pair(rt: HostRuntime) -> Result<(), Fail> {
-    let items = items_of(&[0x100, 0x9, 0xc7, 0x1008, 0x10c7])?;
+fn a_block_in_two_items_is_a_pair(rt: HostRuntime) {
+    let items = items_of(&[0x100, 0x9, 0xc7, 0x1008, 0x10c7]).expect(&rt, "a message");
     assert_eq!(rt;
         check(&region(0, 0, 2), items.as_slice(), &[0, 1]),
         Err(Fault::Pair(1))
     );
-    Ok(())
 }
 
 #[test]
@@ -80,21 +81,20 @@ fn checks_that_a_plan_is_too_long(rt: HostRuntime) {
     for (i, page) in pages.iter_mut().enumerate() {
         *page = i as u32;
     }
-    assert_eq!(rt; check_too_long(&region(0, 1, 32), &pages), Ok(Proved));
     assert_eq!(rt;
-        check_too_long(&region(0, 1, 0), &pages),
-        Err(Fault::Region)
-    );
-    assert_eq!(rt;
-        check_too_long(&region(0, 1, 32), &[0; 31]),
-        Err(Fault::Count)
-    );
-    assert_eq!(rt;
-        check_too_long(&region(0, 1, 31), &pages),
-        Err(Fault::Page(31))
-    );
-    assert_eq!(rt;
-        check_too_long(&region(0, 0, 32), &pages),
-        Err(Fault::Pair(1))
+        [
+            check_too_long(&region(0, 1, 32), &pages),
+            check_too_long(&region(0, 1, 0), &pages),
+            check_too_long(&region(0, 1, 32), &[0; 31]),
+            check_too_long(&region(0, 1, 31), &pages),
+            check_too_long(&region(0, 0, 32), &pages)
+        ],
+        [
+            Ok(Proved),
+            Err(Fault::Region),
+            Err(Fault::Count),
+            Err(Fault::Page(31)),
+            Err(Fault::Pair(1))
+        ]
     );
 }

@@ -1,8 +1,7 @@
 use l4_text::{Ending, Line, Output, Sip, Source, Text, next_line, next_token, number};
-use std::test::Fail;
 
 #[test]
-fn reads_numbers(rt: HostRuntime) -> Result<(), Fail> {
+fn reads_numbers(rt: HostRuntime) {
     let rows: [(&[u8], Option<u32>); 11] = [
         (b"0", Some(0)),
         (b"007", Some(7)),
@@ -19,21 +18,19 @@ fn reads_numbers(rt: HostRuntime) -> Result<(), Fail> {
     for (text, value) in rows {
         assert_eq!(rt; number(text), value);
     }
-    Ok(())
 }
 
 #[test]
-fn parts_a_line_at_spaces(rt: HostRuntime) -> Result<(), Fail> {
-    let (first, rest) = next_token(b"  one two\t3 ").ok_or("no first token")?;
+fn parts_a_line_at_spaces(rt: HostRuntime) {
+    let (first, rest) = next_token(b"  one two\t3 ").expect(&rt, "a first token");
     assert!(rt; first == b"one".as_slice());
-    let (second, rest) = next_token(rest).ok_or("no second token")?;
+    let (second, rest) = next_token(rest).expect(&rt, "a second token");
     assert!(rt; second == b"two\t3".as_slice());
     assert!(rt; next_token(rest).is_none());
-    Ok(())
 }
 
 #[test]
-fn reads_a_line(rt: HostRuntime) -> Result<(), Fail> {
+fn reads_a_line(rt: HostRuntime) {
     let long = [b'x'; 4_097];
     let rows: [(&[u8], Option<Ending>, &[u8]); 4] = [
         (b"", None, b""),
@@ -48,11 +45,10 @@ fn reads_a_line(rt: HostRuntime) -> Result<(), Fail> {
         assert_eq!(rt; read, Ok(ending));
         assert!(rt; line.as_slice() == kept);
     }
-    Ok(())
 }
 
 #[test]
-fn answers_the_end_again(rt: HostRuntime) -> Result<(), Fail> {
+fn answers_the_end_again(rt: HostRuntime) {
     let mut reader = b"one\ntwo".as_slice();
     let mut source = Source::new();
     let mut line = Line::new();
@@ -60,11 +56,10 @@ fn answers_the_end_again(rt: HostRuntime) -> Result<(), Fail> {
         let read = next_line(&mut source, &mut line, &mut reader);
         assert_eq!(rt; read, Ok(ending));
     }
-    Ok(())
 }
 
 #[test]
-fn tells_a_text(rt: HostRuntime) -> Result<(), Fail> {
+fn tells_a_text(rt: HostRuntime) {
     let told = b"7 00000bad 80000000 00000001\n".as_slice();
     for calls in 0..told.len() + 1 {
         let mut text = Text::new();
@@ -89,5 +84,4 @@ fn tells_a_text(rt: HostRuntime) -> Result<(), Fail> {
             "at {calls}"
         );
     }
-    Ok(())
 }
