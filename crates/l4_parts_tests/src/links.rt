@@ -109,9 +109,9 @@ fn chain(links: &mut Links) -> Result<[usize; 3], NoMemory> {
 }
 
 #[test]
-fn caps_a_chain(rt: HostRuntime) -> Result<(), Fail> {
+fn caps_a_chain(rt: HostRuntime) {
     let mut links = Links::new(rt.alloc());
-    let [top, middle, low] = chain(&mut links)?;
+    let [top, middle, low] = chain(&mut links).expect(&rt, "memory");
     links.cap_below(middle, Rights::of_bits(5));
     let rows = [
         (top, 7, None),
@@ -124,7 +124,6 @@ fn caps_a_chain(rt: HostRuntime) -> Result<(), Fail> {
     assert!(rt; stand_so(&links, &[(middle, 5, Some(top))]));
     links.cap_tree(top, Rights::of_bits(3));
     assert!(rt; stand_so(&links, &[(top, 3, None), (low, 1, Some(middle))]));
-    Ok(())
 }
 
 /// The entry of a page where nothing stands.
@@ -148,9 +147,9 @@ fn three_children(links: &mut Links) -> Result<[usize; 6], NoMemory> {
 }
 
 #[test]
-fn clears_a_node_in_the_middle(rt: HostRuntime) -> Result<(), Fail> {
+fn clears_a_node_in_the_middle(rt: HostRuntime) {
     let mut links = Links::new(rt.alloc());
-    let [top, last, gone, low, lowest, first] = three_children(&mut links)?;
+    let [top, last, gone, low, lowest, first] = three_children(&mut links).expect(&rt, "memory");
     links.set_wanted(lowest, true);
     clear(&mut links, gone);
     // a wanted page is left as a blank
@@ -165,7 +164,6 @@ fn clears_a_node_in_the_middle(rt: HostRuntime) -> Result<(), Fail> {
     // the list goes on from the node before the run to the one after it
     links.cap_below(top, Rights::of_bits(4));
     assert!(rt; stand_so(&links, &[(first, 4, Some(top)), (last, 4, Some(top))]));
-    Ok(())
 }
 
 /// A root at the frame's page with a child at the page: the two keys.
@@ -179,13 +177,13 @@ fn root_with_child(links: &mut Links, frame: u32, page: u32) -> Result<[usize; 2
 }
 
 #[test]
-fn clears_a_root_at_the_beginning(rt: HostRuntime) -> Result<(), Fail> {
+fn clears_a_root_at_the_beginning(rt: HostRuntime) {
     let mut links = Links::new(rt.alloc());
-    let [top, first] = root_with_child(&mut links, 5, 14)?;
+    let [top, first] = root_with_child(&mut links, 5, 14).expect(&rt, "memory");
     clear(&mut links, top);
     assert!(rt; links.at(first).is_none());
     // another root comes in its place
-    let [second, below] = root_with_child(&mut links, 6, 20)?;
+    let [second, below] = root_with_child(&mut links, 6, 20).expect(&rt, "memory");
     let shows = Standing {
         frame: 6,
         rights: Rights::all(),
@@ -201,15 +199,14 @@ fn clears_a_root_at_the_beginning(rt: HostRuntime) -> Result<(), Fail> {
             stands: Some(shows)
         })
     );
-    Ok(())
 }
 
 #[test]
-fn grants_a_page(rt: HostRuntime) -> Result<(), Fail> {
+fn grants_a_page(rt: HostRuntime) {
     let mut links = Links::new(rt.alloc());
-    let [top, granted, low] = chain(&mut links)?;
+    let [top, granted, low] = chain(&mut links).expect(&rt, "memory");
     links.set_source(granted, true);
-    grant(&mut links, granted, 12, Rights::of_bits(5))?;
+    grant(&mut links, granted, 12, Rights::of_bits(5)).expect(&rt, "memory");
     assert_eq!(rt;
         [links.find(place(10)), links.find(place(12))],
         [None, Some(granted)]
@@ -233,14 +230,13 @@ fn grants_a_page(rt: HostRuntime) -> Result<(), Fail> {
         [source, links.standing(granted)],
         [Some(page), Some(plain)]
     );
-    Ok(())
 }
 
 #[test]
-fn finds_pages(rt: HostRuntime) -> Result<(), Fail> {
+fn finds_pages(rt: HostRuntime) {
     let mut links = Links::new(rt.alloc());
-    let key = blank(&mut links, 3)?;
-    let far = root(&mut links, 1_048_575)?;
+    let key = blank(&mut links, 3).expect(&rt, "memory");
+    let far = root(&mut links, 1_048_575).expect(&rt, "memory");
     links.law_places();
     links.law_trees();
     assert!(rt; links.bound() >= 2);
@@ -267,7 +263,6 @@ fn finds_pages(rt: HostRuntime) -> Result<(), Fail> {
         ],
         [Some((3, key)), None]
     );
-    Ok(())
 }
 
 #[test]
@@ -295,16 +290,15 @@ fn nephew(links: &mut Links) -> Result<[usize; 4], NoMemory> {
 }
 
 #[test]
-fn finds_sources(rt: HostRuntime) -> Result<(), Fail> {
+fn finds_sources(rt: HostRuntime) {
     let mut links = Links::new(rt.alloc());
-    let [top, left, right, low] = nephew(&mut links)?;
+    let [top, left, right, low] = nephew(&mut links).expect(&rt, "memory");
     links.set_source(low, true);
     assert!(rt; !links.has_source_below(right));
     assert!(rt; !links.has_source_below(low));
     assert!(rt; links.has_source_below(top) && links.has_source_below(left));
     links.set_source(low, false);
     assert!(rt; !links.has_source_below(top) && !links.has_source_below(left));
-    Ok(())
 }
 
 /// A root with two children, of which the second has a child, and that one too: the five keys from the top.
@@ -328,9 +322,9 @@ fn are_free(links: &Links, keys: &[usize]) -> bool {
 }
 
 #[test]
-fn buries_what_has_no_rights(rt: HostRuntime) -> Result<(), Fail> {
+fn buries_what_has_no_rights(rt: HostRuntime) {
     let mut links = Links::new(rt.alloc());
-    let [top, left, right, low, lowest] = family(&mut links)?;
+    let [top, left, right, low, lowest] = family(&mut links).expect(&rt, "memory");
     // the parent stands on the stack before its children
     links.cap_tree(right, Rights::of_bits(0));
     assert!(rt; stand_so(&links, &[(low, 0, Some(right))]));
@@ -339,7 +333,7 @@ fn buries_what_has_no_rights(rt: HostRuntime) -> Result<(), Fail> {
     assert!(rt; links.find(place(11)).is_none() && links.find(place(13)).is_none());
     assert!(rt; stand_so(&links, &[(left, 7, Some(top))]));
     // the list goes on without them, and takes other nodes
-    let next = child(&mut links, left, 11)?;
+    let next = child(&mut links, left, 11).expect(&rt, "memory");
     links.cap_below(top, Rights::of_bits(4));
     assert!(rt; stand_so(&links, &[(left, 4, Some(top)), (next, 4, Some(left))]));
     // a second walk finds what the first left without rights on the stack
@@ -352,7 +346,6 @@ fn buries_what_has_no_rights(rt: HostRuntime) -> Result<(), Fail> {
     links.cap_tree(top, Rights::of_bits(0));
     links.bury();
     assert!(rt; links.find(place(5)).is_none());
-    let second = root(&mut links, 5)?;
+    let second = root(&mut links, 5).expect(&rt, "memory");
     assert!(rt; stand_so(&links, &[(second, 7, None)]) && have_rights(&links));
-    Ok(())
 }

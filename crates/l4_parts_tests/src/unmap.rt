@@ -3,7 +3,6 @@ use l4_mapdb::{Forest, ItemMove, Mapping, NoMemory, Place};
 use l4_msg::Move;
 use l4_unmap::{UnmapFault, unmap};
 use std::alloc::Global;
-use std::test::Fail;
 
 /// The forest in which the pages 6 and 7 of space 2 are mapped from sigma0's 254 and 255 with all rights.
 fn mapped(alloc: Global) -> Result<Forest, NoMemory> {
@@ -36,8 +35,8 @@ fn child(frame: u32, rights: Rights) -> Option<Mapping> {
 }
 
 #[test]
-fn takes_what_two_fpages_name(rt: HostRuntime) -> Result<(), Fail> {
-    let mut forest = mapped(rt.alloc())?;
+fn takes_what_two_fpages_name(rt: HostRuntime) {
+    let mut forest = mapped(rt.alloc()).expect(&rt, "memory");
     let own = forest.at(0, 255);
 
     // to write page 254 and 255, to read page 255 alone, and a word that isn't counted
@@ -55,12 +54,11 @@ fn takes_what_two_fpages_name(rt: HostRuntime) -> Result<(), Fail> {
     // all rights of the complete fpage, by the child, which loses nothing of its own
     assert_eq!(rt; unmap(&mut forest, 2, 0, &[0x17]), Ok(()));
     assert_eq!(rt; forest.at(2, 6), child(254, Rights::of_bits(5)));
-    Ok(())
 }
 
 #[test]
-fn takes_own_pages_too(rt: HostRuntime) -> Result<(), Fail> {
-    let mut forest = mapped(rt.alloc())?;
+fn takes_own_pages_too(rt: HostRuntime) {
+    let mut forest = mapped(rt.alloc()).expect(&rt, "memory");
 
     // the nil fpage, and all rights of the pages from 128 on
     assert_eq!(rt; unmap(&mut forest, 0, 0x41, &[7, 0x8_0137]), Ok(()));
@@ -72,12 +70,11 @@ fn takes_own_pages_too(rt: HostRuntime) -> Result<(), Fail> {
         ],
         [Some(127), None, None]
     );
-    Ok(())
 }
 
 #[test]
-fn refusals(rt: HostRuntime) -> Result<(), Fail> {
-    let mut forest = mapped(rt.alloc())?;
+fn refusals(rt: HostRuntime) {
+    let mut forest = mapped(rt.alloc()).expect(&rt, "memory");
     let cases = [
         (0x42, UnmapFault::TooFew),
         (0x7f, UnmapFault::TooFew),
@@ -88,5 +85,4 @@ fn refusals(rt: HostRuntime) -> Result<(), Fail> {
         assert_eq!(rt; result, Err(fault), "at {control}");
     }
     assert_eq!(rt; forest.at(2, 7), child(255, Rights::of_bits(7)));
-    Ok(())
 }
