@@ -49,29 +49,27 @@ fn registers(tag: u32) -> [u32; 64] {
 
 #[test]
 fn tags_with_one_bit_changed(rt: HostRuntime) {
-    assert_eq!(rt; counted(&registers(0x80)), Ok((0, 0, 1)));
-    for (bit, untyped) in [(1u32, 2usize), (2, 4), (3, 8), (4, 16), (5, 32)] {
-        assert_eq!(rt;
-            counted(&registers(0x80 ^ 1 << bit)),
-            Ok((0, untyped, 1)),
-            "bit {bit}"
-        );
-    }
-    for (bit, items) in [(7u32, 0usize), (8, 3), (9, 5), (10, 9), (11, 17)] {
-        assert_eq!(rt;
-            counted(&registers(0x80 ^ 1 << bit)),
-            Ok((0, 0, items)),
-            "bit {bit}"
-        );
-    }
-    assert_eq!(rt; counted(&registers(0x81)), Err(MsgFault::Unsupported(0)));
-    assert_eq!(rt; counted(&registers(0xc0)), Err(MsgFault::OddTyped));
-    for bit in 12u32..16 {
-        assert_eq!(rt;
-            counted(&registers(0x80 ^ 1 << bit)),
-            Err(MsgFault::Flags),
-            "bit {bit}"
-        );
+    // 0x80, and then with one of the bits 0 to 15 changed
+    for (tag, read) in [
+        (0x80u32, Ok((0, 0, 1))),
+        (0x81, Err(MsgFault::Unsupported(0))),
+        (0x82, Ok((0, 2, 1))),
+        (0x84, Ok((0, 4, 1))),
+        (0x88, Ok((0, 8, 1))),
+        (0x90, Ok((0, 16, 1))),
+        (0xa0, Ok((0, 32, 1))),
+        (0xc0, Err(MsgFault::OddTyped)),
+        (0, Ok((0, 0, 0))),
+        (0x180, Ok((0, 0, 3))),
+        (0x280, Ok((0, 0, 5))),
+        (0x480, Ok((0, 0, 9))),
+        (0x880, Ok((0, 0, 17))),
+        (0x1080, Err(MsgFault::Flags)),
+        (0x2080, Err(MsgFault::Flags)),
+        (0x4080, Err(MsgFault::Flags)),
+        (0x8080, Err(MsgFault::Flags)),
+    ] {
+        assert_eq!(rt; counted(&registers(tag)), read, "tag {tag}");
     }
     for shift in 0u32..16 {
         let words = registers(0x80 ^ 0x10000 << shift);
