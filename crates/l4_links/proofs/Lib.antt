@@ -8,6 +8,7 @@ pub mod Neighbours
 pub mod Cutting
 pub mod Walking
 pub mod Seeking
+pub mod Leaves
 pub mod Clearing
 pub mod Depths
 pub mod Seen

@@ -245,7 +245,7 @@ seek_found old cur top depth stamp count key head node c at d at_key deep zero =
     )
 
 -- what descends from a key stands before its run's end
-leads_range : (old : Slots) (ks : List ℕ) (top depth : ℕ) (end : Option ℕ) (head : Node) → IsForest old ks → Ends (limbs old) ks top depth end → node_at old top ≡ Some head → head.depth ≡ depth → (k : ℕ) → Leads (parent_at (limbs old)) k top
+pub leads_range : (old : Slots) (ks : List ℕ) (top depth : ℕ) (end : Option ℕ) (head : Node) → IsForest old ks → Ends (limbs old) ks top depth end → node_at old top ≡ Some head → head.depth ≡ depth → (k : ℕ) → Leads (parent_at (limbs old)) k top
     → (position ks top < position ks k) × (position ks k < place_of ks end)
 leads_range old ks top depth end head f e at d k l =
     let r = (descendants (limbs old) (position ks) f.tree top k).0 l in

@@ -349,6 +349,15 @@ impl Links {
         false
     }
 
+    /// Whether nothing descends from what stands under the key. It is read at once from the node after it in the list. False where
+    /// nothing stands.
+    pub fn is_leaf(&self, key: usize) -> bool
+        ensures yes { result ≡ true → IsStanding self.now.entries key × ((low : ℕ) → ¬ (Descends self.now.entries low key)) }
+        ensures no { result ≡ false → IsStanding self.now.entries key → (low : ℕ) × Descends self.now.entries low key }
+    {
+        walks::is_leaf(&self.nodes, key)
+    }
+
     /// Marks what stands under the key as a source.
     pub fn set_source(&mut self, key: usize, source: bool)
         ensures sets { SetsSource key source self.old.entries self.new.entries }

@@ -1,8 +1,10 @@
 //! Walks over the run of a node's descendants. A node whose run a walk of the same stamp has been over is passed by with all that descends from it.
 
-ghost use Rattle.std.specs.Prelude.{◌≡◌, ◌≢◌, ◌≤◌, List, Option, Some, None, true, false};
+ghost use Rattle.std.specs.Prelude.{◌≡◌, ◌≢◌, ◌≤◌, ℕ, List, Option, Some, None, true, false};
+ghost use Rattle.l4_links.specs.Leads.{Leads};
+ghost use Rattle.l4_links.specs.Inside.Trees.{parent_at};
 ghost use Rattle.l4_links.specs.Inside.Stacks.{HasStack};
-ghost use Rattle.l4_links.specs.Inside.Nodes.{Slots, node_at, HasMarks, CapsBelow, Closes, Sees, HasSeen, IsSame, Meets, NoneMet, IsMarked, IsStamped};
+ghost use Rattle.l4_links.specs.Inside.Nodes.{Slots, node_at, limbs, IsForest, HasMarks, CapsBelow, Closes, Sees, HasSeen, IsSame, Meets, NoneMet, IsMarked, IsStamped};
 
 use crate::nodes::{Node, Slot, cap_at, close, node_of, see};
 use l4_fpage::Rights;
@@ -119,4 +121,23 @@ pub(crate) fn has_source(nodes: &mut Slab<Slot>, top: usize, stamp: u64) -> bool
         at = onward(&node, stamp);
     }
     false
+}
+
+/// Whether nothing descends from the node. What descends from it would begin with the node after it, one that is deeper, so no walk is
+/// needed. False where there is no node.
+pub(crate) fn is_leaf(nodes: &Slab<Slot>, key: usize) -> bool
+    requires forest { (keys : List ℕ) × IsForest nodes.now.slots keys }
+    ensures yes { result ≡ true → (node_at nodes.now.slots key ≢ None) × ((low : ℕ) → ¬ (Leads (parent_at (limbs nodes.now.slots)) low key)) }
+    ensures no { result ≡ false → node_at nodes.now.slots key ≢ None → (low : ℕ) × Leads (parent_at (limbs nodes.now.slots)) low key }
+{
+    let Some(node) = node_of(nodes, key) else {
+        return false;
+    };
+    let Some(next) = node.next else {
+        return true;
+    };
+    let Some(after) = node_of(nodes, next) else {
+        unreachable!()
+    };
+    after.depth <= node.depth
 }
