@@ -1,5 +1,5 @@
 -- Chains of keys.
-use Rattle.std.proofs.Common.{◌≡◌, ℕ, Option, sym, ◌∙◌}
+use Rattle.std.proofs.Common.{◌≡◌, ℕ, Option, Some, sym, ◌∙◌}
 use Rattle.l4_links.specs.Leads.{Leads, step, steps}
 
 -- chains go along equal parents
@@ -11,3 +11,8 @@ leads_along f g same {low} (steps is rest) = steps (sym (same low) ∙ is) (lead
 pub leads_on : (f : ℕ → Option ℕ) {low middle high : ℕ} → Leads f low middle → Leads f middle high → Leads f low high
 leads_on f (step is) rest = steps is rest
 leads_on f (steps is more) rest = steps is (leads_on f more rest)
+
+-- nothing leads to what is the parent of nothing
+pub leads_none : (f : ℕ → Option ℕ) (high : ℕ) → ((low : ℕ) → f low ≡ Some high → ⊥) → (low : ℕ) → Leads f low high → ⊥
+leads_none f high none low (step up) = none low up
+leads_none f high none low (steps {middle = middle} up rest) = leads_none f high none middle rest

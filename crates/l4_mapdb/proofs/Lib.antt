@@ -13,6 +13,7 @@ pub mod Nothing
 pub mod Places
 pub mod Ranges
 pub mod RightsLeft
+pub mod Shrinking
 pub mod Single
 pub mod Unique
 pub mod UsedMoves
@@ -28,6 +29,8 @@ pub mod Deciding
 pub mod Finished
 pub mod FirstPlaces
 pub mod Gone
+pub mod Grown
+pub mod GrowthSteps
 pub mod ItemWalk
 pub mod Keyed
 pub mod Leading
@@ -41,9 +44,11 @@ pub mod Prepared
 pub mod Presence
 pub mod Restored
 pub mod RoomMade
+pub mod RenewSteps
 pub mod Rooming
 pub mod SameRights
 pub mod Sourced
+pub mod Spacing
 pub mod SpaceGone
 pub mod Taken
 pub mod Tangling

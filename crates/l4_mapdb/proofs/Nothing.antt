@@ -8,7 +8,7 @@ use Rattle.l4_mapdb.specs.Losing.{IsLeft, LosesRights}
 use Rattle.l4_mapdb.proofs.Unique.{same_rights}
 
 -- what is left of a mapping that loses nothing is that mapping
-left_same : (Lost : Right → Type 0) (before m : Mapping) → ((k : Right) → ¬ (Lost k)) → IsLeft Lost before m → before ≡ m
+pub left_same : (Lost : Right → Type 0) (before m : Mapping) → ((k : Right) → ¬ (Lost k)) → IsLeft Lost before m → before ≡ m
 left_same Lost before m none left =
     let frames : before.frame ≡ m.frame = sym left.frame in
     let parents : before.parent ≡ m.parent = sym left.parent in

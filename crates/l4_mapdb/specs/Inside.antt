@@ -1,8 +1,10 @@
 pub mod Cuts
 pub mod Cutting
+pub mod Growing
 pub mod Kept
 pub mod Messages
 pub mod Placing
+pub mod Renewing
 pub mod Settling
 pub mod Tangles
 pub mod View

@@ -1,21 +1,27 @@
-//! A message that is not entangled and has room is carried out.
+//! A message is delivered, or refused.
 
-ghost use Rattle.std.specs.Prelude.{◌≡◌, ℕ, List, Option};
-ghost use Rattle.l4_links.specs.Entries.{Linked};
-ghost use Rattle.l4_mapdb.specs.Transfer.{IsUsed, Delivers};
+ghost use Rattle.std.specs.Prelude.{◌≡◌, ℕ, List, Option, IsTrue, IsOk, OnOk, OnErr, IfErr};
+ghost use Rattle.std.specs.FinSet as set;
+ghost use Rattle.l4_links.specs.Entries.{Linked, entry_at};
+ghost use Rattle.l4_mapdb.specs.Mappings.{IsForest};
+ghost use Rattle.l4_mapdb.specs.Transfer.{IsUsed, IsEntangled, TargetsPresent, Delivers};
+ghost use Rattle.l4_mapdb.specs.Causes.{HasCause};
 ghost use Rattle.l4_mapdb.specs.Inside.View.{mappings_of};
 ghost use Rattle.l4_mapdb.specs.Inside.Kept.{IsClean, RootsKnown};
 ghost use Rattle.l4_mapdb.specs.Inside.Messages.{Cleared};
 ghost use Rattle.l4_mapdb.specs.Inside.Placing.{IsStart};
+ghost use Rattle.l4_mapdb.specs.Inside.Growing.{IsDelivered};
 
-use crate::ItemMove;
 use crate::cutting::cut;
+use crate::maps::deliver_maps;
 use crate::moving::move_all;
+use crate::preparing::make_way;
 use crate::unmarking::unmark;
+use crate::{Cause, ItemMove};
 use l4_links::Links;
 
 /// Carries out the used moves of a message that has made way, cuts what descends from granted pages, and takes all marks away.
-pub(crate) fn carry_out(links: &mut Links, from: u64, to: u64, items: &[ItemMove])
+fn carry_out(links: &mut Links, from: u64, to: u64, items: &[ItemMove])
     requires ready { (start : Linked) × IsStart start from to items.now × Cleared (IsUsed (mappings_of start) from to items.now) start links.old }
     ensures delivers { (start : Linked) → IsStart start from to items.now → Cleared (IsUsed (mappings_of start) from to items.now) start links.old → Delivers from to items.now (mappings_of start) (mappings_of links.new) }
     ensures clean { IsClean links.new }
@@ -32,4 +38,53 @@ pub(crate) fn carry_out(links: &mut Links, from: u64, to: u64, items: &[ItemMove
     links.law_trees();
     unmark(links, from, to, items);
     links.law_places();
+}
+
+/// Delivers any message: way is made for its used moves, which are carried out then.
+fn deliver_any(links: &mut Links, from: u64, to: u64, items: &[ItemMove]) -> Result<(), Cause>
+    requires clean { IsClean links.old }
+    requires there { IsTrue (set.contains links.old.spaces to) }
+    requires forest { IsForest (mappings_of links.old) }
+    ensures ok { OnOk result (IsDelivered from to items.now links.old links.new) }
+    ensures err { OnErr result ((key : ℕ) → entry_at links.new.entries key ≡ entry_at links.old.entries key) }
+    ensures cause { IfErr result (HasCause (IsUsed (mappings_of links.old) from to items.now) (mappings_of links.old)) }
+    ensures succeeds { TargetsPresent (IsUsed (mappings_of links.old) from to items.now) (mappings_of links.old) → ¬ (IsEntangled (IsUsed (mappings_of links.old) from to items.now) (mappings_of links.old)) → IsOk result }
+    ensures spaces { links.new.spaces ≡ links.old.spaces }
+{
+    links.law_places();
+    links.law_trees();
+    match make_way(links, from, to, items) {
+        Ok(()) => {}
+        Err(cause) => return Err(cause),
+    }
+    carry_out(links, from, to, items);
+    Ok(())
+}
+
+/// Delivers a message. For one that only maps a short way is tried first.
+pub(crate) fn deliver(
+    links: &mut Links,
+    from: u64,
+    to: u64,
+    items: &[ItemMove],
+) -> Result<(), Cause>
+    requires clean { IsClean links.old }
+    requires there { IsTrue (set.contains links.old.spaces to) }
+    requires forest { IsForest (mappings_of links.old) }
+    ensures ok { OnOk result (IsDelivered from to items.now links.old links.new) }
+    ensures err { OnErr result ((key : ℕ) → entry_at links.new.entries key ≡ entry_at links.old.entries key) }
+    ensures cause { IfErr result (HasCause (IsUsed (mappings_of links.old) from to items.now) (mappings_of links.old)) }
+    ensures succeeds { TargetsPresent (IsUsed (mappings_of links.old) from to items.now) (mappings_of links.old) → ¬ (IsEntangled (IsUsed (mappings_of links.old) from to items.now) (mappings_of links.old)) → IsOk result }
+    ensures spaces { links.new.spaces ≡ links.old.spaces }
+{
+    links.law_places();
+    let done = match deliver_maps(links, from, to, items) {
+        Ok(done) => done,
+        Err(cause) => return Err(cause),
+    };
+    if done {
+        return Ok(());
+    }
+    links.law_places();
+    deliver_any(links, from, to, items)
 }

@@ -11,9 +11,12 @@ mod clearing;
 mod cutting;
 mod delivering;
 mod ending;
+mod growing;
+mod maps;
 mod moving;
 mod preparing;
 mod reading;
+mod renewing;
 mod revoking;
 mod room;
 mod sources;
@@ -199,14 +202,13 @@ impl Forest {
     {
         self.links.law_places();
         self.links.law_trees();
-        match preparing::make_way(&mut self.links, from, to, moves) {
+        match delivering::deliver(&mut self.links, from, to, moves) {
             Ok(()) => {}
             Err(cause) => {
                 self.links.law_places();
                 return Err(cause);
             }
         }
-        delivering::carry_out(&mut self.links, from, to, moves);
         Ok(())
     }
 

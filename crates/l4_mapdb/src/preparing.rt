@@ -19,7 +19,7 @@ use crate::{Cause, ItemMove};
 use l4_links::Links;
 
 /// Why a message is refused that there was no memory for.
-fn refusal(links: &Links, from: u64, to: u64, items: &[ItemMove]) -> Cause
+pub(crate) fn refusal(links: &Links, from: u64, to: u64, items: &[ItemMove]) -> Cause
     requires { (move : AUsedMove) × IsMoved links.now.entries from to items.now move × ((key : ℕ) → ¬ (IsAt links.now.entries move.target key)) }
     ensures { LacksKey (IsMoved links.now.entries from to items.now) links.now.entries result }
 {

@@ -55,7 +55,7 @@ fn into_place(
 
 /// Whether each item fills pages after those that the items before it fill, and moves pages after those that they move, where one of
 /// them is a grant.
-fn are_apart(items: &[ItemMove]) -> bool
+pub(crate) fn are_apart(items: &[ItemMove]) -> bool
     ensures { result ≡ true → AreApart items.now (length items.now) }
 {
     let mut source = 0;

@@ -4,13 +4,11 @@ use Rattle.l4_links.specs.declared.Entry.{Entry}
 use Rattle.l4_mapdb.specs.Mappings.{Mappings, IsForest}
 use Rattle.l4_mapdb.proofs.UsedMoves.{delivers_keep}
 use Rattle.l4_mapdb.specs.Inside.View.{mappings_of}
-use Rattle.l4_mapdb.specs.Inside.Placing.{IsStart}
 use Rattle.l4_mapdb.proofs.Unchanged.{unchanged}
-use Rattle.l4_mapdb.proofs.Forest.map_all.Goals.{In-Ok}
 use Rattle.l4_mapdb.proofs.Forest.map_all.Goals as goal
 
-same_view : (c : goal.After-law_places-in-Err) → mappings_of c.make_way.new.links ≡ mappings_of c.self.inside.links
-same_view c = unchanged c.self.inside.links c.make_way.new.links c.law_places.ensures c.law_places-in-Err.ensures c.make_way.ensures.spaces c.in-Err.ensures.err
+same_view : (c : goal.After-law_places-in-Err) → mappings_of c.deliver.new.links ≡ mappings_of c.self.inside.links
+same_view c = unchanged c.self.inside.links c.deliver.new.links c.law_places.ensures c.law_places-in-Err.ensures c.deliver.ensures.spaces c.in-Err.ensures.err
 
 pub invariant_of-self : goal.invariant_of-self
 invariant_of-self c = record {
@@ -28,26 +26,18 @@ returns-in-Err-clause-cause c = rw (← c.self.view_is) c.in-Err.ensures.cause
 pub returns-in-Err-clause-succeeds : goal.returns-in-Err-clause-succeeds
 returns-in-Err-clause-succeeds c = rw (← c.self.view_is) c.in-Err.ensures.succeeds
 
-start : (c : In-Ok) → IsStart c.self.inside.links c.args.from c.args.to c.args.moves.now
-start c = record {
-  places = c.law_places.ensures;
-  trees = c.law_trees.ensures;
-  there = subst (λ (m : Mappings). IsTrue (set.contains m.spaces c.args.to)) (sym c.self.view_is) c.requires.to_there;
-  clean = c.self.invariant.clean;
-  forest = c.self.invariant.forest;
-  free = c.in-Ok.ensures.free;
-}
-
-pub carry_out-requires : goal.carry_out-requires
-carry_out-requires c = record { ready = (c.self.inside.links, start (goal.at.carry_out-requires c).In-Ok, c.in-Ok.ensures.ok) }
+there : (c : goal.In-Ok) → IsTrue (set.contains (mappings_of c.self.inside.links).spaces c.args.to)
+there c = subst (λ (m : Mappings). IsTrue (set.contains m.spaces c.args.to)) (sym c.self.view_is) c.requires.to_there
 
 pub invariant_of-self-2 : goal.invariant_of-self-2
-invariant_of-self-2 c = let begun = start (goal.at.invariant_of-self-2 c).In-Ok in record {
-  clean = c.carry_out.ensures.clean;
-  known = c.carry_out.ensures.roots c.self.inside.links begun c.in-Ok.ensures.ok c.self.inside.roots.items c.self.invariant.known;
-  forest = delivers_keep (mappings_of c.self.inside.links) c.args.from c.args.to c.args.moves.now begun.there (mappings_of c.carry_out.new.links) c.self.invariant.forest c.in-Ok.ensures.free
-      (c.carry_out.ensures.delivers c.self.inside.links begun c.in-Ok.ensures.ok);
+invariant_of-self-2 c = record {
+  clean = c.in-Ok.ensures.ok.clean;
+  known = c.in-Ok.ensures.ok.roots c.self.inside.roots.items c.self.invariant.known;
+  forest = delivers_keep (mappings_of c.self.inside.links) c.args.from c.args.to c.args.moves.now (there c) (mappings_of c.deliver.new.links) c.self.invariant.forest c.in-Ok.ensures.ok.free c.in-Ok.ensures.ok.delivers;
 }
 
 pub returns-clause-ok : goal.returns-clause-ok
-returns-clause-ok c = rw (← c.self.view_is) (c.carry_out.ensures.delivers c.self.inside.links (start (goal.at.returns-clause-ok c).In-Ok) c.in-Ok.ensures.ok)
+returns-clause-ok c = rw (← c.self.view_is) c.in-Ok.ensures.ok.delivers
+
+pub returns-clause-free : goal.returns-clause-free
+returns-clause-free c = rw (← c.self.view_is) c.in-Ok.ensures.ok.free

@@ -1,0 +1,78 @@
+//! A message that only maps, from one space to another, has two short ways: children at places where nothing is, and children that take
+//! the places of what nothing descends from. Nothing is marked on either.
+
+ghost use Rattle.std.specs.Prelude.{◌≡◌, ◌≢◌, ℕ, IsTrue, OnErr, IfOk, IfErr, true, false};
+ghost use Rattle.std.specs.FinSet as set;
+ghost use Rattle.l4_links.specs.Entries.{entry_at};
+ghost use Rattle.l4_mapdb.specs.Transfer.{IsUsed};
+ghost use Rattle.l4_mapdb.specs.Causes.{HasCause};
+ghost use Rattle.l4_mapdb.specs.Inside.View.{mappings_of};
+ghost use Rattle.l4_mapdb.specs.Inside.Kept.{IsClean};
+ghost use Rattle.l4_mapdb.specs.Inside.Growing.{AreMaps, IsDelivered};
+
+use crate::growing::grow_children;
+use crate::preparing::refusal;
+use crate::renewing::take_places;
+use crate::tangles::are_apart;
+use crate::{Cause, ItemMove};
+use l4_links::Links;
+
+/// Whether the message only maps, and from one space to another.
+fn only_maps(from: u64, to: u64, items: &[ItemMove]) -> bool
+    ensures apart { result ≡ true → from ≢ to }
+    ensures maps { result ≡ true → AreMaps items.now }
+{
+    if from == to {
+        return false;
+    }
+    for item in 0..items.len() {
+        if items[item].grant {
+            return false;
+        }
+    }
+    true
+}
+
+/// Delivers a message that only maps, from one space to another, if nothing is at a target of a used move, or if its items fill no page
+/// twice and nothing descends from what is at their used targets. Whether it did is given, and else all is as before. `NoMemory` may
+/// come, and `Entangled` where memory was refused for a message that is entangled.
+pub(crate) fn deliver_maps(
+    links: &mut Links,
+    from: u64,
+    to: u64,
+    items: &[ItemMove],
+) -> Result<bool, Cause>
+    requires clean { IsClean links.old }
+    requires there { IsTrue (set.contains links.old.spaces to) }
+    ensures done { IfOk result (λ done. done ≡ true → IsDelivered from to items.now links.old links.new) }
+    ensures left { IfOk result (λ done. done ≡ false → (key : ℕ) → entry_at links.new.entries key ≡ entry_at links.old.entries key) }
+    ensures err { OnErr result ((key : ℕ) → entry_at links.new.entries key ≡ entry_at links.old.entries key) }
+    ensures cause { IfErr result (HasCause (IsUsed (mappings_of links.old) from to items.now) (mappings_of links.old)) }
+    ensures spaces { links.new.spaces ≡ links.old.spaces }
+{
+    links.law_places();
+    links.law_trees();
+    if !only_maps(from, to, items) {
+        return Ok(false);
+    }
+    let Err(stop) = grow_children(links, from, to, items) else {
+        links.law_places();
+        return Ok(true);
+    };
+    if stop.refused {
+        return Err(refusal(links, from, to, items));
+    }
+    if !are_apart(items) {
+        return Ok(false);
+    }
+    links.law_places();
+    links.law_trees();
+    let Err(stop) = take_places(links, from, to, items) else {
+        links.law_places();
+        return Ok(true);
+    };
+    if stop.refused {
+        return Err(refusal(links, from, to, items));
+    }
+    Ok(false)
+}

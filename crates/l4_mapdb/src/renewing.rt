@@ -1,0 +1,121 @@
+//! A message that maps pages to places of another space which others may show, but from which nothing descends: each child takes the place
+//! of what is there. Keys for all targets come first, so that nothing is refused any more once something has changed.
+
+ghost use Rattle.std.specs.Prelude.{◌≡◌, ◌≢◌, ℕ, length, IsTrue, OnOk, OnErr, IfErr, true};
+ghost use Rattle.std.specs.FinSet as set;
+ghost use Rattle.l4_spaces.specs.Tables.{IsPage};
+ghost use Rattle.l4_links.specs.Entries.{Linked, entry_at, IsAt, HaveRights};
+ghost use Rattle.l4_mapdb.specs.Inside.Messages.{IsMoved};
+ghost use Rattle.l4_mapdb.specs.Inside.Tangles.{AreApart};
+ghost use Rattle.l4_mapdb.specs.Inside.Growing.{IsGround, Mapped, Stops};
+ghost use Rattle.l4_mapdb.specs.Inside.Renewing.{IsMade, CanRenew, RenewsAt, Spaced, IsBarred, Renewed};
+
+use crate::ItemMove;
+use crate::growing::Stop;
+use crate::sources::{UsedMove, UsedMoves};
+use crate::unmarking::unmark;
+use l4_fpage::Rights;
+use l4_links::Links;
+
+/// Gives the target of a used move a key if it has none, and else tests that nothing descends from what is there.
+fn make_place(links: &mut Links, used: UsedMove) -> Result<(), Stop>
+    requires there { IsTrue (set.contains links.old.spaces used.target.space) }
+    requires fits { IsPage used.target.page }
+    ensures made { OnOk result (IsMade used.target links.old links.new) }
+    ensures err { OnErr result (links.new ≡ links.old) }
+    ensures stop { IfErr result (λ stop. stop.used ≡ used) }
+    ensures lacks { IfErr result (λ stop. stop.refused ≡ true → (key : ℕ) → ¬ (IsAt links.old.entries used.target key)) }
+    ensures spaces { links.new.spaces ≡ links.old.spaces }
+{
+    if let Some(key) = links.find(used.target) {
+        if links.is_leaf(key) {
+            return Ok(());
+        }
+        return Err(Stop {
+            used,
+            refused: false,
+        });
+    }
+    match links.add_blank(used.target) {
+        Ok(_) => Ok(()),
+        Err(_) => Err(Stop {
+            used,
+            refused: true,
+        }),
+    }
+}
+
+/// Gives the target of each used move a key if it has none, up to the first one that something descends from.
+fn make_places(links: &mut Links, from: u64, to: u64, items: &[ItemMove]) -> Result<(), Stop>
+    requires ground { IsGround links.old from to }
+    requires there { IsTrue (set.contains links.old.spaces to) }
+    ensures ok { OnOk result (Spaced links.old from to items.now (IsMoved links.old.entries from to items.now) links.new) }
+    ensures err { IfErr result (IsBarred links.old from to items.now links.new) }
+    ensures spaces { links.new.spaces ≡ links.old.spaces }
+{
+    let mut moves = UsedMoves::new();
+    while let Some(used) = moves.next(links, from, to, items) {
+        links.law_places();
+        match make_place(links, used) {
+            Ok(()) => {}
+            Err(stop) => return Err(stop),
+        }
+    }
+    Ok(())
+}
+
+/// Lets a child of the used move's source take the place of what is at its target.
+fn renew(links: &mut Links, used: UsedMove, rights: Rights)
+    requires ready { CanRenew used.source used.target rights links.old.entries }
+    requires once { (a b : ℕ) → IsAt links.old.entries used.target a → IsAt links.old.entries used.target b → a ≡ b }
+    requires rights { HaveRights links.old.entries }
+    ensures renews { RenewsAt used.source used.target rights links.old.entries links.new.entries }
+    ensures spaces { links.new.spaces ≡ links.old.spaces }
+{
+    let Some(key) = links.find(used.target) else {
+        unreachable!()
+    };
+    links.clear(key);
+    links.stand_under(used.source, key, rights);
+}
+
+/// Lets children of the sources of all used moves take the places of what is at their targets.
+fn renew_all(links: &mut Links, from: u64, to: u64, items: &[ItemMove])
+    requires ready { (start : Linked) × IsGround start from to × Spaced start from to items.now (IsMoved start.entries from to items.now) links.old }
+    requires apart { AreApart items.now (length items.now) }
+    ensures renewed { (start : Linked) → IsGround start from to → Spaced start from to items.now (IsMoved start.entries from to items.now) links.old
+        → Renewed start from to items.now (IsMoved start.entries from to items.now) links.new }
+    ensures spaces { links.new.spaces ≡ links.old.spaces }
+{
+    let mut moves = UsedMoves::new();
+    while let Some(used) = moves.next(links, from, to, items) {
+        let rights = items[used.item].rights;
+        links.law_places();
+        renew(links, used, rights);
+    }
+}
+
+/// Lets children of the sources of all used moves take the places of what is at their targets, if nothing descends from that. Where
+/// something does, or memory is refused, all is as before, and that move is given. The items fill no page twice.
+pub(crate) fn take_places(
+    links: &mut Links,
+    from: u64,
+    to: u64,
+    items: &[ItemMove],
+) -> Result<(), Stop>
+    requires ground { IsGround links.old from to }
+    requires there { IsTrue (set.contains links.old.spaces to) }
+    requires apart { AreApart items.now (length items.now) }
+    ensures ok { OnOk result (Mapped links.old from to items.now links.new) }
+    ensures err { OnErr result ((key : ℕ) → entry_at links.new.entries key ≡ entry_at links.old.entries key) }
+    ensures stop { IfErr result (Stops links.old from to items.now) }
+    ensures spaces { links.new.spaces ≡ links.old.spaces }
+{
+    let Err(stop) = make_places(links, from, to, items) else {
+        renew_all(links, from, to, items);
+        links.law_places();
+        return Ok(());
+    };
+    unmark(links, from, to, items);
+    Err(stop)
+}
