@@ -32,7 +32,7 @@ use crate::steps::{Answer, Lower, Outcome, Refused};
 use crate::turns::Ending;
 use arrayvec::ArrayVec;
 use l4_mapdb::{Forest, NoMemory};
-use l4_msg::{Item, MAX_WORDS, Message, Tag, copied};
+use l4_msg::{Item, MAX_WORDS, Message, Tag};
 use l4_threads::{Envelope, MAX_THREADS, Reply, SendPhase, State, ThreadId, Threads};
 use l4_unmap::unmap;
 
@@ -379,7 +379,8 @@ pub fn transfer_untold(
     );
     let done = is_done(outcome);
     let (tag, rest) = tag_and_rest(meeting.sends.words.as_slice());
-    let words: ArrayVec<u32, MAX_WORDS> = copied(rest);
+    let mut words: ArrayVec<u32, MAX_WORDS> = ArrayVec::new();
+    let _ = words.try_extend_from_slice(rest);
     let envelope = Envelope {
         tag,
         error: 0,

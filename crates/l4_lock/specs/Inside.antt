@@ -3,3 +3,4 @@ pub mod Entering
 pub mod Noting
 pub mod Packing
 pub mod Pending
+pub mod Recent

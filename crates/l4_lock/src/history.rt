@@ -9,6 +9,7 @@ ghost use Rattle.l4_ipc.specs.NextSteps.{step_of, answer_of};
 
 use crate::entries::{Entry, EntryOutline};
 use crate::packed::{read_entry_outline, write_next, write_own_start, write_start};
+use crate::recent::{Recent, Told};
 use l4_ipc::{Answer, Call, NextStep};
 use l4_packed::{ItemsFrom, PackedList, Record};
 use std::alloc::{AllocError, Global};
@@ -22,6 +23,7 @@ pub type Entries<'a> = ItemsFrom<'a, Entry>;
 pub struct History {
     entries: PackedList<Entry>,
     packed: Record,
+    recent: Recent,
 }
 
 impl Model for History {
@@ -30,6 +32,10 @@ impl Model for History {
     ghost Value = { EntryList };
 
     ghost view = { λ h. entry_list h.entries.items h.entries.room };
+
+    ghost use Rattle.l4_lock.specs.Inside.Recent.{IsRecent};
+
+    ghost invariant = { λ h. IsRecent h.entries.items h.recent };
 }
 
 impl History {
@@ -40,6 +46,7 @@ impl History {
         History {
             entries: PackedList::new(alloc),
             packed: Record::new(),
+            recent: Recent::new(),
         }
     }
 
@@ -68,6 +75,10 @@ impl History {
     pub fn outline(&self, at: usize, entry: &mut EntryOutline) -> Option<()>
         ensures { Gives (λ _. entry.new) result (option_map entry_outline (slice_get self.now.entries at)) }
     {
+        if let Some(told) = self.recent.at(at, self.entries.len()) {
+            told.put(entry);
+            return Some(());
+        }
         match self.entries.words(at) {
             Some(words) => read_entry_outline(words, entry),
             None => None,
@@ -98,6 +109,7 @@ impl History {
     {
         write_next(&mut self.packed, seat, next);
         self.entries.push(&self.packed.words());
+        self.recent.add(Some(Told::Next(seat, next)));
     }
 
     /// Appends the entry of the start of a call, for which there is room.
@@ -108,6 +120,7 @@ impl History {
     {
         write_start(&mut self.packed, number, call, answer);
         self.entries.push(&self.packed.words());
+        self.recent.add(None);
     }
 
     /// Appends the entry of the start of a call in which the call of its thread ended alone, or none did. There is room for it.
@@ -118,5 +131,6 @@ impl History {
     {
         write_own_start(&mut self.packed, number, call, ended);
         self.entries.push(&self.packed.words());
+        self.recent.add(Some(Told::Own(number, ended)));
     }
 }

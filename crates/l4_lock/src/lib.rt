@@ -9,6 +9,7 @@ mod locked;
 mod packed;
 mod pending;
 mod receipts;
+mod recent;
 mod refusals;
 mod seats;
 mod shared;
