@@ -17,6 +17,7 @@ use Rattle.l4_links.specs.declared.Entry.{Entry}
 use Rattle.l4_links.specs.declared.nodes.Node.{Node}
 use Rattle.l4_links.specs.declared.nodes.Slot.{Slot}
 use Rattle.l4_links.specs.Entries.{entry_at, IsAt, HasKey, NoKeyFrom, IsNextKey, NoKeyIn, IsNextKeyIn, IsKeyOf, HavePlaces}
+use Rattle.l4_links.specs.Inside.Keys.{IsKey}
 use Rattle.l4_links.specs.Inside.Nodes.{Slots, Spot, slot_at, spots, IsOf, SetsWanted, Gives, TakesOver}
 use Rattle.l4_links.specs.Inside.Keeping.{entry_of, entries_of, IsIndexed}
 use Rattle.l4_links.proofs.Writes.{spot_of}
@@ -199,12 +200,24 @@ lies_of slots t i key p at =
       subst (λ (z : Place). IsPage z.page) s.2 (i.fits key s.0 s.1),
     )
 
-indexed_of : (slots : Slots) (t : Tables) → Names (places slots) t.pages → Lies (places slots) t.spaces → IsIndexed slots t
-indexed_of slots t names lies = record {
+-- that a node can keep each key that has a place
+abbrev pub Keeps : (ℕ → Option Place) → Type 0
+Keeps at = (key : ℕ) (p : Place) → at key ≡ Some p → IsKey key
+
+keeps_of : (slots : Slots) (t : Tables) → IsIndexed slots t → Keeps (places slots)
+keeps_of slots t i key p at = let s = place_from slots key p at in i.few key s.0 s.1
+
+indexed_of : (slots : Slots) (t : Tables) → Names (places slots) t.pages → Lies (places slots) t.spaces → Keeps (places slots) → IsIndexed slots t
+indexed_of slots t names lies keeps = record {
   names = names;
   housed = λ key s at. (lies key s.place (spot_from slots key s at)).0;
   fits = λ key s at. (lies key s.place (spot_from slots key s at)).1;
+  few = λ key s at. keeps key s.place (spot_from slots key s at);
 }
+
+-- each key with a place had one before
+keeps_left : (old new : ℕ → Option Place) → Keeps old → ((k : ℕ) (p : Place) → new k ≡ Some p → (q : Place) × (old k ≡ Some q)) → Keeps new
+keeps_left old new keeps left key p at = let q = left key p at in keeps key q.0 q.1
 
 -- places that are left lie where they did
 lies_left : (old new : ℕ → Option Place) (before after : set.FinSet nat_cmp) → Lies old before → after ≡ before → ((k : ℕ) (p : Place) → new k ≡ Some p → (j : ℕ) × (old j ≡ Some p)) → Lies new after
@@ -229,6 +242,7 @@ indexed_empty slots t none empty =
       λ s. no_place q (sym (vacant k) ∙ s),
     ))
     (λ key p at. no_place p (sym (vacant key) ∙ at))
+    (λ key p at. no_place p (sym (vacant key) ∙ at))
 
 -- the same pages of the same keys
 pub indexed_same : (old new : Slots) (t u : Tables) → ((k : ℕ) → spots new k ≡ spots old k) → u.pages ≡ t.pages → u.spaces ≡ t.spaces → IsIndexed old t → IsIndexed new u
@@ -240,12 +254,14 @@ indexed_same old new t u same pages spaces i =
       λ s. ap (λ (m : Pages). key_in m q) pages ∙ (i.names q k).1 (sym (places_same k) ∙ s),
     ))
     (lies_left (places old) (places new) t.spaces u.spaces (lies_of old t i) spaces (λ k p at. (k, sym (places_same k) ∙ at)))
+    (keeps_left (places old) (places new) (keeps_of old t i) (λ k p at. (p, sym (places_same k) ∙ at)))
 
 pub indexed_wanted : (old new : Slots) (t : Tables) → ((k : ℕ) → places new k ≡ places old k) → IsIndexed old t → IsIndexed new t
 indexed_wanted old new t same i =
     indexed_of new t
     (λ q k. (λ h. same k ∙ (i.names q k).0 h, λ s. (i.names q k).1 (sym (same k) ∙ s)))
     (lies_left (places old) (places new) t.spaces t.spaces (lies_of old t i) refl (λ k p at. (k, sym (same k) ∙ at)))
+    (keeps_left (places old) (places new) (keeps_of old t i) (λ k p at. (p, sym (same k) ∙ at)))
 
 pub places_wanted : (old new : Slots) (key : ℕ) (wanted : Bool) → SetsWanted key wanted old new → (k : ℕ) → places new k ≡ places old k
 places_wanted old new key wanted c k = elim (cases_eq k key) [
@@ -257,9 +273,9 @@ places_wanted old new key wanted c k = elim (cases_eq k key) [
     over None = refl
     over (Some s) = refl
 
-pub indexed_added : (old new : Slots) (t u : Tables) (place : Place) (key : ℕ) (slot : Slot) → IsIndexed old t → ((k : ℕ) → ¬ (IsOf old place k)) → slot_at old key ≡ None → slot.place ≡ place → slot_at new key ≡ Some slot
+pub indexed_added : (old new : Slots) (t u : Tables) (place : Place) (key : ℕ) (slot : Slot) → IsIndexed old t → ((k : ℕ) → ¬ (IsOf old place k)) → IsKey key → slot_at old key ≡ None → slot.place ≡ place → slot_at new key ≡ Some slot
     → ((o : ℕ) → o ≢ key → slot_at new o ≡ slot_at old o) → IsTrue (set.contains t.spaces place.space) → IsPage place.page → u.pages ≡ map.insert t.pages (place.space, place.page) key → u.spaces ≡ t.spaces → IsIndexed new u
-indexed_added old new t u place key slot i free vacant its filled others there fits pages spaces =
+indexed_added old new t u place key slot i free kept vacant its filled others there fits pages spaces =
     let here : places new key ≡ Some place = places_slot new key (Some slot) filled ∙ ap (λ (p : Place). Some p) its in
     let other : (o : ℕ) → o ≢ key → places new o ≡ places old o = λ o ne. ap (λ (z : Option Slot). option_map {T = Spot} (λ s. s.place) (option_map spot_of z)) (others o ne) in
     let lies = lies_of old t i in
@@ -274,26 +290,38 @@ indexed_added old new t u place key slot i free vacant its filled others there f
           let l = lies k p (sym (other k ne) ∙ at) in
           (subst (λ (z : set.FinSet nat_cmp). IsTrue (set.contains z p.space)) (sym spaces) l.0, l.1)
     ])
+    (λ k p at. elim (cases_eq k key) [
+      | inl e ↦ subst (λ (z : ℕ). IsKey z) (sym e) kept
+      | inr ne ↦ keeps_of old t i k p (sym (other k ne) ∙ at)
+    ])
 
 pub indexed_removed : (old new : Slots) (t u : Tables) (place : Place) (key : ℕ) → option_map {T = Slot} (λ s. s.place) (slot_at old key) ≡ Some place → slot_at new key ≡ None
     → ((o : ℕ) → o ≢ key → slot_at new o ≡ slot_at old o) → u.pages ≡ map.remove t.pages (place.space, place.page) → u.spaces ≡ t.spaces → IsIndexed old t → IsIndexed new u
 indexed_removed old new t u place key was gone others pages spaces i =
     let none : places new key ≡ None = places_slot new key None gone in
     let other : (o : ℕ) → o ≢ key → places new o ≡ places old o = λ o ne. ap (λ (z : Option Slot). option_map {T = Spot} (λ s. s.place) (option_map spot_of z)) (others o ne) in
+    let stood : (k : ℕ) (p : Place) → places new k ≡ Some p → places old k ≡ Some p = λ k p at. sym (other k (λ e. no_place p (sym none ∙ ap (places new) (sym e) ∙ at))) ∙ at in
     indexed_of new u (named_removed (places old) (places new) t.pages u.pages place key i.names (places_slot old key (slot_at old key) refl ∙ was) none other pages)
     (lies_left (places old) (places new) t.spaces u.spaces (lies_of old t i) spaces
-    (λ k p at. (k, sym (other k (λ e. no_place p (sym none ∙ ap (places new) (sym e) ∙ at))) ∙ at)))
+    (λ k p at. (k, stood k p at)))
+    (keeps_left (places old) (places new) (keeps_of old t i) (λ k p at. (p, stood k p at)))
 
 pub indexed_moved : (old new : Slots) (t m u : Tables) (from to : Place) (key blank : ℕ) → key ≢ blank → places old key ≡ Some from → places old blank ≡ Some to → places new key ≡ Some to → slot_at new blank ≡ None
     → ((o : ℕ) → o ≢ key → o ≢ blank → slot_at new o ≡ slot_at old o) → m.pages ≡ map.insert t.pages (to.space, to.page) key → u.pages ≡ map.remove m.pages (from.space, from.page) → u.spaces ≡ t.spaces → IsIndexed old t → IsIndexed new u
 indexed_moved old new t m u from to key blank other was was_to is gone others put drop spaces i =
     let none : places new blank ≡ None = places_slot new blank None gone in
     let rest : (o : ℕ) → o ≢ key → o ≢ blank → places new o ≡ places old o = λ o nk nb. ap (λ (z : Option Slot). option_map {T = Spot} (λ s. s.place) (option_map spot_of z)) (others o nk nb) in
+    let stood : (k : ℕ) (p : Place) → k ≢ key → places new k ≡ Some p → places old k ≡ Some p = λ k p nk at. sym (rest k nk (λ e. no_place p (sym none ∙ ap (places new) (sym e) ∙ at))) ∙ at in
     indexed_of new u (named_moved (places old) (places new) t.pages m.pages u.pages from to key blank i.names other was was_to is none rest put drop)
     (lies_left (places old) (places new) t.spaces u.spaces (lies_of old t i) spaces
     (λ k p at. elim (cases_eq k key) [
       | inl e ↦ (blank, was_to ∙ ap (λ (z : Place). Some z) (one_place (places new) key to p is (ap (places new) (sym e) ∙ at)))
-      | inr nk ↦ (k, sym (rest k nk (λ e. no_place p (sym none ∙ ap (places new) (sym e) ∙ at))) ∙ at)
+      | inr nk ↦ (k, stood k p nk at)
+    ]))
+    (keeps_left (places old) (places new) (keeps_of old t i)
+    (λ k p at. elim (cases_eq k key) [
+      | inl e ↦ (from, ap (places old) e ∙ was)
+      | inr nk ↦ (p, stood k p nk at)
     ]))
 
 pub at_is : (slots : Slots) (k : ℕ) → option_map {T = Entry} (λ e. e.place) (entry_at (entries_of slots) k) ≡ places slots k
@@ -371,6 +399,7 @@ indexed_without slots t u space i none empties spaces =
       ap (λ v. set.contains v p.space) spaces ∙ set.contains-remove nat_cmp_total t.spaces space p.space ∙ (λ i. not (differs p.space space (kept k p at) i) && l.0 i),
       l.1,
     ))
+    (keeps_of slots t i)
   where
     sym_at : (slots : Slots) (k : ℕ) (p : Place) (space : ℕ) → p.space ≡ space → places slots k ≡ Some p → IsAt (entries_of slots) (record { space = space; page = p.page }) k
     sym_at slots k p space e at = at_is slots k ∙ at ∙ (λ i. Some (record { space = e i; page = p.page }))
@@ -391,6 +420,7 @@ indexed_begun E (Ok _) slots t u space pages begun same i =
     (λ k p at.
     let l = lies k p at in
     (ap (λ v. set.contains v p.space) begun ∙ set.contains-insert nat_cmp_total t.spaces space p.space ∙ or_right (eq_by_cmp nat_cmp p.space space) _ l.0, l.1))
+    (keeps_of slots t i)
 indexed_begun E (Err _) slots t u space pages begun same i = subst (λ (v : Tables). IsIndexed slots v) (sym same) i
 
 -- by key, what a contract sees

@@ -372,3 +372,9 @@ seek_at_key old cur top depth stamp count key head low c at d at_low le = record
   at_top = at;
   depth_is = d;
 }
+
+-- no mark is above the stamp once the walk has left its own
+pub stamped_closed : (cur middle new : Slots) (top stamp : ℕ) (at : Option ℕ) → IsStamped stamp cur → Closes top stamp at cur middle → Sees top stamp middle new → IsStamped stamp new
+stamped_closed cur middle new top stamp at s w z =
+    stamped_at (λ (n : Node). record n { seen = stamp }) stamp (λ n m s. (m, omega arith)) top middle new z.here z.others
+    (stamped_at (λ (n : Node). record n { mark = stamp; end = at }) stamp (λ n m s. (omega arith, s)) top cur middle w.here w.others s)

@@ -4,7 +4,8 @@ use Rattle.std.proofs.lemmas.Bool.{cases_eq}
 use Rattle.std.specs.Option.{option_map, option_and_then}
 use Rattle.l4_links.specs.declared.nodes.Node.{Node}
 use Rattle.l4_links.specs.declared.nodes.Slot.{Slot}
-use Rattle.l4_links.specs.Inside.Nodes.{Slots, Spot, slot_at, node_at, spots, marks, Marks, Doom, IsStamped}
+use Rattle.l4_links.specs.Inside.Keys.{IsKey}
+use Rattle.l4_links.specs.Inside.Nodes.{Slots, Spot, slot_at, node_at, spots, AreKeys, marks, Marks, Doom, IsStamped}
 
 abbrev pub marks_of : Node → Marks
 marks_of n = record { mark = n.mark; seen = n.seen }
@@ -57,3 +58,16 @@ no_slot slots k e = elim (slot_at slots k) as (λ o. option_map spot_of o ≡ No
 -- a node has a slot
 pub has_slot : (slots : Slots) (k : ℕ) (n : Node) → node_at slots k ≡ Some n → slot_at slots k ≢ None
 has_slot slots k n at none = let w : ◌≡◌ {A = Option Node} (Some n) None = sym at ∙ ap (option_and_then (λ (s : Slot). s.node)) none in absurd (let z : ◌≡◌ {A = Option Node} (Some n) None = w in cc)
+
+-- a node can keep the key of a slot, and that of a node
+pub slot_key : (slots : Slots) (k : ℕ) → AreKeys slots → slot_at slots k ≢ None → IsKey k
+slot_key slots k few there = elim (slot_at slots k) as (λ o. slot_at slots k ≡ o → IsKey k) [
+  | None ↦ λ e. absurd (there e)
+  | Some s ↦ λ e. few k (spot_of s) (ap (option_map spot_of) e)
+] refl
+
+pub node_key : (slots : Slots) (k : ℕ) (n : Node) → AreKeys slots → node_at slots k ≡ Some n → IsKey k
+node_key slots k n few at = slot_key slots k few (has_slot slots k n at)
+
+pub keys_same : (old new : Slots) → ((k : ℕ) → spots new k ≡ spots old k) → AreKeys old → AreKeys new
+keys_same old new same few k s at = few k s (sym (same k) ∙ at)

@@ -1,3 +1,4 @@
+pub mod Keys
 pub mod Trees
 pub mod Orders
 pub mod Nodes

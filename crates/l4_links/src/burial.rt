@@ -7,17 +7,18 @@ ghost use Rattle.l4_links.specs.Inside.Nodes.{IsForest};
 ghost use Rattle.l4_links.specs.Inside.Keeping.{IsIndexed, IsWithin};
 ghost use Rattle.l4_links.specs.Inside.Stacks.{HasStack, Buries};
 
+use crate::keys::Link;
 use crate::lists::take_out;
 use crate::nodes::{Node, Slot, node_of};
 use l4_spaces::Spaces;
 use slab::Slab;
 
 /// The key that a list begins with once the node has left it, if it began with `first`.
-fn first_without(node: &Node, first: Option<usize>) -> Option<usize>
+fn first_without(node: &Node, first: Link) -> Link
     ensures begins { node.now.prev ≡ None → result ≡ node.now.next }
     ensures stays { node.now.prev ≢ None → result ≡ first }
 {
-    let Some(_) = node.prev else {
+    let Some(_) = node.prev.key() else {
         return node.next;
     };
     first
@@ -25,12 +26,7 @@ fn first_without(node: &Node, first: Option<usize>) -> Option<usize>
 
 /// Takes the nodes of the stack, which begins with the key `doomed`, out of the list, and their slots away with their
 /// pages' names. The list begins with the key that is given then.
-pub(crate) fn bury(
-    nodes: &mut Slab<Slot>,
-    pages: &mut Spaces,
-    first: Option<usize>,
-    doomed: Option<usize>,
-) -> Option<usize>
+pub(crate) fn bury(nodes: &mut Slab<Slot>, pages: &mut Spaces, first: Link, doomed: Link) -> Link
     requires forest { (ks : List ℕ) × IsForest nodes.old.slots ks }
     requires within { IsWithin nodes.old.slots }
     requires stack { HasStack nodes.old.slots doomed }
@@ -41,7 +37,7 @@ pub(crate) fn bury(
     let mut begin = first;
     let mut at = doomed;
     for _ in 0..nodes.capacity() {
-        let Some(key) = at else {
+        let Some(key) = at.key() else {
             return begin;
         };
         let Some(node) = node_of(nodes, key) else {

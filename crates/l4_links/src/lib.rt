@@ -10,17 +10,21 @@ ghost use Rattle.l4_fpage.specs.Rights.{common, no_rights};
 ghost use Rattle.l4_spaces.specs.Tables.{IsPage};
 
 mod burial;
+mod keys;
 mod lists;
 mod names;
 mod nodes;
 mod stamps;
 mod walks;
 
+use keys::Link;
 use l4_fpage::Rights;
 pub use l4_spaces::NoMemory;
 use l4_spaces::Spaces;
 use names::{remove, take_over};
-use nodes::{Slot, cap_at, node_of, set_plain, set_source, set_wanted, standing_of};
+use nodes::{
+    Slot, cap_at, node_of, set_plain, set_source, set_wanted, standing_of, vacant_key_fits,
+};
 use slab::Slab;
 use stamps::{SOURCES_WALK, fresh, stamp_for};
 use std::alloc::Global;
@@ -68,13 +72,13 @@ pub struct Links {
     /// The key of each page.
     pages: Spaces,
     /// The key of the first node of the list.
-    first: Option<usize>,
+    first: Link,
     /// The marks of this stamp are right. The stamp 0 is of no mark.
     stamp: u64,
     /// What the walks of this stamp are for: the bits of the rights that are left, or `SOURCES_WALK`.
     walk: u8,
     /// The key that the stack of nodes without rights begins with.
-    doomed: Option<usize>,
+    doomed: Link,
 }
 
 impl Model for Links {
@@ -103,10 +107,10 @@ impl Links {
         Links {
             nodes: Slab::new(alloc),
             pages: Spaces::new(alloc),
-            first: None,
+            first: Link::none(),
             stamp: 1,
             walk: SOURCES_WALK,
-            doomed: None,
+            doomed: Link::none(),
         }
     }
 
@@ -204,6 +208,7 @@ impl Links {
         ensures spaces { self.new.spaces ≡ self.old.spaces }
         ensures err { OnErr result (self.new ≡ self.old) }
     {
+        vacant_key_fits(&self.nodes)?;
         self.pages.prepare(place.space, &[place.page])?;
         let slot = Slot {
             place,
@@ -232,8 +237,7 @@ impl Links {
         ensures stands { Stands key (record { frame = frame; rights = rights; source = false; granted = None; parent = None }) self.old.entries self.new.entries }
         ensures spaces { self.new.spaces ≡ self.old.spaces }
     {
-        lists::link_root(&mut self.nodes, self.first, key, frame, rights);
-        self.first = Some(key);
+        self.first = lists::link_root(&mut self.nodes, self.first, key, frame, rights);
         self.stamp = fresh(self.stamp);
     }
 
@@ -325,7 +329,7 @@ impl Links {
         ensures spaces { self.new.spaces ≡ self.old.spaces }
     {
         self.first = burial::bury(&mut self.nodes, &mut self.pages, self.first, self.doomed);
-        self.doomed = None;
+        self.doomed = Link::none();
         self.stamp = fresh(self.stamp);
     }
 

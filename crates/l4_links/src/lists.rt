@@ -4,9 +4,10 @@ ghost use Rattle.std.specs.Prelude.{◌≡◌, ◌≢◌, ◌<◌, ◌+◌, ◌^
 ghost use Rattle.l4_fpage.specs.Rights.{common};
 ghost use Rattle.l4_links.specs.Inside.Trees.{Sprouts, Rises};
 ghost use Rattle.l4_links.specs.Inside.Orders.{TakesOut, first_of};
-ghost use Rattle.l4_links.specs.Inside.Nodes.{node_at, slot_at, spots, limbs, links, values, IsOrder, IsForest, Parts, TakesSlot, CutsOff, Comes, Prunes, Clears};
+ghost use Rattle.l4_links.specs.Inside.Nodes.{node_at, slot_at, spots, limbs, links, values, AreKeys, IsOrder, IsForest, Parts, TakesSlot, CutsOff, Comes, Prunes, Clears};
 ghost use Rattle.l4_links.specs.Inside.Keeping.{IsIndexed};
 
+use crate::keys::Link;
 use crate::names::remove;
 use crate::nodes::{Node, Slot, child_depth, is_wanted, node_of, set_next, set_prev, write};
 use l4_fpage::Rights;
@@ -66,6 +67,7 @@ pub(crate) fn link_under(
     rights: Rights,
 )
     requires forest { (ks : List ℕ) × IsForest nodes.old.slots ks }
+    requires few { AreKeys nodes.old.slots }
     requires there { node_at nodes.old.slots parent ≡ Some above }
     requires room { slot_at nodes.old.slots key ≢ None }
     requires blank { node_at nodes.old.slots key ≡ None }
@@ -74,55 +76,63 @@ pub(crate) fn link_under(
     ensures forest { (xs ys : List ℕ) → IsForest nodes.old.slots (xs ++ parent ∷ ys) → IsForest nodes.new.slots (xs ++ parent ∷ key ∷ ys) }
 {
     let slots = nodes.capacity();
+    let under = Link::to(parent);
+    let at = Link::to(key);
+    let none = Link::none();
     let node = Node {
         frame: above.frame,
         rights: above.rights.intersection(rights),
         source: false,
         granted: None,
-        parent: Some(parent),
         depth: child_depth(&above, slots),
-        prev: Some(parent),
-        next: above.next,
-        mark: 0,
-        end: None,
         seen: 0,
-        doomed: None,
+        mark: 0,
+        end: none,
+        parent: under,
+        prev: under,
+        next: above.next,
+        doomed: none,
     };
     write(nodes, key, Some(node));
-    set_prev(nodes, above.next, Some(key));
-    set_next(nodes, Some(parent), Some(key));
+    set_prev(nodes, above.next, at);
+    set_next(nodes, under, at);
 }
 
-/// Puts a root before all other nodes, into the blank that the key is of.
+/// Puts a root before all other nodes, into the blank that the key is of. The list begins with the key that is given then.
 pub(crate) fn link_root(
     nodes: &mut Slab<Slot>,
-    first: Option<usize>,
+    first: Link,
     key: usize,
     frame: u32,
     rights: Rights,
-)
+) -> Link
+    requires few { AreKeys nodes.old.slots }
     requires room { slot_at nodes.old.slots key ≢ None }
     requires blank { node_at nodes.old.slots key ≡ None }
     ensures rises { Rises (limbs nodes.old.slots) (limbs nodes.new.slots) key }
     ensures comes { Comes (record { frame = frame; rights = rights; source = false; granted = None }) key nodes.old.slots nodes.new.slots }
     ensures forest { (ks : List ℕ) → IsForest nodes.old.slots ks → first_of ks None ≡ first → IsForest nodes.new.slots (key ∷ ks) }
+    ensures first { result ≡ Some key }
 {
+    let at = Link::to(key);
+    let none = Link::none();
     let node = Node {
         frame,
         rights,
         source: false,
         granted: None,
-        parent: None,
         depth: 0,
-        prev: None,
-        next: first,
-        mark: 0,
-        end: None,
         seen: 0,
-        doomed: None,
+        mark: 0,
+        end: none,
+        parent: none,
+        prev: none,
+        next: first,
+        doomed: none,
     };
     write(nodes, key, Some(node));
-    set_prev(nodes, first, Some(key));
+    set_prev(nodes, first, at);
+    at
 }
 
 /// Cuts off all that descends from the node.
@@ -139,7 +149,7 @@ pub(crate) fn cut_below(nodes: &mut Slab<Slot>, pages: &mut Spaces, top: usize)
     let depth = head.depth;
     let mut at = head.next;
     for _ in 0..nodes.capacity() {
-        let Some(key) = at else {
+        let Some(key) = at.key() else {
             return;
         };
         let Some(node) = node_of(nodes, key) else {
@@ -155,12 +165,7 @@ pub(crate) fn cut_below(nodes: &mut Slab<Slot>, pages: &mut Spaces, top: usize)
 
 /// Cuts off all that descends from the node, and takes the node out of the list. Its slot stays, as a blank. The list begins
 /// with the key that is given then.
-pub(crate) fn clear(
-    nodes: &mut Slab<Slot>,
-    pages: &mut Spaces,
-    first: Option<usize>,
-    top: usize,
-) -> Option<usize>
+pub(crate) fn clear(nodes: &mut Slab<Slot>, pages: &mut Spaces, first: Link, top: usize) -> Link
     requires forest { (ks : List ℕ) × IsForest nodes.old.slots ks }
     requires there { node_at nodes.old.slots top ≢ None }
     ensures clears { Clears top first result nodes.old.slots nodes.new.slots }
@@ -172,7 +177,7 @@ pub(crate) fn clear(
         unreachable!()
     };
     unlink(nodes, top);
-    let Some(_) = node.prev else {
+    let Some(_) = node.prev.key() else {
         return node.next;
     };
     first

@@ -1,15 +1,18 @@
 //! The slots of the slab: what each holds, and the writes to one of them.
 
-ghost use Rattle.std.specs.Prelude.{◌≡◌, ◌+◌, ◌<◌, false, Some};
+ghost use Rattle.std.specs.Prelude.{◌≡◌, ◌+◌, ◌<◌, ◌≤◌, false, Some, OnOk, OnErr};
 ghost use Rattle.std.specs.Option.{option_map};
+ghost use Rattle.l4_links.specs.Inside.Keys.{IsKey, no_key};
 ghost use Rattle.l4_links.specs.Inside.Stacks.{HasStack};
 ghost use Rattle.l4_links.specs.Inside.Keeping.{standing_of};
-ghost use Rattle.l4_links.specs.Inside.Nodes.{node_at, slot_at, spots, wanted_in, Writes, SetsWanted, Gives, SetsNext, SetsPrev, Caps, Lowers, Closes, Sees, SetsSource, SetsPlain};
+ghost use Rattle.l4_links.specs.Inside.Nodes.{node_at, slot_at, spots, AreKeys, wanted_in, Writes, SetsWanted, Gives, SetsNext, SetsPrev, Caps, Lowers, Closes, Sees, SetsSource, SetsPlain};
 ghost use Rattle.l4_links.specs.declared.nodes.Slot.{Slot as ASlot};
 ghost use Rattle.l4_links.specs.declared.nodes.Node.{Node as ANode};
 
+use crate::keys::{Link, NO_KEY};
 use crate::{Place, Standing};
 use l4_fpage::Rights;
+use l4_spaces::NoMemory;
 use slab::Slab;
 
 /// A page's slot.
@@ -31,22 +34,22 @@ pub(crate) struct Node {
     pub source: bool,
     /// The rights of the item that has granted the page here, while a message is delivered.
     pub granted: Option<Rights>,
-    /// The key of the parent.
-    pub parent: Option<usize>,
     /// How many ancestors there are.
     pub depth: usize,
-    /// The key of the node before this one.
-    pub prev: Option<usize>,
-    /// The key of the node after this one.
-    pub next: Option<usize>,
+    /// The stamp of the last walk for sources that has come by the node.
+    pub seen: u64,
     /// The stamp of the last walk that has been over all that descends from the node.
     pub mark: u64,
     /// Where that walk left the run of the node's descendants.
-    pub end: Option<usize>,
-    /// The stamp of the last walk for sources that has come by the node.
-    pub seen: u64,
+    pub end: Link,
+    /// The key of the parent.
+    pub parent: Link,
+    /// The key of the node before this one.
+    pub prev: Link,
+    /// The key of the node after this one.
+    pub next: Link,
     /// The key after this one on the stack of nodes without rights.
-    pub doomed: Option<usize>,
+    pub doomed: Link,
 }
 
 /// The node under the key.
@@ -77,6 +80,18 @@ pub(crate) fn is_wanted(nodes: &Slab<Slot>, key: usize) -> bool
         return false;
     };
     slot.wanted
+}
+
+/// Refuses where a node can't keep the key that the next slot would have. Keys that were given back come first, so then all that
+/// it can keep are taken.
+pub(crate) fn vacant_key_fits(nodes: &Slab<Slot>) -> Result<(), NoMemory>
+    ensures few { OnOk result (IsKey nodes.now.vacant_key) }
+    ensures full { OnErr result (no_key ≤ nodes.now.vacant_key) }
+{
+    if nodes.vacant_key() < NO_KEY as usize {
+        return Ok(());
+    }
+    Err(NoMemory)
 }
 
 /// How deep a child of the node stands. No node stands deeper than there are slots.
@@ -118,10 +133,10 @@ pub(crate) fn give(nodes: &mut Slab<Slot>, key: usize, place: Place, rights: Rig
 }
 
 /// Lets the node that is meant have this next key.
-pub(crate) fn set_next(nodes: &mut Slab<Slot>, at: Option<usize>, next: Option<usize>)
+pub(crate) fn set_next(nodes: &mut Slab<Slot>, at: Link, next: Link)
     ensures { SetsNext at next nodes.old.slots nodes.new.slots }
 {
-    let Some(key) = at else {
+    let Some(key) = at.key() else {
         return;
     };
     let Some(slot) = nodes.get_mut(key) else {
@@ -133,10 +148,10 @@ pub(crate) fn set_next(nodes: &mut Slab<Slot>, at: Option<usize>, next: Option<u
 }
 
 /// Lets the node that is meant have this previous key.
-pub(crate) fn set_prev(nodes: &mut Slab<Slot>, at: Option<usize>, prev: Option<usize>)
+pub(crate) fn set_prev(nodes: &mut Slab<Slot>, at: Link, prev: Link)
     ensures { SetsPrev at prev nodes.old.slots nodes.new.slots }
 {
-    let Some(key) = at else {
+    let Some(key) = at.key() else {
         return;
     };
     let Some(slot) = nodes.get_mut(key) else {
@@ -148,7 +163,7 @@ pub(crate) fn set_prev(nodes: &mut Slab<Slot>, at: Option<usize>, prev: Option<u
 }
 
 /// Lets the node have these rights, and this key after it on the stack of nodes without rights.
-fn lower(nodes: &mut Slab<Slot>, key: usize, rights: Rights, doomed: Option<usize>)
+fn lower(nodes: &mut Slab<Slot>, key: usize, rights: Rights, doomed: Link)
     ensures { Lowers key rights doomed nodes.old.slots nodes.new.slots }
 {
     let Some(slot) = nodes.get_mut(key) else {
@@ -162,12 +177,8 @@ fn lower(nodes: &mut Slab<Slot>, key: usize, rights: Rights, doomed: Option<usiz
 
 /// Lets the node have no other rights than these. A node that loses its last right goes on the stack that begins with the key
 /// `doomed`. The key that the stack begins with then is given.
-pub(crate) fn cap_at(
-    nodes: &mut Slab<Slot>,
-    key: usize,
-    cap: Rights,
-    doomed: Option<usize>,
-) -> Option<usize>
+pub(crate) fn cap_at(nodes: &mut Slab<Slot>, key: usize, cap: Rights, doomed: Link) -> Link
+    requires few { AreKeys nodes.old.slots }
     requires stack { HasStack nodes.old.slots doomed }
     ensures caps { Caps key cap nodes.old.slots nodes.new.slots }
     ensures stack { HasStack nodes.new.slots result }
@@ -181,14 +192,14 @@ pub(crate) fn cap_at(
     let rights = node.rights.intersection(cap);
     if rights.is_empty() {
         lower(nodes, key, rights, doomed);
-        return Some(key);
+        return Link::to(key);
     }
     lower(nodes, key, rights, node.doomed);
     doomed
 }
 
 /// Notes that the walk has been over all that descends from the node, and where it left that run.
-pub(crate) fn close(nodes: &mut Slab<Slot>, key: usize, stamp: u64, end: Option<usize>)
+pub(crate) fn close(nodes: &mut Slab<Slot>, key: usize, stamp: u64, end: Link)
     ensures { Closes key stamp end nodes.old.slots nodes.new.slots }
 {
     let Some(slot) = nodes.get_mut(key) else {
@@ -249,6 +260,6 @@ pub(crate) fn standing_of(node: Option<Node>) -> Option<Standing>
         rights: node.rights,
         source: node.source,
         granted: node.granted,
-        parent: node.parent,
+        parent: node.parent.key(),
     })
 }

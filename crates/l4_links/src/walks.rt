@@ -4,14 +4,15 @@ ghost use Rattle.std.specs.Prelude.{◌≡◌, ◌≢◌, ◌≤◌, ℕ, List, 
 ghost use Rattle.l4_links.specs.Leads.{Leads};
 ghost use Rattle.l4_links.specs.Inside.Trees.{parent_at};
 ghost use Rattle.l4_links.specs.Inside.Stacks.{HasStack};
-ghost use Rattle.l4_links.specs.Inside.Nodes.{Slots, node_at, limbs, IsForest, HasMarks, CapsBelow, Closes, Sees, HasSeen, IsSame, Meets, NoneMet, IsMarked, IsStamped};
+ghost use Rattle.l4_links.specs.Inside.Nodes.{Slots, node_at, limbs, AreKeys, IsForest, HasMarks, CapsBelow, Closes, Sees, HasSeen, IsSame, Meets, NoneMet, IsMarked, IsStamped};
 
+use crate::keys::Link;
 use crate::nodes::{Node, Slot, cap_at, close, node_of, see};
 use l4_fpage::Rights;
 use slab::Slab;
 
 /// Where the walk goes on: after the run of a node that it has been over, and else at the next node.
-fn onward(node: &Node, stamp: u64) -> Option<usize>
+fn onward(node: &Node, stamp: u64) -> Link
     ensures over { node.now.mark ≡ stamp → 1 ≤ stamp → result ≡ node.now.end }
     ensures on { node.now.mark ≢ stamp → result ≡ node.now.next }
     ensures none { stamp ≡ 0 → result ≡ node.now.next }
@@ -32,8 +33,9 @@ pub(crate) fn cap_below(
     top: usize,
     cap: Rights,
     stamp: u64,
-    doomed: Option<usize>,
-) -> Option<usize>
+    doomed: Link,
+) -> Link
+    requires few { AreKeys nodes.old.slots }
     requires marks { HasMarks cap stamp nodes.old.slots }
     requires stamped { IsStamped stamp nodes.old.slots }
     requires there { node_at nodes.old.slots top ≢ None }
@@ -50,7 +52,7 @@ pub(crate) fn cap_below(
     let mut at = head.next;
     let mut doomed = doomed;
     for _ in 0..nodes.capacity() {
-        let Some(key) = at else {
+        let Some(key) = at.key() else {
             close(nodes, top, stamp, at);
             return doomed;
         };
@@ -78,7 +80,7 @@ fn was_seen(node: &Node, stamp: u64) -> bool
 }
 
 /// Notes that the walk has been over all that descends from the node, and that it has come by the node.
-fn close_seen(nodes: &mut Slab<Slot>, key: usize, stamp: u64, end: Option<usize>) -> bool
+fn close_seen(nodes: &mut Slab<Slot>, key: usize, stamp: u64, end: Link) -> bool
     ensures { (middle : Slots) × Closes key stamp end nodes.old.slots middle × Sees key stamp middle nodes.new.slots × (result ≡ false) }
 {
     close(nodes, key, stamp, end);
@@ -105,7 +107,7 @@ pub(crate) fn has_source(nodes: &mut Slab<Slot>, top: usize, stamp: u64) -> bool
     let depth = head.depth;
     let mut at = head.next;
     for _ in 0..nodes.capacity() {
-        let Some(key) = at else {
+        let Some(key) = at.key() else {
             return close_seen(nodes, top, stamp, at);
         };
         let Some(node) = node_of(nodes, key) else {
@@ -133,7 +135,7 @@ pub(crate) fn is_leaf(nodes: &Slab<Slot>, key: usize) -> bool
     let Some(node) = node_of(nodes, key) else {
         return false;
     };
-    let Some(next) = node.next else {
+    let Some(next) = node.next.key() else {
         return true;
     };
     let Some(after) = node_of(nodes, next) else {

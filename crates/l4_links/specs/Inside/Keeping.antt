@@ -11,7 +11,7 @@ use Rattle.l4_links.specs.declared.nodes.Slot.{Slot}
 use Rattle.l4_links.specs.declared.Links.TheInside.{Inside}
 use Rattle.l4_links.specs.Inside.Trees.{Limb}
 use Rattle.l4_links.specs.Inside.Orders.{first_of}
-use Rattle.l4_links.specs.Inside.Nodes.{Slots, Spot, spots, limbs, values, Worth, IsOf, IsLow, IsForest, IsStamped, HasMarks, HasSeen}
+use Rattle.l4_links.specs.Inside.Nodes.{Slots, Spot, spots, limbs, values, Worth, AreKeys, IsOf, IsLow, IsForest, IsStamped, HasMarks, HasSeen}
 use Rattle.l4_links.specs.Inside.Stacks.{HasStack}
 use Rattle.l4_links.specs.Entries.{Entries, Linked}
 
@@ -27,11 +27,12 @@ entries_of slots = map (option_map entry_of) slots
 abbrev pub seen : Inside → Linked
 seen a = record { entries = entries_of a.nodes.slots; spaces = a.pages.spaces }
 
--- the page tables name a key under a page just where the key is of it, and each page lies in a space that is there
+-- the page tables name a key under a page just where the key is of it, each page lies in a space that is there, and a node can keep each key
 pub record IsIndexed (slots : Slots) (pages : Tables) : Type 0 where
   pub names : (place : Place) (key : ℕ) → (key_of pages place.space place.page ≡ Some key) ↔ IsOf slots place key
   pub housed : (key : ℕ) (s : Spot) → spots slots key ≡ Some s → IsSpace pages s.place.space
   pub fits : (key : ℕ) (s : Spot) → spots slots key ≡ Some s → IsPage s.place.page
+  pub few : AreKeys slots
 
 -- a child has its parent's frame, and no other rights than the parent
 pub record LiesWithin (low high : Worth) : Type 0 where

@@ -6,6 +6,7 @@ use Rattle.l4_links.specs.declared.Place.{Place}
 use Rattle.l4_links.specs.declared.nodes.Node.{Node}
 use Rattle.l4_links.specs.declared.nodes.Slot.{Slot}
 use Rattle.l4_links.specs.Leads.{Leads}
+use Rattle.l4_links.specs.Inside.Keys.{IsKey}
 use Rattle.l4_links.specs.Inside.Trees.{Limb, IsTree, parent_at}
 use Rattle.l4_links.specs.Inside.Orders.{Link, IsOnce, IsIn, IsLinked, first_of, position}
 
@@ -25,6 +26,10 @@ pub record Spot : Type 0 where
 
 abbrev pub spots : Slots → ℕ → Option Spot
 spots slots key = option_map {T = Slot} (λ s. record { place = s.place; wanted = s.wanted }) (slot_at slots key)
+
+-- each key that has a slot is one that a node can keep
+abbrev pub AreKeys : Slots → Type 0
+AreKeys slots = (key : ℕ) (s : Spot) → spots slots key ≡ Some s → IsKey key
 
 -- the key is of the page
 abbrev pub IsOf : Slots → Place → ℕ → Type 0

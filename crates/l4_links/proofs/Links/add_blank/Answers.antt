@@ -1,9 +1,10 @@
-use Rattle.std.proofs.Common.{◌≡◌, IsTrue, None, false, refl, sym, ap, ◌∙◌, subst}
+use Rattle.std.proofs.Common.{◌≡◌, ℕ, IsTrue, None, false, refl, sym, ap, ◌∙◌, subst}
 use Rattle.std.specs.FinMap as map
 use Rattle.std.specs.FinSet as set
 use Rattle.slab.specs.Slab.{Slab}
 use Rattle.l4_links.specs.declared.nodes.Slot.{Slot}
 use Rattle.l4_links.specs.Entries.{Linked, AddsBlank, IsAt}
+use Rattle.l4_links.specs.Inside.Keys.{IsKey}
 use Rattle.l4_links.specs.Inside.Nodes.{Slots, spots}
 use Rattle.l4_links.specs.Inside.Stacks.{HasStack}
 use Rattle.l4_links.specs.Inside.Keeping.{entries_of, IsSound}
@@ -40,7 +41,7 @@ invariant_of-self-2 c = record {
   indexed =
       indexed_added c.self.inside.nodes.slots c.insert.new.self.slots c.self.inside.pages c.set.new.self c.args.place c.in_ok-key.key (record { place = c.args.place; wanted = false; node = None }) c.self.invariant.indexed
       (λ k at. c.requires.free k (subst (λ (s : Linked). IsAt s.entries c.args.place k) c.self.view_is ((is_at c.self.inside.nodes.slots c.args.place k).0 at)))
-      c.in_ok-key.ensures.was_vacant refl c.in_ok-key.ensures.updates.changed c.in_ok-key.ensures.updates.others (subst (λ (s : Linked). IsTrue (set.contains s.spaces c.args.place.space)) (sym c.self.view_is) c.requires.there) c.requires.fits
+      (subst (λ (k : ℕ). IsKey k) (sym c.in_ok-key.ensures.key) c.in_ok-vacant_key_fits.ensures.few) c.in_ok-key.ensures.was_vacant refl c.in_ok-key.ensures.updates.changed c.in_ok-key.ensures.updates.others (subst (λ (s : Linked). IsTrue (set.contains s.spaces c.args.place.space)) (sym c.self.view_is) c.requires.there) c.requires.fits
       (c.set.ensures.pages ∙ ap (λ (p : Pages). map.insert p (c.args.place.space, c.args.place.page) c.in_ok-key.key) c.prepare.ensures.pages) (c.set.ensures.spaces ∙ c.prepare.ensures.spaces);
   stack =
       stack_nodes c.self.inside.nodes.slots c.insert.new.self.slots c.self.inside.doomed

@@ -1,6 +1,7 @@
-use Rattle.std.proofs.Common.{subst}
+use Rattle.std.proofs.Common.{ℕ, Option, subst, sym}
 use Rattle.l4_links.specs.Entries.{Linked, Buries}
 use Rattle.l4_links.specs.Inside.Keeping.{entries_of}
+use Rattle.l4_links.specs.Inside.Stacks.{HasStack}
 use Rattle.l4_links.proofs.Stacking.{stack_empty}
 use Rattle.l4_links.proofs.Burying.{sound_buried, view_buries}
 use Rattle.l4_links.proofs.Links.bury.Goals as goal
@@ -14,7 +15,9 @@ invariant_of-self c = record {
       sound_buried c.self.inside.nodes.slots c.bury-self-inside.new.nodes.slots c.self.inside.first c.bury-self-inside.result c.self.inside.stamp c.fresh-self-inside.result c.self.inside.walk
       c.self.invariant.sound c.bury-self-inside.ensures.buries c.fresh-self-inside.ensures;
   indexed = c.bury-self-inside.ensures.indexed c.self.invariant.indexed;
-  stack = stack_empty c.bury-self-inside.new.nodes.slots c.bury-self-inside.ensures.buries.empty;
+  stack =
+      subst (λ (o : Option ℕ). HasStack c.bury-self-inside.new.nodes.slots o) (sym c.none-self-inside.ensures)
+      (stack_empty c.bury-self-inside.new.nodes.slots c.bury-self-inside.ensures.buries.empty);
 }
 
 pub returns-clause-buries : goal.returns-clause-buries

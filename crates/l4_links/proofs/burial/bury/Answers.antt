@@ -13,7 +13,7 @@ pub returns-in_default : goal.returns-in_default
 returns-in_default c = record {
   buries =
       buried_done c.args.nodes.now.slots c.loop.nodes.slots c.args.first c.loop.begin c.loop.counter
-      (subst (λ (o : Option ℕ). BuriedSoFar c.args.nodes.now.slots c.loop.nodes.slots c.args.first c.loop.begin o c.loop.counter) c.in_default.is c.loop.invariant.buried);
+      (subst (λ (o : Option ℕ). BuriedSoFar c.args.nodes.now.slots c.loop.nodes.slots c.args.first c.loop.begin o c.loop.counter) (sym c.key.ensures ∙ c.in_default.is) c.loop.invariant.buried);
   indexed = c.loop.invariant.indexed;
   spaces = c.loop.invariant.spaces;
 }
@@ -21,7 +21,7 @@ returns-in_default c = record {
 pub unreachable-requires : goal.unreachable-requires
 unreachable-requires c =
     buried_there c.args.nodes.now.slots c.loop.nodes.slots c.args.first c.loop.begin c.loop.counter c.in-Some.key
-    (subst (λ (o : Option ℕ). BuriedSoFar c.args.nodes.now.slots c.loop.nodes.slots c.args.first c.loop.begin o c.loop.counter) c.in-Some.is c.loop.invariant.buried)
+    (subst (λ (o : Option ℕ). BuriedSoFar c.args.nodes.now.slots c.loop.nodes.slots c.args.first c.loop.begin o c.loop.counter) (sym c.key.ensures ∙ c.in-Some.is) c.loop.invariant.buried)
     (sym c.node_of.ensures ∙ c.in_default-node_of.is)
 
 pub take_out-requires-clause-order : goal.take_out-requires-clause-order
@@ -31,7 +31,7 @@ pub loop-preserved : goal.loop-preserved
 loop-preserved c = record {
   buried =
       buried_more c.args.nodes.now.slots c.loop.nodes.slots c.take_out.new.nodes.slots c.args.first c.loop.begin c.first_without-begin.result c.loop.counter c.in-Some.key c.in-Some-node_of.node
-      (subst (λ (o : Option ℕ). BuriedSoFar c.args.nodes.now.slots c.loop.nodes.slots c.args.first c.loop.begin o c.loop.counter) c.in-Some.is c.loop.invariant.buried)
+      (subst (λ (o : Option ℕ). BuriedSoFar c.args.nodes.now.slots c.loop.nodes.slots c.args.first c.loop.begin o c.loop.counter) (sym c.key.ensures ∙ c.in-Some.is) c.loop.invariant.buried)
       (sym c.node_of.ensures ∙ c.in-Some-node_of.is) c.first_without-begin.ensures.begins c.first_without-begin.ensures.stays c.take_out.ensures.order c.take_out.ensures.out;
   indexed = λ i. c.take_out.ensures.indexed (c.loop.invariant.indexed i);
   spaces = c.take_out.ensures.spaces ∙ c.loop.invariant.spaces;

@@ -9,12 +9,12 @@ loop-init c = record {
   spaces = refl;
 }
 
-pub returns-in_default-at : goal.returns-in_default-at
-returns-in_default-at c =
+pub returns-in_default-key : goal.returns-in_default-key
+returns-in_default-key c =
     let old = c.args.nodes.now.slots in
     let cur = c.loop.nodes.slots in
     let depth = c.in-Some.head.depth in
-    let so_far : CutSoFar old cur c.args.top depth None c.loop.counter = subst (λ (o : Option ℕ). CutSoFar old cur c.args.top depth o c.loop.counter) c.in_default-at.is c.loop.invariant.cut in
+    let so_far : CutSoFar old cur c.args.top depth None c.loop.counter = subst (λ (o : Option ℕ). CutSoFar old cur c.args.top depth o c.loop.counter) (sym c.key.ensures ∙ c.in_default-key.is) c.loop.invariant.cut in
     record {
       prunes =
           pruned old cur c.args.top depth None c.loop.counter
@@ -28,19 +28,19 @@ unreachable-requires-in_default-node_of c =
     let old = c.args.nodes.now.slots in
     let cur = c.loop.nodes.slots in
     let depth = c.in-Some.head.depth in
-    let so_far = subst (λ (o : Option ℕ). CutSoFar old cur c.args.top depth o c.loop.counter) c.in-Some-at.is c.loop.invariant.cut in
-    cut_there old cur c.args.top depth c.loop.counter c.in-Some-at.key so_far (sym c.node_of-in-loop.ensures ∙ c.in_default-node_of.is)
+    let so_far = subst (λ (o : Option ℕ). CutSoFar old cur c.args.top depth o c.loop.counter) (sym c.key.ensures ∙ c.in-Some-key.is) c.loop.invariant.cut in
+    cut_there old cur c.args.top depth c.loop.counter c.in-Some-key.key so_far (sym c.node_of-in-loop.ensures ∙ c.in_default-node_of.is)
 
 pub returns-then-node-depth : goal.returns-then-node-depth
 returns-then-node-depth c =
     let old = c.args.nodes.now.slots in
     let cur = c.loop.nodes.slots in
     let depth = c.in-Some.head.depth in
-    let so_far = subst (λ (o : Option ℕ). CutSoFar old cur c.args.top depth o c.loop.counter) c.in-Some-at.is c.loop.invariant.cut in
+    let so_far = subst (λ (o : Option ℕ). CutSoFar old cur c.args.top depth o c.loop.counter) (sym c.key.ensures ∙ c.in-Some-key.is) c.loop.invariant.cut in
     record {
       prunes =
-          pruned old cur c.args.top depth (Some c.in-Some-at.key) c.loop.counter
-          (cut_at_key old cur c.args.top depth c.loop.counter c.in-Some-at.key c.in-Some.head c.in-Some-node_of.node so_far (sym c.node_of.ensures ∙ c.in-Some.is) refl
+          pruned old cur c.args.top depth (Some c.in-Some-key.key) c.loop.counter
+          (cut_at_key old cur c.args.top depth c.loop.counter c.in-Some-key.key c.in-Some.head c.in-Some-node_of.node so_far (sym c.node_of.ensures ∙ c.in-Some.is) refl
           (sym c.node_of-in-loop.ensures ∙ c.in-Some-node_of.is) c.if-node-depth.true);
       indexed = c.loop.invariant.indexed;
       spaces = c.loop.invariant.spaces;
@@ -51,10 +51,10 @@ loop-preserved c =
     let old = c.args.nodes.now.slots in
     let cur = c.loop.nodes.slots in
     let depth = c.in-Some.head.depth in
-    let so_far = subst (λ (o : Option ℕ). CutSoFar old cur c.args.top depth o c.loop.counter) c.in-Some-at.is c.loop.invariant.cut in
+    let so_far = subst (λ (o : Option ℕ). CutSoFar old cur c.args.top depth o c.loop.counter) (sym c.key.ensures ∙ c.in-Some-key.is) c.loop.invariant.cut in
     record {
       cut =
-          cut_more old cur c.cut_off.new.nodes.slots c.args.top depth c.loop.counter c.in-Some-at.key c.in-Some-node_of.node so_far
+          cut_more old cur c.cut_off.new.nodes.slots c.args.top depth c.loop.counter c.in-Some-key.key c.in-Some-node_of.node so_far
           (sym c.node_of-in-loop.ensures ∙ c.in-Some-node_of.is) c.if-node-depth.false c.cut_off.ensures.order c.cut_off.ensures.out;
       indexed = λ i. c.cut_off.ensures.indexed (c.loop.invariant.indexed i);
       spaces = c.cut_off.ensures.spaces ∙ c.loop.invariant.spaces;

@@ -1,25 +1,32 @@
-use Rattle.std.proofs.Common.{ℕ, arith, refl, subst, Some, None, false}
+use Rattle.std.proofs.Common.{ℕ, arith, refl, subst, Option, Some, None, false}
 use Rattle.l4_fpage.specs.Rights.{RightsSet}
 use Rattle.l4_links.specs.declared.nodes.Node.{Node}
-use Rattle.l4_links.specs.Inside.Nodes.{Comes}
+use Rattle.l4_links.specs.Inside.Nodes.{Comes, Writes, SetsNext, SetsPrev}
 use Rattle.l4_links.proofs.Depths.{depth_fits}
+use Rattle.l4_links.proofs.Writes.{slot_key, node_key}
 use Rattle.l4_links.proofs.Neighbours.{put_in, sprouts, forest_in, comes_in}
 use Rattle.l4_links.proofs.lists.link_under.Goals as goal
 
-abbrev child : Node → RightsSet → ℕ → ℕ → Node
-child above rights depth parent = record {
+pub to-under-requires : goal.to-under-requires
+to-under-requires c = node_key c.args.nodes.now.slots c.args.parent c.args.above c.requires.few c.requires.there
+
+pub to-at-requires : goal.to-at-requires
+to-at-requires c = slot_key c.args.nodes.now.slots c.args.key c.requires.few c.requires.room
+
+abbrev child : Node → RightsSet → ℕ → Option ℕ → Option ℕ → Node
+child above rights depth under none = record {
   frame = above.frame;
   rights = rights;
   source = false;
   granted = None;
-  parent = Some parent;
   depth = depth;
-  prev = Some parent;
-  next = above.next;
-  mark = 0;
-  end = None;
   seen = 0;
-  doomed = None;
+  mark = 0;
+  end = none;
+  parent = under;
+  prev = under;
+  next = above.next;
+  doomed = none;
 }
 
 pub child_depth-requires : goal.child_depth-requires
@@ -28,20 +35,37 @@ child_depth-requires c =
     let s = c.capacity-slots.ensures.slots in
     omega (arith, d, s)
 
+-- the child, and the writes, with the keys that their links are to
+abbrev stands : (c : goal.After-set_next) → Node
+stands c = child c.args.above c.intersection.result c.child_depth.result (Some c.args.parent) None
+
+written : (c : goal.After-set_next) → Writes c.args.key (Some (stands c)) c.args.nodes.now.slots c.write.new.nodes.slots
+written c =
+    subst (λ (o : Option ℕ). Writes c.args.key (Some (child c.args.above c.intersection.result c.child_depth.result o None)) c.args.nodes.now.slots c.write.new.nodes.slots) c.to-under.ensures
+    (subst (λ (o : Option ℕ). Writes c.args.key (Some (child c.args.above c.intersection.result c.child_depth.result c.to-under.result o)) c.args.nodes.now.slots c.write.new.nodes.slots) c.none-none.ensures c.write.ensures)
+
+after : (c : goal.After-set_next) → SetsPrev c.args.above.next (Some c.args.key) c.write.new.nodes.slots c.set_prev.new.nodes.slots
+after c = subst (λ (o : Option ℕ). SetsPrev c.args.above.next o c.write.new.nodes.slots c.set_prev.new.nodes.slots) c.to-at.ensures c.set_prev.ensures
+
+before : (c : goal.After-set_next) → SetsNext (Some c.args.parent) (Some c.args.key) c.set_prev.new.nodes.slots c.set_next.new.nodes.slots
+before c =
+    subst (λ (o : Option ℕ). SetsNext o (Some c.args.key) c.set_prev.new.nodes.slots c.set_next.new.nodes.slots) c.to-under.ensures
+    (subst (λ (o : Option ℕ). SetsNext c.to-under.result o c.set_prev.new.nodes.slots c.set_next.new.nodes.slots) c.to-at.ensures c.set_next.ensures)
+
 pub returns-clause-sprouts : goal.returns-clause-sprouts
 returns-clause-sprouts c =
-    sprouts c.args.nodes.now.slots c.write.new.nodes.slots c.set_prev.new.nodes.slots c.set_next.new.nodes.slots c.args.parent c.args.key c.args.above
-    (child c.args.above c.intersection.result c.child_depth.result c.args.parent) c.requires.there c.requires.blank refl c.child_depth.ensures (c.write.ensures.here c.requires.room) c.write.ensures.others c.set_prev.ensures c.set_next.ensures
+    sprouts c.args.nodes.now.slots c.write.new.nodes.slots c.set_prev.new.nodes.slots c.set_next.new.nodes.slots c.args.parent c.args.key c.args.above (stands c)
+    c.requires.there c.requires.blank refl c.child_depth.ensures ((written c).here c.requires.room) (written c).others (after c) (before c)
 
 pub returns-clause-comes : goal.returns-clause-comes
 returns-clause-comes c =
     subst (λ (r : RightsSet). Comes (record { frame = c.args.above.frame; rights = r; source = false; granted = None }) c.args.key c.args.nodes.now.slots c.set_next.new.nodes.slots) c.intersection.ensures
-    (comes_in c.args.nodes.now.slots c.write.new.nodes.slots c.set_prev.new.nodes.slots c.set_next.new.nodes.slots c.args.key (child c.args.above c.intersection.result c.child_depth.result c.args.parent)
-    (Some c.args.parent) (Some c.args.key) c.args.above.next (Some c.args.key) c.requires.blank c.requires.room c.write.ensures c.set_prev.ensures c.set_next.ensures refl refl)
+    (comes_in c.args.nodes.now.slots c.write.new.nodes.slots c.set_prev.new.nodes.slots c.set_next.new.nodes.slots c.args.key (stands c)
+    (Some c.args.parent) (Some c.args.key) c.args.above.next (Some c.args.key) c.requires.blank c.requires.room (written c) (after c) (before c) refl refl)
 
 pub returns-clause-forest : goal.returns-clause-forest
 returns-clause-forest c xs ys f =
     forest_in c.args.nodes.now.slots c.set_next.new.nodes.slots xs c.args.parent c.args.key ys f
-    (put_in c.args.nodes.now.slots c.write.new.nodes.slots c.set_prev.new.nodes.slots c.set_next.new.nodes.slots c.requires.forest.0 c.args.parent c.args.key c.args.above
-    (child c.args.above c.intersection.result c.child_depth.result c.args.parent) c.requires.forest.1.order c.requires.there c.requires.blank refl refl (c.write.ensures.here c.requires.room) c.write.ensures.others c.set_prev.ensures c.set_next.ensures)
+    (put_in c.args.nodes.now.slots c.write.new.nodes.slots c.set_prev.new.nodes.slots c.set_next.new.nodes.slots c.requires.forest.0 c.args.parent c.args.key c.args.above (stands c)
+    c.requires.forest.1.order c.requires.there c.requires.blank refl refl ((written c).here c.requires.room) (written c).others (after c) (before c))
     (returns-clause-sprouts c)
