@@ -33,7 +33,7 @@ use crate::turns::Ending;
 use arrayvec::ArrayVec;
 use l4_mapdb::{Forest, NoMemory};
 use l4_msg::{Item, MAX_WORDS, Message, Tag};
-use l4_threads::{Envelope, MAX_THREADS, Reply, SendPhase, State, ThreadId, Threads};
+use l4_threads::{Activity, Envelope, MAX_THREADS, Reply, SendPhase, ThreadId, Threads};
 use l4_unmap::unmap;
 
 /// A list of one thread, where its call ends.
@@ -301,11 +301,13 @@ fn not_running(threads: &Threads, number: u32) -> Option<Refused>
     ensures { MatchOption result (IsTrue (runs threads.now number))
         (λ e. (call : Call) (s : Mappings) → Steps (machine threads.now s) (Start number call) (Err e) (machine threads.now s)) }
 {
-    match threads.state(number) {
-        None => Some(Refused::UnknownThread),
-        Some(State::Running(_)) => None,
-        Some(_) => Some(Refused::Busy),
+    let Some(state) = threads.state(number) else {
+        return Some(Refused::UnknownThread);
+    };
+    if state.is_running() {
+        return None;
     }
+    Some(Refused::Busy)
 }
 
 /// Starts a call, and tells whether it has ended.
@@ -366,6 +368,7 @@ pub fn transfer_untold(
     requires { HaveSpaces forest.old.spaces threads.old }
     ensures { Steps (machine threads.old forest.old) (Transfers sender receiver) (transferred sender receiver result) (machine threads.new forest.new) }
 {
+    let mut words: ArrayVec<u32, MAX_WORDS> = ArrayVec::new();
     let Some(meeting) = meet(threads, sender, receiver) else {
         return Err(Refused::NotEnabled);
     };
@@ -379,7 +382,6 @@ pub fn transfer_untold(
     );
     let done = is_done(outcome);
     let (tag, rest) = tag_and_rest(meeting.sends.words.as_slice());
-    let mut words: ArrayVec<u32, MAX_WORDS> = ArrayVec::new();
     let _ = words.try_extend_from_slice(rest);
     let envelope = Envelope {
         tag,
@@ -419,14 +421,16 @@ pub fn transfer(
 }
 
 /// How a call that expires ends.
-fn expiry(state: &State) -> Ending
+fn expiry(state: &Activity) -> Ending
     ensures { reply_of result ≡ expiry state.now }
 {
-    match state {
-        State::Running(_) => Ending::Failed(false, 0),
-        State::Sending(sending) => Ending::Failed(sending.fault, 2),
-        State::Receiving(receiving) => Ending::Failed(receiving.fault, 3),
+    if let Some(sending) = state.sending() {
+        return Ending::Failed(sending.fault, 2);
     }
+    if let Some(receiving) = state.receiving() {
+        return Ending::Failed(receiving.fault, 3);
+    }
+    Ending::Failed(false, 0)
 }
 
 /// Ends a wait with a timeout of zero, and tells no more.

@@ -21,7 +21,7 @@ use arrayvec::ArrayVec;
 use l4_fpage::{Block, Fpage, Rights};
 use l4_mapdb::{Cause, Forest, ItemMove};
 use l4_msg::{Item, MAX_ITEMS, Move, item_moves};
-use l4_threads::{Envelope, Receiving, Sending, State, Thread, Threads};
+use l4_threads::{Envelope, Receiving, Sending, Thread, Threads};
 
 /// The two threads of an enabled transfer, and what each does.
 #[derive(Clone, Copy)]
@@ -41,12 +41,8 @@ pub fn meet(threads: &Threads, sender: u32, receiver: u32) -> Option<Meeting<'_>
     }
     let from = threads.thread(sender)?;
     let to = threads.thread(receiver)?;
-    let State::Sending(sends) = &from.state else {
-        return None;
-    };
-    let State::Receiving(takes) = &to.state else {
-        return None;
-    };
+    let sends = from.state.sending()?;
+    let takes = to.state.receiving()?;
     Some(Meeting {
         from,
         to,

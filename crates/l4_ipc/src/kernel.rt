@@ -8,7 +8,7 @@ use crate::acting::{enter_call, expire, expire_untold, start, transfer, transfer
 use crate::calls::Call;
 use crate::steps::{Answer, Lower, NextStep, Refused, Step};
 use l4_mapdb::{Forest, MAX_FRAMES, Mapping, NoMemory};
-use l4_threads::{ROOT_SPACE, Reply, State, Threads};
+use l4_threads::{ROOT_SPACE, Reply, Threads};
 use std::alloc::Global;
 use std::marker::Model;
 
@@ -220,10 +220,7 @@ impl Kernel {
     pub fn reply(&self, number: u32) -> Option<&Reply>
         ensures { option_copied result ≡ reply_of self.now.threads number }
     {
-        match self.threads.state(number)? {
-            State::Running(Some(reply)) => Some(reply),
-            _ => None,
-        }
+        self.threads.state(number)?.last_reply()
     }
 
     /// Whether there is a thread of this number that runs: it waits for nobody.

@@ -9,7 +9,7 @@ use Rattle.l4_threads.specs.Threads.{state_of}
 use Rattle.l4_ipc.specs.declared.steps.Answer.{Answer}
 use Rattle.l4_ipc.specs.declared.steps.Step.{Step}
 use Rattle.l4_ipc.specs.Machine.{Machine}
-use Rattle.l4_ipc.specs.Reading.{last_reply}
+use Rattle.l4_threads.specs.Activities.{last_reply}
 use Rattle.l4_ipc.specs.Steps.{Steps}
 use Rattle.l4_ipc.proofs.Waiting.{IsOver, over}
 use Rattle.l4_lock.specs.Receipts.{Says, Replied}

@@ -1,6 +1,6 @@
 use arrayvec::ArrayVec;
 use l4_fpage::Fpage;
-use l4_threads::{Receiving, Reply, Sending, Source, State, ThreadFault, ThreadId, Threads};
+use l4_threads::{Activity, Receiving, Reply, Sending, Source, ThreadFault, ThreadId, Threads};
 use std::test::Fail;
 
 const SIGMA0: ThreadId = ThreadId(0x4001);
@@ -36,20 +36,34 @@ fn grow(threads: &mut Threads, id: ThreadId) -> Result<u64, ThreadFault> {
 
 /// Lets a running thread send.
 fn send(threads: &mut Threads, number: u32, sending: Sending) -> Result<(), &'static str> {
-    let Some(State::Running(_)) = threads.state(number) else {
-        return Err("the thread does not run");
+    let Some(activity) = threads.state(number) else {
+        return Err("there is no such thread");
     };
+    if !activity.is_running() {
+        return Err("the thread does not run");
+    }
     threads.start_send(number, sending);
     Ok(())
 }
 
 /// Lets a running thread receive.
 fn receive(threads: &mut Threads, number: u32, receiving: Receiving) -> Result<(), &'static str> {
-    let Some(State::Running(_)) = threads.state(number) else {
-        return Err("the thread does not run");
+    let Some(activity) = threads.state(number) else {
+        return Err("there is no such thread");
     };
+    if !activity.is_running() {
+        return Err("the thread does not run");
+    }
     threads.start_receive(number, receiving);
     Ok(())
+}
+
+/// Whether the thread waits for its message to be taken.
+fn sends(threads: &Threads, number: u32) -> bool {
+    match threads.state(number) {
+        Some(activity) => activity.is_sending(),
+        None => false,
+    }
 }
 
 /// Ends a thread's call.
@@ -149,6 +163,10 @@ fn a_transfer_and_an_expiry(rt: HostRuntime) -> Result<(), Fail> {
     start_calls(&mut threads)?;
     assert_eq!(rt; threads.queue(), [1, 2].as_slice());
     assert_eq!(rt;
+        [sends(&threads, 1), sends(&threads, 2), sends(&threads, 3)],
+        [true, true, false]
+    );
+    assert_eq!(rt;
         [threads.first_sender(3), threads.first_sender(2)],
         [Some(2), None]
     );
@@ -218,8 +236,8 @@ fn ids(rt: HostRuntime) {
     assert!(rt; ThreadId(0x3fff).is_bad());
     assert!(rt; ThreadId(0xc040).is_bad());
     assert!(rt; matches!(Reply::failed(true, 4), Reply::FaultFailed(4)));
-    assert!(rt; State::Running(None).is_running());
-    assert!(rt; State::Sending(message(1, true)).is_sending());
+    assert!(rt; Activity::idle().is_running());
+    assert!(rt; !Activity::idle().is_sending());
     assert!(rt; Source::Thread(3).takes(3));
     assert!(rt; !Source::Thread(3).takes(2));
 }

@@ -13,7 +13,7 @@ use Rattle.l4_ipc.specs.declared.steps.Answer.{Answer}
 use Rattle.l4_ipc.specs.declared.steps.Step.{Step}
 use Rattle.l4_ipc.specs.declared.steps.Step.TheVariants.{Start, Transfer, Expire}
 use Rattle.l4_ipc.specs.Machine.{Machine}
-use Rattle.l4_ipc.specs.Reading.{last_reply}
+use Rattle.l4_threads.specs.Activities.{last_reply}
 use Rattle.l4_ipc.specs.Start.{enters}
 use Rattle.l4_ipc.specs.Steps.{Steps, IsNext}
 use Rattle.l4_ipc.specs.Following.{Done, AreNext}

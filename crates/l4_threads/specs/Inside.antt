@@ -1,3 +1,4 @@
+pub mod Activities
 pub mod Ending
 pub mod Entries
 pub mod Numbers

@@ -1,4 +1,5 @@
 pub mod Threads
+pub mod Activities
 pub mod Enabled
 pub mod Control
 pub mod Queue

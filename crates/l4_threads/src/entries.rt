@@ -7,7 +7,7 @@ ghost use Rattle.l4_threads.specs.Inside.Transfers.{sender_to, with_transfer, ex
 ghost use Rattle.l4_threads.specs.Enabled.{expires};
 ghost use Rattle.l4_threads.specs.Sizes.{max_threads};
 
-use crate::{MAX_THREADS, State, Thread};
+use crate::{MAX_THREADS, Thread};
 use arrayvec::ArrayVec;
 
 /// The number, or the one that there was if that is less.
@@ -43,13 +43,13 @@ pub fn add_transfer(transfers: &mut ArrayVec<(u32, u32), MAX_THREADS>, sender: u
 pub fn expires_beside(transfers: &[(u32, u32)], entry: &(u32, Thread)) -> bool
     ensures { result ≡ expires_beside transfers.now entry.now.0 entry.now.1.state }
 {
-    match &entry.1.state {
-        State::Running(_) => false,
-        State::Sending(sending) => {
-            sending.expires && sender_to(transfers, sending.to) != Some(entry.0)
-        }
-        State::Receiving(receiving) => receiving.expires && sender_to(transfers, entry.0).is_none(),
+    if let Some(sending) = entry.1.state.sending() {
+        return sending.expires && sender_to(transfers, sending.to) != Some(entry.0);
     }
+    let Some(receiving) = entry.1.state.receiving() else {
+        return false;
+    };
+    receiving.expires && sender_to(transfers, entry.0).is_none()
 }
 
 /// Where the number belongs in a rising list.
@@ -103,7 +103,7 @@ pub fn free_all(entries: &mut [(u32, Thread)], victim: u32)
     for i in 0..entries.len() {
         if entries[i].1.state.is_freed_by(victim) {
             let reply = entries[i].1.state.reply_without_partner();
-            entries[i].1.state = State::Running(Some(reply));
+            entries[i].1.state.run(reply);
         }
     }
 }

@@ -1,12 +1,13 @@
 //! Threads, their states and the queue of senders.
 #![tactic(auto)]
 
+mod activity;
 mod entries;
 mod focus;
 mod roster;
 mod table;
-mod writing;
 
+pub use activity::Activity;
 use arrayvec::ArrayVec;
 use l4_fpage::Fpage;
 use l4_msg::{Item, MAX_ITEMS, MAX_WORDS};
@@ -126,7 +127,7 @@ pub struct Envelope {
     pub from: ThreadId,
 }
 
-/// What a thread is doing.
+/// What a thread is doing, as contracts see an `Activity`.
 #[derive(Drop)]
 pub enum State {
     /// It waits for nobody, and has the reply of its last ended call, if a call has ended.
@@ -141,7 +142,7 @@ pub struct Thread {
     pub id: ThreadId,
     pub space: u64,
     pub pager: ThreadId,
-    pub state: State,
+    pub state: Activity,
 }
 
 /// Why a thread is not created, changed or deleted.
@@ -184,7 +185,7 @@ impl Default for Thread {
             id: ThreadId(0),
             space: 0,
             pager: ThreadId(0),
-            state: State::Running(None),
+            state: Activity::idle(),
         }
     }
 }
@@ -257,72 +258,6 @@ impl Source {
         match self {
             Source::Anyone => true,
             Source::Thread(number) => number == sender,
-        }
-    }
-}
-
-impl State {
-    ghost use Rattle.std.specs.Prelude.{◌≡◌};
-    ghost use Rattle.std.specs.Prelude.{MatchOption, Some, None};
-    ghost use Rattle.l4_threads.specs.Threads.{is_running, is_sending};
-    ghost use Rattle.l4_threads.specs.Inside.Ending.{frees, freed_reply};
-    ghost use Rattle.l4_threads.specs.Enabled.{expires};
-    ghost use Rattle.l4_threads.specs.Inside.Entries.{is_receiving};
-
-    /// Whether the thread waits for nobody.
-    pub fn is_running(&self) -> bool
-        ensures { result ≡ is_running self.now }
-    {
-        matches!(self, State::Running(_))
-    }
-
-    /// Whether the thread waits for its message to be taken.
-    pub fn is_sending(&self) -> bool
-        ensures { result ≡ is_sending self.now }
-    {
-        matches!(self, State::Sending(_))
-    }
-
-    /// Whether the thread waits for a message.
-    pub(crate) fn is_receiving(&self) -> bool
-        ensures { result ≡ is_receiving self.now }
-    {
-        matches!(self, State::Receiving(_))
-    }
-
-    /// Whether the thread waits with a timeout of zero.
-    pub(crate) fn expires(&self) -> bool
-        ensures { result ≡ expires self.now }
-    {
-        match self {
-            State::Running(_) => false,
-            State::Sending(sending) => sending.expires,
-            State::Receiving(receiving) => receiving.expires,
-        }
-    }
-
-    /// Whether the state ends with the thread of this number: it sends to it, or receives from it by name.
-    fn is_freed_by(&self, number: u32) -> bool
-        ensures { result ≡ frees number self.now }
-    {
-        match self {
-            State::Running(_) => false,
-            State::Sending(sending) => sending.to == number,
-            State::Receiving(receiving) => match receiving.from {
-                Source::Anyone => false,
-                Source::Thread(from) => from == number,
-            },
-        }
-    }
-
-    /// What the call replies whose partner is gone.
-    fn reply_without_partner(&self) -> Reply
-        ensures { result ≡ freed_reply self.now }
-    {
-        match self {
-            State::Running(_) => Reply::Gone,
-            State::Sending(sending) => Reply::failed(sending.fault, 4),
-            State::Receiving(receiving) => Reply::failed(receiving.fault, 5),
         }
     }
 }

@@ -7,7 +7,7 @@ ghost use Rattle.l4_threads.specs.Inside.Numbers.{IsFirst, IsNowhere, hint_count
 ghost use Rattle.l4_threads.specs.Sizes.{max_threads};
 
 use crate::entries::free_all;
-use crate::{Envelope, MAX_THREADS, Receiving, Reply, SendPhase, State, Thread, ThreadId};
+use crate::{Envelope, MAX_THREADS, Receiving, Reply, SendPhase, Thread, ThreadId};
 use arrayvec::ArrayVec;
 use l4_msg::Item;
 use std::marker::Model;
@@ -132,7 +132,7 @@ impl Roster {
         ensures { self.new ≡ changed_in self.old number (in_state (Running (Some reply))) }
     {
         if let Some(at) = self.place(number) {
-            self.entries[at].1.state = State::Running(Some(reply));
+            self.entries[at].1.state.run(reply);
         }
     }
 
@@ -143,7 +143,7 @@ impl Roster {
         ensures { self.new ≡ changed_in self.old number (in_state (Running (Some (Ipc (message_of envelope words.now))))) }
     {
         if let Some(at) = self.place(number) {
-            self.entries[at].1.state.reply(envelope, words);
+            self.entries[at].1.state.answer(envelope, words);
         }
     }
 

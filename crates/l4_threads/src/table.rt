@@ -10,7 +10,7 @@ use crate::entries::{
 use crate::focus::Focus;
 use crate::roster::{Roster, keep_senders, leave_if_sending};
 use crate::{
-    Deleted, Envelope, MAX_THREADS, Receiving, Reply, SendPhase, Sending, State, Thread,
+    Activity, Deleted, Envelope, MAX_THREADS, Receiving, Reply, SendPhase, Sending, Thread,
     ThreadFault, ThreadId,
 };
 use arrayvec::ArrayVec;
@@ -51,13 +51,19 @@ impl Model for Threads {
 ghost use Rattle.l4_threads.specs.Enabled.{offers_to};
 
 /// Whether the one state sends to the thread of the other, which takes its message.
-fn offers(sends: Option<&State>, takes: Option<&State>, sender: u32, receiver: u32) -> bool
+fn offers(sends: Option<&Activity>, takes: Option<&Activity>, sender: u32, receiver: u32) -> bool
     ensures { result ≡ offers_to (option_copied sends.entry) (option_copied takes.entry) sender receiver }
 {
-    let Some(State::Sending(sending)) = sends else {
+    let Some(from) = sends else {
         return false;
     };
-    let Some(State::Receiving(receiving)) = takes else {
+    let Some(sending) = from.sending() else {
+        return false;
+    };
+    let Some(to) = takes else {
+        return false;
+    };
+    let Some(receiving) = to.receiving() else {
         return false;
     };
     sending.to == receiver && receiving.from.takes(sender)
@@ -86,7 +92,7 @@ impl Threads {
                 id: ThreadId(0x4001),
                 space: 0,
                 pager: ThreadId(0),
-                state: State::Running(None),
+                state: Activity::idle(),
             },
         );
         threads.push(
@@ -95,7 +101,7 @@ impl Threads {
                 id: ThreadId(0x8001),
                 space: ROOT_SPACE,
                 pager: ThreadId(0x4001),
-                state: State::Running(None),
+                state: Activity::idle(),
             },
         );
         Threads {
@@ -114,7 +120,7 @@ impl Threads {
     }
 
     /// What the thread of this number does.
-    pub fn state(&self, number: u32) -> Option<&State>
+    pub fn state(&self, number: u32) -> Option<&Activity>
         ensures { option_copied result ≡ state_of self.now number }
     {
         let thread = self.thread(number)?;
@@ -176,9 +182,7 @@ impl Threads {
         ensures { result ≡ taker self.now sender }
     {
         let sends = self.state(sender);
-        let Some(State::Sending(sending)) = sends else {
-            return None;
-        };
+        let sending = sends?.sending()?;
         let receiver = sending.to;
         if offers(sends, self.state(receiver), sender, receiver) {
             Some(receiver)
@@ -242,15 +246,17 @@ impl Threads {
     pub fn can_expire(&self, number: u32) -> bool
         ensures { IsTrue result ↔ CanExpire self.now number }
     {
-        match self.state(number) {
-            Some(State::Sending(sending)) => {
-                let to = sending.to;
-                sending.expires && !self.can_transfer(number, to)
-            }
-            Some(State::Receiving(receiving)) => receiving.expires
-                && self.first_sender(number).is_none(),
-            _ => false,
+        let Some(state) = self.state(number) else {
+            return false;
+        };
+        if let Some(sending) = state.sending() {
+            let to = sending.to;
+            return sending.expires && !self.can_transfer(number, to);
         }
+        let Some(receiving) = state.receiving() else {
+            return false;
+        };
+        receiving.expires && self.first_sender(number).is_none()
     }
 
     /// The enabled transfers: of each, the sender's number and the receiver's.
@@ -462,7 +468,7 @@ impl Threads {
                 id,
                 space,
                 pager,
-                state: State::Running(None),
+                state: Activity::idle(),
             },
         );
         if space == self.next_space {

@@ -8,11 +8,11 @@ use Rattle.l4_threads.proofs.roster.Roster.reply.Goals as goal
 
 pub invariant_of-self : goal.invariant_of-self
 invariant_of-self c =
-    rw c.reply.ensures (written_numbers c.self.inside.entries.items c.args.self.now _ c.self.inside.numbers.items c.self.inside.hints c.args.number c.in-Some.at (in_state (Running (Some (Ipc (message_of c.args.envelope c.args.words.now))))) _ c.self.invariant c.self.view_is c.deref_mut.ensures.value c.in-Some.ensures)
+    rw c.answer.ensures (written_numbers c.self.inside.entries.items c.args.self.now _ c.self.inside.numbers.items c.self.inside.hints c.args.number c.in-Some.at (in_state (Running (Some (Ipc (message_of c.args.envelope c.args.words.now))))) _ c.self.invariant c.self.view_is c.deref_mut.ensures.value c.in-Some.ensures)
 
 pub returns-in-Some : goal.returns-in-Some
 returns-in-Some c =
-    rw (c.reply.ensures, ← c.self.view_is) (written c.self.inside.entries.items c.args.self.now _ c.args.number c.in-Some.at (in_state (Running (Some (Ipc (message_of c.args.envelope c.args.words.now))))) _ c.self.view_is c.deref_mut.ensures.value c.in-Some.ensures)
+    rw (c.answer.ensures, ← c.self.view_is) (written c.self.inside.entries.items c.args.self.now _ c.args.number c.in-Some.at (in_state (Running (Some (Ipc (message_of c.args.envelope c.args.words.now))))) _ c.self.view_is c.deref_mut.ensures.value c.in-Some.ensures)
 
 pub returns-in_default : goal.returns-in_default
 returns-in_default c = absurd (c.requires.there c.in_default.ensures)

@@ -6,11 +6,11 @@ use Rattle.l4_threads.proofs.roster.Roster.run.Goals as goal
 
 pub invariant_of-self : goal.invariant_of-self
 invariant_of-self c =
-    written_numbers c.self.inside.entries.items c.args.self.now _ c.self.inside.numbers.items c.self.inside.hints c.args.number c.in-Some.at (in_state (Running (Some c.args.reply))) _ c.self.invariant c.self.view_is c.deref_mut.ensures.value c.in-Some.ensures
+    rw c.run.ensures (written_numbers c.self.inside.entries.items c.args.self.now _ c.self.inside.numbers.items c.self.inside.hints c.args.number c.in-Some.at (in_state (Running (Some c.args.reply))) _ c.self.invariant c.self.view_is c.deref_mut.ensures.value c.in-Some.ensures)
 
 pub returns-in-Some : goal.returns-in-Some
 returns-in-Some c =
-    rw (← c.self.view_is) (written c.self.inside.entries.items c.args.self.now _ c.args.number c.in-Some.at (in_state (Running (Some c.args.reply))) _ c.self.view_is c.deref_mut.ensures.value c.in-Some.ensures)
+    rw (c.run.ensures, ← c.self.view_is) (written c.self.inside.entries.items c.args.self.now _ c.args.number c.in-Some.at (in_state (Running (Some c.args.reply))) _ c.self.view_is c.deref_mut.ensures.value c.in-Some.ensures)
 
 pub returns-in_default : goal.returns-in_default
 returns-in_default c = absurd (c.requires c.in_default.ensures)

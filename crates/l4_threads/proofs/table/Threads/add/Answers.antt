@@ -25,7 +25,7 @@ invariant_of-self c =
     let space_fits = c.requires.space_fits in
     let fits = c.self.invariant.table.fits in
     let same = c.if-space-self.true in
-    rw (c.push.ensures, number) (record {
+    rw (c.push.ensures, c.idle.ensures, number) (record {
       table = grown_table c.self.inside.threads c.self.inside.queue.items c.self.inside.next_space (c.self.inside.next_space + 1) (number_of c.args.id) c.args.id c.args.space c.args.pager c.self.invariant.table free room refl small (omega arith) (omega arith) (omega arith);
       focused = focused_grown c.self.inside.threads c.self.inside.focus (number_of c.args.id) (new_thread c.args.id c.args.space c.args.pager) free refl c.self.invariant.focused;
     })
@@ -41,7 +41,7 @@ invariant_of-self-else-space-self c =
     let space_fits = c.requires.space_fits in
     let fits = c.self.invariant.table.fits in
     let other = c.if-space-self.false in
-    rw (c.push.ensures, number) (record {
+    rw (c.push.ensures, c.idle.ensures, number) (record {
       table = grown_table c.self.inside.threads c.self.inside.queue.items c.self.inside.next_space c.self.inside.next_space (number_of c.args.id) c.args.id c.args.space c.args.pager c.self.invariant.table free room refl small (omega arith) (omega arith) (omega arith);
       focused = focused_grown c.self.inside.threads c.self.inside.focus (number_of c.args.id) (new_thread c.args.id c.args.space c.args.pager) free refl c.self.invariant.focused;
     })
@@ -50,12 +50,12 @@ pub returns-then-space-self : goal.returns-then-space-self
 returns-then-space-self c =
     let number : c.number.result ≡ number_of c.args.id = c.number.ensures.value in
     let free = (sym (thread_at_seen c.self.inside.threads c.self.inside.queue.items c.self.inside.next_space c.args.self.now c.self.view_is (number_of c.args.id)) ∙ c.requires.free) in
-    rw (← c.self.view_is, c.push.ensures, number)
+    rw (← c.self.view_is, c.push.ensures, c.idle.ensures, number)
     (seen_grown c.self.inside.threads c.self.inside.queue.items c.self.inside.next_space (c.self.inside.next_space + 1) c.args.id c.args.space c.args.pager free (sym (ap (λ b. if b then c.self.inside.next_space + 1 else c.self.inside.next_space) (eq-eqb c.args.space c.self.inside.next_space c.if-space-self.true))))
 
 pub returns-else-space-self : goal.returns-else-space-self
 returns-else-space-self c =
     let number : c.number.result ≡ number_of c.args.id = c.number.ensures.value in
     let free = (sym (thread_at_seen c.self.inside.threads c.self.inside.queue.items c.self.inside.next_space c.args.self.now c.self.view_is (number_of c.args.id)) ∙ c.requires.free) in
-    rw (← c.self.view_is, c.push.ensures, number)
+    rw (← c.self.view_is, c.push.ensures, c.idle.ensures, number)
     (seen_grown c.self.inside.threads c.self.inside.queue.items c.self.inside.next_space c.self.inside.next_space c.args.id c.args.space c.args.pager free (sym (ap (λ b. if b then c.self.inside.next_space + 1 else c.self.inside.next_space) (differ c.args.space c.self.inside.next_space c.if-space-self.false))))

@@ -1,0 +1,251 @@
+//! What threads are doing, in places that stay. A message has room for 64 words and 31 items, and a state that is written as one value
+//! would clear or copy all of that room; here only what is said is written.
+ghost use Rattle.std.specs.Prelude.{◌≡◌, ◌≤◌, length, Some, None};
+ghost use Rattle.std.specs.Option.{option_copied};
+ghost use Rattle.l4_msg.specs.Sizes.{max_words, max_items};
+ghost use Rattle.l4_threads.specs.Threads.{sending_of, message_of, is_running, is_sending};
+ghost use Rattle.l4_threads.specs.Activities.{last_reply, sending_in, receiving_in};
+ghost use Rattle.l4_threads.specs.Enabled.{expires};
+ghost use Rattle.l4_threads.specs.Inside.Ending.{frees, freed_reply};
+ghost use Rattle.l4_threads.specs.Inside.Entries.{is_receiving};
+ghost use Rattle.l4_threads.specs.declared.State.TheVariants.{Running, Sending as Sends, Receiving as Receives};
+ghost use Rattle.l4_threads.specs.declared.Reply.TheVariants.{Ipc};
+
+use crate::{Envelope, IpcReply, Receiving, Reply, SendPhase, Sending, Source, ThreadId};
+use arrayvec::ArrayVec;
+use l4_fpage::Fpage;
+use l4_msg::Item;
+use std::marker::Model;
+
+/// Which of an activity's places say what the thread is doing.
+#[derive(Clone, Copy)]
+enum Phase {
+    /// None: the thread runs, and none of its calls has ended.
+    New,
+    /// The reply: the thread runs, and its last call ended with it.
+    Running,
+    /// The send phase.
+    Sending,
+    /// The receive phase.
+    Receiving,
+}
+
+/// What a thread is doing. Contracts see it as a `State`.
+#[derive(Drop)]
+pub struct Activity {
+    phase: Phase,
+    reply: Reply,
+    sending: Sending,
+    receiving: Receiving,
+}
+
+impl Model for Activity {
+    ghost use Rattle.l4_threads.specs.declared.State.{State};
+    ghost use Rattle.l4_threads.specs.contracts.State as state;
+    ghost use Rattle.l4_threads.specs.Inside.Activities.{shown};
+
+    ghost Value = { State };
+
+    ghost coded = { state.the_row.coded };
+
+    ghost view = { shown };
+}
+
+/// Puts these elements into the place of those that the list has.
+fn refill<T: Copy + Default + Drop, const N: usize>(list: &mut ArrayVec<T, N>, elements: &[T])
+    requires { length elements.now ≤ N }
+    ensures { list.new.items ≡ elements.now }
+{
+    list.clear();
+    let _ = list.try_extend_from_slice(elements);
+}
+
+/// The reply of an Ipc that has nothing in it yet.
+fn blank_reply() -> IpcReply {
+    IpcReply {
+        tag: 0,
+        error: 0,
+        from: ThreadId(0),
+        words: ArrayVec::new(),
+    }
+}
+
+impl Activity {
+    /// What a new thread is doing: it waits for nobody, and none of its calls has ended.
+    pub fn idle() -> Activity
+        ensures { result ≡ Running None }
+    {
+        Activity {
+            phase: Phase::New,
+            reply: Reply::Ipc(blank_reply()),
+            sending: Sending {
+                words: ArrayVec::new(),
+                items: ArrayVec::new(),
+                to: 0,
+                expires: false,
+                then: None,
+                fault: false,
+            },
+            receiving: Receiving {
+                from: Source::Anyone,
+                window: Fpage::Nil,
+                expires: false,
+                fault: false,
+            },
+        }
+    }
+
+    /// The reply of the thread's last ended call, where it waits for nobody and a call has ended.
+    pub fn last_reply(&self) -> Option<&Reply>
+        ensures { option_copied result ≡ last_reply self.now }
+    {
+        match self.phase {
+            Phase::Running => Some(&self.reply),
+            _ => None,
+        }
+    }
+
+    /// The send phase that has begun, where the thread waits for its message to be taken.
+    pub fn sending(&self) -> Option<&Sending>
+        ensures { option_copied result ≡ sending_in self.now }
+    {
+        match self.phase {
+            Phase::Sending => Some(&self.sending),
+            _ => None,
+        }
+    }
+
+    /// The receive phase that has begun, where the thread waits for a message.
+    pub fn receiving(&self) -> Option<&Receiving>
+        ensures { option_copied result ≡ receiving_in self.now }
+    {
+        match self.phase {
+            Phase::Receiving => Some(&self.receiving),
+            _ => None,
+        }
+    }
+
+    /// Whether the thread waits for nobody.
+    pub fn is_running(&self) -> bool
+        ensures { result ≡ is_running self.now }
+    {
+        matches!(self.phase, Phase::New | Phase::Running)
+    }
+
+    /// Whether the thread waits for its message to be taken.
+    pub fn is_sending(&self) -> bool
+        ensures { result ≡ is_sending self.now }
+    {
+        matches!(self.phase, Phase::Sending)
+    }
+
+    /// Whether the thread waits for a message.
+    pub(crate) fn is_receiving(&self) -> bool
+        ensures { result ≡ is_receiving self.now }
+    {
+        matches!(self.phase, Phase::Receiving)
+    }
+
+    /// Whether the thread waits with a timeout of zero.
+    pub(crate) fn expires(&self) -> bool
+        ensures { result ≡ expires self.now }
+    {
+        match self.phase {
+            Phase::New => false,
+            Phase::Running => false,
+            Phase::Sending => self.sending.expires,
+            Phase::Receiving => self.receiving.expires,
+        }
+    }
+
+    /// Whether the activity ends with the thread of this number: it sends to it, or receives from it by name.
+    pub(crate) fn is_freed_by(&self, number: u32) -> bool
+        ensures { result ≡ frees number self.now }
+    {
+        match self.phase {
+            Phase::New => false,
+            Phase::Running => false,
+            Phase::Sending => self.sending.to == number,
+            Phase::Receiving => match self.receiving.from {
+                Source::Anyone => false,
+                Source::Thread(from) => from == number,
+            },
+        }
+    }
+
+    /// What the call replies whose partner is gone.
+    pub(crate) fn reply_without_partner(&self) -> Reply
+        ensures { result ≡ freed_reply self.now }
+    {
+        match self.phase {
+            Phase::New => Reply::Gone,
+            Phase::Running => Reply::Gone,
+            Phase::Sending => Reply::failed(self.sending.fault, 4),
+            Phase::Receiving => Reply::failed(self.receiving.fault, 5),
+        }
+    }
+
+    /// The thread sends.
+    pub(crate) fn send(&mut self, words: &[u32], items: &[Item], phase: SendPhase)
+        requires words { length words.now ≤ max_words }
+        requires items { length items.now ≤ max_items }
+        ensures { self.new ≡ Sends (sending_of words.now items.now phase) }
+    {
+        refill(&mut self.sending.words, words);
+        refill(&mut self.sending.items, items);
+        self.sending.to = phase.to;
+        self.sending.expires = phase.expires;
+        self.sending.then = phase.then;
+        self.sending.fault = phase.fault;
+        self.phase = Phase::Sending;
+    }
+
+    /// The thread receives.
+    pub(crate) fn receive(&mut self, receiving: Receiving)
+        ensures { self.new ≡ Receives receiving }
+    {
+        self.receiving = receiving;
+        self.phase = Phase::Receiving;
+    }
+
+    /// The thread runs on, and its call replies this.
+    pub(crate) fn run(&mut self, reply: Reply)
+        ensures { self.new ≡ Running (Some reply) }
+    {
+        self.reply = reply;
+        self.phase = Phase::Running;
+    }
+
+    /// The thread runs on, and its Ipc replies this.
+    pub(crate) fn answer(&mut self, envelope: Envelope, words: &[u32])
+        requires { length words.now ≤ max_words }
+        ensures { self.new ≡ Running (Some (Ipc (message_of envelope words.now))) }
+    {
+        self.phase = Phase::Running;
+        write_reply(&mut self.reply, envelope, words);
+    }
+}
+
+/// Lets the reply be that of an Ipc with this message. The room of an Ipc's reply is used again.
+fn write_reply(reply: &mut Reply, envelope: Envelope, words: &[u32])
+    requires { length words.now ≤ max_words }
+    ensures { reply.new ≡ Ipc (message_of envelope words.now) }
+{
+    if let Reply::Ipc(ipc) = reply {
+        return fill_reply(ipc, envelope, words);
+    }
+    let mut ipc = blank_reply();
+    fill_reply(&mut ipc, envelope, words);
+    *reply = Reply::Ipc(ipc);
+}
+
+/// Writes the message of an Ipc's reply.
+fn fill_reply(reply: &mut IpcReply, envelope: Envelope, words: &[u32])
+    requires { length words.now ≤ max_words }
+    ensures { reply.new ≡ message_of envelope words.now }
+{
+    reply.tag = envelope.tag;
+    reply.error = envelope.error;
+    reply.from = envelope.from;
+    refill(&mut reply.words, words);
+}
