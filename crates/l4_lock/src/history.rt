@@ -1,6 +1,6 @@
 //! The history as a list of entries.
-ghost use Rattle.std.specs.Prelude.{◌≡◌, ◌≢◌, ◌+◌, ◌<◌, ◌^◌, ◌≤◌, ◌++◌, ◌∷◌, [], ℕ, drop, nat_eq, length, slice_get, OnOk};
-ghost use Rattle.l4_lock.specs.Lists.{EntryList, entry_list, entry_outline};
+ghost use Rattle.std.specs.Prelude.{◌≡◌, ◌≢◌, ◌+◌, ◌<◌, ◌^◌, ◌≤◌, ◌++◌, ◌∷◌, [], ℕ, drop, nat_eq, length, slice_get, OnOk, IfSome, Some};
+ghost use Rattle.l4_lock.specs.Lists.{EntryList, entry_list, entry_outline, brief_outline};
 ghost use Rattle.std.specs.Option.{option_map};
 ghost use Rattle.l4_ipc.specs.declared.steps.Step.TheVariants.{Start};
 ghost use Rattle.l4_packed.specs.Words.{Gives};
@@ -9,7 +9,7 @@ ghost use Rattle.l4_ipc.specs.NextSteps.{step_of, answer_of};
 
 use crate::entries::{Entry, EntryOutline};
 use crate::packed::{read_entry_outline, write_next, write_own_start, write_start};
-use crate::recent::{Recent, Told};
+use crate::recent::{BriefEntry, Recent};
 use l4_ipc::{Answer, Call, NextStep};
 use l4_packed::{ItemsFrom, PackedList, Record};
 use std::alloc::{AllocError, Global};
@@ -75,14 +75,18 @@ impl History {
     pub fn outline(&self, at: usize, entry: &mut EntryOutline) -> Option<()>
         ensures { Gives (λ _. entry.new) result (option_map entry_outline (slice_get self.now.entries at)) }
     {
-        if let Some(told) = self.recent.at(at, self.entries.len()) {
-            told.put(entry);
-            return Some(());
-        }
         match self.entries.words(at) {
             Some(words) => read_entry_outline(words, entry),
             None => None,
         }
+    }
+
+    /// The entry at this place in a few words, where it is one of the last two and has so few. None for any other, and for the start of
+    /// a Delete. It costs least, as nothing is read back.
+    pub fn brief(&self, at: usize) -> Option<BriefEntry>
+        ensures { IfSome result (λ brief. option_map entry_outline (slice_get self.now.entries at) ≡ Some (brief_outline brief)) }
+    {
+        self.recent.at(at, self.entries.len())
     }
 
     /// The entries from this place on.
@@ -109,7 +113,7 @@ impl History {
     {
         write_next(&mut self.packed, seat, next);
         self.entries.push(&self.packed.words());
-        self.recent.add(Some(Told::Next(seat, next)));
+        self.recent.add(Some(BriefEntry::Next(seat, next)));
     }
 
     /// Appends the entry of the start of a call, for which there is room.
@@ -131,6 +135,6 @@ impl History {
     {
         write_own_start(&mut self.packed, number, call, ended);
         self.entries.push(&self.packed.words());
-        self.recent.add(Some(Told::Own(number, ended)));
+        self.recent.add(Some(BriefEntry::Own(number, ended)));
     }
 }

@@ -22,6 +22,7 @@ pub use l4_board::{Board, Watch};
 pub use l4_packed::StepOutline;
 pub use locked::{Locked, MAX_ENTRIES, MAX_STEPS};
 pub use receipts::{Receipts, ReceiptsFrom};
+pub use recent::BriefEntry;
 pub use refusals::{Entered, LockRefusal};
 pub use seats::Seat;
 pub use shared::{KernelLock, LockGate};

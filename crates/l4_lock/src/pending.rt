@@ -105,6 +105,7 @@ impl PendingCall {
     }
 
     /// The call ends in the entry of this place with this reply.
+    #[inline(always)]
     fn end_with(&mut self, place: usize, reply: &Reply)
         requires { (p : APending) × (self.old ≡ Some p) × (p.ended ≡ None) }
         ensures { self.new ≡ option_map (λ (p : APending). record p { ended = Some (record { entry = place; reply = reply.now }) }) self.old }

@@ -69,6 +69,7 @@ fn note_one(accounts: &mut Vec<Account>, kernel: &Kernel, number: u32, place: us
 }
 
 /// Notes at each account that these calls ended in the entry of this place.
+#[inline(always)]
 fn note_all(accounts: &mut Vec<Account>, kernel: &Kernel, ended: &[u32], place: usize)
     requires { IsOnce (numbers accounts.old.items) }
     ensures { accounts.new.items ≡ map (noted kernel.now ended.now place) accounts.old.items }
@@ -145,6 +146,28 @@ fn start_untold(
     Ok(())
 }
 
+/// `start` of any call. All calls that end in it are noted. It is apart from `start`, as its answer has room for the numbers of all threads,
+/// which no other call is to clear.
+#[inline(never)]
+fn start_told(
+    kernel: &mut Kernel,
+    history: &mut History,
+    accounts: &mut Vec<Account>,
+    number: u32,
+    call: &Call,
+) -> Result<(), Refused>
+    requires room { length history.old.entries < history.old.room }
+    requires once { IsOnce (numbers accounts.old.items) }
+    ensures ok { IfOk result (λ _. IsStarted number call.now kernel.old kernel.new history.old history.new accounts.old.items accounts.new.items) }
+    ensures err { IfErr result (λ r. Steps kernel.old (Start number call.now) (Err r) kernel.new) }
+    ensures same { OnErr result ((history.new.entries ≡ history.old.entries) × (accounts.new.items ≡ accounts.old.items)) }
+{
+    let answer = kernel.start(number, call)?;
+    note_all(accounts, kernel, answer.ended.as_slice(), history.len());
+    history.push_start(number, call, &answer);
+    Ok(())
+}
+
 /// Does the step that starts a call, notes all calls that end in it, and appends its entry.
 fn start(
     kernel: &mut Kernel,
@@ -159,13 +182,10 @@ fn start(
     ensures err { IfErr result (λ r. Steps kernel.old (Start number call.now) (Err r) kernel.new) }
     ensures same { OnErr result ((history.new.entries ≡ history.old.entries) × (accounts.new.items ≡ accounts.old.items)) }
 {
-    if !is_delete(call) {
-        return start_untold(kernel, history, accounts, number, call);
+    if is_delete(call) {
+        return start_told(kernel, history, accounts, number, call);
     }
-    let answer = kernel.start(number, call)?;
-    note_all(accounts, kernel, answer.ended.as_slice(), history.len());
-    history.push_start(number, call, &answer);
-    Ok(())
+    start_untold(kernel, history, accounts, number, call)
 }
 
 /// Begins a call, and does the steps that come next until there is none. After a refusal nothing has changed.

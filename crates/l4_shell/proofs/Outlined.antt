@@ -14,7 +14,7 @@ use Rattle.l4_lock.specs.Lists.{entry_outline}
 use Rattle.l4_text.specs.Streams.{Tells}
 use Rattle.l4_text.proofs.Telling.{tells_is}
 use Rattle.l4_shell.specs.Sessions.{step_line, ended_text, is_among}
-use Rattle.l4_shell.specs.Inside.Telling.{entry_text, outline_line, outline_text}
+use Rattle.l4_shell.specs.Inside.Telling.{entry_text, outline_line, outline_text, TellsEntry}
 use Rattle.l4_shell.proofs.Going.{Telling, telling_more}
 
 line_is : (step : Step) (outcome : Outcome) → outline_line (step_outline step) outcome ≡ step_line step outcome
@@ -35,13 +35,7 @@ with_entry m entries first thread place has has' written a b before s t read x (
     (tells_is a b s t _ _ (ap (outline_text read) same ∙ text_is read entry) told)
     (has_is ∙ ap (λ (y : EntryOutline). is_among thread y.answer.ended.items) same)
 
-pub telling_outline : (m : Machine) (entries : List Entry) (first thread place : ℕ) (has has' : Bool) (written a b : Option (List ℕ)) (before s t : List ℕ × Bool) (read : Machine) (x : EntryOutline)
-    → Telling m entries first thread place has written a before s → Some x ≡ option_map entry_outline (slice_get entries place) → read ≡ m → Tells a b s t (outline_text read x) → has' ≡ is_among thread x.answer.ended.items
-    → Telling m entries first thread (place + 1) (has || has') written b before t
-telling_outline m entries first thread place has has' written a b before s t read x g here same_machine told has_is =
-    with_entry m entries first thread place has has' written a b before s t read x (slice_get entries place) g refl here same_machine told has_is
-
--- there is no outline where there is no entry
-pub none_there : (o : Option Entry) → None ≡ option_map entry_outline o → o ≡ None
-none_there None e = refl
-none_there (Some entry) e = absurd (none-some _ e)
+pub telling_entry : (m : Machine) (entries : List Entry) (first thread place : ℕ) (has has' : Bool) (written a b : Option (List ℕ)) (before s t : List ℕ × Bool)
+    → Telling m entries first thread place has written a before s → TellsEntry m (slice_get entries place) thread has' a b s t → Telling m entries first thread (place + 1) (has || has') written b before t
+telling_entry m entries first thread place has has' written a b before s t g told =
+    with_entry m entries first thread place has has' written a b before s t m told.outline (slice_get entries place) g refl (sym told.is) refl told.tells told.ended_is

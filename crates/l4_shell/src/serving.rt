@@ -1,15 +1,18 @@
 //! What follows a call's start: the steps that come next, and the acts of served threads.
-ghost use Rattle.std.specs.Prelude.{◌≡◌, ℕ, List, MatchResult, drop};
+ghost use Rattle.std.specs.Prelude.{◌≡◌, ℕ, List, None, MatchOption, MatchResult, drop, slice_get};
+ghost use Rattle.l4_ipc.specs.OwnCall.{ended_if};
+ghost use Rattle.l4_ipc.specs.NextSteps.{answer_of};
+ghost use Rattle.l4_lock.specs.Lists.{brief_outline};
 ghost use Rattle.l4_text.specs.Streams.{Tells};
 ghost use Rattle.l4_shell.specs.Sessions.{session, ended_text, is_among, waiting_text, GoesOn};
-ghost use Rattle.l4_shell.specs.Inside.Telling.{outline_line, outline_text, TellsEntries, TellsCall, TellsNothing, TellsActs};
+ghost use Rattle.l4_shell.specs.Inside.Telling.{outline_line, outline_text, next_text, TellsEntry, TellsEntries, TellsCall, TellsNothing, TellsActs};
 
 use crate::refusals::lock_code;
 use crate::requests::LentCall;
 use crate::texts::refused_act_text;
 use l4_answers::{add_waits, expire_text, put_reply, transfer_text};
-use l4_ipc::{Answer, Kernel, Outcome};
-use l4_lock::{EntryOutline, LockRefusal, StepOutline};
+use l4_ipc::{Answer, Kernel, NextStep, Outcome};
+use l4_lock::{BriefEntry, EntryOutline, LockRefusal, StepOutline};
 use l4_seats::SeatedKernel;
 use l4_servers::Servers;
 use l4_text::{Output, Text};
@@ -68,6 +71,108 @@ fn tell_waiting<W: Write>(thread: u32, ended: bool, out: &mut Output, writer: &m
     }
 }
 
+/// Tells how a thread's call ended, if it has.
+fn tell_own<W: Write>(kernel: &Kernel, thread: u32, ended: bool, out: &mut Output, writer: &mut W)
+    ensures { Tells (W.contents writer.old) (W.contents writer.new) out.old out.new
+        (ended_text kernel.now (ended_if ended thread)) }
+{
+    if ended {
+        put_reply(thread, kernel.reply(thread), out, writer);
+    }
+}
+
+/// Tells a step that came next, and how the calls ended that ended in it.
+fn tell_next<W: Write>(kernel: &Kernel, next: NextStep, out: &mut Output, writer: &mut W)
+    ensures { Tells (W.contents writer.old) (W.contents writer.new) out.old out.new
+        (next_text kernel.now next) }
+{
+    match next {
+        NextStep::Transfer(sender, receiver, outcome, ends) => {
+            out.put(writer, &transfer_text(sender, receiver, outcome));
+            tell_own(kernel, sender, ends, out, writer);
+            put_reply(receiver, kernel.reply(receiver), out, writer);
+        }
+        NextStep::Expire(waiter) => {
+            out.put(writer, &expire_text(waiter));
+            put_reply(waiter, kernel.reply(waiter), out, writer);
+        }
+    }
+}
+
+/// Tells an entry that is known in a few words.
+fn tell_brief<W: Write>(kernel: &Kernel, brief: BriefEntry, out: &mut Output, writer: &mut W)
+    ensures { Tells (W.contents writer.old) (W.contents writer.new) out.old out.new
+        (outline_text kernel.now (brief_outline brief)) }
+{
+    match brief {
+        BriefEntry::Own(thread, ended) => tell_own(kernel, thread, ended, out, writer),
+        BriefEntry::Next(_, next) => tell_next(kernel, next, out, writer),
+    }
+}
+
+/// Whether the thread's call ended in a step that came next.
+fn has_ended_next(next: NextStep, thread: u32) -> bool
+    ensures { result ≡ is_among thread (answer_of next).ended.items }
+{
+    match next {
+        NextStep::Transfer(sender, receiver, _, ends) => {
+            (ends && sender == thread) || receiver == thread
+        }
+        NextStep::Expire(waiter) => waiter == thread,
+    }
+}
+
+/// Whether the thread's call ended in an entry that is known in a few words.
+fn has_ended_brief(brief: BriefEntry, thread: u32) -> bool
+    ensures { result ≡ is_among thread (brief_outline brief).answer.ended.items }
+{
+    match brief {
+        BriefEntry::Own(number, ended) => ended && number == thread,
+        BriefEntry::Next(_, next) => has_ended_next(next, thread),
+    }
+}
+
+/// Tells the entry at a place, which is read back. Answers whether the thread's call ended in it; None where there is no entry. It is apart
+/// from `tell_at`, as an entry has room for the numbers of all threads, which no other way is to clear.
+#[inline(never)]
+fn tell_stored<W: Write>(
+    kernel: &SeatedKernel,
+    place: usize,
+    thread: u32,
+    out: &mut Output,
+    writer: &mut W,
+) -> Option<bool>
+    ensures { MatchOption result (slice_get kernel.now.history place ≡ None)
+        (λ ended. TellsEntry kernel.now.machine (slice_get kernel.now.history place) thread ended
+        (W.contents writer.old) (W.contents writer.new) out.old out.new) }
+{
+    let mut entry = EntryOutline::new();
+    let Some(()) = kernel.history().outline(place, &mut entry) else {
+        return None;
+    };
+    tell(kernel.kernel(), &entry, out, writer);
+    Some(has_ended(&entry.answer, thread))
+}
+
+/// Tells the entry at a place. Answers whether the thread's call ended in it; None where there is no entry.
+fn tell_at<W: Write>(
+    kernel: &SeatedKernel,
+    place: usize,
+    thread: u32,
+    out: &mut Output,
+    writer: &mut W,
+) -> Option<bool>
+    ensures { MatchOption result (slice_get kernel.now.history place ≡ None)
+        (λ ended. TellsEntry kernel.now.machine (slice_get kernel.now.history place) thread ended
+        (W.contents writer.old) (W.contents writer.new) out.old out.new) }
+{
+    if let Some(brief) = kernel.history().brief(place) {
+        tell_brief(kernel.kernel(), brief, out, writer);
+        return Some(has_ended_brief(brief, thread));
+    }
+    tell_stored(kernel, place, thread, out, writer)
+}
+
 /// Tells the entries from a place on. Answers whether the thread's call ended in one of them.
 fn tell_entries<W: Write>(
     kernel: &SeatedKernel,
@@ -80,13 +185,11 @@ fn tell_entries<W: Write>(
         (W.contents writer.old) (W.contents writer.new) out.old out.new }
 {
     let mut ended = false;
-    let mut entry = EntryOutline::new();
     for place in first..kernel.history().len() {
-        let Some(()) = kernel.history().outline(place, &mut entry) else {
+        let Some(own) = tell_at(kernel, place, thread, out, writer) else {
             return ended;
         };
-        tell(kernel.kernel(), &entry, out, writer);
-        ended = ended | has_ended(&entry.answer, thread);
+        ended = ended | own;
     }
     ended
 }

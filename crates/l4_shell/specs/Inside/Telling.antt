@@ -1,15 +1,20 @@
 -- What parts of a line's carrying out do and tell, before what is held back goes out.
-use Rattle.std.specs.Prelude.{◌≡◌, ℕ, ◌≤◌, Bool, List, [], ◌++◌, length, Option}
+use Rattle.std.specs.Prelude.{◌≡◌, ℕ, ◌≤◌, Bool, List, [], ◌++◌, length, Option, Some}
+use Rattle.std.specs.Option.{option_map}
 use Rattle.std.specs.List.{flat_map}
 use Rattle.l4_ipc.specs.Machine.{Machine}
 use Rattle.l4_ipc.specs.declared.calls.Call.{Call}
 use Rattle.l4_ipc.specs.declared.steps.Step.TheVariants.{Start}
 use Rattle.l4_ipc.specs.declared.steps.Outcome.{Outcome}
+use Rattle.l4_ipc.specs.declared.steps.NextStep.{NextStep}
+use Rattle.l4_ipc.specs.NextSteps.{step_of, answer_of}
+use Rattle.l4_packed.specs.Outlines.{step_outline}
 use Rattle.l4_packed.specs.declared.steps.StepOutline.{StepOutline}
 use Rattle.l4_packed.specs.declared.steps.StepOutline.TheVariants.{Start as Starts, Transfer as Transfers, Expire as Expires}
 use Rattle.l4_lock.specs.declared.entries.Entry.{Entry}
 use Rattle.l4_lock.specs.declared.entries.EntryOutline.{EntryOutline}
 use Rattle.l4_lock.specs.declared.refusals.LockRefusal.{LockRefusal}
+use Rattle.l4_lock.specs.Lists.{entry_outline}
 use Rattle.l4_seats.specs.Seated.{Seated, Enters as EntersCall, Refuses as RefusesCall}
 use Rattle.l4_text.specs.Streams.{Tells}
 use Rattle.l4_answers.specs.Refusals.{refused_text}
@@ -29,6 +34,17 @@ outline_line (Expires n) outcome = expire_text n
 
 abbrev pub outline_text : Machine → EntryOutline → List ℕ
 outline_text m entry = outline_line entry.step entry.answer.outcome ++ ended_text m entry.answer.ended.items
+
+-- what is told of a step that came next
+abbrev pub next_text : Machine → NextStep → List ℕ
+next_text m next = outline_line (step_outline (step_of next)) (answer_of next).outcome ++ ended_text m (answer_of next).ended.items
+
+-- the entry, if there is one, was told; the thread's call ended in it or not
+pub record TellsEntry (m : Machine) (entry : Option Entry) (thread : ℕ) (ended : Bool) (written now : Option (List ℕ)) (before after : List ℕ × Bool) : Type 0 where
+  pub outline : EntryOutline
+  pub is : option_map entry_outline entry ≡ Some outline
+  pub ended_is : ended ≡ is_among thread outline.answer.ended.items
+  pub tells : Tells written now before after (outline_text m outline)
 
 -- the threads whose calls ended in these entries
 abbrev pub ended_at : List Entry → List ℕ

@@ -1,9 +1,7 @@
-use Rattle.std.proofs.Common.{List, length, slice_get, sym, ap, ◌∙◌, arith}
+use Rattle.std.proofs.Common.{List, length, ap, arith}
 use Rattle.l4_lock.specs.declared.entries.Entry.{Entry}
 use Rattle.l4_shell.proofs.Going.{telling_none, telling_done, there}
-use Rattle.l4_shell.proofs.Outlined.{telling_outline, none_there}
-use Rattle.l4_lock.specs.Lists.{entry_outline}
-use Rattle.std.specs.Option.{option_map}
+use Rattle.l4_shell.proofs.Outlined.{telling_entry}
 use Rattle.l4_shell.proofs.serving.tell_entries.Goals as goal
 
 pub loop-place-init : goal.loop-place-init
@@ -13,12 +11,10 @@ pub returns-in_default : goal.returns-in_default
 returns-in_default g c =
     absurd (there c.args.kernel.now.history c.loop-place.place
     (let lt = c.loop-place-test.true in let n = c.len-place-end.ensures in let e = ap (λ (l : List Entry). length l) c.history.ensures in omega (arith, lt, n, e))
-    (none_there _ (sym c.in_default.ensures ∙ ap (λ (l : List Entry). option_map entry_outline (slice_get l c.loop-place.place)) c.history-in-loop-place.ensures)))
+    c.in_default.ensures)
 
 pub loop-place-preserved : goal.loop-place-preserved
-loop-place-preserved g c =
-    telling_outline _ _ _ _ _ _ _ _ _ _ _ _ _ c.kernel.result.now c.outline.new.entry c.loop-place.invariant
-    (sym c.in-Some.ensures ∙ ap (λ (l : List Entry). option_map entry_outline (slice_get l c.loop-place.place)) c.history-in-loop-place.ensures) c.kernel.ensures c.tell.ensures c.has_ended-ended.ensures
+loop-place-preserved g c = telling_entry _ _ _ _ _ _ _ _ _ _ _ _ _ c.loop-place.invariant c.in-Some.ensures
 
 pub returns : goal.returns
 returns g c =

@@ -7,11 +7,11 @@ use Rattle.l4_lock.specs.Lists.{EntryList, entry_outline}
 use Rattle.l4_lock.proofs.Packing.{outline_read}
 use Rattle.l4_lock.proofs.history.History.outline.Goals as goal
 
-pub returns-in-Some-words : goal.returns-in-Some-words
-returns-in-Some-words c =
-    let here = sym c.in-Some-words.ensures.0 ∙ ap (λ (l : EntryList). slice_get l.entries c.args.at) c.self.view_is in
+pub returns-in-Some : goal.returns-in-Some
+returns-in-Some c =
+    let here = sym c.in-Some.ensures.0 ∙ ap (λ (l : EntryList). slice_get l.entries c.args.at) c.self.view_is in
     subst (λ (read : Option EntryOutline). Gives (λ _. c.read_entry_outline.new.entry) c.read_entry_outline.result read)
-    (outline_read c.in-Some-words.words c.in-Some-words.ensures.1 ∙ ap (option_map entry_outline) here)
+    (outline_read c.in-Some.words c.in-Some.ensures.1 ∙ ap (option_map entry_outline) here)
     c.read_entry_outline.ensures
 
 pub returns-in-None : goal.returns-in-None
