@@ -139,6 +139,7 @@ impl UsedMoves {
     }
 
     /// The first used move that the walk hasn't passed, which it passes then.
+    #[inline(always)]
     pub(crate) fn next(
         &mut self,
         links: &Links,

@@ -154,6 +154,7 @@ impl Records {
     }
 
     /// Makes room for more records. What is stored isn't moved. After an `Err` there are the same records, and the same room.
+    #[inline(always)]
     pub fn reserve(&mut self, more: usize) -> Result<(), AllocError>
         ensures records { self.new.records ≡ self.old.records }
         ensures ok { OnOk result (length self.new.records + more ≤ self.new.room) }

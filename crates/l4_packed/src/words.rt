@@ -106,6 +106,7 @@ impl<'a> Words<'a> {
 }
 
 /// Appends a list behind its length.
+#[inline(always)]
 pub(crate) fn put_counted(out: &mut Record, words: &[u32])
     requires { length out.old.items + 1 + length words.now ≤ RECORD_WORDS }
     ensures { out.new.items ≡ out.old.items ++ counted words.now }
@@ -176,6 +177,7 @@ fn read_list<'a, const LIMIT: usize>(
 }
 
 /// Appends a place in a history.
+#[inline(always)]
 pub fn put_place(out: &mut Record, place: usize)
     requires { length out.old.items + PLACE_WORDS ≤ RECORD_WORDS }
     ensures { out.new.items ≡ out.old.items ++ place_code place }
