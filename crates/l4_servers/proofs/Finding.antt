@@ -1,5 +1,5 @@
 -- The served threads, looked at one after another by rising number.
-use Rattle.std.proofs.Common.{◌≡◌, ℕ, ◌<◌, ◌≤◌, Bool, true, false, ◌||◌, List, [], ◌∷◌, Option, Some, None, refl, sym, ap, ◌∙◌, subst, arith, Bor}
+use Rattle.std.proofs.Common.{◌≡◌, ℕ, ◌<◌, ◌≤◌, Bool, true, false, ◌||◌, List, [], ◌∷◌, length, Option, Some, None, refl, sym, ap, ◌∙◌, subst, arith, Bor}
 use Rattle.std.specs.Prelude.{IsSome}
 use Rattle.std.specs.Option.{is_some, option_copied}
 use Rattle.std.specs.List.{list_any, AllByRecursion}
@@ -10,6 +10,7 @@ use Rattle.std.specs.Ordering.{nat_cmp}
 use Rattle.std.specs.Cmp.{nat_cmp_total, tied_itself, ranked}
 use Rattle.std.specs.FinMap as fin
 use Rattle.std.proofs.lemmas.Bool.{false≢true}
+use Rattle.std.proofs.lemmas.List.{nil_from_length}
 use Rattle.std.proofs.lemmas.Map.Keys.{sorted_head, sorted_tail}
 use Rattle.l4_pager.specs.declared.regions.Entry.{Entry}
 use Rattle.l4_sigma0.specs.Owners.{Owners}
@@ -80,6 +81,10 @@ looking_found t s rest later x l is some =
 -- nobody is left
 pub looking_none : (t : Threads) (s : Servers) (rest : Numbers) → Looking t s rest → rest ≡ [] → NoneReady t s
 looking_none t s rest l is = λ q h. false≢true (sym (ap (has q) is) ∙ l.among q h.0 h.1)
+
+-- nobody is served
+pub nobody_served : (t : Threads) (s : Servers) (o : Owners) (tables : fin.FinMap nat_cmp (List Entry)) (ks : Numbers) → servers o tables (served_by ks) ≡ s → length ks ≡ 0 → NoneReady t s
+nobody_served t s o tables ks view none = λ q h. false≢true (sym (served_is s o tables ks q view ∙ ap (has q) (nil_from_length ks none)) ∙ h.0)
 
 copied_some : {X : Type 0} (r : Option (Bor X)) → is_some (option_copied r) ≡ is_some r
 copied_some None = refl

@@ -135,6 +135,9 @@ impl Servers {
     fn first_ready(&self, kernel: &Kernel) -> Option<u32>
         ensures { MatchOption result (NoneReady kernel.now.threads self.now) (IsFirstReady kernel.now.threads self.now) }
     {
+        if self.served.is_empty() {
+            return None;
+        }
         for thread in self.served.iter() {
             if kernel.reply(*thread).is_some() {
                 return Some(*thread);

@@ -10,7 +10,7 @@ ghost use Rattle.l4_shell.specs.Inside.Telling.{outline_line, outline_text, next
 use crate::refusals::lock_code;
 use crate::requests::LentCall;
 use crate::texts::refused_act_text;
-use l4_answers::{add_waits, expire_text, put_reply, transfer_text};
+use l4_answers::{add_waits, expire_text, put_reply, put_transfer};
 use l4_ipc::{Answer, Kernel, NextStep, Outcome};
 use l4_lock::{BriefEntry, EntryOutline, LockRefusal, StepOutline};
 use l4_seats::SeatedKernel;
@@ -38,7 +38,7 @@ fn tell_step<W: Write>(step: StepOutline, outcome: Outcome, out: &mut Output, wr
 {
     match step {
         StepOutline::Start(_) => {}
-        StepOutline::Transfer(s, r) => out.put(writer, &transfer_text(s, r, outcome)),
+        StepOutline::Transfer(s, r) => put_transfer(s, r, outcome, out, writer),
         StepOutline::Expire(n) => out.put(writer, &expire_text(n)),
     }
 }
@@ -88,7 +88,7 @@ fn tell_next<W: Write>(kernel: &Kernel, next: NextStep, out: &mut Output, writer
 {
     match next {
         NextStep::Transfer(sender, receiver, outcome, ends) => {
-            out.put(writer, &transfer_text(sender, receiver, outcome));
+            put_transfer(sender, receiver, outcome, out, writer);
             tell_own(kernel, sender, ends, out, writer);
             put_reply(receiver, kernel.reply(receiver), out, writer);
         }

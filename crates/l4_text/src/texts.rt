@@ -1,6 +1,6 @@
 //! Texts of bounded length.
-ghost use Rattle.std.specs.Prelude.{◌≡◌, ◌+◌, ◌/◌, ◌%◌, ◌^◌, ◌≤◌, ◌<◌, [], ◌∷◌, ◌++◌, length, decimal};
-ghost use Rattle.l4_text.specs.Texts.{word_text, hex_digit};
+ghost use Rattle.std.specs.Prelude.{◌≡◌, ◌+◌, ◌*◌, ◌/◌, ◌%◌, ◌^◌, ◌≤◌, ◌<◌, [], ◌∷◌, ◌++◌, length, decimal};
+ghost use Rattle.l4_text.specs.Texts.{word_text, words_text, hex_digit};
 ghost use Rattle.l4_text.specs.Sizes.{text_bytes};
 
 use arrayvec::ArrayVec;
@@ -131,5 +131,17 @@ impl Text {
     {
         let digits = spaced_digits(word);
         self.add(&digits[1..]);
+    }
+
+    /// Words in eight hexadecimal digits of lower case, each after a space.
+    pub fn add_words(&mut self, words: &[u32])
+        requires { length self.old + 9 * length words.now ≤ text_bytes }
+        ensures value { self.new ≡ self.old ++ words_text words.now }
+        ensures len { length self.new ≡ length self.old + 9 * length words.now }
+    {
+        for word in words {
+            let digits = spaced_digits(*word);
+            self.add(&digits);
+        }
     }
 }

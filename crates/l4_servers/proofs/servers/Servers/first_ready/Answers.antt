@@ -1,6 +1,9 @@
-use Rattle.std.proofs.Common.{◌≡◌, rules}
-use Rattle.l4_servers.proofs.Finding.{looking_first, looking_more, looking_found, looking_none, has_reply}
+use Rattle.std.proofs.Common.{◌≡◌, refl, rules}
+use Rattle.l4_servers.proofs.Finding.{looking_first, looking_more, looking_found, looking_none, nobody_served, has_reply}
 use Rattle.l4_servers.proofs.servers.Servers.first_ready.Goals as goal
+
+pub returns-then-is_empty : goal.returns-then-is_empty
+returns-then-is_empty c = nobody_served c.args.kernel.now.threads _ _ _ _ c.self.view_is (c.if-is_empty.ensures.0 refl)
 
 pub loop-thread-init : goal.loop-thread-init
 loop-thread-init c =
