@@ -4,8 +4,8 @@ use Rattle.std.specs.Prelude.{is_some, IsTrue}
 use Rattle.std.specs.Option.{option_map}
 use Rattle.std.proofs.lemmas.Bool.{false≢true}
 use Rattle.std.proofs.lemmas.List.{append-nil}
-use Rattle.l4_packed.specs.Codes.{step_code, answer_code, call_code, place_code, reply_code, StepFits, AnswerFits, CallFits, ReplyFits}
-use Rattle.l4_packed.proofs.RoundTrip.{step_again, answer_again, call_again, reply_again}
+use Rattle.l4_packed.specs.Codes.{step_code, answer_code, call_code, span_code, reply_code, StepFits, AnswerFits, CallFits, ReplyFits}
+use Rattle.l4_packed.proofs.RoundTrip.{step_again, answer_again, call_again, span_again, reply_again}
 use Rattle.l4_ipc.specs.declared.steps.Answer.{Answer}
 use Rattle.l4_ipc.specs.declared.steps.Step.{Step}
 use Rattle.l4_packed.specs.declared.steps.StepOutline.{StepOutline}
@@ -48,13 +48,9 @@ unfolding entry_at entry_outline_at
 outline_read [] some = absurd (false≢true some)
 outline_read (seat ∷ words) some = answer_read seat (answer_at words) some
 
--- a place of its two words
-whole : (place : ℕ) → place % 2 ^ 32 + 2 ^ 32 * (place / 2 ^ 32) ≡ place
-whole place = omega arith
-
 pub receipt_again : (receipt : Receipt) → CallFits receipt.call → ReplyFits receipt.reply → receipt_at (receipt_code receipt) ≡ Some receipt
 unfolding receipt_at
 receipt_again receipt call reply =
     let last : reply_code receipt.reply ≡ reply_code receipt.reply ++ [] = sym (append-nil (reply_code receipt.reply)) in
-    ap (λ (rest : List ℕ). receipt_at (call_code receipt.call ++ (place_code receipt.start ++ (place_code receipt.end ++ rest)))) last
-    ∙ rw (call_again receipt.call (place_code receipt.start ++ (place_code receipt.end ++ (reply_code receipt.reply ++ []))) call, reply_again receipt.reply [] reply, whole receipt.start, whole receipt.end) refl
+    ap (λ (rest : List ℕ). receipt_at (call_code receipt.call ++ (span_code receipt.start receipt.end ++ rest))) last
+    ∙ rw (call_again receipt.call (span_code receipt.start receipt.end ++ (reply_code receipt.reply ++ [])) call, span_again receipt.start receipt.end (reply_code receipt.reply ++ []), reply_again receipt.reply [] reply) refl

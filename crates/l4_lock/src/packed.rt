@@ -9,8 +9,8 @@ ghost use Rattle.l4_lock.specs.Inside.Packing.{entry_at, entry_outline_at, recei
 use crate::entries::{Entry, EntryOutline, Receipt};
 use l4_ipc::{Answer, Call, NextStep, Reply};
 use l4_packed::{
-    FromWords, Record, Words, put_answer, put_call, put_next, put_own_answer, put_place, put_reply,
-    put_start, read_answer, read_answer_into, read_call, read_outline, read_place, read_reply,
+    FromWords, Record, Words, put_answer, put_call, put_next, put_own_answer, put_reply, put_span,
+    put_start, read_answer, read_answer_into, read_call, read_outline, read_reply, read_span,
     read_step, read_word,
 };
 
@@ -73,8 +73,7 @@ pub fn write_receipt(out: &mut Record, call: &Call, start: usize, end: usize, re
 {
     out.clear();
     put_call(out, call);
-    put_place(out, start);
-    put_place(out, end);
+    put_span(out, start, end);
     put_reply(out, reply);
 }
 
@@ -84,8 +83,7 @@ impl FromWords for Receipt {
     #[tactic(auto, unfolding(crate::specs::Inside::Packing::receipt_at))]
     fn from_words(words: Words<'_>) -> Option<Receipt> {
         let (call, rest) = read_call(words)?;
-        let (start, rest) = read_place(rest)?;
-        let (end, rest) = read_place(rest)?;
+        let (start, end, rest) = read_span(rest)?;
         let (reply, _) = read_reply(rest)?;
         Some(Receipt {
             call,

@@ -9,7 +9,7 @@ ghost use Rattle.l4_lock.specs.Inside.Packing.{receipt_at};
 
 use crate::entries::Receipt;
 use l4_ipc::{Call, Kernel, Reply};
-use l4_packed::{FromWords, Record, Words, put_call, put_place, put_reply};
+use l4_packed::{FromWords, Record, Words, put_call, put_reply, put_span};
 use std::marker::Model;
 
 /// How far a call has come.
@@ -17,16 +17,18 @@ use std::marker::Model;
 enum Phase {
     /// There is none that isn't taken yet.
     Idle,
-    /// It has begun: its words are there, and those of the place of its start.
+    /// It has begun: its words are there.
     Begun,
     /// It has ended: the words of its receipt are there.
     Ended,
 }
 
-/// The call of a number that isn't taken yet, where there is one. It is kept packed as its receipt, which grows with it.
+/// The call of a number that isn't taken yet, where there is one, and the place of its start. It is kept packed as its receipt, which grows
+/// with it.
 #[derive(Drop)]
 pub(crate) struct PendingCall {
     phase: Phase,
+    start: usize,
     packed: Record,
 }
 
@@ -37,7 +39,7 @@ impl Model for PendingCall {
 
     ghost Value = { Option APending };
 
-    ghost view = { λ p. pending_in p.phase p.packed.items };
+    ghost view = { λ p. pending_in p.phase p.start p.packed.items };
 
     ghost invariant = { λ p. IsPacked p.phase p.packed.items };
 }
@@ -49,6 +51,7 @@ impl PendingCall {
     {
         PendingCall {
             phase: Phase::Idle,
+            start: 0,
             packed: Record::new(),
         }
     }
@@ -93,7 +96,7 @@ impl PendingCall {
     {
         self.packed.clear();
         put_call(&mut self.packed, call);
-        put_place(&mut self.packed, start);
+        self.start = start;
         self.phase = Phase::Begun;
     }
 
@@ -110,7 +113,7 @@ impl PendingCall {
         requires { (p : APending) × (self.old ≡ Some p) × (p.ended ≡ None) }
         ensures { self.new ≡ option_map (λ (p : APending). record p { ended = Some (record { entry = place; reply = reply.now }) }) self.old }
     {
-        put_place(&mut self.packed, place);
+        put_span(&mut self.packed, self.start, place);
         put_reply(&mut self.packed, reply);
         self.phase = Phase::Ended;
     }

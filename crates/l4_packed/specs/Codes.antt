@@ -1,12 +1,14 @@
--- The words of calls, steps, answers and replies. A variant's number comes first, counted from 0 in the order in which its type lists the
--- variants; a list stands behind its length. (this profile's own)
-use Rattle.std.specs.Prelude.{ℕ, ◌/◌, ◌%◌, ◌^◌, ◌≤◌, ⊤, List, [], ◌∷◌, length}
+-- The words of calls, steps, answers and replies. The first word says which variant it is; of an Ipc, its reply and an answer also how long the
+-- list at the end is, and which words before it are there. Any other list stands behind its length. (this profile's own)
+use Rattle.std.specs.Prelude.{ℕ, ◌+◌, ◌*◌, ◌-◌, ◌/◌, ◌%◌, ◌^◌, ◌≤◌, ⊤, Bool, false, List, [], ◌∷◌, ◌++◌, length, nat_lt, if◌then◌else◌}
 use Rattle.l4_fpage.specs.Rights.{bits_of}
 use Rattle.l4_msg.specs.Sizes.{max_words}
 use Rattle.l4_threads.specs.Sizes.{max_threads}
+use Rattle.l4_threads.specs.declared.IpcReply.{IpcReply}
 use Rattle.l4_threads.specs.declared.Reply.{Reply}
 use Rattle.l4_threads.specs.declared.Reply.TheVariants.{Ipc as ByIpc, Hit, Answered, FaultFailed, Unmapped, Controlled, Gone}
 use Rattle.l4_ipc.specs.declared.calls.Call.{Call}
+use Rattle.l4_ipc.specs.declared.calls.IpcCall.{IpcCall}
 use Rattle.l4_ipc.specs.declared.calls.Call.TheVariants.{Ipc, Fault, Unmap, Control as Controls}
 use Rattle.l4_ipc.specs.declared.calls.Control.{Control}
 use Rattle.l4_ipc.specs.declared.calls.Control.TheVariants.{Create, SetPager, Delete}
@@ -15,18 +17,22 @@ use Rattle.l4_ipc.specs.declared.steps.Step.TheVariants.{Start, Transfer, Expire
 use Rattle.l4_ipc.specs.declared.steps.Outcome.{Outcome}
 use Rattle.l4_ipc.specs.declared.steps.Outcome.TheVariants.{Started, Done, NoWindow, Entangled, NoMemory, Expired}
 use Rattle.l4_ipc.specs.declared.steps.Answer.{Answer}
-use Rattle.l4_packed.specs.Words.{counted}
+use Rattle.l4_packed.specs.Words.{counted, flag, if_set}
 
 abbrev pub control_code : Control → List ℕ
 control_code (Create c) = 0 ∷ c.id.0 ∷ c.space.0 ∷ c.pager.0 ∷ []
 control_code (SetPager s) = 1 ∷ s.id.0 ∷ s.pager.0 ∷ []
 control_code (Delete id) = 2 ∷ id.0 ∷ []
 
+-- which words of an Ipc are there, and how many its message has
+abbrev pub ipc_flags : IpcCall → ℕ
+ipc_flags c = flag c.to.0 + 2 * flag c.«from».0 + 4 * flag c.timeouts + 8 * flag c.acceptor + 16 * length c.words.items
+
 abbrev pub call_code : Call → List ℕ
-call_code (Ipc c) = 0 ∷ c.to.0 ∷ c.«from».0 ∷ c.timeouts ∷ c.acceptor ∷ counted c.words.items
-call_code (Fault f) = 1 ∷ f.address ∷ f.ip ∷ bits_of f.access ∷ []
-call_code (Unmap u) = 2 ∷ u.control ∷ counted u.words.items
-call_code (Controls c) = 3 ∷ control_code c
+call_code (Ipc c) = (3 + ipc_flags c) ∷ (if_set c.to.0 ++ (if_set c.«from».0 ++ (if_set c.timeouts ++ (if_set c.acceptor ++ c.words.items))))
+call_code (Fault f) = 0 ∷ f.address ∷ f.ip ∷ bits_of f.access ∷ []
+call_code (Unmap u) = 1 ∷ u.control ∷ counted u.words.items
+call_code (Controls c) = 2 ∷ control_code c
 
 abbrev pub step_code : Step → List ℕ
 step_code (Start n call) = 0 ∷ n ∷ call_code call
@@ -42,20 +48,36 @@ outcome_code NoMemory = 4
 outcome_code Expired = 5
 
 abbrev pub answer_code : Answer → List ℕ
-answer_code answer = outcome_code answer.outcome ∷ counted answer.ended.items
+answer_code answer = (outcome_code answer.outcome + 6 * length answer.ended.items) ∷ answer.ended.items
+
+-- which words of an Ipc's reply are there, and how many its message has
+abbrev pub reply_flags : IpcReply → ℕ
+reply_flags r = flag r.tag + 2 * flag r.error + 4 * flag r.«from».0 + 8 * length r.words.items
 
 abbrev pub reply_code : Reply → List ℕ
-reply_code (ByIpc r) = 0 ∷ r.tag ∷ r.error ∷ r.«from».0 ∷ counted r.words.items
-reply_code Hit = 1 ∷ []
-reply_code Answered = 2 ∷ []
-reply_code (FaultFailed error) = 3 ∷ error ∷ []
-reply_code Unmapped = 4 ∷ []
-reply_code Controlled = 5 ∷ []
-reply_code Gone = 6 ∷ []
+reply_code (ByIpc r) = (6 + reply_flags r) ∷ (if_set r.tag ++ (if_set r.error ++ (if_set r.«from».0 ++ r.words.items)))
+reply_code Hit = 0 ∷ []
+reply_code Answered = 1 ∷ []
+reply_code (FaultFailed error) = 2 ∷ error ∷ []
+reply_code Unmapped = 3 ∷ []
+reply_code Controlled = 4 ∷ []
+reply_code Gone = 5 ∷ []
 
 -- a place in a history, which has up to 64 bits: its lower word and its upper word
 abbrev pub place_code : ℕ → List ℕ
 place_code place = place % 2 ^ 32 ∷ place / 2 ^ 32 ∷ []
+
+-- the greatest word, which stands before two places that are written in full
+abbrev pub far : ℕ
+far = 4294967295
+
+-- two places that take a word each: the first, and how far behind it the second is
+abbrev pub are_near : ℕ → ℕ → Bool
+are_near start last = if nat_lt start far then (if nat_lt last start then false else nat_lt (last - start) far) else false
+
+-- the place where something starts and that where it ends
+abbrev pub span_code : ℕ → ℕ → List ℕ
+span_code start last = if are_near start last then start ∷ (last - start) ∷ [] else far ∷ (place_code start ++ place_code last)
 
 -- what has words: the lists hold no more than their types have room for
 

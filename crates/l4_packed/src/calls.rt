@@ -1,17 +1,26 @@
 //! Calls as words.
-ghost use Rattle.std.specs.Prelude.{◌≡◌, ◌+◌, ◌≤◌, ◌++◌, ◌∷◌, [], length, ℕ, List, Some};
+ghost use Rattle.std.specs.Prelude.{◌≡◌, ◌+◌, ◌*◌, ◌<◌, ◌≤◌, ◌++◌, ◌∷◌, [], length, ℕ, List, Some};
 ghost use Rattle.l4_ipc.specs.declared.calls.Call.{Call as ACall};
 ghost use Rattle.l4_ipc.specs.declared.calls.Call.TheVariants.{Ipc as AnIpc};
-ghost use Rattle.l4_packed.specs.Codes.{control_code, call_code, CallFits};
-ghost use Rattle.l4_packed.specs.Reading.{control_at, ipc_at, call_at};
+ghost use Rattle.l4_packed.specs.Codes.{control_code, ipc_flags, call_code, CallFits};
+ghost use Rattle.l4_packed.specs.Reading.{control_at, ipc_at, call_of, sent_at, call_at};
 
-use crate::words::{RECORD_WORDS, Record, Words, put_counted, read_counted, read_word};
+use crate::words::{
+    RECORD_WORDS, Record, Words, flag, put_all, put_counted, put_set, read_counted, read_set,
+    read_sized, read_word,
+};
 use l4_ipc::{
     Call, Control, Create, FaultCall, IpcCall, MAX_WORDS, Rights, SetPager, ThreadId, UnmapCall,
 };
 
 /// The greatest number of words of a call.
-pub const CALL_WORDS: usize = MAX_WORDS + 6;
+pub const CALL_WORDS: usize = MAX_WORDS + 5;
+
+/// The first word of an Ipc whose flags are all 0. A smaller one is that of another call.
+const IPC: u32 = 3;
+
+/// What each word of an Ipc's message counts in its first word. Below that are four flags.
+const FLAGS: u32 = 16;
 
 /// The greatest number of words of the control of a thread.
 const CONTROL_WORDS: usize = 4;
@@ -29,21 +38,31 @@ pub fn put_call(out: &mut Record, call: &Call)
     match call {
         Call::Ipc(call) => put_ipc(out, call),
         Call::Fault(fault) => {
-            out.push(1);
+            out.push(0);
             out.push(fault.address);
             out.push(fault.ip);
             out.push(u32::from(fault.access.bits()));
         }
         Call::Unmap(unmap) => {
-            out.push(2);
+            out.push(1);
             out.push(unmap.control);
             put_counted(out, unmap.words.as_slice());
         }
         Call::Control(control) => {
-            out.push(3);
+            out.push(2);
             put_control(out, control);
         }
     }
+}
+
+/// Which words of an Ipc are there, and how many its message has.
+fn ipc_flags(call: &IpcCall) -> u32
+    ensures flags { result ≡ ipc_flags call.now }
+    ensures few { result < FLAGS * (MAX_WORDS + 1) }
+{
+    let partners = flag(call.to.0) + 2 * flag(call.from.0);
+    let rest = 4 * flag(call.timeouts) + 8 * flag(call.acceptor);
+    partners + rest + FLAGS * call.words.len() as u32
 }
 
 /// Appends an Ipc.
@@ -52,12 +71,12 @@ fn put_ipc(out: &mut Record, call: &IpcCall)
     ensures items { out.new.items ≡ out.old.items ++ call_code (AnIpc call.now) }
     ensures fits { CallFits (AnIpc call.now) }
 {
-    out.push(0);
-    out.push(call.to.0);
-    out.push(call.from.0);
-    out.push(call.timeouts);
-    out.push(call.acceptor);
-    put_counted(out, call.words.as_slice());
+    out.push(IPC + ipc_flags(call));
+    put_set(out, call.to.0);
+    put_set(out, call.from.0);
+    put_set(out, call.timeouts);
+    put_set(out, call.acceptor);
+    put_all(out, call.words.as_slice());
 }
 
 /// Appends the control of a thread.
@@ -120,15 +139,15 @@ fn next_control(words: Words<'_>) -> Option<(Control, Words<'_>)>
     }
 }
 
-/// An Ipc behind its variant's number, and the words after it.
-fn next_ipc(words: Words<'_>) -> Option<(IpcCall, Words<'_>)>
-    ensures { result ≡ ipc_at words.entry }
+/// An Ipc behind its first word, which has these flags, and the words after it.
+fn next_ipc(flags: u32, words: Words<'_>) -> Option<(IpcCall, Words<'_>)>
+    ensures { result ≡ ipc_at flags words.entry }
 {
-    let (to, rest) = read_word(words)?;
-    let (from, rest) = read_word(rest)?;
-    let (timeouts, rest) = read_word(rest)?;
-    let (acceptor, rest) = read_word(rest)?;
-    let (words, rest) = read_counted(rest)?;
+    let (to, rest) = read_set(words, flags % 2)?;
+    let (from, rest) = read_set(rest, flags / 2 % 2)?;
+    let (timeouts, rest) = read_set(rest, flags / 4 % 2)?;
+    let (acceptor, rest) = read_set(rest, flags / 8 % 2)?;
+    let (words, rest) = read_sized(rest, (flags / FLAGS) as usize)?;
     let call = IpcCall {
         to: ThreadId(to),
         from: ThreadId(from),
@@ -139,19 +158,21 @@ fn next_ipc(words: Words<'_>) -> Option<(IpcCall, Words<'_>)>
     Some((call, rest))
 }
 
-/// A call, and the words after it.
-#[tactic(auto, unfolding(crate::specs::Reading::call_at))]
-fn next_call(words: Words<'_>) -> Option<(Call, Words<'_>)>
-    ensures { result ≡ call_at words.entry }
+/// The call of an Ipc behind its first word, which has these flags, and the words after it.
+fn next_sent(flags: u32, words: Words<'_>) -> Option<(Call, Words<'_>)>
+    ensures { result ≡ sent_at flags words.entry }
 {
-    let (variant, rest) = read_word(words)?;
-    match variant {
+    let (call, rest) = next_ipc(flags, words)?;
+    Some((Call::Ipc(call), rest))
+}
+
+/// Another call behind its first word, and the words after it.
+fn next_other(head: u32, words: Words<'_>) -> Option<(Call, Words<'_>)>
+    ensures { result ≡ call_of head words.entry }
+{
+    match head {
         0 => {
-            let (call, rest) = next_ipc(rest)?;
-            Some((Call::Ipc(call), rest))
-        }
-        1 => {
-            let (address, rest) = read_word(rest)?;
+            let (address, rest) = read_word(words)?;
             let (ip, rest) = read_word(rest)?;
             let (bits, rest) = read_word(rest)?;
             if bits >= RIGHTS {
@@ -164,17 +185,29 @@ fn next_call(words: Words<'_>) -> Option<(Call, Words<'_>)>
             };
             Some((Call::Fault(fault), rest))
         }
-        2 => {
-            let (control, rest) = read_word(rest)?;
+        1 => {
+            let (control, rest) = read_word(words)?;
             let (words, rest) = read_counted(rest)?;
             Some((Call::Unmap(UnmapCall { control, words }), rest))
         }
-        3 => {
-            let (control, rest) = next_control(rest)?;
+        2 => {
+            let (control, rest) = next_control(words)?;
             Some((Call::Control(control), rest))
         }
         _ => None,
     }
+}
+
+/// A call, and the words after it.
+#[tactic(auto, unfolding(crate::specs::Reading::call_at))]
+fn next_call(words: Words<'_>) -> Option<(Call, Words<'_>)>
+    ensures { result ≡ call_at words.entry }
+{
+    let (head, rest) = read_word(words)?;
+    if head < IPC {
+        return next_other(head, rest);
+    }
+    next_sent(head - IPC, rest)
 }
 
 /// A call, and the words after it. Of words that `put_call` wrote it is the call that was written, whatever follows them.

@@ -8,6 +8,7 @@ mod packing;
 mod pieces;
 mod records;
 mod replies;
+mod spans;
 mod steps;
 mod words;
 
@@ -15,8 +16,9 @@ pub use calls::{CALL_WORDS, put_call, read_call};
 pub use packed_list::{FromWords, ItemsFrom, PackedList};
 pub use records::Records;
 pub use replies::{REPLY_WORDS, put_reply, read_reply};
+pub use spans::{SPAN_WORDS, put_span, read_span};
 pub use steps::{
     ANSWER_WORDS, STEP_WORDS, StepOutline, put_answer, put_next, put_own_answer, put_start,
     put_step, read_answer, read_answer_into, read_outline, read_step,
 };
-pub use words::{PLACE_WORDS, RECORD_WORDS, Record, Words, put_place, read_place, read_word};
+pub use words::{RECORD_WORDS, Record, Words, read_word};

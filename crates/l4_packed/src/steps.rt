@@ -1,5 +1,5 @@
 //! Steps and their answers as words.
-ghost use Rattle.std.specs.Prelude.{◌≡◌, ◌+◌, ◌≤◌, ◌++◌, ◌∷◌, [], length, ℕ, List, Some};
+ghost use Rattle.std.specs.Prelude.{◌≡◌, ◌+◌, ◌*◌, ◌<◌, ◌≤◌, ◌++◌, ◌∷◌, [], length, ℕ, List, Some};
 ghost use Rattle.l4_ipc.specs.declared.steps.Answer.{Answer as AnAnswer};
 ghost use Rattle.l4_ipc.specs.declared.steps.Step.{Step as AStep};
 ghost use Rattle.l4_ipc.specs.declared.steps.Step.TheVariants.{Start};
@@ -7,13 +7,11 @@ ghost use Rattle.l4_ipc.specs.OwnCall.{own_answer};
 ghost use Rattle.l4_ipc.specs.NextSteps.{step_of, answer_of};
 ghost use Rattle.l4_packed.specs.Codes.{step_code, outcome_code, answer_code, StepFits, AnswerFits};
 ghost use Rattle.l4_packed.specs.Outlines.{step_outline, outline_at};
-ghost use Rattle.l4_packed.specs.Reading.{step_at, outcome_at, answer_at};
+ghost use Rattle.l4_packed.specs.Reading.{step_at, outcome_of, answer_at};
 ghost use Rattle.l4_packed.specs.Words.{Gives};
 
 use crate::calls::{CALL_WORDS, put_call, read_call};
-use crate::words::{
-    RECORD_WORDS, Record, Words, put_counted, read_counted, read_counted_into, read_word,
-};
+use crate::words::{RECORD_WORDS, Record, Words, put_all, read_sized, read_sized_into, read_word};
 use l4_ipc::{Answer, Call, MAX_THREADS, NextStep, Outcome, Step};
 
 /// A step without the call of a start.
@@ -31,7 +29,10 @@ pub enum StepOutline {
 pub const STEP_WORDS: usize = CALL_WORDS + 2;
 
 /// The greatest number of words of an answer.
-pub const ANSWER_WORDS: usize = MAX_THREADS + 2;
+pub const ANSWER_WORDS: usize = MAX_THREADS + 1;
+
+/// How many outcomes there are. It is what each call that ended counts in the first word of an answer, below which is the outcome's number.
+const OUTCOMES: u32 = 6;
 
 /// Appends the step that starts a call.
 pub fn put_start(out: &mut Record, number: u32, call: &Call)
@@ -68,7 +69,8 @@ pub fn put_step(out: &mut Record, step: &Step)
 
 /// The number of an outcome.
 fn outcome_word(outcome: Outcome) -> u32
-    ensures { result ≡ outcome_code outcome }
+    ensures number { result ≡ outcome_code outcome }
+    ensures few { result < OUTCOMES }
 {
     match outcome {
         Outcome::Started => 0,
@@ -87,8 +89,8 @@ pub fn put_answer(out: &mut Record, answer: &Answer)
     ensures fits { AnswerFits answer.now }
     ensures short { length (answer_code answer.now) ≤ ANSWER_WORDS }
 {
-    out.push(outcome_word(answer.outcome));
-    put_counted(out, answer.ended.as_slice());
+    out.push(outcome_word(answer.outcome) + OUTCOMES * answer.ended.len() as u32);
+    put_all(out, answer.ended.as_slice());
 }
 
 /// Appends the answer of a start in which the call of this thread ended alone, or none did.
@@ -98,9 +100,8 @@ pub fn put_own_answer(out: &mut Record, thread: u32, ended: bool)
     ensures fits { AnswerFits (own_answer ended thread) }
     ensures short { length (answer_code (own_answer ended thread)) ≤ ANSWER_WORDS }
 {
-    out.push(0);
     if ended {
-        out.push(1);
+        out.push(OUTCOMES);
         out.push(thread);
     } else {
         out.push(0);
@@ -115,12 +116,11 @@ pub fn put_next(out: &mut Record, next: NextStep)
 {
     match next {
         NextStep::Transfer(sender, receiver, outcome, ends) => {
-            out.push(outcome_word(outcome));
             if ends {
-                out.push(2);
+                out.push(outcome_word(outcome) + 2 * OUTCOMES);
                 out.push(sender);
             } else {
-                out.push(1);
+                out.push(outcome_word(outcome) + OUTCOMES);
             }
             out.push(receiver);
             out.push(1);
@@ -128,8 +128,7 @@ pub fn put_next(out: &mut Record, next: NextStep)
             out.push(receiver);
         }
         NextStep::Expire(waiter) => {
-            out.push(5);
-            out.push(1);
+            out.push(5 + OUTCOMES);
             out.push(waiter);
             out.push(2);
             out.push(waiter);
@@ -170,19 +169,17 @@ pub fn read_step(words: Words<'_>) -> Option<(Step, Words<'_>)>
     next_step(words)
 }
 
-/// An outcome, and the words after it.
-#[tactic(auto, unfolding(crate::specs::Reading::outcome_at))]
-fn next_outcome(words: Words<'_>) -> Option<(Outcome, Words<'_>)>
-    ensures { result ≡ outcome_at words.entry }
+/// The outcome of this number.
+fn outcome_of(number: u32) -> Option<Outcome>
+    ensures { result ≡ outcome_of number }
 {
-    let (variant, rest) = read_word(words)?;
-    match variant {
-        0 => Some((Outcome::Started, rest)),
-        1 => Some((Outcome::Done, rest)),
-        2 => Some((Outcome::NoWindow, rest)),
-        3 => Some((Outcome::Entangled, rest)),
-        4 => Some((Outcome::NoMemory, rest)),
-        5 => Some((Outcome::Expired, rest)),
+    match number {
+        0 => Some(Outcome::Started),
+        1 => Some(Outcome::Done),
+        2 => Some(Outcome::NoWindow),
+        3 => Some(Outcome::Entangled),
+        4 => Some(Outcome::NoMemory),
+        5 => Some(Outcome::Expired),
         _ => None,
     }
 }
@@ -192,8 +189,9 @@ fn next_outcome(words: Words<'_>) -> Option<(Outcome, Words<'_>)>
 fn next_answer(words: Words<'_>) -> Option<(Answer, Words<'_>)>
     ensures { result ≡ answer_at words.entry }
 {
-    let (outcome, rest) = next_outcome(words)?;
-    let (ended, rest) = read_counted(rest)?;
+    let (head, rest) = read_word(words)?;
+    let outcome = outcome_of(head % OUTCOMES)?;
+    let (ended, rest) = read_sized(rest, (head / OUTCOMES) as usize)?;
     Some((Answer { outcome, ended }, rest))
 }
 
@@ -210,9 +208,9 @@ pub fn read_answer(words: Words<'_>) -> Option<(Answer, Words<'_>)>
 pub fn read_answer_into<'a>(words: Words<'a>, answer: &mut Answer) -> Option<Words<'a>>
     ensures { Gives (λ rest. (answer.new, rest)) result (answer_at words.entry) }
 {
-    let (outcome, rest) = next_outcome(words)?;
-    answer.outcome = outcome;
-    read_counted_into(rest, &mut answer.ended)
+    let (head, rest) = read_word(words)?;
+    answer.outcome = outcome_of(head % OUTCOMES)?;
+    read_sized_into(rest, (head / OUTCOMES) as usize, &mut answer.ended)
 }
 
 /// A step without the call of a start.

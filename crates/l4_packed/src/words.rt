@@ -1,10 +1,8 @@
 //! Words, one after another.
 ghost use Rattle.std.specs.Prelude.{◌≡◌, ◌+◌, ◌<◌, ◌≤◌, ◌++◌, ◌∷◌, [], length, ℕ, List, Some};
-ghost use Rattle.l4_packed.specs.Codes.{place_code};
 ghost use Rattle.l4_packed.specs.Inside.Bytes.{numbers_code, words_in};
 ghost use Rattle.l4_packed.specs.Inside.Pieces.{AreWords};
-ghost use Rattle.l4_packed.specs.Reading.{place_at};
-ghost use Rattle.l4_packed.specs.Words.{Gives, counted, word_at, list_at, counted_at};
+ghost use Rattle.l4_packed.specs.Words.{Gives, counted, flag, if_set, word_at, set_at, list_at, sized_at, counted_at};
 
 use crate::numbers::{Bytes, WORDS_BYTES, add_number, read_number};
 use arrayvec::ArrayVec;
@@ -12,9 +10,6 @@ use std::marker::Model;
 
 /// The greatest number of words of a record: of two lists of 64 words, and of the numbers beside them.
 pub const RECORD_WORDS: usize = 144;
-
-/// The words of a place in a history.
-pub const PLACE_WORDS: usize = 2;
 
 /// The words of one value, or of several that are stored together, as bytes.
 #[derive(Drop)]
@@ -112,8 +107,38 @@ pub(crate) fn put_counted(out: &mut Record, words: &[u32])
     ensures { out.new.items ≡ out.old.items ++ counted words.now }
 {
     out.push(words.len() as u32);
+    put_all(out, words);
+}
+
+/// Appends a list whose length stands elsewhere.
+#[inline(always)]
+pub(crate) fn put_all(out: &mut Record, words: &[u32])
+    requires { length out.old.items + length words.now ≤ RECORD_WORDS }
+    ensures { out.new.items ≡ out.old.items ++ words.now }
+{
     for word in words {
         out.push(*word);
+    }
+}
+
+/// Whether a word is there, 1 or 0, where one that is 0 is left out.
+#[inline(always)]
+pub(crate) fn flag(word: u32) -> u32
+    ensures flag { result ≡ flag word }
+    ensures bit { result ≤ 1 }
+{
+    if word == 0 { 0 } else { 1 }
+}
+
+/// Appends a word that is left out where it is 0.
+#[inline(always)]
+pub(crate) fn put_set(out: &mut Record, word: u32)
+    requires { length out.old.items < RECORD_WORDS }
+    ensures items { out.new.items ≡ out.old.items ++ if_set word }
+    ensures longer { length out.new.items ≤ length out.old.items + 1 }
+{
+    if word != 0 {
+        out.push(word);
     }
 }
 
@@ -127,32 +152,55 @@ pub fn read_word(words: Words<'_>) -> Option<(u32, Words<'_>)>
     }
 }
 
+/// The word that a flag stands for, which is 0 where the flag is, and the words after it.
+#[tactic(auto, unfolding(crate::specs::Words::set_at))]
+#[inline(always)]
+pub(crate) fn read_set(words: Words<'_>, flag: u32) -> Option<(u32, Words<'_>)>
+    ensures { result ≡ set_at flag words.entry }
+{
+    if flag == 0 {
+        return Some((0, words));
+    }
+    read_word(words)
+}
+
 /// A list that stands behind its length, and the words after it. None where it is longer than its type has room for.
+#[tactic(auto, unfolding(crate::specs::Words::counted_at))]
 pub(crate) fn read_counted<const LIMIT: usize>(
     words: Words<'_>,
 ) -> Option<(ArrayVec<u32, LIMIT>, Words<'_>)>
     ensures { Gives (λ x. (x.0.items, x.1)) result (counted_at LIMIT words.entry) }
 {
+    let (count, rest) = read_word(words)?;
+    read_sized(rest, count as usize)
+}
+
+/// A list of so many words, and the words after it. None where it is longer than its type has room for.
+pub(crate) fn read_sized<const LIMIT: usize>(
+    words: Words<'_>,
+    count: usize,
+) -> Option<(ArrayVec<u32, LIMIT>, Words<'_>)>
+    ensures { Gives (λ x. (x.0.items, x.1)) result (sized_at LIMIT count words.entry) }
+{
     let mut list = ArrayVec::new();
-    let rest = read_counted_into(words, &mut list)?;
+    let rest = read_sized_into(words, count, &mut list)?;
     Some((list, rest))
 }
 
-/// Reads a list that stands behind its length in the place of another, and answers the words after it. None where it is longer than its
-/// type has room for.
-#[tactic(auto, unfolding(crate::specs::Words::counted_at))]
-pub(crate) fn read_counted_into<'a, const LIMIT: usize>(
+/// Reads a list of so many words in the place of another, and answers the words after it. None where it is longer than its type has room
+/// for.
+#[tactic(auto, unfolding(crate::specs::Words::sized_at))]
+pub(crate) fn read_sized_into<'a, const LIMIT: usize>(
     words: Words<'a>,
+    count: usize,
     list: &mut ArrayVec<u32, LIMIT>,
 ) -> Option<Words<'a>>
-    ensures { Gives (λ rest. (list.new.items, rest)) result (counted_at LIMIT words.entry) }
+    ensures { Gives (λ rest. (list.new.items, rest)) result (sized_at LIMIT count words.entry) }
 {
-    let (count, rest) = read_word(words)?;
-    let count = count as usize;
     if count > LIMIT {
         return None;
     }
-    read_list(rest, count, list)
+    read_list(words, count, list)
 }
 
 /// Reads a list of so many words in the place of another, and answers the words after it.
@@ -174,34 +222,4 @@ fn read_list<'a, const LIMIT: usize>(
         rest = after;
     }
     Some(rest)
-}
-
-/// Appends a place in a history.
-#[inline(always)]
-pub fn put_place(out: &mut Record, place: usize)
-    requires { length out.old.items + PLACE_WORDS ≤ RECORD_WORDS }
-    ensures { out.new.items ≡ out.old.items ++ place_code place }
-{
-    out.push((place % UPPER) as u32);
-    out.push((place / UPPER) as u32);
-}
-
-/// What the upper word of a place counts.
-const UPPER: usize = 0x1_0000_0000;
-
-/// A place in a history, and the words after it.
-fn next_place(words: Words<'_>) -> Option<(usize, Words<'_>)>
-    ensures { result ≡ place_at words.entry }
-{
-    let (lower, rest) = read_word(words)?;
-    let (upper, rest) = read_word(rest)?;
-    Some((lower as usize + UPPER * upper as usize, rest))
-}
-
-/// A place in a history, and the words after it. Of words that `put_place` wrote it is the place that was written, whatever follows them.
-pub fn read_place(words: Words<'_>) -> Option<(usize, Words<'_>)>
-    ensures exact { result ≡ place_at words.entry }
-    ensures again { (place : ℕ) (rest : List ℕ) → words.entry ≡ place_code place ++ rest → result ≡ Some (place, rest) }
-{
-    next_place(words)
 }

@@ -4,8 +4,8 @@ use l4_ipc::{
     SetPager, Step, ThreadId, UnmapCall,
 };
 use l4_packed::{
-    Record, Records, StepOutline, Words, put_answer, put_place, put_reply, put_step, read_answer,
-    read_outline, read_place, read_reply, read_step, read_word,
+    Record, Records, StepOutline, Words, put_answer, put_reply, put_span, put_step, read_answer,
+    read_outline, read_reply, read_span, read_step, read_word,
 };
 use std::process::Abort;
 use std::test::Fail;
@@ -135,18 +135,24 @@ fn a_step_is_outlined(rt: HostRuntime) {
     assert!(rt; matches!(read, Some(StepOutline::Transfer(1, 0xffff_ffff))));
 }
 
+/// Whether two places are read as they were written.
+fn is_read_back(start: usize, end: usize) -> bool {
+    let mut out = Record::new();
+    put_span(&mut out, start, end);
+    match read_span(out.words()) {
+        Some((first, last, _)) => first == start && last == end,
+        None => false,
+    }
+}
+
 #[test]
 fn places_are_read_back(rt: HostRuntime) {
-    let mut out = Record::new();
-    put_place(&mut out, 0x1_0000_0007);
-    put_place(&mut out, 5);
-    match read_place(out.words()) {
-        Some((place, rest)) => {
-            assert!(rt; place == 0x1_0000_0007);
-            assert!(rt; matches!(read_place(rest), Some((5, _))));
-        }
-        None => panic!(rt; "nothing is read"),
-    }
+    assert!(rt; is_read_back(5, 7));
+    assert!(rt; is_read_back(7, 5));
+    assert!(rt; is_read_back(5, 0x1_0000_0007));
+    assert!(rt; is_read_back(0xffff_fffe, 0xffff_ffff));
+    assert!(rt; is_read_back(0xffff_ffff, 0xffff_ffff));
+    assert!(rt; is_read_back(0x1_0000_0007, usize::MAX));
 }
 
 /// More records than a few pieces hold.

@@ -1,8 +1,8 @@
 -- Entries and receipts as words. (this profile's own)
 use Rattle.std.specs.Prelude.{ℕ, List, ◌∷◌, ◌++◌, Option, Some}
 use Rattle.l4_packed.specs.Words.{◌>>=◌, word_at}
-use Rattle.l4_packed.specs.Codes.{step_code, answer_code, call_code, place_code, reply_code}
-use Rattle.l4_packed.specs.Reading.{step_at, answer_at, call_at, place_at, reply_at}
+use Rattle.l4_packed.specs.Codes.{step_code, answer_code, call_code, span_code, reply_code}
+use Rattle.l4_packed.specs.Reading.{step_at, answer_at, call_at, span_at, reply_at}
 use Rattle.l4_packed.specs.Outlines.{outline_at}
 use Rattle.l4_lock.specs.declared.entries.Entry.{Entry}
 use Rattle.l4_lock.specs.declared.entries.EntryOutline.{EntryOutline}
@@ -12,7 +12,7 @@ abbrev pub entry_code : Entry → List ℕ
 entry_code entry = entry.seat ∷ (answer_code entry.answer ++ step_code entry.step)
 
 abbrev pub receipt_code : Receipt → List ℕ
-receipt_code receipt = call_code receipt.call ++ (place_code receipt.start ++ (place_code receipt.end ++ reply_code receipt.reply))
+receipt_code receipt = call_code receipt.call ++ (span_code receipt.start receipt.end ++ reply_code receipt.reply)
 
 -- the entry that words begin with
 unfoldable pub entry_at : List ℕ → Option Entry
@@ -34,7 +34,6 @@ entry_outline_at words = do
 unfoldable pub receipt_at : List ℕ → Option Receipt
 receipt_at words = do
   call ← call_at words
-  start ← place_at call.1
-  last ← place_at start.1
-  reply ← reply_at last.1
-  Some (record { call = call.0; start = start.0; end = last.0; reply = reply.0 })
+  span ← span_at call.1
+  reply ← reply_at span.2
+  Some (record { call = call.0; start = span.0; end = span.1; reply = reply.0 })

@@ -1,5 +1,5 @@
 use Rattle.std.proofs.Common.{◌≡◌, ◌++◌, ap, ◌∙◌, List, ℕ, append_assoc}
-use Rattle.l4_packed.specs.Codes.{call_code, place_code, reply_code}
+use Rattle.l4_packed.specs.Codes.{call_code, span_code, reply_code}
 use Rattle.l4_lock.specs.declared.entries.Receipt.{Receipt}
 use Rattle.l4_lock.specs.Inside.Packing.{receipt_code, receipt_at}
 use Rattle.l4_lock.proofs.Packing.{receipt_again}
@@ -11,7 +11,6 @@ returns c =
     let words : c.put_reply.new.out.items ≡ receipt_code receipt =
     c.put_reply.ensures.items
     ∙ ap (λ (t : List ℕ). t ++ reply_code receipt.reply)
-    (c.put_place-2.ensures ∙ ap (λ (t : List ℕ). t ++ place_code receipt.end)
-    (c.put_place.ensures ∙ ap (λ (t : List ℕ). t ++ place_code receipt.start) (c.put_call.ensures.items ∙ ap (λ (t : List ℕ). t ++ call_code receipt.call) c.clear.ensures)))
-    ∙ simp append_assoc in
+    (c.put_span.ensures.items ∙ ap (λ (t : List ℕ). t ++ span_code receipt.start receipt.end) (c.put_call.ensures.items ∙ ap (λ (t : List ℕ). t ++ call_code receipt.call) c.clear.ensures))
+    ∙ append_assoc (call_code receipt.call) (span_code receipt.start receipt.end) (reply_code receipt.reply) in
     ap receipt_at words ∙ receipt_again receipt c.put_call.ensures.fits c.put_reply.ensures.fits
