@@ -1,13 +1,13 @@
 //! Lines of a stream, of which no more than one is kept.
 ghost use Rattle.std.specs.Prelude.{◌≡◌, ◌+◌, ◌-◌, ◌*◌, ◌<◌, ◌≤◌, [], ◌++◌, drop, length, ◌==◌, if◌then◌else◌, ℕ, List, MatchBool};
 ghost use Rattle.std.specs.List.{position, position_or_len};
-ghost use Rattle.l4_text.specs.Inside.Reading.{is_newline, Filled};
+ghost use Rattle.l4_text.specs.Inside.Reading.{is_newline, Filled, EndsLines};
 ghost use Rattle.l4_text.specs.Lines.{NoNewline, GivesLine};
 ghost use Rattle.l4_text.specs.Sizes.{most_reads};
 
 use crate::faults::RunFault;
 use arrayvec::ArrayVec;
-use memchr::memchr;
+use memchr::{memchr, memrchr};
 use std::io::Read;
 use std::marker::Model;
 
@@ -29,24 +29,36 @@ pub enum Ending {
 }
 
 /// What was read of a stream in reads of at most 4,096 bytes and not yet taken, and how many reads
-/// gave some, at most 16,777,216.
+/// gave some, at most 16,777,216. Where the last whole line of these bytes ends is looked for once a read.
 #[derive(Drop)]
 pub struct Source {
     chunk: [u8; MAX_LINE],
     start: usize,
+    lines: usize,
     end: usize,
     reads: u32,
 }
 
 impl Model for Source {
     ghost use Rattle.std.specs.Prelude.{ℕ, List, ◌≤◌, slice_range};
+    ghost use Rattle.l4_text.specs.Inside.Reading.{EndsLines};
     ghost use Rattle.l4_text.specs.Sizes.{line_bytes, most_reads};
 
     ghost Value = { List ℕ × ℕ };
 
     ghost view = { λ a. (slice_range a.chunk a.start a.end, a.reads) };
 
-    ghost invariant = { λ a. (a.start ≤ a.end) × (a.end ≤ line_bytes) × (a.reads ≤ most_reads) };
+    ghost invariant = { λ a. (a.start ≤ a.end) × (a.end ≤ line_bytes) × (a.reads ≤ most_reads) × EndsLines a.chunk a.end a.lines };
+}
+
+/// How many bytes the whole lines have that stand in front.
+fn lines_len(bytes: &[u8]) -> usize
+    ensures { EndsLines bytes.now (length bytes.now) result }
+{
+    match memrchr(b'\n', bytes) {
+        Some(place) => place + 1,
+        None => 0,
+    }
 }
 
 impl Source {
@@ -57,6 +69,7 @@ impl Source {
         Source {
             chunk: [0; MAX_LINE],
             start: 0,
+            lines: 0,
             end: 0,
             reads: 0,
         }
@@ -80,8 +93,7 @@ impl Source {
     pub fn has_line(&self) -> bool
         ensures { MatchBool result (NoNewline self.now.0 → ⊥) (NoNewline self.now.0) }
     {
-        let pending = self.pending();
-        if line_len(pending) < pending.len() {
+        if self.start < self.lines {
             return true;
         }
         false
@@ -104,10 +116,13 @@ impl Source {
             return Err(RunFault::Read);
         }
         let Ok(count) = reader.read(&mut self.chunk) else {
-            self.end = self.start;
+            self.start = 0;
+            self.lines = 0;
+            self.end = 0;
             return Err(RunFault::Read);
         };
         self.start = 0;
+        self.lines = lines_len(&self.chunk[..count]);
         self.end = count;
         if count == 0 {
             return Ok(false);

@@ -1,5 +1,5 @@
 -- How a stream is read, piece by piece, and what goes out at once (this profile's own).
-use Rattle.std.specs.Prelude.{ℕ, ◌≡◌, ◌+◌, ◌==◌, ◌<◌, ◌≤◌, Bool, true, false, List, [], ◌++◌, length, Option, Result, Ok, Err, not}
+use Rattle.std.specs.Prelude.{ℕ, ◌≡◌, ◌≢◌, ◌+◌, ◌-◌, ◌==◌, get_or, ◌<◌, ◌≤◌, Bool, true, false, List, [], ◌++◌, length, Option, Result, Ok, Err, not}
 use Rattle.std.specs.Io.KnownBytes.{Consumes, IsAtEnd, Appends}
 use Rattle.l4_text.specs.Sizes.{line_bytes, most_reads}
 use Rattle.l4_text.specs.declared.faults.RunFault.{RunFault}
@@ -7,6 +7,12 @@ use Rattle.l4_text.specs.declared.faults.RunFault.TheVariants.{Read}
 
 abbrev pub is_newline : ℕ → Bool
 is_newline byte = byte == 10
+
+-- So many bytes of the first ones are whole lines: a newline is the last of them, where there are any, and none stands after them.
+pub record EndsLines (bytes : List ℕ) (end lines : ℕ) : Type 0 where
+  pub within : lines ≤ end
+  pub last : lines ≢ 0 → (get_or bytes (lines - 1) 0 == 10) ≡ true
+  pub after : (k : ℕ) → lines ≤ k → k < end → (get_or bytes k 0 == 10) ≡ false
 
 -- a read put new bytes in the place of those that were there
 pub record Filled (old new : Option (List ℕ)) (before after : List ℕ × ℕ) (result : Result Bool RunFault) : Type 0 where
