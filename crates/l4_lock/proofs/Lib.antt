@@ -6,6 +6,7 @@ pub mod Going
 pub mod Books
 pub mod Noting
 pub mod Started
+pub mod Counting
 pub mod Openings
 pub mod Taking
 pub mod Booting

@@ -82,13 +82,12 @@ module _ (m : Machine) (place : ℕ) where
   all_next n ns [] = refl
   all_next n ns (x ∷ xs) = (λ i. noted_next n ns x i ∷ all_next n ns xs i)
 
-  pub note_at : (n : ℕ) (xs : List Book) (i : ℕ) (x y : Book) → IsOnce (numbers xs) → i < length xs → book_at xs n ≡ slice_get xs i → x ≡ get_or xs i x → y ≡ noted m (x.number ∷ []) place x
-      → slice_set xs i y ≡ map (noted m (n ∷ []) place) xs
-  note_at n xs i x y once lt at read is =
+  pub note_at : (n : ℕ) (xs ys : List Book) (i : ℕ) → IsOnce (numbers xs) → i < length xs → book_at xs n ≡ slice_get xs i
+      → ((b : Book) → slice_get xs i ≡ Some b → ys ≡ slice_set xs i (noted m (b.number ∷ []) place b)) → ys ≡ map (noted m (n ∷ []) place) xs
+  note_at n xs ys i once lt at is =
       let there = get_there xs i lt in
-      let here : x ≡ there.0 = read ∙ get_or_from_slice_get xs i there.0 x there.1 in
       let number : there.0.number ≡ n = at_number xs n there.0 (at ∙ there.1) in
-      one_noted n xs i there.0 y once there.1 number (is ∙ ap (λ (b : Book). noted m (b.number ∷ []) place b) here ∙ ap (λ k. noted m (k ∷ []) place there.0) number)
+      is there.0 there.1 ∙ one_noted n xs i there.0 (noted m (there.0.number ∷ []) place there.0) once there.1 number (ap (λ k. noted m (k ∷ []) place there.0) number)
 
   pub not_noted : (n : ℕ) (xs : List Book) → book_at xs n ≡ None → xs ≡ map (noted m (n ∷ []) place) xs
   not_noted n xs none = sym (others_noted n xs (none_among xs n none))
@@ -116,5 +115,5 @@ module _ (m : Machine) (place : ℕ) where
   once_noted ended xs ys is once = subst IsOnce (sym (ap numbers is ∙ numbers_noted m ended place xs)) once
 
 -- a book that begins a call keeps its number
-pub once_opened : (xs : List Book) (i : ℕ) (b y : Book) (p : Option Pending) → slice_get xs i ≡ Some b → y ≡ record b { pending = p } → IsOnce (numbers xs) → IsOnce (numbers (slice_set xs i y))
-once_opened xs i b y p at is once = subst IsOnce (sym (numbers_set xs i b y at (ap (λ (z : Book). z.number) is))) once
+pub once_opened : (xs ys : List Book) (i : ℕ) (b : Book) (p : Option Pending) → slice_get xs i ≡ Some b → ys ≡ slice_set xs i (record b { pending = p }) → IsOnce (numbers xs) → IsOnce (numbers ys)
+once_opened xs ys i b p at is once = subst IsOnce (sym (ap numbers is ∙ numbers_set xs i b (record b { pending = p }) at refl)) once

@@ -1,8 +1,8 @@
 -- A reply is taken from the lock, and a call is entered: what the lock keeps.
-use Rattle.std.proofs.Common.{◌≡◌, ◌≢◌, ℕ, ◌+◌, ◌<◌, ◌≤◌, ◌⊎◌, inl, inr, Bool, true, false, List, [], ◌∷◌, ◌++◌, length, get_or, Option, Some, None, Err, IfSome, IfNone, MatchOption, IsTrue, slice_get, slice_set, Contains, refl, sym, ap, ◌∙◌, subst, arith}
+use Rattle.std.proofs.Common.{◌≡◌, ◌≢◌, ℕ, ◌+◌, ◌<◌, ◌≤◌, ◌⊎◌, inl, inr, Bool, true, false, List, [], ◌∷◌, ◌++◌, length, Option, Some, None, Err, IfSome, IfNone, MatchOption, IsTrue, slice_get, slice_set, Contains, refl, sym, ap, ◌∙◌, subst, arith}
 use Rattle.std.specs.Option.{option_map, option_map_or, option_and_then}
 use Rattle.std.proofs.lemmas.Bool.{false≢true}
-use Rattle.std.proofs.lemmas.Option.{get_or_from_slice_get, slice_get_within}
+use Rattle.std.proofs.lemmas.Option.{slice_get_within}
 use Rattle.std.proofs.lemmas.List.{length-append}
 use Rattle.atomic_table.specs.Seated.{TableId}
 use Rattle.l4_threads.specs.declared.Reply.{Reply}
@@ -20,95 +20,90 @@ use Rattle.l4_lock.specs.declared.refusals.Entered.TheVariants.{Done as HasEnded
 use Rattle.l4_lock.specs.declared.refusals.LockRefusal.{LockRefusal}
 use Rattle.l4_lock.specs.declared.refusals.LockRefusal.TheVariants.{NoMemory, Kernel as ByKernel}
 use Rattle.l4_lock.specs.Receipts.{Proves}
-use Rattle.l4_lock.specs.Books.{SeatState, seat_state, Book, book_at, reply_waits, has_ended, plain, receipts_at, numbers, IsOnce, receipt_of, HasNotEnded, IsPending, IsRight, AreRight, Settles}
+use Rattle.l4_lock.specs.Books.{SeatState, seat_state, Book, book_at, reply_waits, has_ended, plain, receipts_at, numbers, IsOnce, receipt_of, HasNotEnded, IsPending, IsRight, AreRight}
 use Rattle.l4_lock.specs.Locked.{Lock, lock, IsKept, Enters, Tells, EndsAtOnce, IsLeft, Takes, Refuses, start_entry}
+use Rattle.l4_lock.specs.Inside.Accounts.{SettlesAt, IsUnsettled}
 use Rattle.l4_lock.specs.Inside.Entering.{Begins, IsAdmitted}
 use Rattle.l4_lock.proofs.Right.{pend}
-use Rattle.l4_lock.proofs.Started.{own_at, set_own, set_other, plain_at, get_there, read_all, right_settled, settled_right, set_same, at_number}
+use Rattle.l4_lock.proofs.Started.{same_book, own_at, set_own, set_other, plain_at, get_there, read_all, right_settled, settled_right, set_same, at_number}
 
-pub finished : (frames : ℕ) (es : List Entry) (m : Machine) (books : List Book) (board : TableId) (published place : ℕ) (x y : Book) (before after : SeatState) (own : Call → Call) (r : Option Reply)
-    → IsKept (lock frames m es books board published) → place < length books → x ≡ get_or books place x
-    → IfSome r (λ reply. Settles x y before after own reply) → IfNone r ((y ≡ x) × (after ≡ before) × (option_map_or has_ended x.pending false ≡ false))
-    → IsKept (lock frames m es (slice_set books place y) board published)
-finished frames es m books board published place x y before after own None k lt read some none =
-    let there = get_there books place lt in
-    let here : y ≡ there.0 = none.0 ∙ read ∙ get_or_from_slice_get books place there.0 x there.1 in
+pub finished : (frames : ℕ) (es : List Entry) (m : Machine) (books later : List Book) (board : TableId) (published place : ℕ) (before after : SeatState) (own : Call → Call) (r : Option Reply)
+    → IsKept (lock frames m es books board published)
+    → IfSome r (λ reply. SettlesAt books later place before after own reply) → IfNone r (IsUnsettled books later place before after)
+    → IsKept (lock frames m es later board published)
+finished frames es m books later board published place before after own None k some none =
     record {
-      right = subst (λ (l : List Book). AreRight frames es m l) (sym (ap (slice_set books place) here ∙ set_same books place there.0 there.1)) k.right;
+      right = subst (λ (l : List Book). AreRight frames es m l) (sym none.same) k.right;
       idle = k.idle;
       few = k.few;
       shown = k.shown;
     }
-finished frames es m books board published place x y before after own (Some reply) k lt read s none =
-    let there = get_there books place lt in
-    let here : x ≡ there.0 = read ∙ get_or_from_slice_get books place there.0 x there.1 in
+finished frames es m books later board published place before after own (Some reply) k s none =
     record {
-      right = (settled_right frames es m books place x y s.pending s.ended k.right (there.1 ∙ ap (λ (b : Book). Some b) (sym here)) s.pending_is s.ended_is s.book_is).1;
+      right = subst (λ (l : List Book). AreRight frames es m l) (sym s.changed)
+          (settled_right frames es m books place s.former s.settled s.settles.pending s.settles.ended k.right s.at s.settles.pending_is s.settles.ended_is s.settles.book_is).1;
       idle = k.idle;
       few = k.few;
       shown = k.shown;
     }
 
-pub taken : (frames : ℕ) (es : List Entry) (m : Machine) (books : List Book) (board : TableId) (published place : ℕ) (x y : Book) (before after : SeatState) (own : Call → Call) (r : Option Reply)
-    → IsKept (lock frames m es books board published) → place < length books → book_at books before.number ≡ slice_get books place → x ≡ get_or books place x
-    → IfSome r (λ reply. Settles x y before after own reply)
-    → IfSome r (λ reply. Takes (lock frames m es books board published) (lock frames m es (slice_set books place y) board published) before after own reply)
-taken frames es m books board published place x y before after own None k lt at read some = some
-taken frames es m books board published place x y before after own (Some reply) k lt at read s =
-    let there = get_there books place lt in
-    let here : x ≡ there.0 = read ∙ get_or_from_slice_get books place there.0 x there.1 in
-    let placed : slice_get books place ≡ Some x = there.1 ∙ ap (λ (b : Book). Some b) (sym here) in
-    let numbered : x.number ≡ before.number = at_number books before.number x (at ∙ placed) in
+pub taken : (frames : ℕ) (es : List Entry) (m : Machine) (books later : List Book) (board : TableId) (published place : ℕ) (before after : SeatState) (own : Call → Call) (r : Option Reply)
+    → IsKept (lock frames m es books board published) → book_at books before.number ≡ slice_get books place
+    → IfSome r (λ reply. SettlesAt books later place before after own reply)
+    → IfSome r (λ reply. Takes (lock frames m es books board published) (lock frames m es later board published) before after own reply)
+taken frames es m books later board published place before after own None k at some = some
+taken frames es m books later board published place before after own (Some reply) k at s =
+    let x : Book = s.former in
+    let y : Book = s.settled in
+    let numbered : x.number ≡ before.number = at_number books before.number x (at ∙ s.at) in
+    let same : y.number ≡ x.number = ap (λ (b : Book). b.number) s.settles.book_is in
     record {
       book = x;
-      at = at ∙ placed;
+      at = at ∙ s.at;
       later = y;
-      settles = s;
-      proves = subst (λ (n : ℕ). Proves frames es n (receipt_of s.pending s.ended)) numbered
-          (settled_right frames es m books place x y s.pending s.ended k.right placed s.pending_is s.ended_is s.book_is).0;
-      settled = subst (λ (j : ℕ). book_at (slice_set books place y) j ≡ Some y) numbered (set_own books place x y placed (ap (λ (b : Book). b.number) s.book_is) k.right.apart);
-      others = λ j ne. set_other books place x y j placed (ap (λ (b : Book). b.number) s.book_is) (λ e. ne (e ∙ numbered));
+      settles = s.settles;
+      proves = subst (λ (n : ℕ). Proves frames es n (receipt_of s.settles.pending s.settles.ended)) numbered
+          (settled_right frames es m books place x y s.settles.pending s.settles.ended k.right s.at s.settles.pending_is s.settles.ended_is s.settles.book_is).0;
+      settled = ap (λ (l : List Book). book_at l before.number) s.changed ∙ subst (λ (j : ℕ). book_at (slice_set books place y) j ≡ Some y) numbered (set_own books place x y s.at same k.right.apart);
+      others = λ j ne. ap (λ (l : List Book). book_at l j) s.changed ∙ set_other books place x y j s.at same (λ e. ne (e ∙ numbered));
       same = (refl, refl, refl, refl);
     }
 
-pub not_taken : (frames : ℕ) (es : List Entry) (m : Machine) (books : List Book) (board : TableId) (published place : ℕ) (x y : Book) (before after : SeatState) (r : Option Reply)
-    → place < length books → book_at books before.number ≡ slice_get books place → x ≡ get_or books place x
-    → IfNone r ((y ≡ x) × (after ≡ before) × (option_map_or has_ended x.pending false ≡ false))
-    → IfNone r ((lock frames m es (slice_set books place y) board published ≡ lock frames m es books board published) × (after ≡ before) × ((before.waiting ≡ 0) ⊎ (reply_waits books before.number ≡ false)))
-not_taken frames es m books board published place x y before after (Some reply) lt at read none = none
-not_taken frames es m books board published place x y before after None lt at read none =
-    let there = get_there books place lt in
-    let here : x ≡ there.0 = read ∙ get_or_from_slice_get books place there.0 x there.1 in
-    let placed : slice_get books place ≡ Some x = there.1 ∙ ap (λ (b : Book). Some b) (sym here) in (
-      ap (λ (l : List Book). lock frames m es l board published) (ap (slice_set books place) (none.0 ∙ here) ∙ set_same books place there.0 there.1),
-      none.1,
-      inr (ap (λ (o : Option Book). option_map_or has_ended (option_and_then (λ (b : Book). b.pending) o) false) (at ∙ placed) ∙ none.2),
+pub not_taken : (frames : ℕ) (es : List Entry) (m : Machine) (books later : List Book) (board : TableId) (published place : ℕ) (before after : SeatState) (r : Option Reply)
+    → place < length books → book_at books before.number ≡ slice_get books place → IfNone r (IsUnsettled books later place before after)
+    → IfNone r ((lock frames m es later board published ≡ lock frames m es books board published) × (after ≡ before) × ((before.waiting ≡ 0) ⊎ (reply_waits books before.number ≡ false)))
+not_taken frames es m books later board published place before after (Some reply) lt at none = none
+not_taken frames es m books later board published place before after None lt at none =
+    let there = get_there books place lt in (
+      ap (λ (l : List Book). lock frames m es l board published) none.same,
+      none.seat,
+      inr (ap (λ (o : Option Book). option_map_or has_ended (option_and_then (λ (b : Book). b.pending) o) false) (at ∙ there.1) ∙ none.none there.0 there.1),
     )
 
 -- the same of whether it has ended
-abbrev pub settled_in : Lock → ℕ → Book → Lock
-settled_in l place y = record l { books = slice_set l.books place y }
+abbrev pub settled_in : Lock → List Book → Lock
+settled_in l later = record l { books = later }
 
-pub settled_kept : (l : Lock) (place : ℕ) (x y : Book) (before after : SeatState) (own : Call → Call) (ended : Bool) → IsKept l → place < length l.books → x ≡ get_or l.books place x
-    → (ended ≡ true → (reply : Reply) × Settles x y before after own reply) → (ended ≡ false → (y ≡ x) × (after ≡ before) × (option_map_or has_ended x.pending false ≡ false))
-    → IsKept (settled_in l place y)
-settled_kept l place x y before after own true k lt read settles same =
-    finished l.frames l.history l.kernel l.books l.board l.published place x y before after own (Some (settles refl).0) k lt read (settles refl).1 tt
-settled_kept l place x y before after own false k lt read settles same =
-    finished l.frames l.history l.kernel l.books l.board l.published place x y before after own None k lt read tt (same refl)
+pub settled_kept : (l : Lock) (later : List Book) (place : ℕ) (before after : SeatState) (own : Call → Call) (ended : Bool) → IsKept l
+    → (ended ≡ true → (reply : Reply) × SettlesAt l.books later place before after own reply) → (ended ≡ false → IsUnsettled l.books later place before after)
+    → IsKept (settled_in l later)
+settled_kept l later place before after own true k settles same =
+    finished l.frames l.history l.kernel l.books later l.board l.published place before after own (Some (settles refl).0) k (settles refl).1 tt
+settled_kept l later place before after own false k settles same =
+    finished l.frames l.history l.kernel l.books later l.board l.published place before after own None k tt (same refl)
 
-pub taken_untold : (l : Lock) (place : ℕ) (x y : Book) (before after : SeatState) (own : Call → Call) (ended : Bool) → IsKept l → place < length l.books → book_at l.books before.number ≡ slice_get l.books place
-    → x ≡ get_or l.books place x → (ended ≡ true → (reply : Reply) × Settles x y before after own reply) → ended ≡ true
-    → (reply : Reply) × Takes l (settled_in l place y) before after own reply
-taken_untold l place x y before after own ended k lt at read settles is =
+pub taken_untold : (l : Lock) (later : List Book) (place : ℕ) (before after : SeatState) (own : Call → Call) (ended : Bool) → IsKept l → book_at l.books before.number ≡ slice_get l.books place
+    → (ended ≡ true → (reply : Reply) × SettlesAt l.books later place before after own reply) → ended ≡ true
+    → (reply : Reply) × Takes l (settled_in l later) before after own reply
+taken_untold l later place before after own ended k at settles is =
     let s = settles is in
-    (s.0, taken l.frames l.history l.kernel l.books l.board l.published place x y before after own (Some s.0) k lt at read s.1)
+    (s.0, taken l.frames l.history l.kernel l.books later l.board l.published place before after own (Some s.0) k at s.1)
 
-pub not_taken_untold : (l : Lock) (place : ℕ) (x y : Book) (before after : SeatState) (ended : Bool) → place < length l.books → book_at l.books before.number ≡ slice_get l.books place
-    → x ≡ get_or l.books place x → (ended ≡ false → (y ≡ x) × (after ≡ before) × (option_map_or has_ended x.pending false ≡ false)) → ended ≡ false
-    → (settled_in l place y ≡ l) × (after ≡ before) × ((before.waiting ≡ 0) ⊎ (reply_waits l.books before.number ≡ false))
-not_taken_untold l place x y before after ended lt at read same is =
-    not_taken l.frames l.history l.kernel l.books l.board l.published place x y before after None lt at read (same is)
+pub not_taken_untold : (l : Lock) (later : List Book) (place : ℕ) (before after : SeatState) (ended : Bool) → place < length l.books → book_at l.books before.number ≡ slice_get l.books place
+    → (ended ≡ false → IsUnsettled l.books later place before after) → ended ≡ false
+    → (settled_in l later ≡ l) × (after ≡ before) × ((before.waiting ≡ 0) ⊎ (reply_waits l.books before.number ≡ false))
+not_taken_untold l later place before after ended lt at same is =
+    not_taken l.frames l.history l.kernel l.books later l.board l.published place before after None lt at (same is)
 
 -- ENTER
 
@@ -133,9 +128,9 @@ others_kept es es' m new books later n place call y b same j ne =
 pub placed : (old mid : Lock) (before between : SeatState) (call : Call) (place : ℕ) → IsAdmitted old mid before between call place → place < length mid.books
 placed old mid before between call place a = slice_get_within mid.books place a.begins.book a.begins.at
 
-enters : (old mid : Lock) (before between : SeatState) (call : Call) (place : ℕ) (y : Book) → IsAdmitted old mid before between call place → y.number ≡ before.number
-    → Enters old (settled_in mid place y) before.number call
-enters old mid before between call place y a numbered =
+enters : (old mid : Lock) (later : List Book) (before between : SeatState) (call : Call) (place : ℕ) (y : Book) → IsAdmitted old mid before between call place → later ≡ slice_set mid.books place y → y.number ≡ before.number
+    → Enters old (settled_in mid later) before.number call
+enters old mid later before between call place y a changed numbered =
     let b = a.begins in
     record {
       room = a.room;
@@ -147,7 +142,8 @@ enters old mid before between call place y a numbered =
       few = (let few = b.few in omega (arith, few));
       history = b.history;
       same = a.same;
-      others = others_kept old.history mid.history old.kernel mid.kernel old.books mid.books before.number place call y b numbered;
+      others = λ j ne. ap (λ (l : List Book). option_map plain (book_at l j)) changed
+          ∙ others_kept old.history mid.history old.kernel mid.kernel old.books mid.books before.number place call y b numbered j ne;
     }
 
 -- what was kept of the number
@@ -160,19 +156,23 @@ same_call : (p q : Pending) → ◌≡◌ {A = Option Pending} (Some p) (Some q)
 same_call p q e = cc
 
 -- the call has ended, and its receipt is the seat's
-pub entered_done : (old mid : Lock) (before between after : SeatState) (call : Call) (place : ℕ) (x y : Book) (reply : Reply) → IsKept mid → IsAdmitted old mid before between call place
-    → x ≡ get_or mid.books place x → Settles x y between after (λ c. c) reply
-    → Enters old (settled_in mid place y) before.number call × EndsAtOnce old (settled_in mid place y) before after call reply
-entered_done old mid before between after call place x y reply k a read s =
+pub entered_done : (old mid : Lock) (later : List Book) (before between after : SeatState) (call : Call) (place : ℕ) (reply : Reply) → IsKept mid → IsAdmitted old mid before between call place
+    → SettlesAt mid.books later place between after (λ c. c) reply
+    → Enters old (settled_in mid later) before.number call × EndsAtOnce old (settled_in mid later) before after call reply
+entered_done old mid later before between after call place reply k a t =
     let b = a.begins in
-    let here : x ≡ b.book = read ∙ get_or_from_slice_get mid.books place b.book x b.at in
+    let x : Book = t.former in
+    let y : Book = t.settled in
+    let s = t.settles in
+    let here : x ≡ b.book = same_book x b.book (sym t.at ∙ b.at) in
     let its : s.pending ≡ b.pending = same_call s.pending b.pending (sym s.pending_is ∙ ap (λ (z : Book). z.pending) here ∙ b.pending_is) in
     let numbered : x.number ≡ before.number = ap (λ (z : Book). z.number) here ∙ b.number in
-    let settled : book_at (slice_set mid.books place y) before.number ≡ Some y =
-    subst (λ (j : ℕ). book_at (slice_set mid.books place y) j ≡ Some y) numbered (set_own mid.books place x y (b.at ∙ ap (λ (z : Book). Some z) (sym here)) (ap (λ (z : Book). z.number) s.book_is) k.right.apart) in
+    let settled : book_at later before.number ≡ Some y =
+    ap (λ (l : List Book). book_at l before.number) t.changed
+    ∙ subst (λ (j : ℕ). book_at (slice_set mid.books place y) j ≡ Some y) numbered (set_own mid.books place x y t.at (ap (λ (z : Book). z.number) s.book_is) k.right.apart) in
     let had : receipts_at old.books before.number ≡ Some b.former.receipts =
     former_kept old.history mid.history old.kernel mid.kernel old.books mid.books before.number place call b a.apart in (
-      enters old mid before between call place y a (ap (λ (z : Book). z.number) s.book_is ∙ numbered),
+      enters old mid later before between call place y a t.changed (ap (λ (z : Book). z.number) s.book_is ∙ numbered),
       record {
         kept = ap (option_map (λ (z : Book). z.receipts)) settled ∙ ap (λ (rs : List Receipt). Some rs) (ap (λ (z : Book). z.receipts) s.book_is ∙ ap (λ (z : Book). z.receipts ++ receipt_of s.pending s.ended ∷ []) here ∙ ap (λ (rs : List Receipt). rs ++ receipt_of s.pending s.ended ∷ []) b.receipts)
             ∙ sym (ap (option_map (λ (rs : List Receipt). rs ++ receipt_of s.pending s.ended ∷ [])) had);
@@ -186,7 +186,7 @@ entered_done old mid before between after call place x y reply k a read s =
           waiting = (let w = s.waiting in let v = ap (λ (p : SeatState). p.waiting) a.seat in omega (arith, w, v));
           receipts = s.receipts ∙ ap (λ (p : SeatState). p.receipts ++ receipt_of s.pending s.ended ∷ []) a.seat;
           proves = subst (λ (j : ℕ). Proves mid.frames mid.history j (receipt_of s.pending s.ended)) numbered
-              (right_settled mid.frames mid.history mid.kernel x s.pending s.ended (subst (IsRight mid.frames mid.history mid.kernel) (sym here) (read_all (IsRight mid.frames mid.history mid.kernel) mid.books place b.book b.at k.right.each)) s.pending_is s.ended_is).0;
+              (right_settled mid.frames mid.history mid.kernel x s.pending s.ended (read_all (IsRight mid.frames mid.history mid.kernel) mid.books place x t.at k.right.each) s.pending_is s.ended_is).0;
         };
       },
     )
@@ -196,41 +196,38 @@ not_yet frames es m k call start None p e = p.ended
 not_yet frames es m k call start (Some f) p e = absurd (false≢true (sym e))
 
 -- the call has not ended
-pub entered_left : (old mid : Lock) (before between after : SeatState) (call : Call) (place : ℕ) (x y : Book) → IsKept mid → IsAdmitted old mid before between call place
-    → x ≡ get_or mid.books place x → (y ≡ x) × (after ≡ between) × (option_map_or has_ended x.pending false ≡ false)
-    → Enters old (settled_in mid place y) before.number call × IsLeft old (settled_in mid place y) before after
-entered_left old mid before between after call place x y k a read none =
+pub entered_left : (old mid : Lock) (later : List Book) (before between after : SeatState) (call : Call) (place : ℕ) → IsKept mid → IsAdmitted old mid before between call place
+    → IsUnsettled mid.books later place between after
+    → Enters old (settled_in mid later) before.number call × IsLeft old (settled_in mid later) before after
+entered_left old mid later before between after call place k a none =
     let b = a.begins in
-    let here : x ≡ b.book = read ∙ get_or_from_slice_get mid.books place b.book x b.at in
     let its : IsRight mid.frames mid.history mid.kernel b.book = read_all (IsRight mid.frames mid.history mid.kernel) mid.books place b.book b.at k.right.each in
     let pending : IsPending mid.frames mid.history mid.kernel b.book.number b.pending =
     subst (λ (o : Option Pending). MatchOption o (Unit {0}) (IsPending mid.frames mid.history mid.kernel b.book.number)) b.pending_is its.pending in
-    let waits : has_ended b.pending ≡ false = sym (ap (λ (z : Book). option_map_or has_ended z.pending false) here ∙ ap (λ (o : Option Pending). option_map_or has_ended o false) b.pending_is) ∙ none.2 in
+    let waits : has_ended b.pending ≡ false = sym (ap (λ (o : Option Pending). option_map_or has_ended o false) b.pending_is) ∙ none.none b.book b.at in
     let not_ended = not_yet mid.frames mid.history mid.kernel b.book.number b.pending.call b.pending.start b.pending.ended pending waits in
-    let same : y.number ≡ b.book.number = ap (λ (z : Book). z.number) (none.0 ∙ here) in
-    let settled : book_at (slice_set mid.books place y) before.number ≡ Some y =
-    subst (λ (j : ℕ). book_at (slice_set mid.books place y) j ≡ Some y) b.number (set_own mid.books place b.book y b.at same k.right.apart) in
+    let settled : book_at later before.number ≡ Some b.book =
+    ap (λ (l : List Book). book_at l before.number) none.same ∙ subst (λ (j : ℕ). book_at mid.books j ≡ Some b.book) b.number (own_at mid.books place b.book b.at k.right.apart) in
     let had : receipts_at old.books before.number ≡ Some b.former.receipts =
     former_kept old.history mid.history old.kernel mid.kernel old.books mid.books before.number place call b a.apart in (
-      enters old mid before between call place y a (same ∙ b.number),
+      enters old mid later before between call place b.book a (none.same ∙ sym (set_same mid.books place b.book b.at)) b.number,
       record {
-        kept = ap (option_map (λ (z : Book). z.receipts)) settled ∙ ap (λ (rs : List Receipt). Some rs) (ap (λ (z : Book). z.receipts) (none.0 ∙ here) ∙ b.receipts) ∙ sym had;
-        seat = none.1 ∙ a.seat;
+        kept = ap (option_map (λ (z : Book). z.receipts)) settled ∙ ap (λ (rs : List Receipt). Some rs) b.receipts ∙ sym had;
+        seat = none.seat ∙ a.seat;
         not_ended = λ j entry after' at among.
             not_ended.not_ended j entry (let s = b.pending_start in omega (arith, after', s)) at (subst (λ (n : ℕ). Contains entry.answer.ended.items n) (sym b.number) among);
       },
     )
 
 -- the same of whether it has ended
-pub entered_either : (old mid : Lock) (before between after : SeatState) (call : Call) (place : ℕ) (x y : Book) (ended : Bool) → IsKept mid → IsAdmitted old mid before between call place
-    → x ≡ get_or mid.books place x → (ended ≡ true → (reply : Reply) × Settles x y between after (λ c. c) reply)
-    → (ended ≡ false → (y ≡ x) × (after ≡ between) × (option_map_or has_ended x.pending false ≡ false))
-    → Enters old (settled_in mid place y) before.number call × ((e : Entered) × Tells old (settled_in mid place y) before after call e)
-entered_either old mid before between after call place x y true k a read settles same =
-    let done = entered_done old mid before between after call place x y (settles refl).0 k a read (settles refl).1 in
+pub entered_either : (old mid : Lock) (later : List Book) (before between after : SeatState) (call : Call) (place : ℕ) (ended : Bool) → IsKept mid → IsAdmitted old mid before between call place
+    → (ended ≡ true → (reply : Reply) × SettlesAt mid.books later place between after (λ c. c) reply) → (ended ≡ false → IsUnsettled mid.books later place between after)
+    → Enters old (settled_in mid later) before.number call × ((e : Entered) × Tells old (settled_in mid later) before after call e)
+entered_either old mid later before between after call place true k a settles same =
+    let done = entered_done old mid later before between after call place (settles refl).0 k a (settles refl).1 in
     (done.0, (HasEnded (settles refl).0, done.1))
-entered_either old mid before between after call place x y false k a read settles same =
-    let left = entered_left old mid before between after call place x y k a read (same refl) in
+entered_either old mid later before between after call place false k a settles same =
+    let left = entered_left old mid later before between after call place k a (same refl) in
     (left.0, (IsWaiting, left.1))
 
 pub seat_back : (before between after : SeatState) → between ≡ record before { waiting = before.waiting + 1 } → between ≡ record after { waiting = after.waiting + 1 } → after ≡ before

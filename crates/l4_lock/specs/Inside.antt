@@ -1,3 +1,4 @@
+pub mod Accounts
 pub mod Closing
 pub mod Entering
 pub mod Noting

@@ -1,6 +1,7 @@
 //! The locked kernel: a kernel with its history, the seats that enter calls, and the board that shows how far it has come.
 #![tactic(auto)]
 
+mod accounts;
 mod closing;
 mod copies;
 mod entries;

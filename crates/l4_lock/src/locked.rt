@@ -12,11 +12,12 @@ ghost use Rattle.l4_lock.specs.Inside.Entering.{IsAdmitted};
 ghost use Rattle.l4_board.specs.Board.{IsNewWatch};
 ghost use Rattle.std.specs.List.{All};
 
+use crate::accounts::Accounts;
 use crate::closing::{Unclosed, first_mismatch};
 use crate::history::History;
 use crate::refusals::{Entered, LockRefusal};
-use crate::seats::{Account, Seat, finish, settle};
-use crate::steps::{begin, first_reply, position, reply_waits};
+use crate::seats::Seat;
+use crate::steps::begin;
 use l4_board::{Board, Publisher, Watch};
 use l4_ipc::{Call, Kernel, Refused, Reply};
 use std::alloc::Global;
@@ -40,7 +41,7 @@ pub struct Locked {
     frames: u32,
     kernel: Kernel,
     history: History,
-    accounts: Vec<Account>,
+    accounts: Accounts,
     publisher: Publisher,
     alloc: Global,
 }
@@ -94,7 +95,7 @@ impl Locked {
             frames,
             kernel,
             history: History::new(alloc),
-            accounts: Vec::new(alloc),
+            accounts: Accounts::new(alloc),
             publisher,
             alloc,
         };
@@ -140,14 +141,12 @@ impl Locked {
             (λ e. (self.new ≡ self.old)
             × (((e ≡ SeatTaken) × (book_at self.old.books number ≢ None)) ⊎ ((e ≡ WantOfMemory) × (book_at self.old.books number ≡ None)))) }
     {
-        if position(self.accounts.as_slice(), number).is_some() {
+        if self.accounts.position(number).is_some() {
             return Err(LockRefusal::SeatTaken);
         }
-        if self.accounts.reserve(1).is_err() {
+        if self.accounts.add(self.alloc, number).is_err() {
             return Err(LockRefusal::NoMemory);
         }
-        let account = Account::new(self.alloc, number);
-        self.accounts.push_reserved(account);
         Ok(Seat::new(self.alloc, number))
     }
 
@@ -164,7 +163,7 @@ impl Locked {
             Ok(at) => at,
             Err(refusal) => return Err(refusal),
         };
-        if let Some(reply) = finish(&mut self.accounts[at], seat, None) {
+        if let Some(reply) = self.accounts.finish(at, seat, None) {
             return Ok(Entered::Done(reply));
         }
         Ok(Entered::Waiting)
@@ -179,7 +178,7 @@ impl Locked {
             Ok(at) => at,
             Err(refusal) => return Err(refusal),
         };
-        settle(&mut self.accounts[at], seat, None);
+        self.accounts.settle(at, seat, None);
         Ok(())
     }
 
@@ -189,7 +188,7 @@ impl Locked {
         ensures err { IfErr result (λ e. Refuses self.old seat.old.number call.now e × (self.new ≡ self.old) × (seat.new ≡ seat.old)) }
     {
         let number = seat.number();
-        if reply_waits(self.accounts.as_slice(), number) {
+        if self.accounts.reply_waits(number) {
             return Err(LockRefusal::ReplyWaiting);
         }
         if self.history.len() > LAST_START {
@@ -198,7 +197,7 @@ impl Locked {
         if self.history.reserve(CALL_ENTRIES).is_err() {
             return Err(LockRefusal::NoMemory);
         }
-        let Some(at) = position(self.accounts.as_slice(), number) else {
+        let Some(at) = self.accounts.position(number) else {
             return Err(LockRefusal::Kernel(Refused::UnknownThread));
         };
         if seat.wait_more().is_err() {
@@ -228,10 +227,10 @@ impl Locked {
         if seat.waiting() == 0 {
             return None;
         }
-        let Some(at) = position(self.accounts.as_slice(), seat.number()) else {
+        let Some(at) = self.accounts.position(seat.number()) else {
             return None;
         };
-        finish(&mut self.accounts[at], seat, None)
+        self.accounts.finish(at, seat, None)
     }
 
     /// The same, and hands no reply out: whether there was one.
@@ -243,17 +242,17 @@ impl Locked {
         if seat.waiting() == 0 {
             return false;
         }
-        let Some(at) = position(self.accounts.as_slice(), seat.number()) else {
+        let Some(at) = self.accounts.position(seat.number()) else {
             return false;
         };
-        settle(&mut self.accounts[at], seat, None)
+        self.accounts.settle(at, seat, None)
     }
 
     /// The number of a seat whose ended call has not been taken. None where there is none.
     pub fn waiting_reply(&self) -> Option<u32>
         ensures { MatchOption result ((n : ℕ) → reply_waits self.now.books n ≡ false) (λ n. reply_waits self.now.books n ≡ true) }
     {
-        first_reply(self.accounts.as_slice())
+        self.accounts.any_reply()
     }
 
     /// The same as `take`, where the seat's receipt has the call that its holder knows of.
@@ -264,10 +263,10 @@ impl Locked {
         if seat.waiting() == 0 {
             return None;
         }
-        let Some(at) = position(self.accounts.as_slice(), seat.number()) else {
+        let Some(at) = self.accounts.position(seat.number()) else {
             return None;
         };
-        finish(&mut self.accounts[at], seat, Some(call))
+        self.accounts.finish(at, seat, Some(call))
     }
 
     /// Hands out the history and the kernel, with what holds of the whole history, where just the seats that were given come back and agree with what was kept of them.

@@ -2,6 +2,7 @@
 ghost use Rattle.std.specs.Prelude.{◌≡◌, ◌≢◌, ◌+◌, ◌<◌, ◌≤◌, ℕ, Some, None, [], ◌∷◌, ◌++◌, length, IfSome, IfNone, MatchResult, IsTrue, is_some, true, false};
 ghost use Rattle.std.specs.Option.{option_map_or, option_copied};
 ghost use Rattle.l4_lock.specs.Books.{SeatState, seat_state, starts, Book, book, pending_count, has_ended, Settles};
+ghost use Rattle.l4_lock.specs.Inside.Accounts.{has_reply};
 ghost use Rattle.l4_lock.specs.Inside.Noting.{started_by, noted, reply_pending, own_call};
 ghost use Rattle.l4_lock.specs.Inside.Packing.{receipt_at};
 ghost use Rattle.l4_lock.specs.declared.entries.Receipt.{Receipt as AReceipt};
@@ -207,15 +208,21 @@ impl Account {
         self.pending.forget();
     }
 
-    /// Notes that its call, if one goes on, ended in the entry of this place.
-    pub fn end(&mut self, kernel: &Kernel, place: usize)
-        ensures { self.new ≡ noted kernel.now (self.old.number ∷ []) place self.old }
+    /// Notes that its call, if one goes on, ended in the entry of this place. Answers whether there is a reply since then.
+    pub fn end(&mut self, kernel: &Kernel, place: usize) -> bool
+        ensures noted { self.new ≡ noted kernel.now (self.old.number ∷ []) place self.old }
+        ensures more { result ≡ true → (has_reply self.old ≡ false) × (has_reply self.new ≡ true) }
+        ensures same { result ≡ false → has_reply self.new ≡ has_reply self.old }
     {
+        if self.pending.has_ended() {
+            return false;
+        }
         self.pending.end(kernel, place, self.number);
+        self.pending.has_ended()
     }
 
     /// The reply of the call that isn't taken yet, if it has ended.
-    fn reply(&self) -> Option<Reply>
+    pub fn reply(&self) -> Option<Reply>
         ensures { result ≡ reply_pending self.now.pending }
     {
         self.pending.reply()
@@ -255,17 +262,4 @@ pub(crate) fn settle(account: &mut Account, seat: &mut Seat, own: Option<&Call>)
     hand_over(seat, words, own);
     pending.forget();
     true
-}
-
-/// The same, with the reply.
-pub(crate) fn finish(account: &mut Account, seat: &mut Seat, own: Option<&Call>) -> Option<Reply>
-    requires { seat.old.waiting ≢ 0 }
-    ensures some { IfSome result (λ reply. Settles account.old account.new seat.old seat.new (own_call (option_copied own.entry)) reply) }
-    ensures none { IfNone result ((account.new ≡ account.old) × (seat.new ≡ seat.old) × (option_map_or has_ended account.old.pending false ≡ false)) }
-{
-    let Some(reply) = account.reply() else {
-        return None;
-    };
-    settle(account, seat, own);
-    Some(reply)
 }

@@ -1,8 +1,8 @@
 //! Steps of the kernel with their entries.
 ghost use Rattle.std.specs.Prelude.{false, ◌≡◌, ◌≢◌, ◌⊎◌, ◌+◌, ◌<◌, ◌≤◌, ℕ, Ok, Err, None, [], ◌∷◌, IfOk, IfErr, OnErr, map, length, MatchOption, slice_get};
 ghost use Rattle.l4_ipc.specs.Steps.{Steps, IsIdle};
-ghost use Rattle.l4_lock.specs.Inside.Noting.{noted, first_reply};
-ghost use Rattle.l4_lock.specs.Books.{book_at, reply_waits, numbers, IsOnce};
+ghost use Rattle.l4_lock.specs.Inside.Noting.{noted};
+ghost use Rattle.l4_lock.specs.Books.{numbers, IsOnce};
 ghost use Rattle.l4_lock.specs.Inside.Entering.{Went, Begins, IsReady, IsStarted};
 ghost use Rattle.l4_threads.specs.Sizes.{max_threads};
 ghost use Rattle.l4_ipc.specs.OwnCall.{is_delete, ended_if};
@@ -12,65 +12,24 @@ ghost use Rattle.l4_ipc.specs.declared.steps.Refused.{Refused as ARefused};
 ghost use Rattle.l4_ipc.specs.declared.steps.Step.TheVariants.{Start};
 ghost use Rattle.l4_lock.specs.declared.refusals.LockRefusal.TheVariants.{NoMemory, Kernel as ByKernel};
 
+use crate::accounts::Accounts;
 use crate::history::History;
 use crate::refusals::LockRefusal;
-use crate::seats::Account;
 use l4_ipc::{Call, Control, Kernel, NextStep, Refused};
 
-/// Where the account of a number stands. Nothing is searched where the seats were given in the order of their numbers, from 1 on.
-pub fn position(accounts: &[Account], number: u32) -> Option<usize>
-    requires { IsOnce (numbers accounts.now) }
-    ensures { MatchOption result (book_at accounts.now number ≡ None)
-        (λ at. (at < length accounts.now) × (book_at accounts.now number ≡ slice_get accounts.now at)) }
-{
-    let guess = (number as usize).wrapping_sub(1);
-    if guess < accounts.len() && accounts[guess].number() == number {
-        return Some(guess);
-    }
-    for (i, account) in accounts.iter().enumerate() {
-        if account.number() == number {
-            return Some(i);
-        }
-    }
-    None
-}
-
-/// Whether an ended call of this number hasn't been taken.
-pub fn reply_waits(accounts: &[Account], number: u32) -> bool
-    requires { IsOnce (numbers accounts.now) }
-    ensures { result ≡ reply_waits accounts.now number }
-{
-    match position(accounts, number) {
-        Some(at) => accounts[at].has_reply(),
-        None => false,
-    }
-}
-
-/// The number of the first account with an ended call that hasn't been taken.
-pub fn first_reply(accounts: &[Account]) -> Option<u32>
-    ensures { result ≡ first_reply accounts.now }
-{
-    for i in 0..accounts.len() {
-        if accounts[i].has_reply() {
-            return Some(accounts[i].number());
-        }
-    }
-    None
-}
-
 /// Notes at the account of this number that its call ended in the entry of this place.
-fn note_one(accounts: &mut Vec<Account>, kernel: &Kernel, number: u32, place: usize)
+fn note_one(accounts: &mut Accounts, kernel: &Kernel, number: u32, place: usize)
     requires { IsOnce (numbers accounts.old.items) }
     ensures { accounts.new.items ≡ map (noted kernel.now (number ∷ []) place) accounts.old.items }
 {
-    if let Some(at) = position(accounts.as_slice(), number) {
-        accounts[at].end(kernel, place);
+    if let Some(at) = accounts.position(number) {
+        accounts.end(at, kernel, place);
     }
 }
 
 /// Notes at each account that these calls ended in the entry of this place.
 #[inline(always)]
-fn note_all(accounts: &mut Vec<Account>, kernel: &Kernel, ended: &[u32], place: usize)
+fn note_all(accounts: &mut Accounts, kernel: &Kernel, ended: &[u32], place: usize)
     requires { IsOnce (numbers accounts.old.items) }
     ensures { accounts.new.items ≡ map (noted kernel.now ended.now place) accounts.old.items }
 {
@@ -80,7 +39,7 @@ fn note_all(accounts: &mut Vec<Account>, kernel: &Kernel, ended: &[u32], place: 
 }
 
 /// Notes at each account that the call of this thread ended in the entry of this place, where it has ended.
-fn note_own(accounts: &mut Vec<Account>, kernel: &Kernel, number: u32, ended: bool, place: usize)
+fn note_own(accounts: &mut Accounts, kernel: &Kernel, number: u32, ended: bool, place: usize)
     requires { IsOnce (numbers accounts.old.items) }
     ensures { accounts.new.items ≡ map (noted kernel.now (ended_if ended number) place) accounts.old.items }
 {
@@ -90,7 +49,7 @@ fn note_own(accounts: &mut Vec<Account>, kernel: &Kernel, number: u32, ended: bo
 }
 
 /// Notes at each account the calls that ended in a step that came next, whose entry is that of this place.
-fn note_next(accounts: &mut Vec<Account>, kernel: &Kernel, next: NextStep, place: usize)
+fn note_next(accounts: &mut Accounts, kernel: &Kernel, next: NextStep, place: usize)
     requires { IsOnce (numbers accounts.old.items) }
     ensures { accounts.new.items ≡ map (noted kernel.now (answer_of next).ended.items place) accounts.old.items }
 {
@@ -104,7 +63,7 @@ fn note_next(accounts: &mut Vec<Account>, kernel: &Kernel, next: NextStep, place
 }
 
 /// Does the steps that come next, until there is none.
-pub fn follow(kernel: &mut Kernel, history: &mut History, accounts: &mut Vec<Account>, seat: u32)
+pub fn follow(kernel: &mut Kernel, history: &mut History, accounts: &mut Accounts, seat: u32)
     requires room { length history.old.entries + max_threads ≤ history.old.room }
     requires once { IsOnce (numbers accounts.old.items) }
     ensures went { Went seat kernel.old kernel.new history.old.entries history.new.entries accounts.old.items accounts.new.items }
@@ -129,7 +88,7 @@ fn is_delete(call: &Call) -> bool
 fn start_untold(
     kernel: &mut Kernel,
     history: &mut History,
-    accounts: &mut Vec<Account>,
+    accounts: &mut Accounts,
     number: u32,
     call: &Call,
 ) -> Result<(), Refused>
@@ -152,7 +111,7 @@ fn start_untold(
 fn start_told(
     kernel: &mut Kernel,
     history: &mut History,
-    accounts: &mut Vec<Account>,
+    accounts: &mut Accounts,
     number: u32,
     call: &Call,
 ) -> Result<(), Refused>
@@ -172,7 +131,7 @@ fn start_told(
 fn start(
     kernel: &mut Kernel,
     history: &mut History,
-    accounts: &mut Vec<Account>,
+    accounts: &mut Accounts,
     number: u32,
     call: &Call,
 ) -> Result<(), Refused>
@@ -192,7 +151,7 @@ fn start(
 pub fn begin(
     kernel: &mut Kernel,
     history: &mut History,
-    accounts: &mut Vec<Account>,
+    accounts: &mut Accounts,
     at: usize,
     number: u32,
     call: &Call,
@@ -205,10 +164,10 @@ pub fn begin(
     ensures same { OnErr result ((kernel.new ≡ kernel.old) × (history.new.entries ≡ history.old.entries) × (accounts.new.items ≡ accounts.old.items)) }
     ensures err { IfErr result (λ e. (e ≡ NoMemory) ⊎ ((r : ARefused) × (e ≡ ByKernel r) × Steps kernel.old (Start number call.now) (Err r) kernel.old)) }
 {
-    if accounts[at].is_pending() {
+    if accounts.is_pending(at) {
         return Err(LockRefusal::Kernel(Refused::Busy));
     }
-    if accounts[at].begin(call, history.len()).is_err() {
+    if accounts.begin(at, call, history.len()).is_err() {
         return Err(LockRefusal::NoMemory);
     }
     match start(kernel, history, accounts, number, call) {
@@ -218,7 +177,7 @@ pub fn begin(
             Ok(())
         }
         Err(refused) => {
-            accounts[at].cancel();
+            accounts.cancel(at);
             Err(LockRefusal::Kernel(refused))
         }
     }

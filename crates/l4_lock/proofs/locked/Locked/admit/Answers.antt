@@ -1,6 +1,6 @@
-use Rattle.std.proofs.Common.{◌≡◌, ◌<◌, ℕ, List, length, slice_get, false, refl, sym, ap, ◌∙◌, subst, arith}
+use Rattle.std.proofs.Common.{◌<◌, ℕ, List, length, refl, sym, ap, ◌∙◌, subst, arith}
 use Rattle.l4_lock.specs.declared.entries.Entry.{Entry}
-use Rattle.l4_lock.specs.Books.{Book, book_at, reply_waits}
+use Rattle.l4_lock.specs.Books.{book_at}
 use Rattle.l4_lock.specs.Locked.{Lock, lock, Refuses}
 use Rattle.l4_lock.specs.Inside.Entering.{IsReady, Begins, IsAdmitted}
 use Rattle.l4_board.specs.Board.{Publishing}
@@ -13,21 +13,21 @@ pub begin-requires-clause-book : goal.begin-requires-clause-book
 begin-requires-clause-book c =
     subst (λ (h : List Entry). IsReady c.self.inside.accounts.items c.in-Some.at c.number-number.result h c.self.inside.kernel) (sym c.reserve.ensures.entries)
     (ready c.self.inside.frames c.self.inside.history.entries c.self.inside.kernel c.self.inside.accounts.items c.number-number.result c.in-Some.at c.self.invariant.right
-    (subst (λ (l : List Book). c.in-Some.at < length l) c.as_slice-2.ensures.value c.in-Some.ensures.0)
-    (subst (λ (l : List Book). book_at l c.number-number.result ≡ slice_get l c.in-Some.at) c.as_slice-2.ensures.value c.in-Some.ensures.1)
-    (subst (λ (l : List Book). reply_waits l c.number-number.result ≡ false) c.as_slice.ensures.value (sym c.if-reply_waits.ensures)))
+    c.in-Some.ensures.0
+    c.in-Some.ensures.1
+    (sym c.if-reply_waits.ensures))
 
 pub returns-in-Err-clause-err : goal.returns-in-Err-clause-err
 returns-in-Err-clause-err c = (
   subst (λ (l : Lock). Refuses l c.args.seat.now.number c.args.call.now c.in-Err.refusal) c.self.view_is
       (subst (λ (n : ℕ). Refuses (lock c.self.inside.frames c.self.inside.kernel c.self.inside.history.entries c.self.inside.accounts.items c.self.inside.publisher.board c.self.inside.publisher.shown) n c.args.call.now c.in-Err.refusal) c.number-number.ensures
       (refuses c.self.inside.frames c.self.inside.history.entries c.self.inside.kernel c.self.inside.accounts.items c.self.inside.publisher.board c.self.inside.publisher.shown c.number-number.result c.args.call.now c.in-Err.refusal
-      (subst (λ (l : List Book). reply_waits l c.number-number.result ≡ false) c.as_slice.ensures.value (sym c.if-reply_waits.ensures))
+      (sym c.if-reply_waits.ensures)
       (let no_more = c.if-len-gt-LAST_START.false in let l = c.len.ensures in omega (arith, no_more, l))
-      (let lt : c.in-Some.at < length c.self.inside.accounts.items = subst (λ (l : List Book). c.in-Some.at < length l) c.as_slice-2.ensures.value c.in-Some.ensures.0 in
+      (let lt : c.in-Some.at < length c.self.inside.accounts.items = c.in-Some.ensures.0 in
       let there = get_there c.self.inside.accounts.items c.in-Some.at lt in
       some_there (book_at c.self.inside.accounts.items c.number-number.result) there.0
-      (subst (λ (l : List Book). book_at l c.number-number.result ≡ slice_get l c.in-Some.at) c.as_slice-2.ensures.value c.in-Some.ensures.1 ∙ there.1))
+      (c.in-Some.ensures.1 ∙ there.1))
       c.in-Err.ensures.err)),
   (λ i. lock c.self.inside.frames (c.in-Err.ensures.same.0 i) ((c.in-Err.ensures.same.1 ∙ c.reserve.ensures.entries) i) (c.in-Err.ensures.same.2 i) c.self.inside.publisher.board c.self.inside.publisher.shown) ∙ c.self.view_is,
   seat_back c.args.seat.now c.wait_more.new.self c.wait_less.new.self (ok_part _ _ _ c.wait_more.ensures (sym c.if-is_err-2.ensures.value)) c.wait_less.ensures,

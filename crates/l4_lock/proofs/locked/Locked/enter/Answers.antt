@@ -4,23 +4,24 @@ use Rattle.l4_lock.specs.Inside.Entering.{IsAdmitted}
 use Rattle.l4_lock.proofs.Taking.{placed, finished, entered_done, entered_left}
 use Rattle.l4_lock.proofs.locked.Locked.enter.Goals as goal
 
-pub invariant_of-self : goal.invariant_of-self
-invariant_of-self c =
+pub finish-requires-clause-at : goal.finish-requires-clause-at
+finish-requires-clause-at c =
     let a : IsAdmitted c.args.self.now (lock c.self.inside.frames c.self.inside.kernel c.self.inside.history.entries c.self.inside.accounts.items c.self.inside.publisher.board c.self.inside.publisher.shown) c.args.seat.now c.admit.new.seat c.args.call c.in-Ok.at =
     subst (λ (l : Lock). IsAdmitted c.args.self.now l c.args.seat.now c.admit.new.seat c.args.call c.in-Ok.at) (sym c.self.view_is) c.in-Ok.ensures.ok in
-    finished _ _ _ c.self.inside.accounts.items _ _ c.in-Ok.at c.index_mut.result.now c.finish.new.account c.admit.new.seat c.finish.new.seat (λ call. call) c.finish.result c.self.invariant
-    (placed _ _ _ _ _ _ a) c.index_mut.ensures.value c.finish.ensures.some c.finish.ensures.none
+    placed _ _ _ _ _ _ a
+
+pub invariant_of-self : goal.invariant_of-self
+invariant_of-self c =
+    finished _ _ _ c.self.inside.accounts.items c.finish.new.self.items _ _ c.in-Ok.at c.admit.new.seat c.finish.new.seat (λ call. call) c.finish.result c.self.invariant c.finish.ensures.some c.finish.ensures.none
 
 pub returns-in-Some-clause-ok : goal.returns-in-Some-clause-ok
 returns-in-Some-clause-ok c =
     let a : IsAdmitted c.args.self.now (lock c.self.inside.frames c.self.inside.kernel c.self.inside.history.entries c.self.inside.accounts.items c.self.inside.publisher.board c.self.inside.publisher.shown) c.args.seat.now c.admit.new.seat c.args.call c.in-Ok.at =
     subst (λ (l : Lock). IsAdmitted c.args.self.now l c.args.seat.now c.admit.new.seat c.args.call c.in-Ok.at) (sym c.self.view_is) c.in-Ok.ensures.ok in
-    entered_done c.args.self.now (lock c.self.inside.frames c.self.inside.kernel c.self.inside.history.entries c.self.inside.accounts.items c.self.inside.publisher.board c.self.inside.publisher.shown) c.args.seat.now c.admit.new.seat c.finish.new.seat c.args.call c.in-Ok.at c.index_mut.result.now c.finish.new.account c.in-Some.reply
-    c.self.invariant a c.index_mut.ensures.value c.in-Some.ensures.some
+    entered_done c.args.self.now (lock c.self.inside.frames c.self.inside.kernel c.self.inside.history.entries c.self.inside.accounts.items c.self.inside.publisher.board c.self.inside.publisher.shown) c.finish.new.self.items c.args.seat.now c.admit.new.seat c.finish.new.seat c.args.call c.in-Ok.at c.in-Some.reply c.self.invariant a c.in-Some.ensures.some
 
 pub returns-clause-ok : goal.returns-clause-ok
 returns-clause-ok c =
     let a : IsAdmitted c.args.self.now (lock c.self.inside.frames c.self.inside.kernel c.self.inside.history.entries c.self.inside.accounts.items c.self.inside.publisher.board c.self.inside.publisher.shown) c.args.seat.now c.admit.new.seat c.args.call c.in-Ok.at =
     subst (λ (l : Lock). IsAdmitted c.args.self.now l c.args.seat.now c.admit.new.seat c.args.call c.in-Ok.at) (sym c.self.view_is) c.in-Ok.ensures.ok in
-    entered_left c.args.self.now (lock c.self.inside.frames c.self.inside.kernel c.self.inside.history.entries c.self.inside.accounts.items c.self.inside.publisher.board c.self.inside.publisher.shown) c.args.seat.now c.admit.new.seat c.finish.new.seat c.args.call c.in-Ok.at c.index_mut.result.now c.finish.new.account
-    c.self.invariant a c.index_mut.ensures.value c.in_default.ensures.none
+    entered_left c.args.self.now (lock c.self.inside.frames c.self.inside.kernel c.self.inside.history.entries c.self.inside.accounts.items c.self.inside.publisher.board c.self.inside.publisher.shown) c.finish.new.self.items c.args.seat.now c.admit.new.seat c.finish.new.seat c.args.call c.in-Ok.at c.self.invariant a c.in_default.ensures.none

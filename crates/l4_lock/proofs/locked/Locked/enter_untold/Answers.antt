@@ -4,16 +4,18 @@ use Rattle.l4_lock.specs.Inside.Entering.{IsAdmitted}
 use Rattle.l4_lock.proofs.Taking.{placed, settled_kept, entered_either}
 use Rattle.l4_lock.proofs.locked.Locked.enter_untold.Goals as goal
 
-pub invariant_of-self : goal.invariant_of-self
-invariant_of-self c =
+pub settle-requires-clause-at : goal.settle-requires-clause-at
+settle-requires-clause-at c =
     let a : IsAdmitted c.args.self.now (lock c.self.inside.frames c.self.inside.kernel c.self.inside.history.entries c.self.inside.accounts.items c.self.inside.publisher.board c.self.inside.publisher.shown) c.args.seat.now c.admit.new.seat c.args.call.now c.in-Ok.at =
     subst (λ (l : Lock). IsAdmitted c.args.self.now l c.args.seat.now c.admit.new.seat c.args.call.now c.in-Ok.at) (sym c.self.view_is) c.in-Ok.ensures.ok in
-    settled_kept (lock c.self.inside.frames c.self.inside.kernel c.self.inside.history.entries c.self.inside.accounts.items c.self.inside.publisher.board c.self.inside.publisher.shown) c.in-Ok.at c.index_mut.result.now c.settle.new.account c.admit.new.seat c.settle.new.seat (λ call. call) c.settle.result c.self.invariant
-    (placed _ _ _ _ _ _ a) c.index_mut.ensures.value c.settle.ensures.settles c.settle.ensures.same
+    placed _ _ _ _ _ _ a
+
+pub invariant_of-self : goal.invariant_of-self
+invariant_of-self c =
+    settled_kept (lock c.self.inside.frames c.self.inside.kernel c.self.inside.history.entries c.self.inside.accounts.items c.self.inside.publisher.board c.self.inside.publisher.shown) c.settle.new.self.items c.in-Ok.at c.admit.new.seat c.settle.new.seat (λ call. call) c.settle.result c.self.invariant c.settle.ensures.settles c.settle.ensures.same
 
 pub returns-clause-ok : goal.returns-clause-ok
 returns-clause-ok c =
     let a : IsAdmitted c.args.self.now (lock c.self.inside.frames c.self.inside.kernel c.self.inside.history.entries c.self.inside.accounts.items c.self.inside.publisher.board c.self.inside.publisher.shown) c.args.seat.now c.admit.new.seat c.args.call.now c.in-Ok.at =
     subst (λ (l : Lock). IsAdmitted c.args.self.now l c.args.seat.now c.admit.new.seat c.args.call.now c.in-Ok.at) (sym c.self.view_is) c.in-Ok.ensures.ok in
-    entered_either c.args.self.now (lock c.self.inside.frames c.self.inside.kernel c.self.inside.history.entries c.self.inside.accounts.items c.self.inside.publisher.board c.self.inside.publisher.shown) c.args.seat.now c.admit.new.seat c.settle.new.seat c.args.call.now c.in-Ok.at c.index_mut.result.now c.settle.new.account c.settle.result
-    c.self.invariant a c.index_mut.ensures.value c.settle.ensures.settles c.settle.ensures.same
+    entered_either c.args.self.now (lock c.self.inside.frames c.self.inside.kernel c.self.inside.history.entries c.self.inside.accounts.items c.self.inside.publisher.board c.self.inside.publisher.shown) c.settle.new.self.items c.args.seat.now c.admit.new.seat c.settle.new.seat c.args.call.now c.in-Ok.at c.settle.result c.self.invariant a c.settle.ensures.settles c.settle.ensures.same

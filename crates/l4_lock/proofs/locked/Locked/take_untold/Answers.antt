@@ -1,27 +1,24 @@
-use Rattle.std.proofs.Common.{◌≡◌, ◌<◌, ◌⊎◌, ℕ, true, false, List, length, slice_get, subst}
+use Rattle.std.proofs.Common.{◌≡◌, ◌⊎◌, ℕ, true, false, slice_get, subst}
 use Rattle.l4_threads.specs.declared.Reply.{Reply}
-use Rattle.l4_lock.specs.Books.{Book, book_at, reply_waits}
+use Rattle.l4_lock.specs.Books.{book_at, reply_waits}
 use Rattle.l4_lock.specs.Locked.{Lock, lock, Takes}
 use Rattle.l4_lock.proofs.Taking.{settled_in, settled_kept, taken_untold, not_taken_untold}
 use Rattle.l4_lock.proofs.locked.Locked.take_untold.Goals as goal
 
 pub invariant_of-self : goal.invariant_of-self
 invariant_of-self c =
-    settled_kept (lock c.self.inside.frames c.self.inside.kernel c.self.inside.history.entries c.self.inside.accounts.items c.self.inside.publisher.board c.self.inside.publisher.shown) c.in-Some.at c.index_mut.result.now c.settle.new.account c.args.seat.now c.settle.new.seat (λ call. call) c.settle.result c.self.invariant
-    (subst (λ (l : List Book). c.in-Some.at < length l) c.as_slice.ensures.value c.in-Some.ensures.0) c.index_mut.ensures.value c.settle.ensures.settles c.settle.ensures.same
+    settled_kept (lock c.self.inside.frames c.self.inside.kernel c.self.inside.history.entries c.self.inside.accounts.items c.self.inside.publisher.board c.self.inside.publisher.shown) c.settle.new.self.items c.in-Some.at c.args.seat.now c.settle.new.seat (λ call. call) c.settle.result c.self.invariant c.settle.ensures.settles c.settle.ensures.same
 
 pub returns-clause-taken : goal.returns-clause-taken
 returns-clause-taken c =
     let at : book_at c.self.inside.accounts.items c.args.seat.now.number ≡ slice_get c.self.inside.accounts.items c.in-Some.at =
-    subst (λ (n : ℕ). book_at c.self.inside.accounts.items n ≡ slice_get c.self.inside.accounts.items c.in-Some.at) c.number.ensures (subst (λ (l : List Book). book_at l c.number.result ≡ slice_get l c.in-Some.at) c.as_slice.ensures.value c.in-Some.ensures.1) in
-    subst (λ (l : Lock). c.settle.result ≡ true → (reply : Reply) × Takes l (settled_in (lock c.self.inside.frames c.self.inside.kernel c.self.inside.history.entries c.self.inside.accounts.items c.self.inside.publisher.board c.self.inside.publisher.shown) c.in-Some.at c.settle.new.account) c.args.seat.now c.settle.new.seat (λ call. call) reply) c.self.view_is
-    (taken_untold (lock c.self.inside.frames c.self.inside.kernel c.self.inside.history.entries c.self.inside.accounts.items c.self.inside.publisher.board c.self.inside.publisher.shown) c.in-Some.at c.index_mut.result.now c.settle.new.account c.args.seat.now c.settle.new.seat (λ call. call) c.settle.result c.self.invariant
-    (subst (λ (l : List Book). c.in-Some.at < length l) c.as_slice.ensures.value c.in-Some.ensures.0) at c.index_mut.ensures.value c.settle.ensures.settles)
+    subst (λ (n : ℕ). book_at c.self.inside.accounts.items n ≡ slice_get c.self.inside.accounts.items c.in-Some.at) c.number.ensures c.in-Some.ensures.1 in
+    subst (λ (l : Lock). c.settle.result ≡ true → (reply : Reply) × Takes l (settled_in (lock c.self.inside.frames c.self.inside.kernel c.self.inside.history.entries c.self.inside.accounts.items c.self.inside.publisher.board c.self.inside.publisher.shown) c.settle.new.self.items) c.args.seat.now c.settle.new.seat (λ call. call) reply) c.self.view_is
+    (taken_untold (lock c.self.inside.frames c.self.inside.kernel c.self.inside.history.entries c.self.inside.accounts.items c.self.inside.publisher.board c.self.inside.publisher.shown) c.settle.new.self.items c.in-Some.at c.args.seat.now c.settle.new.seat (λ call. call) c.settle.result c.self.invariant at c.settle.ensures.settles)
 
 pub returns-clause-none : goal.returns-clause-none
 returns-clause-none c =
     let at : book_at c.self.inside.accounts.items c.args.seat.now.number ≡ slice_get c.self.inside.accounts.items c.in-Some.at =
-    subst (λ (n : ℕ). book_at c.self.inside.accounts.items n ≡ slice_get c.self.inside.accounts.items c.in-Some.at) c.number.ensures (subst (λ (l : List Book). book_at l c.number.result ≡ slice_get l c.in-Some.at) c.as_slice.ensures.value c.in-Some.ensures.1) in
-    subst (λ (l : Lock). c.settle.result ≡ false → ((settled_in (lock c.self.inside.frames c.self.inside.kernel c.self.inside.history.entries c.self.inside.accounts.items c.self.inside.publisher.board c.self.inside.publisher.shown) c.in-Some.at c.settle.new.account) ≡ l) × (c.settle.new.seat ≡ c.args.seat.now) × ((c.args.seat.now.waiting ≡ 0) ⊎ (reply_waits l.books c.args.seat.now.number ≡ false))) c.self.view_is
-    (not_taken_untold (lock c.self.inside.frames c.self.inside.kernel c.self.inside.history.entries c.self.inside.accounts.items c.self.inside.publisher.board c.self.inside.publisher.shown) c.in-Some.at c.index_mut.result.now c.settle.new.account c.args.seat.now c.settle.new.seat c.settle.result
-    (subst (λ (l : List Book). c.in-Some.at < length l) c.as_slice.ensures.value c.in-Some.ensures.0) at c.index_mut.ensures.value c.settle.ensures.same)
+    subst (λ (n : ℕ). book_at c.self.inside.accounts.items n ≡ slice_get c.self.inside.accounts.items c.in-Some.at) c.number.ensures c.in-Some.ensures.1 in
+    subst (λ (l : Lock). c.settle.result ≡ false → ((settled_in (lock c.self.inside.frames c.self.inside.kernel c.self.inside.history.entries c.self.inside.accounts.items c.self.inside.publisher.board c.self.inside.publisher.shown) c.settle.new.self.items) ≡ l) × (c.settle.new.seat ≡ c.args.seat.now) × ((c.args.seat.now.waiting ≡ 0) ⊎ (reply_waits l.books c.args.seat.now.number ≡ false))) c.self.view_is
+    (not_taken_untold (lock c.self.inside.frames c.self.inside.kernel c.self.inside.history.entries c.self.inside.accounts.items c.self.inside.publisher.board c.self.inside.publisher.shown) c.settle.new.self.items c.in-Some.at c.args.seat.now c.settle.new.seat c.settle.result c.in-Some.ensures.0 at c.settle.ensures.same)

@@ -1,0 +1,39 @@
+-- The books of the numbers whose seats were given, and how many of them have a reply. (this profile's own)
+use Rattle.std.specs.Prelude.{◌≡◌, ℕ, ◌+◌, Bool, false, if◌then◌else◌, List, [], ◌∷◌, Some, slice_get, slice_set}
+use Rattle.std.specs.Option.{option_map_or}
+use Rattle.l4_threads.specs.declared.Reply.{Reply}
+use Rattle.l4_ipc.specs.declared.calls.Call.{Call}
+use Rattle.l4_lock.specs.Books.{SeatState, Book, has_ended, Settles}
+
+-- what a contract sees of the accounts: their books
+pub record BookList : Type 0 where
+  pub items : List Book
+
+abbrev pub book_list : List Book → BookList
+book_list items = record { items = items }
+
+-- the book's call has ended and isn't taken yet
+abbrev pub has_reply : Book → Bool
+has_reply b = option_map_or has_ended b.pending false
+
+abbrev pub reply_count : Book → ℕ
+reply_count b = if has_reply b then 1 else 0
+
+-- how many books have such a call
+abbrev pub replies_in : List Book → ℕ
+replies_in [] = 0
+replies_in (b ∷ bs) = reply_count b + replies_in bs
+
+-- The call of the book at this place has ended and is taken by the seat; the other books stay.
+pub record SettlesAt (books later : List Book) (place : ℕ) (before after : SeatState) (own : Call → Call) (reply : Reply) : Type 0 where
+  pub former : Book
+  pub at : slice_get books place ≡ Some former
+  pub settled : Book
+  pub changed : later ≡ slice_set books place settled
+  pub settles : Settles former settled before after own reply
+
+-- the call of the book at this place has not ended, and nothing has changed
+pub record IsUnsettled (books later : List Book) (place : ℕ) (before after : SeatState) : Type 0 where
+  pub same : later ≡ books
+  pub seat : after ≡ before
+  pub none : (b : Book) → slice_get books place ≡ Some b → has_reply b ≡ false

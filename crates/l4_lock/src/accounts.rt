@@ -1,0 +1,220 @@
+//! The accounts of the seats that were given.
+ghost use Rattle.std.specs.Prelude.{◌≡◌, ◌≢◌, ◌+◌, ◌<◌, ◌≤◌, ℕ, Some, None, [], ◌∷◌, ◌++◌, length, IfSome, IfNone, MatchOption, MatchResult, is_some, true, false, slice_get, slice_set};
+ghost use Rattle.std.specs.Option.{option_copied};
+ghost use Rattle.l4_threads.specs.declared.Reply.{Reply as AReply};
+ghost use Rattle.l4_lock.specs.Books.{Book, book, book_at, reply_waits, numbers, IsOnce};
+ghost use Rattle.l4_lock.specs.Inside.Accounts.{has_reply, SettlesAt, IsUnsettled};
+ghost use Rattle.l4_lock.specs.Inside.Noting.{noted, own_call, first_reply};
+
+use crate::seats::{Account, Seat, settle};
+use l4_ipc::{Call, Kernel, Reply};
+use std::alloc::{AllocError, Global};
+use std::marker::Model;
+
+/// Where the account of a number stands. Nothing is searched where the seats were given in the order of their numbers, from 1 on.
+fn position(accounts: &[Account], number: u32) -> Option<usize>
+    requires { IsOnce (numbers accounts.now) }
+    ensures { MatchOption result (book_at accounts.now number ≡ None)
+        (λ at. (at < length accounts.now) × (book_at accounts.now number ≡ slice_get accounts.now at)) }
+{
+    let guess = (number as usize).wrapping_sub(1);
+    if guess < accounts.len() && accounts[guess].number() == number {
+        return Some(guess);
+    }
+    for (i, account) in accounts.iter().enumerate() {
+        if account.number() == number {
+            return Some(i);
+        }
+    }
+    None
+}
+
+/// Whether an ended call of this number hasn't been taken.
+fn reply_waits(accounts: &[Account], number: u32) -> bool
+    requires { IsOnce (numbers accounts.now) }
+    ensures { result ≡ reply_waits accounts.now number }
+{
+    match position(accounts, number) {
+        Some(at) => accounts[at].has_reply(),
+        None => false,
+    }
+}
+
+/// The number of the first account with an ended call that hasn't been taken.
+fn first_reply(accounts: &[Account]) -> Option<u32>
+    ensures { result ≡ first_reply accounts.now }
+{
+    for i in 0..accounts.len() {
+        if accounts[i].has_reply() {
+            return Some(accounts[i].number());
+        }
+    }
+    None
+}
+
+/// What the lock keeps of the numbers whose seats it gave, and how many of their calls have ended and aren't taken yet. Where none has,
+/// no account is looked at.
+#[derive(Drop)]
+pub(crate) struct Accounts {
+    items: Vec<Account>,
+    replies: usize,
+    /// Where the accounts stand whose calls ended last. They are looked at before all others.
+    last: usize,
+    before: usize,
+}
+
+impl Model for Accounts {
+    ghost use Rattle.std.specs.Prelude.{◌≡◌};
+    ghost use Rattle.l4_lock.specs.Inside.Accounts.{BookList, book_list, replies_in};
+
+    ghost Value = { BookList };
+
+    ghost view = { λ a. book_list a.items.items };
+
+    ghost invariant = { λ a. a.replies ≡ replies_in a.items.items };
+}
+
+impl Accounts {
+    /// No accounts.
+    pub fn new(alloc: Global) -> Accounts
+        ensures { result.items ≡ [] }
+    {
+        Accounts {
+            items: Vec::new(alloc),
+            replies: 0,
+            last: 0,
+            before: 0,
+        }
+    }
+
+    /// All accounts, in the order in which their seats were given.
+    pub fn as_slice(&self) -> &[Account]
+        ensures { result.now ≡ self.now.items }
+    {
+        self.items.as_slice()
+    }
+
+    /// Where the account of a number stands.
+    pub fn position(&self, number: u32) -> Option<usize>
+        requires { IsOnce (numbers self.now.items) }
+        ensures { MatchOption result (book_at self.now.items number ≡ None)
+            (λ at. (at < length self.now.items) × (book_at self.now.items number ≡ slice_get self.now.items at)) }
+    {
+        position(self.items.as_slice(), number)
+    }
+
+    /// Whether an ended call of this number hasn't been taken.
+    pub fn reply_waits(&self, number: u32) -> bool
+        requires { IsOnce (numbers self.now.items) }
+        ensures { result ≡ reply_waits self.now.items number }
+    {
+        reply_waits(self.items.as_slice(), number)
+    }
+
+    /// The number of the account at this place, if there is one whose ended call hasn't been taken.
+    fn reply_at(&self, at: usize) -> Option<u32>
+        requires { IsOnce (numbers self.now.items) }
+        ensures { IfSome result (λ n. reply_waits self.now.items n ≡ true) }
+    {
+        if at < self.items.len() && self.items[at].has_reply() {
+            return Some(self.items[at].number());
+        }
+        None
+    }
+
+    /// The number of an account whose ended call hasn't been taken.
+    pub fn any_reply(&self) -> Option<u32>
+        requires { IsOnce (numbers self.now.items) }
+        ensures { MatchOption result ((n : ℕ) → reply_waits self.now.items n ≡ false) (λ n. reply_waits self.now.items n ≡ true) }
+    {
+        if self.replies == 0 {
+            return None;
+        }
+        if let Some(number) = self.reply_at(self.last) {
+            return Some(number);
+        }
+        if let Some(number) = self.reply_at(self.before) {
+            return Some(number);
+        }
+        first_reply(self.items.as_slice())
+    }
+
+    /// Appends the account of a number whose seat is given. Where a growth is refused nothing has changed.
+    pub fn add(&mut self, alloc: Global, number: u32) -> Result<(), AllocError>
+        ensures { MatchResult result (λ _. self.new.items ≡ self.old.items ++ book number None [] ∷ []) (λ _. self.new ≡ self.old) }
+    {
+        self.items.reserve(1)?;
+        self.items.push_reserved(Account::new(alloc, number));
+        Ok(())
+    }
+
+    /// Whether a call of the account at this place isn't taken yet.
+    pub fn is_pending(&self, at: usize) -> bool
+        requires { at < length self.now.items }
+        ensures { (b : Book) → slice_get self.now.items at ≡ Some b → result ≡ is_some b.pending }
+    {
+        self.items[at].is_pending()
+    }
+
+    /// Begins a call at this place, and makes room for its receipt. Where a growth is refused nothing has changed.
+    pub fn begin(&mut self, at: usize, call: &Call, start: usize) -> Result<(), AllocError>
+        requires at { at < length self.old.items }
+        requires none { (b : Book) → slice_get self.old.items at ≡ Some b → b.pending ≡ None }
+        ensures { MatchResult result
+            (λ _. (b : Book) → slice_get self.old.items at ≡ Some b
+            → self.new.items ≡ slice_set self.old.items at (record b { pending = Some (record { call = call.now; start = start; ended = None }) }))
+            (λ _. self.new ≡ self.old) }
+    {
+        self.items[at].begin(call, start)
+    }
+
+    /// Takes a call back that was begun at this place and has not ended.
+    pub fn cancel(&mut self, at: usize)
+        requires at { at < length self.old.items }
+        requires goes_on { (b : Book) → slice_get self.old.items at ≡ Some b → has_reply b ≡ false }
+        ensures { (b : Book) → slice_get self.old.items at ≡ Some b → self.new.items ≡ slice_set self.old.items at (record b { pending = None }) }
+    {
+        self.items[at].cancel();
+    }
+
+    /// Notes that the call of this place, if one goes on, ended in the entry of that place.
+    pub fn end(&mut self, at: usize, kernel: &Kernel, place: usize)
+        requires { at < length self.old.items }
+        ensures { (b : Book) → slice_get self.old.items at ≡ Some b
+            → self.new.items ≡ slice_set self.old.items at (noted kernel.now (b.number ∷ []) place b) }
+    {
+        if self.items[at].end(kernel, place) {
+            self.replies += 1;
+            self.before = self.last;
+            self.last = at;
+        }
+    }
+
+    /// Takes the call of this place, if it has ended: the account and the seat gain its receipt. The seat's has the call that the seat knows of.
+    pub fn settle(&mut self, at: usize, seat: &mut Seat, own: Option<&Call>) -> bool
+        requires waiting { seat.old.waiting ≢ 0 }
+        requires at { at < length self.old.items }
+        ensures settles { result ≡ true → (reply : AReply) × SettlesAt self.old.items self.new.items at seat.old seat.new (own_call (option_copied own.entry)) reply }
+        ensures same { result ≡ false → IsUnsettled self.old.items self.new.items at seat.old seat.new }
+    {
+        if !settle(&mut self.items[at], seat, own) {
+            return false;
+        }
+        self.replies -= 1;
+        true
+    }
+
+    /// The same, with the reply.
+    pub fn finish(&mut self, at: usize, seat: &mut Seat, own: Option<&Call>) -> Option<Reply>
+        requires waiting { seat.old.waiting ≢ 0 }
+        requires at { at < length self.old.items }
+        ensures some { IfSome result (λ reply. SettlesAt self.old.items self.new.items at seat.old seat.new (own_call (option_copied own.entry)) reply) }
+        ensures none { IfNone result (IsUnsettled self.old.items self.new.items at seat.old seat.new) }
+    {
+        let Some(reply) = self.items[at].reply() else {
+            return None;
+        };
+        self.settle(at, seat, own);
+        Some(reply)
+    }
+}
