@@ -1,5 +1,5 @@
 //! The owners of frames.
-ghost use Rattle.std.specs.Prelude.{◌≡◌, ℕ, ◌+◌, ◌^◌, ◌<◌, ◌≤◌, ◌↔◌, MatchOption, IsTrue, length};
+ghost use Rattle.std.specs.Prelude.{◌≡◌, ℕ, ◌+◌, ◌%◌, ◌^◌, ◌<◌, ◌≤◌, ◌↔◌, MatchOption, IsTrue, length};
 
 use l4_fpage::{Block, Fpage, PAGE_LOG, Rights};
 use l4_msg::{FrameRequest, Message, PageFault, map_answer};
@@ -31,28 +31,17 @@ impl Model for Sigma0 {
     ghost invariant = { λ s. s.frames ≤ max_frames };
 }
 
-ghost use Rattle.l4_sigma0.specs.Owners.{Wants};
+ghost use Rattle.l4_sigma0.specs.Owners.{NamesPages};
 
-/// The frames that a message asks for.
-fn wanted(message: &Message) -> Option<Block>
-    ensures wants { MatchOption result ((first log : ℕ) → ¬ Wants message.now first log) (λ block. Wants message.now block.first block.log) }
-    ensures only { (first log : ℕ) → Wants message.now first log → MatchOption result ⊥ (λ block. (block.first ≡ first) × (block.log ≡ log)) }
+/// The frames that a request asks for. None where it asks for attributes, and where its fpage names no whole page.
+fn frames_of(request: &FrameRequest) -> Option<Block>
+    ensures { MatchOption result ((first log : ℕ) → request.now.attributes ≡ 0 → ¬ NamesPages request.now.fpage first log)
+        (λ block. (request.now.attributes ≡ 0) × NamesPages request.now.fpage block.first block.log) }
 {
-    if let Some(fault) = PageFault::read(message) {
-        return Some(Block {
-            first: fault.address >> PAGE_LOG,
-            log: 0,
-        });
+    if request.attributes != 0 {
+        return None;
     }
-    match FrameRequest::read(message) {
-        Some(request) => {
-            if request.attributes != 0 {
-                return None;
-            }
-            request.fpage.pages()
-        }
-        None => None,
-    }
+    request.fpage.pages()
 }
 
 ghost use Rattle.l4_sigma0.specs.Inside.Tables.{AreFree, IsFilled};
@@ -87,7 +76,11 @@ impl Sigma0 {
     ghost use Rattle.std.specs.FinMap as fin;
     ghost use Rattle.l4_msg.specs.Messages.{CanBeWritten};
     ghost use Rattle.l4_fpage.specs.Pages.{max_frames};
-    ghost use Rattle.l4_sigma0.specs.Owners.{Answers};
+    ghost use Rattle.l4_msg.specs.Sizes.{base_unit};
+    ghost use Rattle.l4_msg.specs.Protocols.{FaultReads, RequestReads, one_item};
+    ghost use Rattle.l4_msg.specs.declared.items.Item.TheVariants.{Map};
+    ghost use Rattle.l4_msg.specs.declared.messages.Message.{Message as AMessage};
+    ghost use Rattle.l4_sigma0.specs.Owners.{Answers, Wants};
 
     /// The table of the frames 0 to `frames` - 1, of which none has an owner. `frames` is at most `MAX_FRAMES`.
     pub fn new(frames: u32) -> Sigma0
@@ -100,6 +93,57 @@ impl Sigma0 {
         }
     }
 
+    /// Gives these frames to a space, where there are all of these, and each is free or the space's, and else none. The result is the
+    /// send base and the fpage of the one map item of the answer.
+    fn give(&mut self, from_space: u64, block: Block) -> (u32, Fpage)
+        ensures answers { (m : AMessage) → Wants m block.first block.log → ((first log : ℕ) → Wants m first log → (block.first ≡ first) × (block.log ≡ log))
+            → Answers self.old from_space m (one_item (Map result.0 result.1)) self.new }
+        ensures whole { result.0 % base_unit ≡ 0 }
+    {
+        let end = block.first + (1 << block.log);
+        if end > self.frames {
+            return (0, Fpage::Nil);
+        }
+        if !are_free(&self.owners, from_space, block.first as usize, end as usize) {
+            return (0, Fpage::Nil);
+        }
+        fill(
+            &mut self.owners,
+            from_space,
+            block.first as usize,
+            end as usize,
+        );
+        (
+            block.first << PAGE_LOG,
+            Fpage::of_block(block, Rights::all()),
+        )
+    }
+
+    /// The answer to a fault message from a space, as `answer` says: the send base and the fpage of its one map item.
+    pub fn answer_fault(&mut self, from_space: u64, fault: &PageFault) -> (u32, Fpage)
+        ensures answers { (m : AMessage) → FaultReads m fault.now → Answers self.old from_space m (one_item (Map result.0 result.1)) self.new }
+        ensures whole { result.0 % base_unit ≡ 0 }
+    {
+        self.give(
+            from_space,
+            Block {
+                first: fault.address >> PAGE_LOG,
+                log: 0,
+            },
+        )
+    }
+
+    /// The answer to a request from a space, as `answer` says: the send base and the fpage of its one map item.
+    pub fn answer_request(&mut self, from_space: u64, request: &FrameRequest) -> (u32, Fpage)
+        ensures answers { (m : AMessage) → RequestReads m request.now → Answers self.old from_space m (one_item (Map result.0 result.1)) self.new }
+        ensures whole { result.0 % base_unit ≡ 0 }
+    {
+        let Some(block) = frames_of(request) else {
+            return (0, Fpage::Nil);
+        };
+        self.give(from_space, block)
+    }
+
     /// The answer to a message from a space. A request without attributes asks for the frames of its fpage's pages, and a fault
     /// message for the frame of its page; the frame of a page has the page's number. Where there are all of these, and each is free
     /// or the space's, they become the space's, whether or not the answer reaches it, and the answer is one map item of them with all
@@ -109,25 +153,14 @@ impl Sigma0 {
         ensures answers { Answers self.old from_space message.now result self.new }
         ensures writable { CanBeWritten result }
     {
-        let Some(block) = wanted(message) else {
-            return map_answer(0, Fpage::Nil);
-        };
-        let end = block.first + (1 << block.log);
-        if end > self.frames {
-            return map_answer(0, Fpage::Nil);
+        if let Some(fault) = PageFault::read(message) {
+            let (base, fpage) = self.answer_fault(from_space, &fault);
+            return map_answer(base, fpage);
         }
-        if !are_free(&self.owners, from_space, block.first as usize, end as usize) {
-            return map_answer(0, Fpage::Nil);
+        if let Some(request) = FrameRequest::read(message) {
+            let (base, fpage) = self.answer_request(from_space, &request);
+            return map_answer(base, fpage);
         }
-        fill(
-            &mut self.owners,
-            from_space,
-            block.first as usize,
-            end as usize,
-        );
-        map_answer(
-            block.first << PAGE_LOG,
-            Fpage::of_block(block, Rights::all()),
-        )
+        map_answer(0, Fpage::Nil)
     }
 }
