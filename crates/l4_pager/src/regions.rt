@@ -1,5 +1,5 @@
 //! The regions of a pager.
-ghost use Rattle.std.specs.Prelude.{◌≡◌, ◌⊎◌, ◌<◌, ◌++◌, ◌∷◌, [], ◌↔◌, List, MatchOption, MatchResult, IsTrue, Some, None, true, false};
+ghost use Rattle.std.specs.Prelude.{◌≡◌, ◌%◌, ◌⊎◌, ◌<◌, ◌++◌, ◌∷◌, [], ◌↔◌, List, MatchOption, MatchResult, IsTrue, Some, None, true, false};
 ghost use Rattle.std.specs.List.{All, Any};
 
 use arrayvec::ArrayVec;
@@ -136,7 +136,10 @@ impl Model for RegionPager {
 
 impl RegionPager {
     ghost use Rattle.l4_msg.specs.Messages.{CanBeWritten};
-    ghost use Rattle.l4_pager.specs.Regions.{AddFails, CanAdd, IsTable, source_of, Answers};
+    ghost use Rattle.l4_msg.specs.Protocols.{one_item};
+    ghost use Rattle.l4_msg.specs.Sizes.{base_unit};
+    ghost use Rattle.l4_msg.specs.declared.items.Item.TheVariants.{Map};
+    ghost use Rattle.l4_pager.specs.Regions.{AddFails, CanAdd, IsTable, source_of, Answers, AnswersFault};
     ghost use Rattle.l4_pager.specs.declared.regions.PagerRefusal.{PagerRefusal as ARefusal};
     ghost use Rattle.l4_pager.specs.declared.regions.PagerRefusal.TheVariants.{NoRegion};
 
@@ -189,6 +192,22 @@ impl RegionPager {
         }
     }
 
+    /// The answer to a fault, as `answer` says: the send base and the fpage of its one map item.
+    pub fn answer_fault(&self, fault: &PageFault) -> (u32, Fpage)
+        ensures answers { AnswersFault self.now fault.now (one_item (Map result.0 result.1)) }
+        ensures whole { result.0 % base_unit ≡ 0 }
+    {
+        let page = fault.address >> PAGE_LOG;
+        let Some(entry) = entry_for(self.entries.as_slice(), page, fault.access) else {
+            return (0, Fpage::Nil);
+        };
+        let source = Block {
+            first: entry.source + (page - entry.first),
+            log: 0,
+        };
+        (page << PAGE_LOG, Fpage::of_block(source, entry.rights))
+    }
+
     /// The answer to a message: to a fault's one map item, its send base the fault's page and its fpage the source page of 4 KiB with
     /// the entry's rights; a nil map item where `find` refuses the page, and to any other message.
     pub fn answer(&self, message: &Message) -> Message
@@ -198,14 +217,7 @@ impl RegionPager {
         let Some(fault) = PageFault::read(message) else {
             return map_answer(0, Fpage::Nil);
         };
-        let page = fault.address >> PAGE_LOG;
-        let Some(entry) = entry_for(self.entries.as_slice(), page, fault.access) else {
-            return map_answer(0, Fpage::Nil);
-        };
-        let source = Block {
-            first: entry.source + (page - entry.first),
-            log: 0,
-        };
-        map_answer(page << PAGE_LOG, Fpage::of_block(source, entry.rights))
+        let (base, fpage) = self.answer_fault(&fault);
+        map_answer(base, fpage)
     }
 }

@@ -1,17 +1,22 @@
 //! Gates, and the loop that serves a pager through one.
-ghost use Rattle.std.specs.Prelude.{◌≡◌, ℕ, ◌+◌, ◌≤◌, Bool, List, [], ◌∷◌, ◌++◌, length, IfOk, IfErr, MatchOption, MatchResult};
+ghost use Rattle.std.specs.Prelude.{◌≡◌, ℕ, ◌+◌, ◌%◌, ◌≤◌, Bool, List, [], ◌∷◌, ◌++◌, length, IfOk, IfErr, MatchOption, MatchResult};
 ghost use Rattle.l4_threads.specs.declared.ThreadId.{ThreadId as AnId};
 ghost use Rattle.l4_threads.specs.declared.Reply.{Reply as AReply};
 ghost use Rattle.l4_msg.specs.declared.messages.Message.{Message as AMessage};
 ghost use Rattle.l4_ipc.specs.declared.calls.Call.{Call as ACall};
+ghost use Rattle.l4_ipc.specs.declared.calls.Call.TheVariants.{Ipc};
 ghost use Rattle.l4_msg.specs.Messages.{CanBeWritten, message_words};
+ghost use Rattle.l4_msg.specs.Protocols.{one_item};
+ghost use Rattle.l4_msg.specs.Sizes.{base_unit};
+ghost use Rattle.l4_msg.specs.declared.items.Item.TheVariants.{Map};
 ghost use Rattle.l4_pager.specs.declared.serving.GateFault.{GateFault as AFault};
 ghost use Rattle.l4_pager.specs.Serving.{Brings, Follows, Serves, ComesNext, waiting, sending};
 
 use crate::regions::RegionPager;
 use arrayvec::ArrayVec;
+use l4_fpage::Fpage;
 use l4_ipc::{Call, IpcCall, Reply};
-use l4_msg::{MAX_WORDS, Message};
+use l4_msg::{MAX_WORDS, Message, map_answer};
 use l4_threads::ThreadId;
 
 /// A tag and the words of a reply, at most.
@@ -19,6 +24,12 @@ const REPLY_WORDS: usize = MAX_WORDS + 1;
 
 /// The timeouts of an answer: zero for the send phase, and never for the receive phase.
 const AT_ONCE: u32 = 0x0400_0000;
+
+/// The tag of an answer: label 0, one item, no untyped word.
+const ANSWER_TAG: u32 = 0x80;
+
+/// What the first word of a last map item has beside its send base: the kind of a map item.
+const MAP_KIND: u32 = 8;
 
 /// Why a gate didn't enter a call.
 #[derive(Clone, Copy, PartialEq, Eq, Debug)]
@@ -90,6 +101,58 @@ pub fn answering(sender: ThreadId, answer: &Message) -> Call
         acceptor: 0,
         words: answer.write(),
     })
+}
+
+/// Makes an Ipc the one that waits for anybody's message.
+fn set_wait(ipc: &mut IpcCall)
+    ensures { Ipc ipc.new ≡ waiting }
+{
+    ipc.to = ThreadId::nil();
+    ipc.from = ThreadId::any();
+    ipc.timeouts = 0;
+    ipc.acceptor = 0;
+    ipc.words.clear();
+}
+
+/// Makes a call the one that `wait` gives.
+pub fn wait_into(call: &mut Call)
+    ensures { call.new ≡ waiting }
+{
+    match call {
+        Call::Ipc(ipc) => set_wait(ipc),
+        Call::Fault(_) => *call = wait(),
+        Call::Unmap(_) => *call = wait(),
+        Call::Control(_) => *call = wait(),
+    }
+}
+
+/// Makes an Ipc the one that sends an answer of one map item, and then waits for anybody's message.
+fn set_answer(ipc: &mut IpcCall, sender: ThreadId, base: u32, fpage: Fpage)
+    requires { base % base_unit ≡ 0 }
+    ensures { Ipc ipc.new ≡ sending sender (message_words (one_item (Map base fpage))) }
+{
+    ipc.to = sender;
+    ipc.from = ThreadId::any();
+    ipc.timeouts = AT_ONCE;
+    ipc.acceptor = 0;
+    ipc.words.clear();
+    ipc.words.push(ANSWER_TAG);
+    ipc.words.push(base + MAP_KIND);
+    ipc.words.push(fpage.word());
+}
+
+/// Makes a call the one that `answering` gives for an answer of one map item, which is told by its send base and fpage: written in
+/// place where the call is an Ipc.
+pub fn answer_into(call: &mut Call, sender: ThreadId, base: u32, fpage: Fpage)
+    requires { base % base_unit ≡ 0 }
+    ensures { call.new ≡ sending sender (message_words (one_item (Map base fpage))) }
+{
+    match call {
+        Call::Ipc(ipc) => set_answer(ipc, sender, base, fpage),
+        Call::Fault(_) => *call = answering(sender, &map_answer(base, fpage)),
+        Call::Unmap(_) => *call = answering(sender, &map_answer(base, fpage)),
+        Call::Control(_) => *call = answering(sender, &map_answer(base, fpage)),
+    }
 }
 
 /// What is entered after a reply, and whether it is an answer.

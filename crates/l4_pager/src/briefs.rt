@@ -1,0 +1,114 @@
+//! Messages of two untyped words and no item, as a fault's and a request's are, read from a reply with no list made.
+ghost use Rattle.std.specs.Prelude.{◌≡◌, ◌∷◌, MatchOption};
+ghost use Rattle.l4_msg.specs.Messages.{MessageReads};
+ghost use Rattle.l4_msg.specs.Protocols.{fault_label, request_label};
+ghost use Rattle.l4_threads.specs.declared.ThreadId.{ThreadId as AnId};
+ghost use Rattle.l4_pager.specs.Briefs.{brief_message};
+ghost use Rattle.l4_pager.specs.Serving.{Brings};
+ghost use Rattle.l4_pager.specs.declared.briefs.BriefMessage.{BriefMessage as ABrief};
+
+use l4_fpage::Rights;
+use l4_ipc::Reply;
+use l4_msg::{Acceptor, FrameRequest, PageFault, Tag};
+use l4_threads::{IpcReply, ThreadId};
+
+/// A message of two untyped words and no item.
+#[derive(Clone, Copy, PartialEq, Eq, Debug)]
+pub struct BriefMessage {
+    /// The label.
+    pub label: u16,
+    /// The first untyped word.
+    pub first: u32,
+    /// The second one.
+    pub second: u32,
+}
+
+/// The message of an Ipc's reply, where it is brief.
+fn brief_of(ipc: &IpcReply) -> Option<BriefMessage>
+    ensures { MatchOption result ((brief : ABrief) → ¬ MessageReads (ipc.now.tag ∷ ipc.now.words.items) (brief_message brief))
+        (λ brief. MessageReads (ipc.now.tag ∷ ipc.now.words.items) (brief_message brief)) }
+{
+    let tag = Tag::read(ipc.tag);
+    if tag.untyped != 2 || tag.typed != 0 || tag.flags != 0 {
+        return None;
+    }
+    if ipc.words.len() < 2 {
+        return None;
+    }
+    Some(BriefMessage {
+        label: tag.label,
+        first: ipc.words[0],
+        second: ipc.words[1],
+    })
+}
+
+/// The sender and the message that a reply brings, where the message has two untyped words and no item. None where it brings no such
+/// message.
+pub fn brought_brief(reply: &Reply) -> Option<(ThreadId, BriefMessage)>
+    ensures { MatchOption result ((sender : AnId) (brief : ABrief) → ¬ Brings reply.now sender (brief_message brief))
+        (λ p. Brings reply.now p.0 (brief_message p.1)) }
+{
+    match reply {
+        Reply::Ipc(ipc) => match brief_of(ipc) {
+            Some(brief) => Some((ipc.from, brief)),
+            None => None,
+        },
+        Reply::Hit => None,
+        Reply::Answered => None,
+        Reply::FaultFailed(_) => None,
+        Reply::Unmapped => None,
+        Reply::Controlled => None,
+        Reply::Gone => None,
+    }
+}
+
+/// The label of a fault without access.
+fn fault_label() -> u16
+    ensures { result ≡ fault_label }
+{
+    0xffe0
+}
+
+/// The label of a request.
+fn request_label() -> u16
+    ensures { result ≡ request_label }
+{
+    0xffa0
+}
+
+impl BriefMessage {
+    ghost use Rattle.l4_msg.specs.Protocols.{FaultReads, RequestReads};
+    ghost use Rattle.l4_msg.specs.declared.protocols.PageFault.{PageFault as AFault};
+    ghost use Rattle.l4_msg.specs.declared.protocols.FrameRequest.{FrameRequest as ARequest};
+
+    /// The fault that the message tells; None where it tells none.
+    pub fn fault(&self) -> Option<PageFault>
+        ensures { MatchOption result ((fault : AFault) → ¬ FaultReads (brief_message self.now) fault) (FaultReads (brief_message self.now)) }
+    {
+        let least = fault_label();
+        if self.label < least || self.label > least + 7 {
+            return None;
+        }
+        Some(PageFault {
+            address: self.first,
+            ip: self.second,
+            access: Rights::of_bits((self.label - least) as u8),
+        })
+    }
+
+    /// The request that the message is, its fpage without rights; None where it is none.
+    pub fn request(&self) -> Option<FrameRequest>
+        ensures { MatchOption result ((request : ARequest) → ¬ RequestReads (brief_message self.now) request) (RequestReads (brief_message self.now)) }
+    {
+        if self.label != request_label() {
+            return None;
+        }
+        match Acceptor::read(self.first) {
+            Ok(fpage) => Some(FrameRequest {
+                fpage,
+                attributes: self.second,
+            }),
+            Err(_) => None,
+        }
+    }
+}
