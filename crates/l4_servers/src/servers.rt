@@ -1,10 +1,14 @@
 //! The servers, and the call that the next of them enters.
-ghost use Rattle.std.specs.Prelude.{◌≡◌, not, IfOk, OnErr, MatchBool, MatchOption, MatchResult};
+ghost use Rattle.std.specs.Prelude.{◌≡◌, ◌%◌, not, IfOk, OnErr, MatchBool, MatchOption, MatchResult};
 ghost use Rattle.l4_msg.specs.Messages.{CanBeWritten};
 
+use l4_fpage::Fpage;
 use l4_ipc::{Call, Kernel, NoMemory, Reply};
 use l4_msg::Message;
-use l4_pager::{Entry, PagerRefusal, RegionPager, answering, brought, wait};
+use l4_pager::{
+    BriefMessage, Entry, PagerRefusal, RegionPager, answer_into, answering, brought, brought_brief,
+    wait_into,
+};
 use l4_sigma0::Sigma0;
 use l4_threads::ThreadId;
 use std::alloc::Global;
@@ -67,6 +71,12 @@ impl Servers {
     ghost use Rattle.l4_pager.specs.Regions.{CanAdd};
     ghost use Rattle.std.specs.Prelude.{◌≤◌, false};
     ghost use Rattle.l4_servers.specs.Acting.{NoneReady, IsFirstReady, Answers, Follows, ActsNext};
+    ghost use Rattle.l4_servers.specs.Servers.{servers};
+    ghost use Rattle.l4_sigma0.specs.Owners.{Answers as GrantsFrames};
+    ghost use Rattle.l4_msg.specs.Protocols.{one_item};
+    ghost use Rattle.l4_msg.specs.Sizes.{base_unit};
+    ghost use Rattle.l4_msg.specs.declared.items.Item.TheVariants.{Map};
+    ghost use Rattle.l4_pager.specs.Briefs.{brief_message};
 
     /// No frame has an owner, no thread has a table, and nobody is served. `frames` is at most 4,096.
     pub fn new(alloc: Global, frames: u32) -> Servers
@@ -184,23 +194,82 @@ impl Servers {
         self.region_answer(thread, message)
     }
 
-    /// What a thread enters after this reply.
-    fn next_call(&mut self, kernel: &Kernel, thread: u32, reply: &Reply) -> Call
-        ensures { Follows kernel.now.threads self.old thread reply.now result self.new }
+    /// What a thread's regions answer to a brief message: the send base and the fpage of the one map item.
+    fn brief_region_answer(&self, thread: u32, brief: &BriefMessage) -> (u32, Fpage)
+        ensures answers { AnswersByRegion (regions_of self.now thread) (brief_message brief.now) (one_item (Map result.0 result.1)) }
+        ensures whole { result.0 % base_unit ≡ 0 }
     {
-        let Some((sender, message)) = brought(reply) else {
-            return wait();
+        let Some(fault) = brief.fault() else {
+            return (0, Fpage::Nil);
         };
-        answering(sender, &self.answer(kernel, thread, sender, &message))
+        match self.tables.get(&thread) {
+            Some(table) => table.answer_fault(&fault),
+            None => (0, Fpage::Nil),
+        }
     }
 
-    /// The served thread that acts next, and the call that it enters: of the served threads that run the one of the least number. It
+    /// What sigma0 answers to a brief message from a space: the send base and the fpage of the one map item.
+    fn brief_frame_answer(&mut self, from_space: u64, brief: &BriefMessage) -> (u32, Fpage)
+        ensures answers { GrantsFrames self.old.owners from_space (brief_message brief.now) (one_item (Map result.0 result.1)) self.new.owners }
+        ensures others { self.new ≡ servers self.new.owners self.old.tables self.old.served }
+        ensures whole { result.0 % base_unit ≡ 0 }
+    {
+        if let Some(fault) = brief.fault() {
+            return self.owners.answer_fault(from_space, &fault);
+        }
+        if let Some(request) = brief.request() {
+            return self.owners.answer_request(from_space, &request);
+        }
+        (0, Fpage::Nil)
+    }
+
+    /// What a thread answers to a sender's brief message: the send base and the fpage of the one map item.
+    fn brief_answer(
+        &mut self,
+        kernel: &Kernel,
+        thread: u32,
+        sender: ThreadId,
+        brief: &BriefMessage,
+    ) -> (u32, Fpage)
+        ensures answers { Answers kernel.now.threads self.old thread sender (brief_message brief.now) (one_item (Map result.0 result.1)) self.new }
+        ensures whole { result.0 % base_unit ≡ 0 }
+    {
+        if thread == SIGMA0 {
+            return self.brief_frame_answer(space_of_sender(kernel, sender), brief);
+        }
+        self.brief_region_answer(thread, brief)
+    }
+
+    /// Makes a call what a thread enters after any reply. It is apart from `next_call_into`, as a message has room for 63 words and 31
+    /// items, which no brief one is to clear.
+    #[inline(never)]
+    fn long_call_into(&mut self, kernel: &Kernel, thread: u32, reply: &Reply, call: &mut Call)
+        ensures { Follows kernel.now.threads self.old thread reply.now call.new self.new }
+    {
+        let Some((sender, message)) = brought(reply) else {
+            return wait_into(call);
+        };
+        *call = answering(sender, &self.answer(kernel, thread, sender, &message));
+    }
+
+    /// Makes a call what a thread enters after a reply.
+    fn next_call_into(&mut self, kernel: &Kernel, thread: u32, reply: &Reply, call: &mut Call)
+        ensures { Follows kernel.now.threads self.old thread reply.now call.new self.new }
+    {
+        let Some((sender, brief)) = brought_brief(reply) else {
+            return self.long_call_into(kernel, thread, reply, call);
+        };
+        let (base, fpage) = self.brief_answer(kernel, thread, sender, &brief);
+        answer_into(call, sender, base, fpage);
+    }
+
+    /// The served thread that acts next, and in `call` what it enters: of the served threads that run the one of the least number. It
     /// answers the message that its last reply brought, and then waits for the next one, or only waits where it brought none. sigma0
     /// answers by its table of owners, in which an owner is set now; each other thread by its regions. None where no served thread
-    /// runs, and then nothing changes.
-    pub fn next_act(&mut self, kernel: &Kernel) -> Option<(u32, Call)>
+    /// runs, and then nothing changes. The call is written into what is there, which is quickest where that is an Ipc.
+    pub fn next_act_into(&mut self, kernel: &Kernel, call: &mut Call) -> Option<u32>
         ensures { MatchOption result (NoneReady kernel.now.threads self.old × (self.new ≡ self.old))
-            (λ act. ActsNext kernel.now.threads self.old act.0 act.1 self.new) }
+            (λ thread. ActsNext kernel.now.threads self.old thread call.new self.new) }
     {
         let Some(thread) = self.first_ready(kernel) else {
             return None;
@@ -208,6 +277,7 @@ impl Servers {
         let Some(reply) = kernel.reply(thread) else {
             return None;
         };
-        Some((thread, self.next_call(kernel, thread, reply)))
+        self.next_call_into(kernel, thread, reply, call);
+        Some(thread)
     }
 }
