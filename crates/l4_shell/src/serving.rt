@@ -13,6 +13,7 @@ use crate::texts::refused_act_text;
 use l4_answers::{add_waits, expire_text, put_reply, put_transfer};
 use l4_ipc::{Answer, Kernel, NextStep, Outcome};
 use l4_lock::{BriefEntry, EntryOutline, LockRefusal, StepOutline};
+use l4_pager::wait;
 use l4_seats::SeatedKernel;
 use l4_servers::Servers;
 use l4_text::{Output, Text};
@@ -229,12 +230,13 @@ fn serve<W: Write>(
         (W.contents writer.old) (W.contents writer.new) out.old out.new }
 {
     let mut ended = false;
+    let mut call = wait();
     for _ in 0..MOST_ACTS {
-        let Some((server, call)) = servers.next_act(kernel.kernel()) else {
+        let Some(server) = servers.next_act_into(kernel.kernel(), &mut call) else {
             return ended;
         };
-        let call = LentCall { call: &call };
-        match enter_call(kernel, (server, call), thread, out, writer) {
+        let act = LentCall { call: &call };
+        match enter_call(kernel, (server, act), thread, out, writer) {
             Ok(own) => ended = ended | own,
             Err(refusal) => {
                 out.put(writer, &refused_act_text(server, &lock_code(refusal)));
