@@ -1,5 +1,5 @@
 //! The accounts of the seats that were given.
-ghost use Rattle.std.specs.Prelude.{◌≡◌, ◌≢◌, ◌+◌, ◌<◌, ◌≤◌, ℕ, Some, None, [], ◌∷◌, ◌++◌, length, IfSome, IfNone, MatchOption, MatchResult, is_some, true, false, slice_get, slice_set};
+ghost use Rattle.std.specs.Prelude.{◌≡◌, ◌≢◌, ◌<◌, ℕ, Some, None, [], ◌∷◌, ◌++◌, length, IfSome, IfNone, MatchOption, MatchResult, is_some, true, false, slice_get, slice_set};
 ghost use Rattle.std.specs.Option.{option_copied};
 ghost use Rattle.l4_threads.specs.declared.Reply.{Reply as AReply};
 ghost use Rattle.l4_lock.specs.Books.{Book, book, book_at, reply_waits, numbers, IsOnce};
@@ -11,49 +11,8 @@ use l4_ipc::{Call, Kernel, Reply};
 use std::alloc::{AllocError, Global};
 use std::marker::Model;
 
-/// Where the account of a number stands. Nothing is searched where the seats were given in the order of their numbers, from 1 on.
-fn position(accounts: &[Account], number: u32) -> Option<usize>
-    requires { IsOnce (numbers accounts.now) }
-    ensures { MatchOption result (book_at accounts.now number ≡ None)
-        (λ at. (at < length accounts.now) × (book_at accounts.now number ≡ slice_get accounts.now at)) }
-{
-    let guess = (number as usize).wrapping_sub(1);
-    if guess < accounts.len() && accounts[guess].number() == number {
-        return Some(guess);
-    }
-    for (i, account) in accounts.iter().enumerate() {
-        if account.number() == number {
-            return Some(i);
-        }
-    }
-    None
-}
-
-/// Whether an ended call of this number hasn't been taken.
-fn reply_waits(accounts: &[Account], number: u32) -> bool
-    requires { IsOnce (numbers accounts.now) }
-    ensures { result ≡ reply_waits accounts.now number }
-{
-    match position(accounts, number) {
-        Some(at) => accounts[at].has_reply(),
-        None => false,
-    }
-}
-
-/// The number of the first account with an ended call that hasn't been taken.
-fn first_reply(accounts: &[Account]) -> Option<u32>
-    ensures { result ≡ first_reply accounts.now }
-{
-    for i in 0..accounts.len() {
-        if accounts[i].has_reply() {
-            return Some(accounts[i].number());
-        }
-    }
-    None
-}
-
-/// What the lock keeps of the numbers whose seats it gave, and how many of their calls have ended and aren't taken yet. Where none has,
-/// no account is looked at.
+/// What the lock keeps of the numbers whose seats it gave, and how many of their calls have ended and aren't taken yet: where none has, no
+/// account is looked at.
 #[derive(Drop)]
 pub(crate) struct Accounts {
     items: Vec<Account>,
@@ -122,7 +81,7 @@ impl Accounts {
         None
     }
 
-    /// The number of an account whose ended call hasn't been taken.
+    /// The number of an account whose ended call hasn't been taken. None where there is none.
     pub fn any_reply(&self) -> Option<u32>
         requires { IsOnce (numbers self.now.items) }
         ensures { MatchOption result ((n : ℕ) → reply_waits self.now.items n ≡ false) (λ n. reply_waits self.now.items n ≡ true) }
@@ -217,4 +176,45 @@ impl Accounts {
         self.settle(at, seat, own);
         Some(reply)
     }
+}
+
+/// Where the account of a number stands. Nothing is searched where the seats were given in the order of their numbers, from 1 on.
+fn position(accounts: &[Account], number: u32) -> Option<usize>
+    requires { IsOnce (numbers accounts.now) }
+    ensures { MatchOption result (book_at accounts.now number ≡ None)
+        (λ at. (at < length accounts.now) × (book_at accounts.now number ≡ slice_get accounts.now at)) }
+{
+    let guess = (number as usize).wrapping_sub(1);
+    if guess < accounts.len() && accounts[guess].number() == number {
+        return Some(guess);
+    }
+    for (i, account) in accounts.iter().enumerate() {
+        if account.number() == number {
+            return Some(i);
+        }
+    }
+    None
+}
+
+/// Whether an ended call of this number hasn't been taken.
+fn reply_waits(accounts: &[Account], number: u32) -> bool
+    requires { IsOnce (numbers accounts.now) }
+    ensures { result ≡ reply_waits accounts.now number }
+{
+    match position(accounts, number) {
+        Some(at) => accounts[at].has_reply(),
+        None => false,
+    }
+}
+
+/// The number of the first account with an ended call that hasn't been taken.
+fn first_reply(accounts: &[Account]) -> Option<u32>
+    ensures { result ≡ first_reply accounts.now }
+{
+    for i in 0..accounts.len() {
+        if accounts[i].has_reply() {
+            return Some(accounts[i].number());
+        }
+    }
+    None
 }

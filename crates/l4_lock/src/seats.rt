@@ -1,5 +1,5 @@
 //! Seats, and what the lock keeps of each.
-ghost use Rattle.std.specs.Prelude.{◌≡◌, ◌≢◌, ◌+◌, ◌<◌, ◌≤◌, ℕ, Some, None, [], ◌∷◌, ◌++◌, length, IfSome, IfNone, MatchResult, IsTrue, is_some, true, false};
+ghost use Rattle.std.specs.Prelude.{◌≡◌, ◌≢◌, ◌+◌, ◌<◌, ◌≤◌, ℕ, Some, None, [], ◌∷◌, ◌++◌, length, MatchResult, IsTrue, is_some, true, false};
 ghost use Rattle.std.specs.Option.{option_map_or, option_copied};
 ghost use Rattle.l4_lock.specs.Books.{SeatState, seat_state, starts, Book, book, pending_count, has_ended, Settles};
 ghost use Rattle.l4_lock.specs.Inside.Accounts.{has_reply};

@@ -1,5 +1,5 @@
 //! Steps of the kernel with their entries.
-ghost use Rattle.std.specs.Prelude.{false, ◌≡◌, ◌≢◌, ◌⊎◌, ◌+◌, ◌<◌, ◌≤◌, ℕ, Ok, Err, None, [], ◌∷◌, IfOk, IfErr, OnErr, map, length, MatchOption, slice_get};
+ghost use Rattle.std.specs.Prelude.{false, ◌≡◌, ◌≢◌, ◌⊎◌, ◌+◌, ◌<◌, ◌≤◌, ℕ, Ok, Err, [], ◌∷◌, IfOk, IfErr, OnErr, map, length};
 ghost use Rattle.l4_ipc.specs.Steps.{Steps, IsIdle};
 ghost use Rattle.l4_lock.specs.Inside.Noting.{noted};
 ghost use Rattle.l4_lock.specs.Books.{numbers, IsOnce};
