@@ -109,6 +109,7 @@ impl Source {
 
     /// Reads the next bytes, in one read, in place of those that were there. False at the end of the
     /// stream.
+    #[inline(never)]
     fn fill<R: Read>(&mut self, reader: &mut R) -> Result<bool, RunFault>
         ensures { Filled (R.remaining reader.old) (R.remaining reader.new) self.old self.new result }
     {
