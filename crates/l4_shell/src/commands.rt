@@ -178,6 +178,7 @@ const STEPS: &[u8] = b"steps";
 
 /// `N SPACE PAGER`
 #[tactic(auto, unfolding(crate::specs::Commands::thread_asked))]
+#[inline(never)]
 fn thread(line: &[u8]) -> Option<Command<'static>>
     ensures { result ≡ thread_asked (tokens_of line.now) }
 {
@@ -191,6 +192,7 @@ fn thread(line: &[u8]) -> Option<Command<'static>>
 
 /// `N PAGER`
 #[tactic(auto, unfolding(crate::specs::Commands::set_pager_asked))]
+#[inline(never)]
 fn set_pager(line: &[u8]) -> Option<Command<'static>>
     ensures { result ≡ set_pager_asked (tokens_of line.now) }
 {
@@ -203,6 +205,7 @@ fn set_pager(line: &[u8]) -> Option<Command<'static>>
 
 /// `N`
 #[tactic(auto, unfolding(crate::specs::Commands::delete_asked))]
+#[inline(never)]
 fn delete(line: &[u8]) -> Option<Command<'static>>
     ensures { result ≡ delete_asked (tokens_of line.now) }
 {
@@ -226,6 +229,7 @@ fn receive(line: &[u8]) -> Option<Command<'static>>
 
 /// `N FIRST COUNT`
 #[tactic(auto, unfolding(crate::specs::Commands::show_asked))]
+#[inline(never)]
 fn show(line: &[u8]) -> Option<Command<'static>>
     ensures { result ≡ show_asked (tokens_of line.now) }
 {
@@ -235,6 +239,7 @@ fn show(line: &[u8]) -> Option<Command<'static>>
 
 /// `N PAGE`
 #[tactic(auto, unfolding(crate::specs::Commands::parent_asked))]
+#[inline(never)]
 fn parent(line: &[u8]) -> Option<Command<'static>>
     ensures { result ≡ parent_asked (tokens_of line.now) }
 {
@@ -282,6 +287,7 @@ fn send<'a>(line: &[u8], registers: &'a mut ArrayVec<u32, MAX_WORDS>) -> Option<
 }
 
 /// `N TO SOURCE TARGET COUNT RIGHTS`
+#[inline(never)]
 fn delegate(line: &[u8]) -> Option<Command<'static>>
     ensures { result ≡ delegate_asked (tokens_of line.now) }
 {
@@ -343,6 +349,7 @@ fn fault(line: &[u8]) -> Option<Command<'static>>
 }
 
 /// `P FIRST SOURCE COUNT RIGHTS`
+#[inline(never)]
 fn add_region(line: &[u8]) -> Option<Command<'static>>
     ensures { result ≡ region_asked (tokens_of line.now) }
 {
@@ -361,6 +368,7 @@ fn add_region(line: &[u8]) -> Option<Command<'static>>
 }
 
 /// `P`
+#[inline(never)]
 fn serve(line: &[u8]) -> Option<Command<'static>>
     ensures { result ≡ serve_asked (tokens_of line.now) }
 {
@@ -368,6 +376,7 @@ fn serve(line: &[u8]) -> Option<Command<'static>>
 }
 
 /// No tokens
+#[inline(never)]
 fn steps(line: &[u8]) -> Option<Command<'static>>
     ensures { result ≡ steps_asked (tokens_of line.now) }
 {

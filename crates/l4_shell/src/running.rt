@@ -32,7 +32,9 @@ fn booted(alloc: Global, frames: u32) -> Option<SeatedKernel>
     Some(kernel)
 }
 
-/// Answers line after line, to the end of the script. Answers their number.
+/// Answers line after line, to the end of the script. Answers their number. It stands apart, so that what each line uses lies close together and
+/// not among the places through which the kernel came.
+#[inline(never)]
 fn answer_all<R: Read, W: Write>(
     kernel: &mut SeatedKernel,
     servers: &mut Servers,
