@@ -15,7 +15,7 @@ pub use acceptors::Acceptor;
 pub use items::{Item, ItemFault, Move};
 pub use messages::{MAX_UNTYPED, MAX_WORDS, Message, MsgFault, copied};
 pub use moves::item_moves;
-pub use protocols::{FrameRequest, PageFault, map_answer};
+pub use protocols::{FAULT_LABEL, FrameRequest, PageFault, REQUEST_LABEL, map_answer};
 pub use regions::Region;
 pub use tags::Tag;
 pub use words::{MAX_ITEMS, TOO_MANY};

@@ -9,10 +9,10 @@ use l4_fpage::{Fpage, Rights};
 
 /// The label of a fault without access: -2 in twelve bits, then four zero bits, of which the access takes the low three (this
 /// profile's own).
-const FAULT_LABEL: u16 = 0xffe0;
+pub const FAULT_LABEL: u16 = 0xffe0;
 
 /// The label of a request: -6 in twelve bits, then four zero bits (this profile's own).
-const REQUEST_LABEL: u16 = 0xffa0;
+pub const REQUEST_LABEL: u16 = 0xffa0;
 
 /// A page fault, as the kernel tells it to a pager (L4 X.2 manual, page fault protocol).
 #[derive(Clone, Copy, PartialEq, Eq, Debug)]

@@ -1,7 +1,6 @@
 //! Messages of two untyped words and no item, as a fault's and a request's are, read from a reply with no list made.
 ghost use Rattle.std.specs.Prelude.{◌≡◌, ◌∷◌, MatchOption};
 ghost use Rattle.l4_msg.specs.Messages.{MessageReads};
-ghost use Rattle.l4_msg.specs.Protocols.{fault_label, request_label};
 ghost use Rattle.l4_threads.specs.declared.ThreadId.{ThreadId as AnId};
 ghost use Rattle.l4_pager.specs.Briefs.{brief_message};
 ghost use Rattle.l4_pager.specs.Serving.{Brings};
@@ -9,7 +8,7 @@ ghost use Rattle.l4_pager.specs.declared.briefs.BriefMessage.{BriefMessage as AB
 
 use l4_fpage::Rights;
 use l4_ipc::Reply;
-use l4_msg::{Acceptor, FrameRequest, PageFault, Tag};
+use l4_msg::{Acceptor, FAULT_LABEL, FrameRequest, PageFault, REQUEST_LABEL, Tag};
 use l4_threads::{IpcReply, ThreadId};
 
 /// A message of two untyped words and no item.
@@ -62,20 +61,6 @@ pub fn brought_brief(reply: &Reply) -> Option<(ThreadId, BriefMessage)>
     }
 }
 
-/// The label of a fault without access.
-fn fault_label() -> u16
-    ensures { result ≡ fault_label }
-{
-    0xffe0
-}
-
-/// The label of a request.
-fn request_label() -> u16
-    ensures { result ≡ request_label }
-{
-    0xffa0
-}
-
 impl BriefMessage {
     ghost use Rattle.l4_msg.specs.Protocols.{FaultReads, RequestReads};
     ghost use Rattle.l4_msg.specs.declared.protocols.PageFault.{PageFault as AFault};
@@ -85,14 +70,13 @@ impl BriefMessage {
     pub fn fault(&self) -> Option<PageFault>
         ensures { MatchOption result ((fault : AFault) → ¬ FaultReads (brief_message self.now) fault) (FaultReads (brief_message self.now)) }
     {
-        let least = fault_label();
-        if self.label < least || self.label > least + 7 {
+        if self.label < FAULT_LABEL || self.label > FAULT_LABEL + 7 {
             return None;
         }
         Some(PageFault {
             address: self.first,
             ip: self.second,
-            access: Rights::of_bits((self.label - least) as u8),
+            access: Rights::of_bits((self.label - FAULT_LABEL) as u8),
         })
     }
 
@@ -100,7 +84,7 @@ impl BriefMessage {
     pub fn request(&self) -> Option<FrameRequest>
         ensures { MatchOption result ((request : ARequest) → ¬ RequestReads (brief_message self.now) request) (RequestReads (brief_message self.now)) }
     {
-        if self.label != request_label() {
+        if self.label != REQUEST_LABEL {
             return None;
         }
         match Acceptor::read(self.first) {
