@@ -1,4 +1,5 @@
 pub mod Digits
+pub mod DigitTable
 pub mod Ended
 pub mod Gone
 pub mod LineSteps
