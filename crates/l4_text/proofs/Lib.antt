@@ -4,6 +4,7 @@ pub mod Ended
 pub mod Gone
 pub mod LineSteps
 pub mod Newlines
+pub mod OneNumber
 pub mod Parts
 pub mod Rows
 pub mod Spelled

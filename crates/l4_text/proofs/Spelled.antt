@@ -44,7 +44,7 @@ digits_back a b c d e f g h la lb lc ld le lf lg lh =
     ∙ hex_step ((((((0 * 16 + a) * 16 + b) * 16 + c) * 16 + d) * 16 + e) * 16 + f) g (hex_digit h ∷ []) lg
     ∙ hex_step (((((((0 * 16 + a) * 16 + b) * 16 + c) * 16 + d) * 16 + e) * 16 + f) * 16 + g) h [] lh
 
-below_all : (n : ℕ) → n < 2 ^ 32 → below (2 ^ 32) (Some n) ≡ Some n
+pub below_all : (n : ℕ) → n < 2 ^ 32 → below (2 ^ 32) (Some n) ≡ Some n
 below_all n small =
     let e : nat_lt n (2 ^ 32) ≡ true = grind (arith, nat_tests) in
     ap (λ b. cond b (Some n) None) e
@@ -64,7 +64,7 @@ word_back w small =
 
 -- ---- numbers
 
-value_after : (base v : ℕ) (digit : ℕ → Option ℕ) (xs ys : List ℕ)
+pub value_after : (base v : ℕ) (digit : ℕ → Option ℕ) (xs ys : List ℕ)
     → value_from base digit v (xs ++ ys) ≡ option_and_then (λ w. value_from base digit w ys) (value_from base digit v xs)
 value_after base v digit [] ys = refl
 value_after base v digit (x ∷ xs) ys =

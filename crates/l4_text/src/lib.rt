@@ -3,6 +3,7 @@
 
 mod failing;
 mod faults;
+mod first_numbers;
 mod lines;
 mod numbers;
 mod output;
@@ -11,6 +12,7 @@ mod tokens;
 
 pub use failing::{Drip, Sip};
 pub use faults::RunFault;
+pub use first_numbers::next_number;
 pub use lines::{Ending, Line, Source, next_line};
 pub use numbers::{decimal_number, number, word};
 pub use output::Output;

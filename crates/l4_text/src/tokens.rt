@@ -18,7 +18,7 @@ fn first_space(line: &[u8]) -> Option<usize>
 }
 
 /// How many spaces a line begins with.
-fn spaces(line: &[u8]) -> usize
+pub(crate) fn spaces(line: &[u8]) -> usize
     ensures value { result ≡ position_or_len is_no_space line.now }
     ensures within { result ≤ length line.now }
 {

@@ -1,6 +1,9 @@
 -- How a stream is read, piece by piece, and what goes out at once (this profile's own).
-use Rattle.std.specs.Prelude.{ℕ, ◌≡◌, ◌≢◌, ◌+◌, ◌-◌, ◌==◌, get_or, ◌<◌, ◌≤◌, Bool, true, false, List, [], ◌++◌, length, Option, Result, Ok, Err, not}
+use Rattle.std.specs.Prelude.{ℕ, ◌≡◌, ◌≢◌, ◌+◌, ◌-◌, ◌==◌, ◌^◌, get_or, ◌<◌, ◌≤◌, Bool, true, false, List, [], ◌++◌, length, take, drop, Option, Some, Result, Ok, Err, not}
 use Rattle.std.specs.Io.KnownBytes.{Consumes, IsAtEnd, Appends}
+use Rattle.std.specs.List.{position_or_len}
+use Rattle.l4_text.specs.Numbers.{value_from}
+use Rattle.l4_text.specs.Tokens.{is_space}
 use Rattle.l4_text.specs.Sizes.{line_bytes, most_reads}
 use Rattle.l4_text.specs.declared.faults.RunFault.{RunFault}
 use Rattle.l4_text.specs.declared.faults.RunFault.TheVariants.{Read}
@@ -28,3 +31,8 @@ pub record Puts (old new : Option (List ℕ)) (held held' text : List ℕ) : Typ
   pub front : List ℕ
   pub whole : held ++ text ≡ front ++ held'
   pub out : Appends old new front
+
+-- a text begins with so many digits, and then a space or its end
+abbrev pub HasDigits : ℕ → (ℕ → Option ℕ) → List ℕ → ℕ → ℕ → Type 0
+HasDigits base digit text count value =
+    (count ≤ length text) × (value_from base digit 0 (take count text) ≡ Some value) × (position_or_len is_space (drop count text) ≡ 0) × (value < 2 ^ 32)

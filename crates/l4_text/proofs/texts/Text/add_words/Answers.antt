@@ -1,4 +1,4 @@
-use Rattle.std.proofs.Common.{◌++◌, ◌+◌, ◌*◌, List, ℕ, length, take, ap, ◌∙◌, arith}
+use Rattle.std.proofs.Common.{◌++◌, List, ℕ, length, take, ap, ◌∙◌, arith}
 use mathlib.Core.List.{append_assoc}
 use Rattle.l4_text.specs.Texts.{words_text}
 use Rattle.l4_text.proofs.Rows.{words_text_more}

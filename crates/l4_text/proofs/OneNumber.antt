@@ -1,0 +1,114 @@
+-- The number of a token whose digits were read byte by byte.
+use Rattle.std.proofs.Common.{◌≡◌, ℕ, zero, suc, ◌+◌, ◌-◌, ◌*◌, ◌^◌, ◌<◌, ◌≤◌, ◌==◌, ◌&&◌, true, false, not, cond, nat_le, List, [], ◌∷◌, length, get_or, take, drop, Option, Some, None, is_some, option_and_then, sym, ap, ◌∙◌, refl, arith, eqb-true, subst}
+use Rattle.std.proofs.lemmas.Bool.{false≢true, and_parts}
+use Rattle.std.proofs.lemmas.Bool.Decides.{nat_tests}
+use Rattle.std.proofs.lemmas.List.{take_rest, take_more, length-take-le}
+use Rattle.std.specs.List.{position_or_len}
+use Rattle.l4_text.specs.Numbers.{digit_of, hex_digit_of, value_from, decimal_of, hex_of, is_hex, below, number_of}
+use Rattle.l4_text.specs.Tokens.{tokens_of, is_space, FirstNumber}
+use Rattle.l4_text.specs.Inside.Reading.{HasDigits, is_no_space}
+use Rattle.l4_text.proofs.Parts.{tokens_cut, tokens_skip}
+use Rattle.l4_text.proofs.Spelled.{value_after, below_all}
+
+not_some : (w : ℕ) → ◌≡◌ {A = Option ℕ} None (Some w) → ⊥
+not_some w h = false≢true (ap is_some h)
+
+-- a digit more
+pub value_next : (base : ℕ) (digit : ℕ → Option ℕ) (xs : List ℕ) (i value d other : ℕ) → i < length xs → value_from base digit 0 (take i xs) ≡ Some value
+    → digit (get_or xs i other) ≡ Some d → value_from base digit 0 (take (i + 1) xs) ≡ Some (value * base + d)
+value_next base digit xs i value d other less before here =
+    ap (λ (t : List ℕ). value_from base digit 0 t) (take_more xs i other less)
+    ∙ value_after base 0 digit (take i xs) (get_or xs i other ∷ [])
+    ∙ ap (λ (o : Option ℕ). option_and_then (λ w. value_from base digit w (get_or xs i other ∷ [])) o) before
+    ∙ ap (λ (o : Option ℕ). option_and_then (λ e. Some (value * base + e)) o) here
+
+-- no space stands among digits
+no_space : (base : ℕ) (digit : ℕ → Option ℕ) (v w i : ℕ) (xs : List ℕ) → digit 32 ≡ None → i ≤ length xs → value_from base digit v (take i xs) ≡ Some w
+    → position_or_len is_space xs ≡ i + position_or_len is_space (drop i xs)
+no_space base digit v w zero xs none le h = omega arith
+no_space base digit v w (suc i) [] none le h = absurd (omega (arith, le))
+no_space base digit v w (suc i) (x ∷ xs) none le h =
+    elim (x == 32) as (λ b. (x == 32) ≡ b → cond (not b) (1 + position_or_len is_space xs) 0 ≡ suc i + position_or_len is_space (drop i xs)) [
+      | true ↦ λ t.
+          let is : digit x ≡ None = ap digit (eqb-true x 32 t) ∙ none in
+          absurd (not_some w (sym (ap (λ (o : Option ℕ). option_and_then (λ d. value_from base digit (v * base + d) (take i xs)) o) is) ∙ h))
+      | false ↦ λ _.
+          let more : position_or_len is_space xs ≡ i + position_or_len is_space (drop i xs) =
+          elim (digit x) as (λ o. option_and_then (λ d. value_from base digit (v * base + d) (take i xs)) o ≡ Some w → position_or_len is_space xs ≡ i + position_or_len is_space (drop i xs)) [
+            | None ↦ λ e. absurd (not_some w e)
+            | Some d ↦ λ e. no_space base digit (v * base + d) w i xs none (omega (arith, le)) e
+          ] h in
+          omega (arith, more)
+    ] refl
+
+-- digits don't begin with 0x
+not_hex : (xs : List ℕ) (w : ℕ) → value_from 10 digit_of 0 xs ≡ Some w → is_hex xs ≡ false
+not_hex [] w h = refl
+not_hex (a ∷ []) w h = refl
+not_hex (a ∷ b ∷ xs) w h =
+    elim ((a == 48) && (b == 120)) as (λ v. ((a == 48) && (b == 120)) ≡ v → v ≡ false) [
+      | false ↦ λ _. refl
+      | true ↦ λ t.
+          let parts = and_parts (a == 48) (b == 120) t in
+          let first : a ≡ 48 = eqb-true a 48 parts.0 in
+          let second : b ≡ 120 = eqb-true b 120 parts.1 in
+          absurd (not_some w ((λ i. value_from 10 digit_of 0 (sym first i ∷ sym second i ∷ xs)) ∙ h))
+    ] refl
+
+decimal_is : (xs : List ℕ) (w : ℕ) → value_from 10 digit_of 0 xs ≡ Some w → 1 ≤ length xs → length xs ≤ 10 → w < 2 ^ 32 → Some w ≡ number_of xs
+unfolding number_of decimal_of
+decimal_is xs w h some few small =
+    let one : nat_le 1 (length xs) ≡ true = grind (arith, nat_tests) in
+    let ten : nat_le (length xs) 10 ≡ true = grind (arith, nat_tests) in
+    sym (ap (λ b. below (2 ^ 32) (cond b (hex_of (drop 2 xs)) (decimal_of xs))) (not_hex xs w h)
+    ∙ (λ i. below (2 ^ 32) (cond (one i && ten i) (value_from 10 digit_of 0 xs) None)) ∙ ap (below (2 ^ 32)) h ∙ below_all w small)
+
+hex_is : (xs : List ℕ) (w : ℕ) → value_from 16 hex_digit_of 0 xs ≡ Some w → 1 ≤ length xs → length xs ≤ 8 → w < 2 ^ 32 → Some w ≡ number_of (48 ∷ 120 ∷ xs)
+unfolding number_of hex_of
+hex_is xs w h some few small =
+    let one : nat_le 1 (length xs) ≡ true = grind (arith, nat_tests) in
+    let eight : nat_le (length xs) 8 ≡ true = grind (arith, nat_tests) in
+    sym ((λ i. below (2 ^ 32) (cond (one i && eight i) (value_from 16 hex_digit_of 0 xs) None)) ∙ ap (below (2 ^ 32)) h ∙ below_all w small)
+
+pub decimal_first : (rest : List ℕ) (n w : ℕ) → HasDigits 10 digit_of rest n w → 1 ≤ n → n ≤ 10
+    → FirstNumber rest (Some w) (take (length rest - n) (drop n rest))
+decimal_first rest n w has some few =
+    let long : length (take n rest) ≡ n = length-take-le n rest has.0 in
+    let place : position_or_len is_space rest ≡ n = omega (arith, no_space 10 digit_of 0 w n rest refl has.0 has.1, has.2) in
+    let pos : 0 < position_or_len is_space rest = omega (arith, place, some) in (
+      take n rest,
+      tokens_cut rest pos ∙ ap (λ k. take k rest ∷ tokens_of (drop k rest)) place ∙ ap (λ t. take n rest ∷ tokens_of t) (sym (take_rest rest n)),
+      decimal_is (take n rest) w has.1 (omega (arith, long, some)) (omega (arith, long, few)) has.3,
+    )
+
+hex_cut : (ys : List ℕ) (n w : ℕ) → HasDigits 16 hex_digit_of ys n w → 1 ≤ n → n ≤ 8
+    → FirstNumber (48 ∷ 120 ∷ ys) (Some w) (take (length ys - n) (drop n ys))
+hex_cut ys n w has some few =
+    let long : length (take n ys) ≡ n = length-take-le n ys has.0 in
+    let place : position_or_len is_space ys ≡ n = omega (arith, no_space 16 hex_digit_of 0 w n ys refl has.0 has.1, has.2) in
+    let there : position_or_len is_space (48 ∷ 120 ∷ ys) ≡ suc (suc n) = omega (arith, place) in
+    let pos : 0 < position_or_len is_space (48 ∷ 120 ∷ ys) = omega (arith, there) in (
+      48 ∷ 120 ∷ take n ys,
+      tokens_cut (48 ∷ 120 ∷ ys) pos ∙ ap (λ k. take k (48 ∷ 120 ∷ ys) ∷ tokens_of (drop k (48 ∷ 120 ∷ ys))) there
+          ∙ ap (λ t. (48 ∷ 120 ∷ take n ys) ∷ tokens_of t) (sym (take_rest ys n)),
+      hex_is (take n ys) w has.1 (omega (arith, long, some)) (omega (arith, long, few)) has.3,
+    )
+
+pub hex_first : (rest : List ℕ) (d e n w : ℕ) → 2 ≤ length rest → get_or rest 0 d ≡ 48 → get_or rest 1 e ≡ 120
+    → HasDigits 16 hex_digit_of (take (length rest - 2) (drop 2 rest)) n w → 1 ≤ n → n ≤ 8
+    → FirstNumber rest (Some w) (take (length (take (length rest - 2) (drop 2 rest)) - n) (drop n (take (length rest - 2) (drop 2 rest))))
+hex_first [] d e n w two a b has some few = absurd (omega (arith, two))
+hex_first (x ∷ []) d e n w two a b has some few = absurd (omega (arith, two))
+hex_first (x ∷ y ∷ ys) d e n w two a b has some few =
+    let all : take (length (x ∷ y ∷ ys) - 2) ys ≡ ys = take_rest (x ∷ y ∷ ys) 2 in
+    let cut = hex_cut ys n w (subst (λ t. HasDigits 16 hex_digit_of t n w) all has) some few in
+    let back : FirstNumber (48 ∷ 120 ∷ ys) (Some w) (take (length (take (length (x ∷ y ∷ ys) - 2) ys) - n) (drop n (take (length (x ∷ y ∷ ys) - 2) ys))) =
+    subst (λ t. FirstNumber (48 ∷ 120 ∷ ys) (Some w) (take (length t - n) (drop n t))) (sym all) cut in
+    subst (λ t. FirstNumber t (Some w) (take (length (take (length (x ∷ y ∷ ys) - 2) ys) - n) (drop n (take (length (x ∷ y ∷ ys) - 2) ys)))) (λ i. sym a i ∷ sym b i ∷ ys) back
+
+-- what the spaces in front of it leave of a line has the line's first token
+pub first_after : (line : List ℕ) (start : ℕ) (number : Option ℕ) (after : List ℕ) → start ≡ position_or_len is_no_space line
+    → FirstNumber (take (length line - start) (drop start line)) number after → FirstNumber line number after
+first_after line start number after from first =
+    let rest : take (length line - start) (drop start line) ≡ drop (position_or_len is_no_space line) line = take_rest line start ∙ ap (λ k. drop k line) from in
+    (first.0, tokens_skip line ∙ ap tokens_of (sym rest) ∙ first.1, first.2)
