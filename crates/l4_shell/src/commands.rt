@@ -10,7 +10,7 @@ use arrayvec::ArrayVec;
 use l4_ipc::FaultCall;
 use l4_msg::{MAX_WORDS, Region};
 use l4_pager::Entry;
-use l4_text::{next_token, number};
+use l4_text::{next_number, next_token, number};
 use std::marker::Model;
 
 /// Why a line can't be read.
@@ -257,12 +257,12 @@ fn read_words<'a>(line: &[u8], words: &'a mut ArrayVec<u32, MAX_WORDS>) -> Optio
     words.clear();
     let mut rest = line;
     for count in 0..MAX_WORDS {
-        match next_token(rest) {
+        match next_number(rest) {
             None => {
                 return Some(Words::of(words));
             }
-            Some((token, after)) => {
-                words.push(number(token)?);
+            Some((value, after)) => {
+                words.push(value?);
                 rest = after;
             }
         }
