@@ -7,8 +7,8 @@ ghost use Rattle.l4_text.specs.Inside.Reading.{HasDigits};
 use crate::numbers::{digit, hex_digit, number};
 use crate::tokens::{next_token, spaces};
 
-/// The digits of a base up to a space or the end: the number that they spell after so large a one at most, and how many
-/// they are. What a digit is says a function that is named, so this is no function.
+/// The digits of a base up to a space or the end: their number and how many they are. None where another digit follows a
+/// number larger than this. What a digit is says a function that is named, so this is no function.
 macro_rules! leading {
     ($text:ident, $base:literal, $digit:ident, $most:literal) => {{
         let mut value = 0u32;
