@@ -68,7 +68,6 @@ impl Receipts {
     }
 
     /// Makes room for more receipts.
-    #[inline(always)]
     pub(crate) fn reserve(&mut self, more: usize) -> Result<(), AllocError>
         ensures items { self.new.items ≡ self.old.items }
         ensures room { (self.old.room ≤ self.new.room) × (self.new.room < 2 ^ 63) }

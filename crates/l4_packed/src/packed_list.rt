@@ -90,7 +90,6 @@ impl<T: FromWords> PackedList<T> {
     }
 
     /// Makes room for more items.
-    #[inline(always)]
     pub fn reserve(&mut self, more: usize) -> Result<(), AllocError>
         ensures items { self.new.items ≡ self.old.items }
         ensures room { (self.old.room ≤ self.new.room) × (self.new.room < 2 ^ 63) }
@@ -100,7 +99,6 @@ impl<T: FromWords> PackedList<T> {
     }
 
     /// Appends the item of these words, for which there is room.
-    #[inline(always)]
     pub fn push(&mut self, words: &Words<'_>)
         requires room { length self.old.items < self.old.room }
         requires read { IsTrue (is_some (T.item_at words.now)) }

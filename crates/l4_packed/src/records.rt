@@ -54,28 +54,7 @@ fn find(pieces: &[Piece], place: usize) -> Option<Words<'_>>
     piece.get(place - piece.first())
 }
 
-/// Goes on to a new piece.
-#[inline(never)]
-fn next_piece(full: &mut Vec<Piece>, current: &mut Piece, spare: &mut Vec<Vec<u8>>, size: usize)
-    requires few { size ≤ RECORD_BYTES }
-    requires full { current.old.free < size }
-    requires ready { (room : ℕ) × IsStore full.old.items current.old spare.old.items (vec_capacity full.old) room
-        × (length (records_of full.old.items) + length current.old.records < room) }
-    ensures records { records_of full.new.items ++ current.new.records ≡ records_of full.old.items ++ current.old.records }
-    ensures free { size ≤ current.new.free }
-    ensures kept { (room : ℕ) → IsStore full.old.items current.old spare.old.items (vec_capacity full.old) room
-        → IsStore full.new.items current.new spare.new.items (vec_capacity full.new) room }
-{
-    let Some(bytes) = spare.pop() else {
-        unreachable!()
-    };
-    let next = Piece::new(current.first() + current.count(), bytes);
-    let last = mem::replace(current, next);
-    full.push_reserved(last);
-}
-
 /// Sees to it that a record of this size fits into the current piece.
-#[inline(always)]
 fn make_room(full: &mut Vec<Piece>, current: &mut Piece, spare: &mut Vec<Vec<u8>>, size: usize)
     requires few { size ≤ RECORD_BYTES }
     requires ready { (room : ℕ) × IsStore full.old.items current.old spare.old.items (vec_capacity full.old) room
@@ -85,9 +64,15 @@ fn make_room(full: &mut Vec<Piece>, current: &mut Piece, spare: &mut Vec<Vec<u8>
     ensures kept { (room : ℕ) → IsStore full.old.items current.old spare.old.items (vec_capacity full.old) room
         → IsStore full.new.items current.new spare.new.items (vec_capacity full.new) room }
 {
-    if current.free() < size {
-        next_piece(full, current, spare, size);
+    if current.free() >= size {
+        return;
     }
+    let Some(bytes) = spare.pop() else {
+        unreachable!()
+    };
+    let next = Piece::new(current.first() + current.count(), bytes);
+    let last = mem::replace(current, next);
+    full.push_reserved(last);
 }
 
 /// Gets memory for pieces until there is enough for this many.
@@ -182,19 +167,6 @@ impl Records {
         if len + more <= self.room {
             return Ok(());
         }
-        self.grow(more)
-    }
-
-    /// `reserve` where there is too little room.
-    #[inline(never)]
-    fn grow(&mut self, more: usize) -> Result<(), AllocError>
-        requires few { length self.old.records + more < MOST_ASKED }
-        requires little { self.old.room < length self.old.records + more }
-        ensures records { self.new.records ≡ self.old.records }
-        ensures ok { OnOk result (length self.new.records + more ≤ self.new.room) }
-        ensures room { (self.old.room ≤ self.new.room) × (self.new.room < 2 ^ 62) }
-    {
-        let len = self.len();
         let wanted = more / PIECE_RECORDS + 1;
         self.full.reserve(wanted)?;
         add_spare(self.alloc, &mut self.spare, wanted)?;
@@ -203,7 +175,6 @@ impl Records {
     }
 
     /// Appends a record, for which there is room.
-    #[inline(always)]
     pub fn push(&mut self, words: &Words<'_>)
         requires { length self.old.records < self.old.room }
         ensures records { self.new.records ≡ self.old.records ++ words.now ∷ [] }
