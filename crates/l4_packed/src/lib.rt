@@ -1,6 +1,7 @@
 //! Calls, steps, answers and replies as words, and lists of words packed into bytes.
 #![tactic(auto)]
 
+mod bytes;
 mod calls;
 mod numbers;
 mod packed_list;

@@ -2,16 +2,10 @@
 ghost use Rattle.std.specs.Prelude.{◌≡◌, ◌+◌, ◌≤◌, ◌++◌, ◌∷◌, [], length, vec_len, vec_capacity};
 ghost use Rattle.l4_packed.specs.Inside.Bytes.{Reads, number_code, number_at, two_bytes_at, three_bytes_at, four_bytes_at};
 
-use arrayvec::ArrayVec;
+use crate::bytes::{Bytes, WORDS_BYTES};
 
 /// The greatest number of bytes of a number.
 pub(crate) const NUMBER_BYTES: usize = 5;
-
-/// The greatest number of bytes of the words of a record.
-pub(crate) const WORDS_BYTES: usize = 720;
-
-/// The bytes of the words of a record.
-pub(crate) type Bytes = ArrayVec<u8, WORDS_BYTES>;
 
 /// What stands before a number of two bytes. A number below it is one byte.
 const TWO: u8 = 252;

@@ -3,7 +3,8 @@ ghost use Rattle.std.specs.Prelude.{◌≡◌, ◌+◌, ◌≤◌, ◌++◌, len
 ghost use Rattle.l4_packed.specs.Inside.Bytes.{frame_at, record_code};
 ghost use Rattle.l4_packed.specs.Words.{Gives};
 
-use crate::numbers::{NUMBER_BYTES, WORDS_BYTES, number_len, put_number, read_number};
+use crate::bytes::WORDS_BYTES;
+use crate::numbers::{NUMBER_BYTES, number_len, put_number, read_number};
 use crate::words::{RECORD_WORDS, Words};
 
 /// The greatest number of bytes of a record.

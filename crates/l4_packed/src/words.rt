@@ -4,7 +4,8 @@ ghost use Rattle.l4_packed.specs.Inside.Bytes.{numbers_code, words_in};
 ghost use Rattle.l4_packed.specs.Inside.Pieces.{AreWords};
 ghost use Rattle.l4_packed.specs.Words.{Gives, counted, flag, if_set, word_at, set_at, list_at, sized_at, counted_at};
 
-use crate::numbers::{Bytes, WORDS_BYTES, add_number, read_number};
+use crate::bytes::{Bytes, WORDS_BYTES};
+use crate::numbers::{add_number, read_number};
 use arrayvec::ArrayVec;
 use std::marker::Model;
 

@@ -4,6 +4,17 @@ use Rattle.std.specs.List.{flat_map}
 use Rattle.std.specs.Borrow.{Bor}
 use Rattle.l4_packed.specs.Words.{Gives, ◌>>=◌}
 
+-- the greatest number of bytes of the words of a record
+abbrev pub words_bytes : ℕ
+words_bytes = 720
+
+-- what is seen of the bytes of a record
+pub record ByteList : Type 0 where
+  pub items : List ℕ
+
+abbrev pub byte_list : List ℕ → ByteList
+byte_list items = record { items = items }
+
 -- a reader gives a value and the bytes after it
 abbrev pub Reads : {X : Type 0} → Option (X × Bor (List ℕ)) → Option (X × List ℕ) → Type 0
 Reads result read = Gives (λ x. (x.0, x.1.now)) result read

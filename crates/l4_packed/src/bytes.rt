@@ -1,0 +1,64 @@
+//! Bytes of a record, in a place of their own.
+ghost use Rattle.std.specs.Prelude.{◌≡◌, ◌<◌, ◌≤◌, ◌++◌, ◌∷◌, [], length};
+
+use std::marker::Model;
+
+/// The greatest number of bytes of the words of a record.
+pub(crate) const WORDS_BYTES: usize = 720;
+
+/// The bytes of the words of a record, which are written one after another. Those that are taken away are not written over before others
+/// take their place: a list of the library writes blanks.
+#[derive(Drop)]
+pub(crate) struct Bytes {
+    cells: [u8; WORDS_BYTES],
+    len: usize,
+}
+
+impl Model for Bytes {
+    ghost use Rattle.std.specs.Prelude.{◌≡◌, ◌≤◌, length, take};
+    ghost use Rattle.l4_packed.specs.Inside.Bytes.{ByteList, byte_list, words_bytes};
+
+    ghost Value = { ByteList };
+
+    ghost view = { λ b. byte_list (take b.len b.cells) };
+
+    ghost invariant = { λ b. (b.len ≤ words_bytes) × (length b.cells ≡ words_bytes) };
+}
+
+impl Bytes {
+    /// No bytes.
+    pub fn new() -> Bytes
+        ensures { result.items ≡ [] }
+    {
+        Bytes {
+            cells: [0; WORDS_BYTES],
+            len: 0,
+        }
+    }
+
+    /// Takes all bytes away.
+    #[inline(always)]
+    pub fn clear(&mut self)
+        ensures { self.new.items ≡ [] }
+    {
+        self.len = 0;
+    }
+
+    /// Appends a byte.
+    #[inline(always)]
+    pub fn push(&mut self, byte: u8)
+        requires { length self.old.items < WORDS_BYTES }
+        ensures { self.new.items ≡ self.old.items ++ byte ∷ [] }
+    {
+        self.cells[self.len] = byte;
+        self.len += 1;
+    }
+
+    /// The bytes.
+    #[inline(always)]
+    pub fn as_slice(&self) -> &[u8]
+        ensures { result.now ≡ self.now.items }
+    {
+        &self.cells[..self.len]
+    }
+}
