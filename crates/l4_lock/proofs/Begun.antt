@@ -1,5 +1,5 @@
 -- A call that isn't taken yet, phase by phase.
-use Rattle.std.proofs.Common.{◌≡◌, ℕ, List, [], ◌++◌, Option, Some, None, true, false, refl, sym, ap, ◌∙◌, append_assoc}
+use Rattle.std.proofs.Common.{◌≡◌, ℕ, List, [], ◌++◌, ◌≤◌, length, Option, Some, None, true, false, refl, sym, ap, subst, ◌∙◌, append_assoc}
 use Rattle.std.specs.Prelude.{is_some, IsTrue}
 use Rattle.std.specs.Option.{option_map, option_map_or}
 use Rattle.std.proofs.lemmas.Bool.{false≢true}
@@ -17,8 +17,8 @@ use Rattle.l4_lock.specs.declared.pending.Phase.{Phase}
 use Rattle.l4_lock.specs.declared.pending.Phase.TheVariants.{Idle, Begun, Ended}
 use Rattle.l4_lock.specs.Books.{receipt_of, has_ended}
 use Rattle.l4_lock.specs.Inside.Noting.{reply_pending}
-use Rattle.l4_lock.specs.Inside.Packing.{receipt_code, receipt_at}
-use Rattle.l4_lock.specs.Inside.Pending.{begun_at, ended_call, pending_in, IsBegun, IsPacked}
+use Rattle.l4_lock.specs.Inside.Packing.{receipt_at}
+use Rattle.l4_lock.specs.Inside.Pending.{begun_at, ended_call, pending_in, AreOf, IsBegun, IsPacked, call_words}
 use Rattle.l4_lock.proofs.Packing.{receipt_again}
 
 pub begun_again : (call : Call) (start : ℕ) → CallFits call → begun_at start (call_code call) ≡ Some (record { call = call; start = start; ended = None })
@@ -69,3 +69,14 @@ pub reply_told : (phase : Phase) (start : ℕ) (words : List ℕ) (v : Option Pe
 reply_told phase start words v is packed ended =
     let seen = ended_seen phase start words v is packed ended in
     ap (option_map (λ (r : Receipt). r.reply)) seen.4 ∙ sym (ap reply_pending seen.2 ∙ ap (option_map (λ (e : End). e.reply)) seen.3)
+
+-- the words of a call that goes on are those of the call
+pub begun_words : (phase : Phase) (start : ℕ) (words seen : List ℕ) (v : Option Pending) → pending_in phase start words ≡ v → IsPacked phase words → seen ≡ words
+    → (p : Pending) × (v ≡ Some p) × (p.ended ≡ None) → (p : Pending) → v ≡ Some p → AreOf p.call seen
+begun_words Idle start words seen v is packed same none p there = absurd (false≢true (ap is_some (is ∙ none.1)))
+begun_words Begun start words seen v is packed same none p there =
+    let one : Some (record { call = packed.call; start = start; ended = None }) ≡ Some p = sym (begun_is start words packed) ∙ is ∙ there in
+    let call : packed.call ≡ p.call = ap (λ (o : Option Pending). option_map_or (λ (q : Pending). q.call) o p.call) one in
+    record { are = same ∙ packed.are ∙ ap call_code call; fits = subst CallFits call packed.fits; short = subst (λ (c : Call). length (call_code c) ≤ call_words) call packed.short }
+begun_words Ended start words seen v is packed same none p there =
+    absurd (false≢true (sym (ap (λ (o : Option Pending). option_map_or has_ended o false) none.1 ∙ ap (λ (o : Option End). option_map_or (λ e. true) o false) none.2) ∙ end_told (receipt_at words) v is packed))

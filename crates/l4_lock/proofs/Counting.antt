@@ -9,6 +9,7 @@ use Rattle.l4_lock.specs.declared.entries.Ended.{Ended}
 use Rattle.l4_lock.specs.declared.entries.Pending.{Pending}
 use Rattle.l4_lock.specs.Books.{SeatState, Book, book, book_at, reply_waits, has_ended, numbers, IsOnce, Settles}
 use Rattle.l4_lock.specs.Inside.Accounts.{BookList, book_list, has_reply, reply_count, replies_in, SettlesAt, IsUnsettled}
+use Rattle.l4_lock.specs.Inside.Entering.{HasBegun}
 use Rattle.l4_lock.specs.Inside.Noting.{reply_pending, first_reply}
 use Rattle.l4_lock.proofs.Books.{waits_in, reply_of_some}
 use Rattle.l4_lock.proofs.Right.{pend}
@@ -142,6 +143,10 @@ module _ (xs : List Book) (l : BookList) (view : book_list xs ≡ l) (i : ℕ) (
   told f y is b at =
       let same : x ≡ b = same_book x b (sym there ∙ at) in
       λ j. slice_set (view j).items i ((is ∙ ap f same) j)
+
+  -- the call of the place goes on
+  pub goes_on : (call : Call) → HasBegun l.items i call → (p : Pending) × (x.pending ≡ Some p) × (p.ended ≡ None) × (p.call ≡ call)
+  goes_on call has = (has.1, ap (λ (b : Book). b.pending) (same_book x has.0 (sym there ∙ has.2)) ∙ has.3, has.4, has.5)
 
   -- a call is begun
   begun_same : (T E : Type 0) (r : Result T E) (y : Book) (call : Call) (start : ℕ) → x.pending ≡ None

@@ -5,9 +5,13 @@ ghost use Rattle.l4_threads.specs.declared.Reply.{Reply as AReply};
 ghost use Rattle.l4_lock.specs.Books.{Book, book, book_at, reply_waits, numbers, IsOnce};
 ghost use Rattle.l4_lock.specs.Inside.Accounts.{has_reply, SettlesAt, IsUnsettled};
 ghost use Rattle.l4_lock.specs.Inside.Noting.{noted, own_call, first_reply};
+ghost use Rattle.l4_lock.specs.Inside.Pending.{AreOf};
+ghost use Rattle.l4_lock.specs.Inside.Entering.{HasBegun};
+ghost use Rattle.l4_ipc.specs.declared.calls.Call.{Call as ACall};
 
 use crate::seats::{Account, Seat, settle};
 use l4_ipc::{Call, Kernel, Reply};
+use l4_packed::Words;
 use std::alloc::{AllocError, Global};
 use std::marker::Model;
 
@@ -125,6 +129,14 @@ impl Accounts {
             (λ _. self.new ≡ self.old) }
     {
         self.items[at].begin(call, start)
+    }
+
+    /// The words of the call of the account at this place, which goes on.
+    pub fn call_words(&self, at: usize) -> Words<'_>
+        requires { (call : ACall) × HasBegun self.now.items at call }
+        ensures { (call : ACall) → HasBegun self.now.items at call → AreOf call result }
+    {
+        self.items[at].call_words()
     }
 
     /// Takes a call back that was begun at this place and has not ended.

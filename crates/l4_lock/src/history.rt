@@ -4,6 +4,7 @@ ghost use Rattle.l4_lock.specs.Lists.{EntryList, entry_list, entry_outline, brie
 ghost use Rattle.std.specs.Option.{option_map};
 ghost use Rattle.l4_ipc.specs.declared.steps.Step.TheVariants.{Start};
 ghost use Rattle.l4_packed.specs.Words.{Gives};
+ghost use Rattle.l4_lock.specs.Inside.Pending.{AreOf};
 ghost use Rattle.l4_ipc.specs.OwnCall.{own_answer};
 ghost use Rattle.l4_ipc.specs.NextSteps.{step_of, answer_of};
 
@@ -11,7 +12,7 @@ use crate::entries::{Entry, EntryOutline};
 use crate::packed::{read_entry_outline, write_next, write_own_start, write_start};
 use crate::recent::{BriefEntry, Recent};
 use l4_ipc::{Answer, Call, NextStep};
-use l4_packed::{ItemsFrom, PackedList, Record};
+use l4_packed::{ItemsFrom, PackedList, Record, Words};
 use std::alloc::{AllocError, Global};
 use std::marker::Model;
 
@@ -83,6 +84,7 @@ impl History {
 
     /// The entry at this place in a few words, where it is one of the last two and has so few. None for any other, and for the start of
     /// a Delete. It costs least, as nothing is read back.
+    #[inline(never)]
     pub fn brief(&self, at: usize) -> Option<BriefEntry>
         ensures { IfSome result (λ brief. option_map entry_outline (slice_get self.now.entries at) ≡ Some (brief_outline brief)) }
     {
@@ -127,13 +129,20 @@ impl History {
         self.recent.add(None);
     }
 
-    /// Appends the entry of the start of a call in which the call of its thread ended alone, or none did. There is room for it.
-    pub(crate) fn push_own_start(&mut self, number: u32, call: &Call, ended: bool)
-        requires { length self.old.entries < self.old.room }
+    /// Appends the entry of the start of a call, whose words are these, in which the call of its thread ended alone, or none did. There is room for it.
+    pub(crate) fn push_own_start(
+        &mut self,
+        number: u32,
+        call: &Call,
+        words: &Words<'_>,
+        ended: bool,
+    )
+        requires room { length self.old.entries < self.old.room }
+        requires words { AreOf call.now words.now }
         ensures entries { self.new.entries ≡ self.old.entries ++ record { seat = number; step = Start number call.now; answer = own_answer ended number } ∷ [] }
         ensures room { (length self.new.entries ≡ length self.old.entries + 1) × (self.new.room ≡ self.old.room) }
     {
-        write_own_start(&mut self.packed, number, call, ended);
+        write_own_start(&mut self.packed, number, call, words, ended);
         self.entries.push(&self.packed.words());
         self.recent.add(Some(BriefEntry::Own(number, ended)));
     }

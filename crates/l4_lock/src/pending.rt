@@ -6,6 +6,7 @@ ghost use Rattle.l4_lock.specs.declared.entries.Ended.{Ended as AnEnd};
 ghost use Rattle.l4_lock.specs.Books.{receipt_of, has_ended};
 ghost use Rattle.l4_lock.specs.Inside.Noting.{noted_call, reply_pending};
 ghost use Rattle.l4_lock.specs.Inside.Packing.{receipt_at};
+ghost use Rattle.l4_lock.specs.Inside.Pending.{AreOf};
 
 use crate::entries::Receipt;
 use l4_ipc::{Call, Kernel, Reply};
@@ -129,6 +130,14 @@ impl PendingCall {
             Some(reply) => self.end_with(place, reply),
             None => self.end_with(place, &Reply::Gone),
         }
+    }
+
+    /// The words of a call that has not ended.
+    pub fn call_words(&self) -> Words<'_>
+        requires { (p : APending) × (self.now ≡ Some p) × (p.ended ≡ None) }
+        ensures { (p : APending) → self.now ≡ Some p → AreOf p.call result }
+    {
+        self.packed.words()
     }
 
     /// The words of the receipt of a call that has ended.

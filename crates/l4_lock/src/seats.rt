@@ -5,6 +5,8 @@ ghost use Rattle.l4_lock.specs.Books.{SeatState, seat_state, starts, Book, book,
 ghost use Rattle.l4_lock.specs.Inside.Accounts.{has_reply};
 ghost use Rattle.l4_lock.specs.Inside.Noting.{started_by, noted, reply_pending, own_call};
 ghost use Rattle.l4_lock.specs.Inside.Packing.{receipt_at};
+ghost use Rattle.l4_lock.specs.Inside.Pending.{AreOf};
+ghost use Rattle.l4_lock.specs.declared.entries.Pending.{Pending as APending};
 ghost use Rattle.l4_lock.specs.declared.entries.Receipt.{Receipt as AReceipt};
 
 use crate::entries::Receipt;
@@ -219,6 +221,14 @@ impl Account {
         }
         self.pending.end(kernel, place, self.number);
         self.pending.has_ended()
+    }
+
+    /// The words of its call, which goes on.
+    pub fn call_words(&self) -> Words<'_>
+        requires { (p : APending) × (self.now.pending ≡ Some p) × (p.ended ≡ None) }
+        ensures { (p : APending) → self.now.pending ≡ Some p → AreOf p.call result }
+    {
+        self.pending.call_words()
     }
 
     /// The reply of the call that isn't taken yet, if it has ended.

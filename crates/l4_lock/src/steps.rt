@@ -3,7 +3,7 @@ ghost use Rattle.std.specs.Prelude.{false, ◌≡◌, ◌≢◌, ◌⊎◌, ◌+
 ghost use Rattle.l4_ipc.specs.Steps.{Steps, IsIdle};
 ghost use Rattle.l4_lock.specs.Inside.Noting.{noted};
 ghost use Rattle.l4_lock.specs.Books.{numbers, IsOnce};
-ghost use Rattle.l4_lock.specs.Inside.Entering.{Went, Begins, IsReady, IsStarted};
+ghost use Rattle.l4_lock.specs.Inside.Entering.{Went, Begins, IsReady, IsStarted, HasBegun};
 ghost use Rattle.l4_threads.specs.Sizes.{max_threads};
 ghost use Rattle.l4_ipc.specs.OwnCall.{is_delete, ended_if};
 ghost use Rattle.l4_ipc.specs.NextSteps.{answer_of};
@@ -84,15 +84,17 @@ fn is_delete(call: &Call) -> bool
     matches!(call, Call::Control(Control::Delete(_)))
 }
 
-/// `start` of a call that is no Delete, so that no call of another thread ends in it. It costs less.
+/// `start` of a call that is no Delete, whose words the account at this place has, so that no call of another thread ends in it. It costs less.
 fn start_untold(
     kernel: &mut Kernel,
     history: &mut History,
     accounts: &mut Accounts,
+    at: usize,
     number: u32,
     call: &Call,
 ) -> Result<(), Refused>
     requires own { is_delete call.now ≡ false }
+    requires begun { HasBegun accounts.old.items at call.now }
     requires once { IsOnce (numbers accounts.old.items) }
     requires room { length history.old.entries < history.old.room }
     ensures ok { IfOk result (λ _. IsStarted number call.now kernel.old kernel.new history.old history.new accounts.old.items accounts.new.items) }
@@ -100,8 +102,9 @@ fn start_untold(
     ensures same { OnErr result ((history.new.entries ≡ history.old.entries) × (accounts.new.items ≡ accounts.old.items)) }
 {
     let ended = kernel.enter(number, call)?;
-    note_own(accounts, kernel, number, ended, history.len());
-    history.push_own_start(number, call, ended);
+    let place = history.len();
+    history.push_own_start(number, call, &accounts.call_words(at), ended);
+    note_own(accounts, kernel, number, ended, place);
     Ok(())
 }
 
@@ -132,9 +135,11 @@ fn start(
     kernel: &mut Kernel,
     history: &mut History,
     accounts: &mut Accounts,
+    at: usize,
     number: u32,
     call: &Call,
 ) -> Result<(), Refused>
+    requires begun { HasBegun accounts.old.items at call.now }
     requires room { length history.old.entries < history.old.room }
     requires once { IsOnce (numbers accounts.old.items) }
     ensures ok { IfOk result (λ _. IsStarted number call.now kernel.old kernel.new history.old history.new accounts.old.items accounts.new.items) }
@@ -144,7 +149,7 @@ fn start(
     if is_delete(call) {
         return start_told(kernel, history, accounts, number, call);
     }
-    start_untold(kernel, history, accounts, number, call)
+    start_untold(kernel, history, accounts, at, number, call)
 }
 
 /// Begins a call, and does the steps that come next until there is none. After a refusal nothing has changed.
@@ -170,7 +175,7 @@ pub fn begin(
     if accounts.begin(at, call, history.len()).is_err() {
         return Err(LockRefusal::NoMemory);
     }
-    match start(kernel, history, accounts, number, call) {
+    match start(kernel, history, accounts, at, number, call) {
         Ok(()) => {
             kernel.law_forest();
             follow(kernel, history, accounts, number);

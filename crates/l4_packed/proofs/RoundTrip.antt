@@ -1,5 +1,5 @@
 -- What is written is read again, whatever follows it.
-use Rattle.std.proofs.Common.{◌≡◌, ℕ, zero, suc, ◌+◌, ◌*◌, ◌-◌, ◌/◌, ◌%◌, ◌^◌, ◌<◌, ◌≤◌, Bool, true, false, ltb, if◌then◌else◌, List, [], ◌∷◌, ◌++◌, length, Option, Some, refl, sym, ap, ◌∙◌, append_assoc, arith}
+use Rattle.std.proofs.Common.{◌≡◌, ℕ, ◌+◌, ◌*◌, ◌-◌, ◌/◌, ◌%◌, ◌^◌, ◌<◌, ◌≤◌, Bool, true, false, ltb, if◌then◌else◌, List, [], ◌∷◌, ◌++◌, length, Some, refl, sym, ap, ◌∙◌, append_assoc, arith}
 use Rattle.std.specs.Prelude.{nat_eq, nat_lt}
 use Rattle.std.proofs.lemmas.Bool.{le-ltb, ltb-true, ltb-false, ne_eqb, eqb-true, false≢true}
 use Rattle.std.proofs.lemmas.List.{take_at, drop_at, length-append}
@@ -21,7 +21,7 @@ use Rattle.l4_ipc.specs.declared.steps.Answer.{Answer}
 use Rattle.l4_packed.specs.Words.{counted, counted_at, sized_at, flag, if_set, set_at}
 use Rattle.l4_threads.specs.Sizes.{max_threads}
 use Rattle.l4_packed.specs.Codes.{control_code, ipc_flags, call_code, step_code, outcome_code, answer_code, reply_flags, reply_code, place_code, far, are_near, span_code, CallFits, StepFits, AnswerFits, ReplyFits}
-use Rattle.l4_packed.specs.Reading.{control_at, ipc_at, sent_at, call_at, step_at, outcome_of, answer_at, received_at, reply_at, place_at, places_at, near_at, span_at}
+use Rattle.l4_packed.specs.Reading.{control_at, ipc_at, call_at, step_at, outcome_of, answer_at, received_at, reply_at, places_at, near_at, span_at}
 
 pub sized_again : (limit : ℕ) (words rest : List ℕ) → length words ≤ limit → sized_at limit (length words) (words ++ rest) ≡ Some (words, rest)
 unfolding sized_at

@@ -109,6 +109,26 @@ are_words_push bytes word are room =
       few = omega (arith, ap length same, length_push (words_in bytes) word, room);
     }
 
+-- words more
+pub words_append : (bytes words : List ℕ) → AreWords bytes → words_in (bytes ++ numbers_code words) ≡ words_in bytes ++ words
+words_append bytes words are =
+    let first = words_in bytes in
+    let longer : bytes ++ numbers_code words ≡ numbers_code (first ++ words) =
+    ap (λ (t : List ℕ). t ++ numbers_code words) are.whole ∙ sym (flat_map-append number_code first words) in
+    ap words_in longer ∙ words_again (first ++ words)
+
+pub are_words_append : (bytes words : List ℕ) → AreWords bytes → length (words_in bytes) + length words ≤ record_words → AreWords (bytes ++ numbers_code words)
+are_words_append bytes words are room =
+    let first = words_in bytes in
+    let same = words_append bytes words are in
+    record {
+      whole =
+          ap (λ (t : List ℕ). t ++ numbers_code words) are.whole
+          ∙ sym (flat_map-append number_code first words)
+          ∙ ap numbers_code (sym same);
+      few = omega (arith, ap length same, length-append first words, room);
+    }
+
 pub are_words_none : (bytes : List ℕ) → bytes ≡ [] → AreWords bytes
 unfolding numbers_in
 are_words_none bytes none = subst AreWords (sym none) (record { whole = refl; few = omega arith })

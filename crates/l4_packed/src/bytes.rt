@@ -1,5 +1,5 @@
 //! Bytes of a record, in a place of their own.
-ghost use Rattle.std.specs.Prelude.{◌≡◌, ◌<◌, ◌≤◌, ◌++◌, ◌∷◌, [], length};
+ghost use Rattle.std.specs.Prelude.{◌≡◌, ◌+◌, ◌<◌, ◌≤◌, ◌++◌, ◌∷◌, [], length};
 
 use std::marker::Model;
 
@@ -52,6 +52,16 @@ impl Bytes {
     {
         self.cells[self.len] = byte;
         self.len += 1;
+    }
+
+    /// Appends bytes.
+    pub fn extend(&mut self, bytes: &[u8])
+        requires { length self.old.items + length bytes.now ≤ WORDS_BYTES }
+        ensures { self.new.items ≡ self.old.items ++ bytes.now }
+    {
+        let end = self.len + bytes.len();
+        self.cells[self.len..end].copy_from_slice(bytes);
+        self.len = end;
     }
 
     /// The bytes.

@@ -20,6 +20,6 @@ pub use replies::{REPLY_WORDS, put_reply, read_reply};
 pub use spans::{SPAN_WORDS, put_span, read_span};
 pub use steps::{
     ANSWER_WORDS, STEP_WORDS, StepOutline, put_answer, put_next, put_own_answer, put_start,
-    put_step, read_answer, read_answer_into, read_outline, read_step,
+    put_start_of, put_step, read_answer, read_answer_into, read_outline, read_step,
 };
 pub use words::{RECORD_WORDS, Record, Words, read_word};

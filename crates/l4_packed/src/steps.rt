@@ -46,6 +46,16 @@ pub fn put_start(out: &mut Record, number: u32, call: &Call)
     put_call(out, call);
 }
 
+/// Appends the step that starts the call of these words.
+pub fn put_start_of(out: &mut Record, thread: u32, call: &Words<'_>)
+    requires { length out.old.items + 2 + length call.now ≤ RECORD_WORDS }
+    ensures { out.new.items ≡ out.old.items ++ 0 ∷ thread ∷ call.now }
+{
+    out.push(0);
+    out.push(thread);
+    out.append(call);
+}
+
 /// Appends a step.
 pub fn put_step(out: &mut Record, step: &Step)
     requires { length out.old.items + STEP_WORDS ≤ RECORD_WORDS }

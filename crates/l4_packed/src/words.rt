@@ -55,6 +55,14 @@ impl Record {
         add_number(&mut self.bytes, word);
     }
 
+    /// Appends words.
+    pub fn append(&mut self, words: &Words<'_>)
+        requires { length self.old.items + length words.now ≤ RECORD_WORDS }
+        ensures items { self.new.items ≡ self.old.items ++ words.now }
+    {
+        self.bytes.extend(words.bytes());
+    }
+
     /// The words, to be read.
     pub fn words(&self) -> Words<'_>
         ensures { result ≡ self.now.items }

@@ -34,6 +34,10 @@ abbrev pub IsReady : List Book → ℕ → ℕ → List Entry → Machine → Ty
 IsReady books place n history m =
     (b : Book) × (slice_get books place ≡ Some b) × (b.number ≡ n) × ((p : Pending) → b.pending ≡ Some p → HasNotEnded history m n p.start)
 
+-- the call of the book at this place goes on, and is this one
+abbrev pub HasBegun : List Book → ℕ → Call → Type 0
+HasBegun books place call = (b : Book) × (p : Pending) × (slice_get books place ≡ Some b) × (b.pending ≡ Some p) × (p.ended ≡ None) × (p.call ≡ call)
+
 -- A start was done: the books are noted what it ended, and its entry stands at the end of the history, whose room is the same.
 pub record IsStarted (n : ℕ) (call : Call) (old new : Machine) (before after : EntryList) (books later : List Book) : Type 0 where
   pub answer : Answer

@@ -30,6 +30,12 @@ pending_in Ended start words = option_map ended_call (receipt_at words)
 abbrev pub call_words : ℕ
 call_words = 69
 
+-- the words are those of the call
+pub record AreOf (call : Call) (words : List ℕ) : Type 0 where
+  pub are : words ≡ call_code call
+  pub fits : CallFits call
+  pub short : length (call_code call) ≤ call_words
+
 -- the words of a call that has begun
 pub record IsBegun (words : List ℕ) : Type 0 where
   pub call : Call

@@ -10,8 +10,11 @@ returns-clause-ok c =
     record {
       answer = answer;
       starts = subst (λ (d : Bool). Enters d c.args.kernel.now c.args.number c.args.call.now (Ok ended) c.enter.new.self) c.requires.own c.in_ok-ended.ensures;
-      notes = c.note_own.ensures ∙ ap (λ (place : ℕ). map (noted c.enter.new.self answer.ended.items place) c.args.accounts.now.items) c.len.ensures;
+      notes = c.note_own.ensures ∙ ap (λ (place : ℕ). map (noted c.enter.new.self answer.ended.items place) c.args.accounts.now.items) c.len-place.ensures;
       history = c.push_own_start.ensures.entries;
       longer = c.push_own_start.ensures.room.0;
       room = c.push_own_start.ensures.room.1;
     }
+
+pub push_own_start-requires-clause-words : goal.push_own_start-requires-clause-words
+push_own_start-requires-clause-words c = c.call_words.ensures c.args.call.now c.requires.begun
