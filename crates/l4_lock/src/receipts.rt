@@ -97,6 +97,15 @@ impl Receipts {
         self.receipts.push(words);
     }
 
+    /// Lets memory of both that holds the same receipts have two owners. No receipt changes.
+    #[inline(always)]
+    pub(crate) fn share(&mut self, other: &mut Receipts)
+        ensures own { self.new ≡ self.old }
+        ensures other { other.new ≡ other.old }
+    {
+        self.receipts.share(&mut other.receipts);
+    }
+
     /// Whether these are the same receipts.
     pub(crate) fn same(&self, other: &Receipts) -> bool
         ensures same { result ≡ true → self.now.items ≡ other.now.items }

@@ -119,6 +119,15 @@ impl Seat {
         self.receipts
             .push_parts(call, receipt.start, receipt.end, &receipt.reply);
     }
+
+    /// Lets memory in which the account has the same receipts have two owners.
+    #[inline(always)]
+    fn share(&mut self, receipts: &mut Receipts)
+        ensures own { self.new ≡ self.old }
+        ensures account { receipts.new ≡ receipts.old }
+    {
+        receipts.share(&mut self.receipts);
+    }
 }
 
 /// What the lock keeps of a number whose seat it gave.
@@ -254,6 +263,7 @@ fn hand_over(seat: &mut Seat, words: Words<'_>, own: Option<&Call>)
 }
 
 /// Takes the account's call, if it has ended: the account and the seat gain its receipt. The seat's has the call that the seat knows of.
+/// Full pieces of receipts that are the same in both then have two owners.
 pub(crate) fn settle(account: &mut Account, seat: &mut Seat, own: Option<&Call>) -> bool
     requires { seat.old.waiting ≢ 0 }
     ensures settles { result ≡ true → (reply : _) × Settles account.old account.new seat.old seat.new (own_call (option_copied own.entry)) reply }
@@ -270,6 +280,7 @@ pub(crate) fn settle(account: &mut Account, seat: &mut Seat, own: Option<&Call>)
     let words = pending.receipt();
     receipts.push_words(&words);
     hand_over(seat, words, own);
+    seat.share(receipts);
     pending.forget();
     true
 }

@@ -3,6 +3,7 @@
 
 mod bytes;
 mod calls;
+mod full_pieces;
 mod numbers;
 mod packed_list;
 mod packing;

@@ -107,6 +107,15 @@ impl<T: FromWords> PackedList<T> {
     {
         self.records.push(words);
     }
+
+    /// Lets memory of both lists that holds the same have two owners. No item changes.
+    #[inline(always)]
+    pub fn share(&mut self, other: &mut PackedList<T>)
+        ensures own { self.new ≡ self.old }
+        ensures other { other.new ≡ other.old }
+    {
+        self.records.share(&mut other.records);
+    }
 }
 
 /// Items of a packed list, one after another. Contracts see those that are left.

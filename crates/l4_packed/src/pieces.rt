@@ -1,5 +1,5 @@
 //! Pieces of memory that hold records. A piece is allocated once, and never moves.
-ghost use Rattle.std.specs.Prelude.{◌≡◌, ◌+◌, ◌≤◌, ◌++◌, ◌∷◌, [], length, slice_get, vec_len, vec_capacity};
+ghost use Rattle.std.specs.Prelude.{◌≡◌, ◌+◌, ◌≤◌, ◌++◌, ◌∷◌, [], length, slice_get, vec_len, vec_capacity, true};
 ghost use Rattle.l4_packed.specs.Inside.Bytes.{record_code, records_in};
 ghost use Rattle.l4_packed.specs.Inside.Pieces.{IsPacked, PieceState, mark_before, piece_state};
 
@@ -138,5 +138,21 @@ impl Piece {
         }
         let (from, offset) = mark_before(&self.marks, at);
         read_record(&self.bytes[offset..], self.count - from, at - from)
+    }
+
+    /// Whether this is the same as another.
+    pub fn same(&self, other: &Piece) -> bool
+        ensures { result ≡ true → self.now ≡ other.now }
+    {
+        if self.first != other.first {
+            return false;
+        }
+        if self.count != other.count {
+            return false;
+        }
+        if self.free() != other.free() {
+            return false;
+        }
+        self.bytes == other.bytes
     }
 }

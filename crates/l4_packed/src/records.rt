@@ -4,6 +4,7 @@ ghost use Rattle.std.specs.List.{All};
 ghost use Rattle.l4_packed.specs.Inside.Pieces.{AreNumbered, IsBlank, IsStore, records_of};
 ghost use Rattle.l4_packed.specs.Records.{RecordList, record_list};
 
+use crate::full_pieces::{FullPiece, share_at};
 use crate::packing::{RECORD_BYTES, record_len};
 use crate::pieces::Piece;
 use crate::words::Words;
@@ -23,8 +24,11 @@ const MOST_RECORDS: usize = 0x4000_0000_0000_0000;
 /// Room for this many records or more isn't made, as it is made by whole pieces.
 const MOST_ASKED: usize = MOST_RECORDS - PIECE_RECORDS;
 
+/// The first full piece that is worth sharing: the one before it is the piece without memory that a store begins with.
+const FIRST_SHARED: usize = 1;
+
 /// Which piece holds the record of this place.
-fn position(pieces: &[Piece], place: usize) -> usize
+fn position(pieces: &[FullPiece], place: usize) -> usize
     requires numbered { AreNumbered pieces.now }
     requires below { place < length (records_of pieces.now) }
     ensures within { result < length pieces.now }
@@ -45,7 +49,7 @@ fn position(pieces: &[Piece], place: usize) -> usize
 }
 
 /// The record of this place among those of the pieces.
-fn find(pieces: &[Piece], place: usize) -> Option<Words<'_>>
+fn find(pieces: &[FullPiece], place: usize) -> Option<Words<'_>>
     requires numbered { AreNumbered pieces.now }
     requires below { place < length (records_of pieces.now) }
     ensures { result ≡ slice_get (records_of pieces.now) place }
@@ -55,7 +59,7 @@ fn find(pieces: &[Piece], place: usize) -> Option<Words<'_>>
 }
 
 /// Sees to it that a record of this size fits into the current piece.
-fn make_room(full: &mut Vec<Piece>, current: &mut Piece, spare: &mut Vec<Vec<u8>>, size: usize)
+fn make_room(full: &mut Vec<FullPiece>, current: &mut Piece, spare: &mut Vec<Vec<u8>>, size: usize)
     requires few { size ≤ RECORD_BYTES }
     requires ready { (room : ℕ) × IsStore full.old.items current.old spare.old.items (vec_capacity full.old) room
         × (length (records_of full.old.items) + length current.old.records < room) }
@@ -72,7 +76,7 @@ fn make_room(full: &mut Vec<Piece>, current: &mut Piece, spare: &mut Vec<Vec<u8>
     };
     let next = Piece::new(current.first() + current.count(), bytes);
     let last = mem::replace(current, next);
-    full.push_reserved(last);
+    full.push_reserved(FullPiece::new(last));
 }
 
 /// Gets memory for pieces until there is enough for this many.
@@ -91,14 +95,15 @@ fn add_spare(alloc: Global, spare: &mut Vec<Vec<u8>>, wanted: usize) -> Result<(
     Ok(())
 }
 
-/// Records, lists of at most `RECORD_WORDS` words each, one after another. They are stored in pieces that never move. Contracts see the
-/// records, and for how many there is room.
+/// Records, lists of at most `RECORD_WORDS` words each, one after another. They are stored in pieces that never move. A full piece
+/// may have several owners: those of the same contents in two lists can be one. Contracts see the records, and for how many there is room.
 #[derive(Drop)]
 pub struct Records {
-    full: Vec<Piece>,
+    full: Vec<FullPiece>,
     current: Piece,
     spare: Vec<Vec<u8>>,
     room: usize,
+    shared: usize,
     alloc: Global,
 }
 
@@ -124,6 +129,7 @@ impl Records {
             current: Piece::new(0, Vec::new(alloc)),
             spare: Vec::new(alloc),
             room: 0,
+            shared: FIRST_SHARED,
             alloc,
         }
     }
@@ -187,5 +193,19 @@ impl Records {
             record_len(words),
         );
         self.current.push(words);
+    }
+
+    /// Lets the next full piece that wasn't looked at yet be one with that of the same place in another store, if both are the same: it
+    /// then has two owners. The records stay as they are.
+    #[inline(always)]
+    pub fn share(&mut self, other: &mut Records)
+        ensures own { self.new ≡ self.old }
+        ensures other { other.new ≡ other.old }
+    {
+        let place = self.shared;
+        if place < self.full.len() && place < other.full.len() {
+            self.shared = place + 1;
+            share_at(&mut self.full, &mut other.full, place, self.alloc);
+        }
     }
 }
