@@ -10,13 +10,13 @@ ghost use Rattle.l4_shell.specs.Inside.Telling.{outline_line, outline_text, next
 use crate::refusals::lock_code;
 use crate::requests::LentCall;
 use crate::texts::refused_act_text;
-use l4_answers::{add_waits, expire_text, put_reply, put_transfer};
+use l4_answers::{expire_text, put_reply, put_transfer, put_waits};
 use l4_ipc::{Answer, Kernel, NextStep, Outcome};
 use l4_lock::{BriefEntry, EntryOutline, LockRefusal, StepOutline};
 use l4_pager::wait;
 use l4_seats::SeatedKernel;
 use l4_servers::Servers;
-use l4_text::{Output, Text};
+use l4_text::Output;
 use std::io::Write;
 
 /// The acts of served threads on one line, at most.
@@ -66,9 +66,7 @@ fn tell_waiting<W: Write>(thread: u32, ended: bool, out: &mut Output, writer: &m
         (waiting_text thread ended) }
 {
     if !ended {
-        let mut text = Text::new();
-        add_waits(&mut text, thread);
-        out.put(writer, &text);
+        put_waits(thread, out, writer);
     }
 }
 

@@ -5,6 +5,7 @@ pub mod Gone
 pub mod LineSteps
 pub mod Newlines
 pub mod OneNumber
+pub mod PairTable
 pub mod Parts
 pub mod Rows
 pub mod Spelled

@@ -1,16 +1,16 @@
 //! What was answered and has not yet gone out.
-ghost use Rattle.std.specs.Prelude.{◌≡◌, ◌≤◌, ◌+◌, ◌==◌, [], ◌∷◌, ◌++◌, length, OnOk, IfErr};
+ghost use Rattle.std.specs.Prelude.{◌≡◌, ◌≤◌, ◌+◌, ◌==◌, [], ◌∷◌, ◌++◌, length, decimal, OnOk, IfErr};
 ghost use Rattle.std.specs.Io.KnownBytes.{Appends};
-ghost use Rattle.std.specs.Prelude.{ℕ, List, Option, false};
+ghost use Rattle.std.specs.Prelude.{ℕ, List, Option, true, false};
 ghost use Rattle.l4_text.specs.Streams.{WentOut, HasTold, Tells, IsOutBeforeRead};
-ghost use Rattle.l4_text.specs.Texts.{words_text};
-ghost use Rattle.l4_text.specs.Inside.Reading.{Puts};
+ghost use Rattle.l4_text.specs.Texts.{word_text, words_text};
 ghost use Rattle.l4_text.specs.Sizes.{text_bytes, held_bytes};
 
 use crate::faults::RunFault;
 use crate::lines::Source;
-use crate::texts::{Text, spaced_digits};
+use crate::texts::{MAX_TEXT, Text, two_digits, word_digits};
 use arrayvec::ArrayVec;
+use itoa::Buffer;
 use std::io::Write;
 use std::marker::Model;
 
@@ -68,6 +68,30 @@ impl Held {
         self.bytes.is_empty()
     }
 
+    /// Whether there is room for a text.
+    fn has_room(&self) -> bool
+        ensures { result ≡ true → length self.now + text_bytes ≤ held_bytes }
+    {
+        if self.bytes.remaining_capacity() < MAX_TEXT {
+            return false;
+        }
+        true
+    }
+
+    fn clear(&mut self)
+        ensures { self.new ≡ [] }
+    {
+        self.bytes.clear();
+    }
+
+    /// Holds a byte back too.
+    fn push(&mut self, byte: u8)
+        requires { length self.old + 1 ≤ held_bytes }
+        ensures { self.new ≡ self.old ++ byte ∷ [] }
+    {
+        self.bytes.push(byte);
+    }
+
     /// Holds these bytes back too.
     fn hold(&mut self, bytes: &[u8])
         requires { length self.old + length bytes.now ≤ held_bytes }
@@ -76,49 +100,22 @@ impl Held {
         let _ = self.bytes.try_extend_from_slice(bytes);
     }
 
-    /// Writes what is held back.
+    /// Writes what is held back. After a write that failed it is dropped.
     fn send<W: Write>(&mut self, writer: &mut W) -> Result<(), RunFault>
-        ensures ok { OnOk result ((self.new ≡ [])
-            × Appends (W.contents writer.old) (W.contents writer.new) self.old) }
+        ensures none { self.new ≡ [] }
+        ensures ok { OnOk result (Appends (W.contents writer.old) (W.contents writer.new) self.old) }
         ensures err { IfErr result (λ e. (e ≡ RunFault.Write)
             × WentOut (W.contents writer.old) (W.contents writer.new) self.old) }
     {
-        write_out(writer, self.bytes.as_slice())?;
+        let sent = write_out(writer, self.bytes.as_slice());
         self.bytes.clear();
-        Ok(())
-    }
-
-    /// Writes what is held back, where there is no room for so many bytes more.
-    fn make_room<W: Write>(&mut self, writer: &mut W, count: usize) -> Result<(), RunFault>
-        requires { count ≤ text_bytes }
-        ensures ok { OnOk result ((length self.new + count ≤ held_bytes)
-            × Puts (W.contents writer.old) (W.contents writer.new) self.old self.new []) }
-        ensures err { IfErr result (λ e. (e ≡ RunFault.Write)
-            × WentOut (W.contents writer.old) (W.contents writer.new) self.old) }
-    {
-        if self.bytes.remaining_capacity() < count {
-            return self.send(writer);
-        }
-        Ok(())
-    }
-
-    /// Adds some bytes, after writing what is held where there is no room for them.
-    fn put<W: Write>(&mut self, writer: &mut W, bytes: &[u8]) -> Result<(), RunFault>
-        requires { length bytes.now ≤ text_bytes }
-        ensures ok { OnOk result
-            (Puts (W.contents writer.old) (W.contents writer.new) self.old self.new bytes.now) }
-        ensures err { IfErr result (λ e. (e ≡ RunFault.Write)
-            × WentOut (W.contents writer.old) (W.contents writer.new) (self.old ++ bytes.now)) }
-    {
-        self.make_room(writer, bytes.len())?;
-        self.hold(bytes);
-        Ok(())
+        sent
     }
 
     /// Writes what is held, and has the writer pass on what it holds back itself.
     fn finish<W: Write>(&mut self, writer: &mut W) -> Result<(), RunFault>
-        ensures ok { OnOk result ((self.new ≡ [])
-            × Appends (W.contents writer.old) (W.contents writer.new) self.old) }
+        ensures none { self.new ≡ [] }
+        ensures ok { OnOk result (Appends (W.contents writer.old) (W.contents writer.new) self.old) }
         ensures err { IfErr result (λ e. (e ≡ RunFault.Write)
             × WentOut (W.contents writer.old) (W.contents writer.new) self.old) }
     {
@@ -163,32 +160,97 @@ impl Output {
         self.failed
     }
 
-    /// Tells some bytes.
-    fn tell<W: Write>(&mut self, writer: &mut W, bytes: &[u8])
-        requires { length bytes.now ≤ text_bytes }
-        ensures { Tells (W.contents writer.old) (W.contents writer.new) self.old self.new bytes.now }
+    /// Writes what is held back.
+    #[inline(never)]
+    fn send<W: Write>(&mut self, writer: &mut W)
+        ensures none { self.new.0 ≡ [] }
+        ensures told { Tells (W.contents writer.old) (W.contents writer.new) self.old self.new [] }
     {
         if self.failed {
-            return;
+            return self.held.clear();
         }
-        match self.held.put(writer, bytes) {
+        match self.held.send(writer) {
             Ok(()) => {}
             Err(_) => self.failed = true,
         }
+    }
+
+    /// Makes room for a text that is then added piece by piece.
+    pub fn make_room<W: Write>(&mut self, writer: &mut W)
+        ensures room { length self.new.0 + text_bytes ≤ held_bytes }
+        ensures told { Tells (W.contents writer.old) (W.contents writer.new) self.old self.new [] }
+    {
+        if !self.held.has_room() {
+            self.send(writer);
+        }
+    }
+
+    /// Adds a byte, for which there is room.
+    pub fn push(&mut self, byte: u8)
+        requires { length self.old.0 + 1 ≤ held_bytes }
+        ensures value { self.new ≡ (self.old.0 ++ byte ∷ [], self.old.1) }
+        ensures len { length self.new.0 ≡ length self.old.0 + 1 }
+    {
+        self.held.push(byte);
+    }
+
+    /// Adds these bytes, for which there is room.
+    pub fn add(&mut self, bytes: &[u8])
+        requires { length self.old.0 + length bytes.now ≤ held_bytes }
+        ensures value { self.new ≡ (self.old.0 ++ bytes.now, self.old.1) }
+        ensures len { length self.new.0 ≡ length self.old.0 + length bytes.now }
+    {
+        self.held.hold(bytes);
+    }
+
+    /// Adds a number in decimal, without leading zeros.
+    pub fn add_number(&mut self, number: u64)
+        requires { length self.old.0 + 20 ≤ held_bytes }
+        ensures value { self.new ≡ (self.old.0 ++ decimal number, self.old.1) }
+        ensures len { length self.new.0 ≤ length self.old.0 + 20 }
+    {
+        if number < 10 {
+            return self.push(b'0' + number as u8);
+        }
+        if number < 100 {
+            return self.add(&two_digits(number as u8));
+        }
+        let mut buffer = Buffer::new();
+        self.add(buffer.format(number).as_bytes());
+    }
+
+    /// Adds a word in eight hexadecimal digits of lower case.
+    pub fn add_word(&mut self, word: u32)
+        requires { length self.old.0 + 8 ≤ held_bytes }
+        ensures value { self.new ≡ (self.old.0 ++ word_text word, self.old.1) }
+        ensures len { length self.new.0 ≡ length self.old.0 + 8 }
+    {
+        self.add(&word_digits(word));
     }
 
     /// Tells a text.
     pub fn put<W: Write>(&mut self, writer: &mut W, text: &Text)
         ensures { Tells (W.contents writer.old) (W.contents writer.new) self.old self.new text.now }
     {
-        self.tell(writer, text.as_slice());
+        self.make_room(writer);
+        self.add(text.as_slice());
     }
 
     /// Ends a line.
     pub fn end_line<W: Write>(&mut self, writer: &mut W)
         ensures { Tells (W.contents writer.old) (W.contents writer.new) self.old self.new (10 ∷ []) }
     {
-        self.tell(writer, b"\n");
+        self.make_room(writer);
+        self.push(b'\n');
+    }
+
+    /// Tells a word in eight hexadecimal digits of lower case, after a space.
+    fn put_word<W: Write>(&mut self, writer: &mut W, word: u32)
+        ensures { Tells (W.contents writer.old) (W.contents writer.new) self.old self.new (32 ∷ word_text word) }
+    {
+        self.make_room(writer);
+        self.push(b' ');
+        self.add_word(word);
     }
 
     /// Tells words in eight hexadecimal digits of lower case, each after a space.
@@ -196,8 +258,7 @@ impl Output {
         ensures { Tells (W.contents writer.old) (W.contents writer.new) self.old self.new (words_text words.now) }
     {
         for word in words {
-            let digits = spaced_digits(*word);
-            self.tell(writer, &digits);
+            self.put_word(writer, *word);
         }
     }
 

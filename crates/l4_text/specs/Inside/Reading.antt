@@ -1,6 +1,6 @@
--- How a stream is read, piece by piece, and what goes out at once (this profile's own).
-use Rattle.std.specs.Prelude.{ℕ, ◌≡◌, ◌≢◌, ◌+◌, ◌-◌, ◌==◌, ◌^◌, get_or, ◌<◌, ◌≤◌, Bool, true, false, List, [], ◌++◌, length, take, drop, Option, Some, Result, Ok, Err, not}
-use Rattle.std.specs.Io.KnownBytes.{Consumes, IsAtEnd, Appends}
+-- How a stream is read, piece by piece (this profile's own).
+use Rattle.std.specs.Prelude.{ℕ, ◌≡◌, ◌≢◌, ◌+◌, ◌-◌, ◌==◌, ◌^◌, get_or, ◌<◌, ◌≤◌, Bool, true, false, List, [], length, take, drop, Option, Some, Result, Ok, Err, not}
+use Rattle.std.specs.Io.KnownBytes.{Consumes, IsAtEnd}
 use Rattle.std.specs.List.{position_or_len}
 use Rattle.l4_text.specs.Numbers.{value_from}
 use Rattle.l4_text.specs.Tokens.{is_space}
@@ -25,12 +25,6 @@ pub record Filled (old new : Option (List ℕ)) (before after : List ℕ × ℕ)
 
 abbrev pub is_no_space : ℕ → Bool
 is_no_space byte = not (byte == 32)
-
--- what went out, and then what is held back, is what was held back before, and then the text
-pub record Puts (old new : Option (List ℕ)) (held held' text : List ℕ) : Type 0 where
-  pub front : List ℕ
-  pub whole : held ++ text ≡ front ++ held'
-  pub out : Appends old new front
 
 -- a text begins with so many digits, and then a space or its end
 abbrev pub HasDigits : ℕ → (ℕ → Option ℕ) → List ℕ → ℕ → ℕ → Type 0
