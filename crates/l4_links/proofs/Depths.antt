@@ -1,12 +1,15 @@
 -- How deep a key can stand, and the order of keys after several that went.
-use Rattle.std.proofs.Common.{◌≡◌, ℕ, suc, zero, ◌<◌, ◌≤◌, List, length, Option, Some, None, refl, ap, arith}
+use Rattle.std.proofs.Common.{◌≡◌, ◌≢◌, ℕ, suc, zero, ◌+◌, ◌<◌, ◌≤◌, List, ◌∷◌, length, Option, Some, None, refl, ap, subst, inl, inr, arith}
 use Rattle.std.specs.Option.{option_map}
 use Rattle.l4_links.specs.declared.nodes.Node.{Node}
 use Rattle.l4_links.specs.Inside.Trees.{Limb, IsTree, SameOrder}
-use Rattle.l4_links.specs.Inside.Orders.{position}
-use Rattle.l4_links.specs.Inside.Nodes.{Slots, node_at, limbs, IsForest}
+use Rattle.l4_links.specs.Inside.Keys.{IsKey, no_key}
+use Rattle.l4_links.specs.Inside.Orders.{IsIn, position}
+use Rattle.l4_links.specs.Inside.Nodes.{Slots, slot_at, node_at, limbs, AreKeys, IsForest}
 use Rattle.l4_links.proofs.Positions.{position_within}
-use Rattle.l4_links.proofs.Cutting.{order_fits}
+use Rattle.l4_links.proofs.Neighbours.{in_list, not_in_list}
+use Rattle.l4_links.proofs.Writes.{slot_key, node_key}
+use Rattle.l4_links.proofs.Cutting.{once_fits, order_fits}
 
 -- a key has no more ancestors than there are keys before it
 depth_within : (at : ℕ → Option Limb) (pos : ℕ → ℕ) → IsTree at pos → (n a : ℕ) (x : Limb) → at a ≡ Some x → x.depth ≤ n → x.depth ≤ pos a
@@ -30,6 +33,21 @@ depth_fits slots ks k n f at =
     let p = position_within ks k (f.order.all k n at) in
     let l = order_fits slots ks f.order in
     omega (arith, d, p, l)
+
+-- a blank has one of the keys too, so a node can keep the depth of a child
+pub depth_is_key : (slots : Slots) (ks : List ℕ) (k : ℕ) (n : Node) (blank : ℕ) → IsForest slots ks → AreKeys slots → node_at slots k ≡ Some n → slot_at slots blank ≢ None → node_at slots blank ≡ None → IsKey (n.depth + 1)
+depth_is_key slots ks k n blank f few at room none =
+    let x : Limb = record { parent = n.parent; depth = n.depth } in
+    let is : limbs slots k ≡ Some x = ap (option_map (λ (m : Node). record { parent = m.parent; depth = m.depth })) at in
+    let d = depth_within (limbs slots) (position ks) f.tree n.depth k x is (omega arith) in
+    let p = position_within ks k (f.order.all k n at) in
+    let each : (j : ℕ) → IsIn (blank ∷ ks) j → j < no_key = λ j i. elim i [
+      | inl e ↦ subst (λ (z : ℕ). z < no_key) e (slot_key slots blank few room)
+      | inr h ↦ (let b = in_list slots ks f.order j h in node_key slots j b.0 few b.1)
+    ] in
+    let l = once_fits no_key (blank ∷ ks) (not_in_list slots ks f.order blank none, f.order.once) each in
+    let m : length (blank ∷ ks) ≡ length ks + 1 = omega arith in
+    omega (arith, d, p, l, m)
 
 -- orders that are the same one after the other
 pub order_on : (old new : ℕ → Option Limb) (pos middle later : ℕ → ℕ) → ((a : ℕ) (x : Limb) → new a ≡ Some x → old a ≡ Some x) → SameOrder old pos middle → SameOrder new middle later → SameOrder new pos later

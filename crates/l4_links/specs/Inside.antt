@@ -1,4 +1,5 @@
 pub mod Keys
+pub mod Packed
 pub mod Trees
 pub mod Orders
 pub mod Nodes

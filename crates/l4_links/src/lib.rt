@@ -14,6 +14,7 @@ mod keys;
 mod lists;
 mod names;
 mod nodes;
+mod packed;
 mod stamps;
 mod walks;
 
@@ -22,9 +23,8 @@ use l4_fpage::Rights;
 pub use l4_spaces::NoMemory;
 use l4_spaces::Spaces;
 use names::{remove, take_over};
-use nodes::{
-    Slot, cap_at, node_of, set_plain, set_source, set_wanted, standing_of, vacant_key_fits,
-};
+use nodes::{cap_at, node_of, set_plain, set_source, set_wanted, standing_of, vacant_key_fits};
+use packed::Packed;
 use slab::Slab;
 use stamps::{SOURCES_WALK, fresh, stamp_for};
 use std::alloc::Global;
@@ -68,7 +68,7 @@ pub struct Entry {
 /// The nodes of all pages, and the spaces that there are.
 #[derive(Drop)]
 pub struct Links {
-    nodes: Slab<Slot>,
+    nodes: Slab<Packed>,
     /// The key of each page.
     pages: Spaces,
     /// The key of the first node of the list.
@@ -185,9 +185,9 @@ impl Links {
             return None;
         };
         Some(Entry {
-            place: slot.place,
-            wanted: slot.wanted,
-            stands: standing_of(slot.node),
+            place: slot.place(),
+            wanted: slot.is_wanted(),
+            stands: standing_of(slot.node()),
         })
     }
 
@@ -210,12 +210,7 @@ impl Links {
     {
         vacant_key_fits(&self.nodes)?;
         self.pages.prepare(place.space, &[place.page])?;
-        let slot = Slot {
-            place,
-            wanted: false,
-            node: None,
-        };
-        let key = self.nodes.insert(slot)?;
+        let key = self.nodes.insert(Packed::blank(place))?;
         self.pages.set(place.space, place.page, key);
         Ok(key)
     }

@@ -9,13 +9,14 @@ ghost use Rattle.l4_links.specs.Inside.Keeping.{IsIndexed};
 
 use crate::keys::Link;
 use crate::names::remove;
-use crate::nodes::{Node, Slot, child_depth, is_wanted, node_of, set_next, set_prev, write};
+use crate::nodes::{Node, child_depth, empty, is_wanted, node_of, set_next, set_prev, write};
+use crate::packed::Packed;
 use l4_fpage::Rights;
 use l4_spaces::Spaces;
 use slab::Slab;
 
 /// Takes the node out of its list. Its slot stays, as a blank.
-pub(crate) fn unlink(nodes: &mut Slab<Slot>, key: usize)
+pub(crate) fn unlink(nodes: &mut Slab<Packed>, key: usize)
     requires order { (ks : List ℕ) × IsOrder nodes.old.slots ks }
     requires there { node_at nodes.old.slots key ≢ None }
     ensures takes { TakesOut (links nodes.old.slots) (links nodes.new.slots) key }
@@ -25,13 +26,13 @@ pub(crate) fn unlink(nodes: &mut Slab<Slot>, key: usize)
     let Some(node) = node_of(nodes, key) else {
         unreachable!()
     };
-    write(nodes, key, None);
+    empty(nodes, key);
     set_next(nodes, node.prev, node.next);
     set_prev(nodes, node.next, node.prev);
 }
 
 /// Takes the node out of its list, and the slot away with its page's name.
-pub(crate) fn take_out(nodes: &mut Slab<Slot>, pages: &mut Spaces, key: usize)
+pub(crate) fn take_out(nodes: &mut Slab<Packed>, pages: &mut Spaces, key: usize)
     requires order { (ks : List ℕ) × IsOrder nodes.old.slots ks }
     requires there { node_at nodes.old.slots key ≢ None }
     ensures out { TakesSlot key nodes.old.slots nodes.new.slots }
@@ -44,7 +45,7 @@ pub(crate) fn take_out(nodes: &mut Slab<Slot>, pages: &mut Spaces, key: usize)
 }
 
 /// Takes the node out of its list. A wanted page is left as a blank, and any other slot goes with its page's name.
-fn cut_off(nodes: &mut Slab<Slot>, pages: &mut Spaces, key: usize)
+fn cut_off(nodes: &mut Slab<Packed>, pages: &mut Spaces, key: usize)
     requires order { (ks : List ℕ) × IsOrder nodes.old.slots ks }
     requires there { node_at nodes.old.slots key ≢ None }
     ensures out { CutsOff key nodes.old.slots nodes.new.slots }
@@ -60,7 +61,7 @@ fn cut_off(nodes: &mut Slab<Slot>, pages: &mut Spaces, key: usize)
 
 /// Puts a node straight after its parent, into the blank that the key is of.
 pub(crate) fn link_under(
-    nodes: &mut Slab<Slot>,
+    nodes: &mut Slab<Packed>,
     parent: usize,
     key: usize,
     above: Node,
@@ -93,14 +94,14 @@ pub(crate) fn link_under(
         next: above.next,
         doomed: none,
     };
-    write(nodes, key, Some(node));
+    write(nodes, key, node);
     set_prev(nodes, above.next, at);
     set_next(nodes, under, at);
 }
 
 /// Puts a root before all other nodes, into the blank that the key is of. The list begins with the key that is given then.
 pub(crate) fn link_root(
-    nodes: &mut Slab<Slot>,
+    nodes: &mut Slab<Packed>,
     first: Link,
     key: usize,
     frame: u32,
@@ -130,13 +131,13 @@ pub(crate) fn link_root(
         next: first,
         doomed: none,
     };
-    write(nodes, key, Some(node));
+    write(nodes, key, node);
     set_prev(nodes, first, at);
     at
 }
 
 /// Cuts off all that descends from the node.
-pub(crate) fn cut_below(nodes: &mut Slab<Slot>, pages: &mut Spaces, top: usize)
+pub(crate) fn cut_below(nodes: &mut Slab<Packed>, pages: &mut Spaces, top: usize)
     requires forest { (ks : List ℕ) × IsForest nodes.old.slots ks }
     requires there { node_at nodes.old.slots top ≢ None }
     ensures prunes { Prunes top nodes.old.slots nodes.new.slots }
@@ -165,7 +166,7 @@ pub(crate) fn cut_below(nodes: &mut Slab<Slot>, pages: &mut Spaces, top: usize)
 
 /// Cuts off all that descends from the node, and takes the node out of the list. Its slot stays, as a blank. The list begins
 /// with the key that is given then.
-pub(crate) fn clear(nodes: &mut Slab<Slot>, pages: &mut Spaces, first: Link, top: usize) -> Link
+pub(crate) fn clear(nodes: &mut Slab<Packed>, pages: &mut Spaces, first: Link, top: usize) -> Link
     requires forest { (ks : List ℕ) × IsForest nodes.old.slots ks }
     requires there { node_at nodes.old.slots top ≢ None }
     ensures clears { Clears top first result nodes.old.slots nodes.new.slots }

@@ -4,13 +4,14 @@ ghost use Rattle.std.specs.Prelude.{◌≡◌, ◌≢◌, ℕ, None};
 ghost use Rattle.l4_links.specs.Inside.Nodes.{slot_at, node_at, TakesOver};
 ghost use Rattle.l4_links.specs.Inside.Keeping.{IsIndexed};
 
-use crate::nodes::{Slot, give, place_of};
+use crate::nodes::{give, place_of};
+use crate::packed::Packed;
 use l4_fpage::Rights;
 use l4_spaces::Spaces;
 use slab::Slab;
 
 /// Takes the slot under the key away, if there is one, and its page's name.
-pub(crate) fn remove(nodes: &mut Slab<Slot>, pages: &mut Spaces, key: usize)
+pub(crate) fn remove(nodes: &mut Slab<Packed>, pages: &mut Spaces, key: usize)
     ensures gone { slot_at nodes.new.slots key ≡ None }
     ensures others { (other : ℕ) → other ≢ key → slot_at nodes.new.slots other ≡ slot_at nodes.old.slots other }
     ensures indexed { IsIndexed nodes.old.slots pages.old → IsIndexed nodes.new.slots pages.new }
@@ -25,7 +26,7 @@ pub(crate) fn remove(nodes: &mut Slab<Slot>, pages: &mut Spaces, key: usize)
 
 /// Lets the key be of the blank's page, with a note that an item of these rights grants it. The blank goes.
 pub(crate) fn take_over(
-    nodes: &mut Slab<Slot>,
+    nodes: &mut Slab<Packed>,
     pages: &mut Spaces,
     key: usize,
     blank: usize,

@@ -1,6 +1,6 @@
 //! The slots of the slab: what each holds, and the writes to one of them.
 
-ghost use Rattle.std.specs.Prelude.{◌≡◌, ◌+◌, ◌<◌, ◌≤◌, false, Some, OnOk, OnErr};
+ghost use Rattle.std.specs.Prelude.{◌≡◌, ◌+◌, ◌<◌, ◌≤◌, false, Some, None, OnOk, OnErr};
 ghost use Rattle.std.specs.Option.{option_map};
 ghost use Rattle.l4_links.specs.Inside.Keys.{IsKey, no_key};
 ghost use Rattle.l4_links.specs.Inside.Stacks.{HasStack};
@@ -10,12 +10,13 @@ ghost use Rattle.l4_links.specs.declared.nodes.Slot.{Slot as ASlot};
 ghost use Rattle.l4_links.specs.declared.nodes.Node.{Node as ANode};
 
 use crate::keys::{Link, NO_KEY};
+use crate::packed::Packed;
 use crate::{Place, Standing};
 use l4_fpage::Rights;
 use l4_spaces::NoMemory;
 use slab::Slab;
 
-/// A page's slot.
+/// What a slot holds for a page. It is kept as `Packed`.
 #[derive(Clone, Copy)]
 pub(crate) struct Slot {
     pub place: Place,
@@ -53,38 +54,38 @@ pub(crate) struct Node {
 }
 
 /// The node under the key.
-pub(crate) fn node_of(nodes: &Slab<Slot>, key: usize) -> Option<Node>
+pub(crate) fn node_of(nodes: &Slab<Packed>, key: usize) -> Option<Node>
     ensures { result ≡ node_at nodes.now.slots key }
 {
     let Some(slot) = nodes.get(key) else {
         return None;
     };
-    slot.node
+    slot.node()
 }
 
 /// The page of the key.
-pub(crate) fn place_of(nodes: &Slab<Slot>, key: usize) -> Option<Place>
+pub(crate) fn place_of(nodes: &Slab<Packed>, key: usize) -> Option<Place>
     ensures { result ≡ option_map (λ (s : ASlot). s.place) (slot_at nodes.now.slots key) }
 {
     let Some(slot) = nodes.get(key) else {
         return None;
     };
-    Some(slot.place)
+    Some(slot.place())
 }
 
 /// Whether a message fills the page of the key.
-pub(crate) fn is_wanted(nodes: &Slab<Slot>, key: usize) -> bool
+pub(crate) fn is_wanted(nodes: &Slab<Packed>, key: usize) -> bool
     ensures { result ≡ wanted_in (spots nodes.now.slots key) }
 {
     let Some(slot) = nodes.get(key) else {
         return false;
     };
-    slot.wanted
+    slot.is_wanted()
 }
 
 /// Refuses where a node can't keep the key that the next slot would have. Keys that were given back come first, so then all that
 /// it can keep are taken.
-pub(crate) fn vacant_key_fits(nodes: &Slab<Slot>) -> Result<(), NoMemory>
+pub(crate) fn vacant_key_fits(nodes: &Slab<Packed>) -> Result<(), NoMemory>
     ensures few { OnOk result (IsKey nodes.now.vacant_key) }
     ensures full { OnErr result (no_key ≤ nodes.now.vacant_key) }
 {
@@ -103,81 +104,78 @@ pub(crate) fn child_depth(node: &Node, slots: usize) -> usize
 }
 
 /// Lets the slot under the key, if there is one, hold this node.
-pub(crate) fn write(nodes: &mut Slab<Slot>, key: usize, node: Option<Node>)
-    ensures { Writes key node nodes.old.slots nodes.new.slots }
+pub(crate) fn write(nodes: &mut Slab<Packed>, key: usize, node: Node)
+    requires { IsKey node.depth }
+    ensures { Writes key (Some node) nodes.old.slots nodes.new.slots }
 {
     if let Some(slot) = nodes.get_mut(key) {
-        slot.node = node;
+        slot.put(node);
+    }
+}
+
+/// Lets the slot under the key, if there is one, be a blank.
+pub(crate) fn empty(nodes: &mut Slab<Packed>, key: usize)
+    ensures { Writes key None nodes.old.slots nodes.new.slots }
+{
+    if let Some(slot) = nodes.get_mut(key) {
+        slot.empty();
     }
 }
 
 /// Notes whether a message fills the page of the key, if there is one.
-pub(crate) fn set_wanted(nodes: &mut Slab<Slot>, key: usize, wanted: bool)
+pub(crate) fn set_wanted(nodes: &mut Slab<Packed>, key: usize, wanted: bool)
     ensures { SetsWanted key wanted nodes.old.slots nodes.new.slots }
 {
     if let Some(slot) = nodes.get_mut(key) {
-        slot.wanted = wanted;
+        slot.set_wanted(wanted);
     }
 }
 
 /// Lets the slot under the key, if there is one, be of this page, with a note that an item of these rights grants it.
-pub(crate) fn give(nodes: &mut Slab<Slot>, key: usize, place: Place, rights: Rights)
+pub(crate) fn give(nodes: &mut Slab<Packed>, key: usize, place: Place, rights: Rights)
     ensures { Gives key place rights nodes.old.slots nodes.new.slots }
 {
     if let Some(slot) = nodes.get_mut(key) {
-        slot.place = place;
-        if let Some(node) = &mut slot.node {
-            node.granted = Some(rights);
-        }
+        slot.give(place, rights);
     }
 }
 
 /// Lets the node that is meant have this next key.
-pub(crate) fn set_next(nodes: &mut Slab<Slot>, at: Link, next: Link)
+pub(crate) fn set_next(nodes: &mut Slab<Packed>, at: Link, next: Link)
     ensures { SetsNext at next nodes.old.slots nodes.new.slots }
 {
     let Some(key) = at.key() else {
         return;
     };
-    let Some(slot) = nodes.get_mut(key) else {
-        return;
-    };
-    if let Some(node) = &mut slot.node {
-        node.next = next;
+    if let Some(slot) = nodes.get_mut(key) {
+        slot.set_next(next);
     }
 }
 
 /// Lets the node that is meant have this previous key.
-pub(crate) fn set_prev(nodes: &mut Slab<Slot>, at: Link, prev: Link)
+pub(crate) fn set_prev(nodes: &mut Slab<Packed>, at: Link, prev: Link)
     ensures { SetsPrev at prev nodes.old.slots nodes.new.slots }
 {
     let Some(key) = at.key() else {
         return;
     };
-    let Some(slot) = nodes.get_mut(key) else {
-        return;
-    };
-    if let Some(node) = &mut slot.node {
-        node.prev = prev;
+    if let Some(slot) = nodes.get_mut(key) {
+        slot.set_prev(prev);
     }
 }
 
 /// Lets the node have these rights, and this key after it on the stack of nodes without rights.
-fn lower(nodes: &mut Slab<Slot>, key: usize, rights: Rights, doomed: Link)
+fn lower(nodes: &mut Slab<Packed>, key: usize, rights: Rights, doomed: Link)
     ensures { Lowers key rights doomed nodes.old.slots nodes.new.slots }
 {
-    let Some(slot) = nodes.get_mut(key) else {
-        return;
-    };
-    if let Some(node) = &mut slot.node {
-        node.rights = rights;
-        node.doomed = doomed;
+    if let Some(slot) = nodes.get_mut(key) {
+        slot.lower(rights, doomed);
     }
 }
 
 /// Lets the node have no other rights than these. A node that loses its last right goes on the stack that begins with the key
 /// `doomed`. The key that the stack begins with then is given.
-pub(crate) fn cap_at(nodes: &mut Slab<Slot>, key: usize, cap: Rights, doomed: Link) -> Link
+pub(crate) fn cap_at(nodes: &mut Slab<Packed>, key: usize, cap: Rights, doomed: Link) -> Link
     requires few { AreKeys nodes.old.slots }
     requires stack { HasStack nodes.old.slots doomed }
     ensures caps { Caps key cap nodes.old.slots nodes.new.slots }
@@ -199,52 +197,38 @@ pub(crate) fn cap_at(nodes: &mut Slab<Slot>, key: usize, cap: Rights, doomed: Li
 }
 
 /// Notes that the walk has been over all that descends from the node, and where it left that run.
-pub(crate) fn close(nodes: &mut Slab<Slot>, key: usize, stamp: u64, end: Link)
+pub(crate) fn close(nodes: &mut Slab<Packed>, key: usize, stamp: u64, end: Link)
     ensures { Closes key stamp end nodes.old.slots nodes.new.slots }
 {
-    let Some(slot) = nodes.get_mut(key) else {
-        return;
-    };
-    if let Some(node) = &mut slot.node {
-        node.mark = stamp;
-        node.end = end;
+    if let Some(slot) = nodes.get_mut(key) {
+        slot.close(stamp, end);
     }
 }
 
 /// Notes that the walk has come by the node.
-pub(crate) fn see(nodes: &mut Slab<Slot>, key: usize, stamp: u64)
+pub(crate) fn see(nodes: &mut Slab<Packed>, key: usize, stamp: u64)
     ensures { Sees key stamp nodes.old.slots nodes.new.slots }
 {
-    let Some(slot) = nodes.get_mut(key) else {
-        return;
-    };
-    if let Some(node) = &mut slot.node {
-        node.seen = stamp;
+    if let Some(slot) = nodes.get_mut(key) {
+        slot.see(stamp);
     }
 }
 
 /// Marks the node as a source, or takes the mark away.
-pub(crate) fn set_source(nodes: &mut Slab<Slot>, key: usize, source: bool)
+pub(crate) fn set_source(nodes: &mut Slab<Packed>, key: usize, source: bool)
     ensures { SetsSource key source nodes.old.slots nodes.new.slots }
 {
-    let Some(slot) = nodes.get_mut(key) else {
-        return;
-    };
-    if let Some(node) = &mut slot.node {
-        node.source = source;
+    if let Some(slot) = nodes.get_mut(key) {
+        slot.set_source(source);
     }
 }
 
 /// Takes the marks of a source and of a grant from the node.
-pub(crate) fn set_plain(nodes: &mut Slab<Slot>, key: usize)
+pub(crate) fn set_plain(nodes: &mut Slab<Packed>, key: usize)
     ensures { SetsPlain key nodes.old.slots nodes.new.slots }
 {
-    let Some(slot) = nodes.get_mut(key) else {
-        return;
-    };
-    if let Some(node) = &mut slot.node {
-        node.source = false;
-        node.granted = None;
+    if let Some(slot) = nodes.get_mut(key) {
+        slot.set_plain();
     }
 }
 

@@ -7,7 +7,8 @@ ghost use Rattle.l4_links.specs.Inside.Stacks.{HasStack};
 ghost use Rattle.l4_links.specs.Inside.Nodes.{Slots, node_at, limbs, AreKeys, IsForest, HasMarks, CapsBelow, Closes, Sees, HasSeen, IsSame, Meets, NoneMet, IsMarked, IsStamped};
 
 use crate::keys::Link;
-use crate::nodes::{Node, Slot, cap_at, close, node_of, see};
+use crate::nodes::{Node, cap_at, close, node_of, see};
+use crate::packed::Packed;
 use l4_fpage::Rights;
 use slab::Slab;
 
@@ -29,7 +30,7 @@ fn onward(node: &Node, stamp: u64) -> Link
 /// Lets all that descends from the node have no other rights than these. A run that the walk of this stamp has been over is passed by.
 /// Nodes that lose their last right go on the stack that begins with the key `doomed`. The key that the stack begins with then is given.
 pub(crate) fn cap_below(
-    nodes: &mut Slab<Slot>,
+    nodes: &mut Slab<Packed>,
     top: usize,
     cap: Rights,
     stamp: u64,
@@ -80,7 +81,7 @@ fn was_seen(node: &Node, stamp: u64) -> bool
 }
 
 /// Notes that the walk has been over all that descends from the node, and that it has come by the node.
-fn close_seen(nodes: &mut Slab<Slot>, key: usize, stamp: u64, end: Link) -> bool
+fn close_seen(nodes: &mut Slab<Packed>, key: usize, stamp: u64, end: Link) -> bool
     ensures { (middle : Slots) × Closes key stamp end nodes.old.slots middle × Sees key stamp middle nodes.new.slots × (result ≡ false) }
 {
     close(nodes, key, stamp, end);
@@ -89,7 +90,7 @@ fn close_seen(nodes: &mut Slab<Slot>, key: usize, stamp: u64, end: Link) -> bool
 }
 
 /// Whether a source descends from the node. What walks of this stamp have come by is not looked at again.
-pub(crate) fn has_source(nodes: &mut Slab<Slot>, top: usize, stamp: u64) -> bool
+pub(crate) fn has_source(nodes: &mut Slab<Packed>, top: usize, stamp: u64) -> bool
     requires seen { HasSeen stamp nodes.old.slots }
     requires stamped { IsStamped stamp nodes.old.slots }
     requires there { node_at nodes.old.slots top ≢ None }
@@ -127,7 +128,7 @@ pub(crate) fn has_source(nodes: &mut Slab<Slot>, top: usize, stamp: u64) -> bool
 
 /// Whether nothing descends from the node. What descends from it would begin with the node after it, one that is deeper, so no walk is
 /// needed. False where there is no node.
-pub(crate) fn is_leaf(nodes: &Slab<Slot>, key: usize) -> bool
+pub(crate) fn is_leaf(nodes: &Slab<Packed>, key: usize) -> bool
     requires forest { (keys : List ℕ) × IsForest nodes.now.slots keys }
     ensures yes { result ≡ true → (node_at nodes.now.slots key ≢ None) × ((low : ℕ) → ¬ (Leads (parent_at (limbs nodes.now.slots)) low key)) }
     ensures no { result ≡ false → node_at nodes.now.slots key ≢ None → (low : ℕ) × Leads (parent_at (limbs nodes.now.slots)) low key }

@@ -1,8 +1,9 @@
-use Rattle.std.proofs.Common.{ℕ, arith, refl, subst, Option, Some, None, false}
+use Rattle.std.proofs.Common.{ℕ, arith, refl, sym, subst, Option, Some, None, false}
 use Rattle.l4_fpage.specs.Rights.{RightsSet}
 use Rattle.l4_links.specs.declared.nodes.Node.{Node}
+use Rattle.l4_links.specs.Inside.Keys.{IsKey}
 use Rattle.l4_links.specs.Inside.Nodes.{Comes, Writes, SetsNext, SetsPrev}
-use Rattle.l4_links.proofs.Depths.{depth_fits}
+use Rattle.l4_links.proofs.Depths.{depth_fits, depth_is_key}
 use Rattle.l4_links.proofs.Writes.{slot_key, node_key}
 use Rattle.l4_links.proofs.Neighbours.{put_in, sprouts, forest_in, comes_in}
 use Rattle.l4_links.proofs.lists.link_under.Goals as goal
@@ -34,6 +35,11 @@ child_depth-requires c =
     let d = depth_fits c.args.nodes.now.slots c.requires.forest.0 c.args.parent c.args.above c.requires.forest.1 c.requires.there in
     let s = c.capacity-slots.ensures.slots in
     omega (arith, d, s)
+
+pub write-requires : goal.write-requires
+write-requires c =
+    subst (λ (d : ℕ). IsKey d) (sym c.child_depth.ensures)
+    (depth_is_key c.args.nodes.now.slots c.requires.forest.0 c.args.parent c.args.above c.args.key c.requires.forest.1 c.requires.few c.requires.there c.requires.room c.requires.blank)
 
 -- the child, and the writes, with the keys that their links are to
 abbrev stands : (c : goal.After-set_next) → Node
