@@ -47,12 +47,12 @@ pub fn put_start(out: &mut Record, number: u32, call: &Call)
 }
 
 /// Appends the step that starts the call of these words.
-pub fn put_start_of(out: &mut Record, thread: u32, call: &Words<'_>)
+pub fn put_start_of(out: &mut Record, caller: u32, call: &Words<'_>)
     requires { length out.old.items + 2 + length call.now ≤ RECORD_WORDS }
-    ensures { out.new.items ≡ out.old.items ++ 0 ∷ thread ∷ call.now }
+    ensures { out.new.items ≡ out.old.items ++ 0 ∷ caller ∷ call.now }
 {
     out.push(0);
-    out.push(thread);
+    out.push(caller);
     out.append(call);
 }
 
