@@ -5,3 +5,4 @@ pub mod Scripting
 pub mod Delegating
 pub mod Served
 pub mod Outlined
+pub mod InTurn

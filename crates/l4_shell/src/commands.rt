@@ -2,8 +2,12 @@
 ghost use Rattle.std.specs.Prelude.{◌≡◌, ◌∷◌, [], length};
 ghost use Rattle.l4_text.specs.Tokens.{tokens_of};
 ghost use Rattle.l4_shell.specs.Commands.{thread_asked, set_pager_asked, delete_asked, receive_asked, show_asked, parent_asked, send_asked, delegate_asked, ipc_asked, unmap_asked, fault_asked, region_asked, serve_asked, steps_asked, pager_command_of, words_of, command_of};
+ghost use Rattle.l4_shell.specs.Inside.InTurn.{receive_in_turn, send_in_turn};
 
-use crate::partners::{NewSpace, Partner, any_or_thread, new_space, nil_or_thread, thread_number};
+use crate::partners::{
+    NewSpace, Partner, any_or_thread, new_space, next_partner, next_thread, next_word,
+    nil_or_thread, thread_number,
+};
 use crate::regions::{region, rights};
 use crate::tokens::{one, three, two};
 use arrayvec::ArrayVec;
@@ -214,17 +218,29 @@ fn delete(line: &[u8]) -> Option<Command<'static>>
     })
 }
 
+/// `N FROM WINDOW`, token by token
+#[tactic(auto, unfolding(crate::specs::Inside::InTurn::receive_in_turn))]
+fn receive_in_turn(line: &[u8]) -> Option<Command<'static>>
+    ensures { result ≡ receive_in_turn (tokens_of line.now) }
+{
+    let (number, rest) = next_thread(line)?;
+    let (from, rest) = next_partner(rest)?;
+    let (window, rest) = next_word(rest)?;
+    match next_token(rest) {
+        None => Some(Command::Receive {
+            number,
+            from,
+            window,
+        }),
+        Some(_) => None,
+    }
+}
+
 /// `N FROM WINDOW`
-#[tactic(auto, unfolding(crate::specs::Commands::receive_asked))]
 fn receive(line: &[u8]) -> Option<Command<'static>>
     ensures { result ≡ receive_asked (tokens_of line.now) }
 {
-    let (number_token, (from, window)) = three(line)?;
-    Some(Command::Receive {
-        number: thread_number(number_token)?,
-        from: any_or_thread(from)?,
-        window: number(window)?,
-    })
+    receive_in_turn(line)
 }
 
 /// `N FIRST COUNT`
@@ -273,17 +289,25 @@ fn read_words<'a>(line: &[u8], words: &'a mut ArrayVec<u32, MAX_WORDS>) -> Optio
     }
 }
 
+/// `N TO WORD..`, token by token
+#[tactic(auto, unfolding(crate::specs::Inside::InTurn::send_in_turn))]
+fn send_in_turn<'a>(line: &[u8], registers: &'a mut ArrayVec<u32, MAX_WORDS>) -> Option<Command<'a>>
+    ensures { result ≡ send_in_turn (tokens_of line.now) }
+{
+    let (number, rest) = next_thread(line)?;
+    let (to, rest) = next_partner(rest)?;
+    Some(Command::Send {
+        number,
+        to,
+        words: read_words(rest, registers)?,
+    })
+}
+
 /// `N TO WORD..`
 fn send<'a>(line: &[u8], registers: &'a mut ArrayVec<u32, MAX_WORDS>) -> Option<Command<'a>>
     ensures { result ≡ send_asked (tokens_of line.now) }
 {
-    let (number_token, rest) = next_token(line)?;
-    let (to, rest) = next_token(rest)?;
-    Some(Command::Send {
-        number: thread_number(number_token)?,
-        to: any_or_thread(to)?,
-        words: read_words(rest, registers)?,
-    })
+    send_in_turn(line, registers)
 }
 
 /// `N TO SOURCE TARGET COUNT RIGHTS`
@@ -405,9 +429,10 @@ fn pager_command(name: &[u8], rest: &[u8]) -> Result<Command<'static>, ScriptFau
     Err(ScriptFault::UnknownCommand)
 }
 
-/// What a line of this first token asks for, and the tokens of the rest.
+/// What a line of any first token asks for, and the tokens of the rest.
 #[tactic(auto, unfolding(crate::specs::Commands::command_of))]
-pub(crate) fn read_command<'a>(
+#[inline(never)]
+fn any_command<'a>(
     name: &[u8],
     rest: &[u8],
     registers: &'a mut ArrayVec<u32, MAX_WORDS>,
@@ -445,4 +470,25 @@ pub(crate) fn read_command<'a>(
         return parent(rest).ok_or(ScriptFault::BadTokens);
     }
     pager_command(name, rest)
+}
+
+/// What a line of this first token asks for, and the tokens of the rest. It looks for the commands of most lines alone, as each place for an answer
+/// would be cleared for each line.
+pub(crate) fn read_command<'a>(
+    name: &[u8],
+    rest: &[u8],
+    registers: &'a mut ArrayVec<u32, MAX_WORDS>,
+) -> Result<Command<'a>, ScriptFault>
+    ensures { result ≡ command_of (name.now ∷ tokens_of rest.now) }
+{
+    if name == RECV {
+        return receive(rest).ok_or(ScriptFault::BadTokens);
+    }
+    if name == SEND {
+        return send(rest, registers).ok_or(ScriptFault::BadTokens);
+    }
+    if name == IPC {
+        return ipc(rest, registers).ok_or(ScriptFault::BadTokens);
+    }
+    any_command(name, rest, registers)
 }

@@ -1,8 +1,11 @@
 //! The threads that tokens name, and the words in their place.
-ghost use Rattle.std.specs.Prelude.{◌≡◌};
+ghost use Rattle.std.specs.Prelude.{◌≡◌, option_map};
+ghost use Rattle.l4_text.specs.Numbers.{number_of};
+ghost use Rattle.l4_text.specs.Tokens.{tokens_of};
 ghost use Rattle.l4_shell.specs.Commands.{thread_of, nil_or_thread_of, partner_of, new_space_of};
+ghost use Rattle.l4_shell.specs.Inside.InTurn.{first_by};
 
-use l4_text::number;
+use l4_text::{next_token, number, quick_number};
 
 /// The space of a new thread.
 #[derive(Clone, Copy, Debug, PartialEq, Eq)]
@@ -67,4 +70,43 @@ pub(crate) fn new_space(token: &[u8]) -> Option<NewSpace>
         return Some(NewSpace::New);
     }
     Some(NewSpace::Of(thread_number(token)?))
+}
+
+/// The thread's number that a line's first token spells, and what follows the token.
+pub(crate) fn next_thread(line: &[u8]) -> Option<(u32, &[u8])>
+    ensures { option_map (λ p. (p.0, tokens_of p.1.now)) result ≡ first_by thread_of (tokens_of line.now) }
+{
+    if let Some((value, rest)) = quick_number(line) {
+        if value >= 0x4_0000 {
+            return None;
+        }
+        return Some((value, rest));
+    }
+    let (token, rest) = next_token(line)?;
+    Some((thread_number(token)?, rest))
+}
+
+/// The partner that a line's first token names, and what follows the token.
+pub(crate) fn next_partner(line: &[u8]) -> Option<(Partner, &[u8])>
+    ensures { option_map (λ p. (p.0, tokens_of p.1.now)) result ≡ first_by partner_of (tokens_of line.now) }
+{
+    if let Some((value, rest)) = quick_number(line) {
+        if value >= 0x4_0000 {
+            return None;
+        }
+        return Some((Partner::Thread(value), rest));
+    }
+    let (token, rest) = next_token(line)?;
+    Some((any_or_thread(token)?, rest))
+}
+
+/// The number that a line's first token spells, and what follows the token.
+pub(crate) fn next_word(line: &[u8]) -> Option<(u32, &[u8])>
+    ensures { option_map (λ p. (p.0, tokens_of p.1.now)) result ≡ first_by number_of (tokens_of line.now) }
+{
+    if let Some((value, rest)) = quick_number(line) {
+        return Some((value, rest));
+    }
+    let (token, rest) = next_token(line)?;
+    Some((number(token)?, rest))
 }

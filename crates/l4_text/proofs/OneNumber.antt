@@ -7,7 +7,7 @@ use Rattle.std.specs.List.{position_or_len}
 use Rattle.l4_text.specs.Numbers.{digit_of, hex_digit_of, value_from, decimal_of, hex_of, is_hex, below, number_of}
 use Rattle.l4_text.specs.Tokens.{tokens_of, is_space, FirstNumber}
 use Rattle.l4_text.specs.Inside.Reading.{HasDigits, is_no_space}
-use Rattle.l4_text.proofs.Parts.{tokens_cut, tokens_skip}
+use Rattle.l4_text.proofs.Parts.{tokens_cut, tokens_skip, next_none}
 use Rattle.l4_text.proofs.Spelled.{value_after, below_all}
 
 not_some : (w : ℕ) → ◌≡◌ {A = Option ℕ} None (Some w) → ⊥
@@ -112,3 +112,11 @@ pub first_after : (line : List ℕ) (start : ℕ) (number : Option ℕ) (after :
 first_after line start number after from first =
     let rest : take (length line - start) (drop start line) ≡ drop (position_or_len is_no_space line) line = take_rest line start ∙ ap (λ k. drop k line) from in
     (first.0, tokens_skip line ∙ ap tokens_of (sym rest) ∙ first.1, first.2)
+
+no_len : (xs : List ℕ) → length xs ≡ 0 → 0 ≡ position_or_len is_space xs
+no_len [] h = refl
+no_len (x ∷ xs) h = absurd (omega (arith, h))
+
+-- a line of spaces has no token
+pub none_after : (line : List ℕ) (start : ℕ) → start ≡ position_or_len is_no_space line → length (take (length line - start) (drop start line)) ≡ 0 → tokens_of line ≡ []
+none_after line start from none = next_none line start 0 from (no_len (take (length line - start) (drop start line)) none) refl

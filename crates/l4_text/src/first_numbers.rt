@@ -93,12 +93,24 @@ fn any_number(line: &[u8]) -> Option<(Option<u32>, &[u8])>
     }
 }
 
+/// The number of a line's first token and what follows the token, where it is soon read.
+pub fn quick_number(line: &[u8]) -> Option<(u32, &[u8])>
+    ensures { IfSome result (λ p. FirstNumber line.now (Some p.0) p.1.now) }
+{
+    let (value, after) = first_number(&line[spaces(line)..])?;
+    Some((value, after))
+}
+
 /// The number that the first token of a line spells, None where it spells none, and what follows the token. None where
 /// there is no token.
 pub fn next_number(line: &[u8]) -> Option<(Option<u32>, &[u8])>
     ensures { MatchOption result (tokens_of line.now ≡ []) (λ p. FirstNumber line.now p.0 p.1.now) }
 {
-    match first_number(&line[spaces(line)..]) {
+    let text = &line[spaces(line)..];
+    if text.is_empty() {
+        return None;
+    }
+    match first_number(text) {
         None => any_number(line),
         Some((value, after)) => Some((Some(value), after)),
     }

@@ -1,0 +1,172 @@
+-- Tokens that are read one after another.
+use Rattle.std.proofs.Common.{◌≡◌, ℕ, ◌<◌, ◌≤◌, Bool, true, false, cond, List, [], ◌∷◌, Option, Some, None, ok_or, is_some, nat_lt, sym, ap, ◌∙◌, refl, arith, codes}
+use Rattle.std.proofs.lemmas.Bool.{false≢true}
+use Rattle.std.proofs.lemmas.Bool.Decides.{nat_tests}
+use Rattle.std.proofs.lemmas.Slice.Eq.{bytes_eq-Decides}
+use Rattle.std.specs.Option.{option_and_then}
+use Rattle.std.specs.Str.{bytes_eq}
+use Rattle.l4_text.specs.Numbers.{number_of, decimal_of, hex_of, below}
+use Rattle.l4_text.specs.Tokens.{tokens_of, FirstNumber}
+use Rattle.l4_shell.specs.Commands.{◌>>=◌, thread_of, nil_or_thread_of, partner_of, words_of, three_of, receive_asked, send_asked, ipc_asked, command_of}
+use Rattle.l4_shell.specs.declared.partners.Partner.{Partner}
+use Rattle.l4_shell.specs.declared.partners.Partner.TheVariants.{Nil, Any, Thread}
+use Rattle.l4_shell.specs.declared.commands.Command.{Command}
+use Rattle.l4_shell.specs.declared.commands.Command.TheVariants.{Receive, Send}
+use Rattle.l4_shell.specs.declared.commands.ScriptFault.TheVariants.{BadTokens}
+use Rattle.l4_shell.specs.Inside.InTurn.{first_by, at_end, receive_in_turn, send_in_turn}
+
+-- ---- a token that a number spells
+
+-- what is read of a line's first token, where that spells a number
+pub read_number : {A : Type 0} (f : List ℕ → Option A) (line after : List ℕ) (n : ℕ) (o : Option A) → FirstNumber line (Some n) after
+    → ((token : List ℕ) → Some n ≡ number_of token → f token ≡ o) → option_and_then (λ a. Some (a, tokens_of after)) o ≡ first_by f (tokens_of line)
+read_number f line after n o first reads =
+    ap (λ q. option_and_then (λ a. Some (a, tokens_of after)) q) (sym (reads first.0 first.2)) ∙ ap (λ ts. first_by f ts) (sym first.1)
+
+pub thread_few : (n : ℕ) (token : List ℕ) → n < 262144 → Some n ≡ number_of token → thread_of token ≡ Some n
+unfolding thread_of
+thread_few n token few is =
+    let t : nat_lt n 262144 ≡ true = grind (arith, nat_tests) in
+    ap (below 262144) (sym is) ∙ ap (λ b. cond b (Some n) None) t
+
+pub thread_many : (n : ℕ) (token : List ℕ) → 262144 ≤ n → Some n ≡ number_of token → thread_of token ≡ None
+unfolding thread_of
+thread_many n token many is =
+    let f : nat_lt n 262144 ≡ false = grind (arith, nat_tests) in
+    ap (below 262144) (sym is) ∙ ap (λ b. cond b (Some n) None) f
+
+-- a word that spells no number isn't the token
+no_word : (word token : List ℕ) (n : ℕ) → number_of word ≡ None → Some n ≡ number_of token → bytes_eq token word ≡ false
+no_word word token n none is =
+    elim (bytes_eq token word) as (λ b. bytes_eq token word ≡ b → b ≡ false) [
+      | false ↦ λ _. refl
+      | true ↦ λ t.
+          let same : token ≡ word = (bytes_eq-Decides token word).0 t in
+          absurd (false≢true (ap is_some (sym (is ∙ ap number_of same ∙ none))))
+    ] refl
+
+no_any : number_of (codes "any") ≡ None
+unfolding number_of decimal_of hex_of
+no_any = refl
+
+no_nil : number_of (codes "nil") ≡ None
+unfolding number_of decimal_of hex_of
+no_nil = refl
+
+partner_is : (n : ℕ) (token : List ℕ) → Some n ≡ number_of token → partner_of token ≡ option_and_then (λ k. Some (Thread k)) (thread_of token)
+unfolding partner_of nil_or_thread_of
+partner_is n token is =
+    ap (λ b. cond b (Some Any) (nil_or_thread_of token)) (no_word (codes "any") token n no_any is)
+    ∙ ap (λ b. cond b (Some Nil) (option_and_then (λ k. Some (Thread k)) (thread_of token))) (no_word (codes "nil") token n no_nil is)
+
+pub partner_few : (n : ℕ) (token : List ℕ) → n < 262144 → Some n ≡ number_of token → partner_of token ≡ Some (Thread n)
+partner_few n token few is = partner_is n token is ∙ ap (λ o. option_and_then (λ k. Some (Thread k)) o) (thread_few n token few is)
+
+pub partner_many : (n : ℕ) (token : List ℕ) → 262144 ≤ n → Some n ≡ number_of token → partner_of token ≡ None
+partner_many n token many is = partner_is n token is ∙ ap (λ o. option_and_then (λ k. Some (Thread k)) o) (thread_many n token many is)
+
+-- ---- whole lines
+
+abbrev last_by : {A D : Type 0} → (List ℕ → Option A) → (A → D) → List (List ℕ) → Option D
+last_by h d ts = first_by h ts >>= λ z. at_end (d z.0) z.1
+
+last_one : {A D : Type 0} (h : List ℕ → Option A) (d : A → D) (c : List ℕ) → last_by h d (c ∷ []) ≡ (h c >>= λ z. Some (d z))
+last_one {A} {D} h d c = elim (h c) as (λ (o : Option A). ((o >>= λ z. Some (z, [])) >>= λ (z : A × List (List ℕ)). at_end (d z.0) z.1) ≡ (o >>= λ z. Some (d z))) [
+  | None ↦ refl
+  | Some z ↦ refl
+]
+
+last_of_more : {A D : Type 0} (h : List ℕ → Option A) (d : A → D) (c e : List ℕ) (ts : List (List ℕ)) → last_by h d (c ∷ e ∷ ts) ≡ None
+last_of_more {A} {D} h d c e ts = elim (h c) as (λ (o : Option A). ((o >>= λ z. Some (z, e ∷ ts)) >>= λ (z : A × List (List ℕ)). at_end (d z.0) z.1) ≡ None) [
+  | None ↦ refl
+  | Some z ↦ refl
+]
+
+abbrev rest_by : {B C D : Type 0} → (List ℕ → Option B) → (List ℕ → Option C) → (B → C → D) → List (List ℕ) → Option D
+rest_by g h k ts = first_by g ts >>= λ y. last_by h (k y.0) y.1
+
+rest_one : {B C D : Type 0} (g : List ℕ → Option B) (h : List ℕ → Option C) (k : B → C → D) (b : List ℕ) → rest_by g h k (b ∷ []) ≡ None
+rest_one {B} {C} {D} g h k b = elim (g b) as (λ (o : Option B). ((o >>= λ y. Some (y, [])) >>= λ (y : B × List (List ℕ)). last_by h (k y.0) y.1) ≡ None) [
+  | None ↦ refl
+  | Some y ↦ refl
+]
+
+rest_two : {B C D : Type 0} (g : List ℕ → Option B) (h : List ℕ → Option C) (k : B → C → D) (b c : List ℕ)
+    → rest_by g h k (b ∷ c ∷ []) ≡ (g b >>= λ y. h c >>= λ z. Some (k y z))
+rest_two {B} {C} {D} g h k b c =
+    elim (g b) as (λ (o : Option B). ((o >>= λ y. Some (y, c ∷ [])) >>= λ (y : B × List (List ℕ)). last_by h (k y.0) y.1) ≡ (o >>= λ y. h c >>= λ z. Some (k y z))) [
+      | None ↦ refl
+      | Some y ↦ last_one h (k y) c
+    ]
+
+rest_more : {B C D : Type 0} (g : List ℕ → Option B) (h : List ℕ → Option C) (k : B → C → D) (b c e : List ℕ) (ts : List (List ℕ))
+    → rest_by g h k (b ∷ c ∷ e ∷ ts) ≡ None
+rest_more {B} {C} {D} g h k b c e ts =
+    elim (g b) as (λ (o : Option B). ((o >>= λ y. Some (y, c ∷ e ∷ ts)) >>= λ (y : B × List (List ℕ)). last_by h (k y.0) y.1) ≡ None) [
+      | None ↦ refl
+      | Some y ↦ last_of_more h (k y) c e ts
+    ]
+
+-- three tokens in turn
+three_in_turn : {A B C D : Type 0} (f : List ℕ → Option A) (g : List ℕ → Option B) (h : List ℕ → Option C) (k : A → B → C → D) (tokens : List (List ℕ))
+    → (first_by f tokens >>= λ x. rest_by g h (k x.0) x.1) ≡ (three_of tokens >>= λ t. f t.0 >>= λ x. g t.1.0 >>= λ y. h t.1.1 >>= λ z. Some (k x y z))
+three_in_turn f g h k [] = refl
+three_in_turn {A} f g h k (a ∷ []) =
+    elim (f a) as (λ (o : Option A). ((o >>= λ x. Some (x, [])) >>= λ (x : A × List (List ℕ)). rest_by g h (k x.0) x.1) ≡ None) [
+      | None ↦ refl
+      | Some x ↦ refl
+    ]
+three_in_turn {A} f g h k (a ∷ b ∷ []) =
+    elim (f a) as (λ (o : Option A). ((o >>= λ x. Some (x, b ∷ [])) >>= λ (x : A × List (List ℕ)). rest_by g h (k x.0) x.1) ≡ None) [
+      | None ↦ refl
+      | Some x ↦ rest_one g h (k x) b
+    ]
+three_in_turn {A} f g h k (a ∷ b ∷ c ∷ []) =
+    elim (f a) as (λ (o : Option A). ((o >>= λ x. Some (x, b ∷ c ∷ [])) >>= λ (x : A × List (List ℕ)). rest_by g h (k x.0) x.1)
+    ≡ (o >>= λ x. g b >>= λ y. h c >>= λ z. Some (k x y z))) [
+      | None ↦ refl
+      | Some x ↦ rest_two g h (k x) b c
+    ]
+three_in_turn {A} f g h k (a ∷ b ∷ c ∷ d ∷ ts) =
+    elim (f a) as (λ (o : Option A). ((o >>= λ x. Some (x, b ∷ c ∷ d ∷ ts)) >>= λ (x : A × List (List ℕ)). rest_by g h (k x.0) x.1) ≡ None) [
+      | None ↦ refl
+      | Some x ↦ rest_more g h (k x) b c d ts
+    ]
+
+pub receive_turns : (tokens : List (List ℕ)) → receive_in_turn tokens ≡ receive_asked tokens
+unfolding receive_in_turn receive_asked
+receive_turns tokens = three_in_turn thread_of partner_of number_of Receive tokens
+
+pub send_turns : (tokens : List (List ℕ)) → send_in_turn tokens ≡ send_asked tokens
+unfolding send_in_turn
+send_turns [] = refl
+send_turns (a ∷ []) =
+    elim (thread_of a) as (λ (o : Option ℕ). ((o >>= λ x. Some (x, [])) >>= λ (x : ℕ × List (List ℕ)). first_by partner_of x.1 >>= λ y. words_of y.1 >>= λ ws. Some (Send x.0 y.0 ws)) ≡ None) [
+      | None ↦ refl
+      | Some n ↦ refl
+    ]
+send_turns (a ∷ b ∷ ts) =
+    elim (thread_of a) as (λ (o : Option ℕ). ((o >>= λ x. Some (x, b ∷ ts)) >>= λ (x : ℕ × List (List ℕ)). first_by partner_of x.1 >>= λ y. words_of y.1 >>= λ ws. Some (Send x.0 y.0 ws))
+    ≡ (o >>= λ n. partner_of b >>= λ p. words_of ts >>= λ ws. Some (Send n p ws))) [
+      | None ↦ refl
+      | Some n ↦
+          elim (partner_of b) as (λ (o : Option Partner). ((o >>= λ y. Some (y, ts)) >>= λ (y : Partner × List (List ℕ)). words_of y.1 >>= λ ws. Some (Send n y.0 ws))
+          ≡ (o >>= λ p. words_of ts >>= λ ws. Some (Send n p ws))) [
+            | None ↦ refl
+            | Some p ↦ refl
+          ]
+    ]
+
+-- ---- the commands of most lines
+
+pub recv_is : (name : List ℕ) (tokens : List (List ℕ)) → bytes_eq name (codes "recv") ≡ true → ok_or (receive_asked tokens) BadTokens ≡ command_of (name ∷ tokens)
+unfolding command_of
+recv_is name tokens is = ap (λ n. command_of (n ∷ tokens)) (sym ((bytes_eq-Decides name (codes "recv")).0 is))
+
+pub send_is : (name : List ℕ) (tokens : List (List ℕ)) → bytes_eq name (codes "send") ≡ true → ok_or (send_asked tokens) BadTokens ≡ command_of (name ∷ tokens)
+unfolding command_of
+send_is name tokens is = ap (λ n. command_of (n ∷ tokens)) (sym ((bytes_eq-Decides name (codes "send")).0 is))
+
+pub ipc_is : (name : List ℕ) (tokens : List (List ℕ)) → bytes_eq name (codes "ipc") ≡ true → ok_or (ipc_asked tokens) BadTokens ≡ command_of (name ∷ tokens)
+unfolding command_of
+ipc_is name tokens is = ap (λ n. command_of (n ∷ tokens)) (sym ((bytes_eq-Decides name (codes "ipc")).0 is))
