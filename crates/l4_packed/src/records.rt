@@ -21,8 +21,11 @@ const PIECE_RECORDS: usize = PIECE_BYTES / RECORD_BYTES;
 /// There are fewer records than this.
 const MOST_RECORDS: usize = 0x4000_0000_0000_0000;
 
-/// Room for this many records or more isn't made, as it is made by whole pieces.
-const MOST_ASKED: usize = MOST_RECORDS - PIECE_RECORDS;
+/// Room for this many records or more isn't made, as it is made by whole pieces, and for more than is asked.
+const MOST_ASKED: usize = MOST_RECORDS / 2;
+
+/// For so many records that are asked for there is a piece more, so that room isn't made each time.
+const ASKED_EACH: usize = 10;
 
 /// The first full piece that is worth sharing: the one before it is the piece without memory that a store begins with.
 const FIRST_SHARED: usize = 1;
@@ -166,14 +169,26 @@ impl Records {
         ensures ok { OnOk result (length self.new.records + more ≤ self.new.room) }
         ensures room { (self.old.room ≤ self.new.room) × (self.new.room < 2 ^ 62) }
     {
+        let room = self.room;
+        if more <= room && self.len() <= room - more {
+            return Ok(());
+        }
+        self.grow(more)
+    }
+
+    /// `reserve` where there is too little room.
+    #[inline(never)]
+    fn grow(&mut self, more: usize) -> Result<(), AllocError>
+        requires little { self.old.room < length self.old.records + more }
+        ensures records { self.new.records ≡ self.old.records }
+        ensures ok { OnOk result (length self.new.records + more ≤ self.new.room) }
+        ensures room { (self.old.room ≤ self.new.room) × (self.new.room < 2 ^ 62) }
+    {
         let len = self.len();
         if more >= MOST_ASKED || len >= MOST_ASKED - more {
             return Err(AllocError);
         }
-        if len + more <= self.room {
-            return Ok(());
-        }
-        let wanted = more / PIECE_RECORDS + 1;
+        let wanted = more / PIECE_RECORDS + 1 + more / ASKED_EACH;
         self.full.reserve(wanted)?;
         add_spare(self.alloc, &mut self.spare, wanted)?;
         self.room = len + PIECE_RECORDS * wanted;
