@@ -1,5 +1,5 @@
 //! What a script line asks for.
-ghost use Rattle.std.specs.Prelude.{◌≡◌, ◌∷◌, [], length};
+ghost use Rattle.std.specs.Prelude.{◌≡◌, ◌∷◌, [], length, false, codes, bytes_eq};
 ghost use Rattle.l4_text.specs.Tokens.{tokens_of};
 ghost use Rattle.l4_shell.specs.Commands.{thread_asked, set_pager_asked, delete_asked, receive_asked, show_asked, parent_asked, send_asked, delegate_asked, ipc_asked, unmap_asked, fault_asked, region_asked, serve_asked, steps_asked, pager_command_of, words_of, command_of};
 ghost use Rattle.l4_shell.specs.Inside.InTurn.{receive_in_turn, send_in_turn};
@@ -429,14 +429,17 @@ fn pager_command(name: &[u8], rest: &[u8]) -> Result<Command<'static>, ScriptFau
     Err(ScriptFault::UnknownCommand)
 }
 
-/// What a line of any first token asks for, and the tokens of the rest.
+/// What a line of another first token than `recv`, `send` and `ipc` asks for, and the tokens of the rest.
 #[tactic(auto, unfolding(crate::specs::Commands::command_of))]
 #[inline(never)]
-fn any_command<'a>(
+fn other_command<'a>(
     name: &[u8],
     rest: &[u8],
     registers: &'a mut ArrayVec<u32, MAX_WORDS>,
 ) -> Result<Command<'a>, ScriptFault>
+    requires recv { bytes_eq name.now (codes "recv") ≡ false }
+    requires send { bytes_eq name.now (codes "send") ≡ false }
+    requires ipc { bytes_eq name.now (codes "ipc") ≡ false }
     ensures { result ≡ command_of (name.now ∷ tokens_of rest.now) }
 {
     if name == THREAD {
@@ -447,15 +450,6 @@ fn any_command<'a>(
     }
     if name == DELETE {
         return delete(rest).ok_or(ScriptFault::BadTokens);
-    }
-    if name == RECV {
-        return receive(rest).ok_or(ScriptFault::BadTokens);
-    }
-    if name == SEND {
-        return send(rest, registers).ok_or(ScriptFault::BadTokens);
-    }
-    if name == IPC {
-        return ipc(rest, registers).ok_or(ScriptFault::BadTokens);
     }
     if name == DELEGATE {
         return delegate(rest).ok_or(ScriptFault::BadTokens);
@@ -490,5 +484,5 @@ pub(crate) fn read_command<'a>(
     if name == IPC {
         return ipc(rest, registers).ok_or(ScriptFault::BadTokens);
     }
-    any_command(name, rest, registers)
+    other_command(name, rest, registers)
 }

@@ -73,6 +73,7 @@ pub(crate) fn new_space(token: &[u8]) -> Option<NewSpace>
 }
 
 /// The thread's number that a line's first token spells, and what follows the token.
+#[inline(always)]
 pub(crate) fn next_thread(line: &[u8]) -> Option<(u32, &[u8])>
     ensures { option_map (λ p. (p.0, tokens_of p.1.now)) result ≡ first_by thread_of (tokens_of line.now) }
 {
@@ -87,6 +88,7 @@ pub(crate) fn next_thread(line: &[u8]) -> Option<(u32, &[u8])>
 }
 
 /// The partner that a line's first token names, and what follows the token.
+#[inline(always)]
 pub(crate) fn next_partner(line: &[u8]) -> Option<(Partner, &[u8])>
     ensures { option_map (λ p. (p.0, tokens_of p.1.now)) result ≡ first_by partner_of (tokens_of line.now) }
 {
@@ -101,6 +103,7 @@ pub(crate) fn next_partner(line: &[u8]) -> Option<(Partner, &[u8])>
 }
 
 /// The number that a line's first token spells, and what follows the token.
+#[inline(always)]
 pub(crate) fn next_word(line: &[u8]) -> Option<(u32, &[u8])>
     ensures { option_map (λ p. (p.0, tokens_of p.1.now)) result ≡ first_by number_of (tokens_of line.now) }
 {
