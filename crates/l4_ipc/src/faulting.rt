@@ -10,11 +10,13 @@ ghost use Rattle.l4_ipc.specs.declared.turns.FaultTurn.TheVariants.{Tells};
 use crate::calls::FaultCall;
 use crate::starting::{end, partner};
 use crate::turns::{Ending, FaultTurn};
-use arrayvec::ArrayVec;
 use l4_fpage::{Fpage, PAGE_LOG, Rights};
 use l4_mapdb::Forest;
-use l4_msg::{MAX_WORDS, PageFault};
+use l4_msg::{FAULT_LABEL, Tag};
 use l4_threads::{Later, SendPhase, ThreadId, Threads};
+
+/// The words of a fault's message behind its tag: the address and the instruction pointer.
+const UNTYPED: usize = 2;
 
 /// The rights of a page, none where it is not present.
 fn rights_at(forest: &Forest, space: u64, page: u32) -> Rights
@@ -34,16 +36,17 @@ fn has_page(forest: &Forest, space: u64, call: &FaultCall) -> bool
     rights.contains(call.access) && !rights.is_empty()
 }
 
-/// The words of the message that tells a fault.
-fn fault_words(call: &FaultCall) -> ArrayVec<u32, MAX_WORDS>
-    ensures { result.items ≡ fault_words call.now }
+/// The words of the message that tells a fault. They are those of `PageFault::message`, of which no more is made.
+fn fault_words(call: &FaultCall) -> [u32; UNTYPED + 1]
+    ensures { result ≡ fault_words call.now }
 {
-    let fault = PageFault {
-        address: call.address,
-        ip: call.ip,
-        access: call.access,
+    let tag = Tag {
+        label: FAULT_LABEL + u16::from(call.access.bits()),
+        flags: 0,
+        typed: 0,
+        untyped: UNTYPED as u8,
     };
-    fault.message().write()
+    [tag.word(), call.address, call.ip]
 }
 
 /// What a thread does as it faults: its call is a hit where the page is there, and else it sends to its pager and then waits for it.
@@ -82,7 +85,7 @@ fn tell(threads: &mut Threads, number: u32, pager: ThreadId, call: &FaultCall, t
         }),
         fault: true,
     };
-    threads.start_message(number, words.as_slice(), &[], phase);
+    threads.start_message(number, &words, &[], phase);
 }
 
 /// A running thread of this space and pager faults. Whether its call ended.

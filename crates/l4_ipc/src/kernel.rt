@@ -15,7 +15,8 @@ use std::marker::Model;
 /// The kernel: its threads and the mappings of their spaces.
 #[derive(Drop)]
 pub struct Kernel {
-    threads: Threads,
+    /// In memory of its own, as it has room for all threads and a kernel is handed on by value.
+    threads: Box<Threads>,
     forest: Forest,
     alloc: Global,
 }
@@ -68,9 +69,12 @@ impl Kernel {
         let Ok(mut forest) = Forest::new(alloc, frames) else {
             return Err(Refused::Lower(Lower::NoMemory));
         };
+        let Ok(threads) = Box::new(alloc, Threads::boot()) else {
+            return Err(Refused::Lower(Lower::NoMemory));
+        };
         match forest.new_space(ROOT_SPACE) {
             Ok(()) => Ok(Kernel {
-                threads: Threads::boot(),
+                threads,
                 forest,
                 alloc,
             }),
@@ -88,14 +92,14 @@ impl Kernel {
         ensures { Steps self.old step.now result self.new }
     {
         match step {
-            Step::Start(number, call) => start(&mut self.threads, &mut self.forest, *number, call),
+            Step::Start(number, call) => start(&mut *self.threads, &mut self.forest, *number, call),
             Step::Transfer(sender, receiver) => transfer(
-                &mut self.threads,
+                &mut *self.threads,
                 &mut self.forest,
                 *sender,
                 *receiver,
             ),
-            Step::Expire(number) => expire(&mut self.threads, *number),
+            Step::Expire(number) => expire(&mut *self.threads, *number),
         }
     }
 
@@ -103,7 +107,7 @@ impl Kernel {
     pub fn start(&mut self, number: u32, call: &Call) -> Result<Answer, Refused>
         ensures { Steps self.old (Start number call.now) result self.new }
     {
-        start(&mut self.threads, &mut self.forest, number, call)
+        start(&mut *self.threads, &mut self.forest, number, call)
     }
 
     /// Does the step that starts this call, and tells whether the call has ended. No call of another thread ends in it, but in a
@@ -111,7 +115,7 @@ impl Kernel {
     pub fn enter(&mut self, number: u32, call: &Call) -> Result<bool, Refused>
         ensures { Enters (is_delete call.now) self.old number call.now result self.new }
     {
-        enter_call(&mut self.threads, &mut self.forest, number, call)
+        enter_call(&mut *self.threads, &mut self.forest, number, call)
     }
 
     /// What holds of the threads at all times: the queue is a strict order of the senders. It does nothing.
@@ -156,10 +160,11 @@ impl Kernel {
     pub fn enabled(&self) -> Option<Step>
         ensures { MatchOption result (IsIdle self.now) (IsNext self.now) }
     {
-        if let Some((sender, receiver)) = self.threads.next_transfer() {
+        let threads = &*self.threads;
+        if let Some((sender, receiver)) = threads.next_transfer() {
             return Some(Step::Transfer(sender, receiver));
         }
-        let number = self.threads.next_expiry()?;
+        let number = threads.next_expiry()?;
         Some(Step::Expire(number))
     }
 
@@ -170,13 +175,14 @@ impl Kernel {
         ensures next { MatchOption result (IsIdle self.old) (IsNext self.old) }
         ensures kept { self.new ≡ self.old }
     {
-        if let Some((from, to)) = self.threads.next_transfer() {
+        let threads = &mut *self.threads;
+        if let Some((from, to)) = threads.next_transfer() {
             return Some(Step::Transfer(from, to));
         }
-        if let Some(number) = self.threads.next_expiry() {
+        if let Some(number) = threads.next_expiry() {
             return Some(Step::Expire(number));
         }
-        self.threads.settle();
+        threads.settle();
         None
     }
 
@@ -186,19 +192,24 @@ impl Kernel {
         ensures { MatchOption result (IsIdle self.old × (self.new ≡ self.old))
             (λ done. IsNext self.old (step_of done) × Steps self.old (step_of done) (Ok (answer_of done)) self.new) }
     {
-        let enabled = self.threads.next_transfer();
+        let threads = &*self.threads;
+        let enabled = threads.next_transfer();
         if let Some((from, to)) = enabled {
-            let Ok((outcome, ends)) = transfer_untold(&mut self.threads, &mut self.forest, from, to)
-            else {
+            let Ok((outcome, ends)) = transfer_untold(
+                &mut *self.threads,
+                &mut self.forest,
+                from,
+                to,
+            ) else {
                 return None;
             };
             return Some(NextStep::Transfer(from, to, outcome, ends));
         }
-        let Some(number) = self.threads.next_expiry() else {
+        let Some(number) = threads.next_expiry() else {
             self.threads.settle();
             return None;
         };
-        let Ok(()) = expire_untold(&mut self.threads, number) else {
+        let Ok(()) = expire_untold(&mut *self.threads, number) else {
             return None;
         };
         Some(NextStep::Expire(number))

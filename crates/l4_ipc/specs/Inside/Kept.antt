@@ -4,7 +4,7 @@ use Rattle.l4_ipc.specs.Machine.{Machine, machine}
 use Rattle.l4_ipc.specs.Inside.Sound.{IsSound}
 
 abbrev pub seen : Inside → Machine
-seen a = machine a.threads a.forest
+seen a = machine a.threads.value a.forest
 
 abbrev pub IsKept : Inside → Type 0
 IsKept a = IsSound (seen a)
