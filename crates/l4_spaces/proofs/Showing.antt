@@ -156,13 +156,11 @@ once_same (s ∷ ss) (n ∷ ns) e h =
     let rest : numbers ns ≡ numbers ss = ap (drop 1) e in
     ((λ i. list_any (λ y. nat_eq y (number i)) (rest i)) ∙ h.0, once_same ss ns rest h.1)
 
-pub laid : {k : ℕ} {ss new : Live} {old ts : Rows} → Wrote k ss new old ts → IsLaid ss → (AreWhole old → AreWhole ts) → (length ts ≡ length old) → IsLaid new
+pub laid : {k : ℕ} {ss new : Live} {old ts : Rows} → Wrote k ss new old ts → IsLaid ss → (AreWhole old → AreWhole ts) → (length old ≤ space_tables → length ts ≤ space_tables) → IsLaid new
 laid {k} {ss} {new} {old} {ts} w l whole full = record {
   once = once_same ss new w.same l.once;
   whole = λ q. wrote_all (λ _ a b. AreWhole a → AreWhole b) w whole (λ _ h. h) q (l.whole q);
-  full = λ q h.
-      wrote_all (λ _ a b. length b ≡ length a) w full (λ _. refl) q
-      ∙ l.full q (ap (list_any (λ y. nat_eq y q)) (sym w.same) ∙ h);
+  full = λ q. wrote_all (λ _ a b. length a ≤ space_tables → length b ≤ space_tables) w full (λ _ h. h) q (l.full q);
 }
 
 pub whole_long : (old new : Rows) → ((high : ℕ) → length (row new high) ≡ length (row old high)) → AreWhole old → AreWhole new
@@ -192,6 +190,9 @@ keys_put {k} {ss} {new} {old} {ts} page key w here others p =
           ap (λ (j : ℕ). entry (tables_of new j) p.1) e ∙ ap (λ (z : Rows). entry z p.1) w.here ∙ others p.1 ne ∙ sym (ap (λ (z : Rows). entry z p.1) w.was) ∙ sym (ap (λ (j : ℕ). entry (tables_of ss j) p.1) e)
       | inr ne ↦ ap (λ (z : Rows). entry z p.1) (w.other p.0 ne)
     ]) ∙ sym (ap (λ b. cond b key (key_at ss p)) f))
+
+pub pages_kept : (ss new : Live) (s : Tables) → shown ss ≡ s → ((p : ℕ × ℕ) → key_at new p ≡ key_at ss p) → (shown new).pages ≡ s.pages
+pages_kept ss new s view h = pages_are new s.pages (λ p. found ss s p.0 p.1 view ∙ sym (h p))
 
 pub pages_set : (ss new : Live) (s : Tables) (q : ℕ × ℕ) (key : ℕ) → shown ss ≡ s → ((p : ℕ × ℕ) → key_at new p ≡ cond (eq_by_cmp place_cmp p q) (Some key) (key_at ss p)) → (shown new).pages ≡ map.insert s.pages q key
 pages_set ss new s q key view h = pages_are new (map.insert s.pages q key) (λ p.
@@ -263,27 +264,14 @@ keeps_same a b s view h = keeps a b s view (λ p t. h p ∙ t)
 
 -- a space has come
 
-pub tables_push : (ss : Live) (k : ℕ) (v : Vec (Vec (Option ℕ) Global) Global) (q : ℕ) → tables_of (ss ++ (k, v) ∷ []) q ≡ cond (has ss q) (tables_of ss q) (cond (nat_eq k q) v.items [])
-tables_push [] k v q = refl
-tables_push (s ∷ ss) k v q =
-    decided (nat_eq s.0 q)
-    (λ t. ap (λ b. cond b s.1.items (tables_of (ss ++ (k, v) ∷ []) q)) t ∙ sym (ap (λ b. cond (b || has ss q) (cond b s.1.items (tables_of ss q)) (cond (nat_eq k q) v.items [])) t))
-    (λ f. ap (λ b. cond b s.1.items (tables_of (ss ++ (k, v) ∷ []) q)) f ∙ tables_push ss k v q ∙ sym (ap (λ b. cond (b || has ss q) (cond b s.1.items (tables_of ss q)) (cond (nat_eq k q) v.items [])) f))
+-- with no tables, so that each space has the tables that it had
+pub tables_push : (ss : Live) (k : ℕ) (v : Vec (Vec (Option ℕ) Global) Global) → v.items ≡ [] → (q : ℕ) → tables_of (ss ++ (k, v) ∷ []) q ≡ tables_of ss q
+tables_push [] k v none q = decided (nat_eq k q) (λ t. ap (λ b. cond b v.items []) t ∙ none) (λ f. ap (λ b. cond b v.items []) f)
+tables_push (s ∷ ss) k v none q = ap (cond (nat_eq s.0 q) s.1.items) (tables_push ss k v none q)
 
 numbers_push : (ss : Live) (k : ℕ) (v : Vec (Vec (Option ℕ) Global) Global) → numbers (ss ++ (k, v) ∷ []) ≡ numbers ss ++ k ∷ []
 numbers_push [] k v = refl
 numbers_push (s ∷ ss) k v = ap (λ l. s.0 ∷ l) (numbers_push ss k v)
-
--- each table is as it was, or is one of a new space, where all are absent
-pub rows_push : (ss : Live) (k : ℕ) (v : Vec (Vec (Option ℕ) Global) Global) → ((high : ℕ) → row v.items high ≡ []) → (q high : ℕ) → row (tables_of (ss ++ (k, v) ∷ []) q) high ≡ row (tables_of ss q) high
-rows_push ss k v none q high =
-    ap (λ (ts : Rows). row ts high) (tables_push ss k v q)
-    ∙ decided (has ss q)
-    (λ t. ap (λ b. row (cond b (tables_of ss q) (cond (nat_eq k q) v.items [])) high) t)
-    (λ f. ap (λ b. row (cond b (tables_of ss q) (cond (nat_eq k q) v.items [])) high) f
-    ∙ decided (nat_eq k q)
-    (λ t. ap (λ b. row (cond b v.items []) high) t ∙ none high ∙ sym (ap (λ (ts : Rows). row ts high) (no_tables_of ss q f)))
-    (λ u. ap (λ b. row (cond b v.items []) high) u ∙ sym (ap (λ (ts : Rows). row ts high) (no_tables_of ss q f))))
 
 pub has_push : (ss : Live) (k : ℕ) (v : Vec (Vec (Option ℕ) Global) Global) (q : ℕ) → has (ss ++ (k, v) ∷ []) q ≡ (has ss q || nat_eq k q)
 has_push [] k v q = or_none (nat_eq k q)
@@ -303,28 +291,18 @@ once_push (s ∷ ss) k v none h = decided (nat_eq s.0 k)
     (λ t. absurd (let e : true ≡ false = sym (ap (λ b. b || has ss k) t) ∙ none in cc))
     (λ f. (has_push ss k v s.0 ∙ ap (λ b. b || nat_eq k s.0) h.0 ∙ eq_no k s.0 (λ e. ne_of s.0 k f (sym e)), once_push ss k v (sym (ap (λ b. b || has ss k) f) ∙ none) h.1))
 
-pub laid_push : (ss : Live) (k : ℕ) (v : Vec (Vec (Option ℕ) Global) Global) → has ss k ≡ false → IsLaid ss → length v.items ≡ space_tables → ((high : ℕ) → row v.items high ≡ []) → IsLaid (ss ++ (k, v) ∷ [])
-laid_push ss k v new l full none = record {
+pub laid_push : (ss : Live) (k : ℕ) (v : Vec (Vec (Option ℕ) Global) Global) → has ss k ≡ false → IsLaid ss → v.items ≡ [] → IsLaid (ss ++ (k, v) ∷ [])
+laid_push ss k v new l none = record {
   once = once_push ss k v new l.once;
-  whole = λ q high. elim (l.whole q high) [
-    | inl e ↦ inl (rows_push ss k v none q high ∙ e)
-    | inr e ↦ inr (ap length (rows_push ss k v none q high) ∙ e)
-  ];
-  full = λ q h.
-      ap length (tables_push ss k v q)
-      ∙ decided (has ss q)
-      (λ t. ap (λ b. length (cond b (tables_of ss q) (cond (nat_eq k q) v.items []))) t ∙ l.full q t)
-      (λ f.
-      let e : nat_eq k q ≡ true = sym (ap (λ b. b || nat_eq k q) f) ∙ sym (has_push ss k v q) ∙ h in
-      ap (λ b. length (cond b (tables_of ss q) (cond (nat_eq k q) v.items []))) f ∙ ap (λ b. length (cond b v.items [])) e ∙ full);
+  whole = λ q. subst AreWhole (sym (tables_push ss k v none q)) (l.whole q);
+  full = λ q. subst (λ (ts : Rows). length ts ≤ space_tables) (sym (tables_push ss k v none q)) (l.full q);
 }
 
-pub pages_push : (ss : Live) (s : Tables) (k : ℕ) (v : Vec (Vec (Option ℕ) Global) Global) → shown ss ≡ s → ((high : ℕ) → row v.items high ≡ []) → (shown (ss ++ (k, v) ∷ [])).pages ≡ s.pages
-pages_push ss s k v view none = pages_are (ss ++ (k, v) ∷ []) s.pages (λ p.
-    found ss s p.0 p.1 view ∙ sym (ap (λ (z : List (Option ℕ)). slice_index_or z (p.1 % table_pages) None) (rows_push ss k v none p.0 (p.1 / table_pages))))
+pub pages_push : (ss : Live) (s : Tables) (k : ℕ) (v : Vec (Vec (Option ℕ) Global) Global) → shown ss ≡ s → v.items ≡ [] → (shown (ss ++ (k, v) ∷ [])).pages ≡ s.pages
+pages_push ss s k v view none = pages_kept ss (ss ++ (k, v) ∷ []) s view (λ p. ap (λ (ts : Rows). entry ts p.1) (tables_push ss k v none p.0))
 
-pub there_push : (ss : Live) (k : ℕ) (v : Vec (Vec (Option ℕ) Global) Global) → ((high : ℕ) → row v.items high ≡ []) → (p : ℕ × ℕ) → is_there (ss ++ (k, v) ∷ []) p ≡ is_there ss p
-there_push ss k v none p = ap (λ (z : List (Option ℕ)). nat_lt 0 (length z)) (rows_push ss k v none p.0 p.1)
+pub there_push : (ss : Live) (k : ℕ) (v : Vec (Vec (Option ℕ) Global) Global) → v.items ≡ [] → (p : ℕ × ℕ) → is_there (ss ++ (k, v) ∷ []) p ≡ is_there ss p
+there_push ss k v none p = ap (λ (ts : Rows). is_made ts p.1) (tables_push ss k v none p.0)
 
 pub spaces_push : (ss : Live) (s : Tables) (k : ℕ) (v : Vec (Vec (Option ℕ) Global) Global) → shown ss ≡ s → (shown (ss ++ (k, v) ∷ [])).spaces ≡ set.insert s.spaces k
 spaces_push ss s k v view =
@@ -424,9 +402,9 @@ laid_left ss k l = record {
   whole = λ q. subst AreWhole (sym (tables_left ss k q)) (decided (q == k)
       (λ t. subst (λ b. AreWhole (cond b [] (tables_of ss q))) (sym t) (λ high. inl refl))
       (λ f. subst (λ b. AreWhole (cond b [] (tables_of ss q))) (sym f) (l.whole q)));
-  full = λ q h. ap length (tables_left ss k q) ∙ decided (q == k)
-      (λ t. absurd (let e : false ≡ true = sym (ap (λ b. not b && has ss q) t) ∙ sym (has_left ss k q) ∙ h in cc))
-      (λ f. ap (λ b. length (cond b [] (tables_of ss q))) f ∙ l.full q (sym (ap (λ b. not b && has ss q) f) ∙ sym (has_left ss k q) ∙ h));
+  full = λ q. subst (λ (ts : Rows). length ts ≤ space_tables) (sym (tables_left ss k q)) (decided (q == k)
+      (λ t. subst (λ b. length (cond b [] (tables_of ss q)) ≤ space_tables) (sym t) (omega arith))
+      (λ f. subst (λ b. length (cond b [] (tables_of ss q)) ≤ space_tables) (sym f) (l.full q)));
 }
 
 pub empties_left : (ss : Live) (s : Tables) (k : ℕ) → shown ss ≡ s → Empties k s (shown (left k ss))
@@ -449,9 +427,6 @@ there_more w more p = wrote_all (λ _ a b. is_made a p.1 ≡ true → is_made b 
 
 pub there_same : {k : ℕ} {ss new : Live} {old ts : Rows} → Wrote k ss new old ts → ((high : ℕ) → is_made ts high ≡ is_made old high) → (p : ℕ × ℕ) → is_there new p ≡ is_there ss p
 there_same w same p = wrote_all (λ _ a b. is_made b p.1 ≡ is_made a p.1) w (same p.1) (λ _. refl) p.0
-
-pub pages_kept : (ss new : Live) (s : Tables) → shown ss ≡ s → ((p : ℕ × ℕ) → key_at new p ≡ key_at ss p) → (shown new).pages ≡ s.pages
-pages_kept ss new s view h = pages_are new s.pages (λ p. found ss s p.0 p.1 view ∙ sym (h p))
 
 pub same_view : (ss new : Live) (s : Tables) → shown ss ≡ s → ((p : ℕ × ℕ) → key_at new p ≡ key_at ss p) → ((p : ℕ × ℕ) → is_there new p ≡ is_there ss p) → numbers new ≡ numbers ss → shown new ≡ s
 same_view ss new s view keys made names = same_shown new ss keys made names ∙ view

@@ -1,19 +1,17 @@
 //! Page tables: which node each present page of each space has.
 #![tactic(auto)]
 
-ghost use Rattle.std.specs.Prelude.{◌≡◌, ◌≢◌, ◌∷◌, [], ◌<◌, ◌≤◌, ◌⊎◌, ℕ, List, All, length, false, IsTrue, IsOk, OnOk, OnErr, IfSome, MatchOption, MatchResult, ⊤, Some, None, codes};
+ghost use Rattle.std.specs.Prelude.{◌≡◌, ◌≢◌, ◌∷◌, [], ◌<◌, ◌≤◌, ◌⊎◌, ℕ, List, All, length, false, IsTrue, IsOk, OnOk, OnErr, IfSome, MatchOption, Some, None, codes};
 ghost use Rattle.std.specs.FinMap as map;
 ghost use Rattle.std.specs.FinSet as set;
-ghost use Rattle.l4_spaces.specs.Tables.{space_tables};
 ghost use Rattle.l4_spaces.specs.Inside.Seen.{has, IsOnce, StandsAt};
-ghost use Rattle.l4_spaces.specs.Inside.Two.{row};
 
 mod tables;
 
 use std::alloc::{AllocError, AllocFailed, Global};
 use std::fmt;
 use std::marker::Model;
-use tables::{SPACE_PAGES, SPACE_TABLES};
+use tables::SPACE_PAGES;
 
 /// There was no memory for what was asked, and nothing was changed.
 #[derive(Clone, Copy, Debug, PartialEq, Eq)]
@@ -81,18 +79,6 @@ fn index_of(spaces: &Vec<(u64, Vec<Vec<Option<usize>>>)>, space: u64) -> Option<
     None
 }
 
-/// As many absent tables as a space has.
-fn no_tables(alloc: Global) -> Result<Vec<Vec<Option<usize>>>, NoMemory>
-    ensures absent { MatchResult result (λ tables. (length tables.items ≡ space_tables) × ((high : ℕ) → row tables.items high ≡ [])) (λ _. ⊤) }
-{
-    let mut tables = Vec::new(alloc);
-    tables.reserve(SPACE_TABLES)?;
-    for _ in 0..SPACE_TABLES {
-        let _ = tables.push(Vec::new(alloc));
-    }
-    Ok(tables)
-}
-
 impl Spaces {
     ghost use Rattle.l4_spaces.specs.Tables.{Tables, key_of, IsPresent, IsSpace, IsPage, HasRoom, KeepsRoom, KeepsOthersRoom, Empties, NonePresentFrom, IsNextPresent, NonePresentIn, IsNextIn};
 
@@ -119,8 +105,7 @@ impl Spaces {
         if index_of(&self.spaces, space).is_some() {
             return Ok(());
         }
-        let tables = no_tables(self.alloc)?;
-        self.spaces.push((space, tables))?;
+        self.spaces.push((space, Vec::new(self.alloc)))?;
         Ok(())
     }
 

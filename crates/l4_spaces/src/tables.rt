@@ -1,4 +1,5 @@
-//! The tables of one space: each is absent or has a place for each of its pages.
+//! The tables of one space: each is absent or has a place for each of its pages. The list of them, the root, goes as far as a table was asked
+//! for, and what lies beyond it is absent.
 
 ghost use Rattle.std.specs.Prelude.{◌≡◌, ◌≢◌, ◌<◌, ◌≤◌, ◌/◌, ◌%◌, ◌+◌, ◌*◌, ◌⊎◌, ℕ, length, [], All, Some, None, OnOk, OnErr, IsOk, IfSome, MatchOption, slice_index_or, true, false};
 ghost use Rattle.l4_spaces.specs.Tables.{table_pages, space_tables, IsPage};
@@ -69,18 +70,41 @@ fn unmake(tables: &mut Vec<Vec<Option<usize>>>, alloc: Global, high: usize)
     tables[high] = Vec::new(alloc);
 }
 
+/// Makes the root just long enough for the table with this number. The tables that come with that are absent.
+#[inline(never)]
+fn grow_root(
+    tables: &mut Vec<Vec<Option<usize>>>,
+    alloc: Global,
+    high: usize,
+) -> Result<(), AllocError>
+    requires within { high < space_tables }
+    requires full { length tables.old.items ≤ space_tables }
+    ensures rows { (other : ℕ) → row tables.new.items other ≡ row tables.old.items other }
+    ensures long { OnOk result (high < length tables.new.items) }
+    ensures least { (length tables.new.items ≡ length tables.old.items) ⊎ (length tables.new.items ≡ high + 1) }
+    ensures full { length tables.new.items ≤ space_tables }
+{
+    let from = tables.len();
+    if high < from {
+        return Ok(());
+    }
+    tables.reserve(high + 1 - from)?;
+    for _ in from..high + 1 {
+        let _ = tables.push(Vec::new(alloc));
+    }
+    Ok(())
+}
+
 /// Whether the page's table is there.
 fn is_ready(tables: &Vec<Vec<Option<usize>>>, page: u32) -> bool
-    requires { page / table_pages < length tables.now.items }
     ensures { result ≡ is_made tables.now.items (page / table_pages) }
 {
-    !tables[(page / TABLE_PAGES) as usize].is_empty()
+    let high = (page / TABLE_PAGES) as usize;
+    high < tables.len() && !tables[high].is_empty()
 }
 
 /// The first of these pages whose table isn't there.
 fn first_absent(tables: &Vec<Vec<Option<usize>>>, pages: &[u32]) -> Option<usize>
-    requires full { length tables.now.items ≡ space_tables }
-    requires fit { All IsPage pages.now }
     ensures ready { MatchOption result (AreMade tables.now.items pages.now (length pages.now)) (λ at. AreMade tables.now.items pages.now at) }
     ensures absent { IfSome result (λ at. (at < length pages.now) × (is_made tables.now.items (slice_index_or pages.now at 0 / table_pages) ≡ false)) }
 {
@@ -92,33 +116,59 @@ fn first_absent(tables: &Vec<Vec<Option<usize>>>, pages: &[u32]) -> Option<usize
     None
 }
 
-/// Makes the tables of all these pages. Where memory is refused, those that were made go again.
-pub(crate) fn make_all(
+/// Makes the tables of all these pages. Where memory is refused, those that were made go again, but a root that grew stays.
+#[inline(never)]
+fn make_more(
     tables: &mut Vec<Vec<Option<usize>>>,
     alloc: Global,
     pages: &[u32],
 ) -> Result<(), AllocError>
     requires whole { AreWhole tables.old.items }
-    requires full { length tables.old.items ≡ space_tables }
+    requires full { length tables.old.items ≤ space_tables }
     requires fit { All IsPage pages.now }
     ensures same { (other : ℕ) → entry tables.new.items other ≡ entry tables.old.items other }
     ensures ok { OnOk result (AreMade tables.new.items pages.now (length pages.now)) }
     ensures kept { (high : ℕ) → is_made tables.old.items high ≡ true → is_made tables.new.items high ≡ true }
     ensures err { OnErr result ((high : ℕ) → is_made tables.new.items high ≡ is_made tables.old.items high) }
     ensures whole { AreWhole tables.new.items }
-    ensures full { length tables.new.items ≡ space_tables }
+    ensures full { length tables.new.items ≤ space_tables }
     ensures succeeds { AreMade tables.old.items pages.now (length pages.now) → IsOk result }
 {
     let Some(at) = first_absent(tables, pages) else {
         return Ok(());
     };
     let high = (pages[at] / TABLE_PAGES) as usize;
+    grow_root(tables, alloc, high)?;
     make(tables, alloc, high)?;
-    if let Err(refused) = make_all(tables, alloc, &pages[at + 1..]) {
+    if let Err(refused) = make_more(tables, alloc, &pages[at + 1..]) {
         unmake(tables, alloc, high);
         return Err(refused);
     }
     Ok(())
+}
+
+/// Makes the tables of all these pages. Where all of them are there, that is seen at once.
+#[inline]
+pub(crate) fn make_all(
+    tables: &mut Vec<Vec<Option<usize>>>,
+    alloc: Global,
+    pages: &[u32],
+) -> Result<(), AllocError>
+    requires whole { AreWhole tables.old.items }
+    requires full { length tables.old.items ≤ space_tables }
+    requires fit { All IsPage pages.now }
+    ensures same { (other : ℕ) → entry tables.new.items other ≡ entry tables.old.items other }
+    ensures ok { OnOk result (AreMade tables.new.items pages.now (length pages.now)) }
+    ensures kept { (high : ℕ) → is_made tables.old.items high ≡ true → is_made tables.new.items high ≡ true }
+    ensures err { OnErr result ((high : ℕ) → is_made tables.new.items high ≡ is_made tables.old.items high) }
+    ensures whole { AreWhole tables.new.items }
+    ensures full { length tables.new.items ≤ space_tables }
+    ensures succeeds { AreMade tables.old.items pages.now (length pages.now) → IsOk result }
+{
+    let Some(_) = first_absent(tables, pages) else {
+        return Ok(());
+    };
+    make_more(tables, alloc, pages)
 }
 
 /// The first place from this one on and below the end that has a key, with the key.

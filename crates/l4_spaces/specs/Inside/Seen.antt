@@ -1,5 +1,5 @@
 -- What a contract sees of the spaces with their tables, and what these keep.
-use Rattle.std.specs.Prelude.{◌≡◌, ◌≢◌, ℕ, ◌*◌, zero, suc, Bool, true, false, ⊤, nat_eq, cond, List, [], ◌∷◌, ◌++◌, map, length, Option, None, Some, Vec}
+use Rattle.std.specs.Prelude.{◌≡◌, ◌≢◌, ℕ, ◌≤◌, ◌*◌, zero, suc, Bool, false, ⊤, nat_eq, cond, List, [], ◌∷◌, ◌++◌, map, length, Option, None, Some, Vec}
 use Rattle.std.specs.declared.alloc.Global.{Global}
 use Rattle.std.specs.List.{list_any}
 use Rattle.std.specs.FinMap as map
@@ -68,11 +68,11 @@ abbrev pub IsOnce : Live → Type 0
 IsOnce [] = ⊤
 IsOnce (s ∷ ss) = (has ss s.0 ≡ false) × IsOnce ss
 
--- no space stands twice, and a space's tables are absent or whole, and are as many as they should
+-- no space stands twice, and a space's tables are absent or whole, and reach no further than they should
 pub record IsLaid (ss : Live) : Type 0 where
   pub once : IsOnce ss
   pub whole : (space : ℕ) → AreWhole (tables_of ss space)
-  pub full : (space : ℕ) → has ss space ≡ true → length (tables_of ss space) ≡ space_tables
+  pub full : (space : ℕ) → length (tables_of ss space) ≤ space_tables
 
 abbrev pub IsKept : Inside → Type 0
 IsKept a = IsLaid a.spaces.items

@@ -1,4 +1,4 @@
-use Rattle.std.proofs.Common.{◌≡◌, ◌∙◌, ℕ, List, None, is_some, true, false, sym, ap}
+use Rattle.std.proofs.Common.{◌≡◌, ◌∙◌, ℕ, List, None, is_some, true, false, sym, ap, arith}
 use Rattle.std.specs.Ordering.{nat_cmp}
 use Rattle.std.specs.FinSet as set
 use Rattle.l4_spaces.specs.Tables.{Tables}
@@ -20,7 +20,7 @@ put-requires c = record {
 }
 
 pub invariant_of-self : goal.invariant_of-self
-invariant_of-self c = laid (wrote c.self.inside.spaces.items c.args.space c.in-Some.at c.index_mut.result.now c.put.new.tables c.in-Some.ensures.at c.index_mut.ensures.value) c.self.invariant (whole_long c.index_mut.result.now.1.items c.put.new.tables.items c.put.ensures.long) c.put.ensures.full
+invariant_of-self c = laid (wrote c.self.inside.spaces.items c.args.space c.in-Some.at c.index_mut.result.now c.put.new.tables c.in-Some.ensures.at c.index_mut.ensures.value) c.self.invariant (whole_long c.index_mut.result.now.1.items c.put.new.tables.items c.put.ensures.long) (λ le. omega (arith, c.put.ensures.full, le))
 
 pub returns-then-is_some-clause-pages : goal.returns-then-is_some-clause-pages
 returns-then-is_some-clause-pages c =
