@@ -55,6 +55,7 @@ impl Bytes {
     }
 
     /// Appends bytes.
+    #[inline(always)]
     pub fn extend(&mut self, bytes: &[u8])
         requires { length self.old.items + length bytes.now ≤ WORDS_BYTES }
         ensures { self.new.items ≡ self.old.items ++ bytes.now }

@@ -44,32 +44,6 @@ pub(crate) fn number_len(number: u32) -> usize
     }
 }
 
-/// Appends the bytes of a number. What they are appended to is pushed to by a method of its own, so this is no function.
-macro_rules! append_number {
-    ($out:ident.$push:ident, $number:ident) => {
-        if $number < u32::from(TWO) {
-            $out.$push($number as u8);
-        } else if $number < TWO_LIMIT {
-            $out.$push(TWO);
-            $out.$push(($number % 256) as u8);
-            $out.$push(($number / 256) as u8);
-        } else if $number < THREE_LIMIT {
-            $out.$push(THREE);
-            $out.$push(($number % 256) as u8);
-            $out.$push(($number / 256 % 256) as u8);
-            $out.$push(($number / TWO_LIMIT) as u8);
-        } else if $number == u32::MAX {
-            $out.$push(GREATEST);
-        } else {
-            $out.$push(FOUR);
-            $out.$push(($number % 256) as u8);
-            $out.$push(($number / 256 % 256) as u8);
-            $out.$push(($number / TWO_LIMIT % 256) as u8);
-            $out.$push(($number / THREE_LIMIT) as u8);
-        }
-    };
-}
-
 /// Appends a number, for whose bytes there is room.
 #[tactic(auto, unfolding(crate::specs::Inside::Bytes::number_code))]
 pub(crate) fn put_number(out: &mut Vec<u8>, number: u32)
@@ -78,16 +52,49 @@ pub(crate) fn put_number(out: &mut Vec<u8>, number: u32)
     ensures len { vec_len out.new ≡ vec_len out.old + length (number_code number) }
     ensures capacity { vec_capacity out.new ≡ vec_capacity out.old }
 {
-    append_number!(out.push_reserved, number);
+    if number < u32::from(TWO) {
+        out.push_reserved(number as u8);
+    } else if number < TWO_LIMIT {
+        out.push_reserved(TWO);
+        out.push_reserved((number % 256) as u8);
+        out.push_reserved((number / 256) as u8);
+    } else if number < THREE_LIMIT {
+        out.push_reserved(THREE);
+        out.push_reserved((number % 256) as u8);
+        out.push_reserved((number / 256 % 256) as u8);
+        out.push_reserved((number / TWO_LIMIT) as u8);
+    } else if number == u32::MAX {
+        out.push_reserved(GREATEST);
+    } else {
+        out.push_reserved(FOUR);
+        out.push_reserved((number % 256) as u8);
+        out.push_reserved((number / 256 % 256) as u8);
+        out.push_reserved((number / TWO_LIMIT % 256) as u8);
+        out.push_reserved((number / THREE_LIMIT) as u8);
+    }
 }
 
-/// Appends a number to the bytes of words.
+/// Appends a number to the bytes of words. Those of one number are appended together, so that where they end is written once.
 #[tactic(auto, unfolding(crate::specs::Inside::Bytes::number_code))]
 pub(crate) fn add_number(out: &mut Bytes, number: u32)
     requires { length out.old.items + NUMBER_BYTES ≤ WORDS_BYTES }
     ensures { out.new.items ≡ out.old.items ++ number_code number }
 {
-    append_number!(out.push, number);
+    if number < u32::from(TWO) {
+        return out.push(number as u8);
+    }
+    let low = (number % 256) as u8;
+    let second = (number / 256 % 256) as u8;
+    let third = (number / TWO_LIMIT % 256) as u8;
+    if number < TWO_LIMIT {
+        out.extend(&[TWO, low, second]);
+    } else if number < THREE_LIMIT {
+        out.extend(&[THREE, low, second, third]);
+    } else if number == u32::MAX {
+        out.push(GREATEST);
+    } else {
+        out.extend(&[FOUR, low, second, third, (number / THREE_LIMIT) as u8]);
+    }
 }
 
 /// A number of two bytes, and the bytes after it.

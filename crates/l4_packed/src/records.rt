@@ -176,7 +176,8 @@ impl Records {
         self.grow(more)
     }
 
-    /// `reserve` where there is too little room.
+    /// `reserve` where there is too little room. No memory is taken while the piece in use has room for more than is asked, so that
+    /// room isn't made for each record at its end.
     #[inline(never)]
     fn grow(&mut self, more: usize) -> Result<(), AllocError>
         requires little { self.old.room < length self.old.records + more }
@@ -187,6 +188,11 @@ impl Records {
         let len = self.len();
         if more >= MOST_ASKED || len >= MOST_ASKED - more {
             return Err(AllocError);
+        }
+        let here = self.current.free() / RECORD_BYTES;
+        if more < here {
+            self.room = len + here;
+            return Ok(());
         }
         let wanted = more / PIECE_RECORDS + 1 + more / ASKED_EACH;
         self.full.reserve(wanted)?;
