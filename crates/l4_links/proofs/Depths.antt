@@ -34,20 +34,23 @@ depth_fits slots ks k n f at =
     let l = order_fits slots ks f.order in
     omega (arith, d, p, l)
 
--- a blank has one of the keys too, so a node can keep the depth of a child
-pub depth_is_key : (slots : Slots) (ks : List ℕ) (k : ℕ) (n : Node) (blank : ℕ) → IsForest slots ks → AreKeys slots → node_at slots k ≡ Some n → slot_at slots blank ≢ None → node_at slots blank ≡ None → IsKey (n.depth + 1)
-depth_is_key slots ks k n blank f few at room none =
+-- a key where nothing stands is one of them too, so a node can keep the depth of a child
+pub depth_kept : (slots : Slots) (ks : List ℕ) (k : ℕ) (n : Node) (free : ℕ) → IsForest slots ks → AreKeys slots → node_at slots k ≡ Some n → IsKey free → node_at slots free ≡ None → IsKey (n.depth + 1)
+depth_kept slots ks k n free f few at kept none =
     let x : Limb = record { parent = n.parent; depth = n.depth } in
     let is : limbs slots k ≡ Some x = ap (option_map (λ (m : Node). record { parent = m.parent; depth = m.depth })) at in
     let d = depth_within (limbs slots) (position ks) f.tree n.depth k x is (omega arith) in
     let p = position_within ks k (f.order.all k n at) in
-    let each : (j : ℕ) → IsIn (blank ∷ ks) j → j < no_key = λ j i. elim i [
-      | inl e ↦ subst (λ (z : ℕ). z < no_key) e (slot_key slots blank few room)
+    let each : (j : ℕ) → IsIn (free ∷ ks) j → j < no_key = λ j i. elim i [
+      | inl e ↦ subst (λ (z : ℕ). z < no_key) e kept
       | inr h ↦ (let b = in_list slots ks f.order j h in node_key slots j b.0 few b.1)
     ] in
-    let l = once_fits no_key (blank ∷ ks) (not_in_list slots ks f.order blank none, f.order.once) each in
-    let m : length (blank ∷ ks) ≡ length ks + 1 = omega arith in
+    let l = once_fits no_key (free ∷ ks) (not_in_list slots ks f.order free none, f.order.once) each in
+    let m : length (free ∷ ks) ≡ length ks + 1 = omega arith in
     omega (arith, d, p, l, m)
+
+pub depth_is_key : (slots : Slots) (ks : List ℕ) (k : ℕ) (n : Node) (blank : ℕ) → IsForest slots ks → AreKeys slots → node_at slots k ≡ Some n → slot_at slots blank ≢ None → node_at slots blank ≡ None → IsKey (n.depth + 1)
+depth_is_key slots ks k n blank f few at room none = depth_kept slots ks k n blank f few at (slot_key slots blank few room) none
 
 -- orders that are the same one after the other
 pub order_on : (old new : ℕ → Option Limb) (pos middle later : ℕ → ℕ) → ((a : ℕ) (x : Limb) → new a ≡ Some x → old a ≡ Some x) → SameOrder old pos middle → SameOrder new middle later → SameOrder new pos later

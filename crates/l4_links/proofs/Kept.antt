@@ -9,7 +9,7 @@ use Rattle.l4_links.specs.declared.nodes.Slot.{Slot}
 use Rattle.l4_links.specs.Leads.{Leads, steps}
 use Rattle.l4_links.specs.Inside.Trees.{Limb, IsTree, parent_at, Sprouts, Rises}
 use Rattle.l4_links.specs.Inside.Orders.{Link, IsLinked, first_of, last_of, position}
-use Rattle.l4_links.specs.Inside.Nodes.{Slots, slot_at, node_at, limbs, links, values, marks, Marks, Worth, capped_worth, IsOrder, IsForest, IsLow, IsMarked, IsStamped, HasMarks, HasSeen, Ends, Comes, Clears, CapsBelow, SetsWanted, IsSame}
+use Rattle.l4_links.specs.Inside.Nodes.{Slots, slot_at, node_at, limbs, links, values, marks, Marks, Worth, capped_worth, IsOrder, IsForest, IsLow, IsMarked, IsStamped, HasMarks, HasSeen, Ends, Comes, Prunes, Clears, CapsBelow, SetsWanted, IsSame}
 use Rattle.l4_links.specs.Inside.Keeping.{IsWithin, LiesWithin, IsFresh, sources_walk, IsSound}
 use Rattle.l4_links.proofs.Writes.{stamped_same}
 use Rattle.l4_links.proofs.Linking.{parted, link_at, linked_same}
@@ -399,6 +399,17 @@ sound_cleared old new first after stamp fresh walk top s p f =
       λ e. no_some x (sym (ap (option_map F) (ap (node_at new) e ∙ p.here)) ∙ is),
       λ l. no_some x (sym (ap (option_map F) (p.gone k l)) ∙ is),
     )
+
+-- the nodes that are left after all that descends from a node went
+pub sound_pruned : (old new : Slots) (first : Option ℕ) (stamp fresh walk top : ℕ) → IsSound old first stamp walk → Prunes top old new → IsFresh stamp fresh → IsSound new first fresh walk
+sound_pruned old new first stamp fresh walk top s p f =
+    sound_fresh new first stamp fresh walk (p.front ++ top ∷ p.left) p.forest
+    (first_same p.front top p.left p.rest ∙ first_unique old (p.front ++ top ∷ p.rest) s.keys p.was.order s.forest.order ∙ s.first_is)
+    (within_kept old new (p.front ++ top ∷ p.left) p.forest s.within (λ k x is. (let off = left old new top p limb_of k x is in (p.limbs_kept k off, p.values_kept k off))))
+    (λ some k m is. s.stamped some k m (sym (p.marks_kept k (left old new top p marks_of k m is)) ∙ is)) f
+  where
+    left : (old new : Slots) (top : ℕ) (p : Prunes top old new) {X : Type 0} (F : Node → X) (k : ℕ) (x : X) → option_map F (node_at new k) ≡ Some x → ¬ (Leads (parent_at (limbs old)) k top)
+    left old new top p F k x is l = no_some x (sym (ap (option_map F) (p.gone k l)) ∙ is)
 
 -- a slot whose page is wanted or not has the same node
 pub nodes_wanted : (old new : Slots) (key : ℕ) (wanted : Bool) → SetsWanted key wanted old new → (k : ℕ) → node_at new k ≡ node_at old k

@@ -17,6 +17,7 @@ pub mod Views
 pub mod Stacking
 pub mod Burying
 pub mod Capping
+pub mod Adding
 pub mod Naming
 pub mod Noting
 pub mod Laws

@@ -6,7 +6,7 @@ use Rattle.l4_fpage.specs.Rights.{RightsSet, common, no_rights, is_none}
 use Rattle.l4_links.specs.declared.Standing.{Standing}
 use Rattle.l4_links.specs.declared.nodes.Node.{Node}
 use Rattle.l4_links.specs.Inside.Orders.{IsIn, first_of}
-use Rattle.l4_links.specs.Inside.Nodes.{Slots, node_at, values, Worth, Doom, dooms, Writes, Caps, Lowers, Closes, Comes, Clears}
+use Rattle.l4_links.specs.Inside.Nodes.{Slots, node_at, values, Worth, Doom, dooms, Writes, Caps, Lowers, Closes, Comes, Prunes, Clears}
 use Rattle.l4_links.specs.Inside.Stacks.{IsStacked, IsStack, HasStack}
 use Rattle.l4_links.specs.Inside.Keeping.{standing_of, entries_of}
 use Rattle.l4_links.specs.Entries.{standing_at, HaveRights}
@@ -238,3 +238,7 @@ stack_cleared top first after old new head some p s =
     (λ k w is. p.values_kept k
     (λ e. no_worth w (sym (ap (option_map worth_of) (ap (node_at new) e ∙ p.here)) ∙ is))
     (λ l. no_worth w (sym (ap (option_map worth_of) (p.gone k l)) ∙ is))) s
+
+pub stack_pruned : (top : ℕ) (old new : Slots) (head : Option ℕ) → HaveRights (entries_of old) → Prunes top old new → HasStack old head → HasStack new head
+stack_pruned top old new head some p s =
+    stack_kept old new head some (λ k w is. p.values_kept k (λ l. no_worth w (sym (ap (option_map worth_of) (p.gone k l)) ∙ is))) s

@@ -10,10 +10,10 @@ use Rattle.l4_links.specs.declared.nodes.Slot.{Slot}
 use Rattle.l4_links.specs.Leads.{Leads}
 use Rattle.l4_links.specs.Inside.Trees.{Limb, parent_at, Rises}
 use Rattle.l4_links.specs.Inside.Trees as trees
-use Rattle.l4_links.specs.Inside.Nodes.{Slots, Spot, slot_at, node_at, spots, limbs, values, Worth, capped_worth, IsForest, Comes, Meets, NoneMet, IsSame}
+use Rattle.l4_links.specs.Inside.Nodes.{Slots, Spot, slot_at, node_at, spots, limbs, values, Worth, capped_worth, IsForest, Comes, AddsUnder, Meets, NoneMet, IsSame}
 use Rattle.l4_links.specs.Inside.Nodes as nodes
 use Rattle.l4_links.specs.Inside.Orders.{position}
-use Rattle.l4_links.specs.Entries.{Entries, entry_at, IsBlank, Descends, IsSource, AddsBlank, Stands, Sprouts, Clears, CapsBelow, SetsSource, SetsPlain, SetsWanted, TakesOver, capped, cut_off}
+use Rattle.l4_links.specs.Entries.{Entries, entry_at, IsBlank, Descends, IsSource, AddsBlank, Stands, Sprouts, AddsChild, Clears, CutsBelow, CapsBelow, SetsSource, SetsPlain, SetsWanted, TakesOver, capped, cut_off}
 use Rattle.l4_links.specs.Inside.Keeping.{standing_of, entry_of, entries_of, IsSound}
 use Rattle.l4_links.proofs.Growing.{leads_same, leads_from_new}
 use Rattle.l4_links.proofs.Seen.{joined, at_seen, shown_is, entry_same, standing_is, leads_of, descends_of, source_is, stands_joined, capped_joined, source_joined, plain_joined, cut_joined}
@@ -118,6 +118,19 @@ blank_added place old new key a = record {
   blank = ap (option_and_then (λ (e : Entry). e.stands)) a.filled;
 }
 
+-- a child came
+pub view_added : (old new : Slots) (parent : ℕ) (place : Place) (above : Node) (rights : RightsSet) (key : ℕ) → node_at old parent ≡ Some above → AddsUnder parent place above rights old new key → AddsChild parent place rights (entries_of old) (entries_of new) key
+view_added old new parent place above rights key at a =
+    let b = view_blank old a.middle key place a.blanks.vacant a.blanks.filled a.blanks.others in
+    let s = view_stands a.middle new key (record { parent = Some parent; depth = a.sprouts.above.depth + 1 }) (record { frame = above.frame; rights = common above.rights rights; source = false; granted = None }) a.sprouts.filled a.comes in
+    record {
+      above = standing_of above;
+      at_parent = standing_is old parent ∙ ap (option_map standing_of) at;
+      vacant = b.vacant;
+      filled = s.here ∙ ap (option_map (λ (e : Entry). record e { stands = Some (record { frame = above.frame; rights = common above.rights rights; source = false; granted = None; parent = Some parent }) })) b.filled;
+      others = λ o ne. s.others o ne ∙ b.others o ne;
+    }
+
 pub view_gone : (new : Slots) (key : ℕ) → slot_at new key ≡ None → entry_at (entries_of new) key ≡ None
 view_gone new key gone = at_seen new key ∙ ap (option_map entry_of) gone
 
@@ -150,6 +163,18 @@ clears_none slots first stamp walk top s none = record {
     blank_entry : (o : Option Slot) → option_and_then (λ (s : Slot). s.node) o ≡ None → option_map entry_of o ≡ option_map (λ (e : Entry). record e { stands = None }) (option_map entry_of o)
     blank_entry None e = refl
     blank_entry (Some s) e = ap (λ (n : Option Node). Some (record { place = s.place; wanted = s.wanted; stands = option_map standing_of n })) e
+
+pub view_cuts : (old new : Slots) (top : ℕ) → nodes.Prunes top old new → CutsBelow top (entries_of old) (entries_of new)
+view_cuts old new top p = record {
+  gone = λ k d.
+      let l = leads_of old d in
+      shown_is new k ∙ (λ i. joined (p.spots_gone k l i) (option_map limb_of (p.gone k l i)) (option_map worth_of (p.gone k l i))) ∙ cut_joined (spots old k) (limbs old k) (values old k) ∙ sym (ap cut_off (shown_is old k));
+  kept = λ k off. (let o : ¬ (Leads (parent_at (limbs old)) k top) = λ l. off (descends_of old l) in entry_same old new k (p.spots_kept k o) (p.limbs_kept k o) (p.values_kept k o));
+}
+
+-- where nothing stands, nothing is cut off
+pub cuts_none : (slots : Slots) (first : Option ℕ) (stamp walk top : ℕ) → IsSound slots first stamp walk → node_at slots top ≡ None → CutsBelow top (entries_of slots) (entries_of slots)
+cuts_none slots first stamp walk top s none = record { gone = λ k d. absurd (nothing_below slots first stamp walk top k s none d); kept = λ k off. refl }
 
 pub view_wanted : (old new : Slots) (key : ℕ) (wanted : Bool) → nodes.SetsWanted key wanted old new → SetsWanted key wanted (entries_of old) (entries_of new)
 view_wanted old new key wanted c = record {

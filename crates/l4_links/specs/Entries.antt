@@ -147,6 +147,14 @@ pub record Sprouts (parent key : ℕ) (rights : RightsSet) (old new : Entries) :
   pub leads : (low high : ℕ) → low ≢ key → Descends new low high ↔ Descends old low high
   pub from_new : (high : ℕ) → Descends new key high ↔ ((high ≡ parent) ⊎ Descends old parent high)
 
+-- a child of the parent has come under a new key to the place, with the parent's frame and what it has of these rights, and all else is as it was
+pub record AddsChild (parent : ℕ) (place : Place) (rights : RightsSet) (old new : Entries) (key : ℕ) : Type 0 where
+  pub above : Standing
+  pub at_parent : standing_at old parent ≡ Some above
+  pub vacant : entry_at old key ≡ None
+  pub filled : entry_at new key ≡ Some (record { place = place; wanted = false; stands = Some (record { frame = above.frame; rights = common above.rights rights; source = false; granted = None; parent = Some parent }) })
+  pub others : (other : ℕ) → other ≢ key → entry_at new other ≡ entry_at old other
+
 -- what is left of a page that is cut off: a blank where it is wanted, else nothing
 abbrev pub cut_off : Option Entry → Option Entry
 cut_off cut = option_and_then (λ (e : Entry). if e.wanted then Some (record e { stands = None }) else None) cut
@@ -156,6 +164,11 @@ pub record Clears (top : ℕ) (old new : Entries) : Type 0 where
   pub gone : (key : ℕ) → Descends old key top → entry_at new key ≡ cut_off (entry_at old key)
   pub here : entry_at new top ≡ option_map {T = Entry} (λ e. record e { stands = None }) (entry_at old top)
   pub kept : (key : ℕ) → key ≢ top → ¬ (Descends old key top) → entry_at new key ≡ entry_at old key
+
+-- what descends from the key is cut off, and all else is as it was
+pub record CutsBelow (top : ℕ) (old new : Entries) : Type 0 where
+  pub gone : (key : ℕ) → Descends old key top → entry_at new key ≡ cut_off (entry_at old key)
+  pub kept : (key : ℕ) → ¬ (Descends old key top) → entry_at new key ≡ entry_at old key
 
 -- what stands without a right has gone with its page, and all else is as it was
 pub record Buries (old new : Entries) : Type 0 where

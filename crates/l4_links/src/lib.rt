@@ -96,7 +96,7 @@ impl Model for Links {
 }
 
 impl Links {
-    ghost use Rattle.l4_links.specs.Entries.{entry_at, standing_at, IsStanding, IsBlank, IsAt, IsSource, HaveRights, HavePlaces, AreTrees, NoKeyFrom, IsNextKey, NoKeyIn, IsNextKeyIn, IsKeyOf, Descends, AddsBlank, Stands, Sprouts, Clears, Buries, CapsBelow, CapsTree, SetsSource, SetsPlain, SetsWanted, TakesOver};
+    ghost use Rattle.l4_links.specs.Entries.{entry_at, standing_at, IsStanding, IsBlank, IsAt, IsSource, HaveRights, HavePlaces, AreTrees, NoKeyFrom, IsNextKey, NoKeyIn, IsNextKeyIn, IsKeyOf, Descends, AddsBlank, Stands, Sprouts, AddsChild, Clears, CutsBelow, Buries, CapsBelow, CapsTree, SetsSource, SetsPlain, SetsWanted, TakesOver};
     ghost use Rattle.l4_links.specs.declared.Standing.{Standing as AStanding};
 
     /// No page, and no space.
@@ -252,6 +252,34 @@ impl Links {
         self.stamp = fresh(self.stamp);
     }
 
+    /// Adds a child of the parent for a page that has no key. It shows the parent's frame, and has those of these rights that the
+    /// parent has, of which there is one. Its key is given.
+    pub fn add_child(
+        &mut self,
+        parent: usize,
+        place: Place,
+        rights: Rights,
+    ) -> Result<usize, NoMemory>
+        requires there { IsTrue (set.contains self.old.spaces place.space) }
+        requires fits { IsPage place.page }
+        requires free { (key : ℕ) → ¬ (IsAt self.old.entries place key) }
+        requires stands { IsStanding self.old.entries parent }
+        requires some { (above : AStanding) → standing_at self.old.entries parent ≡ Some above → common above.rights rights ≢ no_rights }
+        ensures ok { IfOk result (AddsChild parent place rights self.old.entries self.new.entries) }
+        ensures spaces { self.new.spaces ≡ self.old.spaces }
+        ensures err { OnErr result (self.new ≡ self.old) }
+    {
+        let Some(above) = node_of(&self.nodes, parent) else {
+            unreachable!()
+        };
+        vacant_key_fits(&self.nodes)?;
+        self.pages.prepare(place.space, &[place.page])?;
+        let child = lists::add_under(&mut self.nodes, parent, place, &above, rights)?;
+        self.pages.set(place.space, place.page, child);
+        self.stamp = fresh(self.stamp);
+        Ok(child)
+    }
+
     /// Cuts off all that descends from the key, and lets nothing stand under the key: a blank is left. What is cut off goes with its
     /// page, but for a wanted page, which is left as a blank.
     pub fn clear(&mut self, key: usize)
@@ -263,6 +291,20 @@ impl Links {
             return;
         };
         self.first = lists::clear(&mut self.nodes, &mut self.pages, self.first, key);
+        self.stamp = fresh(self.stamp);
+    }
+
+    /// Cuts off all that descends from the key, in one pass. What stands under the key stays as it is, and what is cut off goes with
+    /// its page, but for a wanted page, which is left as a blank.
+    pub fn cut_below(&mut self, key: usize)
+        requires some { HaveRights self.old.entries }
+        ensures cuts { CutsBelow key self.old.entries self.new.entries }
+        ensures spaces { self.new.spaces ≡ self.old.spaces }
+    {
+        let Some(_) = node_of(&self.nodes, key) else {
+            return;
+        };
+        lists::cut_below(&mut self.nodes, &mut self.pages, key);
         self.stamp = fresh(self.stamp);
     }
 

@@ -1,18 +1,20 @@
 //! The list of all nodes in depth-first order: one is put in, one is taken out, a run is cut off.
 
-ghost use Rattle.std.specs.Prelude.{◌≡◌, ◌≢◌, ◌<◌, ◌+◌, ◌^◌, ◌++◌, ◌∷◌, [], ℕ, List, Option, Some, None, false};
+ghost use Rattle.std.specs.Prelude.{◌≡◌, ◌≢◌, ◌<◌, ◌+◌, ◌^◌, ◌++◌, ◌∷◌, [], ℕ, List, Option, Some, None, false, IfOk, OnErr};
 ghost use Rattle.l4_fpage.specs.Rights.{common};
+ghost use Rattle.l4_links.specs.Inside.Keys.{IsKey};
 ghost use Rattle.l4_links.specs.Inside.Trees.{Sprouts, Rises};
 ghost use Rattle.l4_links.specs.Inside.Orders.{TakesOut, first_of};
-ghost use Rattle.l4_links.specs.Inside.Nodes.{node_at, slot_at, spots, limbs, links, values, AreKeys, IsOrder, IsForest, Parts, TakesSlot, CutsOff, Comes, Prunes, Clears};
+ghost use Rattle.l4_links.specs.Inside.Nodes.{node_at, slot_at, spots, limbs, links, values, AreKeys, IsOrder, IsForest, Parts, TakesSlot, CutsOff, Comes, child, AddsUnder, Prunes, Clears};
 ghost use Rattle.l4_links.specs.Inside.Keeping.{IsIndexed};
 
+use crate::Place;
 use crate::keys::Link;
 use crate::names::remove;
 use crate::nodes::{Node, child_depth, empty, is_wanted, node_of, set_next, set_prev, write};
 use crate::packed::Packed;
 use l4_fpage::Rights;
-use l4_spaces::Spaces;
+use l4_spaces::{NoMemory, Spaces};
 use slab::Slab;
 
 /// Takes the node out of its list. Its slot stays, as a blank.
@@ -59,6 +61,32 @@ fn cut_off(nodes: &mut Slab<Packed>, pages: &mut Spaces, key: usize)
     take_out(nodes, pages, key);
 }
 
+/// The child of a node that stands under the key `parent`: it shows that node's frame, with what that node has of these rights, and
+/// comes straight after it.
+#[inline]
+fn child_of(parent: usize, above: &Node, rights: Rights, slots: usize) -> Node
+    requires key { IsKey parent }
+    requires depth { above.now.depth < slots }
+    ensures { result ≡ child parent above.now rights }
+{
+    let under = Link::to(parent);
+    let none = Link::none();
+    Node {
+        frame: above.frame,
+        rights: above.rights.intersection(rights),
+        source: false,
+        granted: None,
+        depth: child_depth(above, slots),
+        seen: 0,
+        mark: 0,
+        end: none,
+        parent: under,
+        prev: under,
+        next: above.next,
+        doomed: none,
+    }
+}
+
 /// Puts a node straight after its parent, into the blank that the key is of.
 pub(crate) fn link_under(
     nodes: &mut Slab<Packed>,
@@ -76,27 +104,36 @@ pub(crate) fn link_under(
     ensures comes { Comes (record { frame = above.frame; rights = common above.rights rights; source = false; granted = None }) key nodes.old.slots nodes.new.slots }
     ensures forest { (xs ys : List ℕ) → IsForest nodes.old.slots (xs ++ parent ∷ ys) → IsForest nodes.new.slots (xs ++ parent ∷ key ∷ ys) }
 {
-    let slots = nodes.capacity();
-    let under = Link::to(parent);
+    let node = child_of(parent, &above, rights, nodes.capacity());
     let at = Link::to(key);
-    let none = Link::none();
-    let node = Node {
-        frame: above.frame,
-        rights: above.rights.intersection(rights),
-        source: false,
-        granted: None,
-        depth: child_depth(&above, slots),
-        seen: 0,
-        mark: 0,
-        end: none,
-        parent: under,
-        prev: under,
-        next: above.next,
-        doomed: none,
-    };
     write(nodes, key, node);
     set_prev(nodes, above.next, at);
-    set_next(nodes, under, at);
+    set_next(nodes, Link::to(parent), at);
+}
+
+/// Puts a node for a page straight after its parent, into a slot of its own, whose key is given.
+pub(crate) fn add_under(
+    nodes: &mut Slab<Packed>,
+    parent: usize,
+    place: Place,
+    above: &Node,
+    rights: Rights,
+) -> Result<usize, NoMemory>
+    requires forest { (ks : List ℕ) × IsForest nodes.old.slots ks }
+    requires few { AreKeys nodes.old.slots }
+    requires there { node_at nodes.old.slots parent ≡ Some above.now }
+    requires kept { IsKey nodes.old.vacant_key }
+    requires vacant { slot_at nodes.old.slots nodes.old.vacant_key ≡ None }
+    ensures adds { IfOk result (λ key. AddsUnder parent place above.now rights nodes.old.slots nodes.new.slots key) }
+    ensures kept { IfOk result (λ key. IsKey key) }
+    ensures err { OnErr result (nodes.new.slots ≡ nodes.old.slots) }
+{
+    let node = child_of(parent, above, rights, nodes.capacity());
+    let key = nodes.insert(Packed::of(place, node))?;
+    let at = Link::to(key);
+    set_prev(nodes, above.next, at);
+    set_next(nodes, Link::to(parent), at);
+    Ok(key)
 }
 
 /// Puts a root before all other nodes, into the blank that the key is of. The list begins with the key that is given then.

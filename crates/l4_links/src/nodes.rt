@@ -87,6 +87,7 @@ pub(crate) fn is_wanted(nodes: &Slab<Packed>, key: usize) -> bool
 /// it can keep are taken.
 pub(crate) fn vacant_key_fits(nodes: &Slab<Packed>) -> Result<(), NoMemory>
     ensures few { OnOk result (IsKey nodes.now.vacant_key) }
+    ensures vacant { OnOk result (slot_at nodes.now.slots nodes.now.vacant_key ≡ None) }
     ensures full { OnErr result (no_key ≤ nodes.now.vacant_key) }
 {
     if nodes.vacant_key() < NO_KEY as usize {

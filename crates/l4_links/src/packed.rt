@@ -110,8 +110,8 @@ impl Granted {
 /// A slot.
 #[derive(Drop)]
 pub(crate) struct Packed {
-    space: Halves,
     page: u32,
+    space: Halves,
     frame: u32,
     rights: Rights,
     source: bool,
@@ -147,8 +147,8 @@ impl Packed {
         ensures { result ≡ record { place = place; wanted = false; node = None } }
     {
         Packed {
-            space: Halves::of(place.space),
             page: place.page,
+            space: Halves::of(place.space),
             frame: 0,
             rights: Rights::of_bits(0),
             source: false,
@@ -162,6 +162,31 @@ impl Packed {
             prev: Link::none(),
             next: Link::none(),
             doomed: Link::none(),
+        }
+    }
+
+    /// A slot of the page where this node stands.
+    #[inline]
+    pub(crate) fn of(place: Place, node: Node) -> Packed
+        requires { IsKey node.depth }
+        ensures { result ≡ record { place = place; wanted = false; node = Some node } }
+    {
+        Packed {
+            page: place.page,
+            space: Halves::of(place.space),
+            frame: node.frame,
+            rights: node.rights,
+            source: node.source,
+            wanted: false,
+            granted: Granted::of(node.granted),
+            seen: Halves::of(node.seen),
+            mark: Halves::of(node.mark),
+            depth: Link::to(node.depth),
+            end: node.end,
+            parent: node.parent,
+            prev: node.prev,
+            next: node.next,
+            doomed: node.doomed,
         }
     }
 

@@ -1,5 +1,5 @@
 -- What the nodes of a slab say of trees and of links.
-use Rattle.std.specs.Prelude.{◌≡◌, ◌≢◌, ℕ, ◌<◌, ◌≤◌, ◌⊎◌, ◌++◌, ◌∷◌, length, Bool, true, false, List, Option, Some, None, if◌then◌else◌, slice_index_or, option_and_then}
+use Rattle.std.specs.Prelude.{◌≡◌, ◌≢◌, ℕ, ◌+◌, ◌<◌, ◌≤◌, ◌⊎◌, ◌++◌, ◌∷◌, length, Bool, true, false, List, Option, Some, None, if◌then◌else◌, slice_index_or, option_and_then}
 use Rattle.std.specs.Option.{option_map}
 use Rattle.l4_fpage.specs.Rights.{RightsSet, common}
 use Rattle.l4_links.specs.declared.Place.{Place}
@@ -7,7 +7,7 @@ use Rattle.l4_links.specs.declared.nodes.Node.{Node}
 use Rattle.l4_links.specs.declared.nodes.Slot.{Slot}
 use Rattle.l4_links.specs.Leads.{Leads}
 use Rattle.l4_links.specs.Inside.Keys.{IsKey}
-use Rattle.l4_links.specs.Inside.Trees.{Limb, IsTree, parent_at}
+use Rattle.l4_links.specs.Inside.Trees.{Limb, IsTree, Sprouts, parent_at}
 use Rattle.l4_links.specs.Inside.Orders.{Link, IsOnce, IsIn, IsLinked, first_of, position}
 
 abbrev pub Slots : Type 0
@@ -170,6 +170,37 @@ pub record Comes (worth : Worth) (key : ℕ) (old new : Slots) : Type 0 where
   pub marks_same : (other : ℕ) → other ≢ key → marks new other ≡ marks old other
   pub dooms_same : (other : ℕ) → other ≢ key → dooms new other ≡ dooms old other
   pub spots_same : (other : ℕ) → spots new other ≡ spots old other
+
+-- a child of the node under the key `parent`, which comes straight after it
+abbrev pub child : ℕ → Node → RightsSet → Node
+child parent above rights = record {
+  frame = above.frame;
+  rights = common above.rights rights;
+  source = false;
+  granted = None;
+  depth = above.depth + 1;
+  seen = 0;
+  mark = 0;
+  end = None;
+  parent = Some parent;
+  prev = Some parent;
+  next = above.next;
+  doomed = None;
+}
+
+-- a blank of the page has come under the key, and all else is as it was
+pub record Blanks (place : Place) (key : ℕ) (old new : Slots) : Type 0 where
+  pub vacant : slot_at old key ≡ None
+  pub filled : slot_at new key ≡ Some (record { place = place; wanted = false; node = None })
+  pub others : (other : ℕ) → other ≢ key → slot_at new other ≡ slot_at old other
+
+-- the slots are those that there are once a blank of the page has come under the key, and a child of the parent into that blank
+pub record AddsUnder (parent : ℕ) (place : Place) (above : Node) (rights : RightsSet) (old new : Slots) (key : ℕ) : Type 0 where
+  pub middle : Slots
+  pub blanks : Blanks place key old middle
+  pub sprouts : Sprouts (limbs middle) (limbs new) parent key
+  pub comes : Comes (record { frame = above.frame; rights = common above.rights rights; source = false; granted = None }) key middle new
+  pub forest : (xs ys : List ℕ) → IsForest middle (xs ++ parent ∷ ys) → IsForest new (xs ++ parent ∷ key ∷ ys)
 
 -- what descends from the key is cut off, and all else is as it was
 pub record Prunes (top : ℕ) (old new : Slots) : Type 0 where

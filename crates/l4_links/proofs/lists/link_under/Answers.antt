@@ -1,73 +1,53 @@
-use Rattle.std.proofs.Common.{ℕ, arith, refl, sym, subst, Option, Some, None, false}
-use Rattle.l4_fpage.specs.Rights.{RightsSet}
+use Rattle.std.proofs.Common.{ℕ, arith, refl, sym, subst, Option, Some}
 use Rattle.l4_links.specs.declared.nodes.Node.{Node}
 use Rattle.l4_links.specs.Inside.Keys.{IsKey}
-use Rattle.l4_links.specs.Inside.Nodes.{Comes, Writes, SetsNext, SetsPrev}
+use Rattle.l4_links.specs.Inside.Nodes.{child, Writes, SetsNext, SetsPrev}
 use Rattle.l4_links.proofs.Depths.{depth_fits, depth_is_key}
 use Rattle.l4_links.proofs.Writes.{slot_key, node_key}
 use Rattle.l4_links.proofs.Neighbours.{put_in, sprouts, forest_in, comes_in}
 use Rattle.l4_links.proofs.lists.link_under.Goals as goal
 
-pub to-under-requires : goal.to-under-requires
-to-under-requires c = node_key c.args.nodes.now.slots c.args.parent c.args.above c.requires.few c.requires.there
+pub child_of-node-requires-clause-key : goal.child_of-node-requires-clause-key
+child_of-node-requires-clause-key c = node_key c.args.nodes.now.slots c.args.parent c.args.above c.requires.few c.requires.there
 
 pub to-at-requires : goal.to-at-requires
 to-at-requires c = slot_key c.args.nodes.now.slots c.args.key c.requires.few c.requires.room
 
-abbrev child : Node → RightsSet → ℕ → Option ℕ → Option ℕ → Node
-child above rights depth under none = record {
-  frame = above.frame;
-  rights = rights;
-  source = false;
-  granted = None;
-  depth = depth;
-  seen = 0;
-  mark = 0;
-  end = none;
-  parent = under;
-  prev = under;
-  next = above.next;
-  doomed = none;
-}
-
-pub child_depth-requires : goal.child_depth-requires
-child_depth-requires c =
+pub child_of-node-requires-clause-depth : goal.child_of-node-requires-clause-depth
+child_of-node-requires-clause-depth c =
     let d = depth_fits c.args.nodes.now.slots c.requires.forest.0 c.args.parent c.args.above c.requires.forest.1 c.requires.there in
-    let s = c.capacity-slots.ensures.slots in
+    let s = c.capacity.ensures.slots in
     omega (arith, d, s)
 
 pub write-requires : goal.write-requires
 write-requires c =
-    subst (λ (d : ℕ). IsKey d) (sym c.child_depth.ensures)
+    subst (λ (n : Node). IsKey n.depth) (sym c.child_of-node.ensures)
     (depth_is_key c.args.nodes.now.slots c.requires.forest.0 c.args.parent c.args.above c.args.key c.requires.forest.1 c.requires.few c.requires.there c.requires.room c.requires.blank)
 
 -- the child, and the writes, with the keys that their links are to
 abbrev stands : (c : goal.After-set_next) → Node
-stands c = child c.args.above c.intersection.result c.child_depth.result (Some c.args.parent) None
+stands c = child c.args.parent c.args.above c.args.rights
 
 written : (c : goal.After-set_next) → Writes c.args.key (Some (stands c)) c.args.nodes.now.slots c.write.new.nodes.slots
-written c =
-    subst (λ (o : Option ℕ). Writes c.args.key (Some (child c.args.above c.intersection.result c.child_depth.result o None)) c.args.nodes.now.slots c.write.new.nodes.slots) c.to-under.ensures
-    (subst (λ (o : Option ℕ). Writes c.args.key (Some (child c.args.above c.intersection.result c.child_depth.result c.to-under.result o)) c.args.nodes.now.slots c.write.new.nodes.slots) c.none-none.ensures c.write.ensures)
+written c = subst (λ (n : Node). Writes c.args.key (Some n) c.args.nodes.now.slots c.write.new.nodes.slots) c.child_of-node.ensures c.write.ensures
 
 after : (c : goal.After-set_next) → SetsPrev c.args.above.next (Some c.args.key) c.write.new.nodes.slots c.set_prev.new.nodes.slots
 after c = subst (λ (o : Option ℕ). SetsPrev c.args.above.next o c.write.new.nodes.slots c.set_prev.new.nodes.slots) c.to-at.ensures c.set_prev.ensures
 
 before : (c : goal.After-set_next) → SetsNext (Some c.args.parent) (Some c.args.key) c.set_prev.new.nodes.slots c.set_next.new.nodes.slots
 before c =
-    subst (λ (o : Option ℕ). SetsNext o (Some c.args.key) c.set_prev.new.nodes.slots c.set_next.new.nodes.slots) c.to-under.ensures
-    (subst (λ (o : Option ℕ). SetsNext c.to-under.result o c.set_prev.new.nodes.slots c.set_next.new.nodes.slots) c.to-at.ensures c.set_next.ensures)
+    subst (λ (o : Option ℕ). SetsNext o (Some c.args.key) c.set_prev.new.nodes.slots c.set_next.new.nodes.slots) c.to.ensures
+    (subst (λ (o : Option ℕ). SetsNext c.to.result o c.set_prev.new.nodes.slots c.set_next.new.nodes.slots) c.to-at.ensures c.set_next.ensures)
 
 pub returns-clause-sprouts : goal.returns-clause-sprouts
 returns-clause-sprouts c =
     sprouts c.args.nodes.now.slots c.write.new.nodes.slots c.set_prev.new.nodes.slots c.set_next.new.nodes.slots c.args.parent c.args.key c.args.above (stands c)
-    c.requires.there c.requires.blank refl c.child_depth.ensures ((written c).here c.requires.room) (written c).others (after c) (before c)
+    c.requires.there c.requires.blank refl refl ((written c).here c.requires.room) (written c).others (after c) (before c)
 
 pub returns-clause-comes : goal.returns-clause-comes
 returns-clause-comes c =
-    subst (λ (r : RightsSet). Comes (record { frame = c.args.above.frame; rights = r; source = false; granted = None }) c.args.key c.args.nodes.now.slots c.set_next.new.nodes.slots) c.intersection.ensures
-    (comes_in c.args.nodes.now.slots c.write.new.nodes.slots c.set_prev.new.nodes.slots c.set_next.new.nodes.slots c.args.key (stands c)
-    (Some c.args.parent) (Some c.args.key) c.args.above.next (Some c.args.key) c.requires.blank c.requires.room (written c) (after c) (before c) refl refl)
+    comes_in c.args.nodes.now.slots c.write.new.nodes.slots c.set_prev.new.nodes.slots c.set_next.new.nodes.slots c.args.key (stands c)
+    (Some c.args.parent) (Some c.args.key) c.args.above.next (Some c.args.key) c.requires.blank c.requires.room (written c) (after c) (before c) refl refl
 
 pub returns-clause-forest : goal.returns-clause-forest
 returns-clause-forest c xs ys f =
