@@ -1,6 +1,6 @@
 //! A message is delivered, or refused.
 
-ghost use Rattle.std.specs.Prelude.{◌≡◌, ℕ, List, Option, IsTrue, IsOk, OnOk, OnErr, IfErr};
+ghost use Rattle.std.specs.Prelude.{◌≡◌, ℕ, List, Option, IsTrue, IsOk, OnOk, OnErr, IfOk, IfErr, true, false};
 ghost use Rattle.std.specs.FinSet as set;
 ghost use Rattle.l4_links.specs.Entries.{Linked, entry_at};
 ghost use Rattle.l4_mapdb.specs.Mappings.{IsForest};
@@ -13,6 +13,7 @@ ghost use Rattle.l4_mapdb.specs.Inside.Placing.{IsStart};
 ghost use Rattle.l4_mapdb.specs.Inside.Growing.{IsDelivered};
 
 use crate::cutting::cut;
+use crate::granting::deliver_grants;
 use crate::maps::deliver_maps;
 use crate::moving::move_all;
 use crate::preparing::make_way;
@@ -61,7 +62,30 @@ fn deliver_any(links: &mut Links, from: u64, to: u64, items: &[ItemMove]) -> Res
     Ok(())
 }
 
-/// Delivers a message. For one that only maps a short way is tried first.
+/// Delivers a message that a short way serves: one that only maps, or one that only grants. Whether it did is given, and else all is as
+/// before.
+fn deliver_short(links: &mut Links, from: u64, to: u64, items: &[ItemMove]) -> Result<bool, Cause>
+    requires clean { IsClean links.old }
+    requires there { IsTrue (set.contains links.old.spaces to) }
+    ensures done { IfOk result (λ done. done ≡ true → IsDelivered from to items.now links.old links.new) }
+    ensures left { IfOk result (λ done. done ≡ false → (key : ℕ) → entry_at links.new.entries key ≡ entry_at links.old.entries key) }
+    ensures err { OnErr result ((key : ℕ) → entry_at links.new.entries key ≡ entry_at links.old.entries key) }
+    ensures cause { IfErr result (HasCause (IsUsed (mappings_of links.old) from to items.now) (mappings_of links.old)) }
+    ensures spaces { links.new.spaces ≡ links.old.spaces }
+{
+    links.law_places();
+    let done = match deliver_maps(links, from, to, items) {
+        Ok(done) => done,
+        Err(cause) => return Err(cause),
+    };
+    if done {
+        return Ok(true);
+    }
+    links.law_places();
+    deliver_grants(links, from, to, items)
+}
+
+/// Delivers a message. For one that only maps, or only grants, a short way is tried first.
 pub(crate) fn deliver(
     links: &mut Links,
     from: u64,
@@ -78,7 +102,7 @@ pub(crate) fn deliver(
     ensures spaces { links.new.spaces ≡ links.old.spaces }
 {
     links.law_places();
-    let done = match deliver_maps(links, from, to, items) {
+    let done = match deliver_short(links, from, to, items) {
         Ok(done) => done,
         Err(cause) => return Err(cause),
     };

@@ -2,19 +2,13 @@
 
 ghost use Rattle.std.specs.Prelude.{◌≡◌, true};
 ghost use Rattle.l4_spaces.specs.Tables.{space_pages};
-ghost use Rattle.l4_links.specs.Entries.{HavePlaces, HaveRights, AreTrees, NoKeyFrom};
+ghost use Rattle.l4_links.specs.Entries.{NoKeyFrom};
 ghost use Rattle.l4_mapdb.specs.Inside.Kept.{IsClean};
 ghost use Rattle.l4_mapdb.specs.Inside.Cuts.{IsCovered, TakesKeys};
 
-use l4_links::{Links, Place};
-
-/// Where nothing is marked and there is no blank, what stands has a right. It does nothing.
-fn law_rights(links: &Links)
-    requires { IsClean links.now }
-    ensures { HaveRights links.now.entries }
-{
-    let _ = links;
-}
+use crate::taking::take_pages;
+use l4_fpage::SPACE_PAGES;
+use l4_links::Links;
 
 /// Takes all pages of the space away, with all that descends from them.
 pub(crate) fn clear(links: &mut Links, space: u64)
@@ -24,19 +18,5 @@ pub(crate) fn clear(links: &mut Links, space: u64)
     ensures spaces { links.new.spaces ≡ links.old.spaces }
 {
     links.law_places();
-    links.law_trees();
-    let mut next = 0;
-    loop {
-        let Some(page) = links.next_key(space, next) else {
-            return;
-        };
-        let Some(key) = links.find(Place { space, page }) else {
-            return;
-        };
-        links.law_places();
-        law_rights(links);
-        links.clear(key);
-        links.take_blank(key);
-        next = page + 1;
-    }
+    take_pages(links, space, 0, SPACE_PAGES, true);
 }

@@ -42,11 +42,8 @@ fn grow(links: &mut Links, used: UsedMove, rights: Rights) -> Result<(), Stop>
             refused: false,
         });
     }
-    match links.add_blank(used.target) {
-        Ok(key) => {
-            links.stand_under(used.source, key, rights);
-            Ok(())
-        }
+    match links.add_child(used.source, used.target, rights) {
+        Ok(_) => Ok(()),
         Err(_) => Err(Stop {
             used,
             refused: true,

@@ -11,6 +11,7 @@ mod clearing;
 mod cutting;
 mod delivering;
 mod ending;
+mod granting;
 mod growing;
 mod maps;
 mod moving;
@@ -20,6 +21,7 @@ mod renewing;
 mod revoking;
 mod room;
 mod sources;
+mod taking;
 mod tangles;
 mod unmarking;
 

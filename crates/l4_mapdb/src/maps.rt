@@ -8,7 +8,7 @@ ghost use Rattle.l4_mapdb.specs.Transfer.{IsUsed};
 ghost use Rattle.l4_mapdb.specs.Causes.{HasCause};
 ghost use Rattle.l4_mapdb.specs.Inside.View.{mappings_of};
 ghost use Rattle.l4_mapdb.specs.Inside.Kept.{IsClean};
-ghost use Rattle.l4_mapdb.specs.Inside.Growing.{AreMaps, IsDelivered};
+ghost use Rattle.l4_mapdb.specs.Inside.Growing.{AreOfKind, IsDelivered};
 
 use crate::growing::grow_children;
 use crate::preparing::refusal;
@@ -17,16 +17,16 @@ use crate::tangles::are_apart;
 use crate::{Cause, ItemMove};
 use l4_links::Links;
 
-/// Whether the message only maps, and from one space to another.
-fn only_maps(from: u64, to: u64, items: &[ItemMove]) -> bool
+/// Whether the message is from one space to another, and each of its items grants, where that is said, or else maps.
+pub(crate) fn only_of_kind(from: u64, to: u64, items: &[ItemMove], grants: bool) -> bool
     ensures apart { result ≡ true → from ≢ to }
-    ensures maps { result ≡ true → AreMaps items.now }
+    ensures kind { result ≡ true → AreOfKind grants items.now }
 {
     if from == to {
         return false;
     }
     for item in 0..items.len() {
-        if items[item].grant {
+        if items[item].grant != grants {
             return false;
         }
     }
@@ -52,7 +52,7 @@ pub(crate) fn deliver_maps(
 {
     links.law_places();
     links.law_trees();
-    if !only_maps(from, to, items) {
+    if !only_of_kind(from, to, items, false) {
         return Ok(false);
     }
     let Err(stop) = grow_children(links, from, to, items) else {

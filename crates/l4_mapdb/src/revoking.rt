@@ -1,11 +1,12 @@
 //! Rights taken from what descends from pages.
 
-ghost use Rattle.std.specs.Prelude.{◌≡◌, ◌≤◌, ℕ};
+ghost use Rattle.std.specs.Prelude.{◌≡◌, ◌≢◌, ◌≤◌, ℕ, None};
 ghost use Rattle.l4_fpage.specs.Rights.{without, all_rights};
-ghost use Rattle.l4_links.specs.Entries.{HavePlaces, AreTrees};
+ghost use Rattle.l4_links.specs.Entries.{entry_at, HavePlaces, AreTrees};
 ghost use Rattle.l4_mapdb.specs.Inside.Kept.{IsClean};
 ghost use Rattle.l4_mapdb.specs.Inside.Cuts.{IsOver, IsCovered, CapsKeys, CutsKeys};
 
+use crate::taking::{take_key, take_pages};
 use l4_fpage::Rights;
 use l4_links::Links;
 
@@ -39,21 +40,31 @@ fn cap_pages(links: &mut Links, space: u64, first: u32, end: u32, cap: Rights, w
     }
 }
 
-/// Takes the rights from what stands under the key, where that is meant, and from all that descends from it.
+/// Takes the rights from what stands under the key, where that is meant, and from all that descends from it. Where these are all
+/// rights, what goes is cut off at once.
 pub(crate) fn revoke_key(links: &mut Links, top: usize, rights: Rights, with_self: bool)
-    requires { IsClean links.old }
+    requires clean { IsClean links.old }
+    requires there { entry_at links.old.entries top ≢ None }
     ensures cuts { CutsKeys (IsOver links.old.entries with_self top) rights links.old.entries links.new.entries }
     ensures spaces { links.new.spaces ≡ links.old.spaces }
     ensures places { HavePlaces links.new }
     ensures trees { AreTrees links.new.entries }
 {
-    cap_key(links, top, Rights::all().difference(rights), with_self);
+    let cap = Rights::all().difference(rights);
+    if cap.is_empty() {
+        take_key(links, top, with_self);
+        links.law_places();
+        links.law_trees();
+        return;
+    }
+    cap_key(links, top, cap, with_self);
     links.bury();
     links.law_places();
     links.law_trees();
 }
 
-/// Takes the rights from what stands at these pages, where they are meant, and from all that descends from them.
+/// Takes the rights from what stands at these pages, where they are meant, and from all that descends from them. Where these are
+/// all rights, what goes is cut off at once.
 pub(crate) fn revoke_pages(
     links: &mut Links,
     space: u64,
@@ -69,14 +80,14 @@ pub(crate) fn revoke_pages(
     ensures places { HavePlaces links.new }
     ensures trees { AreTrees links.new.entries }
 {
-    cap_pages(
-        links,
-        space,
-        first,
-        end,
-        Rights::all().difference(rights),
-        with_self,
-    );
+    let cap = Rights::all().difference(rights);
+    if cap.is_empty() {
+        take_pages(links, space, first, end, with_self);
+        links.law_places();
+        links.law_trees();
+        return;
+    }
+    cap_pages(links, space, first, end, cap, with_self);
     links.bury();
     links.law_places();
     links.law_trees();

@@ -1,5 +1,5 @@
 -- Children that the pages of a message get, one after another, where nothing is at its targets. (this profile's own)
-use Rattle.std.specs.Prelude.{◌≡◌, ◌≢◌, ◌⊎◌, ◌<◌, ◌≤◌, ℕ, List, Option, Some, None, false, true, slice_get}
+use Rattle.std.specs.Prelude.{◌≡◌, ◌≢◌, ◌⊎◌, ◌<◌, ◌≤◌, ℕ, Bool, List, Option, Some, None, false, true, slice_get}
 use Rattle.l4_fpage.specs.Rights.{RightsSet, common}
 use Rattle.l4_links.specs.declared.Place.{Place as LinkPlace}
 use Rattle.l4_links.specs.declared.Standing.{Standing}
@@ -14,9 +14,13 @@ use Rattle.l4_mapdb.specs.Inside.Kept.{IsClean, RootsKnown}
 use Rattle.l4_mapdb.specs.Inside.Messages.{IsMoved, turn_of}
 use Rattle.l4_mapdb.specs.Inside.Tangles.{HasTangle}
 
+-- each item grants, where that is said, or else maps
+abbrev pub AreOfKind : Bool → List ItemMove → Type 0
+AreOfKind grants items = (item : ℕ) (by : ItemMove) → slice_get items item ≡ Some by → by.grant ≡ grants
+
 -- no item grants
 abbrev pub AreMaps : List ItemMove → Type 0
-AreMaps items = (item : ℕ) (by : ItemMove) → slice_get items item ≡ Some by → by.grant ≡ false
+AreMaps items = AreOfKind false items
 
 -- the child of what stands under the key, with what it has of these rights
 abbrev pub child_at : LinkPlace → ℕ → Standing → RightsSet → Entry

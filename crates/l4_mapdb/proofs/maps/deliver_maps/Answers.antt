@@ -10,10 +10,10 @@ use Rattle.l4_mapdb.proofs.maps.deliver_maps.Goals.{After-grow_children, After-t
 use Rattle.l4_mapdb.proofs.maps.deliver_maps.Goals as goal
 
 ground : (c : goal.After-grow_children) → IsGround c.args.links.now c.args.from c.args.to
-ground c = record { places = c.law_places.ensures; trees = c.law_trees.ensures; clean = c.requires.clean; apart = c.only_maps.ensures.apart c.if-not-only_maps.false }
+ground c = record { places = c.law_places.ensures; trees = c.law_trees.ensures; clean = c.requires.clean; apart = c.only_of_kind.ensures.apart c.if-not-only_of_kind.false }
 
 pub returns-in_default-clause-done : goal.returns-in_default-clause-done
-returns-in_default-clause-done c = λ _. delivered_now c.args.links.now c.args.from c.args.to c.args.items.now (ground (goal.at.returns-in_default-clause-done c).After-grow_children) (c.only_maps.ensures.maps c.if-not-only_maps.false) c.grow_children.new.links
+returns-in_default-clause-done c = λ _. delivered_now c.args.links.now c.args.from c.args.to c.args.items.now (ground (goal.at.returns-in_default-clause-done c).After-grow_children) (c.only_of_kind.ensures.kind c.if-not-only_of_kind.false) c.grow_children.new.links
     c.in_default.ensures.ok c.law_places-in_default.ensures
 
 pub refusal-requires : goal.refusal-requires
@@ -29,13 +29,13 @@ clean_still : (c : goal.After-take_places) → IsClean c.grow_children.new.links
 clean_still c key e at = c.requires.clean key e (sym (c.in-Err.ensures.err key) ∙ at)
 
 again : (c : goal.After-take_places) → IsGround c.grow_children.new.links c.args.from c.args.to
-again c = record { places = c.law_places-2.ensures; trees = c.law_trees-2.ensures; clean = clean_still c; apart = c.only_maps.ensures.apart c.if-not-only_maps.false }
+again c = record { places = c.law_places-2.ensures; trees = c.law_trees-2.ensures; clean = clean_still c; apart = c.only_of_kind.ensures.apart c.if-not-only_of_kind.false }
 
 pub returns-in_default-take_places-clause-done : goal.returns-in_default-take_places-clause-done
 returns-in_default-take_places-clause-done c = λ _.
     delivered_same c.args.from c.args.to c.args.items.now c.args.links.now c.grow_children.new.links c.take_places.new.links
     (unchanged c.args.links.now c.grow_children.new.links c.law_places.ensures c.law_places-2.ensures c.grow_children.ensures.spaces c.in-Err.ensures.err) c.in-Err.ensures.err
-    (delivered_now c.grow_children.new.links c.args.from c.args.to c.args.items.now (again (goal.at.returns-in_default-take_places-clause-done c).After-take_places) (c.only_maps.ensures.maps c.if-not-only_maps.false) c.take_places.new.links
+    (delivered_now c.grow_children.new.links c.args.from c.args.to c.args.items.now (again (goal.at.returns-in_default-take_places-clause-done c).After-take_places) (c.only_of_kind.ensures.kind c.if-not-only_of_kind.false) c.take_places.new.links
     c.in_default-take_places.ensures.ok c.law_places-in_default-take_places.ensures)
 
 -- all is as before after both
