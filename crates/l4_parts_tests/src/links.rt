@@ -40,6 +40,24 @@ fn child(links: &mut Links, parent: usize, page: u32) -> Result<usize, NoMemory>
     Ok(key)
 }
 
+/// The same, added at once.
+fn child_at_once(links: &mut Links, parent: usize, page: u32) -> Result<usize, NoMemory>
+    requires { IsPage page }
+{
+    links.add_space(0)?;
+    let place = Place { space: 0, page };
+    let None = links.find(place) else {
+        return Err(NoMemory);
+    };
+    let Some(above) = links.standing(parent) else {
+        return Err(NoMemory);
+    };
+    if above.rights.is_empty() {
+        return Err(NoMemory);
+    }
+    links.add_child(parent, place, Rights::all())
+}
+
 /// A root with all rights.
 fn root(links: &mut Links, frame: u32) -> Result<usize, NoMemory>
     requires { IsPage frame }
@@ -79,6 +97,13 @@ fn have_rights(links: &Links) -> bool
 fn clear(links: &mut Links, key: usize) {
     if have_rights(links) {
         links.clear(key);
+    }
+}
+
+/// Cuts off what descends from the key, where all that stands has a right.
+fn cut_below(links: &mut Links, key: usize) {
+    if have_rights(links) {
+        links.cut_below(key);
     }
 }
 
@@ -164,6 +189,35 @@ fn clears_a_node_in_the_middle(rt: HostRuntime) {
     // the list goes on from the node before the run to the one after it
     links.cap_below(top, Rights::of_bits(4));
     assert!(rt; stand_so(&links, &[(first, 4, Some(top)), (last, 4, Some(top))]));
+}
+
+#[test]
+fn cuts_off_what_descends(rt: HostRuntime) {
+    let mut links = Links::new(rt.alloc());
+    let [top, last, middle, low, lowest, first] = three_children(&mut links).expect(&rt, "memory");
+    links.set_wanted(lowest, true);
+    cut_below(&mut links, middle);
+    // a wanted page is left as a blank
+    assert_eq!(rt;
+        [links.at(low), links.at(lowest)],
+        [None, blank_entry(13, true)]
+    );
+    assert_eq!(rt;
+        [
+            links.find(place(11)),
+            links.find(place(12)),
+            links.find(place(13))
+        ],
+        [Some(middle), None, Some(lowest)]
+    );
+    // what stands under the key stays, and the list goes on from it to the node after the run
+    links.cap_below(top, Rights::of_bits(4));
+    let rows = [
+        (first, 4, Some(top)),
+        (middle, 4, Some(top)),
+        (last, 4, Some(top)),
+    ];
+    assert!(rt; stand_so(&links, &rows));
 }
 
 /// A root at the frame's page with a child at the page: the two keys.
@@ -263,6 +317,17 @@ fn finds_pages(rt: HostRuntime) {
         ],
         [Some((3, key)), None]
     );
+}
+
+#[test]
+fn adds_a_child_at_once(rt: HostRuntime) {
+    let mut links = Links::new(rt.alloc());
+    let [top, middle, low] = chain(&mut links).expect(&rt, "memory");
+    let next = child_at_once(&mut links, middle, 12).expect(&rt, "memory");
+    links.cap_below(middle, Rights::of_bits(5));
+    let rows = [(low, 5, Some(middle)), (next, 5, Some(middle))];
+    assert!(rt; stand_so(&links, &[(middle, 7, Some(top))]) && stand_so(&links, &rows));
+    assert_eq!(rt; links.find(place(12)), Some(next));
 }
 
 #[test]
