@@ -106,8 +106,8 @@ fn take_back<R: Input + Print>(rt: &R, forest: &mut Forest) -> io::Result<()> {
     show(rt, "done end_space", forest)
 }
 
-/// Maps pages into tables that are there and into others, grants one of them, and takes them back. Answers whether there was memory for
-/// a forest.
+/// Maps pages into tables that are there and into others, grants one of them, and takes them back. Memory for four spaces is taken at once,
+/// so the fifth is the one that is refused. Answers whether there was memory for a forest.
 fn tell_once<R: AllocGlobal + Input + Print>(rt: &R) -> io::Result<bool> {
     let Ok(mut forest) = Forest::new(rt.alloc(), FRAMES) else {
         println!(rt; "refused new_forest\n.")?;
@@ -125,6 +125,7 @@ fn tell_once<R: AllocGlobal + Input + Print>(rt: &R) -> io::Result<bool> {
     map(rt, &mut forest, 2, 3, &on)?;
     let granted = [item(6, 70, 0, true)];
     map(rt, &mut forest, 2, 3, &granted)?;
+    begin(rt, &mut forest, 4)?;
     take_back(rt, &mut forest)?;
     Ok(true)
 }

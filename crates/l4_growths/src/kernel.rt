@@ -189,11 +189,11 @@ fn spare<R: Input + Print>(rt: &R, kernel: &mut Kernel) -> io::Result<()> {
     Ok(())
 }
 
-/// Makes threads, and maps pages.
+/// Makes threads, so many that a space takes memory, and maps pages.
 fn take_memory(rt: &impl Print, kernel: &mut Kernel) -> io::Result<()> {
     println!(rt; "done boot")?;
     show(rt, kernel)?;
-    for number in [3, 4] {
+    for number in [3, 4, 6] {
         step(rt, kernel, &Step::Start(ROOT, create(number)))?;
     }
     for words in [MAPS, MAPS_FOUR] {
