@@ -60,6 +60,21 @@ impl Model for Spaces {
     ghost invariant = { IsKept };
 }
 
+/// Where the space stands among all. It is rare that it doesn't stand at its number.
+#[cold]
+fn index_among(spaces: &Vec<(u64, Vec<Vec<Option<usize>>>)>, space: u64) -> Option<usize>
+    requires { IsOnce spaces.now.items }
+    ensures at { MatchOption result (has spaces.now.items space ≡ false) (StandsAt space spaces.now.items) }
+    ensures within { IfSome result (λ at. at < length spaces.now.items) }
+{
+    for index in 0..spaces.len() {
+        if spaces[index].0 == space {
+            return Some(index);
+        }
+    }
+    None
+}
+
 /// Where the space stands. Where no space has ended, it stands at its number.
 #[inline]
 fn index_of(spaces: &Vec<(u64, Vec<Vec<Option<usize>>>)>, space: u64) -> Option<usize>
@@ -71,12 +86,7 @@ fn index_of(spaces: &Vec<(u64, Vec<Vec<Option<usize>>>)>, space: u64) -> Option<
     if number < spaces.len() && spaces[number].0 == space {
         return Some(number);
     }
-    for index in 0..spaces.len() {
-        if spaces[index].0 == space {
-            return Some(index);
-        }
-    }
-    None
+    index_among(spaces, space)
 }
 
 impl Spaces {

@@ -71,6 +71,7 @@ fn unmake(tables: &mut Vec<Vec<Option<usize>>>, alloc: Global, high: usize)
 }
 
 /// Makes the root just long enough for the table with this number. The tables that come with that are absent.
+#[cold]
 #[inline(never)]
 fn grow_root(
     tables: &mut Vec<Vec<Option<usize>>>,
@@ -117,6 +118,7 @@ fn first_absent(tables: &Vec<Vec<Option<usize>>>, pages: &[u32]) -> Option<usize
 }
 
 /// Makes the tables of all these pages. Where memory is refused, those that were made go again, but a root that grew stays.
+#[cold]
 #[inline(never)]
 fn make_more(
     tables: &mut Vec<Vec<Option<usize>>>,
