@@ -50,6 +50,14 @@ fn place_of(numbers: &[u32], number: u32) -> Option<usize>
     None
 }
 
+/// Where the number stands if it doesn't stand at its hint, which is rare.
+#[cold]
+fn place_among(numbers: &[u32], number: u32) -> Option<usize>
+    ensures { MatchOption result (IsNowhere numbers.now number) (IsFirst numbers.now number) }
+{
+    place_of(numbers, number)
+}
+
 /// Hints at where each number stands.
 fn hint_all(hints: &mut [u8], numbers: &[u32])
     requires counted { length hints.old ≡ hint_count }
@@ -114,7 +122,7 @@ impl Roster {
         if hint < numbers.len() && numbers[hint] == number {
             return Some(hint);
         }
-        place_of(numbers, number)
+        place_among(numbers, number)
     }
 
     /// The thread of this number.

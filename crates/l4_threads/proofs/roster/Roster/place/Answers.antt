@@ -19,8 +19,8 @@ returns c =
     let numbers = c.as_slice-numbers.result.now in
     let n = c.args.number in
     let listed = c.as_slice-numbers.ensures.value ∙ c.self.invariant.listed in
-    subst (λ (es : Entries). MatchOption c.place_of.result (found es n ≡ None) (IsAt es n)) c.self.view_is
-    (elim c.place_of.result as (λ (o : Option ℕ). MatchOption o (IsNowhere numbers n) (IsFirst numbers n) → MatchOption o (found es n ≡ None) (IsAt es n)) [
+    subst (λ (es : Entries). MatchOption c.place_among.result (found es n ≡ None) (IsAt es n)) c.self.view_is
+    (elim c.place_among.result as (λ (o : Option ℕ). MatchOption o (IsNowhere numbers n) (IsFirst numbers n) → MatchOption o (found es n ≡ None) (IsAt es n)) [
       | None ↦ λ none. not_found es numbers n listed none
       | Some at ↦ λ first. is_at es numbers n at listed first
-    ] c.place_of.ensures)
+    ] c.place_among.ensures)
