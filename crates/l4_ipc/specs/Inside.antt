@@ -3,4 +3,3 @@ pub mod Entering
 pub mod Kept
 pub mod Sound
 pub mod Turns
-pub mod Untold

@@ -2,6 +2,7 @@
 ghost use Rattle.std.specs.Prelude.{◌≡◌, ◌≤◌, ◌++◌, ◌∷◌, [], ℕ, length, true, false, IsTrue, IsSome, MatchOption, Ok, Err, IfOk, IfErr, OnOk, OnErr};
 ghost use Rattle.l4_mapdb.specs.Mappings.{Mappings};
 ghost use Rattle.l4_threads.specs.Threads.{state_of, runs, end_call};
+ghost use Rattle.l4_threads.specs.Enabled.{IsFirstSender};
 ghost use Rattle.l4_threads.specs.declared.Reply.TheVariants.{Controlled};
 ghost use Rattle.l4_ipc.specs.Machine.{machine};
 ghost use Rattle.l4_threads.specs.Control.{asks_new};
@@ -13,7 +14,6 @@ ghost use Rattle.l4_ipc.specs.Start.{has_send, has_bad_timeout, IsSent};
 ghost use Rattle.l4_ipc.specs.Inside.Turns.{reply_of, sent_of};
 ghost use Rattle.l4_ipc.specs.OwnCall.{ended_if, answered_if, is_delete, Enters};
 ghost use Rattle.l4_ipc.specs.NextSteps.{transfer_answer, expire_answer};
-ghost use Rattle.l4_ipc.specs.Inside.Untold.{transferred};
 ghost use Rattle.l4_ipc.specs.Steps.{expiry, with_space, Steps};
 ghost use Rattle.l4_ipc.specs.declared.steps.Step.TheVariants.{Start, Transfer as Transfers, Expire as Expires};
 ghost use Rattle.l4_ipc.specs.declared.steps.Outcome.TheVariants.{Started};
@@ -358,19 +358,20 @@ pub fn start(
     delete(threads, forest, number, id)
 }
 
-/// Does a transfer, and tells what it did, and whether the sender's call ended.
-pub fn transfer_untold(
+/// Does a transfer that is enabled, and tells what it did, and whether the sender's call ended.
+pub fn carry_over(
     threads: &mut Threads,
     forest: &mut Forest,
     sender: u32,
     receiver: u32,
-) -> Result<(Outcome, bool), Refused>
-    requires { HaveSpaces forest.old.spaces threads.old }
-    ensures { Steps (machine threads.old forest.old) (Transfers sender receiver) (transferred sender receiver result) (machine threads.new forest.new) }
+) -> (Outcome, bool)
+    requires spaces { HaveSpaces forest.old.spaces threads.old }
+    requires enabled { IsFirstSender threads.old receiver sender }
+    ensures { Steps (machine threads.old forest.old) (Transfers sender receiver) (Ok (transfer_answer sender receiver result.0 result.1)) (machine threads.new forest.new) }
 {
     let mut words: ArrayVec<u32, MAX_WORDS> = ArrayVec::new();
     let Some(meeting) = meet(threads, sender, receiver) else {
-        return Err(Refused::NotEnabled);
+        unreachable!()
     };
     let items = meeting.sends.items.as_slice();
     let outcome = deliver(
@@ -392,7 +393,7 @@ pub fn transfer_untold(
     let turn = sender_turn(done, threads, meeting.sends);
     end_receiver(threads, receiver, ending, envelope, words.as_slice());
     let ends = enter(threads, sender, turn);
-    Ok((outcome, ends))
+    (outcome, ends)
 }
 
 /// The answer of a transfer.
@@ -414,10 +415,11 @@ pub fn transfer(
     requires { HaveSpaces forest.old.spaces threads.old }
     ensures { Steps (machine threads.old forest.old) (Transfers sender receiver) result (machine threads.new forest.new) }
 {
-    match transfer_untold(threads, forest, sender, receiver) {
-        Ok((outcome, ends)) => Ok(transfer_answer(sender, receiver, outcome, ends)),
-        Err(e) => Err(e),
+    if !threads.can_transfer(sender, receiver) {
+        return Err(Refused::NotEnabled);
     }
+    let (outcome, ends) = carry_over(threads, forest, sender, receiver);
+    Ok(transfer_answer(sender, receiver, outcome, ends))
 }
 
 /// How a call that expires ends.

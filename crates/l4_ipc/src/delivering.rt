@@ -32,13 +32,11 @@ pub struct Meeting<'a> {
     pub takes: &'a Receiving,
 }
 
-/// The two threads of a transfer, if it is enabled.
+/// The two threads of a transfer, if the one sends and the other receives, as they do where it is enabled.
 pub fn meet(threads: &Threads, sender: u32, receiver: u32) -> Option<Meeting<'_>>
-    ensures { MatchOption result (¬ (IsFirstSender threads.now receiver sender)) (λ m. Meets threads.now sender receiver m.from.now m.to.now m.sends.now m.takes.now) }
+    ensures { MatchOption result (¬ (IsFirstSender threads.now receiver sender))
+        (λ m. IsFirstSender threads.now receiver sender → Meets threads.now sender receiver m.from.now m.to.now m.sends.now m.takes.now) }
 {
-    if !threads.can_transfer(sender, receiver) {
-        return None;
-    }
     let from = threads.thread(sender)?;
     let to = threads.thread(receiver)?;
     let sends = from.state.sending()?;

@@ -4,7 +4,7 @@ ghost use Rattle.std.specs.List.{All};
 ghost use Rattle.std.specs.Option.{option_copied};
 ghost use Rattle.l4_mapdb.specs.declared.Place.{Place};
 
-use crate::acting::{enter_call, expire, expire_untold, start, transfer, transfer_untold};
+use crate::acting::{carry_over, enter_call, expire, expire_untold, start, transfer};
 use crate::calls::Call;
 use crate::steps::{Answer, Lower, NextStep, Refused, Step};
 use l4_mapdb::{Forest, MAX_FRAMES, Mapping, NoMemory};
@@ -195,14 +195,7 @@ impl Kernel {
         let threads = &*self.threads;
         let enabled = threads.next_transfer();
         if let Some((from, to)) = enabled {
-            let Ok((outcome, ends)) = transfer_untold(
-                &mut *self.threads,
-                &mut self.forest,
-                from,
-                to,
-            ) else {
-                return None;
-            };
+            let (outcome, ends) = carry_over(&mut *self.threads, &mut self.forest, from, to);
             return Some(NextStep::Transfer(from, to, outcome, ends));
         }
         let Some(number) = threads.next_expiry() else {
