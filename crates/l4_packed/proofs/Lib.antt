@@ -1,4 +1,5 @@
 pub mod RoundTrip
+pub mod Small
 pub mod Unpacking
 pub mod Packed
 pub mod Finding

@@ -114,6 +114,7 @@ fn share(own: &mut FullPiece, theirs: &mut FullPiece, alloc: Global)
 }
 
 /// The same for the pieces at this place of two lists.
+#[cold]
 #[inline(never)]
 pub(crate) fn share_at(
     own: &mut Vec<FullPiece>,

@@ -1,6 +1,7 @@
 //! Numbers as bytes.
-ghost use Rattle.std.specs.Prelude.{◌≡◌, ◌+◌, ◌≤◌, ◌++◌, ◌∷◌, [], length, vec_len, vec_capacity};
-ghost use Rattle.l4_packed.specs.Inside.Bytes.{Reads, number_code, number_at, two_bytes_at, three_bytes_at, four_bytes_at};
+ghost use Rattle.std.specs.Prelude.{◌≡◌, ◌+◌, ◌*◌, ◌≤◌, ◌++◌, ◌∷◌, [], length, true, vec_len, vec_capacity};
+ghost use Rattle.std.specs.List.{list_all};
+ghost use Rattle.l4_packed.specs.Inside.Bytes.{Reads, number_code, numbers_code, is_small, number_at, two_bytes_at, three_bytes_at, four_bytes_at};
 
 use crate::bytes::{Bytes, WORDS_BYTES};
 
@@ -25,15 +26,15 @@ const TWO_LIMIT: u32 = 0x1_0000;
 /// A number below this has three bytes at most.
 const THREE_LIMIT: u32 = 0x100_0000;
 
-/// How many bytes a number has.
+/// How many bytes a number has that is not one byte below `TWO`.
 #[tactic(auto, unfolding(crate::specs::Inside::Bytes::number_code))]
-pub(crate) fn number_len(number: u32) -> usize
+#[cold]
+fn long_len(number: u32) -> usize
+    requires { TWO ≤ number }
     ensures exact { result ≡ length (number_code number) }
     ensures few { result ≤ NUMBER_BYTES }
 {
-    if number < u32::from(TWO) {
-        1
-    } else if number < TWO_LIMIT {
+    if number < TWO_LIMIT {
         3
     } else if number < THREE_LIMIT {
         4
@@ -44,17 +45,30 @@ pub(crate) fn number_len(number: u32) -> usize
     }
 }
 
-/// Appends a number, for whose bytes there is room.
+/// How many bytes a number has.
 #[tactic(auto, unfolding(crate::specs::Inside::Bytes::number_code))]
-pub(crate) fn put_number(out: &mut Vec<u8>, number: u32)
-    requires { vec_len out.old + length (number_code number) ≤ vec_capacity out.old }
+pub(crate) fn number_len(number: u32) -> usize
+    ensures exact { result ≡ length (number_code number) }
+    ensures few { result ≤ NUMBER_BYTES }
+{
+    if number < u32::from(TWO) {
+        return 1;
+    }
+    long_len(number)
+}
+
+/// Appends a number that is not one byte below `TWO`, for whose bytes there is room.
+#[tactic(auto, unfolding(crate::specs::Inside::Bytes::number_code))]
+#[cold]
+#[inline(never)]
+fn put_long(out: &mut Vec<u8>, number: u32)
+    requires long { TWO ≤ number }
+    requires room { vec_len out.old + length (number_code number) ≤ vec_capacity out.old }
     ensures items { out.new.items ≡ out.old.items ++ number_code number }
     ensures len { vec_len out.new ≡ vec_len out.old + length (number_code number) }
     ensures capacity { vec_capacity out.new ≡ vec_capacity out.old }
 {
-    if number < u32::from(TWO) {
-        out.push_reserved(number as u8);
-    } else if number < TWO_LIMIT {
+    if number < TWO_LIMIT {
         out.push_reserved(TWO);
         out.push_reserved((number % 256) as u8);
         out.push_reserved((number / 256) as u8);
@@ -72,6 +86,20 @@ pub(crate) fn put_number(out: &mut Vec<u8>, number: u32)
         out.push_reserved((number / TWO_LIMIT % 256) as u8);
         out.push_reserved((number / THREE_LIMIT) as u8);
     }
+}
+
+/// Appends a number, for whose bytes there is room.
+#[tactic(auto, unfolding(crate::specs::Inside::Bytes::number_code))]
+pub(crate) fn put_number(out: &mut Vec<u8>, number: u32)
+    requires { vec_len out.old + length (number_code number) ≤ vec_capacity out.old }
+    ensures items { out.new.items ≡ out.old.items ++ number_code number }
+    ensures len { vec_len out.new ≡ vec_len out.old + length (number_code number) }
+    ensures capacity { vec_capacity out.new ≡ vec_capacity out.old }
+{
+    if number < u32::from(TWO) {
+        return out.push_reserved(number as u8);
+    }
+    put_long(out, number);
 }
 
 /// Appends a number to the bytes of words. Those of one number are appended together, so that where they end is written once.
@@ -95,6 +123,50 @@ pub(crate) fn add_number(out: &mut Bytes, number: u32)
     } else {
         out.extend(&[FOUR, low, second, third, (number / THREE_LIMIT) as u8]);
     }
+}
+
+/// Whether each of these numbers is one byte, which is the number.
+#[inline(always)]
+fn are_small(numbers: &[u32]) -> bool
+    ensures { result ≡ list_all is_small numbers.now }
+{
+    numbers.iter().all(|number| *number < u32::from(TWO))
+}
+
+/// Appends numbers that are one byte each.
+#[inline(always)]
+fn add_small(out: &mut Bytes, numbers: &[u32])
+    requires small { list_all is_small numbers.now ≡ true }
+    requires room { length out.old.items + length numbers.now ≤ WORDS_BYTES }
+    ensures { out.new.items ≡ out.old.items ++ numbers.now }
+{
+    for number in numbers {
+        out.push(*number as u8);
+    }
+}
+
+/// Appends numbers one by one.
+#[cold]
+#[inline(never)]
+fn add_each(out: &mut Bytes, numbers: &[u32])
+    requires { length out.old.items + NUMBER_BYTES * length numbers.now ≤ WORDS_BYTES }
+    ensures { out.new.items ≡ out.old.items ++ numbers_code numbers.now }
+{
+    for number in numbers {
+        add_number(out, *number);
+    }
+}
+
+/// Appends numbers. Where each is one byte, they are appended together, so that where they end is written once.
+#[inline(always)]
+pub(crate) fn add_numbers(out: &mut Bytes, numbers: &[u32])
+    requires { length out.old.items + NUMBER_BYTES * length numbers.now ≤ WORDS_BYTES }
+    ensures { out.new.items ≡ out.old.items ++ numbers_code numbers.now }
+{
+    if are_small(numbers) {
+        return add_small(out, numbers);
+    }
+    add_each(out, numbers);
 }
 
 /// A number of two bytes, and the bytes after it.

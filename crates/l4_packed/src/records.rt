@@ -61,6 +61,26 @@ fn find(pieces: &[FullPiece], place: usize) -> Option<Words<'_>>
     piece.get(place - piece.first())
 }
 
+/// Begins another piece, since the current one may have no room for a record.
+#[cold]
+#[inline(never)]
+fn next_piece(full: &mut Vec<FullPiece>, current: &mut Piece, spare: &mut Vec<Vec<u8>>)
+    requires little { current.old.free < RECORD_BYTES }
+    requires ready { (room : ℕ) × IsStore full.old.items current.old spare.old.items (vec_capacity full.old) room
+        × (length (records_of full.old.items) + length current.old.records < room) }
+    ensures records { records_of full.new.items ++ current.new.records ≡ records_of full.old.items ++ current.old.records }
+    ensures free { RECORD_BYTES ≤ current.new.free }
+    ensures kept { (room : ℕ) → IsStore full.old.items current.old spare.old.items (vec_capacity full.old) room
+        → IsStore full.new.items current.new spare.new.items (vec_capacity full.new) room }
+{
+    let Some(bytes) = spare.pop() else {
+        unreachable!()
+    };
+    let next = Piece::new(current.first() + current.count(), bytes);
+    let last = mem::replace(current, next);
+    full.push_reserved(FullPiece::new(last));
+}
+
 /// Sees to it that a record of this size fits into the current piece.
 fn make_room(full: &mut Vec<FullPiece>, current: &mut Piece, spare: &mut Vec<Vec<u8>>, size: usize)
     requires few { size ≤ RECORD_BYTES }
@@ -74,12 +94,7 @@ fn make_room(full: &mut Vec<FullPiece>, current: &mut Piece, spare: &mut Vec<Vec
     if current.free() >= size {
         return;
     }
-    let Some(bytes) = spare.pop() else {
-        unreachable!()
-    };
-    let next = Piece::new(current.first() + current.count(), bytes);
-    let last = mem::replace(current, next);
-    full.push_reserved(FullPiece::new(last));
+    next_piece(full, current, spare);
 }
 
 /// Gets memory for pieces until there is enough for this many.
@@ -178,6 +193,7 @@ impl Records {
 
     /// `reserve` where there is too little room. No memory is taken while the piece in use has room for more than is asked, so that
     /// room isn't made for each record at its end.
+    #[cold]
     #[inline(never)]
     fn grow(&mut self, more: usize) -> Result<(), AllocError>
         requires little { self.old.room < length self.old.records + more }

@@ -51,8 +51,7 @@ pub fn put_start_of(out: &mut Record, caller: u32, call: &Words<'_>)
     requires { length out.old.items + 2 + length call.now ≤ RECORD_WORDS }
     ensures { out.new.items ≡ out.old.items ++ 0 ∷ caller ∷ call.now }
 {
-    out.push(0);
-    out.push(caller);
+    out.push_all(&[0, caller]);
     out.append(call);
 }
 
@@ -111,8 +110,7 @@ pub fn put_own_answer(out: &mut Record, thread: u32, ended: bool)
     ensures short { length (answer_code (own_answer ended thread)) ≤ ANSWER_WORDS }
 {
     if ended {
-        out.push(OUTCOMES);
-        out.push(thread);
+        out.push_all(&[OUTCOMES, thread]);
     } else {
         out.push(0);
     }
@@ -126,22 +124,15 @@ pub fn put_next(out: &mut Record, next: NextStep)
 {
     match next {
         NextStep::Transfer(sender, receiver, outcome, ends) => {
+            let head = outcome_word(outcome) + OUTCOMES;
             if ends {
-                out.push(outcome_word(outcome) + 2 * OUTCOMES);
-                out.push(sender);
+                out.push_all(&[head + OUTCOMES, sender, receiver, 1, sender, receiver]);
             } else {
-                out.push(outcome_word(outcome) + OUTCOMES);
+                out.push_all(&[head, receiver, 1, sender, receiver]);
             }
-            out.push(receiver);
-            out.push(1);
-            out.push(sender);
-            out.push(receiver);
         }
         NextStep::Expire(waiter) => {
-            out.push(5 + OUTCOMES);
-            out.push(waiter);
-            out.push(2);
-            out.push(waiter);
+            out.push_all(&[5 + OUTCOMES, waiter, 2, waiter]);
         }
     }
 }

@@ -5,7 +5,7 @@ ghost use Rattle.l4_packed.specs.Inside.Pieces.{AreWords};
 ghost use Rattle.l4_packed.specs.Words.{Gives, counted, flag, if_set, word_at, set_at, list_at, sized_at, counted_at};
 
 use crate::bytes::{Bytes, WORDS_BYTES};
-use crate::numbers::{add_number, read_number};
+use crate::numbers::{add_number, add_numbers, read_number};
 use arrayvec::ArrayVec;
 use std::marker::Model;
 
@@ -53,6 +53,15 @@ impl Record {
         ensures items { self.new.items ≡ self.old.items ++ word ∷ [] }
     {
         add_number(&mut self.bytes, word);
+    }
+
+    /// Appends a few words. It costs less than to append one after another, where their number is known as the program is built.
+    #[inline(always)]
+    pub fn push_all(&mut self, words: &[u32])
+        requires { length self.old.items + length words.now ≤ RECORD_WORDS }
+        ensures items { self.new.items ≡ self.old.items ++ words.now }
+    {
+        add_numbers(&mut self.bytes, words);
     }
 
     /// Appends words.

@@ -1,5 +1,5 @@
 -- Numbers, and records of numbers, as bytes. (this profile's own)
-use Rattle.std.specs.Prelude.{ℕ, zero, suc, ◌+◌, ◌*◌, ◌/◌, ◌%◌, ◌^◌, ◌==◌, List, [], ◌∷◌, ◌++◌, length, take, drop, Option, Some, None, nat_lt, if◌then◌else◌}
+use Rattle.std.specs.Prelude.{ℕ, zero, suc, ◌+◌, ◌*◌, ◌/◌, ◌%◌, ◌^◌, ◌==◌, Bool, List, [], ◌∷◌, ◌++◌, length, take, drop, Option, Some, None, nat_lt, if◌then◌else◌}
 use Rattle.std.specs.List.{flat_map}
 use Rattle.std.specs.Borrow.{Bor}
 use Rattle.l4_packed.specs.Words.{Gives, ◌>>=◌}
@@ -28,6 +28,10 @@ number_code n =
     else (if nat_lt n (2 ^ 24) then 253 ∷ n % 256 ∷ n / 256 % 256 ∷ n / 2 ^ 16 ∷ []
     else (if n == 4294967295 then 255 ∷ []
     else 254 ∷ n % 256 ∷ n / 256 % 256 ∷ n / 2 ^ 16 % 256 ∷ n / 2 ^ 24 ∷ [])))
+
+-- a number of one byte, which is the number
+abbrev pub is_small : ℕ → Bool
+is_small n = nat_lt n 252
 
 abbrev pub two_bytes_at : List ℕ → Option (ℕ × List ℕ)
 two_bytes_at (a ∷ b ∷ rest) = Some (a + 256 * b, rest)
