@@ -190,6 +190,21 @@ impl Accounts {
     }
 }
 
+/// Where the account of a number stands among all. It is rare that the seats were not given in the order of their numbers.
+#[cold]
+fn position_among(accounts: &[Account], number: u32) -> Option<usize>
+    requires { IsOnce (numbers accounts.now) }
+    ensures { MatchOption result (book_at accounts.now number ≡ None)
+        (λ at. (at < length accounts.now) × (book_at accounts.now number ≡ slice_get accounts.now at)) }
+{
+    for (i, account) in accounts.iter().enumerate() {
+        if account.number() == number {
+            return Some(i);
+        }
+    }
+    None
+}
+
 /// Where the account of a number stands. Nothing is searched where the seats were given in the order of their numbers, from 1 on.
 fn position(accounts: &[Account], number: u32) -> Option<usize>
     requires { IsOnce (numbers accounts.now) }
@@ -200,12 +215,7 @@ fn position(accounts: &[Account], number: u32) -> Option<usize>
     if guess < accounts.len() && accounts[guess].number() == number {
         return Some(guess);
     }
-    for (i, account) in accounts.iter().enumerate() {
-        if account.number() == number {
-            return Some(i);
-        }
-    }
-    None
+    position_among(accounts, number)
 }
 
 /// Whether an ended call of this number hasn't been taken.
@@ -219,7 +229,9 @@ fn reply_waits(accounts: &[Account], number: u32) -> bool
     }
 }
 
-/// The number of the first account with an ended call that hasn't been taken.
+/// The number of the first account with an ended call that hasn't been taken. It is rare that the account of such a call isn't one of those
+/// whose calls ended last.
+#[cold]
 fn first_reply(accounts: &[Account]) -> Option<u32>
     ensures { result ≡ first_reply accounts.now }
 {

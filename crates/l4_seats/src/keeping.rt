@@ -8,6 +8,21 @@ ghost use Rattle.l4_seats.specs.Inside.Keeping.{numbers_of, seat_at, AreTheirs, 
 use l4_ipc::Call;
 use l4_lock::{LockRefusal, Locked, Seat};
 
+/// Where the seat of a number stands among all. It is rare that the seats were not given in the order of their numbers.
+#[cold]
+fn position_among(seats: &[Seat], number: u32) -> Option<usize>
+    requires { IsOnce (numbers_of seats.now) }
+    ensures { MatchOption result (seat_at seats.now number ≡ None)
+        (λ at. (at < length seats.now) × (seat_at seats.now number ≡ slice_get seats.now at)) }
+{
+    for (i, seat) in seats.iter().enumerate() {
+        if seat.number() == number {
+            return Some(i);
+        }
+    }
+    None
+}
+
 /// Where the seat of a number stands. Nothing is searched where the seats were given in the order of their numbers, from 1 on.
 pub fn position(seats: &[Seat], number: u32) -> Option<usize>
     requires { IsOnce (numbers_of seats.now) }
@@ -18,12 +33,7 @@ pub fn position(seats: &[Seat], number: u32) -> Option<usize>
     if guess < seats.len() && seats[guess].number() == number {
         return Some(guess);
     }
-    for (i, seat) in seats.iter().enumerate() {
-        if seat.number() == number {
-            return Some(i);
-        }
-    }
-    None
+    position_among(seats, number)
 }
 
 /// The seat of a number takes the reply of its call that has ended.
