@@ -83,6 +83,7 @@ fn first_number(text: &[u8]) -> Option<(u32, &[u8])>
 }
 
 /// What `next_number` gives, for any token.
+#[cold]
 #[inline(never)]
 fn any_number(line: &[u8]) -> Option<(Option<u32>, &[u8])>
     ensures { MatchOption result (tokens_of line.now ≡ []) (λ p. FirstNumber line.now p.0 p.1.now) }

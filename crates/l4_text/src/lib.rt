@@ -4,6 +4,7 @@
 mod failing;
 mod faults;
 mod first_numbers;
+mod kept;
 mod lines;
 mod numbers;
 mod output;

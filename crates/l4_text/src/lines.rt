@@ -6,13 +6,13 @@ ghost use Rattle.l4_text.specs.Lines.{NoNewline, GivesLine};
 ghost use Rattle.l4_text.specs.Sizes.{most_reads};
 
 use crate::faults::RunFault;
-use arrayvec::ArrayVec;
+use crate::kept::KeptBytes;
 use memchr::{memchr, memrchr};
 use std::io::Read;
 use std::marker::Model;
 
 /// The most bytes of a line that are kept, and that one read takes.
-const MAX_LINE: usize = 4_096;
+pub(crate) const MAX_LINE: usize = 4_096;
 
 /// The most reads of a stream.
 const MOST_READS: u32 = 16_777_216;
@@ -109,6 +109,7 @@ impl Source {
 
     /// Reads the next bytes, in one read, in place of those that were there. False at the end of the
     /// stream.
+    #[cold]
     #[inline(never)]
     fn fill<R: Read>(&mut self, reader: &mut R) -> Result<bool, RunFault>
         ensures { Filled (R.remaining reader.old) (R.remaining reader.new) self.old self.new result }
@@ -136,7 +137,7 @@ impl Source {
 /// A line as far as it came, or the first 4,096 bytes of a longer one.
 #[derive(Drop)]
 pub struct Line {
-    bytes: ArrayVec<u8, MAX_LINE>,
+    bytes: KeptBytes,
     long: bool,
 }
 
@@ -145,7 +146,7 @@ impl Model for Line {
 
     ghost Value = { List ℕ × Bool };
 
-    ghost view = { λ a. (a.bytes.items, a.long) };
+    ghost view = { λ a. (a.bytes, a.long) };
 }
 
 impl Line {
@@ -156,7 +157,7 @@ impl Line {
         ensures { result ≡ kept_of [] }
     {
         Line {
-            bytes: ArrayVec::new(),
+            bytes: KeptBytes::new(),
             long: false,
         }
     }
@@ -184,11 +185,11 @@ impl Line {
     fn add(&mut self, bytes: &[u8])
         ensures { (before : List ℕ) → self.old ≡ kept_of before → self.new ≡ kept_of (before ++ bytes.now) }
     {
-        let room = self.bytes.remaining_capacity();
+        let room = self.bytes.room();
         if bytes.len() <= room {
-            let _ = self.bytes.try_extend_from_slice(bytes);
+            self.bytes.extend(bytes);
         } else {
-            let _ = self.bytes.try_extend_from_slice(&bytes[..room]);
+            self.bytes.extend(&bytes[..room]);
             self.long = true;
         }
     }

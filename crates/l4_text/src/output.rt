@@ -161,6 +161,7 @@ impl Output {
     }
 
     /// Writes what is held back.
+    #[cold]
     #[inline(never)]
     fn send<W: Write>(&mut self, writer: &mut W)
         ensures none { self.new.0 ≡ [] }
