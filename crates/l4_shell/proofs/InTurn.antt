@@ -11,9 +11,9 @@ use Rattle.l4_shell.specs.Commands.{◌>>=◌, thread_of, nil_or_thread_of, part
 use Rattle.l4_shell.specs.declared.partners.Partner.{Partner}
 use Rattle.l4_shell.specs.declared.partners.Partner.TheVariants.{Nil, Any, Thread}
 use Rattle.l4_shell.specs.declared.commands.Command.{Command}
-use Rattle.l4_shell.specs.declared.commands.Command.TheVariants.{Receive, Send}
+use Rattle.l4_shell.specs.declared.commands.Command.TheVariants.{Receive, Send, Ipc}
 use Rattle.l4_shell.specs.declared.commands.ScriptFault.TheVariants.{BadTokens}
-use Rattle.l4_shell.specs.Inside.InTurn.{first_by, at_end, receive_in_turn, send_in_turn}
+use Rattle.l4_shell.specs.Inside.InTurn.{first_by, at_end, receive_in_turn, send_in_turn, ipc_in_turn}
 
 -- ---- a token that a number spells
 
@@ -170,3 +170,67 @@ send_is name tokens is = ap (λ n. command_of (n ∷ tokens)) (sym ((bytes_eq-De
 pub ipc_is : (name : List ℕ) (tokens : List (List ℕ)) → bytes_eq name (codes "ipc") ≡ true → ok_or (ipc_asked tokens) BadTokens ≡ command_of (name ∷ tokens)
 unfolding command_of
 ipc_is name tokens is = ap (λ n. command_of (n ∷ tokens)) (sym ((bytes_eq-Decides name (codes "ipc")).0 is))
+
+-- ---- one token of several
+
+one_first : {A B : Type 0} (f : List ℕ → Option A) (a : List ℕ) (ts : List (List ℕ)) (k : A × List (List ℕ) → Option B) → (first_by f (a ∷ ts) >>= k) ≡ (f a >>= λ x. k (x, ts))
+one_first {A} {B} f a ts k = elim (f a) as (λ (o : Option A). ((o >>= λ x. Some (x, ts)) >>= k) ≡ (o >>= λ x. k (x, ts))) [
+  | None ↦ refl
+  | Some x ↦ refl
+]
+
+then_none : {A B : Type 0} (o : Option A) → ◌≡◌ {A = Option B} (o >>= λ x. None) None
+then_none None = refl
+then_none (Some x) = refl
+
+abbrev ipc_words : ℕ → Partner → Partner → ℕ → ℕ → List (List ℕ) → Option Command
+ipc_words n to «from» t w ts = words_of ts >>= λ ws. Some (Ipc n to «from» t w ws)
+
+abbrev ipc_window : ℕ → Partner → Partner → ℕ → List (List ℕ) → Option Command
+ipc_window n to «from» t ts = first_by number_of ts >>= λ w. ipc_words n to «from» t w.0 w.1
+
+abbrev ipc_timeouts : ℕ → Partner → Partner → List (List ℕ) → Option Command
+ipc_timeouts n to «from» ts = first_by number_of ts >>= λ t. ipc_window n to «from» t.0 t.1
+
+abbrev ipc_from : ℕ → Partner → List (List ℕ) → Option Command
+ipc_from n to ts = first_by partner_of ts >>= λ p. ipc_timeouts n to p.0 p.1
+
+abbrev ipc_to : ℕ → List (List ℕ) → Option Command
+ipc_to n ts = first_by partner_of ts >>= λ p. ipc_from n p.0 p.1
+
+window_turn : (n : ℕ) (to «from» : Partner) (t : ℕ) (w : List ℕ) (ts : List (List ℕ)) → ipc_window n to «from» t (w ∷ ts) ≡ (number_of w >>= λ x. ipc_words n to «from» t x ts)
+window_turn n to «from» t w ts = one_first number_of w ts (λ x. ipc_words n to «from» t x.0 x.1)
+
+timeouts_one : (n : ℕ) (to «from» : Partner) (t : List ℕ) → ipc_timeouts n to «from» (t ∷ []) ≡ None
+timeouts_one n to «from» t = one_first number_of t [] (λ x. ipc_window n to «from» x.0 x.1) ∙ then_none (number_of t)
+
+timeouts_turn : (n : ℕ) (to «from» : Partner) (t w : List ℕ) (ts : List (List ℕ)) → ipc_timeouts n to «from» (t ∷ w ∷ ts) ≡ (number_of t >>= λ x. number_of w >>= λ y. ipc_words n to «from» x y ts)
+timeouts_turn n to «from» t w ts = one_first number_of t (w ∷ ts) (λ x. ipc_window n to «from» x.0 x.1) ∙ (λ i. number_of t >>= λ x. window_turn n to «from» x w ts i)
+
+from_one : (n : ℕ) (to : Partner) (p : List ℕ) → ipc_from n to (p ∷ []) ≡ None
+from_one n to p = one_first partner_of p [] (λ x. ipc_timeouts n to x.0 x.1) ∙ then_none (partner_of p)
+
+from_two : (n : ℕ) (to : Partner) (p t : List ℕ) → ipc_from n to (p ∷ t ∷ []) ≡ None
+from_two n to p t = one_first partner_of p (t ∷ []) (λ x. ipc_timeouts n to x.0 x.1) ∙ (λ i. partner_of p >>= λ x. timeouts_one n to x t i) ∙ then_none (partner_of p)
+
+from_turn : (n : ℕ) (to : Partner) (p t w : List ℕ) (ts : List (List ℕ))
+    → ipc_from n to (p ∷ t ∷ w ∷ ts) ≡ (partner_of p >>= λ x. number_of t >>= λ y. number_of w >>= λ z. ipc_words n to x y z ts)
+from_turn n to p t w ts = one_first partner_of p (t ∷ w ∷ ts) (λ x. ipc_timeouts n to x.0 x.1) ∙ (λ i. partner_of p >>= λ x. timeouts_turn n to x t w ts i)
+
+to_none : (n : ℕ) (ts : List (List ℕ)) → ((to : Partner) → ipc_from n to ts ≡ None) → (q : List ℕ) → ipc_to n (q ∷ ts) ≡ None
+to_none n ts none q = one_first partner_of q ts (λ x. ipc_from n x.0 x.1) ∙ (λ i. partner_of q >>= λ x. none x i) ∙ then_none (partner_of q)
+
+all_none : (ts : List (List ℕ)) → ((n : ℕ) → ipc_to n ts ≡ None) → (a : List ℕ) → ipc_in_turn (a ∷ ts) ≡ None
+unfolding ipc_in_turn
+all_none ts none a = one_first thread_of a ts (λ x. ipc_to x.0 x.1) ∙ (λ i. thread_of a >>= λ x. none x i) ∙ then_none (thread_of a)
+
+pub ipc_turns : (tokens : List (List ℕ)) → ipc_in_turn tokens ≡ ipc_asked tokens
+unfolding ipc_in_turn
+ipc_turns [] = refl
+ipc_turns (a ∷ []) = all_none [] (λ n. refl) a
+ipc_turns (a ∷ q ∷ []) = all_none (q ∷ []) (λ n. to_none n [] (λ to. refl) q) a
+ipc_turns (a ∷ q ∷ p ∷ []) = all_none (q ∷ p ∷ []) (λ n. to_none n (p ∷ []) (λ to. from_one n to p) q) a
+ipc_turns (a ∷ q ∷ p ∷ t ∷ []) = all_none (q ∷ p ∷ t ∷ []) (λ n. to_none n (p ∷ t ∷ []) (λ to. from_two n to p t) q) a
+ipc_turns (a ∷ q ∷ p ∷ t ∷ w ∷ ts) =
+    one_first thread_of a (q ∷ p ∷ t ∷ w ∷ ts) (λ x. ipc_to x.0 x.1)
+    ∙ (λ i. thread_of a >>= λ n. (one_first partner_of q (p ∷ t ∷ w ∷ ts) (λ x. ipc_from n x.0 x.1) ∙ (λ j. partner_of q >>= λ x. from_turn n x p t w ts j)) i)

@@ -2,7 +2,7 @@
 ghost use Rattle.std.specs.Prelude.{◌≡◌, ◌∷◌, [], length, false, codes, bytes_eq};
 ghost use Rattle.l4_text.specs.Tokens.{tokens_of};
 ghost use Rattle.l4_shell.specs.Commands.{thread_asked, set_pager_asked, delete_asked, receive_asked, show_asked, parent_asked, send_asked, delegate_asked, ipc_asked, unmap_asked, fault_asked, region_asked, serve_asked, steps_asked, pager_command_of, words_of, command_of};
-ghost use Rattle.l4_shell.specs.Inside.InTurn.{receive_in_turn, send_in_turn};
+ghost use Rattle.l4_shell.specs.Inside.InTurn.{receive_in_turn, send_in_turn, ipc_in_turn};
 
 use crate::partners::{
     NewSpace, Partner, any_or_thread, new_space, next_partner, next_thread, next_word,
@@ -158,13 +158,7 @@ const SETPAGER: &[u8] = b"setpager";
 
 const DELETE: &[u8] = b"delete";
 
-const RECV: &[u8] = b"recv";
-
-const SEND: &[u8] = b"send";
-
 const DELEGATE: &[u8] = b"delegate";
-
-const IPC: &[u8] = b"ipc";
 
 const FAULT: &[u8] = b"fault";
 
@@ -324,23 +318,31 @@ fn delegate(line: &[u8]) -> Option<Command<'static>>
     })
 }
 
+/// `N TO FROM TIMEOUTS WINDOW WORD..`, token by token
+#[tactic(auto, unfolding(crate::specs::Inside::InTurn::ipc_in_turn))]
+fn ipc_in_turn<'a>(line: &[u8], registers: &'a mut ArrayVec<u32, MAX_WORDS>) -> Option<Command<'a>>
+    ensures { result ≡ ipc_in_turn (tokens_of line.now) }
+{
+    let (number, rest) = next_thread(line)?;
+    let (to, rest) = next_partner(rest)?;
+    let (from, rest) = next_partner(rest)?;
+    let (timeouts, rest) = next_word(rest)?;
+    let (window, rest) = next_word(rest)?;
+    Some(Command::Ipc {
+        number,
+        to,
+        from,
+        timeouts,
+        window,
+        words: read_words(rest, registers)?,
+    })
+}
+
 /// `N TO FROM TIMEOUTS WINDOW WORD..`
 fn ipc<'a>(line: &[u8], registers: &'a mut ArrayVec<u32, MAX_WORDS>) -> Option<Command<'a>>
     ensures { result ≡ ipc_asked (tokens_of line.now) }
 {
-    let (number_token, rest) = next_token(line)?;
-    let (to, rest) = next_token(rest)?;
-    let (from, rest) = next_token(rest)?;
-    let (timeouts, rest) = next_token(rest)?;
-    let (window, rest) = next_token(rest)?;
-    Some(Command::Ipc {
-        number: thread_number(number_token)?,
-        to: any_or_thread(to)?,
-        from: any_or_thread(from)?,
-        timeouts: number(timeouts)?,
-        window: number(window)?,
-        words: read_words(rest, registers)?,
-    })
+    ipc_in_turn(line, registers)
 }
 
 /// `N CONTROL WORD..`
@@ -466,6 +468,39 @@ fn other_command<'a>(
     pager_command(name, rest)
 }
 
+/// Whether the name is `recv`. Its bytes are compared at once.
+#[inline(always)]
+fn is_recv(name: &[u8]) -> bool
+    ensures { result ≡ bytes_eq name.now (codes "recv") }
+{
+    match name {
+        [b'r', b'e', b'c', b'v'] => true,
+        _ => false,
+    }
+}
+
+/// Whether the name is `send`. Its bytes are compared at once.
+#[inline(always)]
+fn is_send(name: &[u8]) -> bool
+    ensures { result ≡ bytes_eq name.now (codes "send") }
+{
+    match name {
+        [b's', b'e', b'n', b'd'] => true,
+        _ => false,
+    }
+}
+
+/// Whether the name is `ipc`. Its bytes are compared at once.
+#[inline(always)]
+fn is_ipc(name: &[u8]) -> bool
+    ensures { result ≡ bytes_eq name.now (codes "ipc") }
+{
+    match name {
+        [b'i', b'p', b'c'] => true,
+        _ => false,
+    }
+}
+
 /// What a line of this first token asks for, and the tokens of the rest. It looks for the commands of most lines alone, as each place for an answer
 /// would be cleared for each line.
 pub(crate) fn read_command<'a>(
@@ -475,13 +510,13 @@ pub(crate) fn read_command<'a>(
 ) -> Result<Command<'a>, ScriptFault>
     ensures { result ≡ command_of (name.now ∷ tokens_of rest.now) }
 {
-    if name == RECV {
+    if is_recv(name) {
         return receive(rest).ok_or(ScriptFault::BadTokens);
     }
-    if name == SEND {
+    if is_send(name) {
         return send(rest, registers).ok_or(ScriptFault::BadTokens);
     }
-    if name == IPC {
+    if is_ipc(name) {
         return ipc(rest, registers).ok_or(ScriptFault::BadTokens);
     }
     other_command(name, rest, registers)

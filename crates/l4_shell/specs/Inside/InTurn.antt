@@ -3,7 +3,7 @@ use Rattle.std.specs.Prelude.{ℕ, List, [], ◌∷◌, Option, Some, None}
 use Rattle.l4_text.specs.Numbers.{number_of}
 use Rattle.l4_shell.specs.Commands.{◌>>=◌, thread_of, partner_of, words_of}
 use Rattle.l4_shell.specs.declared.commands.Command.{Command}
-use Rattle.l4_shell.specs.declared.commands.Command.TheVariants.{Receive, Send}
+use Rattle.l4_shell.specs.declared.commands.Command.TheVariants.{Receive, Send, Ipc}
 
 -- what the first token spells, and the tokens after it
 abbrev pub first_by : {A : Type 0} → (List ℕ → Option A) → List (List ℕ) → Option (A × List (List ℕ))
@@ -30,3 +30,14 @@ send_in_turn tokens = do
   to ← first_by partner_of number.1
   words ← words_of to.1
   Some (Send number.0 to.0 words)
+
+-- N TO FROM TIMEOUTS WINDOW WORD..
+unfoldable pub ipc_in_turn : List (List ℕ) → Option Command
+ipc_in_turn tokens = do
+  number ← first_by thread_of tokens
+  to ← first_by partner_of number.1
+  from ← first_by partner_of to.1
+  timeouts ← first_by number_of from.1
+  window ← first_by number_of timeouts.1
+  words ← words_of window.1
+  Some (Ipc number.0 to.0 from.0 timeouts.0 window.0 words)
