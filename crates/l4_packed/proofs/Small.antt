@@ -1,5 +1,5 @@
 -- Numbers that are one byte each are their own bytes.
-use Rattle.std.proofs.Common.{◌≡◌, ℕ, ◌<◌, ◌+◌, ◌≤◌, Bool, true, false, ltb, List, [], ◌∷◌, refl, ap, inl, inr}
+use Rattle.std.proofs.Common.{◌≡◌, ℕ, true, false, ltb, List, [], ◌∷◌, refl, ap, inl, inr}
 use Rattle.std.proofs.lemmas.Bool.{le-ltb, lt-ltb, cases_lt, false≢true}
 use Rattle.std.specs.List.{list_all}
 use Rattle.l4_packed.specs.Inside.Bytes.{number_code, numbers_code, is_small}

@@ -7,7 +7,6 @@ use Rattle.std.specs.List.Sorted.{IsStrictlyIncreasing}
 use Rattle.std.proofs.lemmas.Bool.{false≢true}
 use Rattle.std.proofs.lemmas.Bool.Decides.{nat_tests}
 use Rattle.std.proofs.lemmas.List.{at_drop_more, at_drop_all, take_more, drop_more}
-use Rattle.std.proofs.lemmas.Option.{get_or_from_slice_get}
 use Rattle.l4_threads.specs.declared.Thread.{Thread}
 use Rattle.l4_threads.specs.declared.Reply.{Reply}
 use Rattle.l4_threads.specs.declared.State.{State}
@@ -15,10 +14,10 @@ use Rattle.l4_threads.specs.declared.State.TheVariants.{Running, Sending as Send
 use Rattle.l4_threads.specs.Threads.{Threads, thread_at, state_of, space_of, number_of, is_sending, is_running, failed}
 use Rattle.l4_threads.specs.Inside.Ending.{frees, freed_reply, ends_at}
 use Rattle.l4_threads.specs.Control.{freed, waits_for, without_partner, Deletes, waits, IsEndedBy, IsEndedList, HasEnded}
-use Rattle.l4_threads.specs.Inside.Entries.{Entries, found, in_state, IsAt, precedes, sends_in, freed_in, without_in, ends_with, rising_with, ended_in, has_space, IsTable}
+use Rattle.l4_threads.specs.Inside.Entries.{Entries, found, in_state, sends_in, freed_in, without_in, ends_with, rising_with, ended_in, has_space, IsTable}
 use Rattle.l4_threads.specs.Queue.{is_in, IsOnce}
 use Rattle.l4_threads.specs.Inside.Kept.{threads_of}
-use Rattle.l4_threads.proofs.TableLemmas.{same_or, differ, same_of, found_here, found_further, found_absent, found_first, refill_same}
+use Rattle.l4_threads.proofs.TableLemmas.{same_or, differ, same_of, found_here, found_further, found_absent, refill_same}
 use Rattle.l4_threads.proofs.QueueLemmas.{and_true, or_true, or_left, or_right, both_true, is_in_head, is_in-filter, once-filter, precedes-filter, left_by, once-left_by}
 use Rattle.l4_threads.proofs.ViewLemmas.{thread_at-threads_of, contains-pairs_of, thread_at_seen, sends-threads_of, order_seen}
 

@@ -1,4 +1,4 @@
-use Rattle.std.proofs.Common.{◌<◌, ◌≤◌, ◌+◌, ◌*◌, length, take, ap, arith}
+use Rattle.std.proofs.Common.{length, take, ap, arith}
 use Rattle.std.proofs.lemmas.List.{length-append, length-take-le}
 use Rattle.l4_packed.specs.Inside.Bytes.{numbers_code}
 use Rattle.l4_packed.proofs.Unpacking.{few_bytes_each}

@@ -1,4 +1,4 @@
-use Rattle.std.proofs.Common.{Some, None, arith}
+use Rattle.std.proofs.Common.{None, arith}
 use Rattle.l4_shell.specs.Commands.{partner_of}
 use Rattle.l4_shell.proofs.InTurn.{read_number, partner_few, partner_many}
 use Rattle.l4_shell.proofs.partners.next_partner.Goals as goal

@@ -1,4 +1,4 @@
-use Rattle.std.proofs.Common.{Some, None, arith}
+use Rattle.std.proofs.Common.{None, arith}
 use Rattle.l4_shell.specs.Commands.{thread_of}
 use Rattle.l4_shell.proofs.InTurn.{read_number, thread_few, thread_many}
 use Rattle.l4_shell.proofs.partners.next_thread.Goals as goal

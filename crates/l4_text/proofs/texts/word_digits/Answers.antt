@@ -1,5 +1,4 @@
-use Rattle.std.proofs.Common.{◌+◌, ◌*◌, arith, ◌∙◌, sym, ap}
-use Rattle.std.specs.Int.{to_le_bytes, w64}
+use Rattle.std.proofs.Common.{arith, ◌∙◌}
 use Rattle.l4_text.proofs.PairTable.{word_bytes}
 use Rattle.l4_text.proofs.texts.word_digits.Goals as goal
 

@@ -1,4 +1,4 @@
-use Rattle.std.proofs.Common.{◌≤◌, ◌+◌, ◌++◌, length, sym, ap, subst, ◌∙◌, arith, List, ℕ}
+use Rattle.std.proofs.Common.{◌≤◌, ◌+◌, ◌++◌, length, sym, ap, subst, ◌∙◌, arith}
 use Rattle.l4_packed.specs.Inside.Bytes.{words_in}
 use Rattle.l4_packed.specs.Inside.Pieces.{AreWords}
 use Rattle.l4_packed.specs.Words.{WordList}
