@@ -4,16 +4,17 @@ use Rattle.std.proofs.lemmas.Bool.{false≢true}
 use Rattle.std.proofs.lemmas.Bool.Decides.{nat_tests}
 use Rattle.std.proofs.lemmas.Slice.Eq.{bytes_eq-Decides}
 use Rattle.std.specs.Option.{option_and_then}
+use Rattle.l4_fpage.specs.Rights.{RightsSet}
 use Rattle.std.specs.Str.{bytes_eq}
 use Rattle.l4_text.specs.Numbers.{number_of, decimal_of, hex_of, below}
 use Rattle.l4_text.specs.Tokens.{tokens_of, FirstNumber}
-use Rattle.l4_shell.specs.Commands.{◌>>=◌, thread_of, nil_or_thread_of, partner_of, words_of, three_of, receive_asked, send_asked, ipc_asked, command_of}
+use Rattle.l4_shell.specs.Commands.{◌>>=◌, thread_of, nil_or_thread_of, partner_of, words_of, three_of, receive_asked, send_asked, ipc_asked, fault_asked, rights_of, command_of}
 use Rattle.l4_shell.specs.declared.partners.Partner.{Partner}
 use Rattle.l4_shell.specs.declared.partners.Partner.TheVariants.{Nil, Any, Thread}
 use Rattle.l4_shell.specs.declared.commands.Command.{Command}
-use Rattle.l4_shell.specs.declared.commands.Command.TheVariants.{Receive, Send, Ipc}
+use Rattle.l4_shell.specs.declared.commands.Command.TheVariants.{Receive, Send, Ipc, Fault}
 use Rattle.l4_shell.specs.declared.commands.ScriptFault.TheVariants.{BadTokens}
-use Rattle.l4_shell.specs.Inside.InTurn.{first_by, at_end, receive_in_turn, send_in_turn, ipc_in_turn}
+use Rattle.l4_shell.specs.Inside.InTurn.{first_by, at_end, receive_in_turn, send_in_turn, ipc_in_turn, fault_in_turn}
 
 -- ---- a token that a number spells
 
@@ -171,6 +172,10 @@ pub ipc_is : (name : List ℕ) (tokens : List (List ℕ)) → bytes_eq name (cod
 unfolding command_of
 ipc_is name tokens is = ap (λ n. command_of (n ∷ tokens)) (sym ((bytes_eq-Decides name (codes "ipc")).0 is))
 
+pub fault_is : (name : List ℕ) (tokens : List (List ℕ)) → bytes_eq name (codes "fault") ≡ true → ok_or (fault_asked tokens) BadTokens ≡ command_of (name ∷ tokens)
+unfolding command_of
+fault_is name tokens is = ap (λ n. command_of (n ∷ tokens)) (sym ((bytes_eq-Decides name (codes "fault")).0 is))
+
 -- ---- one token of several
 
 one_first : {A B : Type 0} (f : List ℕ → Option A) (a : List ℕ) (ts : List (List ℕ)) (k : A × List (List ℕ) → Option B) → (first_by f (a ∷ ts) >>= k) ≡ (f a >>= λ x. k (x, ts))
@@ -234,3 +239,21 @@ ipc_turns (a ∷ q ∷ p ∷ t ∷ []) = all_none (q ∷ p ∷ t ∷ []) (λ n. 
 ipc_turns (a ∷ q ∷ p ∷ t ∷ w ∷ ts) =
     one_first thread_of a (q ∷ p ∷ t ∷ w ∷ ts) (λ x. ipc_to x.0 x.1)
     ∙ (λ i. thread_of a >>= λ n. (one_first partner_of q (p ∷ t ∷ w ∷ ts) (λ x. ipc_from n x.0 x.1) ∙ (λ j. partner_of q >>= λ x. from_turn n x p t w ts j)) i)
+
+-- two values, in either order
+in_order : {A B C : Type 0} (o : Option A) (p : Option B) (f : A → B → Option C) → (o >>= λ x. p >>= λ y. f x y) ≡ (p >>= λ y. o >>= λ x. f x y)
+in_order None None f = refl
+in_order None (Some y) f = refl
+in_order (Some x) None f = refl
+in_order (Some x) (Some y) f = refl
+
+abbrev faults_with : ℕ → ℕ → ℕ → RightsSet → Command
+faults_with n address ip access = Fault n (record { address = address; ip = ip; access = access })
+
+pub fault_turns : (tokens : List (List ℕ)) → fault_in_turn tokens ≡ fault_asked tokens
+unfolding fault_in_turn
+fault_turns [] = refl
+fault_turns (a ∷ ts) =
+    one_first thread_of a ts (λ x. first_by number_of x.1 >>= λ y. rest_by number_of rights_of (faults_with x.0 y.0) y.1)
+    ∙ (λ i. thread_of a >>= λ n. three_in_turn number_of number_of rights_of (faults_with n) ts i)
+    ∙ in_order (thread_of a) (three_of ts) (λ n t. number_of t.0 >>= λ y. number_of t.1.0 >>= λ z. rights_of t.1.1 >>= λ r. Some (faults_with n y z r))

@@ -2,7 +2,7 @@
 ghost use Rattle.std.specs.Prelude.{◌≡◌, ◌∷◌, [], length, false, codes, bytes_eq};
 ghost use Rattle.l4_text.specs.Tokens.{tokens_of};
 ghost use Rattle.l4_shell.specs.Commands.{thread_asked, set_pager_asked, delete_asked, receive_asked, show_asked, parent_asked, send_asked, delegate_asked, ipc_asked, unmap_asked, fault_asked, region_asked, serve_asked, steps_asked, pager_command_of, words_of, command_of};
-ghost use Rattle.l4_shell.specs.Inside.InTurn.{receive_in_turn, send_in_turn, ipc_in_turn};
+ghost use Rattle.l4_shell.specs.Inside.InTurn.{receive_in_turn, send_in_turn, ipc_in_turn, fault_in_turn};
 
 use crate::partners::{
     NewSpace, Partner, any_or_thread, new_space, next_partner, next_thread, next_word,
@@ -159,8 +159,6 @@ const SETPAGER: &[u8] = b"setpager";
 const DELETE: &[u8] = b"delete";
 
 const DELEGATE: &[u8] = b"delegate";
-
-const FAULT: &[u8] = b"fault";
 
 const UNMAP: &[u8] = b"unmap";
 
@@ -358,20 +356,32 @@ fn unmap<'a>(line: &[u8], registers: &'a mut ArrayVec<u32, MAX_WORDS>) -> Option
     })
 }
 
+/// `N ADDRESS IP RIGHTS`, token by token
+#[tactic(auto, unfolding(crate::specs::Inside::InTurn::fault_in_turn))]
+fn fault_in_turn(line: &[u8]) -> Option<Command<'static>>
+    ensures { result ≡ fault_in_turn (tokens_of line.now) }
+{
+    let (number, rest) = next_thread(line)?;
+    let (address, rest) = next_word(rest)?;
+    let (ip, rest) = next_word(rest)?;
+    let (token, rest) = next_token(rest)?;
+    let access = rights(token)?;
+    let call = FaultCall {
+        address,
+        ip,
+        access,
+    };
+    match next_token(rest) {
+        None => Some(Command::Fault(number, call)),
+        Some(_) => None,
+    }
+}
+
 /// `N ADDRESS IP RIGHTS`
 fn fault(line: &[u8]) -> Option<Command<'static>>
     ensures { result ≡ fault_asked (tokens_of line.now) }
 {
-    let (number_token, rest) = next_token(line)?;
-    let (address, (ip, access)) = three(rest)?;
-    Some(Command::Fault(
-        thread_number(number_token)?,
-        FaultCall {
-            address: number(address)?,
-            ip: number(ip)?,
-            access: rights(access)?,
-        },
-    ))
+    fault_in_turn(line)
 }
 
 /// `P FIRST SOURCE COUNT RIGHTS`
@@ -412,13 +422,11 @@ fn steps(line: &[u8]) -> Option<Command<'static>>
     }
 }
 
-/// A command of page faults or pagers, or of the history, by its name and the tokens after it.
+/// A command of pagers or of the history, by its name and the tokens after it.
 fn pager_command(name: &[u8], rest: &[u8]) -> Result<Command<'static>, ScriptFault>
+    requires fault { bytes_eq name.now (codes "fault") ≡ false }
     ensures { result ≡ pager_command_of name.now (tokens_of rest.now) }
 {
-    if name == FAULT {
-        return fault(rest).ok_or(ScriptFault::BadTokens);
-    }
     if name == REGION {
         return add_region(rest).ok_or(ScriptFault::BadTokens);
     }
@@ -431,7 +439,7 @@ fn pager_command(name: &[u8], rest: &[u8]) -> Result<Command<'static>, ScriptFau
     Err(ScriptFault::UnknownCommand)
 }
 
-/// What a line of another first token than `recv`, `send` and `ipc` asks for, and the tokens of the rest.
+/// What a line of another first token than `recv`, `send`, `ipc` and `fault` asks for, and the tokens of the rest.
 #[tactic(auto, unfolding(crate::specs::Commands::command_of))]
 #[inline(never)]
 fn other_command<'a>(
@@ -442,6 +450,7 @@ fn other_command<'a>(
     requires recv { bytes_eq name.now (codes "recv") ≡ false }
     requires send { bytes_eq name.now (codes "send") ≡ false }
     requires ipc { bytes_eq name.now (codes "ipc") ≡ false }
+    requires fault { bytes_eq name.now (codes "fault") ≡ false }
     ensures { result ≡ command_of (name.now ∷ tokens_of rest.now) }
 {
     if name == THREAD {
@@ -501,6 +510,17 @@ fn is_ipc(name: &[u8]) -> bool
     }
 }
 
+/// Whether the name is `fault`. Its bytes are compared at once.
+#[inline(always)]
+fn is_fault(name: &[u8]) -> bool
+    ensures { result ≡ bytes_eq name.now (codes "fault") }
+{
+    match name {
+        [b'f', b'a', b'u', b'l', b't'] => true,
+        _ => false,
+    }
+}
+
 /// What a line of this first token asks for, and the tokens of the rest. It looks for the commands of most lines alone, as each place for an answer
 /// would be cleared for each line.
 pub(crate) fn read_command<'a>(
@@ -518,6 +538,9 @@ pub(crate) fn read_command<'a>(
     }
     if is_ipc(name) {
         return ipc(rest, registers).ok_or(ScriptFault::BadTokens);
+    }
+    if is_fault(name) {
+        return fault(rest).ok_or(ScriptFault::BadTokens);
     }
     other_command(name, rest, registers)
 }

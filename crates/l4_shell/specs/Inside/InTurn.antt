@@ -1,9 +1,9 @@
 -- Tokens that are read one after another (this profile's own).
 use Rattle.std.specs.Prelude.{ℕ, List, [], ◌∷◌, Option, Some, None}
 use Rattle.l4_text.specs.Numbers.{number_of}
-use Rattle.l4_shell.specs.Commands.{◌>>=◌, thread_of, partner_of, words_of}
+use Rattle.l4_shell.specs.Commands.{◌>>=◌, thread_of, partner_of, rights_of, words_of}
 use Rattle.l4_shell.specs.declared.commands.Command.{Command}
-use Rattle.l4_shell.specs.declared.commands.Command.TheVariants.{Receive, Send, Ipc}
+use Rattle.l4_shell.specs.declared.commands.Command.TheVariants.{Receive, Send, Ipc, Fault}
 
 -- what the first token spells, and the tokens after it
 abbrev pub first_by : {A : Type 0} → (List ℕ → Option A) → List (List ℕ) → Option (A × List (List ℕ))
@@ -41,3 +41,12 @@ ipc_in_turn tokens = do
   window ← first_by number_of timeouts.1
   words ← words_of window.1
   Some (Ipc number.0 to.0 from.0 timeouts.0 window.0 words)
+
+-- N ADDRESS IP RIGHTS
+unfoldable pub fault_in_turn : List (List ℕ) → Option Command
+fault_in_turn tokens = do
+  number ← first_by thread_of tokens
+  address ← first_by number_of number.1
+  ip ← first_by number_of address.1
+  access ← first_by rights_of ip.1
+  at_end (Fault number.0 (record { address = address.0; ip = ip.0; access = access.0 })) access.1
