@@ -1,35 +1,33 @@
-//! Bytes that are kept of a line.
-ghost use Rattle.std.specs.Prelude.{◌≡◌, ◌==◌, ◌+◌, ◌≤◌, ◌++◌, [], length};
+//! Bytes that are kept for a while, in a place of their own.
+ghost use Rattle.std.specs.Prelude.{◌≡◌, ◌==◌, ◌+◌, ◌<◌, ◌≤◌, ◌++◌, ◌∷◌, [], length};
 
-use crate::lines::MAX_LINE;
 use std::marker::Model;
 
-/// At most `MAX_LINE` bytes. Those that are taken away are not written over before others take their place: a list of the library writes
-/// blanks, and each line takes the place of another.
+/// At most `LIMIT` bytes. Those that are taken away are not written over before others take their place: a list of the library writes
+/// blanks.
 #[derive(Drop)]
-pub(crate) struct KeptBytes {
-    cells: [u8; MAX_LINE],
+pub(crate) struct KeptBytes<const LIMIT: usize> {
+    cells: [u8; LIMIT],
     len: usize,
 }
 
-impl Model for KeptBytes {
+impl<const LIMIT: usize> Model for KeptBytes<LIMIT> {
     ghost use Rattle.std.specs.Prelude.{ℕ, List, ◌≡◌, ◌≤◌, length, take};
-    ghost use Rattle.l4_text.specs.Sizes.{line_bytes};
 
     ghost Value = { List ℕ };
 
     ghost view = { λ k. take k.len k.cells };
 
-    ghost invariant = { λ k. (k.len ≤ line_bytes) × (length k.cells ≡ line_bytes) };
+    ghost invariant = { λ k. (k.len ≤ LIMIT) × (length k.cells ≡ LIMIT) };
 }
 
-impl KeptBytes {
+impl<const LIMIT: usize> KeptBytes<LIMIT> {
     /// No bytes.
-    pub fn new() -> KeptBytes
+    pub fn new() -> KeptBytes<LIMIT>
         ensures { result ≡ [] }
     {
         KeptBytes {
-            cells: [0; MAX_LINE],
+            cells: [0; LIMIT],
             len: 0,
         }
     }
@@ -43,9 +41,9 @@ impl KeptBytes {
 
     /// How many more fit.
     pub fn room(&self) -> usize
-        ensures { result + length self.now ≡ MAX_LINE }
+        ensures { result + length self.now ≡ LIMIT }
     {
-        MAX_LINE - self.len
+        LIMIT - self.len
     }
 
     /// Takes all bytes away.
@@ -55,13 +53,23 @@ impl KeptBytes {
         self.len = 0;
     }
 
+    /// Appends a byte.
+    pub fn push(&mut self, byte: u8)
+        requires { length self.old < LIMIT }
+        ensures { self.new ≡ self.old ++ byte ∷ [] }
+    {
+        self.cells[self.len] = byte;
+        self.len += 1;
+    }
+
     /// Appends bytes.
     pub fn extend(&mut self, bytes: &[u8])
-        requires { length self.old + length bytes.now ≤ MAX_LINE }
+        requires { length self.old + length bytes.now ≤ LIMIT }
         ensures { self.new ≡ self.old ++ bytes.now }
     {
         let end = self.len + bytes.len();
-        self.cells[self.len..end].copy_from_slice(bytes);
+        let cells = &mut self.cells[..];
+        cells[self.len..end].copy_from_slice(bytes);
         self.len = end;
     }
 

@@ -137,7 +137,7 @@ impl Source {
 /// A line as far as it came, or the first 4,096 bytes of a longer one.
 #[derive(Drop)]
 pub struct Line {
-    bytes: KeptBytes,
+    bytes: KeptBytes<MAX_LINE>,
     long: bool,
 }
 

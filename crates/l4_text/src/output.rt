@@ -7,9 +7,9 @@ ghost use Rattle.l4_text.specs.Texts.{word_text, words_text};
 ghost use Rattle.l4_text.specs.Sizes.{text_bytes, held_bytes};
 
 use crate::faults::RunFault;
+use crate::kept::KeptBytes;
 use crate::lines::Source;
 use crate::texts::{MAX_TEXT, Text, two_digits, word_digits};
-use arrayvec::ArrayVec;
 use itoa::Buffer;
 use std::io::Write;
 use std::marker::Model;
@@ -20,7 +20,7 @@ const MAX_HELD: usize = 16_384;
 /// The bytes that are held back until there are many.
 #[derive(Drop)]
 struct Held {
-    bytes: ArrayVec<u8, MAX_HELD>,
+    bytes: KeptBytes<MAX_HELD>,
 }
 
 impl Model for Held {
@@ -28,7 +28,7 @@ impl Model for Held {
 
     ghost Value = { List ℕ };
 
-    ghost view = { λ a. a.bytes.items };
+    ghost view = { λ a. a.bytes };
 }
 
 /// Writes all of the bytes. A write that fails, or takes none of them, is a fault.
@@ -58,7 +58,7 @@ impl Held {
         ensures { result ≡ [] }
     {
         Held {
-            bytes: ArrayVec::new(),
+            bytes: KeptBytes::new(),
         }
     }
 
@@ -72,7 +72,7 @@ impl Held {
     fn has_room(&self) -> bool
         ensures { result ≡ true → length self.now + text_bytes ≤ held_bytes }
     {
-        if self.bytes.remaining_capacity() < MAX_TEXT {
+        if self.bytes.room() < MAX_TEXT {
             return false;
         }
         true
@@ -97,7 +97,7 @@ impl Held {
         requires { length self.old + length bytes.now ≤ held_bytes }
         ensures { self.new ≡ self.old ++ bytes.now }
     {
-        let _ = self.bytes.try_extend_from_slice(bytes);
+        self.bytes.extend(bytes);
     }
 
     /// Writes what is held back. After a write that failed it is dropped.
