@@ -12,17 +12,18 @@ use l4_text::{Output, Text};
 use l4_threads::{IpcReply, Reply, ThreadId};
 use std::io::Write;
 
-/// What came of a transfer, in a word.
-fn outcome_name(outcome: Outcome) -> &'static [u8]
-    ensures value { result.now ≡ outcome_word outcome }
-    ensures short { length result.now ≤ 16 }
+/// Adds what came of a transfer, in a word. Each is added by itself, so that its length is known as the program is built.
+fn add_outcome(out: &mut Output, outcome: Outcome)
+    requires { length out.old.0 + 16 ≤ held_bytes }
+    ensures value { out.new ≡ (out.old.0 ++ outcome_word outcome, out.old.1) }
+    ensures len { length out.new.0 ≤ length out.old.0 + 16 }
 {
     match outcome {
-        Outcome::Done => b"done",
-        Outcome::NoWindow => b"no-window",
-        Outcome::Entangled => b"entangled",
-        Outcome::NoMemory => b"no-memory",
-        Outcome::Started | Outcome::Expired => b"",
+        Outcome::Done => out.add(b"done"),
+        Outcome::NoWindow => out.add(b"no-window"),
+        Outcome::Entangled => out.add(b"entangled"),
+        Outcome::NoMemory => out.add(b"no-memory"),
+        Outcome::Started | Outcome::Expired => {}
     }
 }
 
@@ -36,7 +37,7 @@ fn add_transfer(out: &mut Output, sender: u32, receiver: u32, outcome: Outcome)
     out.push(b' ');
     out.add_number(u64::from(receiver));
     out.push(b' ');
-    out.add(outcome_name(outcome));
+    add_outcome(out, outcome);
     out.push(b'\n');
 }
 

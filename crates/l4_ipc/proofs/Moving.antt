@@ -47,6 +47,13 @@ listed_room window items i moves less few zip =
 pub listed_moves : (window : Fpage) (items : List Item) (held moves : List ItemMove) → moves ≡ held → AllZip (IsListed window) items held → AllZip (IsListed window) items moves
 listed_moves window items held moves is zip = subst (λ (l : List ItemMove). AllZip (IsListed window) items l) (sym is) zip
 
+-- one item is listed by its move
+pub one_listed : (window : Fpage) (items : List Item) (item : Item) (move : ItemMove) → length items ≡ 1 → item ≡ slice_index_or items 0 item → IsListed window item move
+    → AllZip (IsListed window) items (move ∷ [])
+one_listed window [] item move one first listed = absurd (omega (arith, one))
+one_listed window (x ∷ []) item move one first listed = (subst (λ i. IsListed window i move) first listed, tt)
+one_listed window (x ∷ y ∷ items) item move one first listed = absurd (omega (arith, one))
+
 some_and : {X : Type 0} (o : Option X) (P : X → Type 0) → IsSomeAnd o P → (x : X) × ((o ≡ Some x) × P x)
 some_and None P h = absurd h
 some_and (Some x) P h = (x, (refl, h))

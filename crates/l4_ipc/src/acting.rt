@@ -36,6 +36,9 @@ use l4_msg::{Item, MAX_WORDS, Message, Tag};
 use l4_threads::{Activity, Envelope, MAX_THREADS, Reply, SendPhase, ThreadId, Threads};
 use l4_unmap::unmap;
 
+/// The typed words of a message with one item.
+const ITEM_WORDS: u8 = 2;
+
 /// A list of one thread, where its call ends.
 fn list_if(ends: bool, number: u32) -> ArrayVec<u32, MAX_THREADS>
     ensures items { result.items ≡ ended_if ends number }
@@ -122,7 +125,8 @@ fn start_message(
     Ok(false)
 }
 
-/// Starts the send phase of a running thread's Ipc whose message has items.
+/// Starts the send phase of a running thread's Ipc whose message has items. A list of items has room for all that a message may have, so of one
+/// item none is made.
 fn start_items(
     threads: &mut Threads,
     number: u32,
@@ -136,6 +140,13 @@ fn start_items(
     requires tag { TagReads (tag_of call.now.words.items) tag.now }
     ensures { (s : Mappings) → Steps (machine threads.old s) (Start number (Ipc call.now)) (answered_if number result) (machine threads.new s) }
 {
+    if tag.typed == ITEM_WORDS {
+        let item = match Message::read_only_item(call.words.as_slice(), tag) {
+            Ok(item) => item,
+            Err(fault) => return Err(Refused::Lower(Lower::Message(fault))),
+        };
+        return start_message(threads, number, call, call.counted_words(tag), &[item]);
+    }
     let items = match Message::read_typed(call.words.as_slice(), tag) {
         Ok(items) => items,
         Err(fault) => return Err(Refused::Lower(Lower::Message(fault))),

@@ -1,5 +1,5 @@
 //! Transfers: what a message's items do, and what its two threads do next.
-ghost use Rattle.std.specs.Prelude.{◌≡◌, ◌≢◌, ◌≤◌, ◌↔◌, [], length, drop, slice_index, IsTrue, IsSome, MatchOption};
+ghost use Rattle.std.specs.Prelude.{◌≡◌, ◌≢◌, ◌≤◌, ◌↔◌, List, [], length, drop, slice_index, IsTrue, IsSome, MatchOption};
 ghost use Rattle.std.specs.List.{AllZip};
 ghost use Rattle.std.specs.FinSet as set;
 ghost use Rattle.l4_fpage.specs.declared.fpages.Fpage.TheVariants.{Nil as NilFpage};
@@ -11,6 +11,8 @@ ghost use Rattle.l4_ipc.specs.Inside.Turns.{reply_or, next_of, message_reply};
 ghost use Rattle.l4_ipc.specs.Steps.{Meets, receiver_reply, sender_next, is_done};
 ghost use Rattle.l4_threads.specs.Threads.{state_of, end_call, message_of};
 ghost use Rattle.l4_threads.specs.declared.Reply.TheVariants.{Ipc};
+ghost use Rattle.l4_fpage.specs.declared.fpages.Fpage.{Fpage as AnFpage};
+ghost use Rattle.l4_msg.specs.declared.items.Item.{Item as AnItem};
 ghost use Rattle.l4_threads.specs.declared.Sending.{Sending as ASending};
 ghost use Rattle.l4_threads.specs.declared.Thread.{Thread as AThread};
 
@@ -169,7 +171,21 @@ fn outcome_of(cause: Cause) -> Outcome
     }
 }
 
-/// Moves the pages of a message from the one space to the other, two that are there.
+/// Moves the pages of a message whose items move this from the one space to the other, two that are there.
+fn move_pages(forest: &mut Forest, from: u64, to: u64, moves: &[ItemMove]) -> Outcome
+    requires from_there { IsTrue (set.contains forest.old.spaces from) }
+    requires to_there { IsTrue (set.contains forest.old.spaces to) }
+    ensures { (items : List AnItem) (window : AnFpage) → AllZip (IsListed window) items moves.now → ¬ ((items ≢ []) × (window ≡ NilFpage))
+        → Moves forest.old from to items window result forest.new }
+{
+    match forest.map_all(from, to, moves) {
+        Ok(()) => Outcome::Done,
+        Err(cause) => outcome_of(cause),
+    }
+}
+
+/// Moves the pages of a message from the one space to the other, two that are there. A list of moves has room for those of all items, so
+/// none is made for one item.
 pub fn deliver(forest: &mut Forest, from: u64, to: u64, items: &[Item], window: &Fpage) -> Outcome
     requires from_there { IsTrue (set.contains forest.old.spaces from) }
     requires to_there { IsTrue (set.contains forest.old.spaces to) }
@@ -183,9 +199,9 @@ pub fn deliver(forest: &mut Forest, from: u64, to: u64, items: &[Item], window: 
     if lacks_window(items, window) {
         return Outcome::NoWindow;
     }
-    let moves = listed(items, window);
-    match forest.map_all(from, to, moves.as_slice()) {
-        Ok(()) => Outcome::Done,
-        Err(cause) => outcome_of(cause),
+    if items.len() == 1 {
+        return move_pages(forest, from, to, &[item_move(&items[0], window)]);
     }
+    let moves = listed(items, window);
+    move_pages(forest, from, to, moves.as_slice())
 }

@@ -1,4 +1,4 @@
-ghost use Rattle.std.specs.Prelude.{◌≡◌, ℕ, ◌+◌, ◌*◌, ◌/◌, ◌%◌, ◌<◌, ◌≤◌, nat_lt, if◌then◌else◌, length, IfOk, IfErr};
+ghost use Rattle.std.specs.Prelude.{◌≡◌, ℕ, ◌+◌, ◌*◌, ◌/◌, ◌%◌, ◌<◌, ◌≤◌, [], ◌∷◌, nat_lt, if◌then◌else◌, length, IfOk, IfErr};
 ghost use Rattle.std.specs.List.{All};
 ghost use Rattle.arrayvec.specs.ArrayVec.{array_vec_len};
 ghost use Rattle.l4_msg.specs.Moves.{base_of};
@@ -126,6 +126,22 @@ impl Message {
             Ok(items) => Ok(items),
             Err((i, ItemFault::Bad)) => Err(MsgFault::BadItem(i)),
             Err((i, ItemFault::Unsupported)) => Err(MsgFault::Unsupported(i)),
+        }
+    }
+
+    /// The item of the message that these words begin with, behind its tag, where it has just one; or its refusal. No list is made of it.
+    pub fn read_only_item(words: &[u32], tag: &Tag) -> Result<Item, MsgFault>
+        requires good { HasGoodTag words.now }
+        requires tag { TagReads (tag_of words.now) tag.now }
+        requires one { tag.now.typed ≡ 2 }
+        ensures ok { IfOk result (λ item. ItemsRead (typed_words words.now) (item ∷ [])) }
+        ensures err { IfErr result (MessageFails words.now) }
+    {
+        let first = 1 + usize::from(tag.untyped);
+        match Item::read(words[first], words[first + 1]) {
+            Ok(item) => Ok(item),
+            Err(ItemFault::Bad) => Err(MsgFault::BadItem(0)),
+            Err(ItemFault::Unsupported) => Err(MsgFault::Unsupported(0)),
         }
     }
 

@@ -51,11 +51,16 @@ impl Model for Activity {
     ghost view = { shown };
 }
 
-/// Puts these elements into the place of those that the list has. Where there are as many, none of those is cleared first.
+/// Puts these elements into the place of those that the list has. Where there are as many, none of those is cleared first, and where there are
+/// none on either side nothing is done.
+#[inline]
 fn refill<T: Copy + Default + Drop, const N: usize>(list: &mut ArrayVec<T, N>, elements: &[T])
     requires { length elements.now ≤ N }
     ensures { list.new.items ≡ elements.now }
 {
+    if list.is_empty() && elements.is_empty() {
+        return;
+    }
     if list.len() == elements.len() {
         return list.as_mut_slice().copy_from_slice(elements);
     }

@@ -4,7 +4,7 @@ use Rattle.l4_msg.specs.declared.items.Item.{Item}
 use Rattle.l4_ipc.specs.declared.steps.Outcome.TheVariants.{Done}
 use Rattle.l4_ipc.specs.Moving.{Moves}
 use Rattle.l4_threads.proofs.TableLemmas.{same_of}
-use Rattle.l4_ipc.proofs.Moving.{listed_moves, moves_done, moves_failed, none_listed, nothing_moves}
+use Rattle.l4_ipc.proofs.Moving.{listed_moves, one_listed, none_listed, nothing_moves}
 use Rattle.l4_ipc.proofs.delivering.deliver.Goals as goal
 
 pub returns-then-is_empty : goal.returns-then-is_empty
@@ -12,12 +12,12 @@ returns-then-is_empty c =
     subst (λ (items : List Item). Moves c.args.forest.now c.args.from c.args.to items c.args.window.now Done c.args.forest.now) (sym (none_listed c.args.items.now (same_of (length c.args.items.now) 0 (sym c.if-is_empty.ensures))))
     (nothing_moves c.args.forest.now c.args.from c.args.to c.args.window.now c.law_forest.ensures)
 
-pub returns-in-Ok : goal.returns-in-Ok
-returns-in-Ok c = moves_done c.args.forest.now c.args.from c.args.to c.args.items.now c.args.window.now c.as_slice.result.now
-    (listed_moves c.args.window.now c.args.items.now c.listed-moves.result.items c.as_slice.result.now c.as_slice.ensures.value c.listed-moves.ensures)
-    (λ lacks. false≢true (c.if-lacks_window.ensures.1 lacks)) c.in-Ok.ensures.free c.map_all.new.self c.in-Ok.ensures.ok
+pub returns-then-items-eq1 : goal.returns-then-items-eq1
+returns-then-items-eq1 c = c.move_pages.ensures c.args.items.now c.args.window.now
+    (one_listed c.args.window.now c.args.items.now c.index-items-0.result c.item_move.result c.if-items-eq1.true c.index-items-0.is c.item_move.ensures)
+    (λ lacks. false≢true (c.if-lacks_window.ensures.1 lacks))
 
-pub returns-in-Err : goal.returns-in-Err
-returns-in-Err c = rw c.outcome_of.ensures (moves_failed c.args.forest.now c.args.from c.args.to c.args.items.now c.args.window.now c.as_slice.result.now
+pub returns : goal.returns
+returns c = c.move_pages-2.ensures c.args.items.now c.args.window.now
     (listed_moves c.args.window.now c.args.items.now c.listed-moves.result.items c.as_slice.result.now c.as_slice.ensures.value c.listed-moves.ensures)
-    (λ lacks. false≢true (c.if-lacks_window.ensures.1 lacks)) c.in-Err.cause c.in-Err.ensures.cause c.map_all.new.self c.in-Err.ensures.err)
+    (λ lacks. false≢true (c.if-lacks_window.ensures.1 lacks))
