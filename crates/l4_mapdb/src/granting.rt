@@ -18,6 +18,7 @@ ghost use Rattle.l4_mapdb.specs.Inside.Growing.{IsGround, Stops, IsDelivered};
 ghost use Rattle.l4_mapdb.specs.Inside.Renewing.{IsBarred};
 ghost use Rattle.l4_mapdb.specs.Inside.Granting.{AreGrants, MakesBlank, CanHand, HandsOver, Blanked, Handed};
 
+use crate::cutting::end_of;
 use crate::growing::Stop;
 use crate::maps::only_of_kind;
 use crate::preparing::refusal;
@@ -26,7 +27,7 @@ use crate::tangles::are_apart;
 use crate::unmarking::unmark;
 use crate::{Cause, ItemMove};
 use l4_fpage::Rights;
-use l4_links::Links;
+use l4_links::{Links, Place};
 
 /// Whether what stands under the key has no other rights than these.
 fn is_within(links: &Links, key: usize, rights: Rights) -> bool
@@ -149,6 +150,35 @@ fn grant_pages(links: &mut Links, from: u64, to: u64, items: &[ItemMove]) -> Res
     Err(stop)
 }
 
+/// Lets the pages of a message with one item, which grants, stand at their targets, if nothing is there and no page has more rights than
+/// the item. Whether they do is given, and else all is as before. Where memory is refused the long way tells why.
+fn grant_block(links: &mut Links, from: u64, to: u64, items: &[ItemMove]) -> bool
+    requires ground { IsGround links.old from to }
+    requires there { IsTrue (set.contains links.old.spaces to) }
+    ensures apart { result ≡ true → AreApart items.now (length items.now) }
+    ensures handed { result ≡ true → Handed links.old from to items.now (IsMoved links.old.entries from to items.now) links.new }
+    ensures left { result ≡ false → links.new ≡ links.old }
+    ensures spaces { links.new.spaces ≡ links.old.spaces }
+{
+    if items.len() != 1 {
+        return false;
+    }
+    let by = &items[0];
+    let source = Place {
+        space: from,
+        page: by.mv.source.first,
+    };
+    let target = Place {
+        space: to,
+        page: by.mv.target.first,
+    };
+    let end = end_of(by.mv.source);
+    match links.move_pages(source, end, target, by.rights) {
+        Ok(done) => done,
+        Err(_) => false,
+    }
+}
+
 /// Delivers a message that only grants, from one space to another, if its items fill and move no page twice, nothing is at its used
 /// targets, and no page that it moves has more rights than its item. Whether it did is given, and else all is as before. `NoMemory` may
 /// come, and `Entangled` where memory was refused for a message that is entangled.
@@ -170,6 +200,10 @@ pub(crate) fn deliver_grants(
     links.law_trees();
     if !only_of_kind(from, to, items, true) {
         return Ok(false);
+    }
+    if grant_block(links, from, to, items) {
+        links.law_places();
+        return Ok(true);
     }
     if !are_apart(items) {
         return Ok(false);
