@@ -10,10 +10,10 @@ use Rattle.l4_links.specs.declared.Standing.{Standing}
 use Rattle.l4_links.specs.declared.Entry.{Entry}
 use Rattle.l4_links.specs.declared.nodes.Node.{Node}
 use Rattle.l4_links.specs.declared.nodes.Slot.{Slot}
-use Rattle.l4_links.specs.Entries.{entry_at, IsInPages, moved_place, MovesPages}
+use Rattle.l4_links.specs.Entries.{entry_at, IsInPages, moved_place, MovesPages, Hinders as HindersMove}
 use Rattle.l4_links.specs.Inside.Nodes.{Slots, Spot, slot_at, node_at, IsOf, SetsPlace}
 use Rattle.l4_links.specs.Inside.Keeping.{standing_of, entry_of, entries_of, IsIndexed}
-use Rattle.l4_links.specs.Inside.Moving.{AreFree, HaveRoom, CanMove, Moves}
+use Rattle.l4_links.specs.Inside.Moving.{AreFree, HaveRoom, CanMove, IsHindered, Hinders, Moves}
 use Rattle.l4_links.proofs.Writes.{spot_of}
 use Rattle.l4_links.proofs.Seen.{at_seen}
 use Rattle.l4_links.proofs.Naming.{is_at}
@@ -126,6 +126,21 @@ can_more source page end next key target rights slots t u i n is from c place pl
         let here : s.place ≡ record { space = source.space; page = next } =
         same_place (sym (of_slot slots k s at) ∙ subst (λ (j : ℕ). IsOf slots (record { space = source.space; page = next }) j) (sym e) (found_at slots t i source.space page end next key n is)) in
         ap (moved_place source target) here ∙ sym place_is
+
+pub hinders_found : (source : Place) (page end next key : ℕ) (target : Place) (rights : RightsSet) (slots : Slots) (t : Tables) → IsIndexed slots t → IsNextIn t source.space page end next → tables.key_of t source.space next ≡ Some key
+    → source.page ≤ page → (place : Place) → place ≡ moved_place source target (record { space = source.space; page = next }) → IsHindered key place rights slots t → Hinders source end target rights slots
+hinders_found source page end next key target rights slots t i n is from place place_is h =
+    let w = slot_of slots key (record { space = source.space; page = next }) (found_at slots t i source.space page end next key n is) in
+    record {
+      key = key;
+      slot = w.0;
+      at = w.1;
+      inside = subst (λ (p : Place). IsInPages source end p) (sym w.2) (refl, (let a = n.from in omega (arith, a, from)), n.before);
+      why = elim h [
+        | inl x ↦ inl (x.0, sym (ap (option_and_then (λ (s : Slot). s.node)) w.1) ∙ x.1, x.2)
+        | inr x ↦ inr (x.0, subst (λ (p : Place). IsOf slots p x.0) (place_is ∙ ap (moved_place source target) (sym w.2)) ((i.names place x.0).0 x.1))
+      ];
+    }
 
 -- the second pass
 
@@ -271,3 +286,15 @@ view_moves source end target rights old new t c m = record {
     node_seen : (o : Option Node) (x : Standing) → option_map standing_of o ≡ Some x → (n : Node) × (o ≡ Some n) × (standing_of n ≡ x)
     node_seen None x w = absurd (let z : ◌≡◌ {A = Option Standing} None (Some x) = w in cc)
     node_seen (Some n) x w = (n, refl, (let z : ◌≡◌ {A = Option Standing} (Some (standing_of n)) (Some x) = w in cc))
+
+pub view_hinders : (source : Place) (end : ℕ) (target : Place) (rights : RightsSet) (slots : Slots) → Hinders source end target rights slots → HindersMove source end target rights (entries_of slots)
+view_hinders source end target rights slots h = record {
+  key = h.key;
+  entry = entry_of h.slot;
+  at = at_seen slots h.key ∙ ap (option_map entry_of) h.at;
+  inside = h.inside;
+  why = elim h.why [
+    | inl x ↦ inl (standing_of x.0, ap (option_map standing_of) x.1, x.2)
+    | inr x ↦ inr (x.0, (is_at slots (moved_place source target h.slot.place) x.0).0 x.1)
+  ];
+}

@@ -225,3 +225,11 @@ pub record MovesPages (source : Place) (end : ℕ) (target : Place) (rights : Ri
   pub vacant : (key : ℕ) → entry_at old key ≡ None → entry_at new key ≡ None
   pub within : (key : ℕ) (e : Entry) (t : Standing) → entry_at old key ≡ Some e → IsInPages source end e.place → e.stands ≡ Some t → Within t.rights rights
   pub absent : (key : ℕ) (e : Entry) → entry_at old key ≡ Some e → IsInPages source end e.place → (other : ℕ) → ¬ (IsAt old (moved_place source target e.place) other)
+
+-- a page of these has other rights than these, or the place that it would go to has a key
+pub record Hinders (source : Place) (end : ℕ) (target : Place) (rights : RightsSet) (s : Entries) : Type 0 where
+  pub key : ℕ
+  pub entry : Entry
+  pub at : entry_at s key ≡ Some entry
+  pub inside : IsInPages source end entry.place
+  pub why : ((t : Standing) × (entry.stands ≡ Some t) × ¬ (Within t.rights rights)) ⊎ ((other : ℕ) × IsAt s (moved_place source target entry.place) other)

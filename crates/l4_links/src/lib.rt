@@ -98,7 +98,7 @@ impl Model for Links {
 }
 
 impl Links {
-    ghost use Rattle.l4_links.specs.Entries.{entry_at, standing_at, IsStanding, IsBlank, IsAt, IsSource, HaveRights, HavePlaces, AreTrees, NoKeyFrom, IsNextKey, NoKeyIn, IsNextKeyIn, IsKeyOf, Descends, AddsBlank, Stands, Sprouts, AddsChild, Clears, CutsBelow, Buries, CapsBelow, CapsTree, SetsSource, SetsPlain, SetsWanted, TakesOver, MovesPages};
+    ghost use Rattle.l4_links.specs.Entries.{entry_at, standing_at, IsStanding, IsBlank, IsAt, IsSource, HaveRights, HavePlaces, AreTrees, NoKeyFrom, IsNextKey, NoKeyIn, IsNextKeyIn, IsKeyOf, Descends, AddsBlank, Stands, Sprouts, AddsChild, Clears, CutsBelow, Buries, CapsBelow, CapsTree, SetsSource, SetsPlain, SetsWanted, TakesOver, MovesPages, Hinders};
     ghost use Rattle.l4_links.specs.declared.Standing.{Standing as AStanding};
 
     /// No page, and no space.
@@ -323,7 +323,7 @@ impl Links {
 
     /// Lets all that is at the pages from the source on and before the end go to the places from the target on in another space. Each page
     /// keeps its key, its rights, its parent and its children. Whether it did is given: nothing changes where a page has other rights
-    /// than these, or where one of the places has a key. NoMemory can come only where the tables of those places are missing.
+    /// than these, or where one of the places has a key.
     pub fn move_pages(
         &mut self,
         source: Place,
@@ -337,6 +337,7 @@ impl Links {
         requires fits { end - source.page + target.page ≤ space_pages }
         ensures moved { IfOk result (λ done. done ≡ true → MovesPages source end target rights self.old.entries self.new.entries) }
         ensures left { IfOk result (λ done. done ≡ false → self.new ≡ self.old) }
+        ensures hinders { IfOk result (λ done. done ≡ false → Hinders source end target rights self.old.entries) }
         ensures err { OnErr result (self.new ≡ self.old) }
         ensures spaces { self.new.spaces ≡ self.old.spaces }
     {

@@ -1,9 +1,9 @@
 use Rattle.std.proofs.Common.{◌≡◌, ℕ, subst}
-use Rattle.l4_links.specs.Entries.{Linked, MovesPages}
+use Rattle.l4_links.specs.Entries.{Linked, MovesPages, Hinders}
 use Rattle.l4_links.specs.Inside.Nodes.{node_at}
 use Rattle.l4_links.specs.Inside.Keeping.{entries_of}
 use Rattle.l4_links.proofs.Kept.{sound_nodes}
-use Rattle.l4_links.proofs.Moving.{node_moved, view_moves}
+use Rattle.l4_links.proofs.Moving.{node_moved, view_moves, view_hinders}
 use Rattle.l4_links.proofs.Stacking.{stack_nodes}
 use Rattle.l4_links.proofs.Links.move_pages.Goals as goal
 
@@ -21,3 +21,8 @@ pub returns-clause-moved : goal.returns-clause-moved
 returns-clause-moved c = λ _.
     subst (λ (s : Linked). MovesPages c.args.source c.args.end c.args.target c.args.rights s.entries (entries_of c.move_all.new.nodes.slots)) c.self.view_is
     (view_moves c.args.source c.args.end c.args.target c.args.rights c.self.inside.nodes.slots c.move_all.new.nodes.slots c.can_move_all.new.pages (c.in-Ok.ensures.can c.if-not-can.false) c.move_all.ensures.moves)
+
+pub returns-then-not-can-clause-hinders : goal.returns-then-not-can-clause-hinders
+returns-then-not-can-clause-hinders c = λ _.
+    subst (λ (s : Linked). Hinders c.args.source c.args.end c.args.target c.args.rights s.entries) c.self.view_is
+    (view_hinders c.args.source c.args.end c.args.target c.args.rights c.self.inside.nodes.slots (c.in-Ok.ensures.hinders c.if-not-can.true))

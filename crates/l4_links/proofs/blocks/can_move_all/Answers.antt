@@ -1,7 +1,7 @@
 use Rattle.std.proofs.Common.{refl, ◌∙◌, arith}
 use Rattle.l4_links.specs.Inside.Keeping.{IsIndexed}
 use Rattle.l4_links.proofs.Naming.{indexed_same}
-use Rattle.l4_links.proofs.Moving.{can_first, can_all, can_more}
+use Rattle.l4_links.proofs.Moving.{can_first, can_all, can_more, hinders_found}
 use Rattle.l4_links.proofs.blocks.can_move_all.Goals.{After-next_node}
 use Rattle.l4_links.proofs.blocks.can_move_all.Goals as goal
 
@@ -31,3 +31,8 @@ loop-next-preserved c = record {
   pages = c.can_move.ensures.pages ∙ c.loop-next.invariant.pages;
   spaces = c.can_move.ensures.spaces ∙ c.loop-next.invariant.spaces;
 }
+
+pub returns-then-not-can-clause-hinders : goal.returns-then-not-can-clause-hinders
+returns-then-not-can-clause-hinders c = λ _.
+    hinders_found c.args.source c.loop-next.page c.args.end c.in-Some.next c.in-Some.key c.args.target c.args.rights c.args.nodes.now.slots c.loop-next.pages
+    (indexed (goal.at.returns-then-not-can-clause-hinders c).After-next_node) c.in-Some.ensures.0 c.in-Some.ensures.1 c.loop-next.invariant.from c.place_from-place.result c.place_from-place.ensures (c.in-Ok.ensures.hindered c.if-not-can.true)
