@@ -10,10 +10,10 @@ use Rattle.l4_links.specs.declared.Standing.{Standing}
 use Rattle.l4_links.specs.declared.Entry.{Entry}
 use Rattle.l4_links.specs.declared.nodes.Node.{Node}
 use Rattle.l4_links.specs.declared.nodes.Slot.{Slot}
-use Rattle.l4_links.specs.Entries.{entry_at, IsInPages, moved_place, MovesPages, Hinders as HindersMove}
+use Rattle.l4_links.specs.Entries.{entry_at, IsInPages, moved_place, MovesPages, Hinders as HindersMove, LacksPlace as LacksHere}
 use Rattle.l4_links.specs.Inside.Nodes.{Slots, Spot, slot_at, node_at, IsOf, SetsPlace}
 use Rattle.l4_links.specs.Inside.Keeping.{standing_of, entry_of, entries_of, IsIndexed}
-use Rattle.l4_links.specs.Inside.Moving.{AreFree, HaveRoom, CanMove, IsHindered, Hinders, Moves}
+use Rattle.l4_links.specs.Inside.Moving.{AreFree, HaveRoom, CanMove, IsHindered, Hinders, LacksPlace, Moves}
 use Rattle.l4_links.proofs.Writes.{spot_of}
 use Rattle.l4_links.proofs.Seen.{at_seen}
 use Rattle.l4_links.proofs.Naming.{is_at}
@@ -142,6 +142,22 @@ hinders_found source page end next key target rights slots t i n is from place p
       ];
     }
 
+pub lacks_found : (source : Place) (page end next key : ℕ) (target : Place) (rights : RightsSet) (slots : Slots) (t : Tables) → IsIndexed slots t → IsNextIn t source.space page end next → tables.key_of t source.space next ≡ Some key
+    → source.page ≤ page → (place : Place) → place ≡ moved_place source target (record { space = source.space; page = next })
+    → ((n : Node) → node_at slots key ≡ Some n → Within n.rights rights) → tables.key_of t place.space place.page ≡ None → LacksPlace source end target rights slots
+lacks_found source page end next key target rights slots t i n is from place place_is within absent =
+    let w = slot_of slots key (record { space = source.space; page = next }) (found_at slots t i source.space page end next key n is) in
+    record {
+      key = key;
+      slot = w.0;
+      at = w.1;
+      inside = subst (λ (p : Place). IsInPages source end p) (sym w.2) (refl, (let a = n.from in omega (arith, a, from)), n.before);
+      within = λ x stands. within x (ap (option_and_then (λ (s : Slot). s.node)) w.1 ∙ stands);
+      absent = λ other o.
+          let name : tables.key_of t place.space place.page ≡ Some other = (i.names place other).1 (subst (λ (p : Place). IsOf slots p other) (ap (moved_place source target) w.2 ∙ sym place_is) o) in
+          (let z : ◌≡◌ {A = Option ℕ} None (Some other) = sym absent ∙ name in cc);
+    }
+
 -- the second pass
 
 pub moves_first : (source target : Place) (slots : Slots) → Moves source source.page target slots slots
@@ -258,6 +274,10 @@ node_moved source end target old new m k = over (slot_at old k) refl
       | inr out ↦ ap (option_and_then (λ (s : Slot). s.node)) (m.kept k s at out) ∙ sym (ap (option_and_then (λ (s : Slot). s.node)) at)
     ]
 
+node_seen : (o : Option Node) (x : Standing) → option_map standing_of o ≡ Some x → (n : Node) × (o ≡ Some n) × (standing_of n ≡ x)
+node_seen None x w = absurd (let z : ◌≡◌ {A = Option Standing} None (Some x) = w in cc)
+node_seen (Some n) x w = (n, refl, (let z : ◌≡◌ {A = Option Standing} (Some (standing_of n)) (Some x) = w in cc))
+
 pub view_moves : (source : Place) (end : ℕ) (target : Place) (rights : RightsSet) (old new : Slots) (t : Tables) → CanMove source end target rights old t → Moves source end target old new → MovesPages source end target rights (entries_of old) (entries_of new)
 view_moves source end target rights old new t c m = record {
   moved = λ k e at h. (let s = slot_seen k e at in at_seen new k ∙ ap (option_map entry_of) (m.moved k s.0 s.1 (subst (λ (x : Entry). IsInPages source end x.place) (sym s.2) h))
@@ -283,10 +303,6 @@ view_moves source end target rights old new t c m = record {
     none_seen None w = refl
     none_seen (Some s) w = absurd (let z : ◌≡◌ {A = Option Entry} (Some (entry_of s)) None = w in cc)
 
-    node_seen : (o : Option Node) (x : Standing) → option_map standing_of o ≡ Some x → (n : Node) × (o ≡ Some n) × (standing_of n ≡ x)
-    node_seen None x w = absurd (let z : ◌≡◌ {A = Option Standing} None (Some x) = w in cc)
-    node_seen (Some n) x w = (n, refl, (let z : ◌≡◌ {A = Option Standing} (Some (standing_of n)) (Some x) = w in cc))
-
 pub view_hinders : (source : Place) (end : ℕ) (target : Place) (rights : RightsSet) (slots : Slots) → Hinders source end target rights slots → HindersMove source end target rights (entries_of slots)
 view_hinders source end target rights slots h = record {
   key = h.key;
@@ -297,4 +313,14 @@ view_hinders source end target rights slots h = record {
     | inl x ↦ inl (standing_of x.0, ap (option_map standing_of) x.1, x.2)
     | inr x ↦ inr (x.0, (is_at slots (moved_place source target h.slot.place) x.0).0 x.1)
   ];
+}
+
+pub view_lacks : (source : Place) (end : ℕ) (target : Place) (rights : RightsSet) (slots : Slots) → LacksPlace source end target rights slots → LacksHere source end target rights (entries_of slots)
+view_lacks source end target rights slots h = record {
+  key = h.key;
+  entry = entry_of h.slot;
+  at = at_seen slots h.key ∙ ap (option_map entry_of) h.at;
+  inside = h.inside;
+  within = λ x stands. (let n = node_seen h.slot.node x stands in subst (λ (z : Standing). Within z.rights rights) n.2 (h.within n.0 n.1));
+  absent = λ other o. h.absent other ((is_at slots (moved_place source target h.slot.place) other).1 o);
 }

@@ -233,3 +233,12 @@ pub record Hinders (source : Place) (end : ℕ) (target : Place) (rights : Right
   pub at : entry_at s key ≡ Some entry
   pub inside : IsInPages source end entry.place
   pub why : ((t : Standing) × (entry.stands ≡ Some t) × ¬ (Within t.rights rights)) ⊎ ((other : ℕ) × IsAt s (moved_place source target entry.place) other)
+
+-- a page of these has no other rights than these, and the place that it would go to has no key
+pub record LacksPlace (source : Place) (end : ℕ) (target : Place) (rights : RightsSet) (s : Entries) : Type 0 where
+  pub key : ℕ
+  pub entry : Entry
+  pub at : entry_at s key ≡ Some entry
+  pub inside : IsInPages source end entry.place
+  pub within : (t : Standing) → entry.stands ≡ Some t → Within t.rights rights
+  pub absent : (other : ℕ) → ¬ (IsAt s (moved_place source target entry.place) other)

@@ -1,6 +1,6 @@
 //! Pages that go to other places all at once, under their keys. The trees don't speak of places, so nothing else changes.
 
-ghost use Rattle.std.specs.Prelude.{◌≡◌, ◌≢◌, ◌≤◌, ◌+◌, ◌-◌, ◌∷◌, ◌⊎◌, [], ℕ, IfOk, Some, None, true, false};
+ghost use Rattle.std.specs.Prelude.{◌≡◌, ◌≢◌, ◌≤◌, ◌+◌, ◌-◌, ◌∷◌, ◌⊎◌, [], ℕ, IfOk, OnErr, Some, None, true, false};
 ghost use Rattle.l4_fpage.specs.Rights.{RightsSet, Within};
 ghost use Rattle.l4_spaces.specs.Tables.{IsPage, IsSpace, HasRoom, KeepsRoom, key_of, space_pages};
 ghost use Rattle.l4_links.specs.declared.Place.{Place as APlace};
@@ -8,7 +8,7 @@ ghost use Rattle.l4_links.specs.declared.nodes.Node.{Node as ANode};
 ghost use Rattle.l4_links.specs.Entries.{moved_place};
 ghost use Rattle.l4_links.specs.Inside.Nodes.{node_at, IsOf, SetsPlace};
 ghost use Rattle.l4_links.specs.Inside.Keeping.{IsIndexed};
-ghost use Rattle.l4_links.specs.Inside.Moving.{CanMove, IsHindered, Hinders, Moves};
+ghost use Rattle.l4_links.specs.Inside.Moving.{CanMove, IsHindered, Hinders, LacksPlace, Moves};
 
 use crate::Place;
 use crate::nodes::{node_of, set_place};
@@ -54,6 +54,7 @@ fn can_move(
     requires fits { IsPage place.page }
     ensures within { IfOk result (λ can. can ≡ true → (n : ANode) → node_at nodes.now.slots key ≡ Some n → Within n.rights rights) }
     ensures absent { IfOk result (λ can. can ≡ true → key_of pages.old place.space place.page ≡ None) }
+    ensures lacks { OnErr result (((n : ANode) → node_at nodes.now.slots key ≡ Some n → Within n.rights rights) × (key_of pages.old place.space place.page ≡ None)) }
     ensures hindered { IfOk result (λ can. can ≡ false → IsHindered key place rights nodes.now.slots pages.old) }
     ensures ready { IfOk result (λ can. can ≡ true → HasRoom pages.new place.space (place.page ∷ [])) }
     ensures pages { pages.new.pages ≡ pages.old.pages }
@@ -86,6 +87,7 @@ pub(crate) fn can_move_all(
     requires rising { source.page ≤ end }
     requires fits { end - source.page + target.page ≤ space_pages }
     ensures can { IfOk result (λ can. can ≡ true → CanMove source end target rights nodes.now.slots pages.new) }
+    ensures lacks { OnErr result (LacksPlace source end target rights nodes.now.slots) }
     ensures hinders { IfOk result (λ can. can ≡ false → Hinders source end target rights nodes.now.slots) }
     ensures pages { pages.new.pages ≡ pages.old.pages }
     ensures spaces { pages.new.spaces ≡ pages.old.spaces }

@@ -98,7 +98,7 @@ impl Model for Links {
 }
 
 impl Links {
-    ghost use Rattle.l4_links.specs.Entries.{entry_at, standing_at, IsStanding, IsBlank, IsAt, IsSource, HaveRights, HavePlaces, AreTrees, NoKeyFrom, IsNextKey, NoKeyIn, IsNextKeyIn, IsKeyOf, Descends, AddsBlank, Stands, Sprouts, AddsChild, Clears, CutsBelow, Buries, CapsBelow, CapsTree, SetsSource, SetsPlain, SetsWanted, TakesOver, MovesPages, Hinders};
+    ghost use Rattle.l4_links.specs.Entries.{entry_at, standing_at, IsStanding, IsBlank, IsAt, IsSource, HaveRights, HavePlaces, AreTrees, NoKeyFrom, IsNextKey, NoKeyIn, IsNextKeyIn, IsKeyOf, Descends, AddsBlank, Stands, Sprouts, AddsChild, Clears, CutsBelow, Buries, CapsBelow, CapsTree, SetsSource, SetsPlain, SetsWanted, TakesOver, MovesPages, Hinders, LacksPlace};
     ghost use Rattle.l4_links.specs.declared.Standing.{Standing as AStanding};
 
     /// No page, and no space.
@@ -303,6 +303,9 @@ impl Links {
         ensures cuts { CutsBelow key self.old.entries self.new.entries }
         ensures spaces { self.new.spaces ≡ self.old.spaces }
     {
+        if walks::is_leaf(&self.nodes, key) {
+            return;
+        }
         let Some(_) = node_of(&self.nodes, key) else {
             return;
         };
@@ -323,7 +326,7 @@ impl Links {
 
     /// Lets all that is at the pages from the source on and before the end go to the places from the target on in another space. Each page
     /// keeps its key, its rights, its parent and its children. Whether it did is given: nothing changes where a page has other rights
-    /// than these, or where one of the places has a key.
+    /// than these, or where one of the places has a key. NoMemory comes only where one of the places has no key.
     pub fn move_pages(
         &mut self,
         source: Place,
@@ -339,6 +342,7 @@ impl Links {
         ensures left { IfOk result (λ done. done ≡ false → self.new ≡ self.old) }
         ensures hinders { IfOk result (λ done. done ≡ false → Hinders source end target rights self.old.entries) }
         ensures err { OnErr result (self.new ≡ self.old) }
+        ensures lacks { OnErr result (LacksPlace source end target rights self.old.entries) }
         ensures spaces { self.new.spaces ≡ self.old.spaces }
     {
         let can = match can_move_all(&self.nodes, &mut self.pages, source, end, target, rights) {

@@ -4,7 +4,7 @@ use Rattle.l4_fpage.specs.Rights.{Within, common}
 use Rattle.l4_links.specs.declared.Place.{Place as LinkPlace}
 use Rattle.l4_links.specs.declared.Standing.{Standing}
 use Rattle.l4_links.specs.declared.Entry.{Entry}
-use Rattle.l4_links.specs.Entries.{Linked, entry_at, IsAt, IsInPages, moved_place, MovesPages}
+use Rattle.l4_links.specs.Entries.{Linked, entry_at, IsAt, IsInPages, moved_place, MovesPages, LacksPlace}
 use Rattle.l4_links.proofs.Moving.{decide_in}
 use Rattle.l4_mapdb.specs.declared.ItemMove.{ItemMove}
 use Rattle.l4_mapdb.specs.declared.sources.UsedMove.{UsedMove}
@@ -36,6 +36,35 @@ module _ (start : Linked) (from to : ℕ) (items : List ItemMove) (ground : IsGr
 
   abbrev pub block_end : ℕ
   block_end = by.mv.source.first + 2 ^ by.mv.source.log
+
+  -- what is at a page of the block is moved
+  move_of : (key : ℕ) (e : Entry) → entry_at start.entries key ≡ Some e → IsInPages block_source block_end e.place → ((t : Standing) → e.stands ≡ Some t → Within t.rights by.rights) → (u : UsedMove) × Moves u × (u.source ≡ key) × (u.target ≡ moved_place block_source block_target e.place)
+  move_of key e at h within =
+      let p = ground.clean key e at in
+      let place : e.place ≡ record { space = from; page = e.place.page } = λ i. record { space = h.0 i; page = e.place.page } in
+      let all : common p.standing.rights by.rights ≡ p.standing.rights = common_all p.standing.rights by.rights (within p.standing p.stands) in
+      let a = h.1 in
+      let b = h.2 in (
+        record { item = 0; page = e.place.page; source = key; target = moved_place block_source block_target e.place; grant = by.grant },
+        record {
+          by = by;
+          item = first;
+          grant = refl;
+          to_space = refl;
+          pages = record { index = e.place.page - by.mv.source.first; within = omega (arith, a, b); source_is = omega (arith, a); target_is = omega (arith, a) };
+          standing = plain p.standing;
+          stands = stands_as start.entries key e p.standing at p.stands ∙ ap (λ (x : LinkPlace). Some (x, plain p.standing)) place;
+          some_right = λ none. p.some_right (sym all ∙ none);
+        },
+        refl,
+        refl,
+      )
+
+  -- where memory was refused, a used move has a target without a key
+  pub block_lacks : LacksPlace block_source block_end block_target by.rights start.entries → (u : UsedMove) × Moves u × ((key : ℕ) → ¬ (IsAt start.entries u.target key))
+  block_lacks l =
+      let u = move_of l.key l.entry l.at l.inside l.within in
+      (u.0, u.1, λ key at. l.absent key (subst (λ (p : LinkPlace). IsAt start.entries p key) u.3 at))
 
   module _ (now : Linked) (m : MovesPages block_source block_end block_target by.rights start.entries now.entries) (spaces : now.spaces ≡ start.spaces) where
     -- what stood at the source of a used move
@@ -71,28 +100,6 @@ module _ (start : Linked) (from to : ℕ) (items : List ItemMove) (ground : IsGr
           goes = λ i. record { space = (sym used.to_space) i; page = target_page i };
         }
 
-    -- what is at a page of the block is moved
-    move_of : (key : ℕ) (e : Entry) → entry_at start.entries key ≡ Some e → IsInPages block_source block_end e.place → (u : UsedMove) × Moves u × (u.source ≡ key)
-    move_of key e at h =
-        let p = ground.clean key e at in
-        let place : e.place ≡ record { space = from; page = e.place.page } = λ i. record { space = h.0 i; page = e.place.page } in
-        let all : common p.standing.rights by.rights ≡ p.standing.rights = common_all p.standing.rights by.rights (m.within key e p.standing at h p.stands) in
-        let a = h.1 in
-        let b = h.2 in (
-          record { item = 0; page = e.place.page; source = key; target = moved_place block_source block_target e.place; grant = by.grant },
-          record {
-            by = by;
-            item = first;
-            grant = refl;
-            to_space = refl;
-            pages = record { index = e.place.page - by.mv.source.first; within = omega (arith, a, b); source_is = omega (arith, a); target_is = omega (arith, a) };
-            standing = plain p.standing;
-            stands = stands_as start.entries key e p.standing at p.stands ∙ ap (λ (x : LinkPlace). Some (x, plain p.standing)) place;
-            some_right = λ none. p.some_right (sym all ∙ none);
-          },
-          refl,
-        )
-
     given : (u : UsedMove) (used : Moves u) → entry_at now.entries u.source ≡ Some (handed_to start from to items u used)
     given u used =
         let s = stood u used in
@@ -100,7 +107,7 @@ module _ (start : Linked) (from to : ℕ) (items : List ItemMove) (ground : IsGr
 
     -- what no used move gives is at no page of the block
     outside : (key : ℕ) (e : Entry) → entry_at start.entries key ≡ Some e → ¬ (IsGiven start from to items Moves key) → ¬ (IsInPages block_source block_end e.place)
-    outside key e at out h = let u = move_of key e at h in out (u.0, u.1, u.1, u.2)
+    outside key e at out h = let u = move_of key e at h (λ t. m.within key e t at h) in out (u.0, u.1, u.1, u.2)
 
     -- and the other way round
     not_given : (key : ℕ) (e : Entry) → entry_at start.entries key ≡ Some e → ¬ (IsInPages block_source block_end e.place) → ¬ (IsGiven start from to items Moves key)
@@ -127,7 +134,7 @@ module _ (start : Linked) (from to : ℕ) (items : List ItemMove) (ground : IsGr
         go key e here None at = absurd (let w : ◌≡◌ {A = Option Entry} None (Some e) = sym (m.vacant key at) ∙ here in cc)
         go key e here (Some was) at = elim (decide_in block_source block_end was.place) [
           | inl h ↦
-              let u = move_of key was at h in
+              let u = move_of key was at h (λ t. m.within key was t at h) in
               inl (u.0, u.1, u.1, u.2, same_value (sym here ∙ ap (entry_at now.entries) (sym u.2) ∙ given u.0 u.1))
           | inr out ↦
               let same : was ≡ e = same_value (sym (m.kept key was at out) ∙ here) in

@@ -44,3 +44,12 @@ pub record Hinders (source : Place) (end : ℕ) (target : Place) (rights : Right
   pub at : slot_at slots key ≡ Some slot
   pub inside : IsInPages source end slot.place
   pub why : ((n : Node) × (slot.node ≡ Some n) × ¬ (Within n.rights rights)) ⊎ ((other : ℕ) × IsOf slots (moved_place source target slot.place) other)
+
+-- a page of these has no other rights than these, and the place that it would go to has no key
+pub record LacksPlace (source : Place) (end : ℕ) (target : Place) (rights : RightsSet) (slots : Slots) : Type 0 where
+  pub key : ℕ
+  pub slot : Slot
+  pub at : slot_at slots key ≡ Some slot
+  pub inside : IsInPages source end slot.place
+  pub within : (n : Node) → slot.node ≡ Some n → Within n.rights rights
+  pub absent : (other : ℕ) → ¬ (IsOf slots (moved_place source target slot.place) other)

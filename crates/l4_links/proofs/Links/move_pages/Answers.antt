@@ -1,9 +1,9 @@
 use Rattle.std.proofs.Common.{◌≡◌, ℕ, subst}
-use Rattle.l4_links.specs.Entries.{Linked, MovesPages, Hinders}
+use Rattle.l4_links.specs.Entries.{Linked, MovesPages, Hinders, LacksPlace}
 use Rattle.l4_links.specs.Inside.Nodes.{node_at}
 use Rattle.l4_links.specs.Inside.Keeping.{entries_of}
 use Rattle.l4_links.proofs.Kept.{sound_nodes}
-use Rattle.l4_links.proofs.Moving.{node_moved, view_moves, view_hinders}
+use Rattle.l4_links.proofs.Moving.{node_moved, view_moves, view_hinders, view_lacks}
 use Rattle.l4_links.proofs.Stacking.{stack_nodes}
 use Rattle.l4_links.proofs.Links.move_pages.Goals as goal
 
@@ -26,3 +26,8 @@ pub returns-then-not-can-clause-hinders : goal.returns-then-not-can-clause-hinde
 returns-then-not-can-clause-hinders c = λ _.
     subst (λ (s : Linked). Hinders c.args.source c.args.end c.args.target c.args.rights s.entries) c.self.view_is
     (view_hinders c.args.source c.args.end c.args.target c.args.rights c.self.inside.nodes.slots (c.in-Ok.ensures.hinders c.if-not-can.true))
+
+pub returns-in-Err-clause-lacks : goal.returns-in-Err-clause-lacks
+returns-in-Err-clause-lacks c =
+    subst (λ (s : Linked). LacksPlace c.args.source c.args.end c.args.target c.args.rights s.entries) c.self.view_is
+    (view_lacks c.args.source c.args.end c.args.target c.args.rights c.self.inside.nodes.slots c.in-Err.ensures.lacks)

@@ -1,7 +1,7 @@
 use Rattle.std.proofs.Common.{refl, ◌∙◌, arith}
 use Rattle.l4_links.specs.Inside.Keeping.{IsIndexed}
 use Rattle.l4_links.proofs.Naming.{indexed_same}
-use Rattle.l4_links.proofs.Moving.{can_first, can_all, can_more, hinders_found}
+use Rattle.l4_links.proofs.Moving.{can_first, can_all, can_more, hinders_found, lacks_found}
 use Rattle.l4_links.proofs.blocks.can_move_all.Goals.{After-next_node}
 use Rattle.l4_links.proofs.blocks.can_move_all.Goals as goal
 
@@ -36,3 +36,8 @@ pub returns-then-not-can-clause-hinders : goal.returns-then-not-can-clause-hinde
 returns-then-not-can-clause-hinders c = λ _.
     hinders_found c.args.source c.loop-next.page c.args.end c.in-Some.next c.in-Some.key c.args.target c.args.rights c.args.nodes.now.slots c.loop-next.pages
     (indexed (goal.at.returns-then-not-can-clause-hinders c).After-next_node) c.in-Some.ensures.0 c.in-Some.ensures.1 c.loop-next.invariant.from c.place_from-place.result c.place_from-place.ensures (c.in-Ok.ensures.hindered c.if-not-can.true)
+
+pub returns-in-Err-clause-lacks : goal.returns-in-Err-clause-lacks
+returns-in-Err-clause-lacks c =
+    lacks_found c.args.source c.loop-next.page c.args.end c.in-Some.next c.in-Some.key c.args.target c.args.rights c.args.nodes.now.slots c.loop-next.pages
+    (indexed (goal.at.returns-in-Err-clause-lacks c).After-next_node) c.in-Some.ensures.0 c.in-Some.ensures.1 c.loop-next.invariant.from c.place_from-place.result c.place_from-place.ensures c.in-Err.ensures.lacks.0 c.in-Err.ensures.lacks.1
