@@ -19,6 +19,7 @@ pub mod Burying
 pub mod Capping
 pub mod Adding
 pub mod Naming
+pub mod Moving
 pub mod Noting
 pub mod Laws
 pub mod Low

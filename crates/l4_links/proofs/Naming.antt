@@ -18,7 +18,7 @@ use Rattle.l4_links.specs.declared.nodes.Node.{Node}
 use Rattle.l4_links.specs.declared.nodes.Slot.{Slot}
 use Rattle.l4_links.specs.Entries.{entry_at, IsAt, HasKey, NoKeyFrom, IsNextKey, NoKeyIn, IsNextKeyIn, IsKeyOf, HavePlaces}
 use Rattle.l4_links.specs.Inside.Keys.{IsKey}
-use Rattle.l4_links.specs.Inside.Nodes.{Slots, Spot, slot_at, spots, IsOf, SetsWanted, Gives, TakesOver}
+use Rattle.l4_links.specs.Inside.Nodes.{Slots, Spot, slot_at, spots, IsOf, SetsWanted, SetsPlace, Gives, TakesOver}
 use Rattle.l4_links.specs.Inside.Keeping.{entry_of, entries_of, IsIndexed}
 use Rattle.l4_links.proofs.Writes.{spot_of}
 use Rattle.l4_links.proofs.Seen.{at_seen}
@@ -179,6 +179,38 @@ named_moved old new before between after from to key blank names other was was_t
       ],
     )))
 
+-- the places without that of this key
+abbrev without : (ℕ → Option Place) → ℕ → ℕ → Option Place
+without at key k = cond (k == key) None (at k)
+
+without_here : (at : ℕ → Option Place) (key : ℕ) → without at key key ≡ None
+without_here at key = decided (key == key)
+    (λ t. ap (λ b. cond b None (at key)) t)
+    (λ f. absurd (let e : true ≡ false = sym (tied key) ∙ f in cc))
+  where
+    tied : (k : ℕ) → (k == k) ≡ true
+    tied k = grind (arith, nat_tests)
+
+without_other : (at : ℕ → Option Place) (key k : ℕ) → k ≢ key → without at key k ≡ at k
+without_other at key k ne = decided (k == key)
+    (λ t. absurd (ne (same k key t)))
+    (λ f. ap (λ b. cond b None (at k)) f)
+  where
+    same : (a b : ℕ) → (a == b) ≡ true → a ≡ b
+    same a b t = grind (arith, nat_tests)
+
+-- a key has got another place, which had no key
+named_renamed : (old new : ℕ → Option Place) (before after : Pages) (from to : Place) (key : ℕ) → Names old before → old key ≡ Some from → ((k : ℕ) → old k ≢ Some to) → new key ≡ Some to
+    → ((o : ℕ) → o ≢ key → new o ≡ old o) → after ≡ map.insert (map.remove before (from.space, from.page)) (to.space, to.page) key → Names new after
+named_renamed old new before after from to key names was free is others put =
+    named_added (without old key) new (map.remove before (from.space, from.page)) after to key
+    (named_removed old (without old key) before (map.remove before (from.space, from.page)) from key names was (without_here old key) (λ o ne. without_other old key o ne) refl)
+    (λ k e. elim (cases_eq k key) [
+      | inl same ↦ no_place to (sym (without_here old key) ∙ ap (without old key) (sym same) ∙ e)
+      | inr ne ↦ free k (sym (without_other old key k ne) ∙ e)
+    ])
+    (without_here old key) is (λ o ne. others o ne ∙ sym (without_other old key o ne)) put
+
 -- what is known of the spots, known of the places
 spot_from : (slots : Slots) (k : ℕ) (s : Spot) → spots slots k ≡ Some s → places slots k ≡ Some s.place
 spot_from slots k s is = ap (option_map {T = Spot} (λ s. s.place)) is
@@ -323,6 +355,31 @@ indexed_moved old new t m u from to key blank other was was_to is gone others pu
       | inl e ↦ (from, ap (places old) e ∙ was)
       | inr nk ↦ (p, stood k p nk at)
     ]))
+
+pub indexed_renamed : (old new : Slots) (t u : Tables) (from to : Place) (key : ℕ) → IsOf old from key → ((k : ℕ) → ¬ (IsOf old to k)) → SetsPlace key to old new → IsTrue (set.contains t.spaces to.space) → IsPage to.page
+    → u.pages ≡ map.insert (map.remove t.pages (from.space, from.page)) (to.space, to.page) key → u.spaces ≡ t.spaces → IsIndexed old t → IsIndexed new u
+indexed_renamed old new t u from to key was free sets there fits pages spaces i =
+    let here : places new key ≡ Some to = places_slot new key (slot_at new key) refl ∙ ap (option_map {T = Slot} (λ s. s.place)) sets.here ∙ placed (slot_at old key) (sym (places_slot old key (slot_at old key) refl) ∙ was) in
+    let other : (o : ℕ) → o ≢ key → places new o ≡ places old o = λ o ne. ap (λ (z : Option Slot). option_map {T = Spot} (λ s. s.place) (option_map spot_of z)) (sets.others o ne) in
+    indexed_of new u (named_renamed (places old) (places new) t.pages u.pages from to key i.names was free here other pages)
+    (λ k p at. elim (cases_eq k key) [
+      | inl e ↦
+          let pp : p ≡ to = one_place (places new) key p to (ap (places new) (sym e) ∙ at) here in (
+            subst (λ (z : set.FinSet nat_cmp). IsTrue (set.contains z p.space)) (sym spaces) (subst (λ (z : Place). IsTrue (set.contains t.spaces z.space)) (sym pp) there),
+            subst (λ (z : Place). IsPage z.page) (sym pp) fits,
+          )
+      | inr ne ↦
+          let l = lies_of old t i k p (sym (other k ne) ∙ at) in
+          (subst (λ (z : set.FinSet nat_cmp). IsTrue (set.contains z p.space)) (sym spaces) l.0, l.1)
+    ])
+    (λ k p at. elim (cases_eq k key) [
+      | inl e ↦ subst (λ (z : ℕ). IsKey z) (sym e) (keeps_of old t i key from was)
+      | inr ne ↦ keeps_of old t i k p (sym (other k ne) ∙ at)
+    ])
+  where
+    placed : (o : Option Slot) → option_map {T = Slot} (λ s. s.place) o ≡ Some from → option_map {T = Slot} (λ s. s.place) (option_map {T = Slot} (λ s. record s { place = to }) o) ≡ Some to
+    placed None e = no_place from e
+    placed (Some s) e = refl
 
 pub at_is : (slots : Slots) (k : ℕ) → option_map {T = Entry} (λ e. e.place) (entry_at (entries_of slots) k) ≡ places slots k
 at_is slots k = ap (option_map {T = Entry} (λ e. e.place)) (at_seen slots k) ∙ over (slot_at slots k)

@@ -1,10 +1,10 @@
 -- What a contract sees of the nodes: the spaces that there are, the page of each key, and what stands there.
-use Rattle.std.specs.Prelude.{◌≡◌, ◌≢◌, ◌↔◌, ◌⊎◌, ◌<◌, ◌≤◌, ℕ, Bool, true, false, List, Option, Some, None, slice_index_or, option_and_then, if◌then◌else◌, IsTrue, refl}
+use Rattle.std.specs.Prelude.{◌≡◌, ◌≢◌, ◌↔◌, ◌⊎◌, ◌<◌, ◌≤◌, ◌+◌, ◌-◌, ℕ, Bool, true, false, List, Option, Some, None, slice_index_or, option_and_then, if◌then◌else◌, IsTrue, refl}
 use Rattle.std.specs.Option.{option_map}
 use Rattle.std.specs.Ordering.{nat_cmp}
 use Rattle.std.specs.FinSet as set
 use Rattle.std.specs.Coded.{Coded, code_by, coded×, coded_ℕ, coded_bool, coded_list, coded_option}
-use Rattle.l4_fpage.specs.Rights.{RightsSet, rights_code, common, no_rights}
+use Rattle.l4_fpage.specs.Rights.{RightsSet, rights_code, common, no_rights, Within}
 use Rattle.l4_spaces.specs.Tables.{IsPage}
 use Rattle.l4_links.specs.declared.Place.{Place}
 use Rattle.l4_links.specs.declared.Standing.{Standing}
@@ -208,3 +208,37 @@ pub record TakesOver (key blank : ℕ) (rights : RightsSet) (old new : Entries) 
   pub here : entry_at new key ≡ option_map {T = Entry} (λ e. record e { place = page.place; stands = option_map (λ (t : Standing). record t { granted = Some rights }) e.stands }) (entry_at old key)
   pub gone : entry_at new blank ≡ None
   pub others : (other : ℕ) → other ≢ key → other ≢ blank → entry_at new other ≡ entry_at old other
+
+-- the place is one of the pages from this one on and before the end
+abbrev pub IsInPages : Place → ℕ → Place → Type 0
+IsInPages first end place = (place.space ≡ first.space) × (first.page ≤ place.page) × (place.page < end)
+
+-- the place that lies as far behind the target as this one lies behind the source
+abbrev pub moved_place : Place → Place → Place → Place
+moved_place source target place = record { space = target.space; page = place.page - source.page + target.page }
+
+-- What is at the pages from the source on and before the end is at the places from the target on, with its keys, and all else is as it was.
+-- It had no other rights than these, and those places had no keys.
+pub record MovesPages (source : Place) (end : ℕ) (target : Place) (rights : RightsSet) (old new : Entries) : Type 0 where
+  pub moved : (key : ℕ) (e : Entry) → entry_at old key ≡ Some e → IsInPages source end e.place → entry_at new key ≡ Some (record e { place = moved_place source target e.place })
+  pub kept : (key : ℕ) (e : Entry) → entry_at old key ≡ Some e → ¬ (IsInPages source end e.place) → entry_at new key ≡ Some e
+  pub vacant : (key : ℕ) → entry_at old key ≡ None → entry_at new key ≡ None
+  pub within : (key : ℕ) (e : Entry) (t : Standing) → entry_at old key ≡ Some e → IsInPages source end e.place → e.stands ≡ Some t → Within t.rights rights
+  pub absent : (key : ℕ) (e : Entry) → entry_at old key ≡ Some e → IsInPages source end e.place → (other : ℕ) → ¬ (IsAt old (moved_place source target e.place) other)
+
+-- a page of these has other rights than these, or the place that it would go to has a key
+pub record Hinders (source : Place) (end : ℕ) (target : Place) (rights : RightsSet) (s : Entries) : Type 0 where
+  pub key : ℕ
+  pub entry : Entry
+  pub at : entry_at s key ≡ Some entry
+  pub inside : IsInPages source end entry.place
+  pub why : ((t : Standing) × (entry.stands ≡ Some t) × ¬ (Within t.rights rights)) ⊎ ((other : ℕ) × IsAt s (moved_place source target entry.place) other)
+
+-- a page of these has no other rights than these, and the place that it would go to has no key
+pub record LacksPlace (source : Place) (end : ℕ) (target : Place) (rights : RightsSet) (s : Entries) : Type 0 where
+  pub key : ℕ
+  pub entry : Entry
+  pub at : entry_at s key ≡ Some entry
+  pub inside : IsInPages source end entry.place
+  pub within : (t : Standing) → entry.stands ≡ Some t → Within t.rights rights
+  pub absent : (other : ℕ) → ¬ (IsAt s (moved_place source target entry.place) other)

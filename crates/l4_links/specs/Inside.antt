@@ -5,3 +5,4 @@ pub mod Orders
 pub mod Nodes
 pub mod Stacks
 pub mod Keeping
+pub mod Moving

@@ -4,11 +4,12 @@
 //! tables: what is said is said of parents, of what descends from them, and of which page has which key.
 #![tactic(auto)]
 
-ghost use Rattle.std.specs.Prelude.{◌≡◌, ◌≢◌, ◌⊎◌, ◌↔◌, ◌≤◌, [], ℕ, length, true, false, IsTrue, IsOk, OnOk, OnErr, IfOk, MatchOption, Some, None};
+ghost use Rattle.std.specs.Prelude.{◌≡◌, ◌≢◌, ◌⊎◌, ◌↔◌, ◌≤◌, ◌+◌, ◌-◌, [], ℕ, length, true, false, IsTrue, IsOk, OnOk, OnErr, IfOk, MatchOption, Some, None};
 ghost use Rattle.std.specs.FinSet as set;
 ghost use Rattle.l4_fpage.specs.Rights.{common, no_rights};
-ghost use Rattle.l4_spaces.specs.Tables.{IsPage};
+ghost use Rattle.l4_spaces.specs.Tables.{IsPage, space_pages};
 
+mod blocks;
 mod burial;
 mod keys;
 mod lists;
@@ -18,6 +19,7 @@ mod packed;
 mod stamps;
 mod walks;
 
+use blocks::{can_move_all, move_all};
 use keys::Link;
 use l4_fpage::Rights;
 pub use l4_spaces::NoMemory;
@@ -96,7 +98,7 @@ impl Model for Links {
 }
 
 impl Links {
-    ghost use Rattle.l4_links.specs.Entries.{entry_at, standing_at, IsStanding, IsBlank, IsAt, IsSource, HaveRights, HavePlaces, AreTrees, NoKeyFrom, IsNextKey, NoKeyIn, IsNextKeyIn, IsKeyOf, Descends, AddsBlank, Stands, Sprouts, AddsChild, Clears, CutsBelow, Buries, CapsBelow, CapsTree, SetsSource, SetsPlain, SetsWanted, TakesOver};
+    ghost use Rattle.l4_links.specs.Entries.{entry_at, standing_at, IsStanding, IsBlank, IsAt, IsSource, HaveRights, HavePlaces, AreTrees, NoKeyFrom, IsNextKey, NoKeyIn, IsNextKeyIn, IsKeyOf, Descends, AddsBlank, Stands, Sprouts, AddsChild, Clears, CutsBelow, Buries, CapsBelow, CapsTree, SetsSource, SetsPlain, SetsWanted, TakesOver, MovesPages, Hinders, LacksPlace};
     ghost use Rattle.l4_links.specs.declared.Standing.{Standing as AStanding};
 
     /// No page, and no space.
@@ -301,6 +303,9 @@ impl Links {
         ensures cuts { CutsBelow key self.old.entries self.new.entries }
         ensures spaces { self.new.spaces ≡ self.old.spaces }
     {
+        if walks::is_leaf(&self.nodes, key) {
+            return;
+        }
         let Some(_) = node_of(&self.nodes, key) else {
             return;
         };
@@ -317,6 +322,38 @@ impl Links {
         ensures spaces { self.new.spaces ≡ self.old.spaces }
     {
         take_over(&mut self.nodes, &mut self.pages, key, blank, rights);
+    }
+
+    /// Lets all that is at the pages from the source on and before the end go to the places from the target on in another space. Each page
+    /// keeps its key, its rights, its parent and its children. Whether it did is given: nothing changes where a page has other rights
+    /// than these, or where one of the places has a key. NoMemory comes only where one of the places has no key.
+    pub fn move_pages(
+        &mut self,
+        source: Place,
+        end: u32,
+        target: Place,
+        rights: Rights,
+    ) -> Result<bool, NoMemory>
+        requires apart { source.space ≢ target.space }
+        requires there { IsTrue (set.contains self.old.spaces target.space) }
+        requires rising { source.page ≤ end }
+        requires fits { end - source.page + target.page ≤ space_pages }
+        ensures moved { IfOk result (λ done. done ≡ true → MovesPages source end target rights self.old.entries self.new.entries) }
+        ensures left { IfOk result (λ done. done ≡ false → self.new ≡ self.old) }
+        ensures hinders { IfOk result (λ done. done ≡ false → Hinders source end target rights self.old.entries) }
+        ensures err { OnErr result (self.new ≡ self.old) }
+        ensures lacks { OnErr result (LacksPlace source end target rights self.old.entries) }
+        ensures spaces { self.new.spaces ≡ self.old.spaces }
+    {
+        let can = match can_move_all(&self.nodes, &mut self.pages, source, end, target, rights) {
+            Ok(can) => can,
+            Err(refused) => return Err(refused),
+        };
+        if !can {
+            return Ok(false);
+        }
+        move_all(&mut self.nodes, &mut self.pages, source, end, target);
+        Ok(true)
     }
 
     /// Lets all that descends from the key have no other rights than these. Nothing is visited where what stands under the key has

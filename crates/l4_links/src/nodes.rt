@@ -5,7 +5,7 @@ ghost use Rattle.std.specs.Option.{option_map};
 ghost use Rattle.l4_links.specs.Inside.Keys.{IsKey, no_key};
 ghost use Rattle.l4_links.specs.Inside.Stacks.{HasStack};
 ghost use Rattle.l4_links.specs.Inside.Keeping.{standing_of};
-ghost use Rattle.l4_links.specs.Inside.Nodes.{node_at, slot_at, spots, AreKeys, wanted_in, Writes, SetsWanted, Gives, SetsNext, SetsPrev, Caps, Lowers, Closes, Sees, SetsSource, SetsPlain};
+ghost use Rattle.l4_links.specs.Inside.Nodes.{node_at, slot_at, spots, AreKeys, wanted_in, Writes, SetsWanted, SetsPlace, Gives, SetsNext, SetsPrev, Caps, Lowers, Closes, Sees, SetsSource, SetsPlain};
 ghost use Rattle.l4_links.specs.declared.nodes.Slot.{Slot as ASlot};
 ghost use Rattle.l4_links.specs.declared.nodes.Node.{Node as ANode};
 
@@ -129,6 +129,15 @@ pub(crate) fn set_wanted(nodes: &mut Slab<Packed>, key: usize, wanted: bool)
 {
     if let Some(slot) = nodes.get_mut(key) {
         slot.set_wanted(wanted);
+    }
+}
+
+/// Lets the slot under the key, if there is one, be of this page.
+pub(crate) fn set_place(nodes: &mut Slab<Packed>, key: usize, place: Place)
+    ensures { SetsPlace key place nodes.old.slots nodes.new.slots }
+{
+    if let Some(slot) = nodes.get_mut(key) {
+        slot.set_place(place);
     }
 }
 

@@ -269,6 +269,15 @@ impl Packed {
         self.wanted = wanted;
     }
 
+    /// Lets the slot be of this page.
+    #[inline]
+    pub(crate) fn set_place(&mut self, place: Place)
+        ensures { self.new ≡ record self.old { place = place } }
+    {
+        self.space = Halves::of(place.space);
+        self.page = place.page;
+    }
+
     /// Lets the slot be of this page, with a note that an item of these rights grants it.
     #[inline]
     pub(crate) fn give(&mut self, place: Place, rights: Rights)

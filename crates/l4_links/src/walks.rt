@@ -128,6 +128,7 @@ pub(crate) fn has_source(nodes: &mut Slab<Packed>, top: usize, stamp: u64) -> bo
 
 /// Whether nothing descends from the node. What descends from it would begin with the node after it, one that is deeper, so no walk is
 /// needed. False where there is no node.
+#[inline]
 pub(crate) fn is_leaf(nodes: &Slab<Packed>, key: usize) -> bool
     requires forest { (keys : List ℕ) × IsForest nodes.now.slots keys }
     ensures yes { result ≡ true → (node_at nodes.now.slots key ≢ None) × ((low : ℕ) → ¬ (Leads (parent_at (limbs nodes.now.slots)) low key)) }

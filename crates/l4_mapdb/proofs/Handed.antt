@@ -35,7 +35,7 @@ and_first true b h = h refl
 and_first false b h = refl
 
 -- rights within others are what they have in common with them
-common_all : (a b : RightsSet) → Within a b → common a b ≡ a
+pub common_all : (a b : RightsSet) → Within a b → common a b ≡ a
 common_all a b within = λ i. record { r = (and_first a.r b.r (within Read)) i; w = (and_first a.w b.w (within Write)) i; x = (and_first a.x b.x (within Execute)) i }
 
 module _ (start : Linked) (from to : ℕ) (items : List ItemMove) (ground : IsGround start from to) (there : IsTrue (set.contains start.spaces to)) (grants : AreGrants items) (apart : AreApart items (length items))

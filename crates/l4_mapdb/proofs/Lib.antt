@@ -42,6 +42,7 @@ pub mod Moved
 pub mod Moves
 pub mod PageWalk
 pub mod Placed
+pub mod OneGrant
 pub mod Prepared
 pub mod Presence
 pub mod Restored

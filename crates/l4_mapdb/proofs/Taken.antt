@@ -1,5 +1,5 @@
 -- Pages that go with all that descends from them, one after another.
-use Rattle.std.proofs.Common.{◌≡◌, ◌≢◌, ℕ, ◌+◌, ◌<◌, ◌≤◌, ◌&&◌, not, true, false, Bool, Option, Some, None, ◌⊎◌, inl, inr, refl, sym, ap, ◌∙◌, subst, option_and_then, option_map, cond, arith}
+use Rattle.std.proofs.Common.{◌≡◌, ◌≢◌, ℕ, ◌+◌, ◌<◌, ◌≤◌, true, false, Bool, Option, Some, None, ◌⊎◌, inl, inr, refl, sym, ap, ◌∙◌, subst, option_and_then, option_map, cond, arith}
 use Rattle.l4_fpage.specs.Rights.{RightsSet, common, without, all_rights, no_rights}
 use Rattle.l4_spaces.specs.Tables.{space_pages}
 use Rattle.l4_links.specs.declared.Place.{Place as LinkPlace}

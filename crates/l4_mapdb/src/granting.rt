@@ -8,6 +8,7 @@ ghost use Rattle.l4_spaces.specs.Tables.{IsPage};
 ghost use Rattle.l4_fpage.specs.Rights.{Within};
 ghost use Rattle.l4_links.specs.declared.Standing.{Standing as AStanding};
 ghost use Rattle.l4_links.specs.Entries.{Linked, entry_at, standing_at, IsAt};
+ghost use Rattle.l4_mapdb.specs.declared.sources.UsedMove.{UsedMove as AUsedMove};
 ghost use Rattle.l4_mapdb.specs.Transfer.{IsUsed};
 ghost use Rattle.l4_mapdb.specs.Causes.{HasCause};
 ghost use Rattle.l4_mapdb.specs.Inside.View.{mappings_of};
@@ -18,6 +19,7 @@ ghost use Rattle.l4_mapdb.specs.Inside.Growing.{IsGround, Stops, IsDelivered};
 ghost use Rattle.l4_mapdb.specs.Inside.Renewing.{IsBarred};
 ghost use Rattle.l4_mapdb.specs.Inside.Granting.{AreGrants, MakesBlank, CanHand, HandsOver, Blanked, Handed};
 
+use crate::cutting::end_of;
 use crate::growing::Stop;
 use crate::maps::only_of_kind;
 use crate::preparing::refusal;
@@ -26,7 +28,7 @@ use crate::tangles::are_apart;
 use crate::unmarking::unmark;
 use crate::{Cause, ItemMove};
 use l4_fpage::Rights;
-use l4_links::Links;
+use l4_links::{Links, NoMemory, Place};
 
 /// Whether what stands under the key has no other rights than these.
 fn is_within(links: &Links, key: usize, rights: Rights) -> bool
@@ -149,6 +151,37 @@ fn grant_pages(links: &mut Links, from: u64, to: u64, items: &[ItemMove]) -> Res
     Err(stop)
 }
 
+/// Lets the pages of a message with one item, which grants, stand at their targets, if nothing is there and no page has more rights than
+/// the item. Whether they do is given, and else all is as before.
+fn grant_block(links: &mut Links, from: u64, to: u64, items: &[ItemMove]) -> Result<bool, NoMemory>
+    requires ground { IsGround links.old from to }
+    requires there { IsTrue (set.contains links.old.spaces to) }
+    ensures apart { IfOk result (λ handed. handed ≡ true → AreApart items.now (length items.now)) }
+    ensures handed { IfOk result (λ handed. handed ≡ true → Handed links.old from to items.now (IsMoved links.old.entries from to items.now) links.new) }
+    ensures left { IfOk result (λ handed. handed ≡ false → links.new ≡ links.old) }
+    ensures err { OnErr result (links.new ≡ links.old) }
+    ensures lacks { OnErr result ((move : AUsedMove) × IsMoved links.old.entries from to items.now move × ((key : ℕ) → ¬ (IsAt links.old.entries move.target key))) }
+    ensures spaces { links.new.spaces ≡ links.old.spaces }
+{
+    if items.len() != 1 {
+        return Ok(false);
+    }
+    let by = &items[0];
+    let source = Place {
+        space: from,
+        page: by.mv.source.first,
+    };
+    let target = Place {
+        space: to,
+        page: by.mv.target.first,
+    };
+    let end = end_of(by.mv.source);
+    match links.move_pages(source, end, target, by.rights) {
+        Ok(handed) => Ok(handed),
+        Err(refused) => Err(refused),
+    }
+}
+
 /// Delivers a message that only grants, from one space to another, if its items fill and move no page twice, nothing is at its used
 /// targets, and no page that it moves has more rights than its item. Whether it did is given, and else all is as before. `NoMemory` may
 /// come, and `Entangled` where memory was refused for a message that is entangled.
@@ -170,6 +203,14 @@ pub(crate) fn deliver_grants(
     links.law_trees();
     if !only_of_kind(from, to, items, true) {
         return Ok(false);
+    }
+    let handed = match grant_block(links, from, to, items) {
+        Ok(handed) => handed,
+        Err(_) => return Err(refusal(links, from, to, items)),
+    };
+    if handed {
+        links.law_places();
+        return Ok(true);
     }
     if !are_apart(items) {
         return Ok(false);

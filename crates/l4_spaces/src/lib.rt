@@ -193,6 +193,34 @@ impl Spaces {
         tables::put(&mut self.spaces[at].1, page, Some(key));
     }
 
+    /// Sets the key of a page that there is room for, and keeps all room.
+    fn fill(&mut self, space: u64, free: u32, key: usize)
+        requires there { IsSpace self.old space }
+        requires room { HasRoom self.old space (free ∷ []) }
+        ensures pages { self.new.pages ≡ map.insert self.old.pages (space, free) key }
+        ensures spaces { self.new.spaces ≡ self.old.spaces }
+        ensures room { KeepsRoom self.old self.new }
+    {
+        let Some(at) = index_of(&self.spaces, space) else {
+            return;
+        };
+        tables::put(&mut self.spaces[at].1, free, Some(key));
+    }
+
+    /// Lets a present page get absent, and another one, which there is room for, have the key. All room is kept, since no more pages are
+    /// present than before.
+    pub fn rename(&mut self, space: u64, page: u32, other_space: u64, other_page: u32, key: usize)
+        requires present { IsPresent self.old space page }
+        requires there { IsSpace self.old other_space }
+        requires room { HasRoom self.old other_space (other_page ∷ []) }
+        ensures pages { self.new.pages ≡ map.insert (map.remove self.old.pages (space, page)) (other_space, other_page) key }
+        ensures spaces { self.new.spaces ≡ self.old.spaces }
+        ensures room { KeepsRoom self.old self.new }
+    {
+        self.clear(space, page);
+        self.fill(other_space, other_page, key);
+    }
+
     /// Makes a page absent. Nothing changes if it is so.
     pub fn clear(&mut self, space: u64, page: u32)
         ensures pages { self.new.pages ≡ map.remove self.old.pages (space, page) }

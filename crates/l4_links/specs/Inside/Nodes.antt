@@ -104,6 +104,11 @@ pub record Writes (key : ℕ) (node : Option Node) (old new : Slots) : Type 0 wh
   pub others : (other : ℕ) → other ≢ key → node_at new other ≡ node_at old other
   pub spots_same : (other : ℕ) → spots new other ≡ spots old other
 
+-- the slot under the key is of this page now, and all else is as it was
+pub record SetsPlace (key : ℕ) (place : Place) (old new : Slots) : Type 0 where
+  pub here : slot_at new key ≡ option_map {T = Slot} (λ s. record s { place = place }) (slot_at old key)
+  pub others : (other : ℕ) → other ≢ key → slot_at new other ≡ slot_at old other
+
 -- the slot's page is wanted now or not, and all else is as it was
 pub record SetsWanted (key : ℕ) (wanted : Bool) (old new : Slots) : Type 0 where
   pub here : slot_at new key ≡ option_map {T = Slot} (λ s. record s { wanted = wanted }) (slot_at old key)

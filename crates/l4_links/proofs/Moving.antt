@@ -1,0 +1,326 @@
+-- Pages of a block that get other places, one after another.
+use Rattle.std.proofs.Common.{◌≡◌, ◌≢◌, ◌∷◌, [], ℕ, ◌+◌, ◌-◌, ◌<◌, ◌≤◌, ◌⊎◌, Option, Some, None, is_some, refl, sym, ap, ◌∙◌, subst, inl, inr, arith}
+use Rattle.std.proofs.lemmas.Bool.{cases_lt, cases_eq}
+use Rattle.std.specs.Option.{option_map, option_and_then}
+use Rattle.l4_fpage.specs.Rights.{RightsSet, Within}
+use Rattle.l4_spaces.specs.Tables as tables
+use Rattle.l4_spaces.specs.Tables.{Tables, NonePresentIn, IsNextIn, HasRoom, KeepsRoom}
+use Rattle.l4_links.specs.declared.Place.{Place}
+use Rattle.l4_links.specs.declared.Standing.{Standing}
+use Rattle.l4_links.specs.declared.Entry.{Entry}
+use Rattle.l4_links.specs.declared.nodes.Node.{Node}
+use Rattle.l4_links.specs.declared.nodes.Slot.{Slot}
+use Rattle.l4_links.specs.Entries.{entry_at, IsInPages, moved_place, MovesPages, Hinders as HindersMove, LacksPlace as LacksHere}
+use Rattle.l4_links.specs.Inside.Nodes.{Slots, Spot, slot_at, node_at, IsOf, SetsPlace}
+use Rattle.l4_links.specs.Inside.Keeping.{standing_of, entry_of, entries_of, IsIndexed}
+use Rattle.l4_links.specs.Inside.Moving.{AreFree, HaveRoom, CanMove, IsHindered, Hinders, LacksPlace, Moves}
+use Rattle.l4_links.proofs.Writes.{spot_of}
+use Rattle.l4_links.proofs.Seen.{at_seen}
+use Rattle.l4_links.proofs.Naming.{is_at}
+
+pub decide_in : (first : Place) (end : ℕ) (p : Place) → IsInPages first end p ⊎ ¬ (IsInPages first end p)
+decide_in first end p = elim (cases_eq p.space first.space) [
+  | inr ne ↦ inr (λ i. ne i.0)
+  | inl e ↦ elim (cases_lt p.page first.page) [
+    | inl lt ↦ inr (λ i. (let h = i.1 in omega (arith, lt, h)))
+    | inr le ↦ elim (cases_lt p.page end) [
+      | inl before ↦ inl (e, le, before)
+      | inr past ↦ inr (λ i. (let h = i.2 in omega (arith, past, h)))
+    ]
+  ]
+]
+
+same_slot : {a b : Slot} → ◌≡◌ {A = Option Slot} (Some a) (Some b) → a ≡ b
+same_slot h = cc
+
+same_key : {a b : ℕ} → ◌≡◌ {A = Option ℕ} (Some a) (Some b) → a ≡ b
+same_key h = cc
+
+same_place : {a b : Place} → ◌≡◌ {A = Option Place} (Some a) (Some b) → a ≡ b
+same_place h = cc
+
+-- a slot's key is of its page
+pub of_slot : (slots : Slots) (k : ℕ) (s : Slot) → slot_at slots k ≡ Some s → IsOf slots s.place k
+of_slot slots k s at = ap (λ (z : Option Slot). option_map {T = Spot} (λ s. s.place) (option_map spot_of z)) at
+
+-- and a page's key has a slot
+slot_of : (slots : Slots) (k : ℕ) (p : Place) → IsOf slots p k → (s : Slot) × (slot_at slots k ≡ Some s) × (s.place ≡ p)
+slot_of slots k p is = over (slot_at slots k) refl is
+  where
+    over : (o : Option Slot) → slot_at slots k ≡ o → option_map {T = Spot} (λ s. s.place) (option_map spot_of o) ≡ Some p → (s : Slot) × (slot_at slots k ≡ Some s) × (s.place ≡ p)
+    over None at e = absurd (let w : ◌≡◌ {A = Option Place} None (Some p) = e in cc)
+    over (Some s) at e = (s, at, same_place e)
+
+named : (slots : Slots) (t : Tables) → IsIndexed slots t → (space k : ℕ) (s : Slot) → slot_at slots k ≡ Some s → s.place.space ≡ space → tables.key_of t space s.place.page ≡ Some k
+named slots t i space k s at e = ap (λ (z : ℕ). tables.key_of t z s.place.page) (sym e) ∙ (i.names s.place k).1 (of_slot slots k s at)
+
+-- where no page of the space is present, no slot is of one
+none_at : (slots : Slots) (t : Tables) → IsIndexed slots t → (space page end : ℕ) → NonePresentIn t space page end → (k : ℕ) (s : Slot) → slot_at slots k ≡ Some s → s.place.space ≡ space → page ≤ s.place.page → ¬ (s.place.page < end)
+none_at slots t i space page end none k s at e le lt = none s.place.page le lt (ap is_some (named slots t i space k s at e))
+
+-- the next page that is present is of the key, and no page before it is of any
+module _ (slots : Slots) (t : Tables) (i : IsIndexed slots t) (space page end next key : ℕ) (n : IsNextIn t space page end next) (is : tables.key_of t space next ≡ Some key) where
+  pub found_at : IsOf slots (record { space = space; page = next }) key
+  found_at = (i.names (record { space = space; page = next }) key).0 is
+
+  pub found_alone : (k : ℕ) (s : Slot) → slot_at slots k ≡ Some s → s.place.space ≡ space → page ≤ s.place.page → s.place.page < next + 1 → k ≡ key
+  found_alone k s at e le lt =
+      let name = named slots t i space k s at e in
+      let least = n.least s.place.page le (ap is_some name) in
+      let same : s.place.page ≡ next = omega (arith, least, lt) in
+      same_key (sym name ∙ ap (tables.key_of t space) same ∙ is)
+
+-- the first pass
+
+pub can_first : (source : Place) (target : Place) (rights : RightsSet) (slots : Slots) (t : Tables) → CanMove source source.page target rights slots t
+can_first source target rights slots t = record {
+  within = λ k s n at h. absurd (none s h);
+  free = λ k s at h. absurd (none s h);
+  room = λ k s at h. absurd (none s h);
+}
+  where
+    none : (s : Slot) → ¬ (IsInPages source source.page s.place)
+    none s h = let a = h.1 in let b = h.2 in omega (arith, a, b)
+
+pub can_all : (source : Place) (page end : ℕ) (target : Place) (rights : RightsSet) (slots : Slots) (t : Tables) → IsIndexed slots t → NonePresentIn t source.space page end → CanMove source page target rights slots t → CanMove source end target rights slots t
+can_all source page end target rights slots t i none c = record {
+  within = λ k s n at h. c.within k s n at (earlier k s at h);
+  free = λ k s at h. c.free k s at (earlier k s at h);
+  room = λ k s at h. c.room k s at (earlier k s at h);
+}
+  where
+    earlier : (k : ℕ) (s : Slot) → slot_at slots k ≡ Some s → IsInPages source end s.place → IsInPages source page s.place
+    earlier k s at h = elim (cases_lt s.place.page page) [
+      | inl lt ↦ (h.0, h.1, lt)
+      | inr le ↦ absurd (none_at slots t i source.space page end none k s at h.0 le h.2)
+    ]
+
+pub can_more : (source : Place) (page end next key : ℕ) (target : Place) (rights : RightsSet) (slots : Slots) (t u : Tables) → IsIndexed slots t → IsNextIn t source.space page end next → tables.key_of t source.space next ≡ Some key
+    → source.page ≤ page → CanMove source page target rights slots t → (place : Place) → place ≡ moved_place source target (record { space = source.space; page = next })
+    → ((n : Node) → node_at slots key ≡ Some n → Within n.rights rights) → tables.key_of t place.space place.page ≡ None → HasRoom u place.space (place.page ∷ []) → KeepsRoom t u → CanMove source (next + 1) target rights slots u
+can_more source page end next key target rights slots t u i n is from c place place_is within absent ready keeps = record {
+  within = λ k s x at h stands. elim (either k s at h) [
+    | inl e ↦ c.within k s x at e stands
+    | inr e ↦ within x (ap (node_at slots) (sym e) ∙ ap (option_and_then (λ (s : Slot). s.node)) at ∙ stands)
+  ];
+  free = λ k s at h other o. elim (either k s at h) [
+    | inl e ↦ c.free k s at e other o
+    | inr e ↦
+        let name : tables.key_of t place.space place.page ≡ Some other = (i.names place other).1 (subst (λ (p : Place). IsOf slots p other) (goes k s at e) o) in
+        (let w : ◌≡◌ {A = Option ℕ} None (Some other) = sym absent ∙ name in cc)
+  ];
+  room = λ k s at h. elim (either k s at h) [
+    | inl e ↦ keeps target.space ((moved_place source target s.place).page ∷ []) (c.room k s at e)
+    | inr e ↦ subst (λ (p : Place). HasRoom u p.space (p.page ∷ [])) (sym (goes k s at e)) ready
+  ];
+}
+  where
+    either : (k : ℕ) (s : Slot) → slot_at slots k ≡ Some s → IsInPages source (next + 1) s.place → IsInPages source page s.place ⊎ (k ≡ key)
+    either k s at h = elim (cases_lt s.place.page page) [
+      | inl lt ↦ inl (h.0, h.1, lt)
+      | inr le ↦ inr (found_alone slots t i source.space page end next key n is k s at h.0 le h.2)
+    ]
+
+    goes : (k : ℕ) (s : Slot) → slot_at slots k ≡ Some s → k ≡ key → moved_place source target s.place ≡ place
+    goes k s at e =
+        let here : s.place ≡ record { space = source.space; page = next } =
+        same_place (sym (of_slot slots k s at) ∙ subst (λ (j : ℕ). IsOf slots (record { space = source.space; page = next }) j) (sym e) (found_at slots t i source.space page end next key n is)) in
+        ap (moved_place source target) here ∙ sym place_is
+
+pub hinders_found : (source : Place) (page end next key : ℕ) (target : Place) (rights : RightsSet) (slots : Slots) (t : Tables) → IsIndexed slots t → IsNextIn t source.space page end next → tables.key_of t source.space next ≡ Some key
+    → source.page ≤ page → (place : Place) → place ≡ moved_place source target (record { space = source.space; page = next }) → IsHindered key place rights slots t → Hinders source end target rights slots
+hinders_found source page end next key target rights slots t i n is from place place_is h =
+    let w = slot_of slots key (record { space = source.space; page = next }) (found_at slots t i source.space page end next key n is) in
+    record {
+      key = key;
+      slot = w.0;
+      at = w.1;
+      inside = subst (λ (p : Place). IsInPages source end p) (sym w.2) (refl, (let a = n.from in omega (arith, a, from)), n.before);
+      why = elim h [
+        | inl x ↦ inl (x.0, sym (ap (option_and_then (λ (s : Slot). s.node)) w.1) ∙ x.1, x.2)
+        | inr x ↦ inr (x.0, subst (λ (p : Place). IsOf slots p x.0) (place_is ∙ ap (moved_place source target) (sym w.2)) ((i.names place x.0).0 x.1))
+      ];
+    }
+
+pub lacks_found : (source : Place) (page end next key : ℕ) (target : Place) (rights : RightsSet) (slots : Slots) (t : Tables) → IsIndexed slots t → IsNextIn t source.space page end next → tables.key_of t source.space next ≡ Some key
+    → source.page ≤ page → (place : Place) → place ≡ moved_place source target (record { space = source.space; page = next })
+    → ((n : Node) → node_at slots key ≡ Some n → Within n.rights rights) → tables.key_of t place.space place.page ≡ None → LacksPlace source end target rights slots
+lacks_found source page end next key target rights slots t i n is from place place_is within absent =
+    let w = slot_of slots key (record { space = source.space; page = next }) (found_at slots t i source.space page end next key n is) in
+    record {
+      key = key;
+      slot = w.0;
+      at = w.1;
+      inside = subst (λ (p : Place). IsInPages source end p) (sym w.2) (refl, (let a = n.from in omega (arith, a, from)), n.before);
+      within = λ x stands. within x (ap (option_and_then (λ (s : Slot). s.node)) w.1 ∙ stands);
+      absent = λ other o.
+          let name : tables.key_of t place.space place.page ≡ Some other = (i.names place other).1 (subst (λ (p : Place). IsOf slots p other) (ap (moved_place source target) w.2 ∙ sym place_is) o) in
+          (let z : ◌≡◌ {A = Option ℕ} None (Some other) = sym absent ∙ name in cc);
+    }
+
+-- the second pass
+
+pub moves_first : (source target : Place) (slots : Slots) → Moves source source.page target slots slots
+moves_first source target slots = record {
+  moved = λ k s at h. absurd (let a = h.1 in let b = h.2 in omega (arith, a, b));
+  kept = λ k s at _. at;
+  vacant = λ k at. at;
+}
+
+module _ (source : Place) (page end : ℕ) (target : Place) (old now : Slots) (t : Tables) (apart : source.space ≢ target.space) (m : Moves source page target old now) (i : IsIndexed now t) where
+  -- a slot of the source's space is as it was
+  still : (k : ℕ) (p : Place) → IsOf now p k → p.space ≡ source.space → (s : Slot) × (slot_at old k ≡ Some s) × (slot_at now k ≡ Some s) × (s.place ≡ p) × ¬ (IsInPages source page s.place)
+  still k p is e = over (slot_at old k) refl
+    where
+      over : (o : Option Slot) → slot_at old k ≡ o → (s : Slot) × (slot_at old k ≡ Some s) × (slot_at now k ≡ Some s) × (s.place ≡ p) × ¬ (IsInPages source page s.place)
+      over None at =
+          let s = slot_of now k p is in
+          absurd (let w : ◌≡◌ {A = Option Slot} None (Some s.0) = sym (m.vacant k at) ∙ s.1 in cc)
+      over (Some s) at = elim (decide_in source page s.place) [
+        | inl h ↦
+            let goes : moved_place source target s.place ≡ p = same_place (sym (of_slot now k (record s { place = moved_place source target s.place }) (m.moved k s at h)) ∙ is) in
+            absurd (apart (sym e ∙ ap (λ (z : Place). z.space) (sym goes)))
+        | inr out ↦ (s, at, m.kept k s at out, same_place (sym (of_slot now k s (m.kept k s at out)) ∙ is), out)
+      ]
+
+  pub moves_all : page ≤ end → NonePresentIn t source.space page end → Moves source end target old now
+  moves_all le none = record {
+    moved = λ k s at h. elim (decide_in source page s.place) [
+      | inl e ↦ m.moved k s at e
+      | inr out ↦ elim (cases_lt s.place.page page) [
+        | inl lt ↦ absurd (out (h.0, h.1, lt))
+        | inr past ↦ absurd (none_at now t i source.space page end none k s (m.kept k s at out) h.0 past h.2)
+      ]
+    ];
+    kept = λ k s at out. m.kept k s at (λ h. out (h.0, h.1, (let b = h.2 in omega (arith, le, b))));
+    vacant = m.vacant;
+  }
+
+  module _ (next key : ℕ) (n : IsNextIn t source.space page end next) (is : tables.key_of t source.space next ≡ Some key) (from : source.page ≤ page) where
+    abbrev here : Place
+    here = record { space = source.space; page = next }
+
+    found : IsOf now here key
+    found = found_at now t i source.space page end next key n is
+
+    in_end : IsInPages source end here
+    in_end = (refl, (let a = n.from in omega (arith, a, from)), n.before)
+
+    -- no key has come to the place that the page goes to
+    pub free_still : AreFree source end target old → (other : ℕ) → ¬ (IsOf now (moved_place source target here) other)
+    free_still free other o = over (slot_at old other) refl
+      where
+        over : (z : Option Slot) → slot_at old other ≡ z → ⊥
+        over None at =
+            let s = slot_of now other (moved_place source target here) o in
+            let w : ◌≡◌ {A = Option Slot} None (Some s.0) = sym (m.vacant other at) ∙ s.1 in cc
+        over (Some s) at = elim (decide_in source page s.place) [
+          | inl h ↦
+              let goes : moved_place source target s.place ≡ moved_place source target here = same_place (sym (of_slot now other (record s { place = moved_place source target s.place }) (m.moved other s at h)) ∙ o) in
+              let pages : s.place.page - source.page + target.page ≡ next - source.page + target.page = ap (λ (p : Place). p.page) goes in
+              let a = h.1 in let b = h.2 in let le = n.from in omega (arith, pages, a, b, le)
+          | inr out ↦
+              let w = still key here found refl in
+              free key w.0 w.1 (subst (λ (p : Place). IsInPages source end p) (sym w.3) in_end) other
+              (subst (λ (p : Place). IsOf old p other) (same_place (sym (of_slot now other s (m.kept other s at out)) ∙ o) ∙ ap (moved_place source target) (sym w.3)) (of_slot old other s at))
+        ]
+
+    pub room_still : HaveRoom source end target old t → HasRoom t target.space ((moved_place source target here).page ∷ [])
+    room_still room =
+        let w = still key here found refl in
+        subst (λ (p : Place). HasRoom t target.space ((moved_place source target p).page ∷ [])) w.3 (room key w.0 w.1 (subst (λ (p : Place). IsInPages source end p) (sym w.3) in_end))
+
+    pub moves_more : (new : Slots) → SetsPlace key (moved_place source target here) now new → Moves source (next + 1) target old new
+    moves_more new sets = record {
+      moved = λ k s at h. elim (cases_eq k key) [
+        | inl e ↦
+            let w = still key here found refl in
+            let same : s ≡ w.0 = same_slot (sym at ∙ ap (slot_at old) e ∙ w.1) in
+            ap (slot_at new) e ∙ sets.here ∙ ap (option_map {T = Slot} (λ s. record s { place = moved_place source target here })) w.2
+            ∙ ap (λ (p : Place). Some (record w.0 { place = moved_place source target p })) (sym w.3) ∙ ap (λ (z : Slot). Some (record z { place = moved_place source target z.place })) (sym same)
+        | inr ne ↦ sets.others k ne ∙ elim (decide_in source page s.place) [
+          | inl e ↦ m.moved k s at e
+          | inr out ↦ elim (cases_lt s.place.page page) [
+            | inl lt ↦ absurd (out (h.0, h.1, lt))
+            | inr past ↦ absurd (ne (found_alone now t i source.space page end next key n is k s (m.kept k s at out) h.0 past h.2))
+          ]
+        ]
+      ];
+      kept = λ k s at out. elim (cases_eq k key) [
+        | inl e ↦
+            let w = still key here found refl in
+            let same : s ≡ w.0 = same_slot (sym at ∙ ap (slot_at old) e ∙ w.1) in
+            let p : here ≡ s.place = sym w.3 ∙ ap (λ (z : Slot). z.place) (sym same) in
+            absurd (out (subst (λ (p : Place). IsInPages source (next + 1) p) p (refl, in_end.1, omega arith)))
+        | inr ne ↦ sets.others k ne ∙ m.kept k s at (λ h. out (h.0, h.1, (let b = h.2 in let le = n.from in omega (arith, le, b))))
+      ];
+      vacant = λ k at. elim (cases_eq k key) [
+        | inl e ↦
+            let w = still key here found refl in
+            absurd (let z : ◌≡◌ {A = Option Slot} None (Some w.0) = sym at ∙ ap (slot_at old) e ∙ w.1 in cc)
+        | inr ne ↦ sets.others k ne ∙ m.vacant k at
+      ];
+    }
+
+-- what was moved, as a contract sees it
+
+pub node_moved : (source : Place) (end : ℕ) (target : Place) (old new : Slots) → Moves source end target old new → (k : ℕ) → node_at new k ≡ node_at old k
+node_moved source end target old new m k = over (slot_at old k) refl
+  where
+    over : (o : Option Slot) → slot_at old k ≡ o → node_at new k ≡ node_at old k
+    over None at = ap (option_and_then (λ (s : Slot). s.node)) (m.vacant k at) ∙ sym (ap (option_and_then (λ (s : Slot). s.node)) at)
+    over (Some s) at = elim (decide_in source end s.place) [
+      | inl h ↦ ap (option_and_then (λ (s : Slot). s.node)) (m.moved k s at h) ∙ sym (ap (option_and_then (λ (s : Slot). s.node)) at)
+      | inr out ↦ ap (option_and_then (λ (s : Slot). s.node)) (m.kept k s at out) ∙ sym (ap (option_and_then (λ (s : Slot). s.node)) at)
+    ]
+
+node_seen : (o : Option Node) (x : Standing) → option_map standing_of o ≡ Some x → (n : Node) × (o ≡ Some n) × (standing_of n ≡ x)
+node_seen None x w = absurd (let z : ◌≡◌ {A = Option Standing} None (Some x) = w in cc)
+node_seen (Some n) x w = (n, refl, (let z : ◌≡◌ {A = Option Standing} (Some (standing_of n)) (Some x) = w in cc))
+
+pub view_moves : (source : Place) (end : ℕ) (target : Place) (rights : RightsSet) (old new : Slots) (t : Tables) → CanMove source end target rights old t → Moves source end target old new → MovesPages source end target rights (entries_of old) (entries_of new)
+view_moves source end target rights old new t c m = record {
+  moved = λ k e at h. (let s = slot_seen k e at in at_seen new k ∙ ap (option_map entry_of) (m.moved k s.0 s.1 (subst (λ (x : Entry). IsInPages source end x.place) (sym s.2) h))
+      ∙ ap (λ (x : Entry). Some (record x { place = moved_place source target x.place })) s.2);
+  kept = λ k e at out. (let s = slot_seen k e at in at_seen new k ∙ ap (option_map entry_of) (m.kept k s.0 s.1 (λ h. out (subst (λ (x : Entry). IsInPages source end x.place) s.2 h))) ∙ ap (λ (x : Entry). Some x) s.2);
+  vacant = λ k at. at_seen new k ∙ ap (option_map entry_of) (m.vacant k (none_seen (slot_at old k) (sym (at_seen old k) ∙ at)));
+  within = λ k e x at h stands. (let s = slot_seen k e at in
+      let n = node_seen s.0.node x (ap (λ (z : Entry). z.stands) s.2 ∙ stands) in
+      subst (λ (z : Standing). Within z.rights rights) n.2 (c.within k s.0 n.0 s.1 (subst (λ (x : Entry). IsInPages source end x.place) (sym s.2) h) n.1));
+  absent = λ k e at h other o. (let s = slot_seen k e at in
+      c.free k s.0 s.1 (subst (λ (x : Entry). IsInPages source end x.place) (sym s.2) h) other
+      (subst (λ (x : Entry). IsOf old (moved_place source target x.place) other) (sym s.2) ((is_at old (moved_place source target e.place) other).1 o)));
+}
+  where
+    slot_seen : (k : ℕ) (e : Entry) → entry_at (entries_of old) k ≡ Some e → (s : Slot) × (slot_at old k ≡ Some s) × (entry_of s ≡ e)
+    slot_seen k e at = over (slot_at old k) refl (sym (at_seen old k) ∙ at)
+      where
+        over : (o : Option Slot) → slot_at old k ≡ o → option_map entry_of o ≡ Some e → (s : Slot) × (slot_at old k ≡ Some s) × (entry_of s ≡ e)
+        over None is w = absurd (let z : ◌≡◌ {A = Option Entry} None (Some e) = w in cc)
+        over (Some s) is w = (s, is, (let z : ◌≡◌ {A = Option Entry} (Some (entry_of s)) (Some e) = w in cc))
+
+    none_seen : (o : Option Slot) → option_map entry_of o ≡ None → o ≡ None
+    none_seen None w = refl
+    none_seen (Some s) w = absurd (let z : ◌≡◌ {A = Option Entry} (Some (entry_of s)) None = w in cc)
+
+pub view_hinders : (source : Place) (end : ℕ) (target : Place) (rights : RightsSet) (slots : Slots) → Hinders source end target rights slots → HindersMove source end target rights (entries_of slots)
+view_hinders source end target rights slots h = record {
+  key = h.key;
+  entry = entry_of h.slot;
+  at = at_seen slots h.key ∙ ap (option_map entry_of) h.at;
+  inside = h.inside;
+  why = elim h.why [
+    | inl x ↦ inl (standing_of x.0, ap (option_map standing_of) x.1, x.2)
+    | inr x ↦ inr (x.0, (is_at slots (moved_place source target h.slot.place) x.0).0 x.1)
+  ];
+}
+
+pub view_lacks : (source : Place) (end : ℕ) (target : Place) (rights : RightsSet) (slots : Slots) → LacksPlace source end target rights slots → LacksHere source end target rights (entries_of slots)
+view_lacks source end target rights slots h = record {
+  key = h.key;
+  entry = entry_of h.slot;
+  at = at_seen slots h.key ∙ ap (option_map entry_of) h.at;
+  inside = h.inside;
+  within = λ x stands. (let n = node_seen h.slot.node x stands in subst (λ (z : Standing). Within z.rights rights) n.2 (h.within n.0 n.1));
+  absent = λ other o. h.absent other ((is_at slots (moved_place source target h.slot.place) other).1 o);
+}
