@@ -9,7 +9,7 @@ use crate::requests::ROOT;
 use crate::session::{Places, answer_line};
 use l4_seats::SeatedKernel;
 use l4_servers::Servers;
-use l4_text::{Ending, Line, Output, RunFault, Source, next_line};
+use l4_text::{Ending, LineReader, Output, RunFault};
 use std::alloc::Global;
 use std::io::{Read, Write};
 
@@ -45,15 +45,14 @@ fn answer_all<R: Read, W: Write>(
     ensures { TellsScript (session kernel.old servers.old) (R.remaining reader.old) (R.remaining reader.new)
         (W.contents writer.old) (W.contents writer.new) out.old out.new result }
 {
-    let mut source = Source::new();
-    let mut line = Line::new();
+    let mut lines = LineReader::new();
     let mut places = Places::new();
     for number in 1..u64::MAX {
-        out.send_before_read(&source, writer);
+        out.send_before_line(&lines, writer);
         if out.has_failed() {
             return Err(RunFault::Write);
         }
-        let next = match next_line(&mut source, &mut line, reader) {
+        let next = match lines.next(reader) {
             Ok(next) => next,
             Err(_) => return Err(RunFault::Read),
         };
@@ -64,7 +63,7 @@ fn answer_all<R: Read, W: Write>(
             kernel,
             servers,
             (number, ending),
-            line.as_slice(),
+            lines.line(),
             &mut places,
             out,
             writer,

@@ -1,5 +1,5 @@
 -- A line, read part by part.
-use Rattle.std.proofs.Common.{◌≡◌, ℕ, ◌+◌, ◌-◌, ◌*◌, ◌==◌, ◌<◌, ◌≤◌, suc, Bool, true, false, not, cond, nat_lt, List, [], ◌∷◌, ◌++◌, length, take, drop, get_or, Option, Some, None, Ok, length-append, length-drop, length-take, sym, ap, subst, ◌∙◌, refl, arith}
+use Rattle.std.proofs.Common.{◌≡◌, ℕ, ◌+◌, ◌-◌, ◌*◌, ◌==◌, ◌<◌, ◌≤◌, suc, Bool, true, false, not, cond, nat_lt, List, [], ◌∷◌, ◌++◌, length, take, drop, get_or, Option, Some, None, Result, Ok, length-append, length-drop, length-take, sym, ap, subst, ◌∙◌, refl, arith}
 use Rattle.std.specs.List.{position_or_len}
 use Rattle.std.specs.Io.KnownBytes.{Consumes}
 use Rattle.std.proofs.lemmas.List.{append-nil, length-take-le, take-append-le, take_all, drop-drop, drop-take}
@@ -8,8 +8,9 @@ use Rattle.std.proofs.lemmas.List.Sums.{split_at_first, passes_at_first}
 use Rattle.std.proofs.lemmas.Bool.{false≢true}
 use Rattle.std.proofs.lemmas.Bool.Decides.{nat_tests}
 use mathlib.Core.List.{append_assoc}
-use Rattle.l4_text.specs.Inside.Reading.{is_newline}
+use Rattle.l4_text.specs.Inside.Reading.{is_newline, behind, line_in_front, IsLineLen}
 use Rattle.l4_text.specs.Lines.{NoNewline, kept_of, Takes, TakesLine, TakesRest, GivesLine, left_of}
+use Rattle.l4_text.specs.declared.faults.RunFault.{RunFault}
 use Rattle.l4_text.specs.declared.lines.Ending.{Ending}
 use Rattle.l4_text.specs.declared.lines.Ending.TheVariants.{Whole, Long}
 
@@ -220,3 +221,28 @@ gives_line old new before after kept ending takes is =
       | true ↦ λ t. subst (λ (e : Ending). GivesLine old new before after kept (Ok (Some e))) (sym (is ∙ ap (λ b. cond b Long Whole) t)) (takes, t)
       | false ↦ λ f. subst (λ (e : Ending). GivesLine old new before after kept (Ok (Some e))) (sym (is ∙ ap (λ b. cond b Long Whole) f)) (takes, f)
     ] refl
+
+-- a line that stands whole among what was read
+pub lent_line : (a : Option (List ℕ)) (before now : List ℕ × ℕ) (len : ℕ) (kept : List ℕ × Bool) → now ≡ before → IsLineLen now len
+    → TakesLine a a before (behind (len + 1) now) (line_in_front (len + 1) now kept) × ((line_in_front (len + 1) now kept).1 ≡ false)
+lent_line a before now len kept same l =
+    let some : ((len + 1) == 0) ≡ false = grind (arith, nat_tests) in
+    let len_is : (len + 1) - 1 ≡ len = omega arith in
+    let is : line_in_front (len + 1) now kept ≡ (take len now.0, false) = ap (λ b. cond b kept (take ((len + 1) - 1) now.0, false)) some ∙ ap (λ n. (take n now.0, false)) len_is in
+    let fits : length (take len now.0) ≤ 4096 = omega (arith, l.within, l.short, length-take len now.0) in
+    let none : SoFar a a now now (kept_of []) 0 = record {
+      bytes = [];
+      plain = tt;
+      takes = record { read = []; from = consumes_same a; same = append-nil now.0 };
+      kept_is = refl;
+      turns = omega arith;
+      few = l.few;
+      no_more = omega arith;
+    } in
+    let takes : TakesLine a a now (behind (len + 1) now) (line_in_front (len + 1) now kept) =
+    takes_line a a now now (behind (len + 1) now) (kept_of []) (line_in_front (len + 1) now kept) 0 len now.0 none refl l.place l.within (is ∙ kept_all [] (take len now.0) [] false 4096 refl refl refl fits) refl in
+    (subst (λ (s : List ℕ × ℕ). TakesLine a a s (behind (len + 1) now) (line_in_front (len + 1) now kept)) same takes, ap (λ k. k.1) is)
+
+-- the same, of what was there before
+pub gives_after : (a b : Option (List ℕ)) (before now after : List ℕ × ℕ) (kept : List ℕ × Bool) (r : Result (Option Ending) RunFault) → now ≡ before → GivesLine a b now after kept r → GivesLine a b before after kept r
+gives_after a b before now after kept r same gives = subst (λ (s : List ℕ × ℕ). GivesLine a b s after kept r) same gives

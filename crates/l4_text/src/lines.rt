@@ -1,7 +1,7 @@
 //! Lines of a stream, of which no more than one is kept.
-ghost use Rattle.std.specs.Prelude.{◌≡◌, ◌+◌, ◌-◌, ◌*◌, ◌<◌, ◌≤◌, [], ◌++◌, drop, length, ◌==◌, if◌then◌else◌, ℕ, List, MatchBool};
+ghost use Rattle.std.specs.Prelude.{◌≡◌, ◌+◌, ◌-◌, ◌*◌, ◌<◌, ◌≤◌, [], ◌++◌, drop, length, ◌==◌, if◌then◌else◌, ℕ, List, MatchBool, IfSome};
 ghost use Rattle.std.specs.List.{position, position_or_len};
-ghost use Rattle.l4_text.specs.Inside.Reading.{is_newline, Filled, EndsLines};
+ghost use Rattle.l4_text.specs.Inside.Reading.{is_newline, Filled, EndsLines, IsLineLen};
 ghost use Rattle.l4_text.specs.Lines.{NoNewline, GivesLine};
 ghost use Rattle.l4_text.specs.Sizes.{most_reads};
 
@@ -93,10 +93,25 @@ impl Source {
     pub fn has_line(&self) -> bool
         ensures { MatchBool result (NoNewline self.now.0 → ⊥) (NoNewline self.now.0) }
     {
-        if self.start < self.lines {
+        self.has_line_behind(0)
+    }
+
+    /// Whether a whole line was read behind this many of them.
+    fn has_line_behind(&self, count: usize) -> bool
+        requires { count ≤ length self.now.0 }
+        ensures { MatchBool result (NoNewline (drop count self.now.0) → ⊥) (NoNewline (drop count self.now.0)) }
+    {
+        if self.start + count < self.lines {
             return true;
         }
         false
+    }
+
+    /// How many bytes the next line has, where a whole one was read and not taken.
+    fn whole_line_len(&self) -> Option<usize>
+        ensures { IfSome result (IsLineLen self.now) }
+    {
+        first_newline(&self.chunk[self.start..self.end])
     }
 
     /// Takes this many of them.
@@ -250,4 +265,82 @@ pub fn next_line<R: Read>(
         }
     }
     Err(RunFault::Read)
+}
+
+/// Takes the next line, as `next_line`, apart from what each line uses.
+#[cold]
+#[inline(never)]
+fn read_line<R: Read>(
+    source: &mut Source,
+    line: &mut Line,
+    reader: &mut R,
+) -> Result<Option<Ending>, RunFault>
+    ensures { GivesLine (R.remaining reader.old) (R.remaining reader.new) source.old source.new line.new result }
+{
+    next_line(source, line, reader)
+}
+
+/// The lines of a stream, one at a time. A line that was read whole by one read stays where it was read until the next is asked for, and
+/// no byte of it is copied.
+#[derive(Drop)]
+pub struct LineReader {
+    source: Source,
+    line: Line,
+    lent: usize,
+}
+
+impl Model for LineReader {
+    ghost use Rattle.std.specs.Prelude.{ℕ, List, Bool, ◌≤◌, length};
+    ghost use Rattle.l4_text.specs.Inside.Reading.{behind, line_in_front};
+
+    ghost Value = { (List ℕ × ℕ) × (List ℕ × Bool) };
+
+    ghost view = { λ a. (behind a.lent a.source, line_in_front a.lent a.source a.line) };
+
+    ghost invariant = { λ a. a.lent ≤ length a.source.0 };
+}
+
+impl LineReader {
+    ghost use Rattle.l4_text.specs.Lines.{kept_of};
+
+    /// Nothing was read yet.
+    pub fn new() -> LineReader
+        ensures { result ≡ (([], 0), kept_of []) }
+    {
+        LineReader {
+            source: Source::new(),
+            line: Line::new(),
+            lent: 0,
+        }
+    }
+
+    /// Whether a whole line was read behind this one, so that the next needs no read.
+    pub fn has_line(&self) -> bool
+        ensures { MatchBool result (NoNewline self.now.0.0 → ⊥) (NoNewline self.now.0.0) }
+    {
+        self.source.has_line_behind(self.lent)
+    }
+
+    /// The bytes of the line that was taken last, at most 4,096.
+    pub fn line(&self) -> &[u8]
+        ensures { result.now ≡ self.now.1.0 }
+    {
+        if self.lent == 0 {
+            return self.line.as_slice();
+        }
+        &self.source.pending()[..self.lent - 1]
+    }
+
+    /// Takes the next line. None at the end of the stream, and a call after it asks the stream again.
+    pub fn next<R: Read>(&mut self, reader: &mut R) -> Result<Option<Ending>, RunFault>
+        ensures { GivesLine (R.remaining reader.old) (R.remaining reader.new) self.old.0 self.new.0 self.new.1 result }
+    {
+        self.source.take(self.lent);
+        self.lent = 0;
+        let Some(len) = self.source.whole_line_len() else {
+            return read_line(&mut self.source, &mut self.line, reader);
+        };
+        self.lent = len + 1;
+        Ok(Some(Ending::Whole))
+    }
 }

@@ -8,7 +8,7 @@ ghost use Rattle.l4_text.specs.Sizes.{text_bytes, held_bytes};
 
 use crate::faults::RunFault;
 use crate::kept::KeptBytes;
-use crate::lines::Source;
+use crate::lines::{LineReader, Source};
 use crate::texts::{MAX_TEXT, Text, two_digits, word_digits};
 use itoa::Buffer;
 use std::io::Write;
@@ -263,17 +263,14 @@ impl Output {
         }
     }
 
-    /// Lets what is held back go out before the next line is taken, where the source has no whole line and so has to
-    /// read: whoever gives the lines has all answers to those before it. Large inputs still go out in large pieces, one a
-    /// read.
-    pub fn send_before_read<W: Write>(&mut self, source: &Source, writer: &mut W)
+    /// Lets all that is held back go out, unless a write failed.
+    #[cold]
+    #[inline(never)]
+    fn send_all<W: Write>(&mut self, writer: &mut W)
         ensures told { Tells (W.contents writer.old) (W.contents writer.new) self.old self.new [] }
-        ensures sent { IsOutBeforeRead source.now.0 self.new }
+        ensures sent { self.new.1 ≡ false → self.new.0 ≡ [] }
     {
         if self.failed {
-            return;
-        }
-        if source.has_line() {
             return;
         }
         if self.held.is_empty() {
@@ -283,6 +280,30 @@ impl Output {
             Ok(()) => {}
             Err(_fault) => self.failed = true,
         }
+    }
+
+    /// Lets what is held back go out before the next line is taken, where the source has no whole line and so has to
+    /// read: whoever gives the lines has all answers to those before it. Large inputs still go out in large pieces, one a
+    /// read.
+    pub fn send_before_read<W: Write>(&mut self, source: &Source, writer: &mut W)
+        ensures told { Tells (W.contents writer.old) (W.contents writer.new) self.old self.new [] }
+        ensures sent { IsOutBeforeRead source.now.0 self.new }
+    {
+        if source.has_line() {
+            return;
+        }
+        self.send_all(writer);
+    }
+
+    /// The same before the next line of these.
+    pub fn send_before_line<W: Write>(&mut self, lines: &LineReader, writer: &mut W)
+        ensures told { Tells (W.contents writer.old) (W.contents writer.new) self.old self.new [] }
+        ensures sent { IsOutBeforeRead lines.now.0.0 self.new }
+    {
+        if lines.has_line() {
+            return;
+        }
+        self.send_all(writer);
     }
 
     /// Writes what is held back, and has the writer pass on what it holds back itself.

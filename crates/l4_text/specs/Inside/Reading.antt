@@ -1,5 +1,5 @@
 -- How a stream is read, piece by piece (this profile's own).
-use Rattle.std.specs.Prelude.{ℕ, ◌≡◌, ◌≢◌, ◌+◌, ◌-◌, ◌==◌, ◌^◌, get_or, ◌<◌, ◌≤◌, Bool, true, false, List, [], length, take, drop, Option, Some, Result, Ok, Err, not}
+use Rattle.std.specs.Prelude.{ℕ, ◌≡◌, ◌≢◌, ◌+◌, ◌-◌, ◌==◌, ◌^◌, get_or, ◌<◌, ◌≤◌, Bool, true, false, List, [], length, take, drop, Option, Some, Result, Ok, Err, not, if◌then◌else◌}
 use Rattle.std.specs.Io.KnownBytes.{Consumes, IsAtEnd}
 use Rattle.std.specs.List.{position_or_len}
 use Rattle.l4_text.specs.Numbers.{value_from}
@@ -16,6 +16,21 @@ pub record EndsLines (bytes : List ℕ) (end lines : ℕ) : Type 0 where
   pub within : lines ≤ end
   pub last : lines ≢ 0 → (get_or bytes (lines - 1) 0 == 10) ≡ true
   pub after : (k : ℕ) → lines ≤ k → k < end → (get_or bytes k 0 == 10) ≡ false
+
+-- what was read and not taken, after so many bytes of it
+abbrev pub behind : ℕ → List ℕ × ℕ → List ℕ × ℕ
+behind count source = (drop count source.0, source.1)
+
+-- the line that so many of these bytes are with its newline, or the one that is kept where there are none
+abbrev pub line_in_front : ℕ → List ℕ × ℕ → List ℕ × Bool → List ℕ × Bool
+line_in_front count source kept = if count == 0 then kept else (take (count - 1) source.0, false)
+
+-- so many bytes stand before the first newline
+pub record IsLineLen (source : List ℕ × ℕ) (len : ℕ) : Type 0 where
+  pub place : len ≡ position_or_len is_newline source.0
+  pub within : len < length source.0
+  pub short : length source.0 ≤ line_bytes
+  pub few : source.1 ≤ most_reads
 
 -- a read put new bytes in the place of those that were there
 pub record Filled (old new : Option (List ℕ)) (before after : List ℕ × ℕ) (result : Result Bool RunFault) : Type 0 where
