@@ -1,5 +1,5 @@
 -- A pager's regions, and its answers (this profile's own).
-use Rattle.std.specs.Prelude.{◌≡◌, ℕ, ◌+◌, ◌-◌, ◌*◌, ◌/◌, ◌^◌, ◌<◌, ◌≤◌, ◌⊎◌, ◌&&◌, Bool, nat_le, nat_lt, codes, List, [], ◌∷◌, Option, Some, None, MatchOption, IsTrue, length}
+use Rattle.std.specs.Prelude.{◌≡◌, ℕ, ◌+◌, ◌-◌, ◌/◌, ◌<◌, ◌≤◌, ◌⊎◌, ◌&&◌, Bool, nat_le, nat_lt, codes, List, Option, Some, None, MatchOption, IsTrue, length, slice_get}
 use Rattle.std.specs.List.{All, Any, AllPairs, find}
 use Rattle.l4_fpage.specs.Rights.{RightsSet, is_none, without}
 use Rattle.l4_fpage.specs.Pages.{page_bytes, space_pages}
@@ -58,6 +58,11 @@ serves page access e = is_for e page && is_none (without access e.rights)
 -- the entry that is for the page and whose rights hold the access; there is no second one in a table
 abbrev pub entry_for : List Entry → ℕ → RightsSet → Option Entry
 entry_for es page access = find (serves page access) es
+
+-- what was found is the entry for the page, with its place
+abbrev pub IsPlaced : List Entry → ℕ → RightsSet → Option (ℕ × Entry) → Type 0
+IsPlaced es page access found =
+    MatchOption found (entry_for es page access ≡ None) (λ p. (entry_for es page access ≡ Some p.1) × (slice_get es p.0 ≡ Some p.1))
 
 -- the source page of a page
 abbrev pub source_of : Entry → ℕ → ℕ

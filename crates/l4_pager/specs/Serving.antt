@@ -1,5 +1,5 @@
 -- What a served pager enters: it answers the last message, waits for the next one, and so on (this profile's own).
-use Rattle.std.specs.Prelude.{◌≡◌, ℕ, ◌+◌, ◌≤◌, ◌⊎◌, Bool, true, false, List, [], ◌∷◌, ◌++◌, length, if◌then◌else◌}
+use Rattle.std.specs.Prelude.{◌≡◌, ℕ, ◌+◌, Bool, true, false, List, [], ◌∷◌, if◌then◌else◌}
 use Rattle.l4_msg.specs.Messages.{MessageReads, message_words}
 use Rattle.l4_msg.specs.declared.messages.Message.{Message}
 use Rattle.l4_threads.specs.declared.ThreadId.{ThreadId}

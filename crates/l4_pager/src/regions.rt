@@ -1,5 +1,5 @@
 //! The regions of a pager.
-ghost use Rattle.std.specs.Prelude.{◌≡◌, ◌%◌, ◌⊎◌, ◌<◌, ◌++◌, ◌∷◌, [], ◌↔◌, List, MatchOption, MatchResult, IsTrue, Some, None, true, false};
+ghost use Rattle.std.specs.Prelude.{◌≡◌, ◌%◌, ◌/◌, ◌⊎◌, ◌<◌, ◌++◌, ◌∷◌, [], ◌↔◌, List, MatchOption, MatchResult, IfSome, IsTrue, Some, None, true, false, position, slice_get};
 ghost use Rattle.std.specs.List.{All, Any};
 
 use arrayvec::ArrayVec;
@@ -54,7 +54,7 @@ impl Default for Entry {
 }
 
 impl Entry {
-    ghost use Rattle.l4_pager.specs.Regions.{IsBad, is_for, Meet};
+    ghost use Rattle.l4_pager.specs.Regions.{IsBad, is_for, Meet, serves};
 
     /// Whether the entry has no page, a page or source page beyond the space, or no right.
     pub fn is_bad(&self) -> bool
@@ -80,6 +80,13 @@ impl Entry {
     {
         self.first < other.first + other.count && other.first < self.first + self.count
     }
+
+    /// Whether the entry is for a page, and its rights hold the access.
+    fn serves(&self, page: u32, access: Rights) -> bool
+        ensures { result ≡ serves page access self.now }
+    {
+        page >= self.first && page - self.first < self.count && self.rights.contains(access)
+    }
 }
 
 ghost use Rattle.l4_pager.specs.Regions.{IsBad, Meet};
@@ -99,21 +106,36 @@ fn meets_one(entries: &[Entry], entry: &Entry) -> bool
     false
 }
 
-ghost use Rattle.l4_pager.specs.Regions.{entry_for};
+ghost use Rattle.l4_pager.specs.Regions.{serves, entry_for, IsPlaced};
 
-/// The entry for a page whose rights hold the access.
-fn entry_for(entries: &[Entry], page: u32, access: Rights) -> Option<Entry>
-    ensures { result ≡ entry_for entries.now page access }
+/// The place of the first entry for a page whose rights hold the access.
+fn place_of(entries: &[Entry], page: u32, access: Rights) -> Option<usize>
+    ensures { result ≡ position (serves page access) entries.now }
 {
-    for entry in entries {
-        if page >= entry.first
-            && page - entry.first < entry.count
-            && entry.rights.contains(access)
-        {
-            return Some(*entry);
-        }
+    entries.iter().position(|entry| entry.serves(page, access))
+}
+
+/// The entry for a page whose rights hold the access, and its place.
+fn entry_for(entries: &[Entry], page: u32, access: Rights) -> Option<(usize, Entry)>
+    ensures { IsPlaced entries.now page access result }
+{
+    let Some(place) = place_of(entries, page, access) else {
+        return None;
+    };
+    Some((place, entries[place]))
+}
+
+/// The entry at a place, if it is for the page and its rights hold the access.
+fn entry_at(entries: &[Entry], place: usize, page: u32, access: Rights) -> Option<Entry>
+    ensures { IfSome result (λ entry. (slice_get entries.now place ≡ Some entry) × (serves page access entry ≡ true)) }
+{
+    let Some(entry) = entries.get(place) else {
+        return None;
+    };
+    if !entry.serves(page, access) {
+        return None;
     }
-    None
+    Some(*entry)
 }
 
 /// A pager's table of at most `MAX_REGIONS` regions, no page of which is one of two.
@@ -139,6 +161,7 @@ impl RegionPager {
     ghost use Rattle.l4_msg.specs.Protocols.{one_item};
     ghost use Rattle.l4_msg.specs.Sizes.{base_unit};
     ghost use Rattle.l4_msg.specs.declared.items.Item.TheVariants.{Map};
+    ghost use Rattle.l4_fpage.specs.Pages.{page_bytes};
     ghost use Rattle.l4_pager.specs.Regions.{AddFails, CanAdd, IsTable, source_of, Answers, AnswersFault};
     ghost use Rattle.l4_pager.specs.declared.regions.PagerRefusal.{PagerRefusal as ARefusal};
     ghost use Rattle.l4_pager.specs.declared.regions.PagerRefusal.TheVariants.{NoRegion};
@@ -187,9 +210,45 @@ impl RegionPager {
             (λ refusal. (entry_for self.now page access ≡ None) × (refusal ≡ NoRegion)) }
     {
         match entry_for(self.entries.as_slice(), page, access) {
-            Some(entry) => Ok(entry.source + (page - entry.first)),
+            Some((_, entry)) => Ok(entry.source + (page - entry.first)),
             None => Err(PagerRefusal::NoRegion),
         }
+    }
+
+    /// The entry for a page whose rights hold the access, and its place. The entry at the guess is looked at first, and then the next one.
+    fn entry_near(&self, page: u32, access: Rights, guess: usize) -> Option<(usize, Entry)>
+        ensures { IsPlaced self.now page access result }
+    {
+        let entries = self.entries.as_slice();
+        if let Some(entry) = entry_at(entries, guess, page, access) {
+            return Some((guess, entry));
+        }
+        let next = guess.wrapping_add(1);
+        if let Some(entry) = entry_at(entries, next, page, access) {
+            return Some((next, entry));
+        }
+        entry_for(entries, page, access)
+    }
+
+    /// The answer to a fault, as `answer_fault` gives it, and the place of the entry that it comes from. Which place is guessed changes
+    /// nothing but how long it takes: the entry there is looked at first, and then the next one, since faults go on where the last one
+    /// was. Where no entry answers, the place is the guess.
+    pub fn answer_fault_near(&self, fault: &PageFault, guess: usize) -> (u32, Fpage, usize)
+        ensures answers { AnswersFault self.now fault.now (one_item (Map result.0 result.1)) }
+        ensures whole { result.0 % base_unit ≡ 0 }
+        ensures place { MatchOption (entry_for self.now (fault.now.address / page_bytes) fault.now.access) (result.2 ≡ guess) (λ entry. slice_get self.now result.2 ≡ Some entry) }
+    {
+        self.law_table();
+        let page = fault.address >> PAGE_LOG;
+        let Some((place, entry)) = self.entry_near(page, fault.access, guess) else {
+            return (0, Fpage::Nil, guess);
+        };
+        let source = Block {
+            first: entry.source + (page - entry.first),
+            log: 0,
+        };
+        let fpage = Fpage::of_block(source, entry.rights);
+        (page << PAGE_LOG, fpage, place)
     }
 
     /// The answer to a fault, as `answer` says: the send base and the fpage of its one map item.
@@ -197,15 +256,8 @@ impl RegionPager {
         ensures answers { AnswersFault self.now fault.now (one_item (Map result.0 result.1)) }
         ensures whole { result.0 % base_unit ≡ 0 }
     {
-        let page = fault.address >> PAGE_LOG;
-        let Some(entry) = entry_for(self.entries.as_slice(), page, fault.access) else {
-            return (0, Fpage::Nil);
-        };
-        let source = Block {
-            first: entry.source + (page - entry.first),
-            log: 0,
-        };
-        (page << PAGE_LOG, Fpage::of_block(source, entry.rights))
+        let (base, fpage, _) = self.answer_fault_near(fault, 0);
+        (base, fpage)
     }
 
     /// The answer to a message: to a fault's one map item, its send base the fault's page and its fpage the source page of 4 KiB with

@@ -1,5 +1,5 @@
 -- The served threads, looked at one after another by rising number.
-use Rattle.std.proofs.Common.{◌≡◌, ℕ, ◌<◌, ◌≤◌, Bool, true, false, ◌||◌, List, [], ◌∷◌, length, Option, Some, None, refl, sym, ap, ◌∙◌, subst, arith, Bor}
+use Rattle.std.proofs.Common.{◌≡◌, ℕ, ◌<◌, ◌≤◌, Bool, true, false, ◌||◌, List, [], ◌∷◌, Option, Some, None, refl, sym, ap, ◌∙◌, subst, arith, Bor}
 use Rattle.std.specs.Prelude.{IsSome}
 use Rattle.std.specs.Option.{is_some, option_copied}
 use Rattle.std.specs.List.{list_any, AllByRecursion}
@@ -9,8 +9,8 @@ use Rattle.std.specs.declared.cmp.Ordering.TheVariants.{Less}
 use Rattle.std.specs.Ordering.{nat_cmp}
 use Rattle.std.specs.Cmp.{nat_cmp_total, tied_itself, ranked}
 use Rattle.std.specs.FinMap as fin
+use Rattle.std.specs.FinSet as set
 use Rattle.std.proofs.lemmas.Bool.{false≢true}
-use Rattle.std.proofs.lemmas.List.{nil_from_length}
 use Rattle.std.proofs.lemmas.Map.Keys.{sorted_head, sorted_tail}
 use Rattle.l4_pager.specs.declared.regions.Entry.{Entry}
 use Rattle.l4_sigma0.specs.Owners.{Owners}
@@ -18,7 +18,11 @@ use Rattle.l4_threads.specs.Threads.{Threads}
 use Rattle.l4_ipc.specs.Reading.{reply_of}
 use Rattle.l4_servers.specs.Servers.{Servers, servers, is_served}
 use Rattle.l4_servers.specs.Acting.{NoneReady, IsFirstReady}
-use Rattle.l4_servers.proofs.Kept.{Numbers, has, served_by, served_is, equal}
+use Rattle.l4_servers.proofs.Kept.{equal}
+use Rattle.l4_servers.proofs.Numbers.{Numbers, has, served_by, held}
+
+served_is : (s : Servers) (o : Owners) (tables : fin.FinMap nat_cmp (List Entry)) (ks : Numbers) (n : ℕ) → servers o tables (served_by ks) ≡ s → is_served s n ≡ has n ks
+served_is s o tables ks n view = ap (λ (x : Servers). is_served x n) (sym view) ∙ held ks n
 
 -- the numbers that are left rise, are served, and whoever is ready is one of them
 pub record Looking (t : Threads) (s : Servers) (rest : Numbers) : Type 0 where
@@ -26,13 +30,15 @@ pub record Looking (t : Threads) (s : Servers) (rest : Numbers) : Type 0 where
   pub within : (q : ℕ) → has q rest ≡ true → is_served s q ≡ true
   pub among : (q : ℕ) → is_served s q ≡ true → IsSome (reply_of t q) → has q rest ≡ true
 
-pub looking_first : (t : Threads) (s : Servers) (o : Owners) (tables : fin.FinMap nat_cmp (List Entry)) (ks rest : Numbers) → servers o tables (served_by ks) ≡ s → rest ≡ ks
-    → IsStrictlySortedBy nat_cmp ks → Looking t s rest
-looking_first t s o tables ks rest view is sorted = record {
-  sorted = subst (λ (x : Numbers). IsStrictlySortedBy nat_cmp x) (sym is) sorted;
-  within = λ q h. served_is s o tables ks q view ∙ sym (ap (has q) is) ∙ h;
-  among = λ q h ready. ap (has q) is ∙ sym (served_is s o tables ks q view) ∙ h;
-}
+pub looking_first : (t : Threads) (s : Servers) (o : Owners) (tables : fin.FinMap nat_cmp (List Entry)) (ks : Numbers) (served : set.FinSet nat_cmp) → servers o tables served ≡ s → served_by ks ≡ served
+    → IsStrictlySortedBy nat_cmp ks → Looking t s ks
+looking_first t s o tables ks served view is sorted =
+    let seen : servers o tables (served_by ks) ≡ s = ap (servers o tables) is ∙ view in
+    record {
+      sorted = sorted;
+      within = λ q h. served_is s o tables ks q seen ∙ h;
+      among = λ q h ready. sym (served_is s o tables ks q seen) ∙ h;
+    }
 
 -- a number is the first of some, or one of the others
 one_of : (A : Type 0) (b c : Bool) → (b || c) ≡ true → (b ≡ true → A) → (c ≡ true → A) → A
@@ -81,10 +87,6 @@ looking_found t s rest later x l is some =
 -- nobody is left
 pub looking_none : (t : Threads) (s : Servers) (rest : Numbers) → Looking t s rest → rest ≡ [] → NoneReady t s
 looking_none t s rest l is = λ q h. false≢true (sym (ap (has q) is) ∙ l.among q h.0 h.1)
-
--- nobody is served
-pub nobody_served : (t : Threads) (s : Servers) (o : Owners) (tables : fin.FinMap nat_cmp (List Entry)) (ks : Numbers) → servers o tables (served_by ks) ≡ s → length ks ≡ 0 → NoneReady t s
-nobody_served t s o tables ks view none = λ q h. false≢true (sym (served_is s o tables ks q view ∙ ap (has q) (nil_from_length ks none)) ∙ h.0)
 
 copied_some : {X : Type 0} (r : Option (Bor X)) → is_some (option_copied r) ≡ is_some r
 copied_some None = refl

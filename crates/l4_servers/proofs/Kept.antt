@@ -1,8 +1,6 @@
 -- Tables and served threads as they are kept, and as a contract sees them.
 use Rattle.std.proofs.Common.{◌≡◌, ℕ, Bool, true, false, cond, not, ◌&&◌, ◌||◌, List, [], ◌∷◌, ◌++◌, Option, Some, None, refl, sym, ap, ◌∙◌}
 use Rattle.std.specs.Option.{unwrap_or}
-use Rattle.std.specs.Bool.{OnFalse}
-use Rattle.std.specs.List.{list_any}
 use Rattle.std.specs.Map.{lookup}
 use Rattle.std.specs.BTreeMap.{is_at}
 use Rattle.std.specs.Ordering.{nat_cmp, eq_by_cmp, is_eq}
@@ -81,56 +79,23 @@ same_tables s o es new served view e = ap (λ (x : Tables). servers o (seen x) s
 
 -- THREADS THAT ARE SERVED
 
-pub on_false : (b : Bool) (P : Type 0) → OnFalse b P → b ≡ false → P
-on_false true P h e = absurd (false≢true (sym e))
-on_false false P h e = h
+abbrev pub Served : Type 0
+Served = set.FinSet nat_cmp
 
-abbrev pub Numbers : Type 0
-Numbers = List ℕ
+pub is_in : (s : Servers) (o : Owners) (tables : fin.FinMap nat_cmp (List Entry)) (served : Served) (n : ℕ) → servers o tables served ≡ s → is_served s n ≡ set.contains served n
+is_in s o tables served n view = ap (λ (x : Servers). is_served x n) (sym view)
 
-abbrev pub has : ℕ → Numbers → Bool
-has n ks = list_any (is_at (nat_cmp n)) ks
+pub serves : (s : Servers) (o : Owners) (tables : fin.FinMap nat_cmp (List Entry)) (served new : Served) (n : ℕ) → servers o tables served ≡ s → new ≡ set.insert served n
+    → servers o tables new ≡ with_served s n
+serves s o tables served new n view is = ap (servers o tables) is ∙ ap (λ (x : Servers). servers x.owners x.tables (set.insert x.served n)) view
 
-abbrev pub served_by : Numbers → set.FinSet nat_cmp
-served_by ks = set.from_list ks
+pub same_served : (s : Servers) (o : Owners) (tables : fin.FinMap nat_cmp (List Entry)) (served new : Served) → servers o tables served ≡ s → new ≡ served → servers o tables new ≡ s
+same_served s o tables served new view e = ap (servers o tables) e ∙ view
 
-pub held : (ks : Numbers) (q : ℕ) → set.contains (served_by ks) q ≡ has q ks
-held ks q = set.contains-from_list nat_cmp_total ks q
-
-pub served_is : (s : Servers) (o : Owners) (tables : fin.FinMap nat_cmp (List Entry)) (ks : Numbers) (n : ℕ) → servers o tables (served_by ks) ≡ s → is_served s n ≡ has n ks
-served_is s o tables ks n view = ap (λ (x : Servers). is_served x n) (sym view) ∙ held ks n
-
-joined : (b c : Bool) → cond b true c ≡ (b || c)
-joined true c = refl
-joined false c = refl
-
-left : (b c : Bool) → cond b false c ≡ (not b && c)
-left true c = refl
-left false c = refl
-
-in_set : (ks new : Numbers) (n : ℕ) → ((q : ℕ) → has q new ≡ cond (is_at (nat_cmp n) q) true (has q ks)) → served_by new ≡ set.insert (served_by ks) n
-in_set ks new n h = set.same_set nat_cmp_total nat_cmp-IsAntisymmetric _ _ (λ q.
-    held new q ∙ h q ∙ ap (λ b. cond b true (has q ks)) (same_key n q) ∙ joined (eq_by_cmp nat_cmp q n) (has q ks)
-    ∙ ap (λ b. eq_by_cmp nat_cmp q n || b) (sym (held ks q)) ∙ sym (set.contains-insert nat_cmp_total (served_by ks) n q))
-
-out_of_set : (ks new : Numbers) (n : ℕ) → ((q : ℕ) → has q new ≡ cond (is_at (nat_cmp n) q) false (has q ks)) → served_by new ≡ set.remove (served_by ks) n
-out_of_set ks new n h = set.same_set nat_cmp_total nat_cmp-IsAntisymmetric _ _ (λ q.
-    held new q ∙ h q ∙ ap (λ b. cond b false (has q ks)) (same_key n q) ∙ left (eq_by_cmp nat_cmp q n) (has q ks)
-    ∙ ap (λ b. not (eq_by_cmp nat_cmp q n) && b) (sym (held ks q)) ∙ sym (set.contains-remove nat_cmp_total (served_by ks) n q))
-
-pub serves : (s : Servers) (o : Owners) (tables : fin.FinMap nat_cmp (List Entry)) (ks new : Numbers) (n : ℕ) → servers o tables (served_by ks) ≡ s
-    → ((q : ℕ) → has q new ≡ cond (is_at (nat_cmp n) q) true (has q ks)) → servers o tables (served_by new) ≡ with_served s n
-serves s o tables ks new n view h =
-    ap (servers o tables) (in_set ks new n h) ∙ ap (λ (x : Servers). servers x.owners x.tables (set.insert x.served n)) view
-
-pub same_served : (s : Servers) (o : Owners) (tables : fin.FinMap nat_cmp (List Entry)) (ks new : Numbers) → servers o tables (served_by ks) ≡ s → new ≡ ks → servers o tables (served_by new) ≡ s
-same_served s o tables ks new view e = ap (λ (x : Numbers). servers o tables (served_by x)) e ∙ view
-
-pub forgets : (s : Servers) (o : Owners) (es new : Tables) (ks later : Numbers) (n : ℕ) → servers o (seen es) (served_by ks) ≡ s
-    → ((q : ℕ) → at q new ≡ cond (is_at (nat_cmp n) q) None (at q es)) → ((q : ℕ) → has q later ≡ cond (is_at (nat_cmp n) q) false (has q ks))
-    → servers o (seen new) (served_by later) ≡ without s n
-forgets s o es new ks later n view h g =
-    ap (λ (t : fin.FinMap nat_cmp (List Entry)). servers o t (served_by later)) (taken es new n h) ∙ ap (servers o (fin.remove (seen es) n)) (out_of_set ks later n g)
+pub forgets : (s : Servers) (o : Owners) (es new : Tables) (served later : Served) (n : ℕ) → servers o (seen es) served ≡ s
+    → ((q : ℕ) → at q new ≡ cond (is_at (nat_cmp n) q) None (at q es)) → later ≡ set.remove served n → servers o (seen new) later ≡ without s n
+forgets s o es new served later n view h is =
+    ap (λ (t : fin.FinMap nat_cmp (List Entry)). servers o t later) (taken es new n h) ∙ ap (servers o (fin.remove (seen es) n)) is
     ∙ ap (λ (x : Servers). servers x.owners (fin.remove x.tables n) (set.remove x.served n)) view
 
 -- whom a set does not have is put in and taken out again
@@ -138,14 +103,14 @@ put_and_taken : (b was : Bool) → (b ≡ true → was ≡ false) → (not b && 
 put_and_taken true was h = sym (h refl)
 put_and_taken false was h = refl
 
-pub set_as_before : (s : set.FinSet nat_cmp) (n : ℕ) → set.contains s n ≡ false → set.remove (set.insert s n) n ≡ s
+pub set_as_before : (s : Served) (n : ℕ) → set.contains s n ≡ false → set.remove (set.insert s n) n ≡ s
 set_as_before s n h = set.same_set nat_cmp_total nat_cmp-IsAntisymmetric _ _ (λ q.
     set.contains-remove nat_cmp_total (set.insert s n) n q ∙ ap (λ b. not (eq_by_cmp nat_cmp q n) && b) (set.contains-insert nat_cmp_total s n q)
     ∙ put_and_taken (eq_by_cmp nat_cmp q n) (set.contains s q) (λ e. ap (set.contains s) (equal q n e) ∙ h))
 
-pub takes_back : (s before : Servers) (o : Owners) (tables : fin.FinMap nat_cmp (List Entry)) (ks new : Numbers) (n : ℕ) → servers o tables (served_by ks) ≡ s
-    → ((q : ℕ) → has q new ≡ cond (is_at (nat_cmp n) q) false (has q ks)) → is_served before n ≡ false → s ≡ with_served before n → servers o tables (served_by new) ≡ before
-takes_back s before o tables ks new n view h none is =
-    ap (servers o tables) (out_of_set ks new n h)
+pub takes_back : (s before : Servers) (o : Owners) (tables : fin.FinMap nat_cmp (List Entry)) (served new : Served) (n : ℕ) → servers o tables served ≡ s
+    → new ≡ set.remove served n → is_served before n ≡ false → s ≡ with_served before n → servers o tables new ≡ before
+takes_back s before o tables served new n view gone none is =
+    ap (servers o tables) gone
     ∙ ap (λ (x : Servers). servers x.owners x.tables (set.remove x.served n)) (view ∙ is)
     ∙ ap (servers before.owners before.tables) (set_as_before before.served n none)

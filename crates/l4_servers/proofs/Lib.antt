@@ -1,3 +1,4 @@
 pub mod Answering
 pub mod Kept
 pub mod Finding
+pub mod Numbers

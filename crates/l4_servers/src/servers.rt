@@ -2,6 +2,7 @@
 ghost use Rattle.std.specs.Prelude.{◌≡◌, ◌%◌, not, IfOk, OnErr, MatchBool, MatchOption, MatchResult};
 ghost use Rattle.l4_msg.specs.Messages.{CanBeWritten};
 
+use crate::served::ServedThreads;
 use l4_fpage::Fpage;
 use l4_ipc::{Call, Kernel, NoMemory, Reply};
 use l4_msg::Message;
@@ -12,7 +13,7 @@ use l4_pager::{
 use l4_sigma0::Sigma0;
 use l4_threads::ThreadId;
 use std::alloc::Global;
-use std::collections::{BTreeMap, BTreeSet};
+use std::collections::BTreeMap;
 use std::marker::Model;
 
 /// sigma0's thread.
@@ -38,12 +39,13 @@ pub enum RegionRefusal {
 pub struct Servers {
     owners: Sigma0,
     tables: BTreeMap<u32, RegionPager>,
-    served: BTreeSet<u32>,
+    served: ServedThreads,
+    /// The place of the region that answered the last fault: a guess at which one answers the next, in whichever table.
+    guess: usize,
 }
 
 impl Model for Servers {
     ghost use Rattle.std.specs.FinMap as fin;
-    ghost use Rattle.std.specs.FinSet as set;
     ghost use Rattle.l4_pager.specs.contracts.regions.Entry as entry;
     ghost use Rattle.l4_servers.specs.Servers.{Servers as TheServers, servers, servers_code};
 
@@ -51,7 +53,7 @@ impl Model for Servers {
 
     ghost coded = { servers_code entry.the_row.coded };
 
-    ghost view = { λ s. servers s.owners (fin.from_entries s.tables.entries) (set.from_list s.served.keys) };
+    ghost view = { λ s. servers s.owners (fin.from_entries s.tables.entries) s.served };
 }
 
 /// The space of a message's sender.
@@ -86,7 +88,8 @@ impl Servers {
         Servers {
             owners: Sigma0::new(frames),
             tables: BTreeMap::new(alloc),
-            served: BTreeSet::new(alloc),
+            served: ServedThreads::new(alloc),
+            guess: 0,
         }
     }
 
@@ -130,7 +133,7 @@ impl Servers {
     pub fn take_back(&mut self, thread: u32)
         ensures { (before : TheServers) → is_served before thread ≡ false → self.old ≡ with_served before thread → self.new ≡ before }
     {
-        self.served.remove(&thread);
+        self.served.remove(thread);
     }
 
     /// The thread is served no longer, and has no table.
@@ -138,17 +141,14 @@ impl Servers {
         ensures { self.new ≡ without self.old thread }
     {
         self.tables.remove(&thread);
-        self.served.remove(&thread);
+        self.served.remove(thread);
     }
 
     /// The served thread of the least number that runs.
     fn first_ready(&self, kernel: &Kernel) -> Option<u32>
         ensures { MatchOption result (NoneReady kernel.now.threads self.now) (IsFirstReady kernel.now.threads self.now) }
     {
-        if self.served.is_empty() {
-            return None;
-        }
-        for thread in self.served.iter() {
+        for thread in self.served.as_slice() {
             if kernel.reply(*thread).is_some() {
                 return Some(*thread);
             }
@@ -195,17 +195,20 @@ impl Servers {
     }
 
     /// What a thread's regions answer to a brief message: the send base and the fpage of the one map item.
-    fn brief_region_answer(&self, thread: u32, brief: &BriefMessage) -> (u32, Fpage)
-        ensures answers { AnswersByRegion (regions_of self.now thread) (brief_message brief.now) (one_item (Map result.0 result.1)) }
+    fn brief_region_answer(&mut self, thread: u32, brief: &BriefMessage) -> (u32, Fpage)
+        ensures answers { AnswersByRegion (regions_of self.old thread) (brief_message brief.now) (one_item (Map result.0 result.1)) }
+        ensures others { self.new ≡ self.old }
         ensures whole { result.0 % base_unit ≡ 0 }
     {
         let Some(fault) = brief.fault() else {
             return (0, Fpage::Nil);
         };
-        match self.tables.get(&thread) {
-            Some(table) => table.answer_fault(&fault),
-            None => (0, Fpage::Nil),
-        }
+        let Some(table) = self.tables.get(&thread) else {
+            return (0, Fpage::Nil);
+        };
+        let (base, fpage, place) = table.answer_fault_near(&fault, self.guess);
+        self.guess = place;
+        (base, fpage)
     }
 
     /// What sigma0 answers to a brief message from a space: the send base and the fpage of the one map item.

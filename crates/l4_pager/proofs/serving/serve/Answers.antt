@@ -1,4 +1,4 @@
-use Rattle.std.proofs.Common.{rules, ◌≡◌, ℕ, ◌+◌, ◌<◌, arith, if◌then◌else◌, Bool, true, false, ◌∙◌}
+use Rattle.std.proofs.Common.{◌≡◌, ℕ, arith, if◌then◌else◌, Bool, true, false}
 use mir.Val.{bool_byte}
 use Rattle.l4_pager.proofs.Serves.{one, begun, counted_turn, all_turns, stopped_turns}
 use Rattle.l4_pager.proofs.serving.serve.Goals as goal

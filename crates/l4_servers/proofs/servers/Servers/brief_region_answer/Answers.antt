@@ -7,11 +7,11 @@ use Rattle.l4_pager.specs.declared.regions.Entry.{Entry}
 use Rattle.l4_servers.proofs.Kept.{has_regions, no_regions}
 use Rattle.l4_servers.proofs.servers.Servers.brief_region_answer.Goals as goal
 
-pub returns-in-Some-get-clause-answers : goal.returns-in-Some-get-clause-answers
-returns-in-Some-get-clause-answers c =
-    subst (λ (es : List Entry). Answers es (brief_message c.args.brief.now) (one_item (Map c.answer_fault.result.0 c.answer_fault.result.1))) (has_regions _ _ _ _ _ _ c.self.view_is c.in-Some-get.ensures.value)
-    (inl (c.in-Some.fault, c.in-Some.ensures, c.answer_fault.ensures.answers))
+pub returns-clause-answers : goal.returns-clause-answers
+returns-clause-answers c =
+    subst (λ (es : List Entry). Answers es (brief_message c.args.brief.now) (one_item (Map c.answer_fault_near-base.result.0 c.answer_fault_near-base.result.1))) (has_regions _ _ _ _ _ _ c.self.view_is c.in-Some-get.ensures.value)
+    (inl (c.in-Some.fault, c.in-Some.ensures, c.answer_fault_near-base.ensures.answers))
 
-pub returns-in-None-clause-answers : goal.returns-in-None-clause-answers
-returns-in-None-clause-answers c =
-    subst (λ (es : List Entry). Answers es (brief_message c.args.brief.now) nothing) (no_regions _ _ _ _ _ c.self.view_is c.in-None.ensures.value) (inl (c.in-Some.fault, c.in-Some.ensures, refl))
+pub returns-in_default-get-clause-answers : goal.returns-in_default-get-clause-answers
+returns-in_default-get-clause-answers c =
+    subst (λ (es : List Entry). Answers es (brief_message c.args.brief.now) nothing) (no_regions _ _ _ _ _ c.self.view_is c.in_default-get.ensures.value) (inl (c.in-Some.fault, c.in-Some.ensures, refl))

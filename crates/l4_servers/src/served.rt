@@ -1,0 +1,72 @@
+//! The numbers of the threads that are served.
+ghost use Rattle.std.specs.Prelude.{◌≡◌, MatchResult, not, false};
+ghost use Rattle.std.specs.Ordering.{nat_cmp};
+ghost use Rattle.std.specs.List.Sorted.{IsStrictlySortedBy};
+ghost use Rattle.std.specs.FinSet as set;
+
+use l4_ipc::NoMemory;
+use std::alloc::Global;
+use std::marker::Model;
+
+/// The numbers of the threads that are served, by rising number: who is served is asked at each line, and seldom changes.
+#[derive(Drop)]
+pub(crate) struct ServedThreads {
+    numbers: Vec<u32>,
+}
+
+impl Model for ServedThreads {
+    ghost use Rattle.std.specs.FinSet as set;
+    ghost use Rattle.std.specs.Ordering.{nat_cmp};
+    ghost use Rattle.std.specs.Coded.{coded_ℕ};
+    ghost use Rattle.std.specs.List.Sorted.{IsStrictlySortedBy};
+
+    ghost Value = { set.FinSet nat_cmp };
+
+    ghost coded = { set.code coded_ℕ };
+
+    ghost view = { λ s. set.from_list s.numbers.items };
+
+    ghost invariant = { λ s. IsStrictlySortedBy nat_cmp s.numbers.items };
+}
+
+impl ServedThreads {
+    /// Nobody is served.
+    pub(crate) fn new(alloc: Global) -> ServedThreads
+        ensures { result ≡ set.empty }
+    {
+        ServedThreads {
+            numbers: Vec::new(alloc),
+        }
+    }
+
+    /// The thread is served from now on. Answers whether it was not before. Want of memory comes only where it was not, and then nothing
+    /// changes.
+    pub(crate) fn insert(&mut self, number: u32) -> Result<bool, NoMemory>
+        ensures { MatchResult result
+            (λ begins. (begins ≡ not (set.contains self.old number)) × (self.new ≡ set.insert self.old number) × (begins ≡ false → self.new ≡ self.old))
+            (λ _. (set.contains self.old number ≡ false) × (self.new ≡ self.old)) }
+    {
+        let Err(place) = self.numbers.binary_search(&number) else {
+            return Ok(false);
+        };
+        let Ok(_) = self.numbers.insert(place, number) else {
+            return Err(NoMemory);
+        };
+        Ok(true)
+    }
+
+    /// The thread is served no longer.
+    pub(crate) fn remove(&mut self, number: u32)
+        ensures { self.new ≡ set.remove self.old number }
+    {
+        self.numbers.retain(|other| *other != number);
+    }
+
+    /// The numbers, by rising number.
+    pub(crate) fn as_slice(&self) -> &[u32]
+        ensures is { set.from_list result.now ≡ self.now }
+        ensures rising { IsStrictlySortedBy nat_cmp result.now }
+    {
+        self.numbers.as_slice()
+    }
+}
