@@ -1,18 +1,39 @@
 //! What a command comes to: a call that a thread enters, or pages that are told.
 ghost use Rattle.std.specs.Prelude.{◌≡◌};
 ghost use Rattle.l4_ipc.specs.declared.calls.Call.TheVariants.{Fault as Faults};
+ghost use Rattle.l4_pager.specs.Serving.{waiting};
 ghost use Rattle.l4_shell.specs.Requests.{script_id, partner_id, space_id, create_call, set_pager_call, delete_call, receive_call, send_call, ipc_call, unmap_call, request_of};
 
 use crate::commands::{Command, Words};
 use crate::partners::{NewSpace, Partner};
+use l4_fpage::Rights;
 use l4_ipc::{Call, Control, Create, FaultCall, IpcCall, SetPager, UnmapCall};
 use l4_msg::Region;
-use l4_pager::Entry;
+use l4_pager::{Entry, wait};
 use l4_threads::ThreadId;
 use std::marker::Model;
 
 /// The thread that creates and deletes threads, and names their pagers.
 pub(crate) const ROOT: u32 = 2;
+
+/// The places of lines' calls: one for faults, and one for all others, which are Ipcs as a rule. So what a line finds in its place is mostly
+/// of its kind, and is written over part by part.
+#[derive(Drop)]
+pub(crate) struct CallPlaces {
+    ipc: Call,
+    fault: Call,
+}
+
+impl CallPlaces {
+    pub(crate) fn new() -> CallPlaces
+        ensures { result.ipc ≡ waiting }
+    {
+        CallPlaces {
+            ipc: wait(),
+            fault: Call::fault(0, 0, Rights::of_bits(0)),
+        }
+    }
+}
 
 /// A call that stands in a place that lines use in turn.
 #[derive(Drop)]
@@ -168,12 +189,16 @@ fn put_unmap<'a>(call: &'a mut Call, control: u32, words: Words<'_>) -> LentCall
 fn put_fault(call: &mut Call, fault: FaultCall) -> LentCall<'_>
     ensures { result ≡ Faults «fault» }
 {
-    *call = Call::Fault(fault);
+    if let Call::Fault(place) = call {
+        *place = fault;
+    } else {
+        *call = Call::Fault(fault);
+    }
     LentCall { call }
 }
 
 /// What a command comes to. Where that is a call, it is made in a place.
-pub(crate) fn request_of<'a>(command: Command<'_>, call: &'a mut Call) -> Request<'a>
+pub(crate) fn request_of<'a>(command: Command<'_>, places: &'a mut CallPlaces) -> Request<'a>
     ensures { result ≡ request_of command.entry }
 {
     match command {
@@ -181,16 +206,25 @@ pub(crate) fn request_of<'a>(command: Command<'_>, call: &'a mut Call) -> Reques
             number,
             space,
             pager,
-        } => Request::CreateThread(number, put_create(call, number, space, pager)),
-        Command::SetPager { number, pager } => Request::Enter(ROOT, put_pager(call, number, pager)),
+        } => Request::CreateThread(number, put_create(&mut places.ipc, number, space, pager)),
+        Command::SetPager { number, pager } => Request::Enter(
+            ROOT,
+            put_pager(&mut places.ipc, number, pager),
+        ),
         Command::Delete { number } => Request::EndThread(number),
         Command::Receive {
             number,
             from,
             window,
-        } => Request::Enter(number, put_receive(call, from, window)),
-        Command::Send { number, to, words } => Request::Enter(number, put_send(call, to, words)),
-        Command::Fault(number, fault) => Request::Enter(number, put_fault(call, fault)),
+        } => Request::Enter(number, put_receive(&mut places.ipc, from, window)),
+        Command::Send { number, to, words } => Request::Enter(
+            number,
+            put_send(&mut places.ipc, to, words),
+        ),
+        Command::Fault(number, fault) => Request::Enter(
+            number,
+            put_fault(&mut places.fault, fault),
+        ),
         Command::Delegate { number, to, region } => Request::SendPlan(number, to, region),
         Command::Ipc {
             number,
@@ -199,12 +233,15 @@ pub(crate) fn request_of<'a>(command: Command<'_>, call: &'a mut Call) -> Reques
             timeouts,
             window,
             words,
-        } => Request::Enter(number, put_ipc(call, to, from, timeouts, window, words)),
+        } => Request::Enter(
+            number,
+            put_ipc(&mut places.ipc, to, from, timeouts, window, words),
+        ),
         Command::Unmap {
             number,
             control,
             words,
-        } => Request::Enter(number, put_unmap(call, control, words)),
+        } => Request::Enter(number, put_unmap(&mut places.ipc, control, words)),
         Command::Show(number, first, count) => Request::ListPages(number, first, count),
         Command::Parent { number, page } => Request::TellParent(number, page),
         Command::Region(number, entry) => Request::AddRegion(number, entry),

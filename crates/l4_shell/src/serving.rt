@@ -5,15 +5,16 @@ ghost use Rattle.l4_ipc.specs.NextSteps.{answer_of};
 ghost use Rattle.l4_lock.specs.Lists.{brief_outline};
 ghost use Rattle.l4_text.specs.Streams.{Tells};
 ghost use Rattle.l4_shell.specs.Sessions.{session, ended_text, is_among, waiting_text, GoesOn};
+ghost use Rattle.l4_shell.specs.Texts.{refused_act_text};
+ghost use Rattle.l4_shell.specs.Refusals.{lock_refusal};
 ghost use Rattle.l4_shell.specs.Inside.Telling.{outline_line, outline_text, next_text, TellsEntry, TellsEntries, TellsCall, TellsNothing, TellsActs};
 
 use crate::refusals::lock_code;
 use crate::requests::LentCall;
 use crate::texts::refused_act_text;
 use l4_answers::{expire_text, put_reply, put_transfer, put_waits};
-use l4_ipc::{Answer, Kernel, NextStep, Outcome};
+use l4_ipc::{Answer, Call, Kernel, NextStep, Outcome};
 use l4_lock::{BriefEntry, EntryOutline, LockRefusal, StepOutline};
-use l4_pager::wait;
 use l4_seats::SeatedKernel;
 use l4_servers::Servers;
 use l4_text::Output;
@@ -214,6 +215,15 @@ pub(crate) fn enter_call<W: Write>(
     }
 }
 
+/// Tells why a served thread's act is refused. It is apart from `serve`, which is not to clear the texts of it.
+#[inline(never)]
+fn tell_refused_act<W: Write>(server: u32, refusal: LockRefusal, out: &mut Output, writer: &mut W)
+    ensures { Tells (W.contents writer.old) (W.contents writer.new) out.old out.new
+        (refused_act_text server (lock_refusal refusal)) }
+{
+    out.put(writer, &refused_act_text(server, &lock_code(refusal)));
+}
+
 /// Served threads act, one after another, until none runs, one is refused or there were as many acts as a line may have; and all is
 /// told. Answers whether the thread's call ended in one of the acts.
 #[inline(never)]
@@ -221,6 +231,7 @@ fn serve<W: Write>(
     kernel: &mut SeatedKernel,
     servers: &mut Servers,
     thread: u32,
+    act: &mut Call,
     out: &mut Output,
     writer: &mut W,
 ) -> bool
@@ -228,16 +239,15 @@ fn serve<W: Write>(
         (W.contents writer.old) (W.contents writer.new) out.old out.new }
 {
     let mut ended = false;
-    let mut call = wait();
     for _ in 0..MOST_ACTS {
-        let Some(server) = servers.next_act_into(kernel.kernel(), &mut call) else {
+        let Some(server) = servers.next_act_into(kernel.kernel(), act) else {
             return ended;
         };
-        let act = LentCall { call: &call };
-        match enter_call(kernel, (server, act), thread, out, writer) {
+        let call = LentCall { call: act };
+        match enter_call(kernel, (server, call), thread, out, writer) {
             Ok(own) => ended = ended | own,
             Err(refusal) => {
-                out.put(writer, &refused_act_text(server, &lock_code(refusal)));
+                tell_refused_act(server, refusal, out, writer);
                 return ended;
             }
         }
@@ -251,6 +261,7 @@ pub(crate) fn follow<W: Write>(
     servers: &mut Servers,
     thread: u32,
     ended: bool,
+    act: &mut Call,
     out: &mut Output,
     writer: &mut W,
 )
@@ -261,6 +272,6 @@ pub(crate) fn follow<W: Write>(
     if !servers.has_ready(kernel.kernel()) {
         return tell_waiting(thread, ended, out, writer);
     }
-    let acted = serve(kernel, servers, thread, out, writer);
+    let acted = serve(kernel, servers, thread, act, out, writer);
     tell_waiting(thread, ended | acted, out, writer);
 }

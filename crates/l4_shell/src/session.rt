@@ -12,7 +12,7 @@ use crate::commands::{Command, ScriptFault, Words, read_command};
 use crate::delegations::plan_words;
 use crate::partners::Partner;
 use crate::refusals::{lock_code, memory_code, plan_code, region_code, script_code};
-use crate::requests::{LentCall, ROOT, Request, delete_call, put_send, request_of};
+use crate::requests::{CallPlaces, LentCall, ROOT, Request, delete_call, put_send, request_of};
 use crate::serving::{enter_call, follow};
 use crate::texts::{region_text, steps_text};
 use arrayvec::ArrayVec;
@@ -25,20 +25,22 @@ use l4_servers::Servers;
 use l4_text::{Ending, Output, Text, next_token};
 use std::io::Write;
 
-/// The places of a line's words and of its call, which lines use in turn.
+/// The places of a line's words, of its call, and of the calls that served threads enter on it. Lines use them in turn.
 #[derive(Drop)]
 pub(crate) struct Places {
     registers: ArrayVec<u32, MAX_WORDS>,
-    call: Call,
+    calls: CallPlaces,
+    act: Call,
 }
 
 impl Places {
     pub(crate) fn new() -> Places
-        ensures { result.call ≡ waiting }
+        ensures { result.act ≡ waiting }
     {
         Places {
             registers: ArrayVec::new(),
-            call: wait(),
+            calls: CallPlaces::new(),
+            act: wait(),
         }
     }
 }
@@ -114,6 +116,7 @@ fn enter<W: Write>(
     servers: &mut Servers,
     line: u64,
     entry: (u32, LentCall<'_>),
+    act: &mut Call,
     out: &mut Output,
     writer: &mut W,
 )
@@ -124,7 +127,7 @@ fn enter<W: Write>(
     let Some(ended) = start(kernel, line, thread, call, out, writer) else {
         return;
     };
-    follow(kernel, servers, thread, ended, out, writer);
+    follow(kernel, servers, thread, ended, act, out, writer);
 }
 
 /// Root creates a thread, whose number has its seat from then on.
@@ -134,6 +137,7 @@ fn create_thread<W: Write>(
     servers: &mut Servers,
     line: u64,
     creation: (u32, LentCall<'_>),
+    act: &mut Call,
     out: &mut Output,
     writer: &mut W,
 )
@@ -144,7 +148,7 @@ fn create_thread<W: Write>(
     let Ok(()) = kernel.give(number) else {
         return refuse(line, &memory_code(), out, writer);
     };
-    enter(kernel, servers, line, (ROOT, call), out, writer);
+    enter(kernel, servers, line, (ROOT, call), act, out, writer);
 }
 
 /// Root deletes a thread, which is served no longer and has no table.
@@ -154,6 +158,7 @@ fn end_thread<W: Write>(
     servers: &mut Servers,
     line: u64,
     thread: u32,
+    act: &mut Call,
     out: &mut Output,
     writer: &mut W,
 )
@@ -165,7 +170,7 @@ fn end_thread<W: Write>(
         return;
     };
     servers.forget(thread);
-    follow(kernel, servers, ROOT, ended, out, writer);
+    follow(kernel, servers, ROOT, ended, act, out, writer);
 }
 
 /// Refuses to serve a thread for which there is no memory: by whatever its call is refused for, and last for want of memory.
@@ -195,6 +200,7 @@ fn serve_thread<W: Write>(
     servers: &mut Servers,
     line: u64,
     thread: u32,
+    act: &mut Call,
     out: &mut Output,
     writer: &mut W,
 )
@@ -211,7 +217,7 @@ fn serve_thread<W: Write>(
         }
         return;
     };
-    follow(kernel, servers, thread, ended, out, writer);
+    follow(kernel, servers, thread, ended, act, out, writer);
 }
 
 /// Adds a region to a thread's table.
@@ -245,6 +251,7 @@ fn delegate<W: Write>(
     servers: &mut Servers,
     line: u64,
     delegation: (u32, Partner, Region),
+    act: &mut Call,
     out: &mut Output,
     writer: &mut W,
 )
@@ -256,7 +263,7 @@ fn delegate<W: Write>(
         Ok(words) => {
             let mut place = wait();
             let call = put_send(&mut place, to, Words::of(&words));
-            enter(kernel, servers, line, (thread, call), out, writer)
+            enter(kernel, servers, line, (thread, call), act, out, writer)
         }
         Err(refusal) => refuse(line, &plan_code(&refusal), out, writer),
     }
@@ -361,6 +368,7 @@ fn carry_out<W: Write>(
     servers: &mut Servers,
     line: u64,
     request: Request<'_>,
+    act: &mut Call,
     out: &mut Output,
     writer: &mut W,
 )
@@ -368,13 +376,29 @@ fn carry_out<W: Write>(
         × Tells (W.contents writer.old) (W.contents writer.new) out.old out.new text }
 {
     match request {
-        Request::Enter(thread, call) => enter(kernel, servers, line, (thread, call), out, writer),
+        Request::Enter(thread, call) => enter(
+            kernel,
+            servers,
+            line,
+            (thread, call),
+            act,
+            out,
+            writer,
+        ),
         Request::CreateThread(number, call) => {
-            create_thread(kernel, servers, line, (number, call), out, writer)
+            create_thread(kernel, servers, line, (number, call), act, out, writer)
         }
-        Request::EndThread(thread) => end_thread(kernel, servers, line, thread, out, writer),
+        Request::EndThread(thread) => end_thread(kernel, servers, line, thread, act, out, writer),
         Request::SendPlan(thread, to, region) => {
-            delegate(kernel, servers, line, (thread, to, region), out, writer)
+            delegate(
+                kernel,
+                servers,
+                line,
+                (thread, to, region),
+                act,
+                out,
+                writer,
+            )
         }
         Request::ListPages(thread, first, count) => {
             show(kernel.kernel(), line, thread, (first, count), out, writer)
@@ -385,7 +409,9 @@ fn carry_out<W: Write>(
         Request::AddRegion(thread, entry) => {
             add_region(kernel, servers, line, (thread, entry), out, writer)
         }
-        Request::ServeThread(thread) => serve_thread(kernel, servers, line, thread, out, writer),
+        Request::ServeThread(thread) => serve_thread(
+            kernel, servers, line, thread, act, out, writer,
+        ),
         Request::TellSteps => tell_count(kernel, out, writer),
     }
 }
@@ -407,8 +433,16 @@ pub(crate) fn answer_line<W: Write>(
     match asked(ending, bytes, &mut places.registers) {
         Ok(None) => {}
         Ok(Some(command)) => {
-            let request = request_of(command, &mut places.call);
-            carry_out(kernel, servers, number, request, out, writer)
+            let request = request_of(command, &mut places.calls);
+            carry_out(
+                kernel,
+                servers,
+                number,
+                request,
+                &mut places.act,
+                out,
+                writer,
+            )
         }
         Err(fault) => refuse(number, &script_code(fault), out, writer),
     }

@@ -1,5 +1,4 @@
-use Rattle.std.proofs.Common.{arith, ap, ◌∙◌}
-use Rattle.l4_shell.specs.Texts.{refused_act_text}
+use Rattle.std.proofs.Common.{arith, refl}
 use Rattle.l4_shell.proofs.Going.{acting_none, acting_more, acting_quiet, acting_spent, acting_refused}
 use Rattle.l4_shell.proofs.serving.serve.Goals as goal
 
@@ -12,7 +11,7 @@ returns-in_default g c = acting_quiet _ _ _ _ _ _ _ _ _ _ _ _ (omega (arith, c.l
 pub returns-in-Err : goal.returns-in-Err
 returns-in-Err g c =
     acting_refused _ _ _ _ _ _ _ _ _ _ _ _ _ _ _ _ _ _ _ _ _ c.loop-test.true c.loop.invariant c.kernel.ensures c.in-Some.ensures c.in-Err.ensures
-    (c.refused_act_text.ensures ∙ ap (refused_act_text _) c.lock_code.ensures) c.put.ensures
+    refl c.tell_refused_act.ensures
 
 pub loop-preserved : goal.loop-preserved
 loop-preserved g c =
