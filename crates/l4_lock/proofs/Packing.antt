@@ -1,13 +1,19 @@
 -- Entries and receipts are read as they were written, and each where it stands.
-use Rattle.std.proofs.Common.{◌≡◌, ℕ, List, [], ◌∷◌, ◌++◌, Option, Some, None, refl, sym, ap, ◌∙◌}
+use Rattle.std.proofs.Common.{◌≡◌, ℕ, Bool, true, false, List, [], ◌∷◌, ◌++◌, Option, Some, None, refl, sym, ap, ◌∙◌, arith}
 use Rattle.std.specs.Prelude.{is_some, IsTrue}
 use Rattle.std.specs.Option.{option_map}
 use Rattle.std.proofs.lemmas.Bool.{false≢true}
 use Rattle.std.proofs.lemmas.List.{append-nil}
-use Rattle.l4_packed.specs.Codes.{step_code, answer_code, call_code, span_code, reply_code, StepFits, AnswerFits, CallFits, ReplyFits}
+use Rattle.l4_packed.specs.Codes.{step_code, answer_code, call_code, span_code, reply_code, own_start_code, next_code, StepFits, AnswerFits, CallFits, ReplyFits}
 use Rattle.l4_packed.proofs.RoundTrip.{step_again, answer_again, call_again, span_again, reply_again}
 use Rattle.l4_ipc.specs.declared.steps.Answer.{Answer}
+use Rattle.l4_ipc.specs.declared.calls.Call.{Call}
+use Rattle.l4_ipc.specs.declared.steps.NextStep.{NextStep}
+use Rattle.l4_ipc.specs.declared.steps.NextStep.TheVariants.{Transfer as Transferred, Expire as Expires}
 use Rattle.l4_ipc.specs.declared.steps.Step.{Step}
+use Rattle.l4_ipc.specs.declared.steps.Step.TheVariants.{Start, Transfer, Expire}
+use Rattle.l4_ipc.specs.OwnCall.{own_answer}
+use Rattle.l4_ipc.specs.NextSteps.{step_of, answer_of, transfer_answer, expire_answer}
 use Rattle.l4_packed.specs.declared.steps.StepOutline.{StepOutline}
 use Rattle.l4_packed.specs.Words.{◌>>=◌}
 use Rattle.l4_packed.specs.Reading.{step_at, answer_at}
@@ -31,6 +37,17 @@ entry_again entry step answer =
     let last : step_code entry.step ≡ step_code entry.step ++ [] = sym (append-nil (step_code entry.step)) in
     ap (λ (rest : List ℕ). entry_at (entry.seat ∷ (answer_code entry.answer ++ rest))) last
     ∙ rw (answer_again entry.answer (step_code entry.step ++ []) answer, step_again entry.step [] step) refl
+
+-- the entry of the start of a call by a thread whose call ended in it alone, or none did
+pub own_start_again : (ended : Bool) (number : ℕ) (call : Call) → CallFits call → entry_at (own_start_code ended number (call_code call)) ≡ Some (record { seat = number; step = Start number call; answer = own_answer ended number })
+own_start_again true number call fits = entry_again (record { seat = number; step = Start number call; answer = own_answer true number }) fits (omega arith)
+own_start_again false number call fits = entry_again (record { seat = number; step = Start number call; answer = own_answer false number }) fits (omega arith)
+
+-- the entry of a step that came next
+pub next_again : (seat : ℕ) (next : NextStep) → entry_at (seat ∷ next_code next) ≡ Some (record { seat = seat; step = step_of next; answer = answer_of next })
+next_again seat (Transferred s r outcome true) = entry_again (record { seat = seat; step = Transfer s r; answer = transfer_answer s r outcome true }) tt (omega arith)
+next_again seat (Transferred s r outcome false) = entry_again (record { seat = seat; step = Transfer s r; answer = transfer_answer s r outcome false }) tt (omega arith)
+next_again seat (Expires n) = entry_again (record { seat = seat; step = Expire n; answer = expire_answer n }) tt (omega arith)
 
 -- an entry that is read without its call is the outline of the entry
 step_read : (seat : ℕ) (answer : Answer) (words : List ℕ) (read : Option (Step × List ℕ)) → step_at words ≡ read → IsTrue (is_some (read >>= stepped seat answer))

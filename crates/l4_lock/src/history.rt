@@ -9,10 +9,10 @@ ghost use Rattle.l4_ipc.specs.OwnCall.{own_answer};
 ghost use Rattle.l4_ipc.specs.NextSteps.{step_of, answer_of};
 
 use crate::entries::{Entry, EntryOutline};
-use crate::packed::{read_entry_outline, write_next, write_own_start, write_start};
+use crate::packed::{read_entry_outline, write_start};
 use crate::recent::{BriefEntry, Recent};
 use l4_ipc::{Answer, Call, NextStep};
-use l4_packed::{ItemsFrom, PackedList, Record, Words};
+use l4_packed::{ItemsFrom, PackedList, Record, Words, push_next, push_own_start};
 use std::alloc::{AllocError, Global};
 use std::marker::Model;
 
@@ -113,8 +113,7 @@ impl History {
         ensures entries { self.new.entries ≡ self.old.entries ++ record { seat = seat; step = step_of next; answer = answer_of next } ∷ [] }
         ensures room { (length self.new.entries ≡ length self.old.entries + 1) × (self.new.room ≡ self.old.room) }
     {
-        write_next(&mut self.packed, seat, next);
-        self.entries.push(&self.packed.words());
+        push_next(&mut self.entries, seat, next);
         self.recent.add(Some(BriefEntry::Next(seat, next)));
     }
 
@@ -142,8 +141,8 @@ impl History {
         ensures entries { self.new.entries ≡ self.old.entries ++ record { seat = number; step = Start number call.now; answer = own_answer ended number } ∷ [] }
         ensures room { (length self.new.entries ≡ length self.old.entries + 1) × (self.new.room ≡ self.old.room) }
     {
-        write_own_start(&mut self.packed, number, call, words, ended);
-        self.entries.push(&self.packed.words());
+        let _ = call;
+        push_own_start(&mut self.entries, number, words, ended);
         self.recent.add(Some(BriefEntry::Own(number, ended)));
     }
 }

@@ -1,28 +1,15 @@
 //! Entries and receipts as words.
 ghost use Rattle.std.specs.Prelude.{◌≡◌, Some};
 ghost use Rattle.l4_ipc.specs.declared.steps.Step.TheVariants.{Start};
-ghost use Rattle.l4_ipc.specs.OwnCall.{own_answer};
-ghost use Rattle.l4_ipc.specs.NextSteps.{step_of, answer_of};
 ghost use Rattle.l4_packed.specs.Words.{Gives};
 ghost use Rattle.l4_lock.specs.Inside.Packing.{entry_at, entry_outline_at, receipt_at};
-ghost use Rattle.l4_lock.specs.Inside.Pending.{AreOf};
 
 use crate::entries::{Entry, EntryOutline, Receipt};
-use l4_ipc::{Answer, Call, NextStep, Reply};
+use l4_ipc::{Answer, Call, Reply};
 use l4_packed::{
-    FromWords, Record, Words, put_answer, put_call, put_next, put_own_answer, put_reply, put_span,
-    put_start, put_start_of, read_answer, read_answer_into, read_call, read_outline, read_reply,
-    read_span, read_step, read_word,
+    FromWords, Record, Words, put_answer, put_call, put_reply, put_span, put_start, read_answer,
+    read_answer_into, read_call, read_outline, read_reply, read_span, read_step, read_word,
 };
-
-/// Writes the entry of a step that came next in the place of what the record holds.
-pub fn write_next(out: &mut Record, seat: u32, next: NextStep)
-    ensures { entry_at out.new.items ≡ Some (record { seat = seat; step = step_of next; answer = answer_of next }) }
-{
-    out.clear();
-    out.push(seat);
-    put_next(out, next);
-}
 
 /// Writes the entry of the start of a call in the place of what the record holds.
 pub fn write_start(out: &mut Record, number: u32, call: &Call, answer: &Answer)
@@ -32,19 +19,6 @@ pub fn write_start(out: &mut Record, number: u32, call: &Call, answer: &Answer)
     out.push(number);
     put_answer(out, answer);
     put_start(out, number, call);
-}
-
-/// Writes the entry of the start of a call, whose words are these, in which the call of its thread ended alone, or none did, in the place of what
-/// the record holds.
-pub fn write_own_start(out: &mut Record, number: u32, call: &Call, words: &Words<'_>, ended: bool)
-    requires { AreOf call.now words.now }
-    ensures { entry_at out.new.items ≡ Some (record { seat = number; step = Start number call.now; answer = own_answer ended number }) }
-{
-    let _ = call;
-    out.clear();
-    out.push(number);
-    put_own_answer(out, number, ended);
-    put_start_of(out, number, words);
 }
 
 impl FromWords for Entry {

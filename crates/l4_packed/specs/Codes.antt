@@ -17,6 +17,9 @@ use Rattle.l4_ipc.specs.declared.steps.Step.TheVariants.{Start, Transfer, Expire
 use Rattle.l4_ipc.specs.declared.steps.Outcome.{Outcome}
 use Rattle.l4_ipc.specs.declared.steps.Outcome.TheVariants.{Started, Done, NoWindow, Entangled, NoMemory, Expired}
 use Rattle.l4_ipc.specs.declared.steps.Answer.{Answer}
+use Rattle.l4_ipc.specs.declared.steps.NextStep.{NextStep}
+use Rattle.l4_ipc.specs.OwnCall.{own_answer}
+use Rattle.l4_ipc.specs.NextSteps.{step_of, answer_of}
 use Rattle.l4_packed.specs.Words.{counted, flag, if_set}
 
 abbrev pub control_code : Control → List ℕ
@@ -49,6 +52,14 @@ outcome_code Expired = 5
 
 abbrev pub answer_code : Answer → List ℕ
 answer_code answer = (outcome_code answer.outcome + 6 * length answer.ended.items) ∷ answer.ended.items
+
+-- the start of a call, whose words are these, by a thread whose call ended in it alone, or none did: its number, the answer and the step
+abbrev pub own_start_code : Bool → ℕ → List ℕ → List ℕ
+own_start_code ended thread call = thread ∷ (answer_code (own_answer ended thread) ++ 0 ∷ thread ∷ call)
+
+-- the answer of a step that came next, and the step
+abbrev pub next_code : NextStep → List ℕ
+next_code next = answer_code (answer_of next) ++ step_code (step_of next)
 
 -- which words of an Ipc's reply are there, and how many its message has
 abbrev pub reply_flags : IpcReply → ℕ

@@ -127,7 +127,7 @@ pub(crate) fn add_number(out: &mut Bytes, number: u32)
 
 /// Whether each of these numbers is one byte, which is the number.
 #[inline(always)]
-fn are_small(numbers: &[u32]) -> bool
+pub(crate) fn are_small(numbers: &[u32]) -> bool
     ensures { result ≡ list_all is_small numbers.now }
 {
     numbers.iter().all(|number| *number < u32::from(TWO))
@@ -142,6 +142,20 @@ fn add_small(out: &mut Bytes, numbers: &[u32])
 {
     for number in numbers {
         out.push(*number as u8);
+    }
+}
+
+/// Appends numbers that are one byte each, for which there is room.
+#[inline(always)]
+pub(crate) fn put_small(out: &mut Vec<u8>, numbers: &[u32])
+    requires small { list_all is_small numbers.now ≡ true }
+    requires room { vec_len out.old + length numbers.now ≤ vec_capacity out.old }
+    ensures items { out.new.items ≡ out.old.items ++ numbers.now }
+    ensures len { vec_len out.new ≡ vec_len out.old + length numbers.now }
+    ensures capacity { vec_capacity out.new ≡ vec_capacity out.old }
+{
+    for number in numbers {
+        out.push_reserved(*number as u8);
     }
 }
 

@@ -5,7 +5,7 @@ ghost use Rattle.l4_packed.specs.ItemLists.{ItemList};
 ghost use Rattle.l4_packed.specs.Inside.ReadRecords.{read_all, AreRead};
 
 use crate::records::Records;
-use crate::words::Words;
+use crate::words::{RECORD_WORDS, Words};
 use std::alloc::{AllocError, Global};
 use std::marker::{Model, PhantomData};
 
@@ -106,6 +106,19 @@ impl<T: FromWords> PackedList<T> {
         ensures room { (length self.new.items ≡ length self.old.items + 1) × (self.new.room ≡ self.old.room) }
     {
         self.records.push(words);
+    }
+
+    /// Appends the item of a few words and of those after them, for which there is room. It costs less than to put them together before,
+    /// where the number of the first ones is known as the program is built.
+    #[inline(always)]
+    pub fn push_parts(&mut self, head: &[u32], tail: &Words<'_>)
+        requires room { length self.old.items < self.old.room }
+        requires few { length head.now + length tail.now ≤ RECORD_WORDS }
+        requires read { IsTrue (is_some (T.item_at (head.now ++ tail.now))) }
+        ensures items { self.new.items ≡ self.old.items ++ option_to_list (T.item_at (head.now ++ tail.now)) }
+        ensures room { (length self.new.items ≡ length self.old.items + 1) × (self.new.room ≡ self.old.room) }
+    {
+        self.records.push_parts(head, tail);
     }
 
     /// Lets memory of both lists that holds the same have two owners. No item changes.

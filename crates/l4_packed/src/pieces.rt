@@ -1,10 +1,11 @@
 //! Pieces of memory that hold records. A piece is allocated once, and never moves.
 ghost use Rattle.std.specs.Prelude.{◌≡◌, ◌+◌, ◌≤◌, ◌++◌, ◌∷◌, [], length, slice_get, vec_len, vec_capacity, true};
-ghost use Rattle.l4_packed.specs.Inside.Bytes.{record_code, records_in};
+ghost use Rattle.std.specs.List.{list_all};
+ghost use Rattle.l4_packed.specs.Inside.Bytes.{is_small, record_code, records_in};
 ghost use Rattle.l4_packed.specs.Inside.Pieces.{IsPacked, PieceState, mark_before, piece_state};
 
-use crate::packing::{first_frame, put_record};
-use crate::words::Words;
+use crate::packing::{first_frame, put_parts, put_record};
+use crate::words::{RECORD_WORDS, Words};
 use std::marker::Model;
 
 /// One of the records that the bytes hold.
@@ -116,6 +117,21 @@ impl Piece {
         self.mark();
         put_record(&mut self.bytes, words);
         self.count += 1;
+    }
+
+    /// Appends the record of which the first words are one byte each, for whose bytes there is room.
+    #[inline(always)]
+    pub fn push_parts(&mut self, head: &[u32], tail: &Words<'_>)
+        requires small { list_all is_small head.now ≡ true }
+        requires few { length head.now + length tail.now ≤ RECORD_WORDS }
+        requires room { length (record_code (head.now ++ tail.now)) ≤ self.old.free }
+        ensures records { (self.new.first ≡ self.old.first) × (self.new.records ≡ self.old.records ++ (head.now ++ tail.now) ∷ []) }
+        ensures free { self.old.free ≤ self.new.free + length (record_code (head.now ++ tail.now)) }
+    {
+        self.mark();
+        let count = self.count + 1;
+        put_parts(&mut self.bytes, head, tail);
+        self.count = count;
     }
 
     /// Marks where the next record will stand, if it is one of those that have a mark.

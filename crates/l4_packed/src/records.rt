@@ -5,9 +5,10 @@ ghost use Rattle.l4_packed.specs.Inside.Pieces.{AreNumbered, IsBlank, IsStore, r
 ghost use Rattle.l4_packed.specs.Records.{RecordList, record_list};
 
 use crate::full_pieces::{FullPiece, share_at};
-use crate::packing::{RECORD_BYTES, record_len};
+use crate::numbers::are_small;
+use crate::packing::{RECORD_BYTES, parts_len, record_len};
 use crate::pieces::Piece;
-use crate::words::Words;
+use crate::words::{RECORD_WORDS, Record, Words};
 use std::alloc::{AllocError, Global};
 use std::marker::Model;
 use std::mem;
@@ -230,6 +231,42 @@ impl Records {
             record_len(words),
         );
         self.current.push(words);
+    }
+
+    /// Appends the record of a few words and of those after them, for which there is room. It costs less than to put it together before,
+    /// where the number of the first ones is known as the program is built.
+    #[inline(always)]
+    pub fn push_parts(&mut self, head: &[u32], tail: &Words<'_>)
+        requires room { length self.old.records < self.old.room }
+        requires few { length head.now + length tail.now ≤ RECORD_WORDS }
+        ensures records { self.new.records ≡ self.old.records ++ (head.now ++ tail.now) ∷ [] }
+        ensures room { self.new.room ≡ self.old.room }
+    {
+        if !are_small(head) {
+            return self.push_joined(head, tail);
+        }
+        make_room(
+            &mut self.full,
+            &mut self.current,
+            &mut self.spare,
+            parts_len(head, tail),
+        );
+        self.current.push_parts(head, tail);
+    }
+
+    /// `push_parts` where one of the first words takes several bytes.
+    #[cold]
+    #[inline(never)]
+    fn push_joined(&mut self, head: &[u32], tail: &Words<'_>)
+        requires room { length self.old.records < self.old.room }
+        requires few { length head.now + length tail.now ≤ RECORD_WORDS }
+        ensures records { self.new.records ≡ self.old.records ++ (head.now ++ tail.now) ∷ [] }
+        ensures room { self.new.room ≡ self.old.room }
+    {
+        let mut joined = Record::new();
+        joined.push_all(head);
+        joined.append(tail);
+        self.push(&joined.words());
     }
 
     /// Lets the next full piece that wasn't looked at yet be one with that of the same place in another store, if both are the same: it

@@ -1,16 +1,16 @@
 //! Steps and their answers as words.
-ghost use Rattle.std.specs.Prelude.{◌≡◌, ◌+◌, ◌*◌, ◌<◌, ◌≤◌, ◌++◌, ◌∷◌, [], length, ℕ, List, Some};
+ghost use Rattle.std.specs.Prelude.{◌≡◌, ◌+◌, ◌*◌, ◌<◌, ◌≤◌, ◌++◌, ◌∷◌, [], length, ℕ, List, Some, is_some, IsTrue};
+ghost use Rattle.std.specs.Option.{option_to_list};
 ghost use Rattle.l4_ipc.specs.declared.steps.Answer.{Answer as AnAnswer};
 ghost use Rattle.l4_ipc.specs.declared.steps.Step.{Step as AStep};
 ghost use Rattle.l4_ipc.specs.declared.steps.Step.TheVariants.{Start};
-ghost use Rattle.l4_ipc.specs.OwnCall.{own_answer};
-ghost use Rattle.l4_ipc.specs.NextSteps.{step_of, answer_of};
-ghost use Rattle.l4_packed.specs.Codes.{step_code, outcome_code, answer_code, StepFits, AnswerFits};
+ghost use Rattle.l4_packed.specs.Codes.{step_code, outcome_code, answer_code, own_start_code, next_code, StepFits, AnswerFits};
 ghost use Rattle.l4_packed.specs.Outlines.{step_outline, outline_at};
 ghost use Rattle.l4_packed.specs.Reading.{step_at, outcome_of, answer_at};
 ghost use Rattle.l4_packed.specs.Words.{Gives};
 
 use crate::calls::{CALL_WORDS, put_call, read_call};
+use crate::packed_list::{FromWords, PackedList};
 use crate::words::{RECORD_WORDS, Record, Words, put_all, read_sized, read_sized_into, read_word};
 use l4_ipc::{Answer, Call, MAX_THREADS, NextStep, Outcome, Step};
 
@@ -44,15 +44,6 @@ pub fn put_start(out: &mut Record, number: u32, call: &Call)
     out.push(0);
     out.push(number);
     put_call(out, call);
-}
-
-/// Appends the step that starts the call of these words.
-pub fn put_start_of(out: &mut Record, caller: u32, call: &Words<'_>)
-    requires { length out.old.items + 2 + length call.now ≤ RECORD_WORDS }
-    ensures { out.new.items ≡ out.old.items ++ 0 ∷ caller ∷ call.now }
-{
-    out.push_all(&[0, caller]);
-    out.append(call);
 }
 
 /// Appends a step.
@@ -102,37 +93,52 @@ pub fn put_answer(out: &mut Record, answer: &Answer)
     put_all(out, answer.ended.as_slice());
 }
 
-/// Appends the answer of a start in which the call of this thread ended alone, or none did.
-pub fn put_own_answer(out: &mut Record, thread: u32, ended: bool)
-    requires { length out.old.items + ANSWER_WORDS ≤ RECORD_WORDS }
-    ensures items { out.new.items ≡ out.old.items ++ answer_code (own_answer ended thread) }
-    ensures fits { AnswerFits (own_answer ended thread) }
-    ensures short { length (answer_code (own_answer ended thread)) ≤ ANSWER_WORDS }
+/// Appends the item of the start of a call, whose words are these, by this thread: of its number, the answer, in which its call ended alone,
+/// or none did, and the step.
+#[inline(always)]
+pub fn push_own_start<T: FromWords>(
+    list: &mut PackedList<T>,
+    thread: u32,
+    call: &Words<'_>,
+    ended: bool,
+)
+    requires room { length list.old.items < list.old.room }
+    requires few { length call.now ≤ CALL_WORDS }
+    requires read { IsTrue (is_some (T.item_at (own_start_code ended thread call.now))) }
+    ensures items { list.new.items ≡ list.old.items ++ option_to_list (T.item_at (own_start_code ended thread call.now)) }
+    ensures room { (length list.new.items ≡ length list.old.items + 1) × (list.new.room ≡ list.old.room) }
 {
     if ended {
-        out.push_all(&[OUTCOMES, thread]);
+        list.push_parts(&[thread, OUTCOMES, thread, 0, thread], call);
     } else {
-        out.push(0);
+        list.push_parts(&[thread, 0, 0, thread], call);
     }
 }
 
-/// Appends the answer of a step that came next, and then the step.
-pub fn put_next(out: &mut Record, next: NextStep)
-    requires { length out.old.items + ANSWER_WORDS + STEP_WORDS ≤ RECORD_WORDS }
-    ensures items { out.new.items ≡ out.old.items ++ (answer_code (answer_of next) ++ step_code (step_of next)) }
-    ensures fits { AnswerFits (answer_of next) × StepFits (step_of next) }
+/// Appends the item of a number, the answer of a step that came next, and that step.
+#[inline(always)]
+pub fn push_next<T: FromWords>(list: &mut PackedList<T>, number: u32, next: NextStep)
+    requires room { length list.old.items < list.old.room }
+    requires read { IsTrue (is_some (T.item_at (number ∷ next_code next))) }
+    ensures items { list.new.items ≡ list.old.items ++ option_to_list (T.item_at (number ∷ next_code next)) }
+    ensures room { (length list.new.items ≡ length list.old.items + 1) × (list.new.room ≡ list.old.room) }
 {
+    let none = Words::none();
     match next {
         NextStep::Transfer(sender, receiver, outcome, ends) => {
             let head = outcome_word(outcome) + OUTCOMES;
             if ends {
-                out.push_all(&[head + OUTCOMES, sender, receiver, 1, sender, receiver]);
+                let both = head + OUTCOMES;
+                list.push_parts(
+                    &[number, both, sender, receiver, 1, sender, receiver],
+                    &none,
+                );
             } else {
-                out.push_all(&[head, receiver, 1, sender, receiver]);
+                list.push_parts(&[number, head, receiver, 1, sender, receiver], &none);
             }
         }
         NextStep::Expire(waiter) => {
-            out.push_all(&[5 + OUTCOMES, waiter, 2, waiter]);
+            list.push_parts(&[number, 5 + OUTCOMES, waiter, 2, waiter], &none);
         }
     }
 }

@@ -101,6 +101,14 @@ impl<'a> Model for Words<'a> {
 }
 
 impl<'a> Words<'a> {
+    /// No words.
+    #[inline(always)]
+    pub fn none() -> Words<'a>
+        ensures { result ≡ [] }
+    {
+        Words { bytes: &[] }
+    }
+
     /// The words that these bytes hold.
     pub(crate) fn of(bytes: &'a [u8]) -> Words<'a>
         requires { AreWords bytes.now }
