@@ -13,4 +13,4 @@ pub mod Booting
 pub mod Back
 pub mod Packing
 pub mod Begun
-pub mod Known
+pub mod Following

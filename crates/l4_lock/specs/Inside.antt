@@ -4,4 +4,4 @@ pub mod Entering
 pub mod Noting
 pub mod Packing
 pub mod Pending
-pub mod Recent
+pub mod Following

@@ -1,11 +1,12 @@
 -- A history as a list of entries, and the receipts of a seat as a list. (this profile's own)
-use Rattle.std.specs.Prelude.{ℕ, List}
+use Rattle.std.specs.Prelude.{◌≡◌, ℕ, Bool, ⊤, List, [], ◌∷◌, map, drop}
 use Rattle.l4_ipc.specs.OwnCall.{own_answer}
 use Rattle.l4_ipc.specs.NextSteps.{step_of, answer_of}
 use Rattle.l4_packed.specs.Outlines.{step_outline}
 use Rattle.l4_packed.specs.declared.steps.StepOutline.TheVariants.{Start as Starts}
-use Rattle.l4_lock.specs.declared.recent.BriefEntry.{BriefEntry}
-use Rattle.l4_lock.specs.declared.recent.BriefEntry.TheVariants.{Own, Next}
+use Rattle.l4_ipc.specs.declared.steps.NextStep.{NextStep}
+use Rattle.l4_lock.specs.declared.followed.Followed.{Followed}
+use Rattle.l4_lock.specs.declared.followed.Followed.TheVariants.{Alone, One, More}
 use Rattle.l4_lock.specs.declared.entries.Entry.{Entry}
 use Rattle.l4_lock.specs.declared.entries.EntryOutline.{EntryOutline}
 use Rattle.l4_lock.specs.declared.entries.Receipt.{Receipt}
@@ -30,7 +31,20 @@ receipt_list items room = record { items = items; room = room }
 abbrev pub entry_outline : Entry → EntryOutline
 entry_outline entry = record { seat = entry.seat; step = step_outline entry.step; answer = entry.answer }
 
--- the same of an entry in a few words
-abbrev pub brief_outline : BriefEntry → EntryOutline
-brief_outline (Own number ended) = record { seat = number; step = Starts number; answer = own_answer ended number }
-brief_outline (Next seat next) = record { seat = seat; step = step_outline (step_of next); answer = answer_of next }
+-- the same of the start of a call of this thread, in which its call ended alone, or none did
+abbrev pub own_outline : ℕ → Bool → EntryOutline
+own_outline number ended = record { seat = number; step = Starts number; answer = own_answer ended number }
+
+-- the same of a step that came next
+abbrev pub next_outline : ℕ → NextStep → EntryOutline
+next_outline seat next = record { seat = seat; step = step_outline (step_of next); answer = answer_of next }
+
+-- the entries that a call of this thread appended, where they are few; nothing is said of more
+abbrev pub AreFollowed : ℕ → Followed → List EntryOutline → Type 0
+AreFollowed number (Alone ended) outlines = outlines ≡ own_outline number ended ∷ []
+AreFollowed number (One ended next) outlines = outlines ≡ own_outline number ended ∷ next_outline number next ∷ []
+AreFollowed number More outlines = ⊤
+
+-- the entries of a history from a place on are those
+abbrev pub AreFollowedFrom : ℕ → Followed → ℕ → List Entry → Type 0
+AreFollowedFrom number followed place entries = AreFollowed number followed (map entry_outline (drop place entries))

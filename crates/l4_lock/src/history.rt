@@ -1,6 +1,6 @@
 //! The history as a list of entries.
-ghost use Rattle.std.specs.Prelude.{◌≡◌, ◌≢◌, ◌+◌, ◌<◌, ◌^◌, ◌≤◌, ◌++◌, ◌∷◌, [], ℕ, drop, nat_eq, length, slice_get, OnOk, IfSome, Some};
-ghost use Rattle.l4_lock.specs.Lists.{EntryList, entry_list, entry_outline, brief_outline};
+ghost use Rattle.std.specs.Prelude.{◌≡◌, ◌≢◌, ◌+◌, ◌<◌, ◌^◌, ◌≤◌, ◌++◌, ◌∷◌, [], ℕ, drop, nat_eq, length, slice_get, OnOk};
+ghost use Rattle.l4_lock.specs.Lists.{EntryList, entry_list, entry_outline};
 ghost use Rattle.std.specs.Option.{option_map};
 ghost use Rattle.l4_ipc.specs.declared.steps.Step.TheVariants.{Start};
 ghost use Rattle.l4_packed.specs.Words.{Gives};
@@ -10,7 +10,6 @@ ghost use Rattle.l4_ipc.specs.NextSteps.{step_of, answer_of};
 
 use crate::entries::{Entry, EntryOutline};
 use crate::packed::{read_entry_outline, write_start};
-use crate::recent::{BriefEntry, Recent};
 use l4_ipc::{Answer, Call, NextStep};
 use l4_packed::{ItemsFrom, PackedList, Record, Words, push_next, push_own_start};
 use std::alloc::{AllocError, Global};
@@ -24,7 +23,6 @@ pub type Entries<'a> = ItemsFrom<'a, Entry>;
 pub struct History {
     entries: PackedList<Entry>,
     packed: Record,
-    recent: Recent,
 }
 
 impl Model for History {
@@ -33,10 +31,6 @@ impl Model for History {
     ghost Value = { EntryList };
 
     ghost view = { λ h. entry_list h.entries.items h.entries.room };
-
-    ghost use Rattle.l4_lock.specs.Inside.Recent.{IsRecent};
-
-    ghost invariant = { λ h. IsRecent h.entries.items h.recent };
 }
 
 impl History {
@@ -47,7 +41,6 @@ impl History {
         History {
             entries: PackedList::new(alloc),
             packed: Record::new(),
-            recent: Recent::new(),
         }
     }
 
@@ -82,15 +75,6 @@ impl History {
         }
     }
 
-    /// The entry at this place in a few words, where it is one of the last two and has so few. None for any other, and for the start of
-    /// a Delete. It costs least, as nothing is read back.
-    #[inline(never)]
-    pub fn brief(&self, at: usize) -> Option<BriefEntry>
-        ensures { IfSome result (λ brief. option_map entry_outline (slice_get self.now.entries at) ≡ Some (brief_outline brief)) }
-    {
-        self.recent.at(at, self.entries.len())
-    }
-
     /// The entries from this place on.
     pub fn entries_from(&self, place: usize) -> Entries<'_>
         ensures entries { result ≡ drop place self.now.entries }
@@ -114,7 +98,6 @@ impl History {
         ensures room { (length self.new.entries ≡ length self.old.entries + 1) × (self.new.room ≡ self.old.room) }
     {
         push_next(&mut self.entries, seat, next);
-        self.recent.add(Some(BriefEntry::Next(seat, next)));
     }
 
     /// Appends the entry of the start of a call, for which there is room.
@@ -125,7 +108,6 @@ impl History {
     {
         write_start(&mut self.packed, number, call, answer);
         self.entries.push(&self.packed.words());
-        self.recent.add(None);
     }
 
     /// Appends the entry of the start of a call, whose words are these, in which the call of its thread ended alone, or none did. There is room for it.
@@ -143,6 +125,5 @@ impl History {
     {
         let _ = call;
         push_own_start(&mut self.entries, number, words, ended);
-        self.recent.add(Some(BriefEntry::Own(number, ended)));
     }
 }

@@ -4,6 +4,7 @@ ghost use Rattle.l4_ipc.specs.Machine.{IsBoot};
 ghost use Rattle.l4_lock.specs.Books.{seat_state, book, book_at, reply_waits};
 ghost use Rattle.l4_lock.specs.Closing.{Closes, Mismatches, by_history};
 ghost use Rattle.l4_lock.specs.Laws.{IsWholeRun};
+ghost use Rattle.l4_lock.specs.Lists.{AreFollowedFrom};
 ghost use Rattle.l4_lock.specs.Locked.{IsKept, RefusesBoot, Enters, Tells, Refuses, Takes};
 ghost use Rattle.l4_lock.specs.declared.refusals.LockRefusal.TheVariants.{SeatTaken, NoMemory as WantOfMemory};
 ghost use Rattle.l4_threads.specs.declared.Reply.{Reply as AReply};
@@ -14,6 +15,7 @@ ghost use Rattle.std.specs.List.{All};
 
 use crate::accounts::Accounts;
 use crate::closing::{Unclosed, first_mismatch};
+use crate::followed::Followed;
 use crate::history::History;
 use crate::refusals::{Entered, LockRefusal};
 use crate::seats::Seat;
@@ -160,7 +162,7 @@ impl Locked {
         ensures err { IfErr result (λ e. Refuses self.old seat.old.number call e × (self.new ≡ self.old) × (seat.new ≡ seat.old)) }
     {
         let at = match self.admit(seat, &call) {
-            Ok(at) => at,
+            Ok((at, _)) => at,
             Err(refusal) => return Err(refusal),
         };
         if let Some(reply) = self.accounts.finish(at, seat, None) {
@@ -169,22 +171,24 @@ impl Locked {
         Ok(Entered::Waiting)
     }
 
-    /// The same, and hands no reply out: the seat's receipt and the kernel have it.
-    pub fn enter_untold(&mut self, seat: &mut Seat, call: &Call) -> Result<(), LockRefusal>
+    /// The same, and hands no reply out: the seat's receipt and the kernel have it. Answers what was appended to the history, where that is little.
+    pub fn enter_untold(&mut self, seat: &mut Seat, call: &Call) -> Result<Followed, LockRefusal>
         ensures ok { IfOk result (λ _. Enters self.old self.new seat.old.number call.now × ((e : AnEntered) × Tells self.old self.new seat.old seat.new call.now e)) }
+        ensures followed { IfOk result (λ followed. AreFollowedFrom seat.old.number followed (length self.old.history) self.new.history) }
         ensures err { IfErr result (λ e. Refuses self.old seat.old.number call.now e × (self.new ≡ self.old) × (seat.new ≡ seat.old)) }
     {
-        let at = match self.admit(seat, call) {
-            Ok(at) => at,
+        let (at, followed) = match self.admit(seat, call) {
+            Ok((at, followed)) => (at, followed),
             Err(refusal) => return Err(refusal),
         };
         self.accounts.settle(at, seat, None);
-        Ok(())
+        Ok(followed)
     }
 
-    /// Enters a call up to what its seat gains, and answers where its account stands.
-    fn admit(&mut self, seat: &mut Seat, call: &Call) -> Result<usize, LockRefusal>
-        ensures ok { IfOk result (λ at. IsAdmitted self.old self.new seat.old seat.new call.now at) }
+    /// Enters a call up to what its seat gains, and answers where its account stands and what was appended.
+    fn admit(&mut self, seat: &mut Seat, call: &Call) -> Result<(usize, Followed), LockRefusal>
+        ensures ok { IfOk result (λ r. IsAdmitted self.old self.new seat.old seat.new call.now r.0) }
+        ensures followed { IfOk result (λ r. AreFollowedFrom seat.old.number r.1 (length self.old.history) self.new.history) }
         ensures err { IfErr result (λ e. Refuses self.old seat.old.number call.now e × (self.new ≡ self.old) × (seat.new ≡ seat.old)) }
     {
         let number = seat.number();
@@ -203,19 +207,23 @@ impl Locked {
         if seat.wait_more().is_err() {
             return Err(LockRefusal::NoMemory);
         }
-        if let Err(refusal) = begin(
+        let begun = begin(
             &mut self.kernel,
             &mut self.history,
             &mut self.accounts,
             at,
             number,
             call,
-        ) {
-            seat.wait_less();
-            return Err(refusal);
-        }
+        );
+        let followed = match begun {
+            Ok(followed) => followed,
+            Err(refusal) => {
+                seat.wait_less();
+                return Err(refusal);
+            }
+        };
         self.publisher.publish(self.history.len() as u64);
-        Ok(at)
+        Ok((at, followed))
     }
 
     /// The reply of a call that was left waiting and has ended since.

@@ -2,6 +2,7 @@
 ghost use Rattle.std.specs.Prelude.{false, ◌≡◌, ◌≢◌, ◌⊎◌, ◌+◌, ◌<◌, ◌≤◌, ℕ, Ok, Err, [], ◌∷◌, IfOk, IfErr, OnErr, map, length};
 ghost use Rattle.l4_ipc.specs.Steps.{Steps, IsIdle};
 ghost use Rattle.l4_lock.specs.Inside.Noting.{noted};
+ghost use Rattle.l4_lock.specs.Lists.{AreFollowedFrom};
 ghost use Rattle.l4_lock.specs.Books.{numbers, IsOnce};
 ghost use Rattle.l4_lock.specs.Inside.Entering.{Went, Begins, IsReady, IsStarted, HasBegun};
 ghost use Rattle.l4_threads.specs.Sizes.{max_threads};
@@ -13,6 +14,7 @@ ghost use Rattle.l4_ipc.specs.declared.steps.Step.TheVariants.{Start};
 ghost use Rattle.l4_lock.specs.declared.refusals.LockRefusal.TheVariants.{NoMemory, Kernel as ByKernel};
 
 use crate::accounts::Accounts;
+use crate::followed::{Followed, with_next};
 use crate::history::History;
 use crate::refusals::LockRefusal;
 use l4_ipc::{Call, Control, Kernel, NextStep, Refused};
@@ -62,19 +64,29 @@ fn note_next(accounts: &mut Accounts, kernel: &Kernel, next: NextStep, place: us
     }
 }
 
-/// Does the steps that come next, until there is none.
-pub fn follow(kernel: &mut Kernel, history: &mut History, accounts: &mut Accounts, seat: u32)
+/// Does the steps that come next, until there is none. Answers what was appended, with what had been before.
+pub fn follow(
+    kernel: &mut Kernel,
+    history: &mut History,
+    accounts: &mut Accounts,
+    seat: u32,
+    first: Followed,
+) -> Followed
     requires room { length history.old.entries + max_threads ≤ history.old.room }
     requires once { IsOnce (numbers accounts.old.items) }
     ensures went { Went seat kernel.old kernel.new history.old.entries history.new.entries accounts.old.items accounts.new.items }
     ensures idle { IsIdle kernel.new }
+    ensures followed { (place : ℕ) → place ≤ length history.old.entries → AreFollowedFrom seat first place history.old.entries → AreFollowedFrom seat result place history.new.entries }
 {
     kernel.law_consistent();
+    let mut followed = first;
     while let Some(next) = kernel.enter_next() {
         kernel.law_forest();
         note_next(accounts, kernel, next, history.len());
         history.push_next(seat, next);
+        followed = with_next(followed, next);
     }
+    followed
 }
 
 /// Whether a call deletes a thread, so that it may end calls of other threads.
@@ -92,12 +104,13 @@ fn start_untold(
     at: usize,
     number: u32,
     call: &Call,
-) -> Result<(), Refused>
+) -> Result<Followed, Refused>
     requires own { is_delete call.now ≡ false }
     requires begun { HasBegun accounts.old.items at call.now }
     requires once { IsOnce (numbers accounts.old.items) }
     requires room { length history.old.entries < history.old.room }
     ensures ok { IfOk result (λ _. IsStarted number call.now kernel.old kernel.new history.old history.new accounts.old.items accounts.new.items) }
+    ensures followed { IfOk result (λ followed. AreFollowedFrom number followed (length history.old.entries) history.new.entries) }
     ensures err { IfErr result (λ r. Steps kernel.old (Start number call.now) (Err r) kernel.new) }
     ensures same { OnErr result ((history.new.entries ≡ history.old.entries) × (accounts.new.items ≡ accounts.old.items)) }
 {
@@ -105,7 +118,7 @@ fn start_untold(
     let place = history.len();
     history.push_own_start(number, call, &accounts.call_words(at), ended);
     note_own(accounts, kernel, number, ended, place);
-    Ok(())
+    Ok(Followed::Alone(ended))
 }
 
 /// `start` of any call. All calls that end in it are noted. It is apart from `start`, as its answer has room for the numbers of all threads,
@@ -117,17 +130,18 @@ fn start_told(
     accounts: &mut Accounts,
     number: u32,
     call: &Call,
-) -> Result<(), Refused>
+) -> Result<Followed, Refused>
     requires room { length history.old.entries < history.old.room }
     requires once { IsOnce (numbers accounts.old.items) }
     ensures ok { IfOk result (λ _. IsStarted number call.now kernel.old kernel.new history.old history.new accounts.old.items accounts.new.items) }
+    ensures followed { IfOk result (λ followed. AreFollowedFrom number followed (length history.old.entries) history.new.entries) }
     ensures err { IfErr result (λ r. Steps kernel.old (Start number call.now) (Err r) kernel.new) }
     ensures same { OnErr result ((history.new.entries ≡ history.old.entries) × (accounts.new.items ≡ accounts.old.items)) }
 {
     let answer = kernel.start(number, call)?;
     note_all(accounts, kernel, answer.ended.as_slice(), history.len());
     history.push_start(number, call, &answer);
-    Ok(())
+    Ok(Followed::More)
 }
 
 /// Does the step that starts a call, notes all calls that end in it, and appends its entry.
@@ -138,11 +152,12 @@ fn start(
     at: usize,
     number: u32,
     call: &Call,
-) -> Result<(), Refused>
+) -> Result<Followed, Refused>
     requires begun { HasBegun accounts.old.items at call.now }
     requires room { length history.old.entries < history.old.room }
     requires once { IsOnce (numbers accounts.old.items) }
     ensures ok { IfOk result (λ _. IsStarted number call.now kernel.old kernel.new history.old history.new accounts.old.items accounts.new.items) }
+    ensures followed { IfOk result (λ followed. AreFollowedFrom number followed (length history.old.entries) history.new.entries) }
     ensures err { IfErr result (λ r. Steps kernel.old (Start number call.now) (Err r) kernel.new) }
     ensures same { OnErr result ((history.new.entries ≡ history.old.entries) × (accounts.new.items ≡ accounts.old.items)) }
 {
@@ -152,7 +167,7 @@ fn start(
     start_untold(kernel, history, accounts, at, number, call)
 }
 
-/// Begins a call, and does the steps that come next until there is none. After a refusal nothing has changed.
+/// Begins a call, and does the steps that come next until there is none. Answers what was appended. After a refusal nothing has changed.
 pub fn begin(
     kernel: &mut Kernel,
     history: &mut History,
@@ -160,12 +175,13 @@ pub fn begin(
     at: usize,
     number: u32,
     call: &Call,
-) -> Result<(), LockRefusal>
+) -> Result<Followed, LockRefusal>
     requires room { length history.old.entries + max_steps + 1 ≤ history.old.room }
     requires at { at < length accounts.old.items }
     requires once { IsOnce (numbers accounts.old.items) }
     requires book { IsReady accounts.old.items at number history.old.entries kernel.old }
     ensures ok { IfOk result (λ _. Begins number call.now kernel.old kernel.new history.old.entries history.new.entries accounts.old.items accounts.new.items at) }
+    ensures followed { IfOk result (λ followed. AreFollowedFrom number followed (length history.old.entries) history.new.entries) }
     ensures same { OnErr result ((kernel.new ≡ kernel.old) × (history.new.entries ≡ history.old.entries) × (accounts.new.items ≡ accounts.old.items)) }
     ensures err { IfErr result (λ e. (e ≡ NoMemory) ⊎ ((r : ARefused) × (e ≡ ByKernel r) × Steps kernel.old (Start number call.now) (Err r) kernel.old)) }
 {
@@ -176,10 +192,9 @@ pub fn begin(
         return Err(LockRefusal::NoMemory);
     }
     match start(kernel, history, accounts, at, number, call) {
-        Ok(()) => {
+        Ok(first) => {
             kernel.law_forest();
-            follow(kernel, history, accounts, number);
-            Ok(())
+            Ok(follow(kernel, history, accounts, number, first))
         }
         Err(refused) => {
             accounts.cancel(at);

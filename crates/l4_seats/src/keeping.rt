@@ -1,12 +1,13 @@
 //! Seats, each of which takes its replies.
 ghost use Rattle.std.specs.Prelude.{◌≡◌, ◌<◌, ℕ, true, None, IfOk, IfErr, MatchOption, length, slice_get};
 ghost use Rattle.l4_lock.specs.Books.{IsOnce, reply_waits};
+ghost use Rattle.l4_lock.specs.Lists.{AreFollowedFrom};
 ghost use Rattle.l4_lock.specs.Locked.{Refuses};
 ghost use Rattle.l4_ipc.specs.Steps.{IsIdle};
 ghost use Rattle.l4_seats.specs.Inside.Keeping.{numbers_of, seat_at, AreTheirs, AreSeats, waiting_in, OnlyTakes, EntersAndTakes};
 
 use l4_ipc::Call;
-use l4_lock::{LockRefusal, Locked, Seat};
+use l4_lock::{Followed, LockRefusal, Locked, Seat};
 
 /// Where the seat of a number stands among all. It is rare that the seats were not given in the order of their numbers.
 #[cold]
@@ -63,26 +64,27 @@ fn take_all(locked: &mut Locked, seats: &mut Vec<Seat>)
     }
 }
 
-/// Enters a call by the seat at a place, and takes all replies. After a refusal nothing has changed.
+/// Enters a call by the seat at a place, and takes all replies. Answers what was appended to the history. After a refusal nothing has changed.
 pub fn enter_at(
     locked: &mut Locked,
     seats: &mut Vec<Seat>,
     at: usize,
     number: u32,
     call: &Call,
-) -> Result<(), LockRefusal>
+) -> Result<Followed, LockRefusal>
     requires at { seat_at seats.old.items number ≡ slice_get seats.old.items at }
     requires within { at < length seats.old.items }
     requires seats { AreSeats locked.old.books seats.old.items }
     ensures ok { IfOk result (λ _. EntersAndTakes locked.old locked.new number call.now × IsIdle locked.new.kernel
         × AreSeats locked.new.books seats.new.items × (numbers_of seats.new.items ≡ numbers_of seats.old.items)) }
+    ensures followed { IfOk result (λ followed. AreFollowedFrom number followed (length locked.old.history) locked.new.history) }
     ensures err { IfErr result (λ e. Refuses locked.old number call.now e × (locked.new ≡ locked.old) × (seats.new.items ≡ seats.old.items)) }
 {
     match locked.enter_untold(&mut seats[at], call) {
-        Ok(_) => {
+        Ok(followed) => {
             locked.law_kept();
             take_all(locked, seats);
-            Ok(())
+            Ok(followed)
         }
         Err(refusal) => Err(refusal),
     }

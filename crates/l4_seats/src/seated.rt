@@ -1,12 +1,13 @@
 //! The kernel with its history, its board's watch and all its seats.
 ghost use Rattle.std.specs.Prelude.{◌≡◌, ◌≤◌, ◌<◌, ◌++◌, ◌∷◌, [], ◌↔◌, false, IsTrue, IfOk, IfErr, MatchResult, length};
 ghost use Rattle.l4_lock.specs.Books.{is_among};
+ghost use Rattle.l4_lock.specs.Lists.{AreFollowedFrom};
 ghost use Rattle.l4_lock.specs.Locked.{RefusesBoot};
 ghost use Rattle.l4_seats.specs.Seated.{IsNew, with_number, MayEnter, Refuses, Enters};
 
 use crate::keeping::{enter_at, position};
 use l4_ipc::{Call, Kernel, NoMemory, Refused};
-use l4_lock::{Board, History, LockRefusal, Locked, MAX_ENTRIES, MAX_STEPS, Seat, Watch};
+use l4_lock::{Board, Followed, History, LockRefusal, Locked, MAX_ENTRIES, MAX_STEPS, Seat, Watch};
 use std::alloc::Global;
 use std::marker::Model;
 
@@ -106,12 +107,13 @@ impl SeatedKernel {
     }
 
     /// Enters a call of the number's thread: its start and then the steps that come next, until there is none. The replies of the calls
-    /// that ended can be read from the kernel.
+    /// that ended can be read from the kernel. Answers what was appended to the history, where that is little.
     ///
     /// Refusals in this order: `Kernel(UnknownThread)` (L5) for a number that has no seat, `HistoryFull` (L1), `NoMemory` (L2), `Kernel` (L5).
     /// After any of them nothing has changed.
-    pub fn enter(&mut self, number: u32, call: &Call) -> Result<(), LockRefusal>
+    pub fn enter(&mut self, number: u32, call: &Call) -> Result<Followed, LockRefusal>
         ensures ok { IfOk result (λ _. Enters self.old self.new number call.now) }
+        ensures followed { IfOk result (λ followed. AreFollowedFrom number followed (length self.old.history) self.new.history) }
         ensures err { IfErr result (λ e. Refuses self.old.machine (length self.old.history) self.old.numbers number call.now e × (self.new ≡ self.old)) }
     {
         let SeatedKernel {

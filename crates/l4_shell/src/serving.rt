@@ -1,8 +1,8 @@
 //! What follows a call's start: the steps that come next, and the acts of served threads.
-ghost use Rattle.std.specs.Prelude.{◌≡◌, ℕ, List, None, MatchOption, MatchResult, drop, slice_get};
+ghost use Rattle.std.specs.Prelude.{◌≡◌, ◌++◌, ℕ, List, None, MatchOption, MatchResult, drop, slice_get};
 ghost use Rattle.l4_ipc.specs.OwnCall.{ended_if};
 ghost use Rattle.l4_ipc.specs.NextSteps.{answer_of};
-ghost use Rattle.l4_lock.specs.Lists.{brief_outline};
+ghost use Rattle.l4_lock.specs.Lists.{AreFollowedFrom};
 ghost use Rattle.l4_text.specs.Streams.{Tells};
 ghost use Rattle.l4_shell.specs.Sessions.{session, ended_text, is_among, waiting_text, GoesOn};
 ghost use Rattle.l4_shell.specs.Texts.{refused_act_text};
@@ -14,7 +14,7 @@ use crate::requests::LentCall;
 use crate::texts::refused_act_text;
 use l4_answers::{expire_text, put_reply, put_transfer, put_waits};
 use l4_ipc::{Answer, Call, Kernel, NextStep, Outcome};
-use l4_lock::{BriefEntry, EntryOutline, LockRefusal, StepOutline};
+use l4_lock::{EntryOutline, Followed, LockRefusal, StepOutline};
 use l4_seats::SeatedKernel;
 use l4_servers::Servers;
 use l4_text::Output;
@@ -99,15 +99,20 @@ fn tell_next<W: Write>(kernel: &Kernel, next: NextStep, out: &mut Output, writer
     }
 }
 
-/// Tells an entry that is known in a few words.
-fn tell_brief<W: Write>(kernel: &Kernel, brief: BriefEntry, out: &mut Output, writer: &mut W)
+/// Tells the start of a call in which its thread's call ended alone, or none did, and a step that came next.
+fn tell_start_and_next<W: Write>(
+    kernel: &Kernel,
+    own: (u32, bool),
+    next: NextStep,
+    out: &mut Output,
+    writer: &mut W,
+)
     ensures { Tells (W.contents writer.old) (W.contents writer.new) out.old out.new
-        (outline_text kernel.now (brief_outline brief)) }
+        (ended_text kernel.now (ended_if own.1 own.0) ++ next_text kernel.now next) }
 {
-    match brief {
-        BriefEntry::Own(thread, ended) => tell_own(kernel, thread, ended, out, writer),
-        BriefEntry::Next(_, next) => tell_next(kernel, next, out, writer),
-    }
+    let (caller, ended) = own;
+    tell_own(kernel, caller, ended, out, writer);
+    tell_next(kernel, next, out, writer);
 }
 
 /// Whether the thread's call ended in a step that came next.
@@ -122,19 +127,14 @@ fn has_ended_next(next: NextStep, thread: u32) -> bool
     }
 }
 
-/// Whether the thread's call ended in an entry that is known in a few words.
-fn has_ended_brief(brief: BriefEntry, thread: u32) -> bool
-    ensures { result ≡ is_among thread (brief_outline brief).answer.ended.items }
+/// Whether the thread's call ended in the start of a call in which that thread's call ended alone, or none did.
+fn has_ended_own(caller: u32, ended: bool, thread: u32) -> bool
+    ensures { result ≡ is_among thread (ended_if ended caller) }
 {
-    match brief {
-        BriefEntry::Own(number, ended) => ended && number == thread,
-        BriefEntry::Next(_, next) => has_ended_next(next, thread),
-    }
+    ended && caller == thread
 }
 
-/// Tells the entry at a place, which is read back. Answers whether the thread's call ended in it; None where there is no entry. It is apart
-/// from `tell_at`, as an entry has room for the numbers of all threads, which no other way is to clear.
-#[inline(never)]
+/// Tells the entry at a place, which is read back. Answers whether the thread's call ended in it; None where there is no entry.
 fn tell_stored<W: Write>(
     kernel: &SeatedKernel,
     place: usize,
@@ -154,26 +154,9 @@ fn tell_stored<W: Write>(
     Some(has_ended(&entry.answer, thread))
 }
 
-/// Tells the entry at a place. Answers whether the thread's call ended in it; None where there is no entry.
-fn tell_at<W: Write>(
-    kernel: &SeatedKernel,
-    place: usize,
-    thread: u32,
-    out: &mut Output,
-    writer: &mut W,
-) -> Option<bool>
-    ensures { MatchOption result (slice_get kernel.now.history place ≡ None)
-        (λ ended. TellsEntry kernel.now.machine (slice_get kernel.now.history place) thread ended
-        (W.contents writer.old) (W.contents writer.new) out.old out.new) }
-{
-    if let Some(brief) = kernel.history().brief(place) {
-        tell_brief(kernel.kernel(), brief, out, writer);
-        return Some(has_ended_brief(brief, thread));
-    }
-    tell_stored(kernel, place, thread, out, writer)
-}
-
-/// Tells the entries from a place on. Answers whether the thread's call ended in one of them.
+/// Tells the entries from a place on, which are read back. Answers whether the thread's call ended in one of them. It is apart from
+/// `tell_followed`, as an entry has room for the numbers of all threads, which no other way is to clear.
+#[inline(never)]
 fn tell_entries<W: Write>(
     kernel: &SeatedKernel,
     first: usize,
@@ -186,12 +169,39 @@ fn tell_entries<W: Write>(
 {
     let mut ended = false;
     for place in first..kernel.history().len() {
-        let Some(own) = tell_at(kernel, place, thread, out, writer) else {
+        let Some(own) = tell_stored(kernel, place, thread, out, writer) else {
             return ended;
         };
         ended = ended | own;
     }
     ended
+}
+
+/// Tells what a call appended to the history from a place on. Answers whether the thread's call ended in it.
+fn tell_followed<W: Write>(
+    kernel: &SeatedKernel,
+    entered: (u32, usize, Followed),
+    thread: u32,
+    out: &mut Output,
+    writer: &mut W,
+) -> bool
+    requires { AreFollowedFrom entered.0 entered.2 entered.1 kernel.now.history }
+    ensures { TellsEntries kernel.now.machine (drop entered.1 kernel.now.history) thread result
+        (W.contents writer.old) (W.contents writer.new) out.old out.new }
+{
+    let (caller, first, followed) = entered;
+    let machine = kernel.kernel();
+    match followed {
+        Followed::Alone(ended) => {
+            tell_own(machine, caller, ended, out, writer);
+            has_ended_own(caller, ended, thread)
+        }
+        Followed::One(ended, next) => {
+            tell_start_and_next(machine, (caller, ended), next, out, writer);
+            has_ended_own(caller, ended, thread) | has_ended_next(next, thread)
+        }
+        Followed::More => tell_entries(kernel, first, thread, out, writer),
+    }
 }
 
 /// Enters a call, and tells its start and the steps that follow it. Answers whether the thread's call ended in one of these. After a
@@ -210,7 +220,10 @@ pub(crate) fn enter_call<W: Write>(
     let (caller, call) = entry;
     let first = kernel.history().len();
     match kernel.enter(caller, call.call) {
-        Ok(()) => Ok(tell_entries(kernel, first, thread, out, writer)),
+        Ok(followed) => {
+            let entered = (caller, first, followed);
+            Ok(tell_followed(kernel, entered, thread, out, writer))
+        }
         Err(refusal) => Err(refusal),
     }
 }

@@ -1,6 +1,7 @@
 use Rattle.std.proofs.Common.{◌∙◌, Ok, Bool, ℕ, ap, map, subst}
 use Rattle.l4_ipc.specs.OwnCall.{Enters, own_answer}
 use Rattle.l4_lock.specs.Inside.Noting.{noted}
+use Rattle.l4_lock.proofs.Following.{followed_first}
 use Rattle.l4_lock.proofs.steps.start_untold.Goals as goal
 
 pub returns-clause-ok : goal.returns-clause-ok
@@ -15,6 +16,9 @@ returns-clause-ok c =
       longer = c.push_own_start.ensures.room.0;
       room = c.push_own_start.ensures.room.1;
     }
+
+pub returns-clause-followed : goal.returns-clause-followed
+returns-clause-followed c = followed_first c.args.number c.in_ok-ended.ended c.args.call.now c.args.history.now.entries c.push_own_start.new.self.entries c.push_own_start.ensures.entries
 
 pub push_own_start-requires-clause-words : goal.push_own_start-requires-clause-words
 push_own_start-requires-clause-words c = c.call_words.ensures c.args.call.now c.requires.begun

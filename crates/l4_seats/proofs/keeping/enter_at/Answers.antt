@@ -1,6 +1,8 @@
-use Rattle.std.proofs.Common.{◌≡◌, ℕ, slice_set, refl, sym, ap, ◌∙◌, subst}
+use Rattle.std.proofs.Common.{◌≡◌, ℕ, List, length, slice_set, refl, sym, ap, ◌∙◌, subst}
 use Rattle.std.proofs.lemmas.List.{set-get_or}
 use Rattle.l4_ipc.specs.Steps.{IsIdle}
+use Rattle.l4_lock.specs.declared.entries.Entry.{Entry}
+use Rattle.l4_lock.specs.Lists.{AreFollowedFrom}
 use Rattle.l4_lock.specs.Locked.{Enters, Refuses}
 use Rattle.l4_seats.proofs.Held.{entered, numbered}
 use Rattle.l4_seats.proofs.keeping.enter_at.Goals as goal
@@ -21,6 +23,13 @@ returns-in-Ok-clause-ok c =
           ∙ (entered c.args.locked.now c.enter_untold.new.self c.args.seats.now.items c.args.at c.index_mut.result.now c.enter_untold.new.seat c.index_mut.result.now.number c.args.call.now c.in-Ok.ensures.ok.1.0
           c.requires.within c.index_mut.ensures.value refl c.requires.seats.theirs c.in-Ok.ensures.ok.0 c.in-Ok.ensures.ok.1.1).1,
     )
+
+pub returns-in-Ok-clause-followed : goal.returns-in-Ok-clause-followed
+returns-in-Ok-clause-followed c =
+    let number : c.index_mut.result.now.number ≡ c.args.number =
+    numbered c.args.seats.now.items c.args.at c.args.number c.index_mut.result.now c.requires.within c.index_mut.ensures.value c.requires.at in
+    subst (λ (h : List Entry). AreFollowedFrom c.args.number c.in-Ok.followed (length c.args.locked.now.history) h) (sym c.take_all.ensures.same.2)
+    (subst (λ (n : ℕ). AreFollowedFrom n c.in-Ok.followed (length c.args.locked.now.history) c.enter_untold.new.self.history) number c.in-Ok.ensures.followed)
 
 pub returns-in-Err-clause-err : goal.returns-in-Err-clause-err
 returns-in-Err-clause-err c =

@@ -1,6 +1,7 @@
 use Rattle.std.proofs.Common.{◌<◌, ℕ, List, length, refl, sym, ap, ◌∙◌, subst, arith}
 use Rattle.l4_lock.specs.declared.entries.Entry.{Entry}
 use Rattle.l4_lock.specs.Books.{book_at}
+use Rattle.l4_lock.specs.Lists.{AreFollowedFrom}
 use Rattle.l4_lock.specs.Locked.{Lock, lock, Refuses}
 use Rattle.l4_lock.specs.Inside.Entering.{IsReady, Begins, IsAdmitted}
 use Rattle.l4_board.specs.Board.{Publishing}
@@ -9,8 +10,8 @@ use Rattle.l4_lock.proofs.Started.{ready, get_there}
 use Rattle.l4_lock.proofs.Taking.{begun_kept, seat_back, refuses, some_there}
 use Rattle.l4_lock.proofs.locked.Locked.admit.Goals as goal
 
-pub begin-requires-clause-book : goal.begin-requires-clause-book
-begin-requires-clause-book c =
+pub begin-begun-requires-clause-book : goal.begin-begun-requires-clause-book
+begin-begun-requires-clause-book c =
     subst (λ (h : List Entry). IsReady c.self.inside.accounts.items c.in-Some.at c.number-number.result h c.self.inside.kernel) (sym c.reserve.ensures.entries)
     (ready c.self.inside.frames c.self.inside.history.entries c.self.inside.kernel c.self.inside.accounts.items c.number-number.result c.in-Some.at c.self.invariant.right
     c.in-Some.ensures.0
@@ -35,20 +36,26 @@ returns-in-Err-clause-err c = (
 
 pub invariant_of-self-2 : goal.invariant_of-self-2
 invariant_of-self-2 c =
-    let b : Begins c.number-number.result c.args.call.now c.self.inside.kernel c.begin.new.kernel c.self.inside.history.entries c.begin.new.history.entries c.self.inside.accounts.items c.begin.new.accounts.items c.in-Some.at =
-    subst (λ (h : List Entry). Begins c.number-number.result c.args.call.now c.self.inside.kernel c.begin.new.kernel h c.begin.new.history.entries c.self.inside.accounts.items c.begin.new.accounts.items c.in-Some.at) c.reserve.ensures.entries c.in_default-begin.ensures.ok in
-    begun_kept c.self.inside.frames c.self.inside.history.entries c.begin.new.history.entries c.self.inside.kernel c.begin.new.kernel c.self.inside.accounts.items c.begin.new.accounts.items c.self.inside.publisher.board c.publish.new.self.board
+    let b : Begins c.number-number.result c.args.call.now c.self.inside.kernel c.begin-begun.new.kernel c.self.inside.history.entries c.begin-begun.new.history.entries c.self.inside.accounts.items c.begin-begun.new.accounts.items c.in-Some.at =
+    subst (λ (h : List Entry). Begins c.number-number.result c.args.call.now c.self.inside.kernel c.begin-begun.new.kernel h c.begin-begun.new.history.entries c.self.inside.accounts.items c.begin-begun.new.accounts.items c.in-Some.at) c.reserve.ensures.entries c.in-Ok.ensures.ok in
+    begun_kept c.self.inside.frames c.self.inside.history.entries c.begin-begun.new.history.entries c.self.inside.kernel c.begin-begun.new.kernel c.self.inside.accounts.items c.begin-begun.new.accounts.items c.self.inside.publisher.board c.publish.new.self.board
     c.self.inside.publisher.shown c.publish.new.self.shown c.number-number.result c.in-Some.at c.args.call.now c.self.invariant
     (let no_more = c.if-len-gt-LAST_START.false in let l = c.len.ensures in omega (arith, no_more, l)) b (ap (λ (p : Publishing). p.shown) c.publish.ensures ∙ c.len-2.ensures)
 
 pub returns-clause-ok : goal.returns-clause-ok
 returns-clause-ok c =
-    subst (λ (l : Lock). IsAdmitted l (lock c.self.inside.frames c.begin.new.kernel c.begin.new.history.entries c.begin.new.accounts.items c.publish.new.self.board c.publish.new.self.shown) c.args.seat.now c.wait_more.new.self c.args.call.now c.in-Some.at) c.self.view_is
+    subst (λ (l : Lock). IsAdmitted l (lock c.self.inside.frames c.begin-begun.new.kernel c.begin-begun.new.history.entries c.begin-begun.new.accounts.items c.publish.new.self.board c.publish.new.self.shown) c.args.seat.now c.wait_more.new.self c.args.call.now c.in-Some.at) c.self.view_is
     (record {
       apart = c.self.invariant.right.apart;
       room = (let no_more = c.if-len-gt-LAST_START.false in let l = c.len.ensures in omega (arith, no_more, l));
-      begins = subst (λ (n : ℕ). Begins n c.args.call.now c.self.inside.kernel c.begin.new.kernel c.self.inside.history.entries c.begin.new.history.entries c.self.inside.accounts.items c.begin.new.accounts.items c.in-Some.at) c.number-number.ensures
-          (subst (λ (h : List Entry). Begins c.number-number.result c.args.call.now c.self.inside.kernel c.begin.new.kernel h c.begin.new.history.entries c.self.inside.accounts.items c.begin.new.accounts.items c.in-Some.at) c.reserve.ensures.entries c.in_default-begin.ensures.ok);
+      begins = subst (λ (n : ℕ). Begins n c.args.call.now c.self.inside.kernel c.begin-begun.new.kernel c.self.inside.history.entries c.begin-begun.new.history.entries c.self.inside.accounts.items c.begin-begun.new.accounts.items c.in-Some.at) c.number-number.ensures
+          (subst (λ (h : List Entry). Begins c.number-number.result c.args.call.now c.self.inside.kernel c.begin-begun.new.kernel h c.begin-begun.new.history.entries c.self.inside.accounts.items c.begin-begun.new.accounts.items c.in-Some.at) c.reserve.ensures.entries c.in-Ok.ensures.ok);
       same = (refl, ap (λ (p : Publishing). p.board) c.publish.ensures);
       seat = ok_part _ _ _ c.wait_more.ensures (sym c.if-is_err-2.ensures.value);
     })
+
+pub returns-clause-followed : goal.returns-clause-followed
+returns-clause-followed c =
+    subst (λ (l : Lock). AreFollowedFrom c.args.seat.now.number c.in-Ok.followed (length l.history) c.begin-begun.new.history.entries) c.self.view_is
+    (subst (λ (n : ℕ). AreFollowedFrom n c.in-Ok.followed (length c.self.inside.history.entries) c.begin-begun.new.history.entries) c.number-number.ensures
+    (subst (λ (h : List Entry). AreFollowedFrom c.number-number.result c.in-Ok.followed (length h) c.begin-begun.new.history.entries) c.reserve.ensures.entries c.in-Ok.ensures.followed))

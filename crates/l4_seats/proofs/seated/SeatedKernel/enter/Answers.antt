@@ -1,5 +1,6 @@
-use Rattle.std.proofs.Common.{◌≡◌, List, true, false, refl, inl, subst}
+use Rattle.std.proofs.Common.{◌≡◌, List, length, IfOk, true, false, refl, inl, subst}
 use Rattle.l4_lock.specs.Books.{SeatState, is_among}
+use Rattle.l4_lock.specs.Lists.{AreFollowedFrom}
 use Rattle.l4_seats.specs.Seated.{Seated}
 use Rattle.l4_seats.specs.Inside.Keeping.{numbers_of}
 use Rattle.l4_seats.proofs.Held.{among, not_among, ok_enters, err_enters}
@@ -20,6 +21,10 @@ returns-clause-ok c =
     ok_enters c.enter_at.result c.args.self.now c.self.inside.locked c.enter_at.new.locked c.self.inside.seats.items c.enter_at.new.seats.items c.args.number c.self.inside.watch.seen c.args.call.now
     (subst (λ (l : List SeatState). is_among c.args.number (numbers_of l) ≡ true) c.as_slice.ensures.value (among c.as_slice.result.now c.in-Some.at c.args.number c.in-Some.ensures.0 c.in-Some.ensures.1))
     c.self.view_is c.enter_at.ensures.ok
+
+pub returns-clause-followed : goal.returns-clause-followed
+returns-clause-followed c =
+    subst (λ (s : Seated). IfOk c.enter_at.result (λ followed. AreFollowedFrom c.args.number followed (length s.history) c.enter_at.new.locked.history)) c.self.view_is c.enter_at.ensures.followed
 
 pub returns-clause-err : goal.returns-clause-err
 returns-clause-err c =
