@@ -6,3 +6,4 @@ pub mod Delegating
 pub mod Served
 pub mod Outlined
 pub mod InTurn
+pub mod StraightLines

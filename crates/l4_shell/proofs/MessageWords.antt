@@ -1,5 +1,5 @@
 -- The words of a message, token by token.
-use Rattle.std.proofs.Common.{◌≡◌, ℕ, ◌<◌, ◌≤◌, true, false, cond, List, [], ◌∷◌, ◌++◌, length, Some, None, nat_le, option_map, sym, ap, ◌∙◌, refl, arith}
+use Rattle.std.proofs.Common.{◌≡◌, ℕ, ◌<◌, ◌≤◌, true, false, cond, List, [], ◌∷◌, ◌++◌, length, Option, Some, None, nat_le, option_map, sym, ap, ◌∙◌, refl, arith}
 use Rattle.std.proofs.lemmas.List.{append-nil}
 use Rattle.std.proofs.lemmas.Bool.Decides.{nat_tests}
 use Rattle.std.specs.Option.{option_and_then}
@@ -31,3 +31,7 @@ unfolding words_of
 words_bad line rest ws token tokens read is none =
     let e : numbers_of line ≡ None = read ∙ ap (λ r. option_map (λ ns. ws ++ ns) (numbers_of r)) is ∙ ap (option_map (λ ns. ws ++ ns)) (no_numbers token tokens none) in
     elim (nat_le (length line) 64) as (λ b. None ≡ cond b (numbers_of line) None) [ true ↦ sym e | false ↦ refl ]
+
+-- what is read of nothing is nothing
+pub none_read : {A : Type 0} (f : A → List ℕ) (r : Option A) (q : Option (List ℕ)) → r ≡ None → None ≡ q → option_map f r ≡ q
+none_read f r q none is = ap (option_map f) none ∙ is

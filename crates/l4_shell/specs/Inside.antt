@@ -1,3 +1,4 @@
+pub mod Exchanges
 pub mod InTurn
 pub mod Scripts
 pub mod Telling

@@ -1,7 +1,8 @@
 //! What a script line asks for.
-ghost use Rattle.std.specs.Prelude.{◌≡◌, ◌∷◌, [], length, false, codes, bytes_eq};
+ghost use Rattle.std.specs.Prelude.{◌≡◌, ◌∷◌, [], length, false, codes, bytes_eq, option_map};
 ghost use Rattle.l4_text.specs.Tokens.{tokens_of};
 ghost use Rattle.l4_shell.specs.Commands.{thread_asked, set_pager_asked, delete_asked, receive_asked, show_asked, parent_asked, send_asked, delegate_asked, ipc_asked, unmap_asked, fault_asked, region_asked, serve_asked, steps_asked, pager_command_of, words_of, command_of};
+ghost use Rattle.l4_shell.specs.declared.commands.Command.TheVariants.{Receive, Send, Ipc, Fault};
 ghost use Rattle.l4_shell.specs.Inside.InTurn.{receive_in_turn, send_in_turn, ipc_in_turn, fault_in_turn};
 
 use crate::partners::{
@@ -212,25 +213,21 @@ fn delete(line: &[u8]) -> Option<Command<'static>>
 
 /// `N FROM WINDOW`, token by token
 #[tactic(auto, unfolding(crate::specs::Inside::InTurn::receive_in_turn))]
-fn receive_in_turn(line: &[u8]) -> Option<Command<'static>>
-    ensures { result ≡ receive_in_turn (tokens_of line.now) }
+fn receive_in_turn(line: &[u8]) -> Option<(u32, Partner, u32)>
+    ensures { option_map (λ p. Receive p.0 p.1 p.2) result ≡ receive_in_turn (tokens_of line.now) }
 {
     let (number, rest) = next_thread(line)?;
     let (from, rest) = next_partner(rest)?;
     let (window, rest) = next_word(rest)?;
     match next_token(rest) {
-        None => Some(Command::Receive {
-            number,
-            from,
-            window,
-        }),
+        None => Some((number, from, window)),
         Some(_) => None,
     }
 }
 
 /// `N FROM WINDOW`
-fn receive(line: &[u8]) -> Option<Command<'static>>
-    ensures { result ≡ receive_asked (tokens_of line.now) }
+pub(crate) fn receive(line: &[u8]) -> Option<(u32, Partner, u32)>
+    ensures { option_map (λ p. Receive p.0 p.1 p.2) result ≡ receive_asked (tokens_of line.now) }
 {
     receive_in_turn(line)
 }
@@ -259,15 +256,15 @@ fn parent(line: &[u8]) -> Option<Command<'static>>
 }
 
 /// The numbers to the end of the line, at most as many as there are message registers. They are put into these.
-fn read_words<'a>(line: &[u8], words: &'a mut ArrayVec<u32, MAX_WORDS>) -> Option<Words<'a>>
-    ensures { result ≡ words_of (tokens_of line.now) }
+fn read_words(line: &[u8], words: &mut ArrayVec<u32, MAX_WORDS>) -> Option<()>
+    ensures { option_map (λ _. words.new.items) result ≡ words_of (tokens_of line.now) }
 {
     words.clear();
     let mut rest = line;
     for count in 0..MAX_WORDS {
         match next_number(rest) {
             None => {
-                return Some(Words::of(words));
+                return Some(());
             }
             Some((value, after)) => {
                 words.push(value?);
@@ -276,30 +273,27 @@ fn read_words<'a>(line: &[u8], words: &'a mut ArrayVec<u32, MAX_WORDS>) -> Optio
         }
     }
     match next_token(rest) {
-        None => Some(Words::of(words)),
+        None => Some(()),
         Some(_) => None,
     }
 }
 
 /// `N TO WORD..`, token by token
 #[tactic(auto, unfolding(crate::specs::Inside::InTurn::send_in_turn))]
-fn send_in_turn<'a>(line: &[u8], registers: &'a mut ArrayVec<u32, MAX_WORDS>) -> Option<Command<'a>>
-    ensures { result ≡ send_in_turn (tokens_of line.now) }
+fn send_in_turn(line: &[u8], words: &mut ArrayVec<u32, MAX_WORDS>) -> Option<(u32, Partner)>
+    ensures { option_map (λ p. Send p.0 p.1 words.new.items) result ≡ send_in_turn (tokens_of line.now) }
 {
     let (number, rest) = next_thread(line)?;
     let (to, rest) = next_partner(rest)?;
-    Some(Command::Send {
-        number,
-        to,
-        words: read_words(rest, registers)?,
-    })
+    read_words(rest, words)?;
+    Some((number, to))
 }
 
 /// `N TO WORD..`
-fn send<'a>(line: &[u8], registers: &'a mut ArrayVec<u32, MAX_WORDS>) -> Option<Command<'a>>
-    ensures { result ≡ send_asked (tokens_of line.now) }
+pub(crate) fn send(line: &[u8], words: &mut ArrayVec<u32, MAX_WORDS>) -> Option<(u32, Partner)>
+    ensures { option_map (λ p. Send p.0 p.1 words.new.items) result ≡ send_asked (tokens_of line.now) }
 {
-    send_in_turn(line, registers)
+    send_in_turn(line, words)
 }
 
 /// `N TO SOURCE TARGET COUNT RIGHTS`
@@ -318,29 +312,29 @@ fn delegate(line: &[u8]) -> Option<Command<'static>>
 
 /// `N TO FROM TIMEOUTS WINDOW WORD..`, token by token
 #[tactic(auto, unfolding(crate::specs::Inside::InTurn::ipc_in_turn))]
-fn ipc_in_turn<'a>(line: &[u8], registers: &'a mut ArrayVec<u32, MAX_WORDS>) -> Option<Command<'a>>
-    ensures { result ≡ ipc_in_turn (tokens_of line.now) }
+fn ipc_in_turn(
+    line: &[u8],
+    words: &mut ArrayVec<u32, MAX_WORDS>,
+) -> Option<(u32, Partner, Partner, u32, u32)>
+    ensures { option_map (λ p. Ipc p.0 p.1 p.2 p.3 p.4 words.new.items) result ≡ ipc_in_turn (tokens_of line.now) }
 {
     let (number, rest) = next_thread(line)?;
     let (to, rest) = next_partner(rest)?;
     let (from, rest) = next_partner(rest)?;
     let (timeouts, rest) = next_word(rest)?;
     let (window, rest) = next_word(rest)?;
-    Some(Command::Ipc {
-        number,
-        to,
-        from,
-        timeouts,
-        window,
-        words: read_words(rest, registers)?,
-    })
+    read_words(rest, words)?;
+    Some((number, to, from, timeouts, window))
 }
 
 /// `N TO FROM TIMEOUTS WINDOW WORD..`
-fn ipc<'a>(line: &[u8], registers: &'a mut ArrayVec<u32, MAX_WORDS>) -> Option<Command<'a>>
-    ensures { result ≡ ipc_asked (tokens_of line.now) }
+pub(crate) fn ipc(
+    line: &[u8],
+    words: &mut ArrayVec<u32, MAX_WORDS>,
+) -> Option<(u32, Partner, Partner, u32, u32)>
+    ensures { option_map (λ p. Ipc p.0 p.1 p.2 p.3 p.4 words.new.items) result ≡ ipc_asked (tokens_of line.now) }
 {
-    ipc_in_turn(line, registers)
+    ipc_in_turn(line, words)
 }
 
 /// `N CONTROL WORD..`
@@ -349,17 +343,20 @@ fn unmap<'a>(line: &[u8], registers: &'a mut ArrayVec<u32, MAX_WORDS>) -> Option
 {
     let (number_token, rest) = next_token(line)?;
     let (control, rest) = next_token(rest)?;
+    let thread = thread_number(number_token)?;
+    let control = number(control)?;
+    read_words(rest, registers)?;
     Some(Command::Unmap {
-        number: thread_number(number_token)?,
-        control: number(control)?,
-        words: read_words(rest, registers)?,
+        number: thread,
+        control,
+        words: Words::of(registers),
     })
 }
 
 /// `N ADDRESS IP RIGHTS`, token by token
 #[tactic(auto, unfolding(crate::specs::Inside::InTurn::fault_in_turn))]
-fn fault_in_turn(line: &[u8]) -> Option<Command<'static>>
-    ensures { result ≡ fault_in_turn (tokens_of line.now) }
+fn fault_in_turn(line: &[u8]) -> Option<(u32, FaultCall)>
+    ensures { option_map (λ p. Fault p.0 p.1) result ≡ fault_in_turn (tokens_of line.now) }
 {
     let (number, rest) = next_thread(line)?;
     let (address, rest) = next_word(rest)?;
@@ -372,14 +369,14 @@ fn fault_in_turn(line: &[u8]) -> Option<Command<'static>>
         access,
     };
     match next_token(rest) {
-        None => Some(Command::Fault(number, call)),
+        None => Some((number, call)),
         Some(_) => None,
     }
 }
 
 /// `N ADDRESS IP RIGHTS`
-fn fault(line: &[u8]) -> Option<Command<'static>>
-    ensures { result ≡ fault_asked (tokens_of line.now) }
+pub(crate) fn fault(line: &[u8]) -> Option<(u32, FaultCall)>
+    ensures { option_map (λ p. Fault p.0 p.1) result ≡ fault_asked (tokens_of line.now) }
 {
     fault_in_turn(line)
 }
@@ -442,7 +439,7 @@ fn pager_command(name: &[u8], rest: &[u8]) -> Result<Command<'static>, ScriptFau
 /// What a line of another first token than `recv`, `send`, `ipc` and `fault` asks for, and the tokens of the rest.
 #[tactic(auto, unfolding(crate::specs::Commands::command_of))]
 #[inline(never)]
-fn other_command<'a>(
+pub(crate) fn other_command<'a>(
     name: &[u8],
     rest: &[u8],
     registers: &'a mut ArrayVec<u32, MAX_WORDS>,
@@ -479,7 +476,7 @@ fn other_command<'a>(
 
 /// Whether the name is `recv`. Its bytes are compared at once.
 #[inline(always)]
-fn is_recv(name: &[u8]) -> bool
+pub(crate) fn is_recv(name: &[u8]) -> bool
     ensures { result ≡ bytes_eq name.now (codes "recv") }
 {
     match name {
@@ -490,7 +487,7 @@ fn is_recv(name: &[u8]) -> bool
 
 /// Whether the name is `send`. Its bytes are compared at once.
 #[inline(always)]
-fn is_send(name: &[u8]) -> bool
+pub(crate) fn is_send(name: &[u8]) -> bool
     ensures { result ≡ bytes_eq name.now (codes "send") }
 {
     match name {
@@ -501,7 +498,7 @@ fn is_send(name: &[u8]) -> bool
 
 /// Whether the name is `ipc`. Its bytes are compared at once.
 #[inline(always)]
-fn is_ipc(name: &[u8]) -> bool
+pub(crate) fn is_ipc(name: &[u8]) -> bool
     ensures { result ≡ bytes_eq name.now (codes "ipc") }
 {
     match name {
@@ -512,35 +509,11 @@ fn is_ipc(name: &[u8]) -> bool
 
 /// Whether the name is `fault`. Its bytes are compared at once.
 #[inline(always)]
-fn is_fault(name: &[u8]) -> bool
+pub(crate) fn is_fault(name: &[u8]) -> bool
     ensures { result ≡ bytes_eq name.now (codes "fault") }
 {
     match name {
         [b'f', b'a', b'u', b'l', b't'] => true,
         _ => false,
     }
-}
-
-/// What a line of this first token asks for, and the tokens of the rest. It looks for the commands of most lines alone, as each place for an answer
-/// would be cleared for each line.
-pub(crate) fn read_command<'a>(
-    name: &[u8],
-    rest: &[u8],
-    registers: &'a mut ArrayVec<u32, MAX_WORDS>,
-) -> Result<Command<'a>, ScriptFault>
-    ensures { result ≡ command_of (name.now ∷ tokens_of rest.now) }
-{
-    if is_recv(name) {
-        return receive(rest).ok_or(ScriptFault::BadTokens);
-    }
-    if is_send(name) {
-        return send(rest, registers).ok_or(ScriptFault::BadTokens);
-    }
-    if is_ipc(name) {
-        return ipc(rest, registers).ok_or(ScriptFault::BadTokens);
-    }
-    if is_fault(name) {
-        return fault(rest).ok_or(ScriptFault::BadTokens);
-    }
-    other_command(name, rest, registers)
 }

@@ -1,6 +1,7 @@
 //! Scripts of kernel calls, and all that the program `l4` does.
 #![tactic(auto)]
 
+mod answering;
 mod commands;
 mod delegations;
 mod partners;

@@ -1,7 +1,8 @@
 //! What a command comes to: a call that a thread enters, or pages that are told.
-ghost use Rattle.std.specs.Prelude.{◌≡◌};
-ghost use Rattle.l4_ipc.specs.declared.calls.Call.TheVariants.{Fault as Faults};
+ghost use Rattle.std.specs.Prelude.{◌≡◌, true};
+ghost use Rattle.l4_ipc.specs.declared.calls.Call.TheVariants.{Ipc as Exchanges, Fault as Faults};
 ghost use Rattle.l4_pager.specs.Serving.{waiting};
+ghost use Rattle.l4_shell.specs.Inside.Exchanges.{is_ipc};
 ghost use Rattle.l4_shell.specs.Requests.{script_id, partner_id, space_id, create_call, set_pager_call, delete_call, receive_call, send_call, ipc_call, unmap_call, request_of};
 
 use crate::commands::{Command, Words};
@@ -20,8 +21,8 @@ pub(crate) const ROOT: u32 = 2;
 /// of its kind, and is written over part by part.
 #[derive(Drop)]
 pub(crate) struct CallPlaces {
-    ipc: Call,
-    fault: Call,
+    pub(crate) ipc: Call,
+    pub(crate) fault: Call,
 }
 
 impl CallPlaces {
@@ -130,6 +131,27 @@ pub(crate) fn delete_call(number: u32) -> Call
     Call::Control(Control::Delete(id_of(number)))
 }
 
+/// Makes an Ipc of these parts and of the words that it has.
+pub(crate) fn set_parts(ipc: &mut IpcCall, to: Partner, from: Partner, timeouts: u32, window: u32)
+    ensures { Exchanges ipc.new ≡ ipc_call to «from» timeouts window ipc.old.words.items }
+{
+    ipc.to = id_of_partner(to);
+    ipc.from = id_of_partner(from);
+    ipc.timeouts = timeouts;
+    ipc.acceptor = window;
+}
+
+/// Puts an Ipc into a place where there is none.
+#[inline(always)]
+pub(crate) fn make_ipc(call: &mut Call)
+    ensures { is_ipc call.new ≡ true }
+{
+    if let Call::Ipc(_) = call {
+        return;
+    }
+    *call = wait();
+}
+
 /// Makes an Ipc of these parts.
 fn put_ipc<'a>(
     call: &'a mut Call,
@@ -141,17 +163,13 @@ fn put_ipc<'a>(
 ) -> LentCall<'a>
     ensures { result ≡ ipc_call to «from» timeouts window words.entry }
 {
-    let (to, from) = (id_of_partner(to), id_of_partner(from));
     if let Call::Ipc(ipc) = call {
-        ipc.to = to;
-        ipc.from = from;
-        ipc.timeouts = timeouts;
-        ipc.acceptor = window;
         words.write_to(&mut ipc.words);
+        set_parts(ipc, to, from, timeouts, window);
     } else {
         *call = Call::Ipc(IpcCall {
-            to,
-            from,
+            to: id_of_partner(to),
+            from: id_of_partner(from),
             timeouts,
             acceptor: window,
             words: words.registers(),
@@ -161,7 +179,7 @@ fn put_ipc<'a>(
 }
 
 /// Makes a receive phase alone, without timeout.
-fn put_receive(call: &mut Call, from: Partner, window: u32) -> LentCall<'_>
+pub(crate) fn put_receive(call: &mut Call, from: Partner, window: u32) -> LentCall<'_>
     ensures { result ≡ receive_call «from» window }
 {
     put_ipc(call, Partner::Nil, from, 0, window, Words::none())
@@ -186,7 +204,7 @@ fn put_unmap<'a>(call: &'a mut Call, control: u32, words: Words<'_>) -> LentCall
 }
 
 /// Makes a page fault.
-fn put_fault(call: &mut Call, fault: FaultCall) -> LentCall<'_>
+pub(crate) fn put_fault(call: &mut Call, fault: FaultCall) -> LentCall<'_>
     ensures { result ≡ Faults «fault» }
 {
     if let Call::Fault(place) = call {

@@ -5,8 +5,9 @@ ghost use Rattle.l4_shell.specs.Scripts.{Runs};
 ghost use Rattle.l4_shell.specs.Inside.Scripts.{TellsScript, HasFirstSeats};
 ghost use Rattle.l4_shell.specs.Sessions.{session};
 
+use crate::answering::answer_line;
 use crate::requests::ROOT;
-use crate::session::{Places, answer_line};
+use crate::session::Places;
 use l4_seats::SeatedKernel;
 use l4_servers::Servers;
 use l4_text::{Ending, LineReader, Output, RunFault};

@@ -1,14 +1,16 @@
 //! Script lines over a kernel.
-ghost use Rattle.std.specs.Prelude.{◌≡◌, ◌⊎◌, ℕ, List, false, MatchOption};
+ghost use Rattle.std.specs.Prelude.{◌≡◌, ◌⊎◌, ◌∷◌, ℕ, List, false, MatchOption, codes, bytes_eq};
+ghost use Rattle.l4_text.specs.Tokens.{tokens_of};
+ghost use Rattle.l4_shell.specs.Commands.{command_of};
 ghost use Rattle.l4_text.specs.Streams.{Tells};
 ghost use Rattle.l4_answers.specs.Refusals.{refused_text};
-ghost use Rattle.l4_shell.specs.Requests.{is_comment, asked_at};
+ghost use Rattle.l4_shell.specs.Requests.{is_comment, some_command};
 ghost use Rattle.l4_shell.specs.Sessions.{session, Enters, Creates, Deletes, ServesThread, AddsRegion, place_text, ListsBelow, Shows, parent_answer, Delegates, TellsCount, CarriesOut, AnswersLine, Refuses, LacksRoom};
 ghost use Rattle.l4_shell.specs.Inside.Telling.{TellsCall, TellsRefusal};
 ghost use Rattle.l4_pager.specs.Serving.{waiting};
 ghost use Rattle.l4_servers.specs.Servers.{Servers as AllServers, is_served};
 
-use crate::commands::{Command, ScriptFault, Words, read_command};
+use crate::commands::{Words, other_command};
 use crate::delegations::plan_words;
 use crate::partners::Partner;
 use crate::refusals::{lock_code, memory_code, plan_code, region_code, script_code};
@@ -22,15 +24,15 @@ use l4_msg::{MAX_WORDS, Region};
 use l4_pager::{Entry, wait};
 use l4_seats::SeatedKernel;
 use l4_servers::Servers;
-use l4_text::{Ending, Output, Text, next_token};
+use l4_text::{Output, Text};
 use std::io::Write;
 
 /// The places of a line's words, of its call, and of the calls that served threads enter on it. Lines use them in turn.
 #[derive(Drop)]
 pub(crate) struct Places {
     registers: ArrayVec<u32, MAX_WORDS>,
-    calls: CallPlaces,
-    act: Call,
+    pub(crate) calls: CallPlaces,
+    pub(crate) act: Call,
 }
 
 impl Places {
@@ -46,40 +48,15 @@ impl Places {
 }
 
 /// Whether a line's first byte is `#`.
-fn is_comment(line: &[u8]) -> bool
+pub(crate) fn is_comment(line: &[u8]) -> bool
     ensures { result ≡ is_comment line.now }
 {
     !line.is_empty() && line[0] == b'#'
 }
 
-/// What a line asks for. None where it is empty or a comment.
-fn asked<'a>(
-    ending: Ending,
-    line: &[u8],
-    registers: &'a mut ArrayVec<u32, MAX_WORDS>,
-) -> Result<Option<Command<'a>>, ScriptFault>
-    ensures { result ≡ asked_at ending line.now }
-{
-    match ending {
-        Ending::Cut => return Err(ScriptFault::CutLine),
-        Ending::Long => return Err(ScriptFault::LineTooLong),
-        Ending::Whole => {}
-    }
-    if is_comment(line) {
-        return Ok(None);
-    }
-    let Some((name, rest)) = next_token(line) else {
-        return Ok(None);
-    };
-    match read_command(name, rest, registers) {
-        Ok(command) => Ok(Some(command)),
-        Err(fault) => Err(fault),
-    }
-}
-
 /// Tells why a line is refused.
 #[inline(never)]
-fn refuse<W: Write>(line: u64, code: &Code, out: &mut Output, writer: &mut W)
+pub(crate) fn refuse<W: Write>(line: u64, code: &Code, out: &mut Output, writer: &mut W)
     ensures { Tells (W.contents writer.old) (W.contents writer.new) out.old out.new (refused_text line code.now) }
 {
     let mut text = Text::new();
@@ -111,7 +88,7 @@ fn start<W: Write>(
 }
 
 /// Enters a call, and does what follows.
-fn enter<W: Write>(
+pub(crate) fn enter<W: Write>(
     kernel: &mut SeatedKernel,
     servers: &mut Servers,
     line: u64,
@@ -416,23 +393,27 @@ fn carry_out<W: Write>(
     }
 }
 
-/// Answers one line.
-pub(crate) fn answer_line<W: Write>(
+/// Answers a line of another first token than `recv`, `send`, `ipc` and `fault`.
+#[inline(never)]
+pub(crate) fn answer_other<W: Write>(
     kernel: &mut SeatedKernel,
     servers: &mut Servers,
-    line: (u64, Ending),
-    bytes: &[u8],
+    number: u64,
+    name: &[u8],
+    rest: &[u8],
     places: &mut Places,
     out: &mut Output,
     writer: &mut W,
 )
-    ensures { (text : List ℕ) × AnswersLine (session kernel.old servers.old) line.0 (asked_at line.1 bytes.now) text (session kernel.new servers.new)
+    requires recv { bytes_eq name.now (codes "recv") ≡ false }
+    requires send { bytes_eq name.now (codes "send") ≡ false }
+    requires ipc { bytes_eq name.now (codes "ipc") ≡ false }
+    requires fault { bytes_eq name.now (codes "fault") ≡ false }
+    ensures { (text : List ℕ) × AnswersLine (session kernel.old servers.old) number (some_command (command_of (name.now ∷ tokens_of rest.now))) text (session kernel.new servers.new)
         × Tells (W.contents writer.old) (W.contents writer.new) out.old out.new text }
 {
-    let (number, ending) = line;
-    match asked(ending, bytes, &mut places.registers) {
-        Ok(None) => {}
-        Ok(Some(command)) => {
+    match other_command(name, rest, &mut places.registers) {
+        Ok(command) => {
             let request = request_of(command, &mut places.calls);
             carry_out(
                 kernel,

@@ -1,16 +1,16 @@
-use Rattle.std.proofs.Common.{◌∙◌, sym, ap, arith, length, Some}
-use Rattle.l4_shell.proofs.MessageWords.{words_whole, words_many, words_bad}
+use Rattle.std.proofs.Common.{◌∙◌, sym, ap, arith, length}
+use Rattle.l4_shell.proofs.MessageWords.{words_whole, words_many, words_bad, none_read}
 use Rattle.l4_shell.proofs.commands.read_words.Goals as goal
 
 pub returns-in-None : goal.returns-in-None
-returns-in-None c = ap Some c.of.ensures ∙ words_whole _ _ _ c.loop-count.invariant.2 c.in-None.ensures (omega (arith, ap length c.in-None.ensures))
+returns-in-None c = words_whole _ _ _ c.loop-count.invariant.2 c.in-None.ensures (omega (arith, ap length c.in-None.ensures))
 
 pub returns-in_err-value-in-Some : goal.returns-in_err-value-in-Some
 returns-in_err-value-in-Some c =
-    c.from_residual.ensures ∙ words_bad _ _ _ _ _ c.loop-count.invariant.2 c.in-Some.ensures.1 (sym c.in-Some.ensures.2 ∙ c.in_err-value-in-Some.was)
+    none_read _ _ _ c.from_residual.ensures (words_bad _ _ _ _ _ c.loop-count.invariant.2 c.in-Some.ensures.1 (sym c.in-Some.ensures.2 ∙ c.in_err-value-in-Some.was))
 
 pub returns-in-None-next_token : goal.returns-in-None-next_token
-returns-in-None-next_token c = ap Some c.of-in-None-next_token.ensures ∙ words_whole _ _ _ c.loop-count.invariant.2 c.in-None-next_token.ensures (omega (arith, ap length c.in-None-next_token.ensures))
+returns-in-None-next_token c = words_whole _ _ _ c.loop-count.invariant.2 c.in-None-next_token.ensures (omega (arith, ap length c.in-None-next_token.ensures))
 
 pub returns-in-Some-next_token : goal.returns-in-Some-next_token
 returns-in-Some-next_token c = words_many _ (omega (arith, ap length c.in-Some-next_token.ensures))

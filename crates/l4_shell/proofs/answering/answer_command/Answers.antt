@@ -1,0 +1,21 @@
+use Rattle.std.proofs.Common.{sym}
+use Rattle.l4_text.specs.Tokens.{tokens_of}
+use Rattle.l4_shell.proofs.InTurn.{recv_is, send_is, ipc_is, fault_is}
+use Rattle.l4_shell.proofs.StraightLines.{answers_as}
+use Rattle.l4_shell.proofs.answering.answer_command.Goals as goal
+
+pub returns-then-is_recv : goal.returns-then-is_recv
+returns-then-is_recv g c =
+    answers_as _ _ _ _ _ _ _ _ _ (recv_is c.args.name.now (tokens_of c.args.rest.now) (sym c.if-is_recv.ensures)) c.answer_receive.ensures
+
+pub returns-then-is_send : goal.returns-then-is_send
+returns-then-is_send g c =
+    answers_as _ _ _ _ _ _ _ _ _ (send_is c.args.name.now (tokens_of c.args.rest.now) (sym c.if-is_send.ensures)) c.answer_send.ensures
+
+pub returns-then-is_ipc : goal.returns-then-is_ipc
+returns-then-is_ipc g c =
+    answers_as _ _ _ _ _ _ _ _ _ (ipc_is c.args.name.now (tokens_of c.args.rest.now) (sym c.if-is_ipc.ensures)) c.answer_ipc.ensures
+
+pub returns-then-is_fault : goal.returns-then-is_fault
+returns-then-is_fault g c =
+    answers_as _ _ _ _ _ _ _ _ _ (fault_is c.args.name.now (tokens_of c.args.rest.now) (sym c.if-is_fault.ensures)) c.answer_fault.ensures
