@@ -1,4 +1,4 @@
-use Rattle.std.proofs.Common.{List, ℕ, drop, ◌++◌, ap, subst}
+use Rattle.std.proofs.Common.{drop, ◌++◌, ap, subst}
 use Rattle.l4_ipc.specs.Machine.{Machine}
 use Rattle.l4_ipc.specs.OwnCall.{ended_if}
 use Rattle.l4_lock.specs.declared.followed.Followed.{Followed}
