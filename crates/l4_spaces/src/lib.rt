@@ -187,24 +187,21 @@ impl Spaces {
         ensures rest { (rest : List ℕ) → HasRoom self.old space (page ∷ rest) → HasRoom self.new space rest }
         ensures room { IsPresent self.old space page → KeepsRoom self.old self.new }
     {
-        let Some(at) = index_of(&self.spaces, space) else {
-            return;
-        };
-        tables::put(&mut self.spaces[at].1, page, Some(key));
+        self.fill(space, page, key);
     }
 
-    /// Sets the key of a page that there is room for, and keeps all room.
-    fn fill(&mut self, space: u64, free: u32, key: usize)
+    /// Writes the key of a page that is present or that there is room for. No table is taken by that, so all room is kept.
+    fn fill(&mut self, space: u64, page: u32, key: usize)
         requires there { IsSpace self.old space }
-        requires room { HasRoom self.old space (free ∷ []) }
-        ensures pages { self.new.pages ≡ map.insert self.old.pages (space, free) key }
+        requires room { IsPresent self.old space page ⊎ (rest : List ℕ) × HasRoom self.old space (page ∷ rest) }
+        ensures pages { self.new.pages ≡ map.insert self.old.pages (space, page) key }
         ensures spaces { self.new.spaces ≡ self.old.spaces }
         ensures room { KeepsRoom self.old self.new }
     {
         let Some(at) = index_of(&self.spaces, space) else {
             return;
         };
-        tables::put(&mut self.spaces[at].1, free, Some(key));
+        tables::put(&mut self.spaces[at].1, page, Some(key));
     }
 
     /// Lets a present page get absent, and another one, which there is room for, have the key. All room is kept, since no more pages are
