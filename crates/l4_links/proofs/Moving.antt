@@ -54,6 +54,10 @@ slot_of slots k p is = over (slot_at slots k) refl is
 named : (slots : Slots) (t : Tables) → IsIndexed slots t → (space k : ℕ) (s : Slot) → slot_at slots k ≡ Some s → s.place.space ≡ space → tables.key_of t space s.place.page ≡ Some k
 named slots t i space k s at e = ap (λ (z : ℕ). tables.key_of t z s.place.page) (sym e) ∙ (i.names s.place k).1 (of_slot slots k s at)
 
+-- a place that is named nowhere is of no key
+unnamed : (slots : Slots) (t : Tables) → IsIndexed slots t → (place : Place) → tables.key_of t place.space place.page ≡ None → (other : ℕ) → ¬ (IsOf slots place other)
+unnamed slots t i place absent other o = let w : ◌≡◌ {A = Option ℕ} None (Some other) = sym absent ∙ (i.names place other).1 o in cc
+
 -- where no page of the space is present, no slot is of one
 none_at : (slots : Slots) (t : Tables) → IsIndexed slots t → (space page end : ℕ) → NonePresentIn t space page end → (k : ℕ) (s : Slot) → slot_at slots k ≡ Some s → s.place.space ≡ space → page ≤ s.place.page → ¬ (s.place.page < end)
 none_at slots t i space page end none k s at e le lt = none s.place.page le lt (ap is_some (named slots t i space k s at e))
@@ -105,9 +109,7 @@ can_more source page end next key target rights slots t u i n is from c place pl
   ];
   free = λ k s at h other o. elim (either k s at h) [
     | inl e ↦ c.free k s at e other o
-    | inr e ↦
-        let name : tables.key_of t place.space place.page ≡ Some other = (i.names place other).1 (subst (λ (p : Place). IsOf slots p other) (goes k s at e) o) in
-        (let w : ◌≡◌ {A = Option ℕ} None (Some other) = sym absent ∙ name in cc)
+    | inr e ↦ unnamed slots t i place absent other (subst (λ (p : Place). IsOf slots p other) (goes k s at e) o)
   ];
   room = λ k s at h. elim (either k s at h) [
     | inl e ↦ keeps target.space ((moved_place source target s.place).page ∷ []) (c.room k s at e)
@@ -127,36 +129,42 @@ can_more source page end next key target rights slots t u i n is from c place pl
         same_place (sym (of_slot slots k s at) ∙ subst (λ (j : ℕ). IsOf slots (record { space = source.space; page = next }) j) (sym e) (found_at slots t i source.space page end next key n is)) in
         ap (moved_place source target) here ∙ sym place_is
 
-pub hinders_found : (source : Place) (page end next key : ℕ) (target : Place) (rights : RightsSet) (slots : Slots) (t : Tables) → IsIndexed slots t → IsNextIn t source.space page end next → tables.key_of t source.space next ≡ Some key
-    → source.page ≤ page → (place : Place) → place ≡ moved_place source target (record { space = source.space; page = next }) → IsHindered key place rights slots t → Hinders source end target rights slots
-hinders_found source page end next key target rights slots t i n is from place place_is h =
-    let w = slot_of slots key (record { space = source.space; page = next }) (found_at slots t i source.space page end next key n is) in
-    record {
-      key = key;
-      slot = w.0;
-      at = w.1;
-      inside = subst (λ (p : Place). IsInPages source end p) (sym w.2) (refl, (let a = n.from in omega (arith, a, from)), n.before);
-      why = elim h [
-        | inl x ↦ inl (x.0, sym (ap (option_and_then (λ (s : Slot). s.node)) w.1) ∙ x.1, x.2)
-        | inr x ↦ inr (x.0, subst (λ (p : Place). IsOf slots p x.0) (place_is ∙ ap (moved_place source target) (sym w.2)) ((i.names place x.0).0 x.1))
-      ];
-    }
+-- the page that was found, and the place that it would go to
+module _ (source : Place) (page end next key : ℕ) (target : Place) (rights : RightsSet) (slots : Slots) (t : Tables) (i : IsIndexed slots t) (n : IsNextIn t source.space page end next) (is : tables.key_of t source.space next ≡ Some key)
+    (from : source.page ≤ page) (place : Place) (place_is : place ≡ moved_place source target (record { space = source.space; page = next })) where
+  its_slot : (s : Slot) × (slot_at slots key ≡ Some s) × IsInPages source end s.place × (place ≡ moved_place source target s.place)
+  its_slot =
+      let w = slot_of slots key (record { space = source.space; page = next }) (found_at slots t i source.space page end next key n is) in (
+        w.0,
+        w.1,
+        subst (λ (p : Place). IsInPages source end p) (sym w.2) (refl, (let a = n.from in omega (arith, a, from)), n.before),
+        place_is ∙ ap (moved_place source target) (sym w.2),
+      )
 
-pub lacks_found : (source : Place) (page end next key : ℕ) (target : Place) (rights : RightsSet) (slots : Slots) (t : Tables) → IsIndexed slots t → IsNextIn t source.space page end next → tables.key_of t source.space next ≡ Some key
-    → source.page ≤ page → (place : Place) → place ≡ moved_place source target (record { space = source.space; page = next })
-    → ((n : Node) → node_at slots key ≡ Some n → Within n.rights rights) → tables.key_of t place.space place.page ≡ None → LacksPlace source end target rights slots
-lacks_found source page end next key target rights slots t i n is from place place_is within absent =
-    let w = slot_of slots key (record { space = source.space; page = next }) (found_at slots t i source.space page end next key n is) in
-    record {
-      key = key;
-      slot = w.0;
-      at = w.1;
-      inside = subst (λ (p : Place). IsInPages source end p) (sym w.2) (refl, (let a = n.from in omega (arith, a, from)), n.before);
-      within = λ x stands. within x (ap (option_and_then (λ (s : Slot). s.node)) w.1 ∙ stands);
-      absent = λ other o.
-          let name : tables.key_of t place.space place.page ≡ Some other = (i.names place other).1 (subst (λ (p : Place). IsOf slots p other) (ap (moved_place source target) w.2 ∙ sym place_is) o) in
-          (let z : ◌≡◌ {A = Option ℕ} None (Some other) = sym absent ∙ name in cc);
-    }
+  its_node : node_at slots key ≡ its_slot.0.node
+  its_node = ap (option_and_then (λ (s : Slot). s.node)) its_slot.1
+
+  pub hinders_found : IsHindered key place rights slots t → Hinders source end target rights slots
+  hinders_found h = record {
+    key = key;
+    slot = its_slot.0;
+    at = its_slot.1;
+    inside = its_slot.2;
+    why = elim h [
+      | inl x ↦ inl (x.0, sym its_node ∙ x.1, x.2)
+      | inr x ↦ inr (x.0, subst (λ (p : Place). IsOf slots p x.0) its_slot.3 ((i.names place x.0).0 x.1))
+    ];
+  }
+
+  pub lacks_found : ((n : Node) → node_at slots key ≡ Some n → Within n.rights rights) → tables.key_of t place.space place.page ≡ None → LacksPlace source end target rights slots
+  lacks_found within absent = record {
+    key = key;
+    slot = its_slot.0;
+    at = its_slot.1;
+    inside = its_slot.2;
+    within = λ x stands. within x (its_node ∙ stands);
+    absent = λ other o. unnamed slots t i place absent other (subst (λ (p : Place). IsOf slots p other) (sym its_slot.3) o);
+  }
 
 -- the second pass
 

@@ -258,6 +258,21 @@ lies_left old new before after lies same left key p at =
     let l = lies j.0 p j.1 in
     (subst (λ (z : set.FinSet nat_cmp). IsTrue (set.contains z p.space)) (sym same) l.0, l.1)
 
+-- so do all places where one more does
+lies_with : (old new : ℕ → Option Place) (before after : set.FinSet nat_cmp) (place : Place) (key : ℕ) → Lies old before → after ≡ before → new key ≡ Some place → ((o : ℕ) → o ≢ key → new o ≡ old o) → IsTrue (set.contains before place.space) → IsPage place.page
+    → Lies new after
+lies_with old new before after place key lies same here others there fits = subst (Lies new) (sym same) (λ k p at. elim (cases_eq k key) [
+  | inl e ↦ subst (λ (z : Place). IsTrue (set.contains before z.space) × IsPage z.page) (sym (one_place new key p place (ap new (sym e) ∙ at) here)) (there, fits)
+  | inr ne ↦ lies k p (sym (others k ne) ∙ at)
+])
+
+-- and a node can keep each key where it can keep one more
+keeps_with : (old new : ℕ → Option Place) (key : ℕ) → Keeps old → IsKey key → ((o : ℕ) → o ≢ key → new o ≡ old o) → Keeps new
+keeps_with old new key keeps kept others k p at = elim (cases_eq k key) [
+  | inl e ↦ subst IsKey (sym e) kept
+  | inr ne ↦ keeps k p (sym (others k ne) ∙ at)
+]
+
 places_slot : (slots : Slots) (k : ℕ) (o : Option Slot) → slot_at slots k ≡ o → places slots k ≡ option_map {T = Slot} (λ s. s.place) o
 places_slot slots k o e = over (slot_at slots k) ∙ ap (option_map {T = Slot} (λ s. s.place)) e
   where
@@ -310,22 +325,9 @@ pub indexed_added : (old new : Slots) (t u : Tables) (place : Place) (key : ℕ)
 indexed_added old new t u place key slot i free kept vacant its filled others there fits pages spaces =
     let here : places new key ≡ Some place = places_slot new key (Some slot) filled ∙ ap (λ (p : Place). Some p) its in
     let other : (o : ℕ) → o ≢ key → places new o ≡ places old o = λ o ne. ap (λ (z : Option Slot). option_map {T = Spot} (λ s. s.place) (option_map spot_of z)) (others o ne) in
-    let lies = lies_of old t i in
     indexed_of new u (named_added (places old) (places new) t.pages u.pages place key i.names free (places_slot old key None vacant) here other pages)
-    (λ k p at. elim (cases_eq k key) [
-      | inl e ↦
-          let pp : p ≡ place = one_place (places new) key p place (ap (places new) (sym e) ∙ at) here in (
-            subst (λ (z : set.FinSet nat_cmp). IsTrue (set.contains z p.space)) (sym spaces) (subst (λ (z : Place). IsTrue (set.contains t.spaces z.space)) (sym pp) there),
-            subst (λ (z : Place). IsPage z.page) (sym pp) fits,
-          )
-      | inr ne ↦
-          let l = lies k p (sym (other k ne) ∙ at) in
-          (subst (λ (z : set.FinSet nat_cmp). IsTrue (set.contains z p.space)) (sym spaces) l.0, l.1)
-    ])
-    (λ k p at. elim (cases_eq k key) [
-      | inl e ↦ subst (λ (z : ℕ). IsKey z) (sym e) kept
-      | inr ne ↦ keeps_of old t i k p (sym (other k ne) ∙ at)
-    ])
+    (lies_with (places old) (places new) t.spaces u.spaces place key (lies_of old t i) spaces here other there fits)
+    (keeps_with (places old) (places new) key (keeps_of old t i) kept other)
 
 pub indexed_removed : (old new : Slots) (t u : Tables) (place : Place) (key : ℕ) → option_map {T = Slot} (λ s. s.place) (slot_at old key) ≡ Some place → slot_at new key ≡ None
     → ((o : ℕ) → o ≢ key → slot_at new o ≡ slot_at old o) → u.pages ≡ map.remove t.pages (place.space, place.page) → u.spaces ≡ t.spaces → IsIndexed old t → IsIndexed new u
@@ -362,20 +364,8 @@ indexed_renamed old new t u from to key was free sets there fits pages spaces i 
     let here : places new key ≡ Some to = places_slot new key (slot_at new key) refl ∙ ap (option_map {T = Slot} (λ s. s.place)) sets.here ∙ placed (slot_at old key) (sym (places_slot old key (slot_at old key) refl) ∙ was) in
     let other : (o : ℕ) → o ≢ key → places new o ≡ places old o = λ o ne. ap (λ (z : Option Slot). option_map {T = Spot} (λ s. s.place) (option_map spot_of z)) (sets.others o ne) in
     indexed_of new u (named_renamed (places old) (places new) t.pages u.pages from to key i.names was free here other pages)
-    (λ k p at. elim (cases_eq k key) [
-      | inl e ↦
-          let pp : p ≡ to = one_place (places new) key p to (ap (places new) (sym e) ∙ at) here in (
-            subst (λ (z : set.FinSet nat_cmp). IsTrue (set.contains z p.space)) (sym spaces) (subst (λ (z : Place). IsTrue (set.contains t.spaces z.space)) (sym pp) there),
-            subst (λ (z : Place). IsPage z.page) (sym pp) fits,
-          )
-      | inr ne ↦
-          let l = lies_of old t i k p (sym (other k ne) ∙ at) in
-          (subst (λ (z : set.FinSet nat_cmp). IsTrue (set.contains z p.space)) (sym spaces) l.0, l.1)
-    ])
-    (λ k p at. elim (cases_eq k key) [
-      | inl e ↦ subst (λ (z : ℕ). IsKey z) (sym e) (keeps_of old t i key from was)
-      | inr ne ↦ keeps_of old t i k p (sym (other k ne) ∙ at)
-    ])
+    (lies_with (places old) (places new) t.spaces u.spaces to key (lies_of old t i) spaces here other there fits)
+    (keeps_with (places old) (places new) key (keeps_of old t i) (keeps_of old t i key from was) other)
   where
     placed : (o : Option Slot) → option_map {T = Slot} (λ s. s.place) o ≡ Some from → option_map {T = Slot} (λ s. s.place) (option_map {T = Slot} (λ s. record s { place = to }) o) ≡ Some to
     placed None e = no_place from e
