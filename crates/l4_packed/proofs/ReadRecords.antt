@@ -5,9 +5,10 @@ use Rattle.std.specs.Option.{option_to_list, option_and_then}
 use Rattle.std.proofs.lemmas.Bool.{false≢true}
 use Rattle.std.specs.Iterator.{YieldsFirst}
 use Rattle.std.proofs.lemmas.Option.{slice_get-get_or, slice_get_within, get_or_from_slice_get}
-use Rattle.std.proofs.lemmas.List.{append-nil, drop_more}
+use Rattle.std.proofs.lemmas.List.{append-nil, drop_more, length_push}
 use Rattle.std.proofs.lemmas.List.Elements.{All-push}
 use Rattle.std.proofs.lemmas.List.Concat.{flat_map-append}
+use Rattle.l4_packed.specs.ItemLists.{ItemList, item_list}
 use Rattle.l4_packed.specs.Inside.ReadRecords.{read_all, AreRead}
 
 module _ {X : Type 0} where
@@ -47,12 +48,30 @@ module _ {X : Type 0} where
     ap (λ ws. is_some (read ws)) (sym (get_or_from_slice_get records place words [] (sym is))) ∙ each place [] (slice_get_within records place words (sym is)),
   )
 
-  pub read_more : (read : List ℕ → Option X) (records : List (List ℕ)) (words : List ℕ) → read_all read (records ++ words ∷ []) ≡ read_all read records ++ option_to_list (read words)
+  read_more : (read : List ℕ → Option X) (records : List (List ℕ)) (words : List ℕ) → read_all read (records ++ words ∷ []) ≡ read_all read records ++ option_to_list (read words)
   read_more read records words =
       flat_map-append (λ ws. option_to_list (read ws)) records (words ∷ []) ∙ ap (λ (xs : List X). read_all read records ++ xs) (append-nil (option_to_list (read words)))
 
-  pub are_read_more : (read : List ℕ → Option X) (records : List (List ℕ)) (words : List ℕ) → IsTrue (is_some (read words)) → AreRead read records → AreRead read (records ++ words ∷ [])
+  are_read_more : (read : List ℕ → Option X) (records : List (List ℕ)) (words : List ℕ) → IsTrue (is_some (read words)) → AreRead read records → AreRead read (records ++ words ∷ [])
   are_read_more read records words some each = All-push (λ ws. IsTrue (is_some (read ws))) records words each some
+
+  -- what a list of items sees of its records
+  module _ (read : List ℕ → Option X) (records : List (List ℕ)) (room : ℕ) (old : ItemList X) (view : item_list (read_all read records) room ≡ old) (each : AreRead read records) where
+    -- there is room for a record where there is for an item
+    pub room_read : length old.items < old.room → length records < room
+    room_read lt = omega (arith, length_read read records each, ap (λ (l : ItemList X). length l.items) view, ap (λ (l : ItemList X). l.room) view, lt)
+
+    -- a record more, which can be read
+    module _ (new : List (List ℕ)) (words : List ℕ) (more : new ≡ records ++ words ∷ []) (some : IsTrue (is_some (read words))) where
+      pub are_read_pushed : AreRead read new
+      are_read_pushed = subst (λ (rs : List (List ℕ)). AreRead read rs) (sym more) (are_read_more read records words some each)
+
+      pub items_pushed : read_all read new ≡ old.items ++ option_to_list (read words)
+      items_pushed = ap (read_all read) more ∙ read_more read records words ∙ ap (λ (l : ItemList X). l.items ++ option_to_list (read words)) view
+
+      pub length_pushed : length (read_all read new) ≡ length old.items + 1
+      length_pushed =
+          omega (arith, length_read read new are_read_pushed, ap length more, length_push records words, length_read read records each, ap (λ (l : ItemList X). length l.items) view)
 
   -- the next of what is left
   pub yields : (xs : List X) (place : ℕ) (next : Option X) → place < length xs → next ≡ slice_get xs place → YieldsFirst (λ (s : List X). s) (drop place xs) next (drop (place + 1) xs)

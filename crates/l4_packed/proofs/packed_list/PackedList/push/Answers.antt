@@ -1,35 +1,21 @@
-use Rattle.std.proofs.Common.{◌∷◌, ◌++◌, [], length, sym, ap, subst, ◌∙◌, arith, List, ℕ}
-use Rattle.std.specs.Option.{option_to_list}
-use Rattle.std.proofs.lemmas.List.{length_push}
+use Rattle.std.proofs.Common.{◌∙◌, ap}
 use Rattle.l4_packed.specs.ItemLists.{ItemList}
-use Rattle.l4_packed.specs.Inside.ReadRecords.{read_all, AreRead}
-use Rattle.l4_packed.proofs.ReadRecords.{length_read, are_read_more, read_more}
+use Rattle.l4_packed.proofs.ReadRecords.{room_read, are_read_pushed, items_pushed, length_pushed}
 use Rattle.l4_packed.proofs.packed_list.PackedList.push.Goals as goal
 
 pub push-requires : goal.push-requires
-push-requires g c =
-    let its = ItemList g.row.T.Denot in
-    omega (arith, length_read g.T.FromWords.item_at c.self.inside.records.records c.self.invariant, ap (λ (l : its). length l.items) c.self.view_is, ap (λ (l : its). l.room) c.self.view_is, c.requires.room)
+push-requires g c = room_read g.T.FromWords.item_at c.self.inside.records.records c.self.inside.records.room c.args.self.now c.self.view_is c.self.invariant c.requires.room
 
 pub invariant_of-self : goal.invariant_of-self
 invariant_of-self g c =
-    let item_at = g.T.FromWords.item_at in
-    subst (λ (records : List (List ℕ)). AreRead item_at records) (sym c.push.ensures.records)
-    (are_read_more item_at c.self.inside.records.records c.args.words.now c.requires.read c.self.invariant)
+    are_read_pushed g.T.FromWords.item_at c.self.inside.records.records c.self.inside.records.room c.args.self.now c.self.view_is c.self.invariant c.push.new.self.records c.args.words.now c.push.ensures.records c.requires.read
 
 pub returns-clause-items : goal.returns-clause-items
 returns-clause-items g c =
-    let item_at = g.T.FromWords.item_at in
-    ap (read_all item_at) c.push.ensures.records ∙ read_more item_at c.self.inside.records.records c.args.words.now
-    ∙ ap (λ (l : ItemList g.row.T.Denot). l.items ++ option_to_list (item_at c.args.words.now)) c.self.view_is
+    items_pushed g.T.FromWords.item_at c.self.inside.records.records c.self.inside.records.room c.args.self.now c.self.view_is c.self.invariant c.push.new.self.records c.args.words.now c.push.ensures.records c.requires.read
 
 pub returns-clause-room : goal.returns-clause-room
-returns-clause-room g c =
-    let item_at = g.T.FromWords.item_at in
-    let records = c.self.inside.records.records in
-    let words = c.args.words.now in
-    let each = are_read_more item_at records words c.requires.read c.self.invariant in
-    let longer = ap (λ (rs : List (List ℕ)). length (read_all item_at rs)) c.push.ensures.records ∙ length_read item_at (records ++ words ∷ []) each in (
-      omega (arith, longer, length_push records words, length_read item_at records c.self.invariant, ap (λ (l : ItemList g.row.T.Denot). length l.items) c.self.view_is),
-      c.push.ensures.room ∙ ap (λ (l : ItemList g.row.T.Denot). l.room) c.self.view_is,
-    )
+returns-clause-room g c = (
+  length_pushed g.T.FromWords.item_at c.self.inside.records.records c.self.inside.records.room c.args.self.now c.self.view_is c.self.invariant c.push.new.self.records c.args.words.now c.push.ensures.records c.requires.read,
+  c.push.ensures.room ∙ ap (λ (l : ItemList g.row.T.Denot). l.room) c.self.view_is,
+)

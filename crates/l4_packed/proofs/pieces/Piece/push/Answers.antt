@@ -1,30 +1,19 @@
-use Rattle.std.proofs.Common.{◌≡◌, ◌+◌, ◌++◌, ◌∷◌, [], sym, ap, subst, ◌∙◌, arith, List, ℕ}
-use Rattle.l4_packed.specs.Inside.Bytes.{records_in}
-use Rattle.l4_packed.specs.Inside.Pieces.{IsPacked, AreMarks, PieceState}
-use Rattle.l4_packed.proofs.Marks.{marks_more}
-use Rattle.l4_packed.proofs.Packed.{packed_more, is_packed_more, few_records}
+use Rattle.std.proofs.Common.{◌∙◌, ap, arith}
+use Rattle.l4_packed.specs.Inside.Pieces.{PieceState}
+use Rattle.l4_packed.proofs.Packed.{few_records}
+use Rattle.l4_packed.proofs.Storing.{piece_pushed, records_pushed}
 use Rattle.l4_packed.proofs.pieces.Piece.push.Goals as goal
 
 pub overflow_add-self : goal.overflow_add-self
 overflow_add-self c = omega (arith, few_records c.self.inside.count c.self.inside.bytes.items c.self.invariant.0, c.self.inside.bytes.ok.0, c.self.inside.bytes.ok.1, c.self.inside.bytes.small)
 
 pub invariant_of-self : goal.invariant_of-self
-invariant_of-self c =
-    let words = c.args.words.now in
-    let longer : records_in (c.self.inside.count + 1) c.put_record.new.out.items ≡ records_in c.self.inside.count c.self.inside.bytes.items ++ words ∷ [] =
-    ap (records_in (c.self.inside.count + 1)) c.put_record.ensures.items ∙ packed_more c.self.inside.count c.self.inside.bytes.items words c.self.invariant.0 c.put_record.ensures.few in (
-      subst (λ (bytes : List ℕ). IsPacked (c.self.inside.count + 1) bytes) (sym c.put_record.ensures.items)
-          (is_packed_more c.self.inside.count c.self.inside.bytes.items words c.self.invariant.0 c.put_record.ensures.few),
-      subst (λ (records : List (List ℕ)). AreMarks c.self.inside.marks records c.put_record.new.out.items) (sym longer)
-          (subst (λ (bytes : List ℕ). AreMarks c.self.inside.marks (records_in c.self.inside.count c.self.inside.bytes.items ++ words ∷ []) bytes) (sym c.put_record.ensures.items)
-          (marks_more c.self.inside.marks (records_in c.self.inside.count c.self.inside.bytes.items) c.self.inside.bytes.items words c.self.invariant.1)),
-    )
+invariant_of-self c = piece_pushed c.self.inside.count c.self.inside.bytes.items c.put_record.new.out.items c.args.words.now c.put_record.ensures.items c.put_record.ensures.few c.self.inside.marks c.self.invariant
 
 pub returns-clause-records : goal.returns-clause-records
 returns-clause-records c =
-    let longer : records_in (c.self.inside.count + 1) c.put_record.new.out.items ≡ records_in c.self.inside.count c.self.inside.bytes.items ++ c.args.words.now ∷ [] =
-    ap (records_in (c.self.inside.count + 1)) c.put_record.ensures.items ∙ packed_more c.self.inside.count c.self.inside.bytes.items c.args.words.now c.self.invariant.0 c.put_record.ensures.few in
-    (ap (λ (p : PieceState). p.first) (c.self.view_is ∙ c.mark.ensures), longer ∙ ap (λ (p : PieceState). p.records ++ c.args.words.now ∷ []) (c.self.view_is ∙ c.mark.ensures))
+    records_pushed c.self.inside.count c.self.inside.bytes.items c.put_record.new.out.items c.args.words.now c.put_record.ensures.items c.put_record.ensures.few
+    c.self.inside.first _ c.args.self.now c.self.invariant.0 (c.self.view_is ∙ c.mark.ensures)
 
 pub returns-clause-free : goal.returns-clause-free
 returns-clause-free c =
