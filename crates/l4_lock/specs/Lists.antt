@@ -1,10 +1,12 @@
 -- A history as a list of entries, and the receipts of a seat as a list. (this profile's own)
-use Rattle.std.specs.Prelude.{◌≡◌, ℕ, Bool, ⊤, List, [], ◌∷◌, map, drop}
-use Rattle.l4_ipc.specs.OwnCall.{own_answer}
+use Rattle.std.specs.Prelude.{◌≡◌, ◌≤◌, ◌⊎◌, ℕ, Bool, true, List, [], ◌∷◌, length, map, drop}
+use Rattle.l4_ipc.specs.OwnCall.{own_answer, is_delete}
 use Rattle.l4_ipc.specs.NextSteps.{step_of, answer_of}
 use Rattle.l4_packed.specs.Outlines.{step_outline}
 use Rattle.l4_packed.specs.declared.steps.StepOutline.TheVariants.{Start as Starts}
+use Rattle.l4_ipc.specs.declared.calls.Call.{Call}
 use Rattle.l4_ipc.specs.declared.steps.NextStep.{NextStep}
+use Rattle.l4_ipc.specs.declared.steps.Step.TheVariants.{Start}
 use Rattle.l4_lock.specs.declared.followed.Followed.{Followed}
 use Rattle.l4_lock.specs.declared.followed.Followed.TheVariants.{Alone, One, More}
 use Rattle.l4_lock.specs.declared.entries.Entry.{Entry}
@@ -39,12 +41,17 @@ own_outline number ended = record { seat = number; step = Starts number; answer 
 abbrev pub next_outline : ℕ → NextStep → EntryOutline
 next_outline seat next = record { seat = seat; step = step_outline (step_of next); answer = answer_of next }
 
--- the entries that a call of this thread appended, where they are few; nothing is said of more
-abbrev pub AreFollowed : ℕ → Followed → List EntryOutline → Type 0
-AreFollowed number (Alone ended) outlines = outlines ≡ own_outline number ended ∷ []
-AreFollowed number (One ended next) outlines = outlines ≡ own_outline number ended ∷ next_outline number next ∷ []
-AreFollowed number More outlines = ⊤
+-- the first of these entries is the start of a Delete by this thread
+abbrev pub BeginsWithDelete : ℕ → List Entry → Type 0
+BeginsWithDelete number entries = (first : Entry) × (rest : List Entry) × (call : Call) × (entries ≡ first ∷ rest) × (first.step ≡ Start number call) × (is_delete call ≡ true)
+
+-- the entries that a call of this thread appended: the first one or two where these are all, else that they are the start of a Delete with
+-- what follows it, or three at least
+abbrev pub AreFollowed : ℕ → Followed → List Entry → Type 0
+AreFollowed number (Alone ended) entries = map entry_outline entries ≡ own_outline number ended ∷ []
+AreFollowed number (One ended next) entries = map entry_outline entries ≡ own_outline number ended ∷ next_outline number next ∷ []
+AreFollowed number More entries = BeginsWithDelete number entries ⊎ (3 ≤ length entries)
 
 -- the entries of a history from a place on are those
 abbrev pub AreFollowedFrom : ℕ → Followed → ℕ → List Entry → Type 0
-AreFollowedFrom number followed place entries = AreFollowed number followed (map entry_outline (drop place entries))
+AreFollowedFrom number followed place entries = AreFollowed number followed (drop place entries)

@@ -130,18 +130,17 @@ fn start_told(
     accounts: &mut Accounts,
     number: u32,
     call: &Call,
-) -> Result<Followed, Refused>
+) -> Result<(), Refused>
     requires room { length history.old.entries < history.old.room }
     requires once { IsOnce (numbers accounts.old.items) }
     ensures ok { IfOk result (λ _. IsStarted number call.now kernel.old kernel.new history.old history.new accounts.old.items accounts.new.items) }
-    ensures followed { IfOk result (λ followed. AreFollowedFrom number followed (length history.old.entries) history.new.entries) }
     ensures err { IfErr result (λ r. Steps kernel.old (Start number call.now) (Err r) kernel.new) }
     ensures same { OnErr result ((history.new.entries ≡ history.old.entries) × (accounts.new.items ≡ accounts.old.items)) }
 {
     let answer = kernel.start(number, call)?;
     note_all(accounts, kernel, answer.ended.as_slice(), history.len());
     history.push_start(number, call, &answer);
-    Ok(Followed::More)
+    Ok(())
 }
 
 /// Does the step that starts a call, notes all calls that end in it, and appends its entry.
@@ -162,7 +161,8 @@ fn start(
     ensures same { OnErr result ((history.new.entries ≡ history.old.entries) × (accounts.new.items ≡ accounts.old.items)) }
 {
     if is_delete(call) {
-        return start_told(kernel, history, accounts, number, call);
+        start_told(kernel, history, accounts, number, call)?;
+        return Ok(Followed::More);
     }
     start_untold(kernel, history, accounts, at, number, call)
 }
