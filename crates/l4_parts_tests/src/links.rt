@@ -1,5 +1,5 @@
-ghost use Rattle.std.specs.Prelude.{◌≡◌, IfOk, true};
-ghost use Rattle.l4_spaces.specs.Tables.{IsPage};
+ghost use Rattle.std.specs.Prelude.{◌≡◌, ◌≤◌, ◌+◌, ◌-◌, IfOk, true};
+ghost use Rattle.l4_spaces.specs.Tables.{IsPage, space_pages};
 ghost use Rattle.l4_links.specs.Entries.{IsBlank, HaveRights};
 
 use l4_fpage::Rights;
@@ -364,6 +364,94 @@ fn finds_sources(rt: HostRuntime) {
     assert!(rt; links.has_source_below(top) && links.has_source_below(left));
     links.set_source(low, false);
     assert!(rt; !links.has_source_below(top) && !links.has_source_below(left));
+}
+
+/// A page of space 1.
+fn away(page: u32) -> Place {
+    Place { space: 1, page }
+}
+
+/// Lets what is at the pages of space 0 from the first on and before the end go to the pages of space 1 from the target on.
+fn move_away(
+    links: &mut Links,
+    first: u32,
+    end: u32,
+    target: u32,
+    rights: Rights,
+) -> Result<bool, NoMemory>
+    requires rising { first ≤ end }
+    requires fits { end - first + target ≤ space_pages }
+{
+    links.add_space(1)?;
+    let source = Place {
+        space: 0,
+        page: first,
+    };
+    let other = Place {
+        space: 1,
+        page: target,
+    };
+    links.move_pages(source, end, other, rights)
+}
+
+#[test]
+fn moves_a_block_of_pages(rt: HostRuntime) {
+    let mut links = Links::new(rt.alloc());
+    let [top, middle, low] = chain(&mut links).expect(&rt, "memory");
+    // page 12 is in the block and has no key, page 5 is in front of it
+    assert_eq!(rt; move_away(&mut links, 10, 13, 20, Rights::all()), Ok(true));
+    assert_eq!(rt;
+        [
+            links.find(place(5)),
+            links.find(place(10)),
+            links.find(place(11)),
+            links.find(away(20)),
+            links.find(away(21)),
+            links.find(away(22))
+        ],
+        [Some(top), None, None, Some(middle), Some(low), None]
+    );
+    // what descends is still found from the top
+    links.cap_below(top, Rights::of_bits(5));
+    let rows = [
+        (top, 7, None),
+        (middle, 5, Some(top)),
+        (low, 5, Some(middle)),
+    ];
+    assert!(rt; stand_so(&links, &rows));
+}
+
+#[test]
+fn moves_no_page_where_one_cannot_go(rt: HostRuntime) {
+    let mut links = Links::new(rt.alloc());
+    let [top, left, right, low] = nephew(&mut links).expect(&rt, "memory");
+    links.cap_tree(left, Rights::of_bits(5));
+    // the top gets the place that the second page would go to
+    assert_eq!(rt; move_away(&mut links, 5, 6, 21, Rights::all()), Ok(true));
+    assert_eq!(rt;
+        [
+            move_away(&mut links, 10, 12, 20, Rights::all()),
+            // the second page has other rights than these
+            move_away(&mut links, 10, 12, 30, Rights::of_bits(5))
+        ],
+        [Ok(false), Ok(false)]
+    );
+    assert_eq!(rt;
+        [
+            links.find(place(10)),
+            links.find(place(11)),
+            links.find(away(20)),
+            links.find(away(21)),
+            links.find(away(30))
+        ],
+        [Some(left), Some(right), None, Some(top), None]
+    );
+    let rows = [
+        (left, 5, Some(top)),
+        (right, 7, Some(top)),
+        (low, 5, Some(left)),
+    ];
+    assert!(rt; stand_so(&links, &rows));
 }
 
 /// A root with two children, of which the second has a child, and that one too: the five keys from the top.

@@ -36,6 +36,49 @@ fn refusals_of_messages(rt: HostRuntime) {
     }
 }
 
+/// The item of the message that words begin with, None where its tag is refused or does not count just one.
+fn only_item(words: &[u32]) -> Option<Result<Item, MsgFault>> {
+    let tag = Message::read_tag(words).ok()?;
+    if tag.typed != 2 {
+        return None;
+    }
+    Some(Message::read_only_item(words, &tag))
+}
+
+/// The item that maps all pages.
+fn map_all(base: u32) -> Item {
+    Item::Map {
+        base,
+        fpage: Fpage::Complete(Rights::all()),
+    }
+}
+
+/// The item that grants all pages.
+fn grant_all(base: u32) -> Item {
+    Item::Grant {
+        base,
+        fpage: Fpage::Complete(Rights::all()),
+    }
+}
+
+#[test]
+fn reads_the_only_item(rt: HostRuntime) {
+    let rows: [(&[u32], Result<Item, MsgFault>); 5] = [
+        (&[0x80, 0x20008, 0x17], Ok(map_all(0x20000))),
+        // behind two untyped words, and before a word that means nothing
+        (
+            &[0xab0082, 7, 0xe, 0x500a, 0x17, 0xe],
+            Ok(grant_all(0x5000)),
+        ),
+        (&[0x80, 0xc, 0], Err(MsgFault::Unsupported(0))),
+        (&[0x80, 0xe, 0], Err(MsgFault::BadItem(0))),
+        (&[0x80, 0x8, 0x217], Err(MsgFault::BadItem(0))),
+    ];
+    for (words, read) in rows {
+        assert_eq!(rt; only_item(words), Some(read));
+    }
+}
+
 /// 64 words: a tag, then map items of one page.
 fn registers(tag: u32) -> [u32; 64] {
     let mut words = [0u32; 64];

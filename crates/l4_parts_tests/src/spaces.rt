@@ -69,3 +69,49 @@ fn keeps_pages(rt: HostRuntime) -> Result<(), Fail> {
     assert_eq!(rt; (spaces.has(7), spaces.get(7, 5)), (false, None));
     Ok(())
 }
+
+/// Sets a page of the space, which is added if it isn't there.
+fn put(spaces: &mut Spaces, space: u64, page: u32, key: usize) -> Result<(), NoMemory>
+    requires { IsPage page }
+{
+    spaces.add(space)?;
+    spaces.prepare(space, &[page])?;
+    spaces.set(space, page, key);
+    Ok(())
+}
+
+/// Lets the key of a page of space 7 be that of a page of space 8.
+fn rename_to_8(spaces: &mut Spaces, page: u32, other: u32) -> Result<(), NoMemory>
+    requires { IsPage other }
+{
+    spaces.add(8)?;
+    spaces.prepare(8, &[other])?;
+    let Some(key) = spaces.get(7, page) else {
+        return Err(NoMemory);
+    };
+    spaces.rename(7, page, 8, other, key);
+    Ok(())
+}
+
+#[test]
+fn renames_a_page(rt: HostRuntime) -> Result<(), Fail> {
+    let mut spaces = Spaces::new(rt.alloc());
+    for (space, page, key) in [(7, 5, 50), (7, 3, 30), (8, 5, 85)] {
+        put(&mut spaces, space, page, key)?;
+    }
+    rename_to_8(&mut spaces, 5, 2000)?;
+    assert_eq!(rt;
+        [
+            spaces.get(7, 5),
+            spaces.get(8, 2000),
+            spaces.get(7, 3),
+            spaces.get(8, 5)
+        ],
+        [None, Some(50), Some(30), Some(85)]
+    );
+    assert_eq!(rt;
+        [spaces.next_present(7, 4), spaces.next_present(8, 6)],
+        [None, Some(2000)]
+    );
+    Ok(())
+}

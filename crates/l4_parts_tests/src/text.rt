@@ -1,4 +1,4 @@
-use l4_text::{Ending, Line, Output, Sip, Source, Text, next_line, next_token, number};
+use l4_text::{Ending, Line, LineReader, Output, Sip, Source, Text, next_line, next_token, number};
 
 #[test]
 fn reads_numbers(rt: HostRuntime) {
@@ -56,6 +56,56 @@ fn answers_the_end_again(rt: HostRuntime) {
         let read = next_line(&mut source, &mut line, &mut reader);
         assert_eq!(rt; read, Ok(ending));
     }
+}
+
+/// Two short lines, one of 4,090 bytes that goes on beyond the 4,096 bytes of the first read, and one that no newline ends.
+fn four_lines() -> [u8; 4_102] {
+    let mut input = [b'x'; 4_102];
+    for (place, byte) in [
+        (0, b'1'),
+        (1, b'\n'),
+        (5, b'\r'),
+        (6, 0),
+        (7, b'\n'),
+        (4_098, b'\n'),
+        (4_101, b'4'),
+    ] {
+        input[place] = byte;
+    }
+    input
+}
+
+#[test]
+fn reads_lines_of_one_read_and_of_two(rt: HostRuntime) {
+    let long = [b'x'; 4_090];
+    let input = four_lines();
+    let mut reader = input.as_slice();
+    let mut lines = LineReader::new();
+    assert_eq!(rt; (lines.has_line(), lines.line().len()), (false, 0));
+    let rows: [(Option<Ending>, &[u8], bool); 6] = [
+        (Some(Ending::Whole), b"1", true),
+        (Some(Ending::Whole), b"xxx\r\0", false),
+        (Some(Ending::Whole), &long, false),
+        (Some(Ending::Cut), b"xx4", false),
+        (None, b"", false),
+        (None, b"", false),
+    ];
+    for (ending, line, more) in rows {
+        let read = lines.next(&mut reader);
+        assert_eq!(rt; (read, lines.has_line()), (Ok(ending), more));
+        assert!(rt; lines.line() == line);
+    }
+}
+
+#[test]
+fn finds_no_line_in_an_empty_stream(rt: HostRuntime) {
+    let mut reader = b"".as_slice();
+    let mut lines = LineReader::new();
+    let read = lines.next(&mut reader);
+    assert_eq!(rt;
+        (read, lines.has_line(), lines.line().len()),
+        (Ok(None), false, 0)
+    );
 }
 
 #[test]
