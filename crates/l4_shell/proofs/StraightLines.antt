@@ -24,13 +24,6 @@ refuses_line m line fault q code written b before t is code_is tells = (
   tells,
 )
 
--- a line's tokens can't be read
-pub bad_tokens : (m : Session) (line : ℕ) (o : Option Command) (code : Refusal) (written b : Option (List ℕ)) (before t : List ℕ × Bool)
-    → None ≡ o → code ≡ script_refusal BadTokens → Tells written b before t (refused_text line code)
-    → (text : List ℕ) × AnswersLine m line (some_command (ok_or o BadTokens)) text m × Tells written b before t text
-bad_tokens m line o code written b before t none code_is tells =
-    refuses_line m line BadTokens _ code written b before t (ap (λ p. some_command (ok_or p BadTokens)) none) code_is tells
-
 none_asked : (o : Option Command) → None ≡ option_map request_of o → None ≡ o
 none_asked None is = refl
 none_asked (Some command) is = absurd (none-some _ is)
@@ -39,7 +32,8 @@ none_asked (Some command) is = absurd (none-some _ is)
 pub no_call : (m : Session) (line : ℕ) (o : Option Command) (code : Refusal) (written b : Option (List ℕ)) (before t : List ℕ × Bool)
     → None ≡ option_map request_of o → code ≡ script_refusal BadTokens → Tells written b before t (refused_text line code)
     → (text : List ℕ) × AnswersLine m line (some_command (ok_or o BadTokens)) text m × Tells written b before t text
-no_call m line o code written b before t none code_is tells = bad_tokens m line o code written b before t (none_asked o none) code_is tells
+no_call m line o code written b before t none code_is tells =
+    refuses_line m line BadTokens _ code written b before t (ap (λ p. some_command (ok_or p BadTokens)) (none_asked o none)) code_is tells
 
 -- a line's call is entered
 pub enters_call : (old new : Session) (line n : ℕ) (call : Call) (o : Option Command) (written b : Option (List ℕ)) (before t : List ℕ × Bool)

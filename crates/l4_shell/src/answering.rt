@@ -1,8 +1,9 @@
 //! Answers to lines. Most lines are `recv`, `send`, `ipc` and `fault`, and these go straight from their tokens to their call.
-ghost use Rattle.std.specs.Prelude.{◌≡◌, ◌∷◌, ℕ, List, ok_or, option_map};
+ghost use Rattle.std.specs.Prelude.{◌≡◌, ◌∷◌, ℕ, List, Option, ok_or, option_map};
 ghost use Rattle.l4_text.specs.Streams.{Tells};
 ghost use Rattle.l4_text.specs.Tokens.{tokens_of};
 ghost use Rattle.l4_text.specs.declared.lines.Ending.TheVariants.{Whole};
+ghost use Rattle.l4_shell.specs.declared.commands.Command.{Command};
 ghost use Rattle.l4_shell.specs.declared.commands.ScriptFault.TheVariants.{BadTokens};
 ghost use Rattle.l4_shell.specs.declared.requests.Request.TheVariants.{Enter};
 ghost use Rattle.l4_shell.specs.Commands.{receive_asked, send_asked, ipc_asked, fault_asked, command_of};
@@ -12,7 +13,7 @@ ghost use Rattle.l4_shell.specs.Sessions.{session, AnswersLine};
 use crate::commands::{ScriptFault, fault, ipc, is_fault, is_ipc, is_recv, is_send, receive, send};
 use crate::partners::Partner;
 use crate::refusals::script_code;
-use crate::requests::{LentCall, make_ipc, put_fault, put_receive, set_parts};
+use crate::requests::{LentCall, make_fault, make_ipc, make_receive, set_parts};
 use crate::session::{Places, answer_other, enter, is_comment, refuse};
 use l4_ipc::Call;
 use l4_seats::SeatedKernel;
@@ -20,8 +21,18 @@ use l4_servers::Servers;
 use l4_text::{Ending, Output, next_token};
 use std::io::Write;
 
-/// Makes the call of a `send` line in a place, whose words are read into it. Answers the thread; None where the tokens can't be read, and then
-/// what stands in the place means nothing.
+/// Makes the call of a `recv` line in a place. Answers the thread; None where the tokens can't be read, and then what stands in the place means
+/// nothing.
+#[inline(always)]
+fn read_receive(line: &[u8], call: &mut Call) -> Option<u32>
+    ensures { option_map (λ n. Enter n call.new) result ≡ option_map request_of (receive_asked (tokens_of line.now)) }
+{
+    let (number, from, window) = receive(line)?;
+    make_receive(call, from, window);
+    Some(number)
+}
+
+/// Makes the call of a `send` line in a place, whose words are read into it, as `read_receive` does.
 #[inline(always)]
 fn read_send(line: &[u8], call: &mut Call) -> Option<u32>
     ensures { option_map (λ n. Enter n call.new) result ≡ option_map request_of (send_asked (tokens_of line.now)) }
@@ -35,7 +46,7 @@ fn read_send(line: &[u8], call: &mut Call) -> Option<u32>
     None
 }
 
-/// Makes the call of an `ipc` line in a place, as `read_send` does.
+/// Makes the call of an `ipc` line in a place, whose words are read into it, as `read_receive` does.
 #[inline(always)]
 fn read_ipc(line: &[u8], call: &mut Call) -> Option<u32>
     ensures { option_map (λ n. Enter n call.new) result ≡ option_map request_of (ipc_asked (tokens_of line.now)) }
@@ -49,106 +60,39 @@ fn read_ipc(line: &[u8], call: &mut Call) -> Option<u32>
     None
 }
 
-/// Answers a `recv` line.
+/// Makes the call of a `fault` line in a place, as `read_receive` does.
 #[inline(always)]
-fn answer_receive<W: Write>(
-    kernel: &mut SeatedKernel,
-    servers: &mut Servers,
-    line: u64,
-    rest: &[u8],
-    call: &mut Call,
-    act: &mut Call,
-    out: &mut Output,
-    writer: &mut W,
-)
-    ensures { (text : List ℕ) × AnswersLine (session kernel.old servers.old) line (some_command (ok_or (receive_asked (tokens_of rest.now)) BadTokens)) text (session kernel.new servers.new)
-        × Tells (W.contents writer.old) (W.contents writer.new) out.old out.new text }
+fn read_fault(line: &[u8], call: &mut Call) -> Option<u32>
+    ensures { option_map (λ n. Enter n call.new) result ≡ option_map request_of (fault_asked (tokens_of line.now)) }
 {
-    let Some((number, from, window)) = receive(rest) else {
-        return refuse(line, &script_code(ScriptFault::BadTokens), out, writer);
-    };
-    let call = put_receive(call, from, window);
-    enter(kernel, servers, line, (number, call), act, out, writer);
+    let (number, fault) = fault(line)?;
+    make_fault(call, fault);
+    Some(number)
 }
 
-/// Answers a `send` line.
+/// Answers a line whose call was read: the thread enters it. Where no thread was read, the line is refused.
 #[inline(always)]
-fn answer_send<W: Write>(
+fn enter_read<W: Write>(
     kernel: &mut SeatedKernel,
     servers: &mut Servers,
     line: u64,
-    rest: &[u8],
-    call: &mut Call,
+    number: Option<u32>,
+    call: &Call,
     act: &mut Call,
     out: &mut Output,
     writer: &mut W,
 )
-    ensures { (text : List ℕ) × AnswersLine (session kernel.old servers.old) line (some_command (ok_or (send_asked (tokens_of rest.now)) BadTokens)) text (session kernel.new servers.new)
+    ensures { (asked : Option Command) → option_map (λ n. Enter n call.now) number ≡ option_map request_of asked
+        → (text : List ℕ) × AnswersLine (session kernel.old servers.old) line (some_command (ok_or asked BadTokens)) text (session kernel.new servers.new)
         × Tells (W.contents writer.old) (W.contents writer.new) out.old out.new text }
 {
-    let Some(number) = read_send(rest, call) else {
-        return refuse(line, &script_code(ScriptFault::BadTokens), out, writer);
-    };
-    enter(
-        kernel,
-        servers,
-        line,
-        (number, LentCall { call }),
-        act,
-        out,
-        writer,
-    );
-}
-
-/// Answers an `ipc` line.
-#[inline(always)]
-fn answer_ipc<W: Write>(
-    kernel: &mut SeatedKernel,
-    servers: &mut Servers,
-    line: u64,
-    rest: &[u8],
-    call: &mut Call,
-    act: &mut Call,
-    out: &mut Output,
-    writer: &mut W,
-)
-    ensures { (text : List ℕ) × AnswersLine (session kernel.old servers.old) line (some_command (ok_or (ipc_asked (tokens_of rest.now)) BadTokens)) text (session kernel.new servers.new)
-        × Tells (W.contents writer.old) (W.contents writer.new) out.old out.new text }
-{
-    let Some(number) = read_ipc(rest, call) else {
-        return refuse(line, &script_code(ScriptFault::BadTokens), out, writer);
-    };
-    enter(
-        kernel,
-        servers,
-        line,
-        (number, LentCall { call }),
-        act,
-        out,
-        writer,
-    );
-}
-
-/// Answers a `fault` line.
-#[inline(always)]
-fn answer_fault<W: Write>(
-    kernel: &mut SeatedKernel,
-    servers: &mut Servers,
-    line: u64,
-    rest: &[u8],
-    call: &mut Call,
-    act: &mut Call,
-    out: &mut Output,
-    writer: &mut W,
-)
-    ensures { (text : List ℕ) × AnswersLine (session kernel.old servers.old) line (some_command (ok_or (fault_asked (tokens_of rest.now)) BadTokens)) text (session kernel.new servers.new)
-        × Tells (W.contents writer.old) (W.contents writer.new) out.old out.new text }
-{
-    let Some((number, fault)) = fault(rest) else {
-        return refuse(line, &script_code(ScriptFault::BadTokens), out, writer);
-    };
-    let call = put_fault(call, fault);
-    enter(kernel, servers, line, (number, call), act, out, writer);
+    match number {
+        Some(number) => {
+            let call = LentCall { call };
+            enter(kernel, servers, line, (number, call), act, out, writer)
+        }
+        None => refuse(line, &script_code(ScriptFault::BadTokens), out, writer),
+    }
 }
 
 /// Answers a line of this first token, and the tokens of the rest.
@@ -168,11 +112,12 @@ fn answer_command<W: Write>(
 {
     if is_recv(name) {
         let call = &mut places.calls.ipc;
-        return answer_receive(
+        let number = read_receive(rest, call);
+        return enter_read(
             kernel,
             servers,
             line,
-            rest,
+            number,
             call,
             &mut places.act,
             out,
@@ -181,11 +126,12 @@ fn answer_command<W: Write>(
     }
     if is_send(name) {
         let call = &mut places.calls.ipc;
-        return answer_send(
+        let number = read_send(rest, call);
+        return enter_read(
             kernel,
             servers,
             line,
-            rest,
+            number,
             call,
             &mut places.act,
             out,
@@ -194,11 +140,12 @@ fn answer_command<W: Write>(
     }
     if is_ipc(name) {
         let call = &mut places.calls.ipc;
-        return answer_ipc(
+        let number = read_ipc(rest, call);
+        return enter_read(
             kernel,
             servers,
             line,
-            rest,
+            number,
             call,
             &mut places.act,
             out,
@@ -207,11 +154,12 @@ fn answer_command<W: Write>(
     }
     if is_fault(name) {
         let call = &mut places.calls.fault;
-        return answer_fault(
+        let number = read_fault(rest, call);
+        return enter_read(
             kernel,
             servers,
             line,
-            rest,
+            number,
             call,
             &mut places.act,
             out,

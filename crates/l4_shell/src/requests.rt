@@ -152,6 +152,28 @@ pub(crate) fn make_ipc(call: &mut Call)
     *call = wait();
 }
 
+/// Puts a receive phase alone, without timeout, into a place.
+pub(crate) fn make_receive(call: &mut Call, from: Partner, window: u32)
+    ensures { call.new ≡ receive_call «from» window }
+{
+    make_ipc(call);
+    if let Call::Ipc(ipc) = call {
+        ipc.words.clear();
+        set_parts(ipc, Partner::Nil, from, 0, window);
+    }
+}
+
+/// Puts a page fault into a place.
+pub(crate) fn make_fault(call: &mut Call, fault: FaultCall)
+    ensures { call.new ≡ Faults «fault» }
+{
+    if let Call::Fault(place) = call {
+        *place = fault;
+    } else {
+        *call = Call::Fault(fault);
+    }
+}
+
 /// Makes an Ipc of these parts.
 fn put_ipc<'a>(
     call: &'a mut Call,
@@ -179,10 +201,11 @@ fn put_ipc<'a>(
 }
 
 /// Makes a receive phase alone, without timeout.
-pub(crate) fn put_receive(call: &mut Call, from: Partner, window: u32) -> LentCall<'_>
+fn put_receive(call: &mut Call, from: Partner, window: u32) -> LentCall<'_>
     ensures { result ≡ receive_call «from» window }
 {
-    put_ipc(call, Partner::Nil, from, 0, window, Words::none())
+    make_receive(call, from, window);
+    LentCall { call }
 }
 
 /// Makes a send phase alone, without timeout.
@@ -204,14 +227,10 @@ fn put_unmap<'a>(call: &'a mut Call, control: u32, words: Words<'_>) -> LentCall
 }
 
 /// Makes a page fault.
-pub(crate) fn put_fault(call: &mut Call, fault: FaultCall) -> LentCall<'_>
+fn put_fault(call: &mut Call, fault: FaultCall) -> LentCall<'_>
     ensures { result ≡ Faults «fault» }
 {
-    if let Call::Fault(place) = call {
-        *place = fault;
-    } else {
-        *call = Call::Fault(fault);
-    }
+    make_fault(call, fault);
     LentCall { call }
 }
 
