@@ -1,5 +1,5 @@
 //! The servers, and the call that the next of them enters.
-ghost use Rattle.std.specs.Prelude.{◌≡◌, ◌%◌, not, IfOk, OnErr, MatchBool, MatchOption, MatchResult};
+ghost use Rattle.std.specs.Prelude.{◌≡◌, ◌%◌, not, IfOk, OnErr, MatchOption, MatchResult};
 ghost use Rattle.l4_msg.specs.Messages.{CanBeWritten};
 
 use crate::served::ServedThreads;
@@ -72,7 +72,8 @@ impl Servers {
     ghost use Rattle.l4_servers.specs.Servers.{Servers as TheServers};
     ghost use Rattle.l4_pager.specs.Regions.{CanAdd};
     ghost use Rattle.std.specs.Prelude.{◌≤◌, false};
-    ghost use Rattle.l4_servers.specs.Acting.{NoneReady, IsFirstReady, Answers, Follows, ActsNext};
+    ghost use Rattle.l4_servers.specs.Acting.{NoneReady, IsFirstReady, Answers, Follows};
+    ghost use Rattle.l4_ipc.specs.Reading.{reply_of};
     ghost use Rattle.l4_servers.specs.Servers.{servers};
     ghost use Rattle.l4_sigma0.specs.Owners.{Answers as GrantsFrames};
     ghost use Rattle.l4_msg.specs.Protocols.{one_item};
@@ -144,8 +145,8 @@ impl Servers {
         self.served.remove(thread);
     }
 
-    /// The served thread of the least number that runs.
-    fn first_ready(&self, kernel: &Kernel) -> Option<u32>
+    /// The served thread that acts next: of the served threads that run the one of the least number. None where no served thread runs.
+    pub fn first_ready(&self, kernel: &Kernel) -> Option<u32>
         ensures { MatchOption result (NoneReady kernel.now.threads self.now) (IsFirstReady kernel.now.threads self.now) }
     {
         for thread in self.served.as_slice() {
@@ -154,16 +155,6 @@ impl Servers {
             }
         }
         None
-    }
-
-    /// Whether a served thread runs.
-    pub fn has_ready(&self, kernel: &Kernel) -> bool
-        ensures { MatchBool result (NoneReady kernel.now.threads self.now → ⊥) (NoneReady kernel.now.threads self.now) }
-    {
-        match self.first_ready(kernel) {
-            Some(_) => true,
-            None => false,
-        }
     }
 
     /// What a thread's regions answer to a message.
@@ -266,21 +257,16 @@ impl Servers {
         answer_into(call, sender, base, fpage);
     }
 
-    /// The served thread that acts next, and in `call` what it enters: of the served threads that run the one of the least number. It
-    /// answers the message that its last reply brought, and then waits for the next one, or only waits where it brought none. sigma0
-    /// answers by its table of owners, in which an owner is set now; each other thread by its regions. None where no served thread
-    /// runs, and then nothing changes. The call is written into what is there, which is quickest where that is an Ipc.
-    pub fn next_act_into(&mut self, kernel: &Kernel, call: &mut Call) -> Option<u32>
-        ensures { MatchOption result (NoneReady kernel.now.threads self.old × (self.new ≡ self.old))
-            (λ thread. ActsNext kernel.now.threads self.old thread call.new self.new) }
+    /// Makes a call what a thread enters after its last reply: it answers the message that the reply brought, and then waits for the next
+    /// one, or only waits where it brought none. sigma0 answers by its table of owners, in which an owner is set now; each other thread by
+    /// its regions. For a thread that has no reply nothing changes. The call is written into what is there, which is quickest where that is
+    /// an Ipc.
+    pub fn act_into(&mut self, kernel: &Kernel, thread: u32, call: &mut Call)
+        ensures { MatchOption (reply_of kernel.now.threads thread) ((self.new ≡ self.old) × (call.new ≡ call.old))
+            (λ reply. Follows kernel.now.threads self.old thread reply call.new self.new) }
     {
-        let Some(thread) = self.first_ready(kernel) else {
-            return None;
-        };
-        let Some(reply) = kernel.reply(thread) else {
-            return None;
-        };
-        self.next_call_into(kernel, thread, reply, call);
-        Some(thread)
+        if let Some(reply) = kernel.reply(thread) {
+            self.next_call_into(kernel, thread, reply, call);
+        }
     }
 }

@@ -1,5 +1,8 @@
 -- The entries of calls and the acts of served threads, told one after another.
 use Rattle.std.proofs.Common.{◌≡◌, ℕ, zero, suc, ◌+◌, ◌<◌, ◌≤◌, Bool, true, false, ◌||◌, length, length-append, map, drop, slice_get, Contains, arith, List, [], ◌∷◌, ◌++◌, Option, Some, None, Ok, inl, inr, sym, ap, subst, ◌∙◌, refl, nat_eq}
+use Rattle.std.specs.Prelude.{MatchOption}
+use Rattle.std.specs.Option.{is_some}
+use Rattle.std.proofs.lemmas.Bool.{false≢true}
 use Rattle.std.proofs.lemmas.List.{append-nil}
 use Rattle.std.proofs.lemmas.List.Folds.{list_any-append}
 use Rattle.std.proofs.lemmas.Grind.{flat_map-append}
@@ -19,7 +22,9 @@ use Rattle.l4_lock.specs.declared.refusals.LockRefusal.{LockRefusal}
 use Rattle.l4_lock.specs.Locked.{start_entry}
 use Rattle.l4_seats.specs.Seated.{Seated, IsNew, entry_of, AllLast, Enters as EntersCall, Refuses as RefusesCall, with_number}
 use Rattle.l4_servers.specs.Servers.{Servers}
-use Rattle.l4_servers.specs.Acting.{NoneReady, ActsNext}
+use Rattle.l4_threads.specs.declared.Reply.{Reply}
+use Rattle.l4_threads.specs.Threads.{Threads}
+use Rattle.l4_servers.specs.Acting.{NoneReady, IsFirstReady, Follows as FollowsReply, ActsNext}
 use Rattle.l4_shell.specs.Refusals.{lock_refusal, lacks_memory}
 use Rattle.l4_shell.specs.Sessions.{Session, session, gone_on, done_text, step_line, step_text, ended_text, is_among, ended_in, waiting_text, Act, act_text, ended_by, IsAct, AreActs, GoesOn, Follows, Refuses, Enters, Creates}
 use Rattle.l4_shell.specs.Requests.{root}
@@ -149,15 +154,27 @@ pub record Acting (old : Session) (thread count : ℕ) (m : Session) (has : Bool
 pub acting_none : (m : Session) (thread : ℕ) (written : Option (List ℕ)) (before : List ℕ × Bool) → Acting m thread 0 m false written written before before
 acting_none m thread written before = record { acts = []; are = refl; number = refl; has_is = refl; tells = tells_none written before }
 
-pub acting_more : (old : Session) (thread count : ℕ) (m new : Seated) (sv later : Servers) (read : Machine) (has : Bool) (written a b : Option (List ℕ)) (before s t : List ℕ × Bool)
-    (server : ℕ) (call : Call) (own : Bool) → Acting old thread count (session m sv) has written a before s → read ≡ m.machine
-    → ActsNext read.threads sv server call later → TellsCall m server call thread own new a b s t
+-- the first of the served threads that run, whose reply was found, acts next
+replied : (t : Threads) (sv later : Servers) (server : ℕ) (old call : Call) (o : Option Reply) → reply_of t server ≡ o → IsFirstReady t sv server
+    → MatchOption o ((later ≡ sv) × (call ≡ old)) (λ reply. FollowsReply t sv server reply call later) → ActsNext t sv server call later
+replied t sv later server old call None is first follows = absurd (false≢true (sym (ap is_some is) ∙ first.ready.1))
+replied t sv later server old call (Some reply) is first follows = record { first = first; reply = reply; reply_is = is; follows = follows }
+
+pub next_act : (m read : Machine) (sv later : Servers) (server : ℕ) (old call : Call) → read ≡ m → IsFirstReady m.threads sv server
+    → MatchOption (reply_of read.threads server) ((later ≡ sv) × (call ≡ old)) (λ reply. FollowsReply read.threads sv server reply call later) → ActsNext m.threads sv server call later
+next_act m read sv later server old call same first follows =
+    replied m.threads sv later server old call _ refl first
+    (subst (λ (x : Machine). MatchOption (reply_of x.threads server) ((later ≡ sv) × (call ≡ old)) (λ reply. FollowsReply x.threads sv server reply call later)) same follows)
+
+pub acting_more : (old : Session) (thread count : ℕ) (m new : Seated) (sv later : Servers) (has : Bool) (written a b : Option (List ℕ)) (before s t : List ℕ × Bool)
+    (server : ℕ) (call : Call) (own : Bool) → Acting old thread count (session m sv) has written a before s
+    → ActsNext m.machine.threads sv server call later → TellsCall m server call thread own new a b s t
     → Acting old thread (count + 1) (session new later) (has || own) written b before t
-acting_more old thread count m new sv later read has written a b before s t server call own g same acts told =
+acting_more old thread count m new sv later has written a b before s t server call own g acts told =
     let e = told.enters in
     let act : Act = record { thread = server; call = call; servers = later; answer = e.answer; started = e.started; steps = e.steps; after = new.machine } in
     let ended : List ℕ = e.answer.ended.items ++ ended_in e.steps in
-    let is : IsAct (session m sv) act = record { acts = subst (λ (x : Machine). ActsNext x.threads sv server call later) same acts; can = e.can; starts = e.starts; next = e.next; idle = e.idle } in
+    let is : IsAct (session m sv) act = record { acts = acts; can = e.can; starts = e.starts; next = e.next; idle = e.idle } in
     record {
       acts = g.acts ++ act ∷ [];
       are = acts_more old (session m sv) (session new later) g.acts act g.are is (went m new sv later server call e);
@@ -173,15 +190,15 @@ acting_more old thread count m new sv later read has written a b before s t serv
     }
 
 -- no served thread runs
-pub acting_quiet : (old : Session) (thread count : ℕ) (m : Seated) (sv later : Servers) (read : Machine) (has : Bool) (written a : Option (List ℕ)) (before s : List ℕ × Bool) → count ≤ 256
-    → Acting old thread count (session m sv) has written a before s → read ≡ m.machine → NoneReady read.threads sv × (later ≡ sv) → TellsActs old thread has (session m later) written a before s
-acting_quiet old thread count m sv later read has written a before s le g same none = record {
+pub acting_quiet : (old : Session) (thread count : ℕ) (m : Seated) (sv : Servers) (read : Machine) (has : Bool) (written a : Option (List ℕ)) (before s : List ℕ × Bool) → count ≤ 256
+    → Acting old thread count (session m sv) has written a before s → read ≡ m.machine → NoneReady read.threads sv → TellsActs old thread has (session m sv) written a before s
+acting_quiet old thread count m sv read has written a before s le g same none = record {
   acts = g.acts;
   between = session m sv;
   are = g.are;
   few = omega (arith, g.number, le);
   last = [];
-  stops = inl (subst (λ (x : Machine). NoneReady x.threads sv) same none.0, refl, ap (session m) none.1);
+  stops = inl (subst (λ (x : Machine). NoneReady x.threads sv) same none, refl, refl);
   ended_is = g.has_is;
   tells = tells_is written a before s _ _ (sym (append-nil (flat_map act_text g.acts))) g.tells;
 }
@@ -201,11 +218,11 @@ acting_spent old thread count m has written a before s all g = record {
 }
 
 -- an act was refused
-pub acting_refused : (old : Session) (thread count : ℕ) (m new : Seated) (sv later : Servers) (read : Machine) (has : Bool) (written a b c : Option (List ℕ)) (before s t u : List ℕ × Bool) (server : ℕ) (call : Call)
-    (refusal : LockRefusal) (text : List ℕ) → count < 256 → Acting old thread count (session m sv) has written a before s → read ≡ m.machine → ActsNext read.threads sv server call later
+pub acting_refused : (old : Session) (thread count : ℕ) (m new : Seated) (sv later : Servers) (has : Bool) (written a b c : Option (List ℕ)) (before s t u : List ℕ × Bool) (server : ℕ) (call : Call)
+    (refusal : LockRefusal) (text : List ℕ) → count < 256 → Acting old thread count (session m sv) has written a before s → ActsNext m.machine.threads sv server call later
     → TellsNothing m server call refusal new a b s t → text ≡ refused_act_text server (lock_refusal refusal) → Tells b c t u text
     → TellsActs old thread has (session new later) written c before u
-acting_refused old thread count m new sv later read has written a b c before s t u server call refusal text lt g same acts refused is tells =
+acting_refused old thread count m new sv later has written a b c before s t u server call refusal text lt g acts refused is tells =
     let here : Tells a c s u text = subst (λ (x : List ℕ × Bool). Tells a c x u text) refused.3 (subst (λ (x : Option (List ℕ)). Tells x c t u text) refused.2 tells) in
     record {
       acts = g.acts;
@@ -217,7 +234,7 @@ acting_refused old thread count m new sv later read has written a b c before s t
         few = omega (arith, g.number, lt);
         thread = server;
         call = call;
-        acts = subst (λ (x : Machine). ActsNext x.threads sv server call later) same acts;
+        acts = acts;
         refusal = refusal;
         refused = refused.0;
         same = ap (λ (k : Seated). session k later) refused.1;
@@ -331,5 +348,5 @@ pub quiet_on : (kernel : Seated) (sv : Servers) (read : Machine) (thread : ℕ) 
     → (text : List ℕ) × GoesOn (session kernel sv) thread had text (session kernel sv) × Tells written a before s text
 quiet_on kernel sv read thread had has written a before s has_is same none told =
     goes_on (session kernel sv) (session kernel sv) thread had has false written written a before before s has_is
-    (acting_quiet (session kernel sv) thread 0 kernel sv sv read false written written before before (omega arith) (acting_none (session kernel sv) thread written before) same (none, refl))
+    (acting_quiet (session kernel sv) thread 0 kernel sv read false written written before before (omega arith) (acting_none (session kernel sv) thread written before) same none)
     (tells_is written a before s _ _ (ap (waiting_text thread) (sym (or_false has))) told)

@@ -7,6 +7,7 @@ ghost use Rattle.l4_text.specs.Streams.{Tells};
 ghost use Rattle.l4_shell.specs.Sessions.{session, ended_text, is_among, waiting_text, GoesOn};
 ghost use Rattle.l4_shell.specs.Texts.{refused_act_text};
 ghost use Rattle.l4_shell.specs.Refusals.{lock_refusal};
+ghost use Rattle.l4_servers.specs.Acting.{IsFirstReady};
 ghost use Rattle.l4_shell.specs.Inside.Telling.{outline_line, outline_text, next_text, TellsEntry, TellsEntries, TellsCall, TellsNothing, TellsActs};
 
 use crate::refusals::lock_code;
@@ -237,25 +238,26 @@ fn tell_refused_act<W: Write>(server: u32, refusal: LockRefusal, out: &mut Outpu
     out.put(writer, &refused_act_text(server, &lock_code(refusal)));
 }
 
-/// Served threads act, one after another, until none runs, one is refused or there were as many acts as a line may have; and all is
-/// told. Answers whether the thread's call ended in one of the acts.
+/// Served threads act, one after another, the first of them being known, until none runs, one is refused or there were as many acts as a
+/// line may have; and all is told. Answers whether the thread's call ended in one of the acts.
 #[inline(never)]
 fn serve<W: Write>(
     kernel: &mut SeatedKernel,
     servers: &mut Servers,
+    first: u32,
     thread: u32,
     act: &mut Call,
     out: &mut Output,
     writer: &mut W,
 ) -> bool
+    requires { IsFirstReady kernel.old.machine.threads servers.old first }
     ensures { TellsActs (session kernel.old servers.old) thread result (session kernel.new servers.new)
         (W.contents writer.old) (W.contents writer.new) out.old out.new }
 {
+    let mut server = first;
     let mut ended = false;
     for _ in 0..MOST_ACTS {
-        let Some(server) = servers.next_act_into(kernel.kernel(), act) else {
-            return ended;
-        };
+        servers.act_into(kernel.kernel(), server, act);
         let call = LentCall { call: act };
         match enter_call(kernel, (server, call), thread, out, writer) {
             Ok(own) => ended = ended | own,
@@ -264,6 +266,10 @@ fn serve<W: Write>(
                 return ended;
             }
         }
+        let Some(next) = servers.first_ready(kernel.kernel()) else {
+            return ended;
+        };
+        server = next;
     }
     ended
 }
@@ -282,9 +288,9 @@ pub(crate) fn follow<W: Write>(
         → (text : List ℕ) × GoesOn (session kernel.old servers.old) thread had text (session kernel.new servers.new)
         × Tells (W.contents writer.old) (W.contents writer.new) out.old out.new text }
 {
-    if !servers.has_ready(kernel.kernel()) {
+    let Some(first) = servers.first_ready(kernel.kernel()) else {
         return tell_waiting(thread, ended, out, writer);
-    }
-    let acted = serve(kernel, servers, thread, act, out, writer);
+    };
+    let acted = serve(kernel, servers, first, thread, act, out, writer);
     tell_waiting(thread, ended | acted, out, writer);
 }
