@@ -1,9 +1,10 @@
 //! Calls of several threads, entered by the seats that are all in one hand.
 
 use l4_ipc::{
-    ArrayVec, Call, Fpage, IpcReply, MAX_WORDS, Refused, Reply, Rights, ThreadId, Timeout,
+    ArrayVec, Call, Fpage, IpcReply, MAX_WORDS, NextStep, Outcome, Refused, Reply, Rights,
+    ThreadId, Timeout,
 };
-use l4_lock::LockRefusal;
+use l4_lock::{Followed, LockRefusal};
 use l4_seats::SeatedKernel;
 use std::alloc::Global;
 use std::process::Abort;
@@ -94,6 +95,29 @@ fn message(rt: HostRuntime) {
     assert_eq!(rt; kernel.steps(), 4);
     assert!(rt; kernel.enter(THIRD, &receive()).is_ok());
     assert_eq!(rt; (kernel.history().len(), kernel.steps()), (5, 5));
+}
+
+/// A call that is entered answers what it appended: its start, in which it has ended or not, the step that came next, or more than is told.
+#[test]
+fn followed(rt: HostRuntime) {
+    let mut kernel = SeatedKernel::new(rt.alloc(), FRAMES).expect(&rt, "a kernel");
+    assert!(rt; kernel.give(ROOT).is_ok() && kernel.give(THIRD).is_ok());
+    let answers = [
+        kernel.enter(ROOT, &create()),
+        kernel.enter(THIRD, &receive()),
+        kernel.enter(ROOT, &send()),
+        kernel.enter(ROOT, &Call::delete(THIRD_ID)),
+    ];
+    let transfer = NextStep::Transfer(ROOT, THIRD, Outcome::Done, true);
+    assert_eq!(rt;
+        answers,
+        [
+            Ok(Followed::Alone(true)),
+            Ok(Followed::Alone(false)),
+            Ok(Followed::One(false, transfer)),
+            Ok(Followed::More)
+        ]
+    );
 }
 
 /// A thread is deleted as it waits, and a new one with its number enters calls at once.

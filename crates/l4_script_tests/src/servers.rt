@@ -1,6 +1,8 @@
-use l4_fpage::Rights;
-use l4_pager::{Entry, PagerRefusal};
+use l4_fpage::{Fpage, Rights};
+use l4_ipc::{Call, Kernel, ThreadId};
+use l4_pager::{Entry, PagerRefusal, wait};
 use l4_servers::{RegionRefusal, Servers};
+use std::alloc::Global;
 use std::test::Fail;
 
 /// Pages 4 to 7 from pages 100 to 103.
@@ -35,4 +37,53 @@ fn serves_threads(rt: HostRuntime) -> Result<(), Fail> {
     servers.take_back(4);
     assert!(rt; servers.serve(4) == Ok(true));
     Ok(())
+}
+
+/// A kernel in which sigma0, root and a third thread have called, and wait for nobody.
+fn three_threads(alloc: Global) -> Option<Kernel> {
+    let third = ThreadId(3 * 0x4000 + 1);
+    let create = Call::create(third, third, ThreadId::nil());
+    let unmap = Call::unmap(false, &[Fpage::Nil])?;
+    let mut kernel = Kernel::boot(alloc, 256).ok()?;
+    for (number, call) in [(2, &create), (1, &unmap), (3, &unmap)] {
+        let Ok(true) = kernel.enter(number, call) else {
+            return None;
+        };
+    }
+    Some(kernel)
+}
+
+/// The served thread that acts next.
+fn acts_next(servers: &mut Servers, kernel: &Kernel) -> Option<u32> {
+    let mut call = wait();
+    servers.next_act_into(kernel, &mut call)
+}
+
+/// Threads are served by rising number, each once, until it is taken back or forgotten.
+#[test]
+fn serves_by_rising_number(rt: HostRuntime) {
+    let kernel = three_threads(rt.alloc()).expect(&rt, "a kernel");
+    let mut servers = Servers::new(rt.alloc(), 256);
+    assert_eq!(rt; acts_next(&mut servers, &kernel), None);
+    assert_eq!(rt;
+        [
+            servers.serve(3),
+            servers.serve(1),
+            servers.serve(2),
+            servers.serve(3),
+            servers.serve(1)
+        ],
+        [Ok(true), Ok(true), Ok(true), Ok(false), Ok(false)]
+    );
+    let first = acts_next(&mut servers, &kernel);
+    servers.take_back(1);
+    let second = acts_next(&mut servers, &kernel);
+    servers.forget(2);
+    let third = acts_next(&mut servers, &kernel);
+    servers.take_back(3);
+    let last = acts_next(&mut servers, &kernel);
+    assert_eq!(rt;
+        [first, second, third, last],
+        [Some(1), Some(2), Some(3), None]
+    );
 }
