@@ -53,18 +53,12 @@ fn three_threads(alloc: Global) -> Option<Kernel> {
     Some(kernel)
 }
 
-/// The served thread that acts next.
-fn acts_next(servers: &mut Servers, kernel: &Kernel) -> Option<u32> {
-    let mut call = wait();
-    servers.next_act_into(kernel, &mut call)
-}
-
 /// Threads are served by rising number, each once, until it is taken back or forgotten.
 #[test]
 fn serves_by_rising_number(rt: HostRuntime) {
     let kernel = three_threads(rt.alloc()).expect(&rt, "a kernel");
     let mut servers = Servers::new(rt.alloc(), 256);
-    assert_eq!(rt; acts_next(&mut servers, &kernel), None);
+    assert_eq!(rt; servers.first_ready(&kernel), None);
     assert_eq!(rt;
         [
             servers.serve(3),
@@ -75,15 +69,25 @@ fn serves_by_rising_number(rt: HostRuntime) {
         ],
         [Ok(true), Ok(true), Ok(true), Ok(false), Ok(false)]
     );
-    let first = acts_next(&mut servers, &kernel);
+    let first = servers.first_ready(&kernel);
     servers.take_back(1);
-    let second = acts_next(&mut servers, &kernel);
+    let second = servers.first_ready(&kernel);
     servers.forget(2);
-    let third = acts_next(&mut servers, &kernel);
+    let third = servers.first_ready(&kernel);
     servers.take_back(3);
-    let last = acts_next(&mut servers, &kernel);
+    let last = servers.first_ready(&kernel);
     assert_eq!(rt;
         [first, second, third, last],
         [Some(1), Some(2), Some(3), None]
     );
+}
+
+/// A served thread whose call brought no message receives from anybody.
+#[test]
+fn receives_after_no_message(rt: HostRuntime) {
+    let kernel = three_threads(rt.alloc()).expect(&rt, "a kernel");
+    let mut servers = Servers::new(rt.alloc(), 256);
+    let mut call = Call::delete(ThreadId::nil());
+    servers.act_into(&kernel, 3, &mut call);
+    assert!(rt; call == wait());
 }
