@@ -96,6 +96,44 @@ fn answers(rt: HostRuntime) {
     }
 }
 
+/// The fpage of a word.
+fn fpage(word: u32) -> Fpage {
+    Fpage::read(word).unwrap_or(Fpage::Nil)
+}
+
+#[test]
+fn answers_the_same_whatever_place_is_guessed(rt: HostRuntime) {
+    let mut regions = one_region();
+    assert_eq!(rt; regions.add(entry(8, 200, 1, 7)), Ok(()));
+    for guess in [0, 1, 2, 64, usize::MAX] {
+        assert_eq!(rt;
+            [
+                regions.answer_fault_near(&read_fault(0x5678), guess),
+                regions.answer_fault_near(&read_fault(0x8abc), guess),
+                regions.answer_fault_near(&read_fault(0x9000), guess)
+            ],
+            [
+                (0x5000, fpage(0x6_50c5), 0),
+                (0x8000, fpage(0xc_80c7), 1),
+                (0, Fpage::Nil, guess)
+            ],
+            "guess {guess}"
+        );
+    }
+    assert_eq!(rt;
+        [
+            regions.answer_fault(&read_fault(0x5678)),
+            regions.answer_fault(&read_fault(0x8abc)),
+            regions.answer_fault(&read_fault(0x9000))
+        ],
+        [
+            (0x5000, fpage(0x6_50c5)),
+            (0x8000, fpage(0xc_80c7)),
+            (0, Fpage::Nil)
+        ]
+    );
+}
+
 /// The same words.
 fn copied_words(words: &ArrayVec<u32, MAX_WORDS>) -> ArrayVec<u32, MAX_WORDS>
     ensures { result ≡ words.now }
