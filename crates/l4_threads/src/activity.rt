@@ -6,12 +6,13 @@ ghost use Rattle.l4_msg.specs.Sizes.{max_words, max_items};
 ghost use Rattle.l4_threads.specs.Threads.{sending_of, message_of, is_running, is_sending};
 ghost use Rattle.l4_threads.specs.Activities.{last_reply, sending_in, receiving_in};
 ghost use Rattle.l4_threads.specs.Enabled.{expires};
+ghost use Rattle.l4_threads.specs.Endings.{wordless_reply};
 ghost use Rattle.l4_threads.specs.Inside.Ending.{frees, freed_reply};
 ghost use Rattle.l4_threads.specs.Inside.Entries.{is_receiving};
 ghost use Rattle.l4_threads.specs.declared.State.TheVariants.{Running, Sending as Sends, Receiving as Receives};
 ghost use Rattle.l4_threads.specs.declared.Reply.TheVariants.{Ipc};
 
-use crate::{Envelope, IpcReply, Receiving, Reply, SendPhase, Sending, Source, ThreadId};
+use crate::{Envelope, IpcReply, Receiving, Reply, SendPhase, Sending, Source, ThreadId, Wordless};
 use arrayvec::ArrayVec;
 use l4_fpage::Fpage;
 use l4_msg::Item;
@@ -222,6 +223,16 @@ impl Activity {
     {
         self.reply = reply;
         self.phase = Phase::Running;
+    }
+
+    /// The thread runs on, and its call replies this. The room of a reply is large, so where the last one was the same, nothing is written.
+    pub(crate) fn end(&mut self, ending: Wordless)
+        ensures { self.new ≡ Running (Some (wordless_reply ending)) }
+    {
+        self.phase = Phase::Running;
+        if !ending.is_same(&self.reply) {
+            self.reply = ending.reply();
+        }
     }
 
     /// The thread runs on, and its Ipc replies this.

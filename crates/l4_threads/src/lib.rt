@@ -56,6 +56,19 @@ pub enum Reply {
     Gone,
 }
 
+/// How a call ends whose reply has no words.
+#[derive(Clone, Copy, Debug, PartialEq, Eq)]
+pub enum Wordless {
+    /// A fault at a page that is there with the rights that the access needs.
+    Hit,
+    /// A fault that the pager answered.
+    Answered,
+    /// A fault that failed with this ErrorCode.
+    FaultFailed(u32),
+    Unmapped,
+    Controlled,
+}
+
 /// Whose messages a receive phase takes.
 #[derive(Clone, Copy, Debug, PartialEq, Eq)]
 pub enum Source {
@@ -258,6 +271,40 @@ impl Source {
         match self {
             Source::Anyone => true,
             Source::Thread(number) => number == sender,
+        }
+    }
+}
+
+impl Wordless {
+    ghost use Rattle.std.specs.Prelude.{◌≡◌, IsTrue};
+    ghost use Rattle.l4_threads.specs.Endings.{wordless_reply};
+
+    /// The reply.
+    fn reply(self) -> Reply
+        ensures { result ≡ wordless_reply self }
+    {
+        match self {
+            Wordless::Hit => Reply::Hit,
+            Wordless::Answered => Reply::Answered,
+            Wordless::FaultFailed(code) => Reply::FaultFailed(code),
+            Wordless::Unmapped => Reply::Unmapped,
+            Wordless::Controlled => Reply::Controlled,
+        }
+    }
+
+    /// Whether this reply is the same.
+    fn is_same(self, reply: &Reply) -> bool
+        ensures { IsTrue result → reply.now ≡ wordless_reply self }
+    {
+        match self {
+            Wordless::Hit => matches!(reply, Reply::Hit),
+            Wordless::Answered => matches!(reply, Reply::Answered),
+            Wordless::FaultFailed(code) => match reply {
+                Reply::FaultFailed(other) => *other == code,
+                _ => false,
+            },
+            Wordless::Unmapped => matches!(reply, Reply::Unmapped),
+            Wordless::Controlled => matches!(reply, Reply::Controlled),
         }
     }
 }

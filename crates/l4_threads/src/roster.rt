@@ -7,7 +7,7 @@ ghost use Rattle.l4_threads.specs.Inside.Numbers.{IsFirst, IsNowhere, hint_count
 ghost use Rattle.l4_threads.specs.Sizes.{max_threads};
 
 use crate::entries::free_all;
-use crate::{Envelope, MAX_THREADS, Receiving, Reply, SendPhase, Thread, ThreadId};
+use crate::{Envelope, MAX_THREADS, Receiving, Reply, SendPhase, Thread, ThreadId, Wordless};
 use arrayvec::ArrayVec;
 use l4_msg::Item;
 use std::marker::Model;
@@ -75,6 +75,7 @@ impl Roster {
     ghost use Rattle.l4_threads.specs.declared.Reply.TheVariants.{Ipc};
     ghost use Rattle.l4_msg.specs.Sizes.{max_words, max_items};
     ghost use Rattle.l4_threads.specs.Threads.{sending_of, message_of};
+    ghost use Rattle.l4_threads.specs.Endings.{wordless_reply};
 
     /// No thread.
     pub fn new() -> Roster
@@ -141,6 +142,16 @@ impl Roster {
     {
         if let Some(at) = self.place(number) {
             self.entries[at].1.state.run(reply);
+        }
+    }
+
+    /// The thread of this number runs on with this reply of its call.
+    pub fn end(&mut self, number: u32, ending: Wordless)
+        requires { found self.old number ≢ None }
+        ensures { self.new ≡ changed_in self.old number (in_state (Running (Some (wordless_reply ending)))) }
+    {
+        if let Some(at) = self.place(number) {
+            self.entries[at].1.state.end(ending);
         }
     }
 

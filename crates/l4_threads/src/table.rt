@@ -11,7 +11,7 @@ use crate::focus::Focus;
 use crate::roster::{Roster, keep_senders, leave_if_sending};
 use crate::{
     Activity, Deleted, Envelope, MAX_THREADS, Receiving, Reply, SendPhase, Sending, Thread,
-    ThreadFault, ThreadId,
+    ThreadFault, ThreadId, Wordless,
 };
 use arrayvec::ArrayVec;
 use l4_msg::Item;
@@ -72,6 +72,7 @@ fn offers(sends: Option<&Activity>, takes: Option<&Activity>, sender: u32, recei
 impl Threads {
     ghost use Rattle.l4_threads.specs.Threads.{thread_at, state_of, space_of, pager_of, named, number_of, runs, sends, may_receive, with_state, sending_of, message_of, start_send, start_receive, end_call, first_threads, IsConsistent, Before};
     ghost use Rattle.l4_threads.specs.declared.Reply.TheVariants.{Ipc};
+    ghost use Rattle.l4_threads.specs.Endings.{wordless_reply};
     ghost use Rattle.l4_threads.specs.Enabled.{Offers, IsFirstSender, IsNextTransfer, CanExpire, IsNextExpiry};
     ghost use Rattle.l4_threads.specs.Inside.Taker.{taker, TakesPart};
     ghost use Rattle.l4_threads.specs.Inside.Transfers.{AreTransfers};
@@ -380,6 +381,16 @@ impl Threads {
     {
         leave_if_sending(&mut self.queue, &self.threads, number);
         self.threads.run(number, reply);
+        self.focus = self.focus.with_running(number);
+    }
+
+    /// The call of a thread ends with this reply, whatever the thread does. It is in the queue no longer.
+    pub fn end_wordless(&mut self, number: u32, ending: Wordless)
+        requires { IsSome (state_of self.old number) }
+        ensures { self.new ≡ end_call self.old number (wordless_reply ending) }
+    {
+        leave_if_sending(&mut self.queue, &self.threads, number);
+        self.threads.end(number, ending);
         self.focus = self.focus.with_running(number);
     }
 
