@@ -10,3 +10,4 @@ pub mod ControlLemmas
 pub mod DeleteLemmas
 pub mod FocusLemmas
 pub mod ActingLemmas
+pub mod PassingLemmas

@@ -2,6 +2,7 @@ pub mod Activities
 pub mod Ending
 pub mod Entries
 pub mod Numbers
+pub mod Passing
 pub mod Focused
 pub mod Kept
 pub mod Taker

@@ -1,6 +1,6 @@
 //! What threads are doing, in places that stay. A message has room for 64 words and 31 items, and a state that is written as one value
 //! would clear or copy all of that room; here only what is said is written.
-ghost use Rattle.std.specs.Prelude.{◌≡◌, ◌≤◌, length, Some, None};
+ghost use Rattle.std.specs.Prelude.{◌≡◌, ◌≤◌, length, drop, Some, None};
 ghost use Rattle.std.specs.Option.{option_copied};
 ghost use Rattle.l4_msg.specs.Sizes.{max_words, max_items};
 ghost use Rattle.l4_threads.specs.Threads.{sending_of, message_of, is_running, is_sending};
@@ -11,6 +11,7 @@ ghost use Rattle.l4_threads.specs.Inside.Ending.{frees, freed_reply};
 ghost use Rattle.l4_threads.specs.Inside.Entries.{is_receiving};
 ghost use Rattle.l4_threads.specs.declared.State.TheVariants.{Running, Sending as Sends, Receiving as Receives};
 ghost use Rattle.l4_threads.specs.declared.Reply.TheVariants.{Ipc};
+ghost use Rattle.l4_threads.specs.declared.Sending.{Sending as ASending};
 
 use crate::{Envelope, IpcReply, Receiving, Reply, SendPhase, Sending, Source, ThreadId, Wordless};
 use arrayvec::ArrayVec;
@@ -242,6 +243,25 @@ impl Activity {
     {
         self.phase = Phase::Running;
         write_reply(&mut self.reply, envelope, words);
+    }
+
+    /// The thread runs on, and its Ipc replies the words that the other thread sends behind their tag.
+    pub(crate) fn take(&mut self, from: &Activity, envelope: Envelope)
+        ensures { (sending : ASending) → sending_in from.now ≡ Some sending → self.new ≡ Running (Some (Ipc (message_of envelope (drop 1 sending.words.items)))) }
+    {
+        if let Some(sending) = from.sending() {
+            self.answer(envelope, behind_tag(sending.words.as_slice()));
+        }
+    }
+}
+
+/// A message's words behind its tag.
+fn behind_tag(words: &[u32]) -> &[u32]
+    ensures { result.now ≡ drop 1 words.now }
+{
+    match words {
+        [] => words,
+        [_, rest @ ..] => rest,
     }
 }
 

@@ -1,13 +1,14 @@
 //! Lists of threads with their numbers, and of numbers.
-ghost use Rattle.std.specs.Prelude.{◌≡◌, nat_lt, if◌then◌else◌, length, insert, ◌+◌, ◌<◌, ◌≤◌, []};
+ghost use Rattle.std.specs.Prelude.{◌≡◌, ◌≢◌, nat_lt, if◌then◌else◌, length, insert, ◌+◌, ◌<◌, ◌≤◌, []};
 ghost use Rattle.arrayvec.specs.ArrayVec.{array_vec_len};
 ghost use Rattle.std.specs.Option.{option_map_or};
 ghost use Rattle.l4_threads.specs.Inside.Entries.{freed_in, ends_with, ended_in, rising_with, has_space, is_receiving, any_state};
 ghost use Rattle.l4_threads.specs.Inside.Transfers.{sender_to, with_transfer, expires_beside};
 ghost use Rattle.l4_threads.specs.Enabled.{expires};
 ghost use Rattle.l4_threads.specs.Sizes.{max_threads};
+ghost use Rattle.l4_threads.specs.Inside.Passing.{HandsOver};
 
-use crate::{MAX_THREADS, Thread};
+use crate::{Envelope, MAX_THREADS, Thread};
 use arrayvec::ArrayVec;
 
 /// The number, or the one that there was if that is less.
@@ -105,6 +106,22 @@ pub fn free_all(entries: &mut [(u32, Thread)], victim: u32)
             let reply = entries[i].1.state.reply_without_partner();
             entries[i].1.state.run(reply);
         }
+    }
+}
+
+/// The Ipc of the thread at one place replies what the thread at the other sends.
+pub fn hand_over(entries: &mut [(u32, Thread)], from: usize, at: usize, envelope: Envelope)
+    requires from { from < length entries.old }
+    requires at { at < length entries.old }
+    requires other { from ≢ at }
+    ensures { HandsOver entries.old from at envelope entries.new }
+{
+    if from < at {
+        let (low, high) = entries.split_at_mut(at);
+        high[0].1.state.take(&low[from].1.state, envelope);
+    } else {
+        let (low, high) = entries.split_at_mut(from);
+        low[at].1.state.take(&high[0].1.state, envelope);
     }
 }
 

@@ -1,12 +1,12 @@
 //! The threads with their numbers, in the order of their creation. A thread is found among the numbers alone.
-ghost use Rattle.std.specs.Prelude.{◌≡◌, ◌≢◌, ◌==◌, ◌++◌, ◌∷◌, ◌<◌, ◌≤◌, [], length, filter, not, MatchOption, IfSome, Some, None};
+ghost use Rattle.std.specs.Prelude.{IsTrue, ◌≡◌, ◌≢◌, ◌==◌, ◌++◌, ◌∷◌, ◌<◌, ◌≤◌, [], length, filter, not, MatchOption, IfSome, Some, None};
 ghost use Rattle.std.specs.Option.{option_copied};
 ghost use Rattle.l4_threads.specs.Inside.Entries.{sends_in};
 ghost use Rattle.l4_threads.specs.Queue.{is_in, IsOnce};
 ghost use Rattle.l4_threads.specs.Inside.Numbers.{IsFirst, IsNowhere, hint_count};
 ghost use Rattle.l4_threads.specs.Sizes.{max_threads};
 
-use crate::entries::free_all;
+use crate::entries::{free_all, hand_over};
 use crate::{Envelope, MAX_THREADS, Receiving, Reply, SendPhase, Thread, ThreadId, Wordless};
 use arrayvec::ArrayVec;
 use l4_msg::Item;
@@ -76,6 +76,7 @@ impl Roster {
     ghost use Rattle.l4_msg.specs.Sizes.{max_words, max_items};
     ghost use Rattle.l4_threads.specs.Threads.{sending_of, message_of};
     ghost use Rattle.l4_threads.specs.Endings.{wordless_reply};
+    ghost use Rattle.l4_threads.specs.Inside.Passing.{Passes};
 
     /// No thread.
     pub fn new() -> Roster
@@ -164,6 +165,22 @@ impl Roster {
         if let Some(at) = self.place(number) {
             self.entries[at].1.state.answer(envelope, words);
         }
+    }
+
+    /// The thread of the one number runs on, and its Ipc replies what the other thread sends.
+    pub fn pass(&mut self, sender: u32, receiver: u32, envelope: Envelope)
+        requires there { found self.old receiver ≢ None }
+        requires sends { IsTrue (sends_in self.old sender) }
+        requires other { sender ≢ receiver }
+        ensures { Passes self.old sender receiver envelope self.new }
+    {
+        let Some(from) = self.place(sender) else {
+            return;
+        };
+        let Some(at) = self.place(receiver) else {
+            return;
+        };
+        hand_over(self.entries.as_mut_slice(), from, at, envelope);
     }
 
     /// The thread of this number sends.

@@ -1,5 +1,5 @@
 //! The table of threads, and the queue of senders.
-ghost use Rattle.std.specs.Prelude.{◌≡◌, ◌≤◌, ◌↔◌, ◌++◌, length, ◌∷◌, [], ℕ, IsTrue, IsSome, IfOk, OnErr, MatchOption, MatchResult, Some, None, Ok, Err, filter, not, ◌==◌};
+ghost use Rattle.std.specs.Prelude.{◌≡◌, ◌≤◌, ◌↔◌, ◌++◌, length, drop, ◌∷◌, [], ℕ, IsTrue, IsSome, IfOk, OnErr, MatchOption, MatchResult, Some, None, Ok, Err, filter, not, ◌==◌};
 ghost use Rattle.std.specs.Option.{option_copied};
 ghost use Rattle.std.specs.FinSet as set;
 ghost use Rattle.std.specs.List.Sorted.{IsStrictlyIncreasing};
@@ -72,6 +72,8 @@ fn offers(sends: Option<&Activity>, takes: Option<&Activity>, sender: u32, recei
 impl Threads {
     ghost use Rattle.l4_threads.specs.Threads.{thread_at, state_of, space_of, pager_of, named, number_of, runs, sends, may_receive, with_state, sending_of, message_of, start_send, start_receive, end_call, first_threads, IsConsistent, Before};
     ghost use Rattle.l4_threads.specs.declared.Reply.TheVariants.{Ipc};
+    ghost use Rattle.l4_threads.specs.declared.Sending.{Sending as ASending};
+    ghost use Rattle.l4_threads.specs.declared.State.TheVariants.{Sending as Sends};
     ghost use Rattle.l4_threads.specs.Endings.{wordless_reply};
     ghost use Rattle.l4_threads.specs.Enabled.{Offers, IsFirstSender, IsNextTransfer, CanExpire, IsNextExpiry};
     ghost use Rattle.l4_threads.specs.Inside.Taker.{taker, TakesPart};
@@ -403,6 +405,17 @@ impl Threads {
         leave_if_sending(&mut self.queue, &self.threads, number);
         self.threads.reply(number, envelope, words);
         self.focus = self.focus.with_running(number);
+    }
+
+    /// An Ipc of the receiver ends with what the sender sends to it: the words behind their tag. The transfer is enabled, and the sender
+    /// sends still.
+    pub fn pass_message(&mut self, sender: u32, receiver: u32, envelope: Envelope)
+        requires { IsFirstSender self.old receiver sender }
+        ensures { (sending : ASending) → state_of self.old sender ≡ Some (Sends sending)
+            → self.new ≡ end_call self.old receiver (Ipc (message_of envelope (drop 1 sending.words.items))) }
+    {
+        self.threads.pass(sender, receiver, envelope);
+        self.focus = self.focus.with_running(receiver);
     }
 
     /// Whether the caller is in the root space.
