@@ -95,6 +95,10 @@ can_go_on t threads n (Some later) fault there may =
       ]
     ]
 
+-- what the sender of a transfer does
+pub sends_in_transfer : (t : Threads) (sender receiver : ℕ) («from» to : Thread) (sends : Sending) (takes : Receiving) → Meets t sender receiver «from» to sends takes → state_of t sender ≡ Some (IsSender sends)
+sends_in_transfer t sender receiver «from» to sends takes meets = ap (option_map (λ (x : Thread). x.state)) meets.from_at ∙ ap Some meets.from_state
+
 -- the sender of a transfer can do what comes next once the receiver's call has ended
 pub can_enter_after : (t after : Threads) (sender receiver : ℕ) («from» to : Thread) (sends : Sending) (takes : Receiving) → Meets t sender receiver «from» to sends takes
     → (done : Bool) (reply : Reply) (next : Next) → after ≡ end_call t receiver reply → next ≡ sender_next done t sends → CanEnter after sender next

@@ -24,7 +24,7 @@ ghost use Rattle.l4_ipc.specs.declared.calls.Control.TheVariants.{Create as Crea
 use crate::calls::{Call, Control, Create, FaultCall, IpcCall, SetPager, UnmapCall};
 use crate::deleting::delete;
 use crate::delivering::{
-    deliver, end_receiver, is_done, meet, receiver_ending, sender_turn, tag_and_rest,
+    deliver, end_receiver, is_done, meet, receiver_ending, sender_turn, tag_of,
 };
 use crate::faulting::enter_fault;
 use crate::starting::{end, enter, going_on, partner};
@@ -32,8 +32,8 @@ use crate::steps::{Answer, Lower, Outcome, Refused};
 use crate::turns::Ending;
 use arrayvec::ArrayVec;
 use l4_mapdb::{Forest, NoMemory};
-use l4_msg::{Item, MAX_WORDS, Message, Tag};
-use l4_threads::{Activity, Envelope, MAX_THREADS, Reply, SendPhase, ThreadId, Threads};
+use l4_msg::{Item, Message, Tag};
+use l4_threads::{Activity, Envelope, MAX_THREADS, SendPhase, ThreadId, Threads, Wordless};
 use l4_unmap::unmap;
 
 /// The typed words of a message with one item.
@@ -215,7 +215,7 @@ fn start_unmap(
     if let Err(fault) = unmap(forest, space, call.control, call.words.as_slice()) {
         return Err(Refused::Lower(Lower::Unmap(fault)));
     }
-    threads.end_call(number, Reply::Unmapped);
+    threads.end_wordless(number, Wordless::Unmapped);
     Ok(true)
 }
 
@@ -224,7 +224,7 @@ fn controlled(threads: &mut Threads, number: u32)
     requires { IsSome (state_of threads.old number) }
     ensures { threads.new ≡ end_call threads.old number Controlled }
 {
-    threads.end_call(number, Reply::Controlled);
+    threads.end_wordless(number, Wordless::Controlled);
 }
 
 /// Begins the space of a new thread, where the thread isn't put in the space of another.
@@ -380,7 +380,6 @@ pub fn carry_over(
     requires enabled { IsFirstSender threads.old receiver sender }
     ensures { Steps (machine threads.old forest.old) (Transfers sender receiver) (Ok (transfer_answer sender receiver result.0 result.1)) (machine threads.new forest.new) }
 {
-    let mut words: ArrayVec<u32, MAX_WORDS> = ArrayVec::new();
     let Some(meeting) = meet(threads, sender, receiver) else {
         unreachable!()
     };
@@ -393,16 +392,14 @@ pub fn carry_over(
         &meeting.takes.window,
     );
     let done = is_done(outcome);
-    let (tag, rest) = tag_and_rest(meeting.sends.words.as_slice());
-    let _ = words.try_extend_from_slice(rest);
     let envelope = Envelope {
-        tag,
+        tag: tag_of(meeting.sends.words.as_slice()),
         error: 0,
         from: meeting.from.id,
     };
     let ending = receiver_ending(done, meeting.takes);
     let turn = sender_turn(done, threads, meeting.sends);
-    end_receiver(threads, receiver, ending, envelope, words.as_slice());
+    end_receiver(threads, sender, receiver, ending, envelope);
     let ends = enter(threads, sender, turn);
     (outcome, ends)
 }

@@ -12,7 +12,7 @@ ghost use Rattle.l4_ipc.specs.declared.calls.Control.TheVariants.{Delete as Dele
 use crate::steps::{Answer, Lower, Outcome, Refused};
 use arrayvec::ArrayVec;
 use l4_mapdb::Forest;
-use l4_threads::{MAX_THREADS, Reply, ThreadId, Threads};
+use l4_threads::{MAX_THREADS, ThreadId, Threads, Wordless};
 
 /// Ends the space of a deleted thread, where it was the last one there.
 fn end_space(forest: &mut Forest, space: Option<u64>)
@@ -49,7 +49,7 @@ pub fn delete(
         Err(fault) => return Err(Refused::Lower(Lower::Thread(fault))),
     };
     end_space(forest, deleted.space);
-    threads.end_call(number, Reply::Controlled);
+    threads.end_wordless(number, Wordless::Controlled);
     Ok(Answer {
         outcome: Outcome::Started,
         ended: caller_first(number, deleted.ended),

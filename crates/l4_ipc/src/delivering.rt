@@ -1,9 +1,9 @@
 //! Transfers: what a message's items do, and what its two threads do next.
-ghost use Rattle.std.specs.Prelude.{◌≡◌, ◌≢◌, ◌≤◌, ◌↔◌, List, [], length, drop, slice_index, IsTrue, IsSome, MatchOption};
+ghost use Rattle.std.specs.Prelude.{◌≡◌, ◌≢◌, ◌≤◌, ◌↔◌, List, [], length, drop, slice_index, IsTrue, IsSome, MatchOption, Some};
 ghost use Rattle.std.specs.List.{AllZip};
 ghost use Rattle.std.specs.FinSet as set;
 ghost use Rattle.l4_fpage.specs.declared.fpages.Fpage.TheVariants.{Nil as NilFpage};
-ghost use Rattle.l4_msg.specs.Sizes.{max_words, max_items};
+ghost use Rattle.l4_msg.specs.Sizes.{max_items};
 ghost use Rattle.l4_threads.specs.Enabled.{IsFirstSender};
 ghost use Rattle.l4_ipc.specs.Moving.{Moves};
 ghost use Rattle.l4_ipc.specs.Inside.Delivering.{IsListed, outcome_of};
@@ -11,6 +11,7 @@ ghost use Rattle.l4_ipc.specs.Inside.Turns.{reply_or, next_of, message_reply};
 ghost use Rattle.l4_ipc.specs.Steps.{Meets, receiver_reply, sender_next, is_done};
 ghost use Rattle.l4_threads.specs.Threads.{state_of, end_call, message_of};
 ghost use Rattle.l4_threads.specs.declared.Reply.TheVariants.{Ipc};
+ghost use Rattle.l4_threads.specs.declared.State.TheVariants.{Sending as Sends};
 ghost use Rattle.l4_fpage.specs.declared.fpages.Fpage.{Fpage as AnFpage};
 ghost use Rattle.l4_msg.specs.declared.items.Item.{Item as AnItem};
 ghost use Rattle.l4_threads.specs.declared.Sending.{Sending as ASending};
@@ -58,14 +59,13 @@ pub fn is_done(outcome: Outcome) -> bool
     outcome == Outcome::Done
 }
 
-/// The tag of a message's words, and those after it.
-pub fn tag_and_rest(words: &[u32]) -> (u32, &[u32])
-    ensures tag { result.0 ≡ slice_index words.now 0 }
-    ensures rest { result.1.now ≡ drop 1 words.now }
+/// The tag of a message's words.
+pub fn tag_of(words: &[u32]) -> u32
+    ensures { result ≡ slice_index words.now 0 }
 {
     match words {
-        [] => (0, words),
-        [tag, rest @ ..] => (*tag, rest),
+        [] => 0,
+        [tag, ..] => *tag,
     }
 }
 
@@ -82,21 +82,22 @@ pub fn receiver_ending(done: bool, takes: &Receiving) -> Option<Ending>
     None
 }
 
-/// The receiver's call ends, and where nothing else is said with these words.
+/// The receiver's call ends, and where nothing else is said with what the sender sends to it.
 pub fn end_receiver(
     threads: &mut Threads,
+    sender: u32,
     receiver: u32,
     ending: Option<Ending>,
     envelope: Envelope,
-    words: &[u32],
 )
     requires there { IsSome (state_of threads.old receiver) }
-    requires words { length words.now ≤ max_words }
-    ensures { threads.new ≡ end_call threads.old receiver (reply_or ending (Ipc (message_of envelope words.now))) }
+    requires enabled { IsFirstSender threads.old receiver sender }
+    ensures { (sends : ASending) → state_of threads.old sender ≡ Some (Sends sends)
+        → threads.new ≡ end_call threads.old receiver (reply_or ending (Ipc (message_of envelope (drop 1 sends.words.items)))) }
 {
     match ending {
         Some(ending) => end(threads, receiver, ending),
-        None => threads.end_ipc(receiver, envelope, words),
+        None => threads.pass_message(sender, receiver, envelope),
     }
 }
 

@@ -8,7 +8,7 @@ ghost use Rattle.l4_ipc.specs.Inside.Turns.{reply_of, next_of};
 ghost use Rattle.l4_ipc.specs.OwnCall.{ended_if};
 
 use crate::turns::{Ending, Turn};
-use l4_threads::{Envelope, Later, Receiving, Reply, Source, ThreadId, Threads};
+use l4_threads::{Envelope, Later, Receiving, Source, ThreadId, Threads, Wordless};
 
 /// The tag of an Ipc that failed.
 const ERROR_TAG: u32 = 0x8000;
@@ -78,9 +78,9 @@ pub fn end(threads: &mut Threads, number: u32, ending: Ending)
     match ending {
         Ending::Plain => end_bare(threads, number, 0, 0),
         Ending::Failed(false, code) => end_bare(threads, number, ERROR_TAG, code),
-        Ending::Failed(true, code) => threads.end_call(number, Reply::FaultFailed(code)),
-        Ending::Answered => threads.end_call(number, Reply::Answered),
-        Ending::Hit => threads.end_call(number, Reply::Hit),
+        Ending::Failed(true, code) => threads.end_wordless(number, Wordless::FaultFailed(code)),
+        Ending::Answered => threads.end_wordless(number, Wordless::Answered),
+        Ending::Hit => threads.end_wordless(number, Wordless::Hit),
     }
 }
 
