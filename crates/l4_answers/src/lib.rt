@@ -6,6 +6,6 @@ mod pages;
 mod refusals;
 mod replies;
 
-pub use pages::{add_page, add_page_line, add_place, parent_text, shown_text};
+pub use pages::{add_page, add_place, parent_text, put_page, shown_text};
 pub use refusals::{Code, add_code, add_refused, refused_code};
 pub use replies::{expire_text, put_reply, put_transfer, put_waits};

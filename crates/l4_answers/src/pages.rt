@@ -1,12 +1,14 @@
 //! The texts of pages, of their rights and of their parents.
 ghost use Rattle.std.specs.Prelude.{◌≡◌, ◌≤◌, ◌+◌, ◌++◌, length};
 ghost use Rattle.l4_answers.specs.Pages.{rights_text, page_words, page_text, shown_text, place_or_none, parent_text};
-ghost use Rattle.l4_text.specs.Sizes.{text_bytes};
+ghost use Rattle.l4_text.specs.Streams.{Tells};
+ghost use Rattle.l4_text.specs.Sizes.{text_bytes, held_bytes};
 
 use crate::lines::number_line;
 use l4_fpage::Rights;
 use l4_mapdb::{Mapping, Place};
-use l4_text::Text;
+use l4_text::{Output, Text};
+use std::io::Write;
 
 /// The letters of the rights, and dashes in the place of those that are not there.
 pub fn letters(rights: Rights) -> [u8; 3]
@@ -35,13 +37,25 @@ pub fn add_page(text: &mut Text, page: u32, mapping: &Mapping)
     text.add(letters.as_slice());
 }
 
-/// Adds `page P frame F RIGHTS`, and ends the line.
-pub fn add_page_line(text: &mut Text, page: u32, mapping: &Mapping)
-    requires { length text.old + 61 ≤ text_bytes }
-    ensures { text.new ≡ text.old ++ page_text page mapping.now }
+/// Adds `page P frame F RIGHTS` to what is held back, and ends the line.
+fn add_page_line(out: &mut Output, page: u32, mapping: &Mapping)
+    requires { length out.old.0 + 61 ≤ held_bytes }
+    ensures { out.new ≡ (out.old.0 ++ page_text page mapping.now, out.old.1) }
 {
-    add_page(text, page, mapping);
-    text.push(b'\n');
+    out.add(b"page ");
+    out.add_number(u64::from(page));
+    out.add(b" frame ");
+    out.add_number(u64::from(mapping.frame));
+    let [read, write, execute] = letters(mapping.rights);
+    out.add(&[b' ', read, write, execute, b'\n']);
+}
+
+/// Tells `page P frame F RIGHTS`.
+pub fn put_page<W: Write>(page: u32, mapping: &Mapping, out: &mut Output, writer: &mut W)
+    ensures { Tells (W.contents writer.old) (W.contents writer.new) out.old out.new (page_text page mapping.now) }
+{
+    out.make_room(writer);
+    add_page_line(out, page, mapping);
 }
 
 /// `shown K`

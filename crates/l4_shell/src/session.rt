@@ -18,7 +18,7 @@ use crate::requests::{CallPlaces, LentCall, ROOT, Request, delete_call, put_send
 use crate::serving::{enter_call, follow};
 use crate::texts::{region_text, steps_text};
 use arrayvec::ArrayVec;
-use l4_answers::{Code, add_page_line, add_refused, parent_text, refused_code, shown_text};
+use l4_answers::{Code, add_refused, parent_text, put_page, refused_code, shown_text};
 use l4_ipc::{Call, Kernel, Refused, SPACE_PAGES};
 use l4_msg::{MAX_WORDS, Region};
 use l4_pager::{Entry, wait};
@@ -252,9 +252,7 @@ fn tell_page<W: Write>(kernel: &Kernel, space: u64, page: u32, out: &mut Output,
         (place_text kernel.now space page) }
 {
     if let Some(mapping) = kernel.mapping(space, page) {
-        let mut text = Text::new();
-        add_page_line(&mut text, page, &mapping);
-        out.put(writer, &text);
+        put_page(page, &mapping, out, writer);
     }
 }
 
