@@ -58,19 +58,18 @@ has_neighbours slots ks key node order at =
     }
 
 -- what a write makes of a link
-next_set : (o : Option Node) (next : Option ℕ) (y : Link) → option_map link_of o ≡ Some y → option_map link_of (option_map (λ (n : Node). record n { next = next }) o) ≡ Some (record y { next = next })
-next_set None next y e = absurd (let w : ◌≡◌ {A = Option Link} None (Some y) = e in cc)
-next_set (Some n) next y e =
+link_set : (change : Node → Node) (changed : Link → Link) → ((n : Node) → link_of (change n) ≡ changed (link_of n)) → (o : Option Node) (y : Link) → option_map link_of o ≡ Some y → option_map link_of (option_map change o) ≡ Some (changed y)
+link_set change changed is None y e = absurd (let w : ◌≡◌ {A = Option Link} None (Some y) = e in cc)
+link_set change changed is (Some n) y e =
     let w : ◌≡◌ {A = Option Link} (Some (link_of n)) (Some y) = e in
     let f : link_of n ≡ y = cc in
-    ap (λ (z : Link). Some (record z { next = next })) f
+    ap (λ (z : Link). Some z) (is n ∙ ap changed f)
 
-prev_set : (o : Option Node) (prev : Option ℕ) (y : Link) → option_map link_of o ≡ Some y → option_map link_of (option_map (λ (n : Node). record n { prev = prev }) o) ≡ Some (record y { prev = prev })
-prev_set None prev y e = absurd (let w : ◌≡◌ {A = Option Link} None (Some y) = e in cc)
-prev_set (Some n) prev y e =
-    let w : ◌≡◌ {A = Option Link} (Some (link_of n)) (Some y) = e in
-    let f : link_of n ≡ y = cc in
-    ap (λ (z : Link). Some (record z { prev = prev })) f
+next_set : (o : Option Node) (next : Option ℕ) (y : Link) → option_map link_of o ≡ Some y → option_map link_of (option_map (λ (n : Node). record n { next = next }) o) ≡ Some (record y { next = next })
+next_set o next = link_set (λ (n : Node). record n { next = next }) (λ (z : Link). record z { next = next }) (λ n. refl) o
+
+pub prev_set : (o : Option Node) (prev : Option ℕ) (y : Link) → option_map link_of o ≡ Some y → option_map link_of (option_map (λ (n : Node). record n { prev = prev }) o) ≡ Some (record y { prev = prev })
+prev_set o prev = link_set (λ (n : Node). record n { prev = prev }) (λ (z : Link). record z { prev = prev }) (λ n. refl) o
 
 -- a key that was taken out, and its neighbours' links written
 pub taken_out : (a b c d : Slots) (ks : List ℕ) (key : ℕ) (node : Node) → IsOrder a ks → node_at a key ≡ Some node → node_at b key ≡ None → ((o : ℕ) → o ≢ key → node_at b o ≡ node_at a o)

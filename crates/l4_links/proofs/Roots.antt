@@ -8,7 +8,7 @@ use Rattle.l4_links.specs.Inside.Orders.{Link, IsIn, IsOnce, IsLinked, first_of,
 use Rattle.l4_links.specs.Inside.Nodes.{Slots, slot_at, node_at, limbs, links, IsForest, Writes, SetsNext, SetsPrev}
 use Rattle.l4_links.proofs.Linking.{linked_same}
 use Rattle.l4_links.proofs.Positions.{position_here, position_further}
-use Rattle.l4_links.proofs.Neighbours.{not_in_list, some_from, map_prev}
+use Rattle.l4_links.proofs.Neighbours.{not_in_list, some_from, map_prev, prev_set}
 
 abbrev limb_of : Node → Limb
 limb_of n = record { parent = n.parent; depth = n.depth }
@@ -107,13 +107,6 @@ forest_root a b d key node first ks forest first_is slot blank w g prev_is next_
     in_first : (ks : List ℕ) (k : ℕ) → first_of ks None ≡ Some k → IsIn ks k
     in_first [] k e = absurd (let w : ◌≡◌ {A = Option ℕ} None (Some k) = e in cc)
     in_first (x ∷ xs) k e = inl (let w : ◌≡◌ {A = Option ℕ} (Some x) (Some k) = e in cc)
-
-    prev_set : (o : Option Node) (prev : Option ℕ) (y : Link) → option_map link_of o ≡ Some y → option_map link_of (option_map (λ (n : Node). record n { prev = prev }) o) ≡ Some (record y { prev = prev })
-    prev_set None prev y e = absurd (let w : ◌≡◌ {A = Option Link} None (Some y) = e in cc)
-    prev_set (Some n) prev y e =
-        let w : ◌≡◌ {A = Option Link} (Some (link_of n)) (Some y) = e in
-        let f : link_of n ≡ y = cc in
-        ap (λ (z : Link). Some (record z { prev = prev })) f
 
 pub rises : (a b d : Slots) (key : ℕ) (node : Node) (first : Option ℕ) → slot_at a key ≢ None → node_at a key ≡ None → Writes key (Some node) a b → SetsPrev first (Some key) b d → node.parent ≡ None → node.depth ≡ 0 → Rises (limbs a) (limbs d) key
 rises a b d key node first slot blank w g parent_is depth_is = record {
