@@ -49,15 +49,6 @@ impl<'a> Model for Words<'a> {
 }
 
 impl<'a> Words<'a> {
-    ghost use Rattle.std.specs.Prelude.{[]};
-
-    /// No words.
-    pub(crate) fn none() -> Words<'static>
-        ensures { result ≡ [] }
-    {
-        Words { words: &[] }
-    }
-
     /// The words that these registers hold.
     pub(crate) fn of(registers: &'a ArrayVec<u32, MAX_WORDS>) -> Words<'a>
         ensures { result ≡ registers.now.items }
