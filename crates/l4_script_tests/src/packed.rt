@@ -1,12 +1,16 @@
+ghost use Rattle.std.specs.Prelude.{◌≡◌, length, Some, true};
+
 use arrayvec::ArrayVec;
 use l4_ipc::{
-    Answer, Call, Control, Create, FaultCall, IpcCall, IpcReply, MAX_WORDS, Outcome, Reply, Rights,
-    SetPager, Step, ThreadId, UnmapCall,
+    Answer, Call, Control, Create, FaultCall, IpcCall, IpcReply, MAX_WORDS, NextStep, Outcome,
+    Reply, Rights, SetPager, Step, ThreadId, UnmapCall,
 };
 use l4_packed::{
-    Record, Records, StepOutline, Words, put_answer, put_reply, put_span, put_step, read_answer,
-    read_outline, read_reply, read_span, read_step, read_word,
+    FromWords, PackedList, Record, Records, StepOutline, Words, push_next, push_own_start,
+    put_answer, put_reply, put_span, put_step, read_answer, read_outline, read_reply, read_span,
+    read_step, read_word,
 };
+use std::alloc::AllocError;
 use std::process::Abort;
 use std::test::Fail;
 
@@ -207,5 +211,113 @@ fn a_refused_growth_leaves_what_is_stored(rt: HostRuntime) -> Result<(), Fail> {
     record.clear();
     records.push(&record.words());
     assert!(rt; records.len() == 2);
+    Ok(())
+}
+
+/// Whether these are the words.
+fn are_words(found: Option<Words<'_>>, words: &[u32]) -> bool {
+    let Some(mut rest) = found else {
+        return false;
+    };
+    for word in words {
+        let Some((first, after)) = read_word(rest) else {
+            return false;
+        };
+        if first != *word {
+            return false;
+        }
+        rest = after;
+    }
+    read_word(rest).is_none()
+}
+
+/// The words 0xffff_ffff and 9.
+fn two_words() -> Record
+    ensures { length result.items ≡ 2 }
+{
+    let mut out = Record::new();
+    out.push(0xffff_ffff);
+    out.push(9);
+    out
+}
+
+#[test]
+fn records_are_pushed_in_parts(rt: HostRuntime) -> Result<(), Fail> {
+    let mut records = Records::new(rt.alloc());
+    records.reserve(3)?;
+    let tail = two_words();
+    records.push_parts(&[7, 0], &tail.words());
+    // a first word that takes several bytes
+    records.push_parts(&[0x1_0000, 1], &tail.words());
+    records.push_parts(&[5], &Words::none());
+    assert!(rt; are_words(records.get(0), &[7, 0, 0xffff_ffff, 9]));
+    assert!(rt; are_words(records.get(1), &[0x1_0000, 1, 0xffff_ffff, 9]));
+    assert!(rt; are_words(records.get(2), &[5]));
+    Ok(())
+}
+
+/// What any words are read as: only how they are stored is asked for.
+#[derive(Drop)]
+struct Anything {
+    is_read: bool,
+}
+
+impl FromWords for Anything {
+    ghost item_at = { λ _. Some (record { is_read = true }) };
+
+    fn from_words(_words: Words<'_>) -> Option<Anything> {
+        Some(Anything { is_read: true })
+    }
+}
+
+/// Pushes the start of a call of two words by this thread, for which room is made.
+fn push_start(list: &mut PackedList<Anything>, thread: u32, ended: bool) -> Result<(), AllocError> {
+    let call = two_words();
+    list.reserve(1)?;
+    push_own_start(list, thread, &call.words(), ended);
+    Ok(())
+}
+
+/// Pushes a step that came next, for which room is made.
+fn push_one(
+    list: &mut PackedList<Anything>,
+    number: u32,
+    next: NextStep,
+) -> Result<(), AllocError> {
+    list.reserve(1)?;
+    push_next(list, number, next);
+    Ok(())
+}
+
+/// An item is a number, an answer and a step. A start that ended its call has the outcome 0 and the one thread that ended, then the
+/// step's variant 0, the thread and the call.
+#[test]
+fn starts_are_pushed(rt: HostRuntime) -> Result<(), Fail> {
+    let mut list = PackedList::new(rt.alloc());
+    push_start(&mut list, 3, true)?;
+    push_start(&mut list, 0x1_0003, false)?;
+    assert!(rt; are_words(list.words(0), &[3, 6, 3, 0, 3, 0xffff_ffff, 9]));
+    assert!(rt; are_words(list.words(1), &[0x1_0003, 0, 0, 0x1_0003, 0xffff_ffff, 9]));
+    Ok(())
+}
+
+/// The first word of an answer is the outcome's number, and 6 for each thread whose call ended.
+#[test]
+fn steps_that_came_next_are_pushed(rt: HostRuntime) -> Result<(), Fail> {
+    let mut list = PackedList::new(rt.alloc());
+    push_one(
+        &mut list,
+        2,
+        NextStep::Transfer(2, 300, Outcome::Done, true),
+    )?;
+    push_one(
+        &mut list,
+        2,
+        NextStep::Transfer(4, 3, Outcome::NoMemory, false),
+    )?;
+    push_one(&mut list, 2, NextStep::Expire(7))?;
+    assert!(rt; are_words(list.words(0), &[2, 13, 2, 300, 1, 2, 300]));
+    assert!(rt; are_words(list.words(1), &[2, 10, 3, 1, 4, 3]));
+    assert!(rt; are_words(list.words(2), &[2, 11, 7, 2, 7]));
     Ok(())
 }
