@@ -75,11 +75,11 @@ node_within slots k n at = elim (cases_lt k (length slots)) [
 pub order_fits : (slots : Slots) (ks : List ℕ) → IsOrder slots ks → length ks ≤ length slots
 order_fits slots ks order = once_fits (length slots) ks order.once (λ k i. let n = in_list slots ks order k i in node_within slots k n.0 n.1)
 
-once_rest : (xs : List ℕ) (k : ℕ) (ys : List ℕ) → IsOnce (xs ++ k ∷ ys) → IsOnce ys
+pub once_rest : (xs : List ℕ) (k : ℕ) (ys : List ℕ) → IsOnce (xs ++ k ∷ ys) → IsOnce ys
 once_rest [] k ys once = once.1
 once_rest (x ∷ xs) k ys once = once_rest xs k ys once.1
 
-once_disjoint : (xs ys : List ℕ) (k : ℕ) → IsOnce (xs ++ ys) → IsIn xs k → ¬ (IsIn ys k)
+pub once_disjoint : (xs ys : List ℕ) (k : ℕ) → IsOnce (xs ++ ys) → IsIn xs k → ¬ (IsIn ys k)
 once_disjoint [] ys k once i j = i
 once_disjoint (x ∷ xs) ys k once i j = elim i [
   | inl e ↦ once.0 (in_right xs ys x (subst (λ (z : ℕ). IsIn ys z) (sym e) j))
@@ -140,7 +140,7 @@ abbrev limb_of : Node → Limb
 limb_of n = record { parent = n.parent; depth = n.depth }
 
 -- a key with a limb is in the list
-limb_in : (slots : Slots) (ks : List ℕ) → IsOrder slots ks → (k : ℕ) (x : Limb) → limbs slots k ≡ Some x → IsIn ks k
+pub limb_in : (slots : Slots) (ks : List ℕ) → IsOrder slots ks → (k : ℕ) (x : Limb) → limbs slots k ≡ Some x → IsIn ks k
 limb_in slots ks order k x is = elim (node_at slots k) as (λ o. node_at slots k ≡ o → option_map limb_of o ≡ Some x → IsIn ks k) [
   | None ↦ λ e w. absurd (let z : ◌≡◌ {A = Option Limb} None (Some x) = w in cc)
   | Some n ↦ λ e w. order.all k n e
@@ -305,101 +305,11 @@ cut_forest old cur top depth at count h =
       tree = tree_sheds (limbs old) (limbs cur) (position (c.front ++ top ∷ (c.run ++ c.back))) (position (c.front ++ top ∷ c.back)) c.forest.tree sheds same;
     }
 
--- the walk before its first step
-pub cut_first : (old : Slots) (ks : List ℕ) (top : ℕ) (node : Node) → IsForest old ks → node_at old top ≡ Some node → CutSoFar old old top node.depth node.next 0
-cut_first old ks top node forest at =
-    let p = parted ks top (forest.order.all top node at) in
-    let f : IsForest old (p.front ++ top ∷ p.back) = subst (λ (z : List ℕ). IsForest old z) p.is forest in
-    record {
-      front = p.front;
-      run = [];
-      back = p.back;
-      forest = f;
-      order = f.order;
-      at_is = (neighbours_at old p.front top p.back node f.order at).1;
-      count_is = refl;
-      gone = λ k i. absurd i;
-      limbs_same = λ k out. refl;
-      spots_gone = λ k i. absurd i;
-      values_same = λ k out. refl;
-      marks_same = λ k out. refl;
-      spots_same = λ k out. refl;
-      deeper = λ k x i. absurd i;
-    }
-
 pub none_of : (slots : Slots) (k : ℕ) → limbs slots k ≡ None → node_at slots k ≡ None
 none_of slots k e = elim (node_at slots k) as (λ o. option_map limb_of o ≡ None → o ≡ None) [
   | None ↦ λ _. refl
   | Some n ↦ λ w. absurd (let z : ◌≡◌ {A = Option Limb} (Some (limb_of n)) None = w in cc)
 ] e
-
--- one more key is taken out
-cut_step : (old cur new : Slots) (top depth count key : ℕ) (node : Node) (c : CutSoFar old cur top depth (Some key) count) (rest : List ℕ) → c.back ≡ key ∷ rest → node_at cur key ≡ Some node → depth < node.depth
-    → ((xs ys : List ℕ) → IsOrder cur (xs ++ key ∷ ys) → IsOrder new (xs ++ ys)) → CutsOff key cur new → CutSoFar old new top depth node.next (count + 1)
-cut_step old cur new top depth count key node c rest e at deep out parts =
-    let here : IsOrder cur (c.front ++ top ∷ key ∷ rest) = subst (λ (z : List ℕ). IsOrder cur (c.front ++ top ∷ z)) e c.order in
-    let near : IsOrder cur ((c.front ++ top ∷ []) ++ key ∷ rest) = subst (λ (z : List ℕ). IsOrder cur z) (sym (append_assoc c.front (top ∷ []) (key ∷ rest))) here in
-    let away : key ≢ top = λ kt. once_back c.front top (key ∷ rest) here.once (inl kt) in
-    let not_run : ¬ (IsIn c.run key) = λ i. let w : ◌≡◌ {A = Option Node} None (Some node) = sym (c.gone key i) ∙ at in cc in
-    record {
-      front = c.front;
-      run = c.run ++ key ∷ [];
-      back = rest;
-      forest = subst (λ (z : List ℕ). IsForest old (c.front ++ top ∷ z)) (ap (λ (z : List ℕ). c.run ++ z) e ∙ sym (append_assoc c.run (key ∷ []) rest)) c.forest;
-      order = subst (λ (z : List ℕ). IsOrder new z) (append_assoc c.front (top ∷ []) rest) (out (c.front ++ top ∷ []) rest near);
-      at_is = (neighbours_at cur (c.front ++ top ∷ []) key rest node near at).1;
-      count_is = (let l : length (c.run ++ key ∷ []) ≡ length c.run + length (key ∷ []) = length-append c.run (key ∷ []) in let n = c.count_is in let one : length (key ∷ []) ≡ 1 = omega arith in omega (arith, l, n, one));
-      gone = λ k i. elim (cases_eq k key) [
-        | inl ke ↦ ap (node_at new) ke ∙ parts.gone
-        | inr ne ↦ elim (in_parts c.run (key ∷ []) k i) [
-          | inl l ↦ none_of new k (parts.limbs_same k ne ∙ ap (option_map limb_of) (c.gone k l))
-          | inr r ↦ elim r [ inl ke ↦ absurd (ne (sym ke)) | inr none ↦ absurd none ]
-        ]
-      ];
-      limbs_same = λ k off. parts.limbs_same k (λ ke. off (in_right c.run (key ∷ []) k (inl (sym ke)))) ∙ c.limbs_same k (λ i. off (in_left c.run (key ∷ []) k i));
-      spots_gone = λ k i. elim (cases_eq k key) [
-        | inl ke ↦ ap (spots new) ke ∙ parts.spot ∙ ap left_spot (c.spots_same key not_run) ∙ ap (λ (z : ℕ). left_spot (spots old z)) (sym ke)
-        | inr ne ↦ elim (in_parts c.run (key ∷ []) k i) [
-          | inl l ↦ parts.spots_same k ne ∙ c.spots_gone k l
-          | inr r ↦ elim r [ inl ke ↦ absurd (ne (sym ke)) | inr none ↦ absurd none ]
-        ]
-      ];
-      values_same = λ k off. parts.values_same k (λ ke. off (in_right c.run (key ∷ []) k (inl (sym ke)))) ∙ c.values_same k (λ i. off (in_left c.run (key ∷ []) k i));
-      marks_same = λ k off. parts.marks_same k (λ ke. off (in_right c.run (key ∷ []) k (inl (sym ke)))) ∙ c.marks_same k (λ i. off (in_left c.run (key ∷ []) k i));
-      spots_same = λ k off. parts.spots_same k (λ ke. off (in_right c.run (key ∷ []) k (inl (sym ke)))) ∙ c.spots_same k (λ i. off (in_left c.run (key ∷ []) k i));
-      deeper = λ k x i is. elim (in_parts c.run (key ∷ []) k i) [
-        | inl l ↦ c.deeper k x l is
-        | inr r ↦ elim r [
-          | inl ke ↦
-              let w : limbs old key ≡ Some (limb_of node) = sym (c.limbs_same key not_run) ∙ ap (option_map limb_of) at in
-              let same : x ≡ limb_of node = one_limb (limbs old) k is (sym (ap (limbs old) ke) ∙ w) in
-              let d : x.depth ≡ node.depth = ap (λ (z : Limb). z.depth) same in
-              omega (arith, d, deep)
-          | inr none ↦ absurd none
-        ]
-      ];
-    }
-
-pub cut_more : (old cur new : Slots) (top depth count key : ℕ) (node : Node) → CutSoFar old cur top depth (Some key) count → node_at cur key ≡ Some node → depth < node.depth
-    → ((xs ys : List ℕ) → IsOrder cur (xs ++ key ∷ ys) → IsOrder new (xs ++ ys)) → CutsOff key cur new → CutSoFar old new top depth node.next (count + 1)
-cut_more old cur new top depth count key node c at deep out parts =
-    elim c.back as (λ (bs : List ℕ). c.back ≡ bs → CutSoFar old new top depth node.next (count + 1)) [
-      | [] ↦ λ e. absurd (let w : ◌≡◌ {A = Option ℕ} (Some key) None = c.at_is ∙ ap (λ (z : List ℕ). first_of z None) e in cc)
-      | b ∷ bs ↦ λ e.
-          let w : ◌≡◌ {A = Option ℕ} (Some key) (Some b) = c.at_is ∙ ap (λ (z : List ℕ). first_of z None) e in
-          let kb : b ≡ key = cc in
-          cut_step old cur new top depth count key node c bs (e ∙ ap (λ (z : ℕ). z ∷ bs) kb) at deep out parts
-    ] refl
-
--- fewer keys are taken out than there are slots
-pub cut_ends : (old cur : Slots) (top depth : ℕ) (at : Option ℕ) (count : ℕ) → CutSoFar old cur top depth at count → count < length old
-cut_ends old cur top depth at count c =
-    let fit = order_fits old (c.front ++ top ∷ (c.run ++ c.back)) c.forest.order in
-    let l : length (c.front ++ top ∷ (c.run ++ c.back)) ≡ length c.front + length (top ∷ (c.run ++ c.back)) = length-append c.front (top ∷ (c.run ++ c.back)) in
-    let m : length (top ∷ (c.run ++ c.back)) ≡ length (c.run ++ c.back) + 1 = omega arith in
-    let n : length (c.run ++ c.back) ≡ length c.run + length c.back = length-append c.run c.back in
-    let k = c.count_is in
-    omega (arith, fit, l, m, n, k)
 
 -- the walk stops where there is no key
 pub cut_at_end : (old cur : Slots) (top depth : ℕ) (count : ℕ) (node : Node) → CutSoFar old cur top depth None count → node_at old top ≡ Some node → node.depth ≡ depth → HasCut old cur top depth None count
@@ -410,37 +320,6 @@ cut_at_end old cur top depth count node c at d = record {
   at_top = ap (option_map limb_of) at;
   depth_is = d;
 }
-
--- or at a key that is not deeper
-pub cut_at_key : (old cur : Slots) (top depth count key : ℕ) (node low : Node) → CutSoFar old cur top depth (Some key) count → node_at old top ≡ Some node → node.depth ≡ depth → node_at cur key ≡ Some low → low.depth ≤ depth
-    → HasCut old cur top depth (Some key) count
-cut_at_key old cur top depth count key node low c at d at_low le = record {
-  cut = c;
-  stops = λ b x e is.
-      let w : ◌≡◌ {A = Option ℕ} (Some key) (Some b) = e in
-      let kb : key ≡ b = cc in
-      let not_run : ¬ (IsIn c.run key) = λ i. let z : ◌≡◌ {A = Option Node} None (Some low) = sym (c.gone key i) ∙ at_low in cc in
-      let l : limbs old key ≡ Some (limb_of low) = sym (c.limbs_same key not_run) ∙ ap (option_map limb_of) at_low in
-      let same : x ≡ limb_of low = one_limb (limbs old) b is (sym (ap (limbs old) kb) ∙ l) in
-      let dx : x.depth ≡ low.depth = ap (λ (z : Limb). z.depth) same in
-      omega (arith, dx, le);
-  limb = limb_of node;
-  at_top = ap (option_map limb_of) at;
-  depth_is = d;
-}
-
--- the key of the walk has a node
-pub cut_there : (old cur : Slots) (top depth count key : ℕ) → CutSoFar old cur top depth (Some key) count → node_at cur key ≢ None
-cut_there old cur top depth count key c none =
-    elim c.back as (λ (bs : List ℕ). c.back ≡ bs → ⊥) [
-      | [] ↦ λ e. (let w : ◌≡◌ {A = Option ℕ} (Some key) None = c.at_is ∙ ap (λ (z : List ℕ). first_of z None) e in cc)
-      | b ∷ bs ↦ λ e.
-          let w : ◌≡◌ {A = Option ℕ} (Some key) (Some b) = c.at_is ∙ ap (λ (z : List ℕ). first_of z None) e in
-          let kb : b ≡ key = cc in
-          let i : IsIn c.back key = subst (λ (z : List ℕ). IsIn z key) (sym e) (inl kb) in
-          let n = in_list cur (c.front ++ top ∷ c.back) c.order key (in_right c.front (top ∷ c.back) key (inr i)) in
-          let z : ◌≡◌ {A = Option Node} None (Some n.0) = sym none ∙ n.1 in cc
-    ] refl
 
 pub pruned : (old cur : Slots) (top depth : ℕ) (at : Option ℕ) (count : ℕ) → HasCut old cur top depth at count → Prunes top old cur
 pruned old cur top depth at count h = record {

@@ -6,6 +6,7 @@ pub mod Positions
 pub mod Linking
 pub mod Neighbours
 pub mod Cutting
+pub mod Gaps
 pub mod Walking
 pub mod Seeking
 pub mod Leaves

@@ -169,3 +169,32 @@ linked_out old new before (x ∷ y ∷ xs) k ys l once out c =
   where
     apart : (x : ℕ) (ks : List ℕ) → ¬ (IsIn ks x) → (o : ℕ) → IsIn ks o → ◌≢◌ {A = Option ℕ} (Some x) (Some o)
     apart x ks out o i w = let oe : o ≡ x = cc in out (subst (λ (z : ℕ). IsIn ks z) oe i)
+
+-- the links behind a part of the list
+link_behind : (at : ℕ → Option Link) (before : Option ℕ) (run back : List ℕ) (after : Option ℕ) → IsLinked at before (run ++ back) after → (b : Option ℕ) × IsLinked at b back after
+link_behind at before [] back after l = (before, l)
+link_behind at before (x ∷ run) back after l = link_behind at (Some x) run back after l.1
+
+-- a run was taken out
+pub linked_cut : (old new : ℕ → Option Link) (before : Option ℕ) (xs : List ℕ) (top : ℕ) (run back : List ℕ) → IsLinked old before (xs ++ top ∷ (run ++ back)) None
+    → ((k : ℕ) → IsIn xs k → new k ≡ old k)
+    → ((y : Link) → old top ≡ Some y → new top ≡ Some (record y { next = first_of back None }))
+    → ((b : ℕ) (y : Link) → first_of back None ≡ Some b → old b ≡ Some y → new b ≡ Some (record y { prev = Some top }))
+    → ((k : ℕ) → IsIn back k → first_of back None ≢ Some k → new k ≡ old k)
+    → IsOnce back → IsLinked new before (xs ++ top ∷ back) None
+linked_cut old new before (x ∷ xs) top run back l front here first rest once = (
+  front x (inl refl) ∙ l.0 ∙ ap (λ (z : Option ℕ). Some (record { prev = before; next = z })) (first_same xs top (run ++ back) back None),
+  linked_cut old new (Some x) xs top run back l.1 (λ k i. front k (inr i)) here first rest once,
+)
+linked_cut old new before [] top run [] l front here first rest once = (here (record { prev = before; next = first_of (run ++ []) None }) l.0, tt)
+linked_cut old new before [] top run (b ∷ bs) l front here first rest once =
+    let m = link_behind old (Some top) run (b ∷ bs) None l.1 in (
+      here (record { prev = before; next = first_of (run ++ b ∷ bs) None }) l.0,
+      (
+        first b (record { prev = m.0; next = first_of bs None }) refl m.1.0,
+        linked_same old new (Some b) bs None
+            (λ k i. rest k (inr i) (λ w. let ne : ◌≡◌ {A = Option ℕ} (Some b) (Some k) = w in
+            let bk : k ≡ b = cc in once.0 (subst (λ (z : ℕ). IsIn bs z) bk i)))
+            m.1.1,
+      ),
+    )

@@ -65,7 +65,7 @@ link_set change changed is (Some n) y e =
     let f : link_of n ≡ y = cc in
     ap (λ (z : Link). Some z) (is n ∙ ap changed f)
 
-next_set : (o : Option Node) (next : Option ℕ) (y : Link) → option_map link_of o ≡ Some y → option_map link_of (option_map (λ (n : Node). record n { next = next }) o) ≡ Some (record y { next = next })
+pub next_set : (o : Option Node) (next : Option ℕ) (y : Link) → option_map link_of o ≡ Some y → option_map link_of (option_map (λ (n : Node). record n { next = next }) o) ≡ Some (record y { next = next })
 next_set o next = link_set (λ (n : Node). record n { next = next }) (λ (z : Link). record z { next = next }) (λ n. refl) o
 
 pub prev_set : (o : Option Node) (prev : Option ℕ) (y : Link) → option_map link_of o ≡ Some y → option_map link_of (option_map (λ (n : Node). record n { prev = prev }) o) ≡ Some (record y { prev = prev })
@@ -139,7 +139,7 @@ next_live slots ks key node order at n e =
     let h = neighbours_at slots p.front key p.back node o at in
     subst (λ (z : List ℕ). IsIn z n) (sym p.is) (in_right p.front (key ∷ p.back) n (inr (first_in p.back n (sym h.1 ∙ e))))
 
-same_number : {a b : ℕ} → ◌≡◌ {A = Option ℕ} (Some a) (Some b) → a ≡ b
+pub same_number : {a b : ℕ} → ◌≡◌ {A = Option ℕ} (Some a) (Some b) → a ≡ b
 same_number {a} {b} e = let w : ◌≡◌ {A = Option ℕ} (Some a) (Some b) = e in cc
 
 -- a key that was put in, and its neighbours' links written
@@ -294,28 +294,24 @@ takes_slot old middle new key p gone others = record {
 }
 
 -- a node that is cut off: a wanted page is left, and any other goes
-pub cut_wanted : (old new : Slots) (key : ℕ) → wanted_in (spots old key) ≡ true → Parts key old new → CutsOff key old new
-cut_wanted old new key wanted p = record {
-  gone = p.gone;
-  spot = p.spots_same key ∙ sym (left_wanted (spots old key) wanted);
-  limbs_same = p.limbs_same;
-  values_same = p.values_same;
-  marks_same = p.marks_same;
-  spots_same = λ o ne. p.spots_same o;
+pub cut_wanted : (old new : Slots) (key : ℕ) → wanted_in (spots old key) ≡ true → slot_at old key ≢ None → Writes key None old new → CutsOff key old new
+cut_wanted old new key wanted there w = record {
+  gone = w.here there;
+  spot = w.spots_same key ∙ sym (left_wanted (spots old key) wanted);
+  nodes_same = w.others;
+  spots_same = λ o ne. w.spots_same o;
 }
   where
     left_wanted : (o : Option Spot) → wanted_in o ≡ true → left_spot o ≡ o
     left_wanted None e = refl
     left_wanted (Some s) e = ap (λ (b : Bool). if b then Some s else None) e
 
-pub cut_unwanted : (old new : Slots) (key : ℕ) → wanted_in (spots old key) ≡ false → TakesSlot key old new → CutsOff key old new
-cut_unwanted old new key unwanted p = record {
-  gone = ap (option_and_then (λ (s : Slot). s.node)) p.gone;
-  spot = ap (option_map spot_of) p.gone ∙ sym (left_unwanted (spots old key) unwanted);
-  limbs_same = p.limbs_same;
-  values_same = p.values_same;
-  marks_same = p.marks_same;
-  spots_same = p.spots_same;
+pub cut_unwanted : (old new : Slots) (key : ℕ) → wanted_in (spots old key) ≡ false → slot_at new key ≡ None → ((o : ℕ) → o ≢ key → slot_at new o ≡ slot_at old o) → CutsOff key old new
+cut_unwanted old new key unwanted gone others = record {
+  gone = ap (option_and_then (λ (s : Slot). s.node)) gone;
+  spot = ap (option_map spot_of) gone ∙ sym (left_unwanted (spots old key) unwanted);
+  nodes_same = λ o ne. ap (option_and_then (λ (s : Slot). s.node)) (others o ne);
+  spots_same = λ o ne. ap (option_map spot_of) (others o ne);
 }
   where
     left_unwanted : (o : Option Spot) → wanted_in o ≡ false → left_spot o ≡ None

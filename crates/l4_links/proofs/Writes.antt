@@ -59,6 +59,9 @@ no_slot slots k e = elim (slot_at slots k) as (λ o. option_map spot_of o ≡ No
 pub has_slot : (slots : Slots) (k : ℕ) (n : Node) → node_at slots k ≡ Some n → slot_at slots k ≢ None
 has_slot slots k n at none = let w : ◌≡◌ {A = Option Node} (Some n) None = sym at ∙ ap (option_and_then (λ (s : Slot). s.node)) none in absurd (let z : ◌≡◌ {A = Option Node} (Some n) None = w in cc)
 
+pub slot_there : (slots : Slots) (k : ℕ) → node_at slots k ≢ None → slot_at slots k ≢ None
+slot_there slots k some none = some (ap (option_and_then (λ (s : Slot). s.node)) none)
+
 -- a node can keep the key of a slot, and that of a node
 pub slot_key : (slots : Slots) (k : ℕ) → AreKeys slots → slot_at slots k ≢ None → IsKey k
 slot_key slots k few there = elim (slot_at slots k) as (λ o. slot_at slots k ≡ o → IsKey k) [

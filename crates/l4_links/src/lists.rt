@@ -5,7 +5,7 @@ ghost use Rattle.l4_fpage.specs.Rights.{common};
 ghost use Rattle.l4_links.specs.Inside.Keys.{IsKey};
 ghost use Rattle.l4_links.specs.Inside.Trees.{Sprouts, Rises};
 ghost use Rattle.l4_links.specs.Inside.Orders.{TakesOut, first_of};
-ghost use Rattle.l4_links.specs.Inside.Nodes.{node_at, slot_at, spots, limbs, links, values, AreKeys, IsOrder, IsForest, Parts, TakesSlot, CutsOff, Comes, child, AddsUnder, Prunes, Clears};
+ghost use Rattle.l4_links.specs.Inside.Nodes.{node_at, slot_at, spots, limbs, links, values, AreKeys, IsOrder, IsForest, Parts, TakesSlot, CutsOff, ClosesGap, Comes, child, AddsUnder, Prunes, Clears};
 ghost use Rattle.l4_links.specs.Inside.Keeping.{IsIndexed};
 
 use crate::Place;
@@ -46,19 +46,33 @@ pub(crate) fn take_out(nodes: &mut Slab<Packed>, pages: &mut Spaces, key: usize)
     remove(nodes, pages, key);
 }
 
-/// Takes the node out of its list. A wanted page is left as a blank, and any other slot goes with its page's name.
+/// Takes the node away where it stands, and leaves the links to it as they are. A wanted page is left as a blank, and any other slot goes
+/// with its page's name.
+#[inline]
 fn cut_off(nodes: &mut Slab<Packed>, pages: &mut Spaces, key: usize)
-    requires order { (ks : List ℕ) × IsOrder nodes.old.slots ks }
     requires there { node_at nodes.old.slots key ≢ None }
     ensures out { CutsOff key nodes.old.slots nodes.new.slots }
-    ensures order { (xs ys : List ℕ) → IsOrder nodes.old.slots (xs ++ key ∷ ys) → IsOrder nodes.new.slots (xs ++ ys) }
     ensures indexed { IsIndexed nodes.old.slots pages.old → IsIndexed nodes.new.slots pages.new }
     ensures spaces { pages.new.spaces ≡ pages.old.spaces }
 {
     if is_wanted(nodes, key) {
-        return unlink(nodes, key);
+        return empty(nodes, key);
     }
-    take_out(nodes, pages, key);
+    remove(nodes, pages, key);
+}
+
+/// Links the node with the one that comes after it once all between them have gone, of which there were so many.
+fn close_gap(nodes: &mut Slab<Packed>, top: usize, next: Link, gone: usize)
+    requires key { IsKey top }
+    ensures whole { gone ≡ 0 → nodes.new.slots ≡ nodes.old.slots }
+    ensures closed { gone ≢ 0 → ClosesGap top next nodes.old.slots nodes.new.slots }
+{
+    if gone == 0 {
+        return;
+    }
+    let at = Link::to(top);
+    set_next(nodes, at, next);
+    set_prev(nodes, next, at);
 }
 
 /// The child of a node that stands under the key `parent`: it shows that node's frame, with what that node has of these rights, and
@@ -173,9 +187,10 @@ pub(crate) fn link_root(
     at
 }
 
-/// Cuts off all that descends from the node.
+/// Cuts off all that descends from the node: the run of deeper nodes after it, in one pass that mends the list at its end.
 pub(crate) fn cut_below(nodes: &mut Slab<Packed>, pages: &mut Spaces, top: usize)
     requires forest { (ks : List ℕ) × IsForest nodes.old.slots ks }
+    requires few { AreKeys nodes.old.slots }
     requires there { node_at nodes.old.slots top ≢ None }
     ensures prunes { Prunes top nodes.old.slots nodes.new.slots }
     ensures indexed { IsIndexed nodes.old.slots pages.old → IsIndexed nodes.new.slots pages.new }
@@ -186,15 +201,15 @@ pub(crate) fn cut_below(nodes: &mut Slab<Packed>, pages: &mut Spaces, top: usize
     };
     let depth = head.depth;
     let mut at = head.next;
-    for _ in 0..nodes.capacity() {
+    for gone in 0..nodes.capacity() {
         let Some(key) = at.key() else {
-            return;
+            return close_gap(nodes, top, at, gone);
         };
         let Some(node) = node_of(nodes, key) else {
             unreachable!()
         };
         if node.depth <= depth {
-            return;
+            return close_gap(nodes, top, at, gone);
         }
         at = node.next;
         cut_off(nodes, pages, key);
@@ -205,6 +220,7 @@ pub(crate) fn cut_below(nodes: &mut Slab<Packed>, pages: &mut Spaces, top: usize
 /// with the key that is given then.
 pub(crate) fn clear(nodes: &mut Slab<Packed>, pages: &mut Spaces, first: Link, top: usize) -> Link
     requires forest { (ks : List ℕ) × IsForest nodes.old.slots ks }
+    requires few { AreKeys nodes.old.slots }
     requires there { node_at nodes.old.slots top ≢ None }
     ensures clears { Clears top first result nodes.old.slots nodes.new.slots }
     ensures indexed { IsIndexed nodes.old.slots pages.old → IsIndexed nodes.new.slots pages.new }

@@ -156,14 +156,18 @@ pub record TakesSlot (key : ℕ) (old new : Slots) : Type 0 where
   pub dooms_same : (other : ℕ) → other ≢ key → dooms new other ≡ dooms old other
   pub spots_same : (other : ℕ) → other ≢ key → spots new other ≡ spots old other
 
--- the key has no node any more and no slot but that of a wanted page, and all else stands as it did
+-- the key has no node any more and no slot but that of a wanted page, and all other nodes are as they were, with their links to it
 pub record CutsOff (key : ℕ) (old new : Slots) : Type 0 where
   pub gone : node_at new key ≡ None
   pub spot : spots new key ≡ left_spot (spots old key)
-  pub limbs_same : (other : ℕ) → other ≢ key → limbs new other ≡ limbs old other
-  pub values_same : (other : ℕ) → other ≢ key → values new other ≡ values old other
-  pub marks_same : (other : ℕ) → other ≢ key → marks new other ≡ marks old other
+  pub nodes_same : (other : ℕ) → other ≢ key → node_at new other ≡ node_at old other
   pub spots_same : (other : ℕ) → other ≢ key → spots new other ≡ spots old other
+
+-- the node and the one of this next key, if there is one, are neighbours now, and all else is as it was
+pub record ClosesGap (top : ℕ) (next : Option ℕ) (old new : Slots) : Type 0 where
+  pub middle : Slots
+  pub onward : SetsNext (Some top) next old middle
+  pub back : SetsPrev next (Some top) middle new
 
 -- a node with this worth has come under the parent
 pub record Comes (worth : Worth) (key : ℕ) (old new : Slots) : Type 0 where
