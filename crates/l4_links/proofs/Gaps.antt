@@ -155,7 +155,7 @@ module _ (old cur new : Slots) (top depth : ℕ) (at : Option ℕ) (count : ℕ)
   front_same k i =
       let far : ¬ (IsIn (c.run ++ c.back) k) = once_apart c.front top (c.run ++ c.back) k c.forest.order.once i in
       ap (option_map link_of) (plain k (λ e. once_front c.front top (c.run ++ c.back) c.forest.order.once (subst (λ (z : ℕ). IsIn c.front z) e i))
-          (not_next k (λ j. far (in_right c.run c.back k j))) (λ j. far (in_left c.run c.back k j)))
+      (not_next k (λ j. far (in_right c.run c.back k j))) (λ j. far (in_left c.run c.back k j)))
 
   here : (y : Link) → links old top ≡ Some y → links new top ≡ Some (record y { next = first_of c.back None })
   here y e =

@@ -55,7 +55,7 @@ named : (slots : Slots) (t : Tables) → IsIndexed slots t → (space k : ℕ) (
 named slots t i space k s at e = ap (λ (z : ℕ). tables.key_of t z s.place.page) (sym e) ∙ (i.names s.place k).1 (of_slot slots k s at)
 
 -- a place that is named nowhere is of no key
-unnamed : (slots : Slots) (t : Tables) → IsIndexed slots t → (place : Place) → tables.key_of t place.space place.page ≡ None → (other : ℕ) → ¬ (IsOf slots place other)
+pub unnamed : (slots : Slots) (t : Tables) → IsIndexed slots t → (place : Place) → tables.key_of t place.space place.page ≡ None → (other : ℕ) → ¬ (IsOf slots place other)
 unnamed slots t i place absent other o = let w : ◌≡◌ {A = Option ℕ} None (Some other) = sym absent ∙ (i.names place other).1 o in cc
 
 -- where no page of the space is present, no slot is of one

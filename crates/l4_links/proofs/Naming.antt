@@ -486,7 +486,7 @@ some_key (Some key) h = (key, refl)
 present : (slots : Slots) (t : Tables) → IsIndexed slots t → (space page : ℕ) → HasKey (entries_of slots) space page → tables.IsPresent t space page
 present slots t i space page h = ap is_some ((i.names (record { space = space; page = page }) h.0).1 ((is_at slots (record { space = space; page = page }) h.0).1 h.1))
 
-has_key : (slots : Slots) (t : Tables) → IsIndexed slots t → (space page : ℕ) → tables.IsPresent t space page → HasKey (entries_of slots) space page
+pub has_key : (slots : Slots) (t : Tables) → IsIndexed slots t → (space page : ℕ) → tables.IsPresent t space page → HasKey (entries_of slots) space page
 has_key slots t i space page h =
     let k = some_key (tables.key_of t space page) h in
     (k.0, (is_at slots (record { space = space; page = page }) k.0).0 ((i.names (record { space = space; page = page }) k.0).0 k.1))

@@ -4,7 +4,7 @@
 //! tables: what is said is said of parents, of what descends from them, and of which page has which key.
 #![tactic(auto)]
 
-ghost use Rattle.std.specs.Prelude.{◌≡◌, ◌≢◌, ◌⊎◌, ◌↔◌, ◌≤◌, ◌+◌, ◌-◌, [], ℕ, length, true, false, IsTrue, IsOk, OnOk, OnErr, IfOk, MatchOption, Some, None};
+ghost use Rattle.std.specs.Prelude.{◌≡◌, ◌≢◌, ◌⊎◌, ◌↔◌, ◌≤◌, ◌+◌, ◌-◌, [], ℕ, length, true, false, IsTrue, IsOk, OnOk, OnErr, IfOk, IfSome, MatchOption, Some, None};
 ghost use Rattle.std.specs.FinSet as set;
 ghost use Rattle.l4_fpage.specs.Rights.{common, no_rights};
 ghost use Rattle.l4_spaces.specs.Tables.{IsPage, space_pages};
@@ -25,7 +25,9 @@ use l4_fpage::Rights;
 pub use l4_spaces::NoMemory;
 use l4_spaces::Spaces;
 use names::{remove, take_over};
-use nodes::{cap_at, node_of, set_plain, set_source, set_wanted, standing_of, vacant_key_fits};
+use nodes::{
+    cap_at, make_room, node_of, set_plain, set_source, set_wanted, standing_of, vacant_key_fits,
+};
 use packed::Packed;
 use slab::Slab;
 use stamps::{SOURCES_WALK, fresh, stamp_for};
@@ -254,32 +256,59 @@ impl Links {
         self.stamp = fresh(self.stamp);
     }
 
-    /// Adds a child of the parent for a page that has no key. It shows the parent's frame, and has those of these rights that the
-    /// parent has, of which there is one. Its key is given.
+    /// Adds a child of the parent for a page, if the page has no key, and gives the child's key. It shows the parent's frame, and has
+    /// those of these rights that the parent has, of which there is one. None where the page has a key, and nothing changes then.
+    ///
+    /// NoMemory comes only where the page has no key, and changes nothing.
     pub fn add_child(
         &mut self,
         parent: usize,
         place: Place,
         rights: Rights,
-    ) -> Result<usize, NoMemory>
+    ) -> Result<Option<usize>, NoMemory>
         requires there { IsTrue (set.contains self.old.spaces place.space) }
         requires fits { IsPage place.page }
-        requires free { (key : ℕ) → ¬ (IsAt self.old.entries place key) }
         requires stands { IsStanding self.old.entries parent }
         requires some { (above : AStanding) → standing_at self.old.entries parent ≡ Some above → common above.rights rights ≢ no_rights }
-        ensures ok { IfOk result (AddsChild parent place rights self.old.entries self.new.entries) }
-        ensures spaces { self.new.spaces ≡ self.old.spaces }
+        ensures adds { IfOk result (λ child. IfSome child (AddsChild parent place rights self.old.entries self.new.entries)) }
+        ensures free { IfOk result (λ child. child ≢ None → (key : ℕ) → ¬ (IsAt self.old.entries place key)) }
+        ensures taken { IfOk result (λ child. child ≡ None → (key : ℕ) × IsAt self.old.entries place key) }
+        ensures same { IfOk result (λ child. child ≡ None → self.new ≡ self.old) }
         ensures err { OnErr result (self.new ≡ self.old) }
+        ensures lacks { OnErr result ((key : ℕ) → ¬ (IsAt self.old.entries place key)) }
+        ensures spaces { self.new.spaces ≡ self.old.spaces }
     {
         let Some(above) = node_of(&self.nodes, parent) else {
             unreachable!()
         };
-        vacant_key_fits(&self.nodes)?;
-        self.pages.prepare(place.space, &[place.page])?;
-        let child = lists::add_under(&mut self.nodes, parent, place, &above, rights)?;
-        self.pages.set(place.space, place.page, child);
+        match make_room(&mut self.nodes) {
+            Ok(()) => {}
+            Err(refused) => return self.taken_or(place, refused),
+        }
+        let key = self.nodes.vacant_key();
+        let claimed = match self.pages.claim(place.space, place.page, key) {
+            Ok(claimed) => claimed,
+            Err(refused) => return Err(refused),
+        };
+        if !claimed {
+            return Ok(None);
+        }
+        lists::add_under(&mut self.nodes, parent, place, &above, rights);
         self.stamp = fresh(self.stamp);
-        Ok(child)
+        Ok(Some(key))
+    }
+
+    /// None if the page has a key, and else the refusal.
+    #[cold]
+    fn taken_or(&self, place: Place, refused: NoMemory) -> Result<Option<usize>, NoMemory>
+        ensures none { IfOk result (λ child. child ≡ None) }
+        ensures taken { OnOk result ((key : ℕ) × IsAt self.now.entries place key) }
+        ensures free { OnErr result ((key : ℕ) → ¬ (IsAt self.now.entries place key)) }
+    {
+        let Some(_) = self.find(place) else {
+            return Err(refused);
+        };
+        Ok(None)
     }
 
     /// Cuts off all that descends from the key, and lets nothing stand under the key: a blank is left. What is cut off goes with its

@@ -1,6 +1,7 @@
 //! The list of all nodes in depth-first order: one is put in, one is taken out, a run is cut off.
 
-ghost use Rattle.std.specs.Prelude.{◌≡◌, ◌≢◌, ◌<◌, ◌+◌, ◌^◌, ◌++◌, ◌∷◌, [], ℕ, List, Option, Some, None, false, IfOk, OnErr};
+ghost use Rattle.std.specs.Prelude.{◌≡◌, ◌≢◌, ◌<◌, ◌+◌, ◌^◌, ◌++◌, ◌∷◌, [], ℕ, List, Option, Some, None, false};
+ghost use Rattle.slab.specs.Slab.{HasRoomFor};
 ghost use Rattle.l4_fpage.specs.Rights.{common};
 ghost use Rattle.l4_links.specs.Inside.Keys.{IsKey};
 ghost use Rattle.l4_links.specs.Inside.Trees.{Sprouts, Rises};
@@ -14,7 +15,7 @@ use crate::names::remove;
 use crate::nodes::{Node, child_depth, empty, is_wanted, node_of, set_next, set_prev, write};
 use crate::packed::Packed;
 use l4_fpage::Rights;
-use l4_spaces::{NoMemory, Spaces};
+use l4_spaces::Spaces;
 use slab::Slab;
 
 /// Takes the node out of its list. Its slot stays, as a blank.
@@ -125,29 +126,27 @@ pub(crate) fn link_under(
     set_next(nodes, Link::to(parent), at);
 }
 
-/// Puts a node for a page straight after its parent, into a slot of its own, whose key is given.
+/// Puts a node for a page straight after its parent, into the slot of the vacant key, which there is room for.
 pub(crate) fn add_under(
     nodes: &mut Slab<Packed>,
     parent: usize,
     place: Place,
     above: &Node,
     rights: Rights,
-) -> Result<usize, NoMemory>
+)
     requires forest { (ks : List ℕ) × IsForest nodes.old.slots ks }
     requires few { AreKeys nodes.old.slots }
     requires there { node_at nodes.old.slots parent ≡ Some above.now }
     requires kept { IsKey nodes.old.vacant_key }
     requires vacant { slot_at nodes.old.slots nodes.old.vacant_key ≡ None }
-    ensures adds { IfOk result (λ key. AddsUnder parent place above.now rights nodes.old.slots nodes.new.slots key) }
-    ensures kept { IfOk result (λ key. IsKey key) }
-    ensures err { OnErr result (nodes.new.slots ≡ nodes.old.slots) }
+    requires room { HasRoomFor nodes.old 1 }
+    ensures { AddsUnder parent place above.now rights nodes.old.slots nodes.new.slots nodes.old.vacant_key }
 {
     let node = child_of(parent, above, rights, nodes.capacity());
-    let key = nodes.insert(Packed::of(place, node))?;
+    let key = nodes.insert_reserved(Packed::of(place, node));
     let at = Link::to(key);
     set_prev(nodes, above.next, at);
     set_next(nodes, Link::to(parent), at);
-    Ok(key)
 }
 
 /// Puts a root before all other nodes, into the blank that the key is of. The list begins with the key that is given then.

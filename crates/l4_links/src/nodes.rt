@@ -2,6 +2,7 @@
 
 ghost use Rattle.std.specs.Prelude.{◌≡◌, ◌+◌, ◌<◌, ◌≤◌, false, Some, None, OnOk, OnErr};
 ghost use Rattle.std.specs.Option.{option_map};
+ghost use Rattle.slab.specs.Slab.{HasRoomFor};
 ghost use Rattle.l4_links.specs.Inside.Keys.{IsKey, no_key};
 ghost use Rattle.l4_links.specs.Inside.Stacks.{HasStack};
 ghost use Rattle.l4_links.specs.Inside.Keeping.{standing_of};
@@ -94,6 +95,18 @@ pub(crate) fn vacant_key_fits(nodes: &Slab<Packed>) -> Result<(), NoMemory>
         return Ok(());
     }
     Err(NoMemory)
+}
+
+/// Makes room for one more slot, whose key a node can keep.
+pub(crate) fn make_room(nodes: &mut Slab<Packed>) -> Result<(), NoMemory>
+    ensures room { OnOk result (HasRoomFor nodes.new 1) }
+    ensures few { OnOk result (IsKey nodes.new.vacant_key) }
+    ensures vacant { OnOk result (slot_at nodes.new.slots nodes.new.vacant_key ≡ None) }
+    ensures same { nodes.new.slots ≡ nodes.old.slots }
+{
+    vacant_key_fits(nodes)?;
+    nodes.reserve(1)?;
+    Ok(())
 }
 
 /// How deep a child of the node stands. No node stands deeper than there are slots.

@@ -107,7 +107,8 @@ impl Granted {
     }
 }
 
-/// A slot.
+/// A slot. What few walks read stands last: memory for slots begins 16 bytes after a line of a cache, so the last 16 bytes of each slot
+/// stand in another line than the rest.
 #[derive(Drop)]
 pub(crate) struct Packed {
     page: u32,
@@ -117,15 +118,15 @@ pub(crate) struct Packed {
     source: bool,
     wanted: bool,
     granted: Granted,
-    seen: Halves,
-    mark: Halves,
     /// None in a blank. What else there is of a node means nothing then.
     depth: Link,
-    end: Link,
     parent: Link,
     prev: Link,
     next: Link,
+    end: Link,
     doomed: Link,
+    seen: Halves,
+    mark: Halves,
 }
 
 const _: () = prove!(size_of::<Packed>() == 60);

@@ -3,7 +3,7 @@ use Rattle.std.specs.Option.{option_and_then}
 use Rattle.l4_links.specs.declared.nodes.Node.{Node}
 use Rattle.l4_links.specs.declared.nodes.Slot.{Slot}
 use Rattle.l4_links.specs.Inside.Keys.{IsKey}
-use Rattle.l4_links.specs.Inside.Nodes.{slot_at, child, SetsNext, SetsPrev}
+use Rattle.l4_links.specs.Inside.Nodes.{slot_at, child, SetsNext, SetsPrev, AddsUnder}
 use Rattle.l4_links.proofs.Adding.{added}
 use Rattle.l4_links.proofs.Depths.{depth_fits, depth_kept}
 use Rattle.l4_links.proofs.Writes.{node_key}
@@ -24,21 +24,19 @@ of-requires c =
     (depth_kept c.args.nodes.now.slots c.requires.forest.0 c.args.parent c.args.above.now c.args.nodes.now.vacant_key c.requires.forest.1 c.requires.few c.requires.there c.requires.kept
     (ap (option_and_then (λ (s : Slot). s.node)) c.requires.vacant))
 
--- the slot, and the writes, with the keys that their links are to
-filled : (c : goal.After-set_next) → slot_at c.insert.new.self.slots c.in_ok-key.key ≡ Some (record { place = c.args.place; wanted = false; node = Some (child c.args.parent c.args.above.now c.args.rights) })
-filled c =
-    c.in_ok-key.ensures.updates.changed ∙ ap (λ (s : Slot). Some s) c.of.ensures
-    ∙ ap (λ (n : Node). Some (record { place = c.args.place; wanted = false; node = Some n })) c.child_of-node.ensures
-
-after : (c : goal.After-set_next) → SetsPrev c.args.above.now.next (Some c.in_ok-key.key) c.insert.new.self.slots c.set_prev.new.nodes.slots
-after c = subst (λ (o : Option ℕ). SetsPrev c.args.above.now.next o c.insert.new.self.slots c.set_prev.new.nodes.slots) c.to-at.ensures c.set_prev.ensures
-
-before : (c : goal.After-set_next) → SetsNext (Some c.args.parent) (Some c.in_ok-key.key) c.set_prev.new.nodes.slots c.set_next.new.nodes.slots
-before c =
-    subst (λ (o : Option ℕ). SetsNext o (Some c.in_ok-key.key) c.set_prev.new.nodes.slots c.set_next.new.nodes.slots) c.to.ensures
-    (subst (λ (o : Option ℕ). SetsNext c.to.result o c.set_prev.new.nodes.slots c.set_next.new.nodes.slots) c.to-at.ensures c.set_next.ensures)
-
-pub returns-clause-adds : goal.returns-clause-adds
-returns-clause-adds c =
-    added c.args.nodes.now.slots c.insert.new.self.slots c.set_prev.new.nodes.slots c.set_next.new.nodes.slots c.args.parent c.in_ok-key.key c.args.place c.args.above.now c.args.rights
-    c.requires.there c.in_ok-key.ensures.was_vacant (filled c) c.in_ok-key.ensures.updates.others (after c) (before c)
+pub returns : goal.returns
+returns c =
+    let old = c.args.nodes.now.slots in
+    let put = c.insert_reserved-key.new.self.slots in
+    let key = c.insert_reserved-key.result in
+    let filled : slot_at put key ≡ Some (record { place = c.args.place; wanted = false; node = Some (child c.args.parent c.args.above.now c.args.rights) }) =
+    c.insert_reserved-key.ensures.updates.changed ∙ ap (λ (s : Slot). Some s) c.of.ensures
+    ∙ ap (λ (n : Node). Some (record { place = c.args.place; wanted = false; node = Some n })) c.child_of-node.ensures in
+    let after : SetsPrev c.args.above.now.next (Some key) put c.set_prev.new.nodes.slots =
+    subst (λ (o : Option ℕ). SetsPrev c.args.above.now.next o put c.set_prev.new.nodes.slots) c.to-at.ensures c.set_prev.ensures in
+    let before : SetsNext (Some c.args.parent) (Some key) c.set_prev.new.nodes.slots c.set_next.new.nodes.slots =
+    subst (λ (o : Option ℕ). SetsNext o (Some key) c.set_prev.new.nodes.slots c.set_next.new.nodes.slots) c.to.ensures
+    (subst (λ (o : Option ℕ). SetsNext c.to.result o c.set_prev.new.nodes.slots c.set_next.new.nodes.slots) c.to-at.ensures c.set_next.ensures) in
+    subst (λ (k : ℕ). AddsUnder c.args.parent c.args.place c.args.above.now c.args.rights old c.set_next.new.nodes.slots k) c.insert_reserved-key.ensures.key
+    (added old put c.set_prev.new.nodes.slots c.set_next.new.nodes.slots c.args.parent key c.args.place c.args.above.now c.args.rights
+    c.requires.there c.insert_reserved-key.ensures.was_vacant filled c.insert_reserved-key.ensures.updates.others after before)
