@@ -133,7 +133,7 @@ pub record Wrote (k : ℕ) (ss new : Live) (old tables : Rows) : Type 0 where
   pub other : (q : ℕ) → q ≢ k → tables_of new q ≡ tables_of ss q
   pub same : numbers new ≡ numbers ss
 
-pub wrote : (ss : Live) (k i : ℕ) (s : Space) (v : Vec (Vec (Option ℕ) Global) Global) → StandsAt k ss i → s ≡ slice_index_or ss i s → Wrote k ss (slice_set ss i (s.0, v)) s.1.items v.items
+pub wrote : (ss : Live) (k i : ℕ) (s : Space) (v : Vec (List (Option ℕ)) Global) → StandsAt k ss i → s ≡ slice_index_or ss i s → Wrote k ss (slice_set ss i (s.0, v)) s.1.items v.items
 wrote ss k i s v h is =
     let n : s.0 ≡ k = ap (λ (r : Space). r.0) is ∙ stands_number k ss i s h in record {
       was = at_here ss k i s h is;
@@ -178,6 +178,13 @@ there_long w long p = wrote_all (λ _ a b. is_made b p.1 ≡ is_made a p.1) w (a
 
 pub keys_same : {k : ℕ} {ss new : Live} {old ts : Rows} → Wrote k ss new old ts → ((page : ℕ) → entry ts page ≡ entry old page) → (p : ℕ × ℕ) → key_at new p ≡ key_at ss p
 keys_same w same p = wrote_all (λ _ a b. entry b p.1 ≡ entry a p.1) w (same p.1) (λ _. refl) p.0
+
+-- the page's key is what it was, and so is each other page's
+pub same_entries : (old new : Rows) (page : ℕ) → entry new page ≡ entry old page → ((other : ℕ) → other ≢ page → entry new other ≡ entry old other) → (other : ℕ) → entry new other ≡ entry old other
+same_entries old new page here others other = elim (cases_eq other page) [
+  | inl e ↦ ap (entry new) e ∙ here ∙ sym (ap (entry old) e)
+  | inr ne ↦ others other ne
+]
 
 pub keys_put : {k : ℕ} {ss new : Live} {old ts : Rows} (page : ℕ) (key : Option ℕ) → Wrote k ss new old ts → entry ts page ≡ key → ((other : ℕ) → other ≢ page → entry ts other ≡ entry old other)
     → (p : ℕ × ℕ) → key_at new p ≡ cond (eq_by_cmp place_cmp p (k, page)) key (key_at ss p)
@@ -265,15 +272,15 @@ keeps_same a b s view h = keeps a b s view (λ p t. h p ∙ t)
 -- a space has come
 
 -- with no tables, so that each space has the tables that it had
-pub tables_push : (ss : Live) (k : ℕ) (v : Vec (Vec (Option ℕ) Global) Global) → v.items ≡ [] → (q : ℕ) → tables_of (ss ++ (k, v) ∷ []) q ≡ tables_of ss q
+pub tables_push : (ss : Live) (k : ℕ) (v : Vec (List (Option ℕ)) Global) → v.items ≡ [] → (q : ℕ) → tables_of (ss ++ (k, v) ∷ []) q ≡ tables_of ss q
 tables_push [] k v none q = decided (nat_eq k q) (λ t. ap (λ b. cond b v.items []) t ∙ none) (λ f. ap (λ b. cond b v.items []) f)
 tables_push (s ∷ ss) k v none q = ap (cond (nat_eq s.0 q) s.1.items) (tables_push ss k v none q)
 
-numbers_push : (ss : Live) (k : ℕ) (v : Vec (Vec (Option ℕ) Global) Global) → numbers (ss ++ (k, v) ∷ []) ≡ numbers ss ++ k ∷ []
+numbers_push : (ss : Live) (k : ℕ) (v : Vec (List (Option ℕ)) Global) → numbers (ss ++ (k, v) ∷ []) ≡ numbers ss ++ k ∷ []
 numbers_push [] k v = refl
 numbers_push (s ∷ ss) k v = ap (λ l. s.0 ∷ l) (numbers_push ss k v)
 
-pub has_push : (ss : Live) (k : ℕ) (v : Vec (Vec (Option ℕ) Global) Global) (q : ℕ) → has (ss ++ (k, v) ∷ []) q ≡ (has ss q || nat_eq k q)
+pub has_push : (ss : Live) (k : ℕ) (v : Vec (List (Option ℕ)) Global) (q : ℕ) → has (ss ++ (k, v) ∷ []) q ≡ (has ss q || nat_eq k q)
 has_push [] k v q = or_none (nat_eq k q)
   where
     or_none : (b : Bool) → (b || false) ≡ b
@@ -285,26 +292,26 @@ has_push (s ∷ ss) k v q = ap (λ b. nat_eq s.0 q || b) (has_push ss k v q) ∙
     or_along true b c = refl
     or_along false b c = refl
 
-once_push : (ss : Live) (k : ℕ) (v : Vec (Vec (Option ℕ) Global) Global) → has ss k ≡ false → IsOnce ss → IsOnce (ss ++ (k, v) ∷ [])
+once_push : (ss : Live) (k : ℕ) (v : Vec (List (Option ℕ)) Global) → has ss k ≡ false → IsOnce ss → IsOnce (ss ++ (k, v) ∷ [])
 once_push [] k v none h = (refl, tt)
 once_push (s ∷ ss) k v none h = decided (nat_eq s.0 k)
     (λ t. absurd (let e : true ≡ false = sym (ap (λ b. b || has ss k) t) ∙ none in cc))
     (λ f. (has_push ss k v s.0 ∙ ap (λ b. b || nat_eq k s.0) h.0 ∙ eq_no k s.0 (λ e. ne_of s.0 k f (sym e)), once_push ss k v (sym (ap (λ b. b || has ss k) f) ∙ none) h.1))
 
-pub laid_push : (ss : Live) (k : ℕ) (v : Vec (Vec (Option ℕ) Global) Global) → has ss k ≡ false → IsLaid ss → v.items ≡ [] → IsLaid (ss ++ (k, v) ∷ [])
+pub laid_push : (ss : Live) (k : ℕ) (v : Vec (List (Option ℕ)) Global) → has ss k ≡ false → IsLaid ss → v.items ≡ [] → IsLaid (ss ++ (k, v) ∷ [])
 laid_push ss k v new l none = record {
   once = once_push ss k v new l.once;
   whole = λ q. subst AreWhole (sym (tables_push ss k v none q)) (l.whole q);
   full = λ q. subst (λ (ts : Rows). length ts ≤ space_tables) (sym (tables_push ss k v none q)) (l.full q);
 }
 
-pub pages_push : (ss : Live) (s : Tables) (k : ℕ) (v : Vec (Vec (Option ℕ) Global) Global) → shown ss ≡ s → v.items ≡ [] → (shown (ss ++ (k, v) ∷ [])).pages ≡ s.pages
+pub pages_push : (ss : Live) (s : Tables) (k : ℕ) (v : Vec (List (Option ℕ)) Global) → shown ss ≡ s → v.items ≡ [] → (shown (ss ++ (k, v) ∷ [])).pages ≡ s.pages
 pages_push ss s k v view none = pages_kept ss (ss ++ (k, v) ∷ []) s view (λ p. ap (λ (ts : Rows). entry ts p.1) (tables_push ss k v none p.0))
 
-pub there_push : (ss : Live) (k : ℕ) (v : Vec (Vec (Option ℕ) Global) Global) → v.items ≡ [] → (p : ℕ × ℕ) → is_there (ss ++ (k, v) ∷ []) p ≡ is_there ss p
+pub there_push : (ss : Live) (k : ℕ) (v : Vec (List (Option ℕ)) Global) → v.items ≡ [] → (p : ℕ × ℕ) → is_there (ss ++ (k, v) ∷ []) p ≡ is_there ss p
 there_push ss k v none p = ap (λ (ts : Rows). is_made ts p.1) (tables_push ss k v none p.0)
 
-pub spaces_push : (ss : Live) (s : Tables) (k : ℕ) (v : Vec (Vec (Option ℕ) Global) Global) → shown ss ≡ s → (shown (ss ++ (k, v) ∷ [])).spaces ≡ set.insert s.spaces k
+pub spaces_push : (ss : Live) (s : Tables) (k : ℕ) (v : Vec (List (Option ℕ)) Global) → shown ss ≡ s → (shown (ss ++ (k, v) ∷ [])).spaces ≡ set.insert s.spaces k
 spaces_push ss s k v view =
     ap (λ (ks : List ℕ). set.from_list {R = nat_cmp} ks) (numbers_push ss k v) ∙ set.from_list_push nat_cmp_total nat_cmp-IsAntisymmetric (numbers ss) k ∙ ap (λ (t : Tables). set.insert t.spaces k) view
 

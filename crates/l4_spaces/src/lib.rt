@@ -6,8 +6,10 @@ ghost use Rattle.std.specs.FinMap as map;
 ghost use Rattle.std.specs.FinSet as set;
 ghost use Rattle.l4_spaces.specs.Inside.Seen.{has, IsOnce, StandsAt};
 
+mod row;
 mod tables;
 
+use row::Row;
 use std::alloc::{AllocError, AllocFailed, Global};
 use std::fmt;
 use std::marker::Model;
@@ -43,7 +45,7 @@ impl<T: Drop> From<AllocFailed<T>> for NoMemory {
 #[derive(Drop)]
 pub struct Spaces {
     alloc: Global,
-    spaces: Vec<(u64, Vec<Vec<Option<usize>>>)>,
+    spaces: Vec<(u64, Vec<Row>)>,
 }
 
 impl Model for Spaces {
@@ -62,7 +64,7 @@ impl Model for Spaces {
 
 /// Where the space stands among all. It is rare that it doesn't stand at its number.
 #[cold]
-fn index_among(spaces: &Vec<(u64, Vec<Vec<Option<usize>>>)>, space: u64) -> Option<usize>
+fn index_among(spaces: &Vec<(u64, Vec<Row>)>, space: u64) -> Option<usize>
     requires { IsOnce spaces.now.items }
     ensures at { MatchOption result (has spaces.now.items space ≡ false) (StandsAt space spaces.now.items) }
     ensures within { IfSome result (λ at. at < length spaces.now.items) }
@@ -77,7 +79,7 @@ fn index_among(spaces: &Vec<(u64, Vec<Vec<Option<usize>>>)>, space: u64) -> Opti
 
 /// Where the space stands. Where no space has ended, it stands at its number.
 #[inline]
-fn index_of(spaces: &Vec<(u64, Vec<Vec<Option<usize>>>)>, space: u64) -> Option<usize>
+fn index_of(spaces: &Vec<(u64, Vec<Row>)>, space: u64) -> Option<usize>
     requires { IsOnce spaces.now.items }
     ensures at { MatchOption result (has spaces.now.items space ≡ false) (StandsAt space spaces.now.items) }
     ensures within { IfSome result (λ at. at < length spaces.now.items) }
@@ -201,7 +203,7 @@ impl Spaces {
         let Some(at) = index_of(&self.spaces, space) else {
             return;
         };
-        tables::put(&mut self.spaces[at].1, page, Some(key));
+        tables::put(&mut self.spaces[at].1, page, key);
     }
 
     /// Lets a present page get absent, and another one, which there is room for, have the key. All room is kept, since no more pages are
@@ -228,9 +230,7 @@ impl Spaces {
         let Some(at) = index_of(&self.spaces, space) else {
             return;
         };
-        if tables::key_in(&self.spaces[at].1, page).is_some() {
-            tables::put(&mut self.spaces[at].1, page, None);
-        }
+        tables::clear(&mut self.spaces[at].1, page);
     }
 
     /// The least present page of the space that is not below `page`, None where there is none.

@@ -5,6 +5,7 @@ ghost use Rattle.std.specs.Prelude.{◌≡◌, ◌≢◌, ◌<◌, ◌≤◌, �
 ghost use Rattle.l4_spaces.specs.Tables.{table_pages, space_tables, IsPage};
 ghost use Rattle.l4_spaces.specs.Inside.Two.{entry, is_made, IsReady, AreWhole, AreMade, NoKeys, NoneIn, IsFirstIn, row};
 
+use crate::row::Row;
 use std::alloc::{AllocError, Global};
 
 /// How many pages a table has.
@@ -17,36 +18,44 @@ pub(crate) const SPACE_TABLES: usize = 1024;
 pub(crate) const SPACE_PAGES: u32 = SPACE_TABLES as u32 * TABLE_PAGES;
 
 /// The key of the page.
-pub(crate) fn key_in(tables: &Vec<Vec<Option<usize>>>, page: u32) -> Option<usize>
+pub(crate) fn key_in(tables: &Vec<Row>, page: u32) -> Option<usize>
     ensures { result ≡ entry tables.now.items page }
 {
     let high = (page / TABLE_PAGES) as usize;
     if high >= tables.len() {
         return None;
     }
-    let row = &tables[high];
-    let low = (page % TABLE_PAGES) as usize;
-    if low >= row.len() {
-        return None;
-    }
-    row[low]
+    tables[high].key((page % TABLE_PAGES) as usize)
 }
 
 /// Sets the key of a page whose table is there.
-pub(crate) fn put(tables: &mut Vec<Vec<Option<usize>>>, page: u32, key: Option<usize>)
+pub(crate) fn put(tables: &mut Vec<Row>, page: u32, key: usize)
     requires ready { IsReady tables.old.items page }
-    ensures here { entry tables.new.items page ≡ key }
+    ensures here { entry tables.new.items page ≡ Some key }
     ensures others { (other : ℕ) → other ≢ page → entry tables.new.items other ≡ entry tables.old.items other }
     ensures long { (high : ℕ) → length (row tables.new.items high) ≡ length (row tables.old.items high) }
     ensures full { length tables.new.items ≡ length tables.old.items }
 {
     let high = (page / TABLE_PAGES) as usize;
     let low = (page % TABLE_PAGES) as usize;
-    tables[high][low] = key;
+    tables[high].put(low, key);
+}
+
+/// Lets the page have no key.
+pub(crate) fn clear(tables: &mut Vec<Row>, page: u32)
+    ensures here { entry tables.new.items page ≡ None }
+    ensures others { (other : ℕ) → other ≢ page → entry tables.new.items other ≡ entry tables.old.items other }
+    ensures long { (high : ℕ) → length (row tables.new.items high) ≡ length (row tables.old.items high) }
+    ensures full { length tables.new.items ≡ length tables.old.items }
+{
+    let high = (page / TABLE_PAGES) as usize;
+    if high < tables.len() {
+        tables[high].clear((page % TABLE_PAGES) as usize);
+    }
 }
 
 /// Makes the table with this number.
-fn make(tables: &mut Vec<Vec<Option<usize>>>, alloc: Global, high: usize) -> Result<(), AllocError>
+fn make(tables: &mut Vec<Row>, alloc: Global, high: usize) -> Result<(), AllocError>
     requires absent { row tables.old.items high ≡ [] }
     requires within { high < length tables.old.items }
     ensures same { (other : ℕ) → entry tables.new.items other ≡ entry tables.old.items other }
@@ -55,29 +64,25 @@ fn make(tables: &mut Vec<Vec<Option<usize>>>, alloc: Global, high: usize) -> Res
     ensures full { length tables.new.items ≡ length tables.old.items }
     ensures err { OnErr result (tables.new ≡ tables.old) }
 {
-    let table = vec![in alloc; None; TABLE_PAGES as usize]?;
+    let table = Row::whole(alloc, TABLE_PAGES as usize)?;
     tables[high] = table;
     Ok(())
 }
 
 /// Takes the table with this number away.
-fn unmake(tables: &mut Vec<Vec<Option<usize>>>, alloc: Global, high: usize)
+fn unmake(tables: &mut Vec<Row>, alloc: Global, high: usize)
     requires within { high < length tables.old.items }
     ensures gone { row tables.new.items high ≡ [] }
     ensures others { (other : ℕ) → other ≢ high → row tables.new.items other ≡ row tables.old.items other }
     ensures full { length tables.new.items ≡ length tables.old.items }
 {
-    tables[high] = Vec::new(alloc);
+    tables[high] = Row::absent(alloc);
 }
 
 /// Makes the root just long enough for the table with this number. The tables that come with that are absent.
 #[cold]
 #[inline(never)]
-fn grow_root(
-    tables: &mut Vec<Vec<Option<usize>>>,
-    alloc: Global,
-    high: usize,
-) -> Result<(), AllocError>
+fn grow_root(tables: &mut Vec<Row>, alloc: Global, high: usize) -> Result<(), AllocError>
     requires within { high < space_tables }
     requires full { length tables.old.items ≤ space_tables }
     ensures rows { (other : ℕ) → row tables.new.items other ≡ row tables.old.items other }
@@ -91,21 +96,21 @@ fn grow_root(
     }
     tables.reserve(high + 1 - from)?;
     for _ in from..high + 1 {
-        let _ = tables.push(Vec::new(alloc));
+        let _ = tables.push(Row::absent(alloc));
     }
     Ok(())
 }
 
 /// Whether the page's table is there.
-fn is_ready(tables: &Vec<Vec<Option<usize>>>, page: u32) -> bool
+fn is_ready(tables: &Vec<Row>, page: u32) -> bool
     ensures { result ≡ is_made tables.now.items (page / table_pages) }
 {
     let high = (page / TABLE_PAGES) as usize;
-    high < tables.len() && !tables[high].is_empty()
+    high < tables.len() && tables[high].len() > 0
 }
 
 /// The first of these pages whose table isn't there.
-fn first_absent(tables: &Vec<Vec<Option<usize>>>, pages: &[u32]) -> Option<usize>
+fn first_absent(tables: &Vec<Row>, pages: &[u32]) -> Option<usize>
     ensures ready { MatchOption result (AreMade tables.now.items pages.now (length pages.now)) (λ at. AreMade tables.now.items pages.now at) }
     ensures absent { IfSome result (λ at. (at < length pages.now) × (is_made tables.now.items (slice_index_or pages.now at 0 / table_pages) ≡ false)) }
 {
@@ -120,11 +125,7 @@ fn first_absent(tables: &Vec<Vec<Option<usize>>>, pages: &[u32]) -> Option<usize
 /// Makes the tables of all these pages. Where memory is refused, those that were made go again, but a root that grew stays.
 #[cold]
 #[inline(never)]
-fn make_more(
-    tables: &mut Vec<Vec<Option<usize>>>,
-    alloc: Global,
-    pages: &[u32],
-) -> Result<(), AllocError>
+fn make_more(tables: &mut Vec<Row>, alloc: Global, pages: &[u32]) -> Result<(), AllocError>
     requires whole { AreWhole tables.old.items }
     requires full { length tables.old.items ≤ space_tables }
     requires fit { All IsPage pages.now }
@@ -152,7 +153,7 @@ fn make_more(
 /// Makes the tables of all these pages. Where all of them are there, that is seen at once.
 #[inline]
 pub(crate) fn make_all(
-    tables: &mut Vec<Vec<Option<usize>>>,
+    tables: &mut Vec<Row>,
     alloc: Global,
     pages: &[u32],
 ) -> Result<(), AllocError>
@@ -174,13 +175,13 @@ pub(crate) fn make_all(
 }
 
 /// The first place from this one on and below the end that has a key, with the key.
-fn next_in_row(row: &Vec<Option<usize>>, from: usize, end: usize) -> Option<(usize, usize)>
-    requires within { end ≤ length row.now.items }
-    ensures none { MatchOption result (NoKeys row.now.items from end) (λ found. NoKeys row.now.items from found.0) }
-    ensures some { IfSome result (λ found. (from ≤ found.0) × (found.0 < end) × (slice_index_or row.now.items found.0 None ≡ Some found.1)) }
+fn next_in_row(row: &Row, from: usize, end: usize) -> Option<(usize, usize)>
+    requires within { end ≤ length row.now }
+    ensures none { MatchOption result (NoKeys row.now from end) (λ found. NoKeys row.now from found.0) }
+    ensures some { IfSome result (λ found. (from ≤ found.0) × (found.0 < end) × (slice_index_or row.now found.0 None ≡ Some found.1)) }
 {
     for low in from..end {
-        if let Some(key) = row[low] {
+        if let Some(key) = row.at(low) {
             return Some((low, key));
         }
     }
@@ -214,11 +215,7 @@ fn last_low(places: usize, start: u32, end: u32) -> usize
 
 /// The first page with a key from `page` on and below `end`, with the key.
 #[inline]
-pub(crate) fn next_page(
-    tables: &Vec<Vec<Option<usize>>>,
-    page: u32,
-    end: u32,
-) -> Option<(u32, usize)>
+pub(crate) fn next_page(tables: &Vec<Row>, page: u32, end: u32) -> Option<(u32, usize)>
     requires whole { AreWhole tables.now.items }
     requires full { length tables.now.items ≤ space_tables }
     ensures { MatchOption result (NoneIn tables.now.items page end) (λ found. IsFirstIn tables.now.items page end found.0 found.1) }
@@ -238,7 +235,7 @@ pub(crate) fn next_page(
 /// The first page with a key from `page` on and below `end`, with the key. Tables that are absent are stepped over, and no place
 /// from `end` on is looked at.
 #[inline(never)]
-fn seek(tables: &Vec<Vec<Option<usize>>>, page: u32, end: u32) -> Option<(u32, usize)>
+fn seek(tables: &Vec<Row>, page: u32, end: u32) -> Option<(u32, usize)>
     requires whole { AreWhole tables.now.items }
     requires full { length tables.now.items ≤ space_tables }
     ensures { MatchOption result (NoneIn tables.now.items page end) (λ found. IsFirstIn tables.now.items page end found.0 found.1) }

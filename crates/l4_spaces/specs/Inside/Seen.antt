@@ -9,10 +9,10 @@ use Rattle.l4_spaces.specs.Tables.{Tables, table_pages, space_tables}
 use Rattle.l4_spaces.specs.Inside.Two.{Rows, entry, is_made, AreWhole}
 
 abbrev pub Space : Type 0
-Space = ℕ × Vec (Vec (Option ℕ) Global) Global
+Space = ℕ × Vec (List (Option ℕ)) Global
 
 abbrev pub Live : Type 0
-Live = List (ℕ × Vec (Vec (Option ℕ) Global) Global)
+Live = List (ℕ × Vec (List (Option ℕ)) Global)
 
 abbrev pub numbers : Live → List ℕ
 numbers ss = map (λ s. s.0) ss

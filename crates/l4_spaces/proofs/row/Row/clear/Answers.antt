@@ -1,0 +1,18 @@
+use Rattle.std.proofs.Common.{◌∙◌, List, Option, ℕ, None, slice_set, refl, sym, ap, arith}
+use Rattle.l4_spaces.specs.Inside.Row.{no_key}
+use Rattle.l4_spaces.proofs.Keys.{seen_long, keys_put, none_beyond}
+use Rattle.l4_spaces.proofs.row.Row.clear.Goals as goal
+
+pub returns-then-low-len : goal.returns-then-low-len
+returns-then-low-len c =
+    let o = c.self.inside.short.ok.0 in
+    let e = c.len.ensures in
+    keys_put c.self.inside.short.items c.self.inside.long.items c.self.inside.long.items c.args.low no_key None (omega (arith, o, e, c.if-low-len.true)) refl (λ _ _. refl)
+    ∙ ap (λ (line : List (Option ℕ)). slice_set line c.args.low None) c.self.view_is
+
+pub returns-else-low-len : goal.returns-else-low-len
+returns-else-low-len c =
+    let o = c.self.inside.short.ok.0 in
+    let n = seen_long c.self.inside.short.items c.self.inside.long.items c.args.self.now c.self.view_is in
+    let e = c.len.ensures in
+    sym (none_beyond c.args.self.now c.args.low (omega (arith, o, n, e, c.if-low-len.false)))

@@ -1,0 +1,15 @@
+-- What the two lists of a table say of its pages.
+use Rattle.std.specs.Prelude.{ℕ, nat_lt, nat_eq, cond, List, [], ◌∷◌, drop, Option, None, Some, slice_index_or}
+
+-- stands for no key in four bytes: the greatest number but one
+abbrev pub no_key : ℕ
+no_key = 4294967294
+
+-- the key that a number of four bytes stands for, if it doesn't say that there is none: itself, or the long key
+abbrev pub meant : ℕ → ℕ → Option ℕ
+meant short long = cond (nat_lt short no_key) (Some short) (cond (nat_eq short no_key) None (Some long))
+
+-- the keys of all places; a long key that wasn't written is 0
+abbrev pub keys : List ℕ → List ℕ → List (Option ℕ)
+keys [] longs = []
+keys (short ∷ shorts) longs = meant short (slice_index_or longs 0 0) ∷ keys shorts (drop 1 longs)

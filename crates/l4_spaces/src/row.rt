@@ -1,0 +1,139 @@
+//! One table: a key or none for each of its pages, in four bytes for all but the largest keys.
+
+ghost use Rattle.std.specs.Prelude.{◌≡◌, ◌≢◌, ◌<◌, ◌≤◌, ℕ, [], length, replicate, None, Some, IfOk, slice_index_or, slice_set, vec_capacity};
+
+use std::alloc::{AllocError, Global};
+use std::marker::Model;
+
+/// Stands for no key.
+const NO_KEY: u32 = u32::MAX - 1;
+
+/// Stands for a key that four bytes can't hold.
+const LONG_KEY: u32 = u32::MAX;
+
+/// The keys of a table's pages. An absent table has none.
+#[derive(Drop)]
+pub(crate) struct Row {
+    /// Each key below `NO_KEY`.
+    short: Vec<u32>,
+    /// Each other key at its place. The room for all places is taken with the table, but nothing beyond the last such key is written.
+    long: Vec<usize>,
+}
+
+impl Model for Row {
+    ghost use Rattle.std.specs.Prelude.{ℕ, List, Option};
+
+    ghost Value = { List (Option ℕ) };
+
+    ghost use Rattle.l4_spaces.specs.Inside.Row.{keys};
+
+    ghost view = { λ r. keys r.short.items r.long.items };
+
+    ghost use Rattle.std.specs.Prelude.{◌≤◌, length, vec_capacity};
+
+    ghost invariant = { λ r. length r.short.items ≤ vec_capacity r.long };
+}
+
+/// What stands at this place, 0 beyond the end.
+#[cold]
+fn long_key(long: &Vec<usize>, low: usize) -> usize
+    ensures { result ≡ slice_index_or long.now.items low 0 }
+{
+    if low < long.len() {
+        return long[low];
+    }
+    0
+}
+
+/// Writes a key that four bytes can't hold.
+#[cold]
+fn put_long(long: &mut Vec<usize>, low: usize, key: usize)
+    requires room { low < vec_capacity long.old }
+    ensures here { slice_index_or long.new.items low 0 ≡ key }
+    ensures others { (other : ℕ) → other ≢ low → slice_index_or long.new.items other 0 ≡ slice_index_or long.old.items other 0 }
+    ensures capacity { vec_capacity long.old ≤ vec_capacity long.new }
+{
+    for _ in long.len()..low + 1 {
+        let _ = long.push(0);
+    }
+    long[low] = key;
+}
+
+impl Row {
+    /// No places.
+    pub(crate) fn absent(alloc: Global) -> Row
+        ensures { result ≡ [] }
+    {
+        Row {
+            short: Vec::new(alloc),
+            long: Vec::new(alloc),
+        }
+    }
+
+    /// A place for each of this many pages, none with a key.
+    pub(crate) fn whole(alloc: Global, pages: usize) -> Result<Row, AllocError>
+        ensures { IfOk result (λ row. row ≡ replicate pages None) }
+    {
+        let short = vec![in alloc; NO_KEY; pages]?;
+        let long = Vec::with_capacity(alloc, pages)?;
+        Ok(Row { short, long })
+    }
+
+    /// How many places there are.
+    pub(crate) fn len(&self) -> usize
+        ensures { result ≡ length self.now }
+    {
+        self.short.len()
+    }
+
+    /// The key of a place that is there.
+    #[inline]
+    pub(crate) fn at(&self, low: usize) -> Option<usize>
+        requires within { low < length self.now }
+        ensures { result ≡ slice_index_or self.now low None }
+    {
+        let number = self.short[low];
+        if number < NO_KEY {
+            return Some(number as usize);
+        }
+        if number == NO_KEY {
+            return None;
+        }
+        Some(long_key(&self.long, low))
+    }
+
+    /// The key of the place, None beyond the end.
+    #[inline]
+    pub(crate) fn key(&self, low: usize) -> Option<usize>
+        ensures { result ≡ slice_index_or self.now low None }
+    {
+        if low >= self.len() {
+            return None;
+        }
+        self.at(low)
+    }
+
+    /// Gives a place that is there this key.
+    #[inline]
+    pub(crate) fn put(&mut self, low: usize, key: usize)
+        requires within { low < length self.old }
+        ensures { self.new ≡ slice_set self.old low (Some key) }
+    {
+        if key < NO_KEY as usize {
+            self.short[low] = key as u32;
+            return;
+        }
+        put_long(&mut self.long, low, key);
+        self.short[low] = LONG_KEY;
+    }
+
+    /// Lets the place have no key. Beyond the end there is none.
+    #[inline]
+    pub(crate) fn clear(&mut self, low: usize)
+        ensures { self.new ≡ slice_set self.old low None }
+    {
+        if low < self.short.len() {
+            self.short[low] = NO_KEY;
+        }
+    }
+}
