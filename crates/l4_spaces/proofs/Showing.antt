@@ -31,8 +31,11 @@ made ss s k high view = ap (λ (t : Tables). set.contains t.tables (k, high)) (s
 pub at_here : (ss : Live) (k i : ℕ) (s : Space) → StandsAt k ss i → s ≡ slice_index_or ss i s → tables_of ss k ≡ s.1.items
 at_here ss k i s h is = stands_tables k ss i s h ∙ ap (λ (r : Space). r.1.items) (sym is)
 
+pub found_in : (ss : Live) (s : Tables) (k page : ℕ) (ts : Rows) → shown ss ≡ s → tables_of ss k ≡ ts → key_of s k page ≡ entry ts page
+found_in ss s k page ts view is = found ss s k page view ∙ ap (λ (t : Rows). entry t page) is
+
 pub absent_key : (ss : Live) (s : Tables) (k page : ℕ) → shown ss ≡ s → has ss k ≡ false → key_of s k page ≡ None
-absent_key ss s k page view h = found ss s k page view ∙ ap (λ (ts : Rows). entry ts page) (no_tables_of ss k h)
+absent_key ss s k page view h = found_in ss s k page [] view (no_tables_of ss k h)
 
 -- room
 
@@ -228,12 +231,12 @@ next_absent ss s k page view h other le here = let e : false ≡ true = sym (ap 
 
 none_at : (ss : Live) (s : Tables) (k : ℕ) (ts : Rows) (other : ℕ) → shown ss ≡ s → tables_of ss k ≡ ts → entry ts other ≡ None → ¬ (IsPresent s k other)
 none_at ss s k ts other view is none here =
-    let n : key_of s k other ≡ None = found ss s k other view ∙ ap (λ (t : Rows). entry t other) is ∙ none in
+    let n : key_of s k other ≡ None = found_in ss s k other ts view is ∙ none in
     let e : false ≡ true = sym (ap is_some n) ∙ here in cc
 
 pub next_found : (ss : Live) (s : Tables) (k page end : ℕ) (ts : Rows) (next key : ℕ) → shown ss ≡ s → tables_of ss k ≡ ts → IsFirstIn ts page end next key → IsNextIn s k page end next × (key_of s k next ≡ Some key)
 next_found ss s k page end ts next key view is h =
-    let shows : key_of s k next ≡ Some key = found ss s k next view ∙ ap (λ (t : Rows). entry t next) is ∙ h.shows in (
+    let shows : key_of s k next ≡ Some key = found_in ss s k next ts view is ∙ h.shows in (
       record {
         present = ap is_some shows;
         from = h.from;

@@ -1,7 +1,7 @@
 //! Page tables: which node each present page of each space has.
 #![tactic(auto)]
 
-ghost use Rattle.std.specs.Prelude.{◌≡◌, ◌≢◌, ◌∷◌, [], ◌<◌, ◌≤◌, ◌⊎◌, ℕ, List, All, length, false, IsTrue, IsOk, OnOk, OnErr, IfSome, MatchOption, Some, None, codes};
+ghost use Rattle.std.specs.Prelude.{◌≡◌, ◌≢◌, ◌∷◌, [], ◌<◌, ◌≤◌, ◌⊎◌, ℕ, List, All, length, true, false, IsTrue, IsOk, IfOk, OnOk, OnErr, IfSome, MatchOption, Some, None, codes};
 ghost use Rattle.std.specs.FinMap as map;
 ghost use Rattle.std.specs.FinSet as set;
 ghost use Rattle.l4_spaces.specs.Inside.Seen.{has, IsOnce, StandsAt};
@@ -175,6 +175,27 @@ impl Spaces {
         let alloc = self.alloc;
         tables::make_all(&mut self.spaces[at].1, alloc, pages)?;
         Ok(())
+    }
+
+    /// Gives an absent page this key, with a table if it has none. Whether the page was absent is given, and nothing changes if it was
+    /// present.
+    ///
+    /// NoMemory can come only for an absent page, and changes nothing.
+    pub fn claim(&mut self, space: u64, page: u32, key: usize) -> Result<bool, NoMemory>
+        requires there { IsSpace self.old space }
+        requires fits { IsPage page }
+        ensures spaces { self.new.spaces ≡ self.old.spaces }
+        ensures claimed { IfOk result (λ done. done ≡ true → (key_of self.old space page ≡ None) × (self.new.pages ≡ map.insert self.old.pages (space, page) key)) }
+        ensures present { IfOk result (λ done. done ≡ false → IsPresent self.old space page × (self.new ≡ self.old)) }
+        ensures err { OnErr result ((key_of self.old space page ≡ None) × (self.new ≡ self.old)) }
+        ensures room { KeepsRoom self.old self.new }
+    {
+        let Some(at) = index_of(&self.spaces, space) else {
+            unreachable!()
+        };
+        let alloc = self.alloc;
+        let absent = tables::claim(&mut self.spaces[at].1, alloc, page, key)?;
+        Ok(absent)
     }
 
     /// Sets the key of a page. The page is present, or is the first of pages that there is room for.

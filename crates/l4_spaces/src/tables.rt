@@ -1,7 +1,7 @@
 //! The tables of one space: each is absent or has a place for each of its pages. The list of them, the root, goes as far as a table was asked
 //! for, and what lies beyond it is absent.
 
-ghost use Rattle.std.specs.Prelude.{◌≡◌, ◌≢◌, ◌<◌, ◌≤◌, ◌/◌, ◌%◌, ◌+◌, ◌*◌, ◌⊎◌, ℕ, length, [], All, Some, None, OnOk, OnErr, IsOk, IfSome, MatchOption, slice_index_or, true, false};
+ghost use Rattle.std.specs.Prelude.{◌≡◌, ◌≢◌, ◌<◌, ◌≤◌, ◌/◌, ◌%◌, ◌+◌, ◌*◌, ◌⊎◌, ℕ, length, [], All, Some, None, OnOk, OnErr, IsOk, IfOk, IsTrue, is_some, IfSome, MatchOption, slice_index_or, true, false};
 ghost use Rattle.l4_spaces.specs.Tables.{table_pages, space_tables, IsPage};
 ghost use Rattle.l4_spaces.specs.Inside.Two.{entry, is_made, IsReady, AreWhole, AreMade, NoKeys, NoneIn, IsFirstIn, row};
 
@@ -172,6 +172,70 @@ pub(crate) fn make_all(
         return Ok(());
     };
     make_more(tables, alloc, pages)
+}
+
+/// Gives a page without a key this key, with a table if it has none. Whether the page had no key is given.
+///
+/// Memory can be refused only where the table wasn't there, and then a root that grew stays.
+#[inline]
+pub(crate) fn claim(
+    tables: &mut Vec<Row>,
+    alloc: Global,
+    page: u32,
+    key: usize,
+) -> Result<bool, AllocError>
+    requires whole { AreWhole tables.old.items }
+    requires full { length tables.old.items ≤ space_tables }
+    requires fits { IsPage page }
+    ensures claimed { IfOk result (λ done. done ≡ true → (entry tables.old.items page ≡ None) × (entry tables.new.items page ≡ Some key)) }
+    ensures present { IfOk result (λ done. done ≡ false → IsTrue (is_some (entry tables.old.items page)) × (tables.new.items ≡ tables.old.items)) }
+    ensures err { OnErr result ((entry tables.old.items page ≡ None) × (entry tables.new.items page ≡ None)) }
+    ensures others { (other : ℕ) → other ≢ page → entry tables.new.items other ≡ entry tables.old.items other }
+    ensures kept { (high : ℕ) → is_made tables.old.items high ≡ true → is_made tables.new.items high ≡ true }
+    ensures refused { OnErr result ((high : ℕ) → is_made tables.new.items high ≡ is_made tables.old.items high) }
+    ensures whole { AreWhole tables.new.items }
+    ensures full { length tables.new.items ≤ space_tables }
+{
+    let high = (page / TABLE_PAGES) as usize;
+    let low = (page % TABLE_PAGES) as usize;
+    if high < tables.len() {
+        let row = &mut tables[high];
+        if low < row.len() {
+            if row.at(low).is_some() {
+                return Ok(false);
+            }
+            row.put(low, key);
+            return Ok(true);
+        }
+    }
+    claim_more(tables, alloc, page, key)
+}
+
+/// Gives a page without a key this key, and makes its table before. Where memory is refused, a root that grew stays.
+#[cold]
+#[inline(never)]
+fn claim_more(
+    tables: &mut Vec<Row>,
+    alloc: Global,
+    page: u32,
+    key: usize,
+) -> Result<bool, AllocError>
+    requires whole { AreWhole tables.old.items }
+    requires full { length tables.old.items ≤ space_tables }
+    requires fits { IsPage page }
+    requires absent { entry tables.old.items page ≡ None }
+    ensures done { IfOk result (λ done. done ≡ true) }
+    ensures ok { OnOk result (entry tables.new.items page ≡ Some key) }
+    ensures err { OnErr result (entry tables.new.items page ≡ None) }
+    ensures others { (other : ℕ) → other ≢ page → entry tables.new.items other ≡ entry tables.old.items other }
+    ensures kept { (high : ℕ) → is_made tables.old.items high ≡ true → is_made tables.new.items high ≡ true }
+    ensures refused { OnErr result ((high : ℕ) → is_made tables.new.items high ≡ is_made tables.old.items high) }
+    ensures whole { AreWhole tables.new.items }
+    ensures full { length tables.new.items ≤ space_tables }
+{
+    make_more(tables, alloc, &[page])?;
+    put(tables, page, key);
+    Ok(true)
 }
 
 /// The first place from this one on and below the end that has a key, with the key.
