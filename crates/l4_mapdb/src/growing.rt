@@ -36,14 +36,12 @@ fn grow(links: &mut Links, used: UsedMove, rights: Rights) -> Result<(), Stop>
     ensures lacks { IfErr result (λ stop. stop.refused ≡ true → (key : ℕ) → ¬ (IsAt links.old.entries used.target key)) }
     ensures spaces { links.new.spaces ≡ links.old.spaces }
 {
-    if let Some(_) = links.find(used.target) {
-        return Err(Stop {
+    match links.add_child(used.source, used.target, rights) {
+        Ok(Some(_)) => Ok(()),
+        Ok(None) => Err(Stop {
             used,
             refused: false,
-        });
-    }
-    match links.add_child(used.source, used.target, rights) {
-        Ok(_) => Ok(()),
+        }),
         Err(_) => Err(Stop {
             used,
             refused: true,
