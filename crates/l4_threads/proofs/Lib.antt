@@ -11,3 +11,4 @@ pub mod DeleteLemmas
 pub mod FocusLemmas
 pub mod ActingLemmas
 pub mod PassingLemmas
+pub mod EndingLemmas

@@ -1,25 +1,15 @@
-use Rattle.std.proofs.Common.{Some, refl}
-use Rattle.l4_threads.specs.declared.State.TheVariants.{Running}
-use Rattle.l4_threads.proofs.ViewLemmas.{found_some, found_not_none, left_table, seen_left}
-use Rattle.l4_threads.proofs.FocusLemmas.{focused_running}
+use Rattle.std.proofs.Common.{refl}
+use Rattle.l4_threads.proofs.EndingLemmas.{ending_there, ended_kept, ended_seen}
 use Rattle.l4_threads.proofs.table.Threads.end_call.Goals as goal
 
 pub run-requires : goal.run-requires
-run-requires c =
-    let there = found_some c.self.inside.threads c.self.inside.queue.items c.self.inside.next_space c.args.self.now c.self.view_is c.args.number c.requires in
-    found_not_none c.self.inside.threads c.args.number there.0 there.1
+run-requires c = ending_there c.self.inside c.args.self.now c.self.view_is c.args.number c.requires
 
 pub invariant_of-self : goal.invariant_of-self
 invariant_of-self c =
-    let there = found_some c.self.inside.threads c.self.inside.queue.items c.self.inside.next_space c.args.self.now c.self.view_is c.args.number c.requires in
-    record {
-      table = rw (c.run.ensures, c.leave_if_sending.ensures)
-          (left_table c.self.inside.threads c.self.inside.queue.items c.self.inside.next_space c.args.number there.0 (Running (Some c.args.reply)) c.self.invariant.table there.1 refl);
-      focused = rw (c.run.ensures, c.with_running-self-inside.ensures) (focused_running c.self.inside.threads c.self.inside.focus c.args.number there.0 (Running (Some c.args.reply)) there.1 refl c.self.invariant.focused);
-    }
+    ended_kept c.self.inside c.args.self.now c.self.view_is c.args.number c.requires c.self.invariant c.args.reply _ c.run.ensures c.leave_if_sending.ensures refl c.with_running-self-inside.ensures
 
 pub returns : goal.returns
 returns c =
-    let there = found_some c.self.inside.threads c.self.inside.queue.items c.self.inside.next_space c.args.self.now c.self.view_is c.args.number c.requires in
-    rw (← c.self.view_is, c.run.ensures, c.leave_if_sending.ensures)
-    (seen_left c.self.inside.threads c.self.inside.queue.items c.self.inside.next_space c.args.number there.0 (Running (Some c.args.reply)) c.self.invariant.table there.1)
+    rw (c.run.ensures, c.leave_if_sending.ensures)
+    (ended_seen c.self.inside c.args.self.now c.self.view_is c.args.number c.requires c.self.invariant c.args.reply)
