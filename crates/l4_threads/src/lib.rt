@@ -50,7 +50,9 @@ pub enum Reply {
     Answered,
     /// A fault that failed with this ErrorCode.
     FaultFailed(u32),
+    /// An Unmap: the rights that it names are revoked.
     Unmapped,
+    /// A control of threads: one was made, changed or ended.
     Controlled,
     /// The call of a thread that was deleted as it waited.
     Gone,
@@ -65,7 +67,9 @@ pub enum Wordless {
     Answered,
     /// A fault that failed with this ErrorCode.
     FaultFailed(u32),
+    /// An Unmap: the rights that it names are revoked.
     Unmapped,
+    /// A control of threads: one was made, changed or ended.
     Controlled,
 }
 
