@@ -1,5 +1,5 @@
 //! What a script line asks for.
-ghost use Rattle.std.specs.Prelude.{◌≡◌, ◌∷◌, [], length, false, codes, bytes_eq, option_map};
+ghost use Rattle.std.specs.Prelude.{◌≡◌, ◌∷◌, false, codes, bytes_eq, option_map};
 ghost use Rattle.l4_text.specs.Tokens.{tokens_of};
 ghost use Rattle.l4_shell.specs.Commands.{thread_asked, set_pager_asked, delete_asked, receive_asked, show_asked, parent_asked, send_asked, delegate_asked, ipc_asked, unmap_asked, fault_asked, region_asked, serve_asked, steps_asked, pager_command_of, words_of, command_of};
 ghost use Rattle.l4_shell.specs.declared.commands.Command.TheVariants.{Receive, Send, Ipc, Fault};
