@@ -41,20 +41,17 @@ fn child(links: &mut Links, parent: usize, page: u32) -> Result<usize, NoMemory>
 }
 
 /// The same, added at once.
-fn child_at_once(links: &mut Links, parent: usize, page: u32) -> Result<usize, NoMemory>
+fn child_at_once(links: &mut Links, parent: usize, page: u32) -> Result<Option<usize>, NoMemory>
     requires { IsPage page }
 {
     links.add_space(0)?;
-    let place = Place { space: 0, page };
-    let None = links.find(place) else {
-        return Err(NoMemory);
-    };
     let Some(above) = links.standing(parent) else {
         return Err(NoMemory);
     };
     if above.rights.is_empty() {
         return Err(NoMemory);
     }
+    let place = Place { space: 0, page };
     links.add_child(parent, place, Rights::all())
 }
 
@@ -323,7 +320,10 @@ fn finds_pages(rt: HostRuntime) {
 fn adds_a_child_at_once(rt: HostRuntime) {
     let mut links = Links::new(rt.alloc());
     let [top, middle, low] = chain(&mut links).expect(&rt, "memory");
-    let next = child_at_once(&mut links, middle, 12).expect(&rt, "memory");
+    let added = child_at_once(&mut links, middle, 12).expect(&rt, "memory");
+    let taken = child_at_once(&mut links, top, 11).expect(&rt, "memory");
+    assert!(rt; taken.is_none());
+    let next = added.expect(&rt, "a page without a key");
     links.cap_below(middle, Rights::of_bits(5));
     let rows = [(low, 5, Some(middle)), (next, 5, Some(middle))];
     assert!(rt; stand_so(&links, &[(middle, 7, Some(top))]) && stand_so(&links, &rows));
