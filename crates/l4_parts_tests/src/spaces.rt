@@ -115,3 +115,57 @@ fn renames_a_page(rt: HostRuntime) -> Result<(), Fail> {
     );
     Ok(())
 }
+
+#[test]
+fn claims_absent_pages(rt: HostRuntime) -> Result<(), Fail> {
+    let mut spaces = Spaces::new(rt.alloc());
+    spaces.add(7)?;
+    let first = spaces.claim(7, 5, 50)?;
+    let again = spaces.claim(7, 5, 51)?;
+    let in_a_second_table = spaces.claim(7, 2000, 20)?;
+    assert_eq!(rt; [first, again, in_a_second_table], [true, false, true]);
+    assert_eq!(rt;
+        [
+            spaces.get(7, 5),
+            spaces.get(7, 4),
+            spaces.get(7, 2000),
+            spaces.get(7, 2001)
+        ],
+        [Some(50), None, Some(20), None]
+    );
+    assert_eq!(rt; spaces.next_present(7, 6), Some(2000));
+    Ok(())
+}
+
+#[test]
+fn keeps_long_keys(rt: HostRuntime) -> Result<(), Fail> {
+    let mut spaces = Spaces::new(rt.alloc());
+    for (page, key) in [
+        (9, 4_294_967_293),
+        (3, 4_294_967_294),
+        (8, 4_294_967_295),
+        (2, 5_000_000_000),
+    ] {
+        put(&mut spaces, 7, page, key)?;
+        assert_eq!(rt; spaces.get(7, page), Some(key), "page {page}");
+    }
+    put(&mut spaces, 7, 3, 30)?;
+    spaces.clear(7, 8);
+    assert_eq!(rt;
+        [
+            spaces.get(7, 9),
+            spaces.get(7, 3),
+            spaces.get(7, 8),
+            spaces.get(7, 2),
+            spaces.get(7, 4)
+        ],
+        [
+            Some(4_294_967_293),
+            Some(30),
+            None,
+            Some(5_000_000_000),
+            None
+        ]
+    );
+    Ok(())
+}
