@@ -91,6 +91,13 @@ taken_out a b c d ks key node order at gone same f g =
       others = λ o ne np nn. ap (option_map link_of) (g.others o nn ∙ f.others o np ∙ same o ne);
     }
 
+-- a key with a node is in the list
+pub stands_in : (slots : Slots) (ks : List ℕ) → IsOrder slots ks → (k : ℕ) → node_at slots k ≢ None → IsIn ks k
+stands_in slots ks order k some = elim (node_at slots k) as (λ o. node_at slots k ≡ o → IsIn ks k) [
+  | None ↦ λ e. absurd (some e)
+  | Some n ↦ λ e. order.all k n e
+] refl
+
 -- the order without it
 pub order_out : (old new : Slots) (xs : List ℕ) (key : ℕ) (ys : List ℕ) → IsOrder old (xs ++ key ∷ ys) → TakesOut (links old) (links new) key
     → ((o : ℕ) (n : Node) → o ≢ key → node_at new o ≡ Some n → node_at old o ≢ None) → node_at new key ≡ None → IsOrder new (xs ++ ys)
@@ -99,18 +106,12 @@ order_out old new xs key ys order takes were gone = record {
   linked = linked_out (links old) (links new) None xs key ys order.linked order.once (λ o i. none_before o) takes;
   all = λ k n at.
       let ne : k ≢ key = λ e. let w : ◌≡◌ {A = Option Node} None (Some n) = sym gone ∙ sym (ap (node_at new) e) ∙ at in absurd (let z : ◌≡◌ {A = Option Node} None (Some n) = w in cc) in
-      let i = old_in old (xs ++ key ∷ ys) order k (were k n ne at) in
+      let i = stands_in old (xs ++ key ∷ ys) order k (were k n ne at) in
       elim (in_parts xs (key ∷ ys) k i) [
         | inl l ↦ in_left xs ys k l
         | inr r ↦ elim r [ inl e ↦ absurd (ne (sym e)) | inr j ↦ in_right xs ys k j ]
       ];
 }
-  where
-    old_in : (old : Slots) (ks : List ℕ) → IsOrder old ks → (k : ℕ) → node_at old k ≢ None → IsIn ks k
-    old_in old ks order k some = elim (node_at old k) as (λ o. node_at old k ≡ o → IsIn ks k) [
-      | None ↦ λ e. absurd (some e)
-      | Some n ↦ λ e. order.all k n e
-    ] refl
 
 pub some_from : (x y : Slots) (o : ℕ) (n : Node) → limbs x o ≡ limbs y o → node_at x o ≡ Some n → node_at y o ≢ None
 some_from x y o n same at none =

@@ -338,7 +338,7 @@ impl Links {
         let Some(_) = node_of(&self.nodes, key) else {
             return;
         };
-        lists::cut_below(&mut self.nodes, &mut self.pages, key);
+        lists::cut_run(&mut self.nodes, &mut self.pages, key);
         self.stamp = fresh(self.stamp);
     }
 

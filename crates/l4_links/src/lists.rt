@@ -14,6 +14,7 @@ use crate::keys::Link;
 use crate::names::remove;
 use crate::nodes::{Node, child_depth, empty, is_wanted, node_of, set_next, set_prev, write};
 use crate::packed::Packed;
+use crate::walks::is_leaf;
 use l4_fpage::Rights;
 use l4_spaces::Spaces;
 use slab::Slab;
@@ -186,8 +187,24 @@ pub(crate) fn link_root(
     at
 }
 
+/// Cuts off all that descends from the node. Where nothing does, that is seen at once.
+#[inline]
+fn cut_below(nodes: &mut Slab<Packed>, pages: &mut Spaces, top: usize)
+    requires forest { (ks : List ℕ) × IsForest nodes.old.slots ks }
+    requires few { AreKeys nodes.old.slots }
+    requires there { node_at nodes.old.slots top ≢ None }
+    ensures prunes { Prunes top nodes.old.slots nodes.new.slots }
+    ensures indexed { IsIndexed nodes.old.slots pages.old → IsIndexed nodes.new.slots pages.new }
+    ensures spaces { pages.new.spaces ≡ pages.old.spaces }
+{
+    if is_leaf(nodes, top) {
+        return;
+    }
+    cut_run(nodes, pages, top);
+}
+
 /// Cuts off all that descends from the node: the run of deeper nodes after it, in one pass that mends the list at its end.
-pub(crate) fn cut_below(nodes: &mut Slab<Packed>, pages: &mut Spaces, top: usize)
+pub(crate) fn cut_run(nodes: &mut Slab<Packed>, pages: &mut Spaces, top: usize)
     requires forest { (ks : List ℕ) × IsForest nodes.old.slots ks }
     requires few { AreKeys nodes.old.slots }
     requires there { node_at nodes.old.slots top ≢ None }

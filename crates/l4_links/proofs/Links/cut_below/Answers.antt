@@ -21,15 +21,15 @@ returns-in_default-clause-cuts c =
 pub invariant_of-self : goal.invariant_of-self
 invariant_of-self c = record {
   sound =
-      sound_pruned c.self.inside.nodes.slots c.cut_below.new.nodes.slots c.self.inside.first c.self.inside.stamp c.fresh-self-inside.result c.self.inside.walk c.args.key
-      c.self.invariant.sound c.cut_below.ensures.prunes c.fresh-self-inside.ensures;
-  indexed = c.cut_below.ensures.indexed c.self.invariant.indexed;
+      sound_pruned c.self.inside.nodes.slots c.cut_run.new.nodes.slots c.self.inside.first c.self.inside.stamp c.fresh-self-inside.result c.self.inside.walk c.args.key
+      c.self.invariant.sound c.cut_run.ensures.prunes c.fresh-self-inside.ensures;
+  indexed = c.cut_run.ensures.indexed c.self.invariant.indexed;
   stack =
-      stack_pruned c.args.key c.self.inside.nodes.slots c.cut_below.new.nodes.slots c.self.inside.doomed
-      (subst (λ (s : Linked). HaveRights s.entries) (sym c.self.view_is) c.requires.some) c.cut_below.ensures.prunes c.self.invariant.stack;
+      stack_pruned c.args.key c.self.inside.nodes.slots c.cut_run.new.nodes.slots c.self.inside.doomed
+      (subst (λ (s : Linked). HaveRights s.entries) (sym c.self.view_is) c.requires.some) c.cut_run.ensures.prunes c.self.invariant.stack;
 }
 
 pub returns-clause-cuts : goal.returns-clause-cuts
 returns-clause-cuts c =
-    subst (λ (s : Linked). CutsBelow c.args.key s.entries (entries_of c.cut_below.new.nodes.slots)) c.self.view_is
-    (view_cuts c.self.inside.nodes.slots c.cut_below.new.nodes.slots c.args.key c.cut_below.ensures.prunes)
+    subst (λ (s : Linked). CutsBelow c.args.key s.entries (entries_of c.cut_run.new.nodes.slots)) c.self.view_is
+    (view_cuts c.self.inside.nodes.slots c.cut_run.new.nodes.slots c.args.key c.cut_run.ensures.prunes)

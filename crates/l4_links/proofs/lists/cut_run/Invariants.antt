@@ -1,7 +1,7 @@
 use Rattle.std.proofs.Common.{◌≡◌}
 use Rattle.l4_links.specs.Inside.Keeping.{IsIndexed}
 use Rattle.l4_links.proofs.Gaps.{GoneSoFar}
-use Rattle.l4_links.proofs.lists.cut_below.Given as goal
+use Rattle.l4_links.proofs.lists.cut_run.Given as goal
 
 abbrev pub invariant-loop-gone : goal.invariant-loop-gone
 invariant-loop-gone l = record {
