@@ -1,5 +1,5 @@
 -- A run of deeper keys that is taken out is what descends from the key before it.
-use Rattle.std.proofs.Common.{◌≡◌, ◌≢◌, ◌↔◌, ℕ, suc, zero, ◌+◌, ◌<◌, ◌≤◌, List, [], ◌∷◌, ◌++◌, length, Option, Some, None, refl, sym, ap, ◌∙◌, subst, arith, inl, inr, ◌⊎◌, append_assoc, length-append}
+use Rattle.std.proofs.Common.{◌≡◌, ◌≢◌, ◌↔◌, ℕ, suc, zero, ◌+◌, ◌<◌, ◌≤◌, List, [], ◌∷◌, ◌++◌, length, Option, Some, None, refl, sym, ap, ◌∙◌, subst, arith, inl, inr, ◌⊎◌, length-append}
 use Rattle.std.proofs.lemmas.Bool.{cases_eq, cases_lt}
 use Rattle.std.proofs.lemmas.List.{get_or_past}
 use Rattle.std.specs.Option.{option_map, option_and_then}
@@ -8,10 +8,10 @@ use Rattle.l4_links.specs.declared.nodes.Slot.{Slot}
 use Rattle.l4_links.specs.Leads.{Leads, steps}
 use Rattle.l4_links.specs.Inside.Trees.{Limb, IsInRun, parent_at, Sheds, SameOrder}
 use Rattle.l4_links.specs.Inside.Orders.{IsIn, IsOnce, first_of, position}
-use Rattle.l4_links.specs.Inside.Nodes.{Slots, node_at, spots, limbs, values, marks, IsOrder, IsForest, CutsOff, left_spot, Prunes}
+use Rattle.l4_links.specs.Inside.Nodes.{Slots, node_at, spots, limbs, values, marks, IsOrder, IsForest, left_spot, Prunes}
 use Rattle.l4_links.proofs.Linking.{in_left, in_right, in_parts, once_front, once_back, once_out, parted}
 use Rattle.l4_links.proofs.Positions.{position_here, position_further, position_within}
-use Rattle.l4_links.proofs.Neighbours.{once_apart, in_list, neighbours_at}
+use Rattle.l4_links.proofs.Neighbours.{once_apart, in_list}
 use Rattle.l4_links.proofs.Runs.{descendants, one_limb, parent_is}
 use Rattle.l4_links.proofs.Growing.{tree_sheds}
 

@@ -5,12 +5,12 @@ use Rattle.std.specs.Option.{option_map}
 use Rattle.l4_links.specs.declared.nodes.Node.{Node}
 use Rattle.l4_links.specs.Inside.Trees.{Limb}
 use Rattle.l4_links.specs.Inside.Orders.{IsIn, IsOnce, Link, first_of}
-use Rattle.l4_links.specs.Inside.Nodes.{Slots, node_at, spots, limbs, links, values, marks, IsOrder, IsForest, CutsOff, ClosesGap, left_spot}
+use Rattle.l4_links.specs.Inside.Nodes.{Slots, node_at, spots, limbs, links, IsOrder, IsForest, CutsOff, ClosesGap, left_spot}
 use Rattle.l4_links.proofs.Writes.{marks_of}
 use Rattle.l4_links.proofs.Linking.{in_left, in_right, in_parts, once_front, once_back, once_out, parted, first_in, linked_cut}
 use Rattle.l4_links.proofs.Neighbours.{worth_of, once_apart, in_list, neighbours_at, map_next, map_prev, next_set, prev_set, same_number, order_same_nodes}
 use Rattle.l4_links.proofs.Runs.{one_limb}
-use Rattle.l4_links.proofs.Cutting.{is_in_or, order_fits, once_rest, once_disjoint, Stands, in_front, is_top, in_run, in_back, stands, limb_in, none_of, CutSoFar, HasCut}
+use Rattle.l4_links.proofs.Cutting.{is_in_or, order_fits, once_rest, once_disjoint, in_front, is_top, in_run, in_back, stands, limb_in, none_of, CutSoFar, HasCut}
 
 abbrev limb_of : Node → Limb
 limb_of n = record { parent = n.parent; depth = n.depth }
