@@ -47,6 +47,7 @@ fn long_key(long: &Vec<usize>, low: usize) -> usize
 
 /// Writes a key that four bytes can't hold.
 #[cold]
+#[inline(never)]
 fn put_long(long: &mut Vec<usize>, low: usize, key: usize)
     requires room { low < vec_capacity long.old }
     ensures here { slice_index_or long.new.items low 0 ≡ key }
