@@ -141,9 +141,9 @@ fn claims_absent_pages(rt: HostRuntime) -> Result<(), Fail> {
 fn keeps_long_keys(rt: HostRuntime) -> Result<(), Fail> {
     let mut spaces = Spaces::new(rt.alloc());
     for (page, key) in [
-        (9, 4_294_967_293),
-        (3, 4_294_967_294),
-        (8, 4_294_967_295),
+        (9, 2_147_483_647),
+        (3, 2_147_483_648),
+        (8, 2_147_483_649),
         (2, 5_000_000_000),
     ] {
         put(&mut spaces, 7, page, key)?;
@@ -160,7 +160,7 @@ fn keeps_long_keys(rt: HostRuntime) -> Result<(), Fail> {
             spaces.get(7, 4)
         ],
         [
-            Some(4_294_967_293),
+            Some(2_147_483_647),
             Some(30),
             None,
             Some(5_000_000_000),

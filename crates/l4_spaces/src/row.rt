@@ -5,11 +5,11 @@ ghost use Rattle.std.specs.Prelude.{◌≡◌, ◌≢◌, ◌<◌, ◌≤◌, �
 use std::alloc::{AllocError, Global};
 use std::marker::Model;
 
-/// Stands for no key.
-const NO_KEY: u32 = u32::MAX - 1;
+/// Stands for no key. At half of all numbers, so that a test against it is one short instruction, of eight bytes too.
+const NO_KEY: u32 = 0x8000_0000;
 
 /// Stands for a key that four bytes can't hold.
-const LONG_KEY: u32 = u32::MAX;
+const LONG_KEY: u32 = NO_KEY + 1;
 
 /// The keys of a table's pages. An absent table has none.
 #[derive(Drop)]
@@ -124,8 +124,8 @@ impl Row {
             self.short[low] = key as u32;
             return;
         }
-        put_long(&mut self.long, low, key);
         self.short[low] = LONG_KEY;
+        put_long(&mut self.long, low, key);
     }
 
     /// Lets the place have no key. Beyond the end there is none.

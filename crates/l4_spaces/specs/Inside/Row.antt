@@ -1,9 +1,9 @@
 -- What the two lists of a table say of its pages.
 use Rattle.std.specs.Prelude.{ℕ, nat_lt, nat_eq, cond, List, [], ◌∷◌, drop, Option, None, Some, slice_index_or}
 
--- stands for no key in four bytes: the greatest number but one
+-- stands for no key in four bytes, and each key below it for itself
 abbrev pub no_key : ℕ
-no_key = 4294967294
+no_key = 2147483648
 
 -- the key that a number of four bytes stands for, if it doesn't say that there is none: itself, or the long key
 abbrev pub meant : ℕ → ℕ → Option ℕ

@@ -28,6 +28,6 @@ index_mut-requires-2 c =
 pub returns : goal.returns
 returns c =
     let n = seen_long c.self.inside.short.items c.self.inside.long.items c.args.self.now c.self.view_is in
-    keys_put c.self.inside.short.items c.self.inside.long.items c.put_long.new.long.items c.args.low 4294967295 (Some c.args.key) (omega (arith, n, c.requires.within))
-    (meant_long 4294967295 _ (omega arith) ∙ ap (λ (k : ℕ). Some k) c.put_long.ensures.here) c.put_long.ensures.others
+    keys_put c.self.inside.short.items c.self.inside.long.items c.put_long.new.long.items c.args.low 2147483649 (Some c.args.key) (omega (arith, n, c.requires.within))
+    (meant_long 2147483649 _ (omega arith) ∙ ap (λ (k : ℕ). Some k) c.put_long.ensures.here) c.put_long.ensures.others
     ∙ ap (λ (line : List (Option ℕ)). slice_set line c.args.low (Some c.args.key)) c.self.view_is
