@@ -113,6 +113,33 @@ first_after line start number after from first =
     let rest : take (length line - start) (drop start line) ≡ drop (position_or_len is_no_space line) line = take_rest line start ∙ ap (λ k. drop k line) from in
     (first.0, tokens_skip line ∙ ap tokens_of (sym rest) ∙ first.1, first.2)
 
+one_space : (x y : ℕ) (rest : List ℕ) (d : ℕ) → x ≡ 32 → digit_of y ≡ Some d → 1 ≡ position_or_len is_no_space (x ∷ y ∷ rest)
+one_space x y rest d is h =
+    elim (y == 32) as (λ v. (y == 32) ≡ v → 1 ≡ cond (not (not (x == 32))) (1 + cond (not (not v)) (1 + position_or_len is_no_space rest) 0) 0) [
+      | true ↦ λ t. absurd (not_some d (sym (ap digit_of (eqb-true y 32 t)) ∙ h))
+      | false ↦ λ _. λ i. cond (not (not (sym is i == 32))) 1 0
+    ] refl
+
+-- a digit between two spaces is the line's first token
+pub one_digit_first : (line : List ℕ) (a e b d : ℕ) → 3 ≤ length line → get_or line 0 a ≡ 32 → get_or line 2 b ≡ 32 → digit_of (get_or line 1 e) ≡ Some d → d < 2 ^ 32
+    → FirstNumber line (Some d) (take (length line - 2) (drop 2 line))
+one_digit_first [] a e b d three first third h small = absurd (omega (arith, three))
+one_digit_first (x ∷ []) a e b d three first third h small = absurd (omega (arith, three))
+one_digit_first (x ∷ y ∷ []) a e b d three first third h small = absurd (omega (arith, three))
+one_digit_first (x ∷ y ∷ z ∷ zs) a e b d three first third h small =
+    let line : List ℕ = x ∷ y ∷ z ∷ zs in
+    let all : take (length line - 1) (y ∷ z ∷ zs) ≡ y ∷ z ∷ zs = take_rest line 1 in
+    let after : take (length (y ∷ z ∷ zs) - 1) (z ∷ zs) ≡ take (length line - 2) (z ∷ zs) = take_rest (y ∷ z ∷ zs) 1 ∙ sym (take_rest line 2) in
+    let own : 0 * 10 + d ≡ d = omega arith in
+    let has : HasDigits 10 digit_of (y ∷ z ∷ zs) 1 d = (
+      omega arith,
+      ap (λ (o : Option ℕ). option_and_then (λ w. Some (0 * 10 + w)) o) h ∙ ap Some own,
+      (λ i. cond (not (third i == 32)) (1 + position_or_len is_space zs) 0),
+      small,
+    ) in
+    let got : FirstNumber (y ∷ z ∷ zs) (Some d) (take (length line - 2) (z ∷ zs)) = subst (λ t. FirstNumber (y ∷ z ∷ zs) (Some d) t) after (decimal_first (y ∷ z ∷ zs) 1 d has (omega arith) (omega arith)) in
+    first_after line 1 (Some d) (take (length line - 2) (z ∷ zs)) (one_space x y (z ∷ zs) d first h) (subst (λ t. FirstNumber t (Some d) (take (length line - 2) (z ∷ zs))) (sym all) got)
+
 no_len : (xs : List ℕ) → length xs ≡ 0 → 0 ≡ position_or_len is_space xs
 no_len [] h = refl
 no_len (x ∷ xs) h = absurd (omega (arith, h))

@@ -94,12 +94,35 @@ fn any_number(line: &[u8]) -> Option<(Option<u32>, &[u8])>
     }
 }
 
-/// The number of a line's first token and what follows the token, where it is soon read.
-pub fn quick_number(line: &[u8]) -> Option<(u32, &[u8])>
+/// The number of a line's first token, where it is one digit between two spaces, and what follows the token.
+#[inline(always)]
+fn one_digit(line: &[u8]) -> Option<(u32, &[u8])>
+    ensures { IfSome result (λ p. FirstNumber line.now (Some p.0) p.1.now) }
+{
+    if line.len() < 3 || line[0] != b' ' || line[2] != b' ' {
+        return None;
+    }
+    let value = digit(line[1])?;
+    Some((u32::from(value), &line[2..]))
+}
+
+/// `quick_number` of any other token.
+fn longer_number(line: &[u8]) -> Option<(u32, &[u8])>
     ensures { IfSome result (λ p. FirstNumber line.now (Some p.0) p.1.now) }
 {
     let (value, after) = first_number(&line[spaces(line)..])?;
     Some((value, after))
+}
+
+/// The number of a line's first token and what follows the token, where it is soon read.
+#[inline(always)]
+pub fn quick_number(line: &[u8]) -> Option<(u32, &[u8])>
+    ensures { IfSome result (λ p. FirstNumber line.now (Some p.0) p.1.now) }
+{
+    if let Some((value, after)) = one_digit(line) {
+        return Some((value, after));
+    }
+    longer_number(line)
 }
 
 /// The number that the first token of a line spells, None where it spells none, and what follows the token. None where
@@ -107,6 +130,9 @@ pub fn quick_number(line: &[u8]) -> Option<(u32, &[u8])>
 pub fn next_number(line: &[u8]) -> Option<(Option<u32>, &[u8])>
     ensures { MatchOption result (tokens_of line.now ≡ []) (λ p. FirstNumber line.now p.0 p.1.now) }
 {
+    if let Some((value, after)) = one_digit(line) {
+        return Some((Some(value), after));
+    }
     let text = &line[spaces(line)..];
     if text.is_empty() {
         return None;

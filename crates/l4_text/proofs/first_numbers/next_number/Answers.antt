@@ -5,5 +5,6 @@ use Rattle.l4_text.proofs.first_numbers.next_number.Goals as goal
 pub returns-then-is_empty : goal.returns-then-is_empty
 returns-then-is_empty c = none_after c.args.line.now _ c.spaces.ensures.value (eqb-true _ 0 (sym c.if-is_empty.ensures))
 
-pub returns-in-Some : goal.returns-in-Some
-returns-in-Some c = first_after c.args.line.now _ (Some c.in-Some.value) c.in-Some.after.now c.spaces.ensures.value c.in-Some.ensures
+pub returns-in-Some-first_number : goal.returns-in-Some-first_number
+returns-in-Some-first_number c =
+    first_after c.args.line.now _ (Some c.in-Some-first_number.value) c.in-Some-first_number.after.now c.spaces.ensures.value c.in-Some-first_number.ensures
