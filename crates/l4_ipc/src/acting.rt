@@ -92,6 +92,7 @@ fn start_receive(threads: &mut Threads, number: u32, call: &IpcCall) -> Result<b
 
 /// Starts the send phase of a running thread's Ipc, with the registers of its message and the items in them. True says that the call
 /// has ended.
+#[inline(always)]
 fn start_message(
     threads: &mut Threads,
     number: u32,

@@ -85,6 +85,7 @@ pub fn end(threads: &mut Threads, number: u32, ending: Ending)
 }
 
 /// The thread does this next. Whether its call ended.
+#[inline(always)]
 pub fn enter(threads: &mut Threads, number: u32, turn: Turn) -> bool
     requires { CanEnter threads.old number (next_of turn) }
     ensures threads { threads.new ≡ enters threads.old number (next_of turn) }

@@ -260,6 +260,7 @@ fn leave(queue: &mut ArrayVec<u32, MAX_THREADS>, number: u32)
 }
 
 /// Takes the number out of the queue, where it stands only if that thread sends.
+#[inline(always)]
 pub fn leave_if_sending(queue: &mut ArrayVec<u32, MAX_THREADS>, roster: &Roster, number: u32)
     requires once { IsOnce queue.old.items }
     requires senders { is_in queue.old.items number ≡ sends_in roster.now number }

@@ -367,6 +367,7 @@ impl Threads {
     }
 
     /// A running or sending thread starts to receive. It is in the queue no longer.
+    #[inline(always)]
     pub fn start_receive(&mut self, number: u32, receiving: Receiving)
         requires { IsTrue (may_receive self.old number) }
         ensures { self.new ≡ start_receive self.old number receiving }
