@@ -99,6 +99,7 @@ impl<T: FromWords> PackedList<T> {
     }
 
     /// Appends the item of these words, for which there is room.
+    #[inline(always)]
     pub fn push(&mut self, words: &Words<'_>)
         requires room { length self.old.items < self.old.room }
         requires read { IsTrue (is_some (T.item_at words.now)) }

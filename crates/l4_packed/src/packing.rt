@@ -23,6 +23,7 @@ pub(crate) fn record_len(words: &Words<'_>) -> usize
 
 /// Appends a record, for whose bytes there is room.
 #[tactic(auto, unfolding(crate::specs::Inside::Bytes::record_code))]
+#[inline(always)]
 pub(crate) fn put_record(out: &mut Vec<u8>, words: &Words<'_>)
     requires { vec_len out.old + length (record_code words.now) ≤ vec_capacity out.old }
     ensures items { out.new.items ≡ out.old.items ++ record_code words.now }

@@ -109,6 +109,7 @@ impl Piece {
     }
 
     /// Appends a record, for whose bytes there is room.
+    #[inline(always)]
     pub fn push(&mut self, words: &Words<'_>)
         requires { length (record_code words.now) ≤ self.old.free }
         ensures records { (self.new.first ≡ self.old.first) × (self.new.records ≡ self.old.records ++ words.now ∷ []) }

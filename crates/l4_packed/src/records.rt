@@ -219,6 +219,7 @@ impl Records {
     }
 
     /// Appends a record, for which there is room.
+    #[inline(always)]
     pub fn push(&mut self, words: &Words<'_>)
         requires { length self.old.records < self.old.room }
         ensures records { self.new.records ≡ self.old.records ++ words.now ∷ [] }
