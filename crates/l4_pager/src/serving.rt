@@ -7,7 +7,7 @@ ghost use Rattle.l4_ipc.specs.declared.calls.Call.{Call as ACall};
 ghost use Rattle.l4_ipc.specs.declared.calls.Call.TheVariants.{Ipc};
 ghost use Rattle.l4_msg.specs.Messages.{CanBeWritten, message_words};
 ghost use Rattle.l4_msg.specs.Protocols.{one_item};
-ghost use Rattle.l4_msg.specs.Sizes.{base_unit};
+ghost use Rattle.l4_msg.specs.Sizes.{base_unit, max_words};
 ghost use Rattle.l4_msg.specs.declared.items.Item.TheVariants.{Map};
 ghost use Rattle.l4_pager.specs.declared.serving.GateFault.{GateFault as AFault};
 ghost use Rattle.l4_pager.specs.Serving.{Brings, Follows, Serves, ComesNext, waiting, sending};
@@ -126,6 +126,18 @@ pub fn wait_into(call: &mut Call)
     }
 }
 
+/// Puts these words into message registers. Where as many stand there, as an answer before left them, none of those is cleared first.
+fn set_words(registers: &mut ArrayVec<u32, MAX_WORDS>, words: &[u32])
+    requires { length words.now ≤ max_words }
+    ensures { registers.new.items ≡ words.now }
+{
+    if registers.len() == words.len() {
+        return registers.as_mut_slice().copy_from_slice(words);
+    }
+    registers.clear();
+    let _ = registers.try_extend_from_slice(words);
+}
+
 /// Makes an Ipc the one that sends an answer of one map item, and then waits for anybody's message.
 fn set_answer(ipc: &mut IpcCall, sender: ThreadId, base: u32, fpage: Fpage)
     requires { base % base_unit ≡ 0 }
@@ -135,10 +147,7 @@ fn set_answer(ipc: &mut IpcCall, sender: ThreadId, base: u32, fpage: Fpage)
     ipc.from = ThreadId::any();
     ipc.timeouts = AT_ONCE;
     ipc.acceptor = 0;
-    ipc.words.clear();
-    ipc.words.push(ANSWER_TAG);
-    ipc.words.push(base + MAP_KIND);
-    ipc.words.push(fpage.word());
+    set_words(&mut ipc.words, &[ANSWER_TAG, base + MAP_KIND, fpage.word()]);
 }
 
 /// Makes a call the one that `answering` gives for an answer of one map item, which is told by its send base and fpage: written in
