@@ -162,6 +162,7 @@ impl Accounts {
     }
 
     /// Takes the call of this place, if it has ended: the account and the seat gain its receipt. The seat's has the call that the seat knows of.
+    #[inline(always)]
     pub fn settle(&mut self, at: usize, seat: &mut Seat, own: Option<&Call>) -> bool
         requires waiting { seat.old.waiting ≢ 0 }
         requires at { at < length self.old.items }

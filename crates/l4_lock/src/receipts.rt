@@ -88,6 +88,7 @@ impl Receipts {
     }
 
     /// Appends the receipt of these words, for which there is room.
+    #[inline(always)]
     pub(crate) fn push_words(&mut self, words: &Words<'_>)
         requires room { length self.old.items < self.old.room }
         requires read { IsTrue (is_some (receipt_at words.now)) }

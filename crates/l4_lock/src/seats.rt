@@ -262,25 +262,36 @@ fn hand_over(seat: &mut Seat, words: Words<'_>, own: Option<&Call>)
     }
 }
 
-/// Takes the account's call, if it has ended: the account and the seat gain its receipt. The seat's has the call that the seat knows of.
+/// Takes the account's call, which has ended: the account and the seat gain its receipt. The seat's has the call that the seat knows of.
 /// Full pieces of receipts that are the same in both then have two owners.
-pub(crate) fn settle(account: &mut Account, seat: &mut Seat, own: Option<&Call>) -> bool
-    requires { seat.old.waiting ≢ 0 }
-    ensures settles { result ≡ true → (reply : _) × Settles account.old account.new seat.old seat.new (own_call (option_copied own.entry)) reply }
-    ensures same { result ≡ false → (account.new ≡ account.old) × (seat.new ≡ seat.old) × (option_map_or has_ended account.old.pending false ≡ false) }
+#[inline(never)]
+fn settle_ended(account: &mut Account, seat: &mut Seat, own: Option<&Call>)
+    requires waiting { seat.old.waiting ≢ 0 }
+    requires ended { option_map_or has_ended account.old.pending false ≡ true }
+    ensures { (reply : _) × Settles account.old account.new seat.old seat.new (own_call (option_copied own.entry)) reply }
 {
     let Account {
         number: _,
         pending,
         receipts,
     } = account;
-    if !pending.has_ended() {
-        return false;
-    }
     let words = pending.receipt();
     receipts.push_words(&words);
     hand_over(seat, words, own);
     seat.share(receipts);
     pending.forget();
+}
+
+/// Takes the account's call, if it has ended, as `settle_ended` does. That is apart, so that nothing more is done for a call that goes on.
+#[inline(always)]
+pub(crate) fn settle(account: &mut Account, seat: &mut Seat, own: Option<&Call>) -> bool
+    requires { seat.old.waiting ≢ 0 }
+    ensures settles { result ≡ true → (reply : _) × Settles account.old account.new seat.old seat.new (own_call (option_copied own.entry)) reply }
+    ensures same { result ≡ false → (account.new ≡ account.old) × (seat.new ≡ seat.old) × (option_map_or has_ended account.old.pending false ≡ false) }
+{
+    if !account.has_reply() {
+        return false;
+    }
+    settle_ended(account, seat, own);
     true
 }

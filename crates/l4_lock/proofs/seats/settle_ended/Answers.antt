@@ -1,10 +1,10 @@
 use Rattle.std.proofs.Common.{None, ◌+◌, ◌++◌, ◌∷◌, [], refl, sym, ap, ◌∙◌}
 use Rattle.l4_lock.specs.Books.{Book, SeatState, book, receipt_of}
 use Rattle.l4_lock.specs.Lists.{ReceiptList}
-use Rattle.l4_lock.proofs.seats.settle.Goals as goal
+use Rattle.l4_lock.proofs.seats.settle_ended.Goals as goal
 
-pub returns-clause-settles : goal.returns-clause-settles
-returns-clause-settles c = λ _.
+pub returns : goal.returns
+returns c =
     let r = c.receipt-words.ensures in (
       r.1.reply,
       record {
