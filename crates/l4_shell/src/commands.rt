@@ -303,6 +303,7 @@ fn delegate(line: &[u8]) -> Option<Command<'static>>
 
 /// `N TO FROM TIMEOUTS WINDOW WORD..`, token by token
 #[tactic(auto, unfolding(crate::specs::Inside::InTurn::ipc_in_turn))]
+#[inline(always)]
 fn ipc_in_turn(
     line: &[u8],
     words: &mut ArrayVec<u32, MAX_WORDS>,
@@ -319,6 +320,7 @@ fn ipc_in_turn(
 }
 
 /// `N TO FROM TIMEOUTS WINDOW WORD..`
+#[inline(always)]
 pub(crate) fn ipc(
     line: &[u8],
     words: &mut ArrayVec<u32, MAX_WORDS>,
@@ -346,6 +348,7 @@ fn unmap<'a>(line: &[u8], registers: &'a mut ArrayVec<u32, MAX_WORDS>) -> Option
 
 /// `N ADDRESS IP RIGHTS`, token by token
 #[tactic(auto, unfolding(crate::specs::Inside::InTurn::fault_in_turn))]
+#[inline(always)]
 fn fault_in_turn(line: &[u8]) -> Option<(u32, FaultCall)>
     ensures { option_map (λ p. Fault p.0 p.1) result ≡ fault_in_turn (tokens_of line.now) }
 {
@@ -366,6 +369,7 @@ fn fault_in_turn(line: &[u8]) -> Option<(u32, FaultCall)>
 }
 
 /// `N ADDRESS IP RIGHTS`
+#[inline(always)]
 pub(crate) fn fault(line: &[u8]) -> Option<(u32, FaultCall)>
     ensures { option_map (λ p. Fault p.0 p.1) result ≡ fault_asked (tokens_of line.now) }
 {

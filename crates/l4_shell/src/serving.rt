@@ -275,6 +275,7 @@ fn serve<W: Write>(
 }
 
 /// Does what follows a call and its steps: the acts of served threads; and tells them, and at last whether the caller waits.
+#[inline(always)]
 pub(crate) fn follow<W: Write>(
     kernel: &mut SeatedKernel,
     servers: &mut Servers,
