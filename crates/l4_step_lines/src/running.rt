@@ -1,7 +1,7 @@
 //! Lists of steps from a reader to a writer.
 use crate::session::answer_line;
 use l4_ipc::Kernel;
-use l4_text::{Ending, Line, Output, RunFault, Source, next_line};
+use l4_text::{Ending, LineReader, Output, RunFault};
 use std::alloc::Global;
 use std::io::{Read, Write};
 use thiserror::Error;
@@ -31,21 +31,20 @@ fn answer_all<R: Read, W: Write>(
     out: &mut Output,
     writer: &mut W,
 ) -> Result<(), Fault> {
-    let mut source = Source::new();
-    let mut line = Line::new();
+    let mut lines = LineReader::new();
     for number in 1..u64::MAX {
-        out.send_before_read(&source, writer);
+        out.send_before_line(&lines, writer);
         if out.has_failed() {
             return Err(Fault::Stopped(RunFault::Write));
         }
-        let Ok(next) = next_line(&mut source, &mut line, reader) else {
+        let Ok(next) = lines.next(reader) else {
             return Err(Fault::Stopped(RunFault::Read));
         };
         match next {
             None => return Ok(()),
             Some(Ending::Cut) => return Err(Fault::Cut(number)),
             Some(Ending::Long) => return Err(Fault::Long(number)),
-            Some(Ending::Whole) => answer_line(kernel, number, line.as_slice(), out, writer)?,
+            Some(Ending::Whole) => answer_line(kernel, number, lines.line(), out, writer)?,
         }
     }
     Err(Fault::Stopped(RunFault::Read))
