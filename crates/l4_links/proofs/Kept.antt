@@ -9,8 +9,8 @@ use Rattle.l4_links.specs.declared.nodes.Slot.{Slot}
 use Rattle.l4_links.specs.Leads.{Leads, steps}
 use Rattle.l4_links.specs.Inside.Trees.{Limb, IsTree, parent_at, Sprouts, Rises}
 use Rattle.l4_links.specs.Inside.Orders.{Link, IsLinked, first_of, last_of, position}
-use Rattle.l4_links.specs.Inside.Nodes.{Slots, slot_at, node_at, limbs, links, values, marks, Marks, Worth, capped_worth, IsOrder, IsForest, IsLow, IsMarked, IsStamped, HasMarks, HasSeen, Ends, Comes, Prunes, Clears, CapsBelow, SetsWanted, IsSame}
-use Rattle.l4_links.specs.Inside.Keeping.{IsWithin, LiesWithin, IsFresh, sources_walk, IsSound}
+use Rattle.l4_links.specs.Inside.Nodes.{Slots, slot_at, node_at, limbs, links, values, marks, Marks, Worth, capped_worth, IsOrder, IsForest, IsLow, IsMarked, IsStamped, AreUnmarked, HasMarks, HasSeen, Ends, Comes, Prunes, Clears, CapsBelow, SetsWanted, IsSame}
+use Rattle.l4_links.specs.Inside.Keeping.{IsWithin, LiesWithin, IsFresh, BeginsWalk, sources_walk, IsSound}
 use Rattle.l4_links.proofs.Writes.{stamped_same}
 use Rattle.l4_links.proofs.Linking.{parted, link_at, linked_same}
 use Rattle.l4_links.proofs.Neighbours.{order_same_nodes, in_list}
@@ -25,6 +25,17 @@ worth_of n = record { frame = n.frame; rights = n.rights; source = n.source; gra
 
 abbrev marks_of : Node → Marks
 marks_of n = record { mark = n.mark; seen = n.seen }
+
+-- where no walk has left a mark none is of the first stamp, and none above any
+never_first : (stamp mark : ℕ) → stamp ≡ 1 → mark ≡ 0 → ¬ (IsMarked stamp mark)
+never_first stamp mark one zero m = let e = m.same in omega (arith, one, zero, e)
+
+stamped_unmarked : (slots : Slots) (stamp : ℕ) → AreUnmarked slots → IsStamped stamp slots
+stamped_unmarked slots stamp u some k m is =
+    let z = u k m is in
+    let z0 = z.0 in
+    let z1 = z.1 in
+    (omega (arith, z0), omega (arith, z1))
 
 -- no node has a fresh stamp
 pub fresh_none : (slots : Slots) (stamp fresh : ℕ) → IsStamped stamp slots → IsFresh stamp fresh → (k : ℕ) (m : Marks) → marks slots k ≡ Some m → ¬ (IsMarked fresh m.mark) × ¬ (IsMarked fresh m.seen)
@@ -333,23 +344,44 @@ sound_capped old new first stamp walk later top cap s c m t = record {
 }
 
 -- the marks that a walk starts with
-pub marks_for : (slots : Slots) (first : Option ℕ) (stamp walk later : ℕ) (cap : RightsSet) → IsSound slots first stamp walk → ((walk ≡ bits_of cap) × (later ≡ stamp)) ⊎ IsFresh stamp later → HasMarks cap later slots × IsStamped later slots
-marks_for slots first stamp walk later cap s e = elim e [
-  | inl same ↦ (
-    subst (λ (z : ℕ). HasMarks cap z slots) (sym same.1)
-        (subst (λ (z : RightsSet). HasMarks z stamp slots) (ap set_of_bits same.0 ∙ bits_back cap) (s.capped (λ w. no_sources_walk cap (sym same.0 ∙ w)))),
-    subst (λ (z : ℕ). IsStamped z slots) (sym same.1) s.stamped,
+pub marks_for : (old new : Slots) (first : Option ℕ) (stamp walk later : ℕ) (cap : RightsSet) → IsSound old first stamp walk → IsSame old new → BeginsWalk walk (bits_of cap) stamp later old new → HasMarks cap later new × IsStamped later new
+marks_for old new first stamp walk later cap s still e = elim e [
+  | inl same ↦ subst (λ (z : Slots). HasMarks cap later z × IsStamped later z) (sym same.2) (
+    subst (λ (z : ℕ). HasMarks cap z old) (sym same.1)
+        (subst (λ (z : RightsSet). HasMarks z stamp old) (ap set_of_bits same.0 ∙ bits_back cap) (s.capped (λ w. no_sources_walk cap (sym same.0 ∙ w)))),
+    subst (λ (z : ℕ). IsStamped z old) (sym same.1) s.stamped,
   )
-  | inr f ↦ (fresh_marks slots s.keys stamp later cap s.forest s.stamped f, stamped_fresh slots stamp later s.stamped f)
+  | inr r ↦ elim r [
+    | inl f ↦ subst (λ (z : Slots). HasMarks cap later z × IsStamped later z) (sym f.1) (fresh_marks old s.keys stamp later cap s.forest s.stamped f.0, stamped_fresh old stamp later s.stamped f.0)
+    | inr u ↦ (
+      record {
+        keys = s.keys;
+        forest = forest_links old new s.keys still.limbs_same still.links_same s.forest;
+        marked = λ k n at m. absurd (never_first later (marks_of n).mark u.0 (u.1 k (marks_of n) (ap (option_map marks_of) at)).0 m);
+      },
+      stamped_unmarked new later u.1,
+    )
+  ]
 ]
 
-pub seen_for : (slots : Slots) (first : Option ℕ) (stamp walk later : ℕ) → IsSound slots first stamp walk → ((walk ≡ sources_walk) × (later ≡ stamp)) ⊎ IsFresh stamp later → HasSeen later slots × IsStamped later slots
-seen_for slots first stamp walk later s e = elim e [
-  | inl same ↦ (
-    subst (λ (z : ℕ). HasSeen z slots) (sym same.1) (s.sought same.0),
-    subst (λ (z : ℕ). IsStamped z slots) (sym same.1) s.stamped,
+pub seen_for : (old new : Slots) (first : Option ℕ) (stamp walk later : ℕ) → IsSound old first stamp walk → IsSame old new → BeginsWalk walk sources_walk stamp later old new → HasSeen later new × IsStamped later new
+seen_for old new first stamp walk later s still e = elim e [
+  | inl same ↦ subst (λ (z : Slots). HasSeen later z × IsStamped later z) (sym same.2) (
+    subst (λ (z : ℕ). HasSeen z old) (sym same.1) (s.sought same.0),
+    subst (λ (z : ℕ). IsStamped z old) (sym same.1) s.stamped,
   )
-  | inr f ↦ (fresh_seen slots s.keys stamp later s.forest s.stamped f, stamped_fresh slots stamp later s.stamped f)
+  | inr r ↦ elim r [
+    | inl f ↦ subst (λ (z : Slots). HasSeen later z × IsStamped later z) (sym f.1) (fresh_seen old s.keys stamp later s.forest s.stamped f.0, stamped_fresh old stamp later s.stamped f.0)
+    | inr u ↦ (
+      record {
+        keys = s.keys;
+        forest = forest_links old new s.keys still.limbs_same still.links_same s.forest;
+        marked = λ k n at m. absurd (never_first later (marks_of n).mark u.0 (u.1 k (marks_of n) (ap (option_map marks_of) at)).0 m);
+        seen = λ k n at m. absurd (never_first later (marks_of n).seen u.0 (u.1 k (marks_of n) (ap (option_map marks_of) at)).1 m);
+      },
+      stamped_unmarked new later u.1,
+    )
+  ]
 ]
 
 within_same : (old new : Slots) → IsSame old new → IsWithin old → IsWithin new

@@ -14,6 +14,7 @@ pub mod Clearing
 pub mod Depths
 pub mod Seen
 pub mod Kept
+pub mod Renewing
 pub mod Views
 pub mod Stacking
 pub mod Burying

@@ -58,7 +58,7 @@ none_of_same : (old new : Slots) (k : ℕ) → IsSame old new → NoneMet k old 
 none_of_same old new k s f j l e = f j (subst (λ (g : ℕ → Option Limb). Leads (parent_at g) j k) (λ i a. s.limbs_same a i) l) (sym (sources_same old new s j) ∙ e)
 
 -- the writes of the walk
-seen_node : (key stamp : ℕ) (old new : Slots) → Sees key stamp old new → (j : ℕ) (P : Option Node → Option Node → Type 0) → ((o : Option Node) → P o o) → ((o : Option Node) → P o (option_map (λ (n : Node). record n { seen = stamp }) o))
+seen_node : (key stamp : ℕ) (old new : Slots) → Sees key stamp old new → (j : ℕ) (P : Option Node → Option Node → Type 0) → ((o : Option Node) → P o o) → ((o : Option Node) → P o (option_map (λ (n : Node). record n { seen = stamp; mark = 0 }) o))
     → P (node_at old j) (node_at new j)
 seen_node key stamp old new c j P keep write = elim (cases_eq j key) [
   | inl e ↦
@@ -69,21 +69,21 @@ seen_node key stamp old new c j P keep write = elim (cases_eq j key) [
 
 pub sees_same : (key stamp : ℕ) (old new : Slots) → Sees key stamp old new → IsSame old new
 sees_same key stamp old new c = record {
-  limbs_same = λ k. seen_node key stamp old new c k (λ a b. option_map limb_of b ≡ option_map limb_of a) (λ o. refl) (λ o. elim o as (λ o. option_map limb_of (option_map (λ (n : Node). record n { seen = stamp }) o) ≡ option_map limb_of o) [ None ↦ refl | Some n ↦ refl ]);
-  links_same = λ k. seen_node key stamp old new c k (λ a b. option_map link_of b ≡ option_map link_of a) (λ o. refl) (λ o. elim o as (λ o. option_map link_of (option_map (λ (n : Node). record n { seen = stamp }) o) ≡ option_map link_of o) [ None ↦ refl | Some n ↦ refl ]);
-  values_same = map_at worth_of (λ (n : Node). record n { seen = stamp }) (λ n. refl) key old new c.here c.others;
-  dooms_same = map_at doom_of (λ (n : Node). record n { seen = stamp }) (λ n. refl) key old new c.here c.others;
+  limbs_same = λ k. seen_node key stamp old new c k (λ a b. option_map limb_of b ≡ option_map limb_of a) (λ o. refl) (λ o. elim o as (λ o. option_map limb_of (option_map (λ (n : Node). record n { seen = stamp; mark = 0 }) o) ≡ option_map limb_of o) [ None ↦ refl | Some n ↦ refl ]);
+  links_same = λ k. seen_node key stamp old new c k (λ a b. option_map link_of b ≡ option_map link_of a) (λ o. refl) (λ o. elim o as (λ o. option_map link_of (option_map (λ (n : Node). record n { seen = stamp; mark = 0 }) o) ≡ option_map link_of o) [ None ↦ refl | Some n ↦ refl ]);
+  values_same = map_at worth_of (λ (n : Node). record n { seen = stamp; mark = 0 }) (λ n. refl) key old new c.here c.others;
+  dooms_same = map_at doom_of (λ (n : Node). record n { seen = stamp; mark = 0 }) (λ n. refl) key old new c.here c.others;
   spots_same = c.spots_same;
 }
 
 pub closes_same : (key stamp : ℕ) (end : Option ℕ) (old new : Slots) → Closes key stamp end old new → IsSame old new
-closes_same key stamp end old new c = (let l = closes_lowers key stamp end old new c in record { limbs_same = l.limbs_same; links_same = l.links_same; values_same = values_closed key stamp end old new c; dooms_same = map_at doom_of (λ (n : Node). record n { mark = stamp; end = end }) (λ n. refl) key old new c.here c.others; spots_same = c.spots_same })
+closes_same key stamp end old new c = (let l = closes_lowers key stamp end old new c in record { limbs_same = l.limbs_same; links_same = l.links_same; values_same = values_closed key stamp end old new c; dooms_same = map_at doom_of (λ (n : Node). record n { seen = stamp; mark = stamp; end = end }) (λ n. refl) key old new c.here c.others; spots_same = c.spots_same })
 
 -- what a node was before it was seen
 pub record WasSeen (old : Slots) (key j : ℕ) (n : Node) : Type 0 where
   pub node : Node
   pub at : node_at old j ≡ Some node
-  pub mark : n.mark ≡ node.mark
+  pub mark : (n.mark ≡ node.mark) ⊎ (n.mark ≡ 0)
   pub end : n.end ≡ node.end
   pub depth : n.depth ≡ node.depth
   pub seen : (n.seen ≡ node.seen) ⊎ (j ≡ key)
@@ -93,13 +93,20 @@ sees_was key stamp old new c j n at = elim (cases_eq j key) [
   | inl e ↦
       elim (node_at old j) as (λ o. node_at old j ≡ o → WasSeen old key j n) [
         | None ↦ λ none. absurd (
-            let w : ◌≡◌ {A = Option Node} (Some n) None = sym at ∙ ap (node_at new) e ∙ c.here ∙ ap (option_map (λ (n : Node). record n { seen = stamp })) (sym (ap (node_at old) e) ∙ none) in cc)
+            let w : ◌≡◌ {A = Option Node} (Some n) None = sym at ∙ ap (node_at new) e ∙ c.here ∙ ap (option_map (λ (n : Node). record n { seen = stamp; mark = 0 })) (sym (ap (node_at old) e) ∙ none) in cc)
         | Some m ↦ λ some.
-            let w : ◌≡◌ {A = Option Node} (Some n) (Some (record m { seen = stamp })) = sym at ∙ ap (node_at new) e ∙ c.here ∙ ap (option_map (λ (n : Node). record n { seen = stamp })) (sym (ap (node_at old) e) ∙ some) in
-            let s : n ≡ record m { seen = stamp } = cc in
-            record { node = m; at = some; mark = ap (λ (z : Node). z.mark) s; end = ap (λ (z : Node). z.end) s; depth = ap (λ (z : Node). z.depth) s; seen = inr e }
+            let w : ◌≡◌ {A = Option Node} (Some n) (Some (record m { seen = stamp; mark = 0 })) = sym at ∙ ap (node_at new) e ∙ c.here ∙ ap (option_map (λ (n : Node). record n { seen = stamp; mark = 0 })) (sym (ap (node_at old) e) ∙ some) in
+            let s : n ≡ record m { seen = stamp; mark = 0 } = cc in
+            record { node = m; at = some; mark = inr (ap (λ (z : Node). z.mark) s); end = ap (λ (z : Node). z.end) s; depth = ap (λ (z : Node). z.depth) s; seen = inr e }
       ] refl
-  | inr ne ↦ record { node = n; at = sym (c.others j ne) ∙ at; mark = refl; end = refl; depth = refl; seen = inl refl }
+  | inr ne ↦ record { node = n; at = sym (c.others j ne) ∙ at; mark = inl refl; end = refl; depth = refl; seen = inl refl }
+]
+
+-- a node that has the mark after it was seen had it before
+still_marked : (stamp now was : ℕ) → (now ≡ was) ⊎ (now ≡ 0) → IsMarked stamp now → IsMarked stamp was
+still_marked stamp now was e m = elim e [
+  | inl kept ↦ record { same = sym kept ∙ m.same; some = m.some }
+  | inr zero ↦ absurd (let is = m.same in let some = m.some in omega (arith, zero, is, some))
 ]
 
 -- what was looked at
@@ -151,7 +158,7 @@ seek_step old cur new top depth stamp count key node on c at deep some w a =
       still = same_on old cur new c.still (sees_same key stamp cur new w);
       marked = λ k n is m.
           let v = sees_was key stamp cur new w k n is in
-          let d = c.marked k v.node v.at (record { same = sym v.mark ∙ m.same; some = m.some }) in
+          let d = c.marked k v.node v.at (still_marked stamp n.mark v.node.mark v.mark m) in
           subst (λ (e : Option ℕ). IsFree old c.keys k n.depth e) (sym v.end) (subst (λ (e : ℕ). IsFree old c.keys k e v.node.end) (sym v.depth) d);
       seen = λ k n is s.
           let v = sees_was key stamp cur new w k n is in
@@ -162,7 +169,7 @@ seek_step old cur new top depth stamp count key node on c at deep some w a =
             ]
             | inr e ↦ (let p : position c.keys k ≡ position c.keys key = ap (position c.keys) e in inr (omega (arith, p, reached), omega (arith, p, beyond)))
           ];
-      stamped = stamped_at (λ (n : Node). record n { seen = stamp }) stamp (λ n m s. (m, omega arith)) key cur new w.here w.others c.stamped;
+      stamped = stamped_at (λ (n : Node). record n { seen = stamp; mark = 0 }) stamp (λ n m s. (omega arith, omega arith)) key cur new w.here w.others c.stamped;
       live = a.live;
       reached = omega (arith, reached, beyond);
       deeper = λ b y is lo hi. elim (order (position c.keys b) (position c.keys key)) [
@@ -298,10 +305,10 @@ sought_none old cur top depth stamp count at h j l zero =
     let r = leads_range old c.keys top depth at h.head c.forest (sought_ends old cur top depth stamp count at h) h.at_top h.depth_is j l in
     c.free j r.0 r.1 zero
 
-pub sought_seen : (old cur middle new : Slots) (top depth stamp count : ℕ) (at : Option ℕ) → HasSought old cur top depth stamp at count → Closes top stamp at cur middle → Sees top stamp middle new → HasSeen stamp new
-sought_seen old cur middle new top depth stamp count at h w z =
+pub sought_seen : (old cur new : Slots) (top depth stamp count : ℕ) (at : Option ℕ) → HasSought old cur top depth stamp at count → Closes top stamp at cur new → HasSeen stamp new
+sought_seen old cur new top depth stamp count at h w =
     let c = h.walk in
-    let still = same_on old middle new (same_on old cur middle c.still (closes_same top stamp at cur middle w)) (sees_same top stamp middle new z) in
+    let still = same_on old cur new c.still (closes_same top stamp at cur new w) in
     let ends = sought_ends old cur top depth stamp count at h in
     let none = sought_none old cur top depth stamp count at h in
     let under : (k : ℕ) (x : Limb) → limbs old k ≡ Some x → position c.keys top < position c.keys k → position c.keys k < place_of c.keys at → Leads (parent_at (limbs old)) k top =
@@ -318,34 +325,26 @@ sought_seen old cur middle new top depth stamp count at h w z =
       keys = c.keys;
       forest = forest_of_same old new c.keys still c.forest;
       marked = λ k n is m.
-          let v = sees_was top stamp middle new z k n is in
-          let f : IsFree old c.keys k v.node.depth v.node.end = elim (closed_was top stamp at cur middle w k v.node v.at) [
-            | inl was ↦ c.marked k v.node was (record { same = sym v.mark ∙ m.same; some = m.some })
+          let f : IsFree old c.keys k n.depth n.end = elim (closed_was top stamp at cur new w k n is) [
+            | inl was ↦ c.marked k n was m
             | inr s ↦
                 let is_top : limbs old top ≡ Some (limb_of s.2.0) = sym (ap (limbs old) s.0) ∙ sym (c.still.limbs_same k) ∙ ap (option_map limb_of) s.2.1 in
-                let dn : v.node.depth ≡ depth = s.2.2 ∙ ap (λ (z : Limb). z.depth) (one_limb (limbs old) top is_top (ap (option_map limb_of) h.at_top)) ∙ h.depth_is in
+                let dn : n.depth ≡ depth = s.2.2 ∙ ap (λ (z : Limb). z.depth) (one_limb (limbs old) top is_top (ap (option_map limb_of) h.at_top)) ∙ h.depth_is in
                 let mine : IsFree old c.keys top depth at = record { ends = ends; free = c.free } in
-                subst (λ (q : ℕ). IsFree old c.keys q v.node.depth v.node.end) (sym s.0)
-                (subst (λ (q : ℕ). IsFree old c.keys top q v.node.end) (sym dn)
+                subst (λ (q : ℕ). IsFree old c.keys q n.depth n.end) (sym s.0)
+                (subst (λ (q : ℕ). IsFree old c.keys top q n.end) (sym dn)
                 (subst (λ (q : Option ℕ). IsFree old c.keys top depth q) (sym s.1) mine))
           ] in
-          free_of_same old new c.keys k n.depth n.end still
-          (subst (λ (e : Option ℕ). IsFree old c.keys k n.depth e) (sym v.end) (subst (λ (e : ℕ). IsFree old c.keys k e v.node.end) (sym v.depth) f));
-      seen = λ k n is s.
-          let v = sees_was top stamp middle new z k n is in
-          let of_top : k ≡ top → NoneMet k new = λ e. none_of_same old new k still (subst (λ (q : ℕ). NoneMet q old) (sym e) none) in
-          elim v.seen [
-            | inr e ↦ of_top e
-            | inl e ↦ elim (closed_was top stamp at cur middle w k v.node v.at) [
-              | inr t ↦ of_top t.0
-              | inl was ↦ none_of_same old new k still (elim (c.seen k v.node was (record { same = sym e ∙ s.same; some = s.some })) [
-                | inl free ↦ free
-                | inr r ↦ λ j l zero.
-                    let is_k : limbs old k ≡ Some (limb_of v.node) = sym (c.still.limbs_same k) ∙ ap (option_map limb_of) was in
-                    none j (leads_on (parent_at (limbs old)) l (under k (limb_of v.node) is_k r.0 r.1)) zero
-              ])
-            ]
-          ];
+          free_of_same old new c.keys k n.depth n.end still f;
+      seen = λ k n is s. elim (closed_was top stamp at cur new w k n is) [
+        | inr t ↦ none_of_same old new k still (subst (λ (q : ℕ). NoneMet q old) (sym t.0) none)
+        | inl was ↦ none_of_same old new k still (elim (c.seen k n was s) [
+          | inl free ↦ free
+          | inr r ↦ λ j l zero.
+              let is_k : limbs old k ≡ Some (limb_of n) = sym (c.still.limbs_same k) ∙ ap (option_map limb_of) was in
+              none j (leads_on (parent_at (limbs old)) l (under k (limb_of n) is_k r.0 r.1)) zero
+        ])
+      ];
     }
 
 pub seek_at_end : (old cur : Slots) (top depth stamp count : ℕ) (head : Node) → SeekSoFar old cur top depth stamp None count → node_at old top ≡ Some head → head.depth ≡ depth → HasSought old cur top depth stamp None count
@@ -374,7 +373,5 @@ seek_at_key old cur top depth stamp count key head low c at d at_low le = record
 }
 
 -- no mark is above the stamp once the walk has left its own
-pub stamped_closed : (cur middle new : Slots) (top stamp : ℕ) (at : Option ℕ) → IsStamped stamp cur → Closes top stamp at cur middle → Sees top stamp middle new → IsStamped stamp new
-stamped_closed cur middle new top stamp at s w z =
-    stamped_at (λ (n : Node). record n { seen = stamp }) stamp (λ n m s. (m, omega arith)) top middle new z.here z.others
-    (stamped_at (λ (n : Node). record n { mark = stamp; end = at }) stamp (λ n m s. (omega arith, s)) top cur middle w.here w.others s)
+pub stamped_closed : (cur new : Slots) (top stamp : ℕ) (at : Option ℕ) → IsStamped stamp cur → Closes top stamp at cur new → IsStamped stamp new
+stamped_closed cur new top stamp at s w = stamped_at (λ (n : Node). record n { seen = stamp; mark = stamp; end = at }) stamp (λ n m s. (omega arith, omega arith)) top cur new w.here w.others s

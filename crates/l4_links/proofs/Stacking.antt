@@ -82,7 +82,7 @@ pub stack_same : (old new : Slots) (head : Option ℕ) → ((k : ℕ) → dooms 
 stack_same old new head same s = record { keys = s.keys; stack = subst (λ (g : ℕ → Option Doom). IsStack g s.keys) (λ i k. sym (same k) i) s.stack; head_is = s.head_is }
 
 pub stack_closed : (key stamp : ℕ) (end : Option ℕ) (old new : Slots) (head : Option ℕ) → Closes key stamp end old new → HasStack old head → HasStack new head
-stack_closed key stamp end old new head c s = stack_same old new head (map_at doom_of (λ (n : Node). record n { mark = stamp; end = end }) (λ n. refl) key old new c.here c.others) s
+stack_closed key stamp end old new head c s = stack_same old new head (map_at doom_of (λ (n : Node). record n { seen = stamp; mark = stamp; end = end }) (λ n. refl) key old new c.here c.others) s
 
 -- a write to a key that has a right, before and after it
 pub stack_off : (old new : Slots) (head : Option ℕ) (key : ℕ) → HasRight old key → HasRight new key → ((o : ℕ) → o ≢ key → dooms new o ≡ dooms old o) → HasStack old head → HasStack new head

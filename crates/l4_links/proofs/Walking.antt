@@ -122,12 +122,12 @@ caps_lowers key cap old new c = record {
 
 pub closes_lowers : (key stamp : ℕ) (end : Option ℕ) (old new : Slots) → Closes key stamp end old new → Lowers old new
 closes_lowers key stamp end old new c = record {
-  limbs_same = λ k. closed_node key stamp end old new c k (λ a b. option_map limb_of b ≡ option_map limb_of a) (λ o. refl) (λ o. elim o as (λ o. option_map limb_of (option_map (λ (n : Node). record n { mark = stamp; end = end }) o) ≡ option_map limb_of o) [ None ↦ refl | Some n ↦ refl ]);
-  links_same = λ k. closed_node key stamp end old new c k (λ a b. option_map link_of b ≡ option_map link_of a) (λ o. refl) (λ o. elim o as (λ o. option_map link_of (option_map (λ (n : Node). record n { mark = stamp; end = end }) o) ≡ option_map link_of o) [ None ↦ refl | Some n ↦ refl ]);
+  limbs_same = λ k. closed_node key stamp end old new c k (λ a b. option_map limb_of b ≡ option_map limb_of a) (λ o. refl) (λ o. elim o as (λ o. option_map limb_of (option_map (λ (n : Node). record n { seen = stamp; mark = stamp; end = end }) o) ≡ option_map limb_of o) [ None ↦ refl | Some n ↦ refl ]);
+  links_same = λ k. closed_node key stamp end old new c k (λ a b. option_map link_of b ≡ option_map link_of a) (λ o. refl) (λ o. elim o as (λ o. option_map link_of (option_map (λ (n : Node). record n { seen = stamp; mark = stamp; end = end }) o) ≡ option_map link_of o) [ None ↦ refl | Some n ↦ refl ]);
   was = λ j n at. was_closed key stamp end old new c j n at;
 }
   where
-    closed_node : (key stamp : ℕ) (end : Option ℕ) (old new : Slots) → Closes key stamp end old new → (j : ℕ) (P : Option Node → Option Node → Type 0) → ((o : Option Node) → P o o) → ((o : Option Node) → P o (option_map (λ (n : Node). record n { mark = stamp; end = end }) o))
+    closed_node : (key stamp : ℕ) (end : Option ℕ) (old new : Slots) → Closes key stamp end old new → (j : ℕ) (P : Option Node → Option Node → Type 0) → ((o : Option Node) → P o o) → ((o : Option Node) → P o (option_map (λ (n : Node). record n { seen = stamp; mark = stamp; end = end }) o))
         → P (node_at old j) (node_at new j)
     closed_node key stamp end old new c j P keep write = elim (cases_eq j key) [
       | inl e ↦
@@ -141,10 +141,10 @@ closes_lowers key stamp end old new c = record {
       | inl e ↦
           elim (node_at old j) as (λ o. node_at old j ≡ o → Was old j n) [
             | None ↦ λ none. absurd (
-                let w : ◌≡◌ {A = Option Node} (Some n) None = sym at ∙ ap (node_at new) e ∙ c.here ∙ ap (option_map (λ (n : Node). record n { mark = stamp; end = end })) (sym (ap (node_at old) e) ∙ none) in cc)
+                let w : ◌≡◌ {A = Option Node} (Some n) None = sym at ∙ ap (node_at new) e ∙ c.here ∙ ap (option_map (λ (n : Node). record n { seen = stamp; mark = stamp; end = end })) (sym (ap (node_at old) e) ∙ none) in cc)
             | Some m ↦ λ some.
-                let w : ◌≡◌ {A = Option Node} (Some n) (Some (record m { mark = stamp; end = end })) = sym at ∙ ap (node_at new) e ∙ c.here ∙ ap (option_map (λ (n : Node). record n { mark = stamp; end = end })) (sym (ap (node_at old) e) ∙ some) in
-                let same : n ≡ record m { mark = stamp; end = end } = cc in
+                let w : ◌≡◌ {A = Option Node} (Some n) (Some (record m { seen = stamp; mark = stamp; end = end })) = sym at ∙ ap (node_at new) e ∙ c.here ∙ ap (option_map (λ (n : Node). record n { seen = stamp; mark = stamp; end = end })) (sym (ap (node_at old) e) ∙ some) in
+                let same : n ≡ record m { seen = stamp; mark = stamp; end = end } = cc in
                 let v : n.rights ≡ m.rights = ap (λ (z : Node). z.rights) same in
                 record { node = m; at = some; limb_same = ap limb_of same; link_same = ap link_of same; less = λ b low. subst (λ (z : RightsSet). IsLow b z) (sym v) low }
           ] refl
@@ -387,10 +387,10 @@ closed_was key stamp end old new c j n at = elim (cases_eq j key) [
   | inl e ↦
       elim (node_at old j) as (λ o. node_at old j ≡ o → (node_at old j ≡ Some n) ⊎ ((j ≡ key) × (n.end ≡ end) × ((m : Node) × (node_at old j ≡ Some m) × (n.depth ≡ m.depth)))) [
         | None ↦ λ none. absurd (
-            let w : ◌≡◌ {A = Option Node} (Some n) None = sym at ∙ ap (node_at new) e ∙ c.here ∙ ap (option_map (λ (n : Node). record n { mark = stamp; end = end })) (sym (ap (node_at old) e) ∙ none) in cc)
+            let w : ◌≡◌ {A = Option Node} (Some n) None = sym at ∙ ap (node_at new) e ∙ c.here ∙ ap (option_map (λ (n : Node). record n { seen = stamp; mark = stamp; end = end })) (sym (ap (node_at old) e) ∙ none) in cc)
         | Some m ↦ λ some.
-            let w : ◌≡◌ {A = Option Node} (Some n) (Some (record m { mark = stamp; end = end })) = sym at ∙ ap (node_at new) e ∙ c.here ∙ ap (option_map (λ (n : Node). record n { mark = stamp; end = end })) (sym (ap (node_at old) e) ∙ some) in
-            let same : n ≡ record m { mark = stamp; end = end } = cc in
+            let w : ◌≡◌ {A = Option Node} (Some n) (Some (record m { seen = stamp; mark = stamp; end = end })) = sym at ∙ ap (node_at new) e ∙ c.here ∙ ap (option_map (λ (n : Node). record n { seen = stamp; mark = stamp; end = end })) (sym (ap (node_at old) e) ∙ some) in
+            let same : n ≡ record m { seen = stamp; mark = stamp; end = end } = cc in
             inr (e, ap (λ (z : Node). z.end) same, (m, some, ap (λ (z : Node). z.depth) same))
       ] refl
   | inr ne ↦ inl (sym (c.others j ne) ∙ at)
@@ -402,7 +402,7 @@ values_closed key stamp end old new c k = elim (cases_eq k key) [
   | inr ne ↦ ap (option_map worth_of) (c.others k ne)
 ]
   where
-    both : (stamp : ℕ) (end : Option ℕ) (o : Option Node) → option_map worth_of (option_map (λ (n : Node). record n { mark = stamp; end = end }) o) ≡ option_map worth_of o
+    both : (stamp : ℕ) (end : Option ℕ) (o : Option Node) → option_map worth_of (option_map (λ (n : Node). record n { seen = stamp; mark = stamp; end = end }) o) ≡ option_map worth_of o
     both stamp end None = refl
     both stamp end (Some n) = refl
 
@@ -550,4 +550,4 @@ walk_at_key old cur top depth cap stamp count key node low c at d at_low le = re
 
 pub walked_stamped : (old cur new : Slots) (top depth : ℕ) (cap : RightsSet) (stamp count : ℕ) (at : Option ℕ) → HasWalked old cur top depth cap stamp at count → Closes top stamp at cur new → IsStamped stamp new
 walked_stamped old cur new top depth cap stamp count at h w =
-    stamped_at (λ (n : Node). record n { mark = stamp; end = at }) stamp (λ n m s. (omega arith, s)) top cur new w.here w.others h.walk.stamped
+    stamped_at (λ (n : Node). record n { seen = stamp; mark = stamp; end = at }) stamp (λ n m s. (omega arith, omega arith)) top cur new w.here w.others h.walk.stamped

@@ -77,8 +77,8 @@ pub struct Links {
     pages: Spaces,
     /// The key of the first node of the list.
     first: Link,
-    /// The marks of this stamp are right. The stamp 0 is of no mark.
-    stamp: u64,
+    /// The marks of this stamp are right. The stamp 0 is of no mark: the stamps have run out, and begin again with the next walk.
+    stamp: u32,
     /// What the walks of this stamp are for: the bits of the rights that are left, or `SOURCES_WALK`.
     walk: u8,
     /// The key that the stack of nodes without rights begins with.
@@ -415,7 +415,7 @@ impl Links {
             return;
         }
         let walk = cap.bits();
-        let stamp = stamp_for(self.stamp, self.walk, walk);
+        let stamp = stamp_for(&mut self.nodes, self.stamp, self.walk, walk);
         self.stamp = stamp;
         self.walk = walk;
         let doomed = walks::cap_below(&mut self.nodes, top, cap, stamp, self.doomed);
@@ -446,7 +446,7 @@ impl Links {
         let Some(_) = node_of(&self.nodes, top) else {
             return false;
         };
-        let stamp = stamp_for(self.stamp, self.walk, SOURCES_WALK);
+        let stamp = stamp_for(&mut self.nodes, self.stamp, self.walk, SOURCES_WALK);
         self.stamp = stamp;
         self.walk = SOURCES_WALK;
         if walks::has_source(&mut self.nodes, top, stamp) {

@@ -3,6 +3,7 @@
 ghost use Rattle.std.specs.Prelude.{◌≡◌, ◌≢◌, ◌<◌, ◌+◌, ◌^◌, ◌++◌, ◌∷◌, [], ℕ, List, Option, Some, None, false};
 ghost use Rattle.slab.specs.Slab.{HasRoomFor};
 ghost use Rattle.l4_fpage.specs.Rights.{common};
+ghost use Rattle.l4_spaces.specs.Tables.{IsPage};
 ghost use Rattle.l4_links.specs.Inside.Keys.{IsKey};
 ghost use Rattle.l4_links.specs.Inside.Trees.{Sprouts, Rises};
 ghost use Rattle.l4_links.specs.Inside.Orders.{TakesOut, first_of};
@@ -138,6 +139,7 @@ pub(crate) fn add_under(
     requires forest { (ks : List ℕ) × IsForest nodes.old.slots ks }
     requires few { AreKeys nodes.old.slots }
     requires there { node_at nodes.old.slots parent ≡ Some above.now }
+    requires fits { IsPage place.page }
     requires kept { IsKey nodes.old.vacant_key }
     requires vacant { slot_at nodes.old.slots nodes.old.vacant_key ≡ None }
     requires room { HasRoomFor nodes.old 1 }

@@ -11,6 +11,7 @@ use l4_spaces::Spaces;
 use slab::Slab;
 
 /// Takes the slot under the key away, if there is one, and its page's name.
+#[inline]
 pub(crate) fn remove(nodes: &mut Slab<Packed>, pages: &mut Spaces, key: usize)
     ensures gone { slot_at nodes.new.slots key ≡ None }
     ensures others { (other : ℕ) → other ≢ key → slot_at nodes.new.slots other ≡ slot_at nodes.old.slots other }

@@ -3,6 +3,7 @@
 ghost use Rattle.std.specs.Prelude.{◌≡◌, ◌+◌, ◌<◌, ◌≤◌, false, Some, None, OnOk, OnErr};
 ghost use Rattle.std.specs.Option.{option_map};
 ghost use Rattle.slab.specs.Slab.{HasRoomFor};
+ghost use Rattle.l4_spaces.specs.Tables.{IsPage};
 ghost use Rattle.l4_links.specs.Inside.Keys.{IsKey, no_key};
 ghost use Rattle.l4_links.specs.Inside.Stacks.{HasStack};
 ghost use Rattle.l4_links.specs.Inside.Keeping.{standing_of};
@@ -38,10 +39,10 @@ pub(crate) struct Node {
     pub granted: Option<Rights>,
     /// How many ancestors there are.
     pub depth: usize,
-    /// The stamp of the last walk for sources that has come by the node.
-    pub seen: u64,
-    /// The stamp of the last walk that has been over all that descends from the node.
-    pub mark: u64,
+    /// The stamp of the last walk that has come by the node.
+    pub seen: u32,
+    /// The same stamp, where that walk has been over all that descends from the node, and else 0.
+    pub mark: u32,
     /// Where that walk left the run of the node's descendants.
     pub end: Link,
     /// The key of the parent.
@@ -119,7 +120,8 @@ pub(crate) fn child_depth(node: &Node, slots: usize) -> usize
 
 /// Lets the slot under the key, if there is one, hold this node.
 pub(crate) fn write(nodes: &mut Slab<Packed>, key: usize, node: Node)
-    requires { IsKey node.depth }
+    requires depth { IsKey node.depth }
+    requires unmarked { node.mark ≡ 0 }
     ensures { Writes key (Some node) nodes.old.slots nodes.new.slots }
 {
     if let Some(slot) = nodes.get_mut(key) {
@@ -147,6 +149,7 @@ pub(crate) fn set_wanted(nodes: &mut Slab<Packed>, key: usize, wanted: bool)
 
 /// Lets the slot under the key, if there is one, be of this page.
 pub(crate) fn set_place(nodes: &mut Slab<Packed>, key: usize, place: Place)
+    requires { IsPage place.page }
     ensures { SetsPlace key place nodes.old.slots nodes.new.slots }
 {
     if let Some(slot) = nodes.get_mut(key) {
@@ -156,6 +159,7 @@ pub(crate) fn set_place(nodes: &mut Slab<Packed>, key: usize, place: Place)
 
 /// Lets the slot under the key, if there is one, be of this page, with a note that an item of these rights grants it.
 pub(crate) fn give(nodes: &mut Slab<Packed>, key: usize, place: Place, rights: Rights)
+    requires { IsPage place.page }
     ensures { Gives key place rights nodes.old.slots nodes.new.slots }
 {
     if let Some(slot) = nodes.get_mut(key) {
@@ -219,8 +223,8 @@ pub(crate) fn cap_at(nodes: &mut Slab<Packed>, key: usize, cap: Rights, doomed: 
     doomed
 }
 
-/// Notes that the walk has been over all that descends from the node, and where it left that run.
-pub(crate) fn close(nodes: &mut Slab<Packed>, key: usize, stamp: u64, end: Link)
+/// Notes that the walk has come by the node and has been over all that descends from it, and where it left that run.
+pub(crate) fn close(nodes: &mut Slab<Packed>, key: usize, stamp: u32, end: Link)
     ensures { Closes key stamp end nodes.old.slots nodes.new.slots }
 {
     if let Some(slot) = nodes.get_mut(key) {
@@ -229,7 +233,7 @@ pub(crate) fn close(nodes: &mut Slab<Packed>, key: usize, stamp: u64, end: Link)
 }
 
 /// Notes that the walk has come by the node.
-pub(crate) fn see(nodes: &mut Slab<Packed>, key: usize, stamp: u64)
+pub(crate) fn see(nodes: &mut Slab<Packed>, key: usize, stamp: u32)
     ensures { Sees key stamp nodes.old.slots nodes.new.slots }
 {
     if let Some(slot) = nodes.get_mut(key) {

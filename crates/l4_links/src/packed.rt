@@ -1,9 +1,12 @@
-//! A slot in sixty bytes, so that it takes one line of a cache with the slab's own word. Numbers of eight bytes are kept in two
-//! halves, since eight bytes at once would have to lie at each eighth byte.
+//! A slot in forty-four bytes, so that four of them take three lines of a cache with the slab's own words. A number of eight bytes is
+//! kept in two halves, since eight bytes at once would have to lie at each eighth byte; a page takes twenty bits, and what else is
+//! small stands in the twelve that are left of four bytes.
 
-ghost use Rattle.std.specs.Prelude.{◌≡◌, ℕ, false, Some, None, IfSome};
+ghost use Rattle.std.specs.Prelude.{◌≡◌, ◌<◌, ℕ, false, Some, None, IfSome};
 ghost use Rattle.std.specs.Option.{option_map};
+ghost use Rattle.l4_spaces.specs.Tables.{IsPage};
 ghost use Rattle.l4_links.specs.Inside.Keys.{IsKey};
+ghost use Rattle.l4_links.specs.Inside.Packed.{rights_shown, notes_shown};
 ghost use Rattle.l4_links.specs.declared.nodes.Slot.{Slot as ASlot};
 ghost use Rattle.l4_links.specs.declared.nodes.Node.{Node as ANode};
 
@@ -58,66 +61,152 @@ impl Halves {
     }
 }
 
-/// The bits that stand for no rights of an item. Those of rights are below it.
+/// How many values a digit has: half a byte.
+const DIGIT: u8 = 16;
+
+/// How many values two bytes have.
+const NEAR: u32 = 1 << 16;
+
+/// Two digits in a byte.
+#[derive(Drop)]
+struct Digits {
+    byte: u8,
+}
+
+impl Model for Digits {
+    ghost use Rattle.std.specs.Prelude.{ℕ};
+    ghost use Rattle.std.specs.Coded.{coded_ℕ, coded×};
+
+    ghost Value = { ℕ × ℕ };
+
+    ghost coded = { coded× coded_ℕ coded_ℕ };
+
+    ghost use Rattle.l4_links.specs.Inside.Packed.{digits_shown};
+
+    ghost view = { digits_shown };
+}
+
+impl Digits {
+    /// These two digits.
+    #[inline]
+    fn of(low: u8, high: u8) -> Digits
+        requires low { low < 16 }
+        requires high { high < 16 }
+        ensures { result ≡ (low, high) }
+    {
+        Digits {
+            byte: high * DIGIT + low,
+        }
+    }
+
+    /// The low digit.
+    #[inline]
+    fn low(&self) -> u8
+        ensures same { result ≡ self.now.0 }
+        ensures small { result < 16 }
+    {
+        self.byte % DIGIT
+    }
+
+    /// The high digit.
+    #[inline]
+    fn high(&self) -> u8
+        ensures same { result ≡ self.now.1 }
+        ensures small { result < 16 }
+    {
+        self.byte / DIGIT
+    }
+
+    /// Lets this be the low digit.
+    #[inline]
+    fn set_low(&mut self, low: u8)
+        requires low { low < 16 }
+        ensures { self.new ≡ (low, self.old.1) }
+    {
+        *self = Digits::of(low, self.high());
+    }
+
+    /// Lets this be the high digit.
+    #[inline]
+    fn set_high(&mut self, high: u8)
+        requires high { high < 16 }
+        ensures { self.new ≡ (self.old.0, high) }
+    {
+        *self = Digits::of(self.low(), high);
+    }
+}
+
+/// The digit that stands for no rights of an item. Those of rights are below it.
 const NO_ITEM: u8 = 8;
 
-/// The rights of an item, or none.
-#[derive(Drop)]
-struct Granted {
-    bits: u8,
+/// The digit of the rights of an item, or of none.
+#[inline]
+fn granted_digit(granted: Option<Rights>) -> u8
+    ensures small { result < 16 }
+    ensures same { rights_shown result ≡ granted }
+{
+    let Some(rights) = granted else {
+        return NO_ITEM;
+    };
+    rights.bits()
 }
 
-impl Model for Granted {
-    ghost use Rattle.std.specs.Prelude.{Option};
-    ghost use Rattle.std.specs.Coded.{coded_option};
-    ghost use Rattle.l4_fpage.specs.Rights.{RightsSet, rights_code};
-
-    ghost Value = { Option RightsSet };
-
-    ghost coded = { coded_option rights_code };
-
-    ghost use Rattle.l4_links.specs.Inside.Packed.{rights_shown};
-
-    ghost view = { rights_shown };
+/// The rights of an item that the digit is of, if it is of any.
+#[inline]
+fn granted_of(digit: u8) -> Option<Rights>
+    ensures { result ≡ rights_shown digit }
+{
+    if digit == NO_ITEM {
+        return None;
+    }
+    Some(Rights::of_bits(digit))
 }
 
-impl Granted {
-    /// The rights of an item, or none.
+/// What is noted of a slot's page and of its node.
+#[derive(Clone, Copy)]
+struct Notes {
+    /// Whether a message fills the page.
+    wanted: bool,
+    /// Whether a message moves the page.
+    source: bool,
+    /// Whether the last walk that has come by the node has been over all that descends from it.
+    closed: bool,
+}
+
+impl Notes {
+    /// The digit of these notes.
     #[inline]
-    fn of(rights: Option<Rights>) -> Granted
-        ensures { result ≡ rights }
+    fn digit(self) -> u8
+        ensures small { result < 16 }
+        ensures same { notes_shown result ≡ self }
     {
-        let Some(rights) = rights else {
-            return Granted { bits: NO_ITEM };
-        };
-        Granted {
-            bits: rights.bits(),
-        }
+        u8::from(self.wanted) + 2 * u8::from(self.source) + 4 * u8::from(self.closed)
     }
 
-    /// These rights, if there are any.
+    /// The notes that the digit is of.
     #[inline]
-    fn rights(&self) -> Option<Rights>
-        ensures { result ≡ self.now }
+    fn of(digit: u8) -> Notes
+        ensures { result ≡ notes_shown digit }
     {
-        if self.bits == NO_ITEM {
-            return None;
+        Notes {
+            wanted: digit % 2 == 1,
+            source: digit / 2 % 2 == 1,
+            closed: digit / 4 % 2 == 1,
         }
-        Some(Rights::of_bits(self.bits))
     }
 }
 
-/// A slot. What few walks read stands last: memory for slots begins 16 bytes after a line of a cache, so the last 16 bytes of each slot
-/// stand in another line than the rest.
+/// A slot.
 #[derive(Drop)]
 pub(crate) struct Packed {
-    page: u32,
     space: Halves,
+    /// The lower sixteen bits of the page.
+    near: u16,
+    /// The upper four bits of the page, and the rights of the item that has granted it.
+    far: Digits,
+    /// The rights, and what is noted.
+    notes: Digits,
     frame: u32,
-    rights: Rights,
-    source: bool,
-    wanted: bool,
-    granted: Granted,
     /// None in a blank. What else there is of a node means nothing then.
     depth: Link,
     parent: Link,
@@ -125,11 +214,11 @@ pub(crate) struct Packed {
     next: Link,
     end: Link,
     doomed: Link,
-    seen: Halves,
-    mark: Halves,
+    /// The stamp of the last walk that has come by the node.
+    stamp: u32,
 }
 
-const _: () = prove!(size_of::<Packed>() == 60);
+const _: () = prove!(size_of::<Packed>() == 44);
 
 impl Model for Packed {
     ghost use Rattle.l4_links.specs.declared.nodes.Slot.{Slot};
@@ -145,49 +234,51 @@ impl Packed {
     /// A blank of the page.
     #[inline]
     pub(crate) fn blank(place: Place) -> Packed
+        requires { IsPage place.page }
         ensures { result ≡ record { place = place; wanted = false; node = None } }
     {
         Packed {
-            page: place.page,
             space: Halves::of(place.space),
+            near: (place.page % NEAR) as u16,
+            far: Digits::of((place.page / NEAR) as u8, NO_ITEM),
+            notes: Digits::of(0, 0),
             frame: 0,
-            rights: Rights::of_bits(0),
-            source: false,
-            wanted: false,
-            granted: Granted { bits: NO_ITEM },
-            seen: Halves { low: 0, high: 0 },
-            mark: Halves { low: 0, high: 0 },
             depth: Link::none(),
-            end: Link::none(),
             parent: Link::none(),
             prev: Link::none(),
             next: Link::none(),
+            end: Link::none(),
             doomed: Link::none(),
+            stamp: 0,
         }
     }
 
-    /// A slot of the page where this node stands.
+    /// A slot of the page where this node stands, which no walk has been over.
     #[inline]
     pub(crate) fn of(place: Place, node: Node) -> Packed
-        requires { IsKey node.depth }
+        requires fits { IsPage place.page }
+        requires depth { IsKey node.depth }
+        requires unmarked { node.mark ≡ 0 }
         ensures { result ≡ record { place = place; wanted = false; node = Some node } }
     {
-        Packed {
-            page: place.page,
-            space: Halves::of(place.space),
-            frame: node.frame,
-            rights: node.rights,
-            source: node.source,
+        let notes = Notes {
             wanted: false,
-            granted: Granted::of(node.granted),
-            seen: Halves::of(node.seen),
-            mark: Halves::of(node.mark),
+            source: node.source,
+            closed: false,
+        };
+        Packed {
+            space: Halves::of(place.space),
+            near: (place.page % NEAR) as u16,
+            far: Digits::of((place.page / NEAR) as u8, granted_digit(node.granted)),
+            notes: Digits::of(node.rights.bits(), notes.digit()),
+            frame: node.frame,
             depth: Link::to(node.depth),
-            end: node.end,
             parent: node.parent,
             prev: node.prev,
             next: node.next,
+            end: node.end,
             doomed: node.doomed,
+            stamp: node.seen,
         }
     }
 
@@ -198,7 +289,7 @@ impl Packed {
     {
         Place {
             space: self.space.number(),
-            page: self.page,
+            page: self.far.low() as u32 * NEAR + self.near as u32,
         }
     }
 
@@ -207,7 +298,7 @@ impl Packed {
     pub(crate) fn is_wanted(&self) -> bool
         ensures { result ≡ self.now.wanted }
     {
-        self.wanted
+        Notes::of(self.notes.high()).wanted
     }
 
     /// The node. None in a blank.
@@ -218,14 +309,15 @@ impl Packed {
         let Some(depth) = self.depth.key() else {
             return None;
         };
+        let notes = Notes::of(self.notes.high());
         Some(Node {
             frame: self.frame,
-            rights: self.rights,
-            source: self.source,
-            granted: self.granted.rights(),
+            rights: Rights::of_bits(self.notes.low()),
+            source: notes.source,
+            granted: granted_of(self.far.high()),
             depth,
-            seen: self.seen.number(),
-            mark: self.mark.number(),
+            seen: self.stamp,
+            mark: if notes.closed { self.stamp } else { 0 },
             end: self.end,
             parent: self.parent,
             prev: self.prev,
@@ -234,24 +326,28 @@ impl Packed {
         })
     }
 
-    /// Lets this node be in the slot.
+    /// Lets this node be in the slot, which no walk has been over.
     #[inline]
     pub(crate) fn put(&mut self, node: Node)
-        requires { IsKey node.depth }
+        requires depth { IsKey node.depth }
+        requires unmarked { node.mark ≡ 0 }
         ensures { self.new ≡ record self.old { node = Some node } }
     {
+        let notes = Notes {
+            wanted: self.is_wanted(),
+            source: node.source,
+            closed: false,
+        };
+        self.far.set_high(granted_digit(node.granted));
+        self.notes = Digits::of(node.rights.bits(), notes.digit());
         self.frame = node.frame;
-        self.rights = node.rights;
-        self.source = node.source;
-        self.granted = Granted::of(node.granted);
-        self.seen = Halves::of(node.seen);
-        self.mark = Halves::of(node.mark);
         self.depth = Link::to(node.depth);
-        self.end = node.end;
         self.parent = node.parent;
         self.prev = node.prev;
         self.next = node.next;
+        self.end = node.end;
         self.doomed = node.doomed;
+        self.stamp = node.seen;
     }
 
     /// Lets the slot be a blank.
@@ -267,26 +363,31 @@ impl Packed {
     pub(crate) fn set_wanted(&mut self, wanted: bool)
         ensures { self.new ≡ record self.old { wanted = wanted } }
     {
-        self.wanted = wanted;
+        let mut notes = Notes::of(self.notes.high());
+        notes.wanted = wanted;
+        self.notes.set_high(notes.digit());
     }
 
     /// Lets the slot be of this page.
     #[inline]
     pub(crate) fn set_place(&mut self, place: Place)
+        requires { IsPage place.page }
         ensures { self.new ≡ record self.old { place = place } }
     {
         self.space = Halves::of(place.space);
-        self.page = place.page;
+        self.near = (place.page % NEAR) as u16;
+        self.far.set_low((place.page / NEAR) as u8);
     }
 
     /// Lets the slot be of this page, with a note that an item of these rights grants it.
     #[inline]
     pub(crate) fn give(&mut self, place: Place, rights: Rights)
+        requires { IsPage place.page }
         ensures { self.new ≡ record self.old { place = place; node = option_map (λ (n : ANode). record n { granted = Some rights }) self.old.node } }
     {
         self.space = Halves::of(place.space);
-        self.page = place.page;
-        self.granted = Granted::of(Some(rights));
+        self.near = (place.page % NEAR) as u16;
+        self.far = Digits::of((place.page / NEAR) as u8, granted_digit(Some(rights)));
     }
 
     /// Lets a node have this next key.
@@ -310,25 +411,31 @@ impl Packed {
     pub(crate) fn lower(&mut self, rights: Rights, doomed: Link)
         ensures { self.new ≡ record self.old { node = option_map (λ (n : ANode). record n { rights = rights; doomed = doomed }) self.old.node } }
     {
-        self.rights = rights;
+        self.notes.set_low(rights.bits());
         self.doomed = doomed;
     }
 
-    /// Notes that the walk has been over all that descends from a node, and where it left that run.
+    /// Notes that the walk has come by a node and has been over all that descends from it, and where it left that run.
     #[inline]
-    pub(crate) fn close(&mut self, stamp: u64, end: Link)
-        ensures { self.new ≡ record self.old { node = option_map (λ (n : ANode). record n { mark = stamp; end = end }) self.old.node } }
+    pub(crate) fn close(&mut self, stamp: u32, end: Link)
+        ensures { self.new ≡ record self.old { node = option_map (λ (n : ANode). record n { seen = stamp; mark = stamp; end = end }) self.old.node } }
     {
-        self.mark = Halves::of(stamp);
+        let mut notes = Notes::of(self.notes.high());
+        notes.closed = true;
+        self.notes.set_high(notes.digit());
+        self.stamp = stamp;
         self.end = end;
     }
 
-    /// Notes that the walk has come by a node.
+    /// Notes that the walk has come by a node. What an earlier one has noted of all that descends from it goes.
     #[inline]
-    pub(crate) fn see(&mut self, stamp: u64)
-        ensures { self.new ≡ record self.old { node = option_map (λ (n : ANode). record n { seen = stamp }) self.old.node } }
+    pub(crate) fn see(&mut self, stamp: u32)
+        ensures { self.new ≡ record self.old { node = option_map (λ (n : ANode). record n { seen = stamp; mark = 0 }) self.old.node } }
     {
-        self.seen = Halves::of(stamp);
+        let mut notes = Notes::of(self.notes.high());
+        notes.closed = false;
+        self.notes.set_high(notes.digit());
+        self.stamp = stamp;
     }
 
     /// Marks a node as a source, or takes the mark away.
@@ -336,7 +443,9 @@ impl Packed {
     pub(crate) fn set_source(&mut self, source: bool)
         ensures { self.new ≡ record self.old { node = option_map (λ (n : ANode). record n { source = source }) self.old.node } }
     {
-        self.source = source;
+        let mut notes = Notes::of(self.notes.high());
+        notes.source = source;
+        self.notes.set_high(notes.digit());
     }
 
     /// Takes the marks of a source and of a grant from a node.
@@ -344,7 +453,7 @@ impl Packed {
     pub(crate) fn set_plain(&mut self)
         ensures { self.new ≡ record self.old { node = option_map (λ (n : ANode). record n { source = false; granted = None }) self.old.node } }
     {
-        self.source = false;
-        self.granted = Granted::of(None);
+        self.set_source(false);
+        self.far.set_high(NO_ITEM);
     }
 }

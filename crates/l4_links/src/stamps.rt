@@ -1,25 +1,47 @@
 //! The stamps of walks.
 
 ghost use Rattle.std.specs.Prelude.{◌≡◌, ◌≢◌, ◌⊎◌};
-ghost use Rattle.l4_links.specs.Inside.Keeping.{IsFresh, sources_walk};
+ghost use Rattle.l4_links.specs.Inside.Nodes.{IsSame, AreUnmarked};
+ghost use Rattle.l4_links.specs.Inside.Keeping.{IsFresh, BeginsWalk, sources_walk};
+
+use crate::nodes::see;
+use crate::packed::Packed;
+use slab::Slab;
 
 /// The number of a walk for sources. A walk that caps rights has the number of their bits, which is less.
 pub(crate) const SOURCES_WALK: u8 = 8;
 
 /// A stamp that no node has. After the last stamp there is 0, with which nothing is marked.
-pub(crate) fn fresh(stamp: u64) -> u64
+pub(crate) fn fresh(stamp: u32) -> u32
     ensures { IsFresh stamp result }
 {
-    if stamp == 0 || stamp == u64::MAX {
+    if stamp == 0 || stamp == u32::MAX {
         return 0;
     }
     stamp + 1
 }
 
-/// The stamp for a walk: the last one, where that walk was for the same, or a fresh one.
-pub(crate) fn stamp_for(stamp: u64, last: u8, walk: u8) -> u64
-    ensures { ((last ≡ walk) × (result ≡ stamp)) ⊎ IsFresh stamp result }
+/// Takes the stamps of all walks from all nodes. It is needed once in 2^32 - 1 stamps.
+#[cold]
+fn unmark_all(nodes: &mut Slab<Packed>)
+    ensures same { IsSame nodes.old.slots nodes.new.slots }
+    ensures unmarked { AreUnmarked nodes.new.slots }
 {
+    for key in 0..nodes.capacity() {
+        see(nodes, key, 0);
+    }
+}
+
+/// The stamp for a walk: the last one, where that walk was for the same, or a fresh one. Where the stamps have run out they begin
+/// again, with no node that has one.
+pub(crate) fn stamp_for(nodes: &mut Slab<Packed>, stamp: u32, last: u8, walk: u8) -> u32
+    ensures same { IsSame nodes.old.slots nodes.new.slots }
+    ensures begins { BeginsWalk last walk stamp result nodes.old.slots nodes.new.slots }
+{
+    if stamp == 0 {
+        unmark_all(nodes);
+        return 1;
+    }
     if last == walk {
         return stamp;
     }

@@ -4,7 +4,7 @@ ghost use Rattle.std.specs.Prelude.{◌≡◌, ◌≢◌, ◌≤◌, ℕ, List, 
 ghost use Rattle.l4_links.specs.Leads.{Leads};
 ghost use Rattle.l4_links.specs.Inside.Trees.{parent_at};
 ghost use Rattle.l4_links.specs.Inside.Stacks.{HasStack};
-ghost use Rattle.l4_links.specs.Inside.Nodes.{Slots, node_at, limbs, AreKeys, IsForest, HasMarks, CapsBelow, Closes, Sees, HasSeen, IsSame, Meets, NoneMet, IsMarked, IsStamped};
+ghost use Rattle.l4_links.specs.Inside.Nodes.{node_at, limbs, AreKeys, IsForest, HasMarks, CapsBelow, HasSeen, IsSame, Meets, NoneMet, IsMarked, IsStamped};
 
 use crate::keys::Link;
 use crate::nodes::{Node, cap_at, close, node_of, see};
@@ -13,7 +13,7 @@ use l4_fpage::Rights;
 use slab::Slab;
 
 /// Where the walk goes on: after the run of a node that it has been over, and else at the next node.
-fn onward(node: &Node, stamp: u64) -> Link
+fn onward(node: &Node, stamp: u32) -> Link
     ensures over { node.now.mark ≡ stamp → 1 ≤ stamp → result ≡ node.now.end }
     ensures on { node.now.mark ≢ stamp → result ≡ node.now.next }
     ensures none { stamp ≡ 0 → result ≡ node.now.next }
@@ -33,7 +33,7 @@ pub(crate) fn cap_below(
     nodes: &mut Slab<Packed>,
     top: usize,
     cap: Rights,
-    stamp: u64,
+    stamp: u32,
     doomed: Link,
 ) -> Link
     requires few { AreKeys nodes.old.slots }
@@ -71,7 +71,7 @@ pub(crate) fn cap_below(
 }
 
 /// Whether a walk of this stamp has come by the node.
-fn was_seen(node: &Node, stamp: u64) -> bool
+fn was_seen(node: &Node, stamp: u32) -> bool
     ensures { result ≡ true → IsMarked stamp node.now.seen }
 {
     if stamp == 0 {
@@ -80,17 +80,8 @@ fn was_seen(node: &Node, stamp: u64) -> bool
     node.seen == stamp
 }
 
-/// Notes that the walk has been over all that descends from the node, and that it has come by the node.
-fn close_seen(nodes: &mut Slab<Packed>, key: usize, stamp: u64, end: Link) -> bool
-    ensures { (middle : Slots) × Closes key stamp end nodes.old.slots middle × Sees key stamp middle nodes.new.slots × (result ≡ false) }
-{
-    close(nodes, key, stamp, end);
-    see(nodes, key, stamp);
-    false
-}
-
 /// Whether a source descends from the node. What walks of this stamp have come by is not looked at again.
-pub(crate) fn has_source(nodes: &mut Slab<Packed>, top: usize, stamp: u64) -> bool
+pub(crate) fn has_source(nodes: &mut Slab<Packed>, top: usize, stamp: u32) -> bool
     requires seen { HasSeen stamp nodes.old.slots }
     requires stamped { IsStamped stamp nodes.old.slots }
     requires there { node_at nodes.old.slots top ≢ None }
@@ -109,13 +100,15 @@ pub(crate) fn has_source(nodes: &mut Slab<Packed>, top: usize, stamp: u64) -> bo
     let mut at = head.next;
     for _ in 0..nodes.capacity() {
         let Some(key) = at.key() else {
-            return close_seen(nodes, top, stamp, at);
+            close(nodes, top, stamp, at);
+            return false;
         };
         let Some(node) = node_of(nodes, key) else {
             unreachable!()
         };
         if node.depth <= depth {
-            return close_seen(nodes, top, stamp, at);
+            close(nodes, top, stamp, at);
+            return false;
         }
         if node.source {
             return true;

@@ -11,7 +11,7 @@ use Rattle.l4_links.specs.declared.nodes.Slot.{Slot}
 use Rattle.l4_links.specs.declared.Links.TheInside.{Inside}
 use Rattle.l4_links.specs.Inside.Trees.{Limb}
 use Rattle.l4_links.specs.Inside.Orders.{first_of}
-use Rattle.l4_links.specs.Inside.Nodes.{Slots, Spot, spots, limbs, values, Worth, AreKeys, IsOf, IsLow, IsForest, IsStamped, HasMarks, HasSeen}
+use Rattle.l4_links.specs.Inside.Nodes.{Slots, Spot, spots, limbs, values, Worth, AreKeys, IsOf, IsLow, IsForest, IsStamped, AreUnmarked, HasMarks, HasSeen}
 use Rattle.l4_links.specs.Inside.Stacks.{HasStack}
 use Rattle.l4_links.specs.Entries.{Entries, Linked}
 
@@ -42,9 +42,13 @@ pub record LiesWithin (low high : Worth) : Type 0 where
 abbrev pub IsWithin : Slots → Type 0
 IsWithin slots = (key parent : ℕ) (x : Limb) (low high : Worth) → limbs slots key ≡ Some x → x.parent ≡ Some parent → values slots key ≡ Some low → values slots parent ≡ Some high → LiesWithin low high
 
--- the next stamp; after the last one there is the stamp 0 for good
+-- the next stamp; after the last one there is the stamp 0 until a walk begins
 abbrev pub IsFresh : ℕ → ℕ → Type 0
 IsFresh stamp fresh = (fresh ≡ 0) ⊎ ((1 ≤ stamp) × (fresh ≡ stamp + 1))
+
+-- a walk begins with the last stamp, where that was for the same, or with a fresh one, or with the first where no node has one
+abbrev pub BeginsWalk : ℕ → ℕ → ℕ → ℕ → Slots → Slots → Type 0
+BeginsWalk last walk stamp result old new = ((last ≡ walk) × (result ≡ stamp) × (new ≡ old)) ⊎ ((IsFresh stamp result × (new ≡ old)) ⊎ ((result ≡ 1) × AreUnmarked new))
 
 -- the number of a walk for sources; a walk that caps rights has the number of their bits
 abbrev pub sources_walk : ℕ

@@ -83,6 +83,10 @@ dooms slots key = option_map {T = Node} (λ n. record { rights = n.rights; next 
 abbrev pub IsStamped : ℕ → Slots → Type 0
 IsStamped stamp slots = 1 ≤ stamp → (key : ℕ) (m : Marks) → marks slots key ≡ Some m → (m.mark ≤ stamp) × (m.seen ≤ stamp)
 
+-- no walk has left a mark
+abbrev pub AreUnmarked : Slots → Type 0
+AreUnmarked slots = (key : ℕ) (m : Marks) → marks slots key ≡ Some m → (m.mark ≡ 0) × (m.seen ≡ 0)
+
 -- whether the node is a source
 abbrev pub sources : Slots → ℕ → Option Bool
 sources slots key = option_map {T = Worth} (λ w. w.source) (values slots key)
@@ -255,9 +259,9 @@ pub record Lowers (key : ℕ) (rights : RightsSet) (doomed : Option ℕ) (old ne
   pub others : (other : ℕ) → other ≢ key → node_at new other ≡ node_at old other
   pub spots_same : (other : ℕ) → spots new other ≡ spots old other
 
--- the node has this mark and this end
+-- a walk has come by the node and been over its run, up to this end
 pub record Closes (key stamp : ℕ) (end : Option ℕ) (old new : Slots) : Type 0 where
-  pub here : node_at new key ≡ option_map {T = Node} (λ n. record n { mark = stamp; end = end }) (node_at old key)
+  pub here : node_at new key ≡ option_map {T = Node} (λ n. record n { seen = stamp; mark = stamp; end = end }) (node_at old key)
   pub others : (other : ℕ) → other ≢ key → node_at new other ≡ node_at old other
   pub spots_same : (other : ℕ) → spots new other ≡ spots old other
 
@@ -302,9 +306,9 @@ pub record CapsBelow (top : ℕ) (cap : RightsSet) (old new : Slots) : Type 0 wh
   pub capped : (key : ℕ) → Leads (parent_at (limbs old)) key top → values new key ≡ option_map (capped_worth cap) (values old key)
   pub kept : (key : ℕ) → ¬ (Leads (parent_at (limbs old)) key top) → values new key ≡ values old key
 
--- a walk has come by the node
+-- a walk has come by the node, and none that is known has been over its run
 pub record Sees (key stamp : ℕ) (old new : Slots) : Type 0 where
-  pub here : node_at new key ≡ option_map {T = Node} (λ n. record n { seen = stamp }) (node_at old key)
+  pub here : node_at new key ≡ option_map {T = Node} (λ n. record n { seen = stamp; mark = 0 }) (node_at old key)
   pub others : (other : ℕ) → other ≢ key → node_at new other ≡ node_at old other
   pub spots_same : (other : ℕ) → spots new other ≡ spots old other
 

@@ -1,31 +1,40 @@
--- How a slot is kept in sixty bytes.
-use Rattle.std.specs.Prelude.{ℕ, ◌+◌, ◌*◌, ◌^◌, eqb, Option, Some, None, if◌then◌else◌}
+-- How a slot is kept in forty-four bytes.
+use Rattle.std.specs.Prelude.{ℕ, ◌+◌, ◌*◌, ◌/◌, ◌%◌, ◌==◌, ◌^◌, eqb, Option, Some, None, if◌then◌else◌}
 use Rattle.std.specs.Option.{option_map}
 use Rattle.l4_fpage.specs.Rights.{RightsSet, set_of_bits}
 use Rattle.l4_links.specs.declared.nodes.Node.{Node}
 use Rattle.l4_links.specs.declared.nodes.Slot.{Slot}
+use Rattle.l4_links.specs.declared.packed.Notes.{Notes}
 use Rattle.l4_links.specs.declared.packed.Halves.TheInside as halves
-use Rattle.l4_links.specs.declared.packed.Granted.TheInside as granted
+use Rattle.l4_links.specs.declared.packed.Digits.TheInside as digits
 use Rattle.l4_links.specs.declared.packed.Packed.TheInside as packed
 
 -- the number of two halves
 abbrev pub number_shown : halves.Inside → ℕ
 number_shown a = a.high * 2 ^ 32 + a.low
 
--- the rights of an item, of which there are none where the bits are above those of all rights
-abbrev pub rights_shown : granted.Inside → Option RightsSet
-rights_shown a = if eqb a.bits 8 then None else Some (set_of_bits a.bits)
+-- the two digits of a byte, the low one first
+abbrev pub digits_shown : digits.Inside → ℕ × ℕ
+digits_shown a = (a.byte % 16, a.byte / 16)
+
+-- the rights of an item, of which there are none where the digit is above those of all rights
+abbrev pub rights_shown : ℕ → Option RightsSet
+rights_shown digit = if eqb digit 8 then None else Some (set_of_bits digit)
+
+-- the notes of a digit, one a bit
+abbrev pub notes_shown : ℕ → Notes
+notes_shown digit = record { wanted = digit % 2 == 1; source = digit / 2 % 2 == 1; closed = digit / 4 % 2 == 1 }
 
 -- the node of this depth
 abbrev pub node_shown : packed.Inside → ℕ → Node
 node_shown a depth = record {
   frame = a.frame;
-  rights = a.rights;
-  source = a.source;
-  granted = a.granted;
+  rights = set_of_bits a.notes.0;
+  source = (notes_shown a.notes.1).source;
+  granted = rights_shown a.far.1;
   depth = depth;
-  seen = a.seen;
-  mark = a.mark;
+  seen = a.stamp;
+  mark = if (notes_shown a.notes.1).closed then a.stamp else 0;
   end = a.end;
   parent = a.parent;
   prev = a.prev;
@@ -35,7 +44,7 @@ node_shown a depth = record {
 
 abbrev pub slot_shown : packed.Inside → Slot
 slot_shown a = record {
-  place = record { space = a.space; page = a.page };
-  wanted = a.wanted;
+  place = record { space = a.space; page = a.far.0 * 2 ^ 16 + a.near };
+  wanted = (notes_shown a.notes.1).wanted;
   node = option_map (node_shown a) a.depth;
 }

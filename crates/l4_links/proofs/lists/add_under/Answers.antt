@@ -18,8 +18,11 @@ child_of-node-requires-clause-depth c =
     let s = c.capacity.ensures.slots in
     omega (arith, d, s)
 
-pub of-requires : goal.of-requires
-of-requires c =
+pub of-requires-clause-unmarked : goal.of-requires-clause-unmarked
+of-requires-clause-unmarked c = ap (λ (n : Node). n.mark) c.child_of-node.ensures
+
+pub of-requires-clause-depth : goal.of-requires-clause-depth
+of-requires-clause-depth c =
     subst (λ (n : Node). IsKey n.depth) (sym c.child_of-node.ensures)
     (depth_kept c.args.nodes.now.slots c.requires.forest.0 c.args.parent c.args.above.now c.args.nodes.now.vacant_key c.requires.forest.1 c.requires.few c.requires.there c.requires.kept
     (ap (option_and_then (λ (s : Slot). s.node)) c.requires.vacant))

@@ -1,4 +1,4 @@
-use Rattle.std.proofs.Common.{ℕ, arith, refl, sym, subst, Option, Some}
+use Rattle.std.proofs.Common.{ℕ, arith, refl, sym, subst, Option, Some, ap}
 use Rattle.l4_links.specs.declared.nodes.Node.{Node}
 use Rattle.l4_links.specs.Inside.Keys.{IsKey}
 use Rattle.l4_links.specs.Inside.Nodes.{child, Writes, SetsNext, SetsPrev}
@@ -19,8 +19,11 @@ child_of-node-requires-clause-depth c =
     let s = c.capacity.ensures.slots in
     omega (arith, d, s)
 
-pub write-requires : goal.write-requires
-write-requires c =
+pub write-requires-clause-unmarked : goal.write-requires-clause-unmarked
+write-requires-clause-unmarked c = ap (λ (n : Node). n.mark) c.child_of-node.ensures
+
+pub write-requires-clause-depth : goal.write-requires-clause-depth
+write-requires-clause-depth c =
     subst (λ (n : Node). IsKey n.depth) (sym c.child_of-node.ensures)
     (depth_is_key c.args.nodes.now.slots c.requires.forest.0 c.args.parent c.args.above c.args.key c.requires.forest.1 c.requires.few c.requires.there c.requires.room c.requires.blank)
 

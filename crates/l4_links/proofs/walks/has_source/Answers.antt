@@ -13,12 +13,12 @@ returns-in_default-key-clause-no c =
     let cur = c.loop.nodes.slots in
     let so_far : SeekSoFar old cur c.args.top c.in-Some.head.depth c.args.stamp None c.loop.counter =
     subst (λ (o : Option ℕ). SeekSoFar old cur c.args.top c.in-Some.head.depth c.args.stamp o c.loop.counter) (sym c.key.ensures ∙ c.in_default-key.is) c.loop.invariant in
-    let w = c.close_seen.ensures in
-    let closed : Closes c.args.top c.args.stamp None cur w.0 = subst (λ (o : Option ℕ). Closes c.args.top c.args.stamp o cur w.0) (sym c.key.ensures ∙ c.in_default-key.is) w.1 in
+    let new = c.close.new.nodes.slots in
+    let closed : Closes c.args.top c.args.stamp None cur new = subst (λ (o : Option ℕ). Closes c.args.top c.args.stamp o cur new) (sym c.key.ensures ∙ c.in_default-key.is) c.close.ensures in
     let sought = seek_at_end old cur c.args.top c.in-Some.head.depth c.args.stamp c.loop.counter c.in-Some.head so_far (sym c.node_of.ensures ∙ c.in-Some.is) refl in
     λ _. (
       sought_none old cur c.args.top c.in-Some.head.depth c.args.stamp c.loop.counter None sought,
-      sought_seen old cur w.0 c.close_seen.new.nodes.slots c.args.top c.in-Some.head.depth c.args.stamp c.loop.counter None sought closed w.2,
+      sought_seen old cur new c.args.top c.in-Some.head.depth c.args.stamp c.loop.counter None sought closed,
     )
 
 pub unreachable-requires-in_default-node_of : goal.unreachable-requires-in_default-node_of
@@ -34,20 +34,19 @@ returns-then-node-depth-clause-no c =
     let cur = c.loop.nodes.slots in
     let so_far : SeekSoFar old cur c.args.top c.in-Some.head.depth c.args.stamp (Some c.in-Some-key.key) c.loop.counter =
     subst (λ (o : Option ℕ). SeekSoFar old cur c.args.top c.in-Some.head.depth c.args.stamp o c.loop.counter) (sym c.key.ensures ∙ c.in-Some-key.is) c.loop.invariant in
-    let w = c.close_seen-then-node-depth.ensures in
-    let closed : Closes c.args.top c.args.stamp (Some c.in-Some-key.key) cur w.0 = subst (λ (o : Option ℕ). Closes c.args.top c.args.stamp o cur w.0) (sym c.key.ensures ∙ c.in-Some-key.is) w.1 in
+    let new = c.close-then-node-depth.new.nodes.slots in
+    let closed : Closes c.args.top c.args.stamp (Some c.in-Some-key.key) cur new = subst (λ (o : Option ℕ). Closes c.args.top c.args.stamp o cur new) (sym c.key.ensures ∙ c.in-Some-key.is) c.close-then-node-depth.ensures in
     let sought =
     seek_at_key old cur c.args.top c.in-Some.head.depth c.args.stamp c.loop.counter c.in-Some-key.key c.in-Some.head c.in-Some-node_of.node so_far (sym c.node_of.ensures ∙ c.in-Some.is) refl
     (sym c.node_of-in-loop.ensures ∙ c.in-Some-node_of.is) c.if-node-depth.true in
     λ _. (
       sought_none old cur c.args.top c.in-Some.head.depth c.args.stamp c.loop.counter (Some c.in-Some-key.key) sought,
-      sought_seen old cur w.0 c.close_seen-then-node-depth.new.nodes.slots c.args.top c.in-Some.head.depth c.args.stamp c.loop.counter (Some c.in-Some-key.key) sought closed w.2,
+      sought_seen old cur new c.args.top c.in-Some.head.depth c.args.stamp c.loop.counter (Some c.in-Some-key.key) sought closed,
     )
 
 pub returns-then-node-depth-clause-stamped : goal.returns-then-node-depth-clause-stamped
 returns-then-node-depth-clause-stamped c =
-    let w = c.close_seen-then-node-depth.ensures in
-    stamped_closed c.loop.nodes.slots w.0 c.close_seen-then-node-depth.new.nodes.slots c.args.top c.args.stamp c.loop.at c.loop.invariant.stamped w.1 w.2
+    stamped_closed c.loop.nodes.slots c.close-then-node-depth.new.nodes.slots c.args.top c.args.stamp c.loop.at c.loop.invariant.stamped c.close-then-node-depth.ensures
 
 pub returns-then-node-clause-yes : goal.returns-then-node-clause-yes
 returns-then-node-clause-yes c =
