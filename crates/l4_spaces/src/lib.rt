@@ -189,6 +189,9 @@ impl Spaces {
         ensures present { IfOk result (λ done. done ≡ false → IsPresent self.old space page × (self.new ≡ self.old)) }
         ensures err { OnErr result ((key_of self.old space page ≡ None) × (self.new ≡ self.old)) }
         ensures room { KeepsRoom self.old self.new }
+
+        // Where there is room for the page, no memory is needed.
+        ensures succeeds { HasRoom self.old space (page ∷ []) → IsOk result }
     {
         let Some(at) = index_of(&self.spaces, space) else {
             unreachable!()

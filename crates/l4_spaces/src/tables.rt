@@ -1,7 +1,7 @@
 //! The tables of one space: each is absent or has a place for each of its pages. The list of them, the root, goes as far as a table was asked
 //! for, and what lies beyond it is absent.
 
-ghost use Rattle.std.specs.Prelude.{◌≡◌, ◌≢◌, ◌<◌, ◌≤◌, ◌/◌, ◌%◌, ◌+◌, ◌*◌, ◌⊎◌, ℕ, length, [], All, Some, None, OnOk, OnErr, IsOk, IfOk, IsTrue, is_some, IfSome, MatchOption, slice_index_or, true, false};
+ghost use Rattle.std.specs.Prelude.{◌≡◌, ◌≢◌, ◌<◌, ◌≤◌, ◌/◌, ◌%◌, ◌+◌, ◌*◌, ◌⊎◌, ℕ, length, [], ◌∷◌, All, Some, None, OnOk, OnErr, IsOk, IfOk, IsTrue, is_some, IfSome, MatchOption, slice_index_or, true, false};
 ghost use Rattle.l4_spaces.specs.Tables.{table_pages, space_tables, IsPage};
 ghost use Rattle.l4_spaces.specs.Inside.Two.{entry, is_made, IsReady, AreWhole, AreMade, NoKeys, NoneIn, IsFirstIn, row};
 
@@ -195,6 +195,7 @@ pub(crate) fn claim(
     ensures refused { OnErr result ((high : ℕ) → is_made tables.new.items high ≡ is_made tables.old.items high) }
     ensures whole { AreWhole tables.new.items }
     ensures full { length tables.new.items ≤ space_tables }
+    ensures succeeds { AreMade tables.old.items (page ∷ []) 1 → IsOk result }
 {
     let high = (page / TABLE_PAGES) as usize;
     let low = (page % TABLE_PAGES) as usize;
@@ -232,6 +233,7 @@ fn claim_more(
     ensures refused { OnErr result ((high : ℕ) → is_made tables.new.items high ≡ is_made tables.old.items high) }
     ensures whole { AreWhole tables.new.items }
     ensures full { length tables.new.items ≤ space_tables }
+    ensures succeeds { AreMade tables.old.items (page ∷ []) 1 → IsOk result }
 {
     make_more(tables, alloc, &[page])?;
     put(tables, page, key);

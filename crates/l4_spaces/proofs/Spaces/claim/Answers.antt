@@ -1,11 +1,11 @@
-use Rattle.std.proofs.Common.{◌≤◌, ◌∙◌, ℕ, List, Some, length, is_some, sym, ap, subst}
+use Rattle.std.proofs.Common.{◌≡◌, ◌∷◌, [], true, false, ◌≤◌, ◌∙◌, ℕ, List, Some, length, is_some, sym, ap, subst}
 use Rattle.std.specs.Ordering.{nat_cmp}
 use Rattle.std.specs.FinSet as set
 use Rattle.std.proofs.lemmas.Result.{err_from_is_err_and}
 use Rattle.l4_spaces.specs.Tables.{Tables, space_tables}
-use Rattle.l4_spaces.specs.Inside.Two.{Rows, entry, is_made, AreWhole}
+use Rattle.l4_spaces.specs.Inside.Two.{Rows, entry, is_made, AreWhole, AreMade}
 use Rattle.l4_spaces.proofs.Below.{not_both}
-use Rattle.l4_spaces.proofs.Showing.{wrote, at_here, found_in, stands, laid, keys_put, keys_same, same_entries, there_more, there_same, keeps, pages_set, same_view}
+use Rattle.l4_spaces.proofs.Showing.{wrote, at_here, found_in, stands, laid, keys_put, keys_same, same_entries, there_more, there_same, keeps, pages_set, same_view, all_made}
 use Rattle.l4_spaces.proofs.Spaces.claim.Goals as goal
 
 pub unreachable-requires : goal.unreachable-requires
@@ -60,3 +60,7 @@ returns-in_err-absent-clause-room c = keeps c.self.inside.spaces.items _ c.args.
 
 pub returns-clause-room : goal.returns-clause-room
 returns-clause-room c = keeps c.self.inside.spaces.items _ c.args.self.now c.self.view_is (there_more (wrote c.self.inside.spaces.items c.args.space c.in-Some.at c.index_mut.result.now c.claim.new.tables c.in-Some.ensures.at c.index_mut.ensures.value) c.claim.ensures.kept)
+
+pub returns-in_err-absent-clause-succeeds : goal.returns-in_err-absent-clause-succeeds
+returns-in_err-absent-clause-succeeds c = λ h.
+    absurd (let e : false ≡ true = c.in_err-absent.ensures.succeeds (subst (λ (ts : Rows). AreMade ts (c.args.page ∷ []) 1) (at_here c.self.inside.spaces.items c.args.space c.in-Some.at c.index_mut.result.now c.in-Some.ensures.at c.index_mut.ensures.value) (all_made c.self.inside.spaces.items c.args.self.now c.args.space (c.args.page ∷ []) c.self.view_is h)) in cc)
