@@ -10,8 +10,8 @@ use Rattle.std.specs.declared.alloc.Global.{Global}
 use Rattle.std.proofs.lemmas.Bool.{cases_lt, cases_eq}
 use Rattle.std.proofs.lemmas.List.{get_or_past}
 use Rattle.std.proofs.lemmas.List.Sums.{sum_by-cons}
-use Rattle.l4_spaces.specs.Tables.{Tables, place_cmp, key_of, table_pages, space_tables, HasRoom, KeepsRoom, KeepsOthersRoom, Empties, IsPresent, NonePresentFrom, IsNextPresent, NonePresentIn, IsNextIn}
-use Rattle.l4_spaces.specs.Inside.Two.{Rows, row, entry, is_made, IsReady, AreWhole, AreMade, NoneIn, IsFirstIn}
+use Rattle.l4_spaces.specs.Tables.{Tables, place_cmp, key_of, table_pages, space_tables, HasRoom, KeepsRoom, KeepsOthersRoom, Empties, IsPresent, NonePresentFrom, IsNextPresent, NonePresentIn, IsNextIn, IsTableIn}
+use Rattle.l4_spaces.specs.Inside.Two.{Rows, row, entry, is_made, IsReady, AreWhole, AreMade, NoneIn, IsFirstIn, IsTableFrom}
 use Rattle.l4_spaces.specs.Inside.Seen.{Space, Live, numbers, has, tables_of, IsOnce, StandsAt, key_at, is_there, shown, IsLaid}
 use Rattle.l4_spaces.proofs.Below.{places_total, tie, untie, is_equal, not_both, decided}
 use Rattle.l4_spaces.proofs.Finding.{eq_no, eq_of, ne_of, stands_tables, stands_number, stands_has, no_tables_of, written_here, written_other, written_numbers}
@@ -229,7 +229,7 @@ told ss k (Some i) h = sym (stands_has k ss i h)
 pub next_absent : (ss : Live) (s : Tables) (k page : ℕ) → shown ss ≡ s → has ss k ≡ false → NonePresentFrom s k page
 next_absent ss s k page view h other le here = let e : false ≡ true = sym (ap is_some (absent_key ss s k other view h)) ∙ here in cc
 
-none_at : (ss : Live) (s : Tables) (k : ℕ) (ts : Rows) (other : ℕ) → shown ss ≡ s → tables_of ss k ≡ ts → entry ts other ≡ None → ¬ (IsPresent s k other)
+pub none_at : (ss : Live) (s : Tables) (k : ℕ) (ts : Rows) (other : ℕ) → shown ss ≡ s → tables_of ss k ≡ ts → entry ts other ≡ None → ¬ (IsPresent s k other)
 none_at ss s k ts other view is none here =
     let n : key_of s k other ≡ None = found_in ss s k other ts view is ∙ none in
     let e : false ≡ true = sym (ap is_some n) ∙ here in cc
@@ -264,6 +264,21 @@ pub next_from : (ss : Live) (s : Tables) (k page end : ℕ) (ts : Rows) (next ke
 next_from ss s k page end ts next key view is h =
     let n : IsNextIn s k page end next = (next_found ss s k page end ts next key view is h).0 in
     record { present = n.present; from = n.from; least = n.least }
+
+-- the next table that is there
+pub table_in : (ss : Live) (s : Tables) (k page end : ℕ) (ts : Rows) (high : ℕ) (keys : List (Option ℕ)) → shown ss ≡ s → tables_of ss k ≡ ts → length ts ≤ space_tables → IsTableFrom ts page end high → row ts high ≡ keys
+    → IsTableIn s k page end (high * table_pages) keys
+table_in ss s k page end ts high keys view is full h at = record {
+  shows = λ low lt.
+      let a : (high * 1024 + low) / 1024 ≡ high = omega (arith, lt) in
+      let b : (high * 1024 + low) % 1024 ≡ low = omega (arith, lt) in
+      found_in ss s k (high * 1024 + low) ts view is ∙ (λ i. slice_index_or (row ts (a i)) (b i) None) ∙ ap (λ (z : List (Option ℕ)). slice_index_or z low None) at;
+  whole = ap length (sym at) ∙ h.whole;
+  fits = omega (arith, h.within, full);
+  from = omega (arith, h.from);
+  before = h.before;
+  least = λ other le lt. none_at ss s k ts other view is (h.least other le lt);
+}
 
 pub is_none_of : (o : Option ℕ) → is_some o ≡ false → o ≡ None
 is_none_of None h = refl

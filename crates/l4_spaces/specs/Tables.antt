@@ -1,5 +1,5 @@
 -- The page tables of all spaces as one value: the node of each present page, which spaces there are, and which tables (this profile's own).
-use Rattle.std.specs.Prelude.{◌≡◌, ◌≢◌, ℕ, ◌<◌, ◌≤◌, ◌==◌, ◌*◌, ◌/◌, List, Option, None, cond, not, IsTrue, is_some, refl}
+use Rattle.std.specs.Prelude.{◌≡◌, ◌≢◌, ℕ, ◌<◌, ◌≤◌, ◌==◌, ◌+◌, ◌*◌, ◌/◌, List, Option, None, cond, length, slice_index_or, not, IsTrue, is_some, refl}
 use Rattle.std.specs.List.{count_by}
 use Rattle.std.specs.Ordering.{nat_cmp, ordering_then}
 use Rattle.std.specs.declared.cmp.Ordering.{Ordering}
@@ -85,3 +85,12 @@ pub record IsNextIn (s : Tables) (space page end next : ℕ) : Type 0 where
   pub from : page ≤ next
   pub before : next < end
   pub least : (other : ℕ) → page ≤ other → IsPresent s space other → next ≤ other
+
+-- these are the keys of the table that begins with this page: the first table that is there of those with pages from the page on, and it begins below the end
+pub record IsTableIn (s : Tables) (space page end start : ℕ) (keys : List (Option ℕ)) : Type 0 where
+  pub shows : (low : ℕ) → low < table_pages → key_of s space (start + low) ≡ slice_index_or keys low None
+  pub whole : length keys ≡ table_pages
+  pub fits : start + table_pages ≤ space_pages
+  pub from : page < start + table_pages
+  pub before : start < end
+  pub least : NonePresentIn s space page start

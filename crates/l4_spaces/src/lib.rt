@@ -9,7 +9,7 @@ ghost use Rattle.l4_spaces.specs.Inside.Seen.{has, IsOnce, StandsAt};
 mod row;
 mod tables;
 
-use row::Row;
+pub use row::Row;
 use std::alloc::{AllocError, AllocFailed, Global};
 use std::fmt;
 use std::marker::Model;
@@ -92,7 +92,7 @@ fn index_of(spaces: &Vec<(u64, Vec<Row>)>, space: u64) -> Option<usize>
 }
 
 impl Spaces {
-    ghost use Rattle.l4_spaces.specs.Tables.{Tables, key_of, IsPresent, IsSpace, IsPage, HasRoom, KeepsRoom, KeepsOthersRoom, Empties, NonePresentFrom, IsNextPresent, NonePresentIn, IsNextIn};
+    ghost use Rattle.l4_spaces.specs.Tables.{Tables, key_of, IsPresent, IsSpace, IsPage, HasRoom, KeepsRoom, KeepsOthersRoom, Empties, NonePresentFrom, IsNextPresent, NonePresentIn, IsNextIn, IsTableIn};
 
     /// No space.
     pub fn new(alloc: Global) -> Spaces
@@ -290,5 +290,20 @@ impl Spaces {
             return None;
         };
         tables::next_page(&self.spaces[at].1, page, end)
+    }
+
+    /// The first table that is there, of those with pages of the space from `page` on and before `end`, with its first page. So a walk
+    /// over many pages looks for the space and the table once a table.
+    pub fn next_table(&self, space: u64, page: u32, end: u32) -> Option<(u32, &Row)>
+        ensures { MatchOption result (NonePresentIn self.now space page end) (λ found. IsTableIn self.now space page end found.0 found.1.now) }
+    {
+        let Some(at) = index_of(&self.spaces, space) else {
+            return None;
+        };
+        let tables = &self.spaces[at].1;
+        let Some(high) = tables::next_table(tables, page, end) else {
+            return None;
+        };
+        Some((high as u32 * tables::TABLE_PAGES, &tables[high]))
     }
 }

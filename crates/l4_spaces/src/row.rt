@@ -13,7 +13,7 @@ const LONG_KEY: u32 = NO_KEY + 1;
 
 /// The keys of a table's pages. An absent table has none.
 #[derive(Drop)]
-pub(crate) struct Row {
+pub struct Row {
     /// Each key below `NO_KEY`.
     short: Vec<u32>,
     /// Each other key at its place. The room for all places is taken with the table, but nothing beyond the last such key is written.
@@ -81,7 +81,7 @@ impl Row {
     }
 
     /// How many places there are.
-    pub(crate) fn len(&self) -> usize
+    pub fn len(&self) -> usize
         ensures { result ≡ length self.now }
     {
         self.short.len()
@@ -89,7 +89,7 @@ impl Row {
 
     /// The key of a place that is there.
     #[inline]
-    pub(crate) fn at(&self, low: usize) -> Option<usize>
+    pub fn at(&self, low: usize) -> Option<usize>
         requires within { low < length self.now }
         ensures { result ≡ slice_index_or self.now low None }
     {

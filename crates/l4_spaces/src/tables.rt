@@ -3,7 +3,7 @@
 
 ghost use Rattle.std.specs.Prelude.{◌≡◌, ◌≢◌, ◌<◌, ◌≤◌, ◌/◌, ◌%◌, ◌+◌, ◌*◌, ◌⊎◌, ℕ, length, [], ◌∷◌, All, Some, None, OnOk, OnErr, IsOk, IfOk, IsTrue, is_some, IfSome, MatchOption, slice_index_or, true, false};
 ghost use Rattle.l4_spaces.specs.Tables.{table_pages, space_tables, IsPage};
-ghost use Rattle.l4_spaces.specs.Inside.Two.{entry, is_made, IsReady, AreWhole, AreMade, NoKeys, NoneIn, IsFirstIn, row};
+ghost use Rattle.l4_spaces.specs.Inside.Two.{entry, is_made, IsReady, AreWhole, AreMade, NoKeys, NoneIn, IsFirstIn, IsTableFrom, row};
 
 use crate::row::Row;
 use std::alloc::{AllocError, Global};
@@ -277,6 +277,24 @@ fn last_low(places: usize, start: u32, end: u32) -> usize
         return left;
     }
     places
+}
+
+/// The number of the first table that is there, of those with pages from `page` on and below `end`.
+pub(crate) fn next_table(tables: &Vec<Row>, page: u32, end: u32) -> Option<usize>
+    requires whole { AreWhole tables.now.items }
+    requires full { length tables.now.items ≤ space_tables }
+    ensures { MatchOption result (NoneIn tables.now.items page end) (IsTableFrom tables.now.items page end) }
+{
+    let first = (page / TABLE_PAGES) as usize;
+    for high in first..tables.len() {
+        if high as u32 * TABLE_PAGES >= end {
+            return None;
+        }
+        if tables[high].len() > 0 {
+            return Some(high);
+        }
+    }
+    None
 }
 
 /// The first page with a key from `page` on and below `end`, with the key.
