@@ -15,7 +15,7 @@ use Rattle.l4_links.proofs.Walking.{place_next}
 use Rattle.l4_links.proofs.Seeking.{leads_range}
 use Rattle.l4_links.proofs.Seen.{standing_is, no_standing, leads_of, descends_of}
 
-abbrev limb_of : Node → Limb
+abbrev pub limb_of : Node → Limb
 limb_of n = record { parent = n.parent; depth = n.depth }
 
 -- the node that is said to come next is there

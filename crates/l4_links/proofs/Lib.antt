@@ -25,3 +25,4 @@ pub mod Moving
 pub mod Noting
 pub mod Laws
 pub mod Low
+pub mod ParentWalk

@@ -97,6 +97,18 @@ pub record IsNextKeyIn (s : Entries) (space page end next : ℕ) : Type 0 where
 abbrev pub Descends : Entries → ℕ → ℕ → Type 0
 Descends s low high = Leads (parent_of s) low high
 
+-- no page of the space from this one on and below the end has a key that something descends from
+abbrev pub NoParentIn : Entries → ℕ → ℕ → ℕ → Type 0
+NoParentIn s space page end = (other key low : ℕ) → page ≤ other → other < end → IsAt s (record { space = space; page = other }) key → ¬ (Descends s low key)
+
+-- the least page of the space with a key that something descends from that is not below this one, and it is below the end
+pub record IsNextParentIn (s : Entries) (space page end next key : ℕ) : Type 0 where
+  pub at : IsAt s (record { space = space; page = next }) key
+  pub parent : (low : ℕ) × Descends s low key
+  pub from : page ≤ next
+  pub before : next < end
+  pub least : NoParentIn s space page next
+
 -- the key is of a source
 abbrev pub IsSource : Entries → ℕ → Type 0
 IsSource s key = option_map (λ (t : Standing). t.source) (standing_at s key) ≡ Some true

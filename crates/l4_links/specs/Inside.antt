@@ -6,3 +6,4 @@ pub mod Nodes
 pub mod Stacks
 pub mod Keeping
 pub mod Moving
+pub mod Parents

@@ -16,6 +16,7 @@ mod lists;
 mod names;
 mod nodes;
 mod packed;
+mod parents;
 mod stamps;
 mod walks;
 
@@ -100,7 +101,7 @@ impl Model for Links {
 }
 
 impl Links {
-    ghost use Rattle.l4_links.specs.Entries.{entry_at, standing_at, IsStanding, IsBlank, IsAt, IsSource, HaveRights, HavePlaces, AreTrees, NoKeyFrom, IsNextKey, NoKeyIn, IsNextKeyIn, IsKeyOf, Descends, AddsBlank, Stands, Sprouts, AddsChild, Clears, CutsBelow, Buries, CapsBelow, CapsTree, SetsSource, SetsPlain, SetsWanted, TakesOver, MovesPages, Hinders, LacksPlace};
+    ghost use Rattle.l4_links.specs.Entries.{entry_at, standing_at, IsStanding, IsBlank, IsAt, IsSource, HaveRights, HavePlaces, AreTrees, NoKeyFrom, IsNextKey, NoKeyIn, IsNextKeyIn, IsKeyOf, NoParentIn, IsNextParentIn, Descends, AddsBlank, Stands, Sprouts, AddsChild, Clears, CutsBelow, Buries, CapsBelow, CapsTree, SetsSource, SetsPlain, SetsWanted, TakesOver, MovesPages, Hinders, LacksPlace};
     ghost use Rattle.l4_links.specs.declared.Standing.{Standing as AStanding};
 
     /// No page, and no space.
@@ -158,6 +159,14 @@ impl Links {
             (λ found. IsNextKeyIn self.now.entries space page end found.0 × IsKeyOf self.now.entries (record { space = space; page = found.0 }) found.1) }
     {
         self.pages.next_node(space, page, end)
+    }
+
+    /// The least page of the space that is not below `page` and has a key that something descends from, and its key, if it is below
+    /// `end`. Nothing from `end` on is looked at.
+    pub fn next_parent_in(&self, space: u64, page: u32, end: u32) -> Option<(u32, usize)>
+        ensures { MatchOption result (NoParentIn self.now.entries space page end) (λ found. IsNextParentIn self.now.entries space page end found.0 found.1) }
+    {
+        parents::next_parent(&self.nodes, &self.pages, space, page, end)
     }
 
     /// A number that all keys lie below.

@@ -1,0 +1,109 @@
+//! Pages that others descend from.
+
+ghost use Rattle.std.specs.Prelude.{◌≡◌, ◌≤◌, ◌<◌, ◌+◌, ◌-◌, ◌⊎◌, ℕ, List, length, true, false, None, Some, MatchOption};
+ghost use Rattle.l4_links.specs.Inside.Nodes.{IsForest};
+ghost use Rattle.l4_links.specs.Inside.Parents.{IsParent, IsParentKey, NoParents, IsFirstParent, NoParentPage, IsParentPage};
+
+use crate::nodes::node_of;
+use crate::packed::Packed;
+use l4_spaces::{Row, Spaces};
+use slab::Slab;
+
+/// Whether something descends from the key. What does would begin with the node after it, one that is deeper, so no walk is needed.
+#[inline]
+fn is_parent(nodes: &Slab<Packed>, key: usize) -> bool
+    requires forest { (keys : List ℕ) × IsForest nodes.now.slots keys }
+    ensures yes { result ≡ true → IsParent nodes.now.slots key }
+    ensures no { result ≡ false → ¬ (IsParent nodes.now.slots key) }
+{
+    let Some(node) = node_of(nodes, key) else {
+        return false;
+    };
+    let Some(next) = node.next.key() else {
+        return false;
+    };
+    let Some(after) = node_of(nodes, next) else {
+        unreachable!()
+    };
+    after.depth > node.depth
+}
+
+/// The key of this place of a table, if something descends from it.
+#[inline]
+fn parent_at(nodes: &Slab<Packed>, row: &Row, low: usize) -> Option<usize>
+    requires forest { (keys : List ℕ) × IsForest nodes.now.slots keys }
+    requires within { low < length row.now }
+    ensures { MatchOption result ((key : ℕ) → ¬ (IsParentKey nodes.now.slots row.now low key)) (IsParentKey nodes.now.slots row.now low) }
+{
+    let Some(key) = row.at(low) else {
+        return None;
+    };
+    if !is_parent(nodes, key) {
+        return None;
+    }
+    Some(key)
+}
+
+/// The first place of a table from this one on and before the end with a key that something descends from, and the key.
+#[inline(never)]
+fn parent_in(nodes: &Slab<Packed>, row: &Row, from: usize, end: usize) -> Option<(usize, usize)>
+    requires forest { (keys : List ℕ) × IsForest nodes.now.slots keys }
+    requires within { end ≤ length row.now }
+    ensures { MatchOption result (NoParents nodes.now.slots row.now from end) (λ found. IsFirstParent nodes.now.slots row.now from end found.0 found.1) }
+{
+    for low in from..end {
+        if let Some(key) = parent_at(nodes, row, low) {
+            return Some((low, key));
+        }
+    }
+    None
+}
+
+/// Where a walk from `page` on begins in the table that begins with this page.
+fn first_low(page: u32, start: u32) -> usize
+    ensures { result ≡ page - start }
+{
+    if page < start {
+        return 0;
+    }
+    (page - start) as usize
+}
+
+/// Where a walk to `end` leaves a table of this many places that begins with this page.
+fn last_low(places: usize, start: u32, end: u32) -> usize
+    requires before { start < end }
+    ensures within { result ≤ places }
+    ensures before { start + result ≤ end }
+    ensures last { (result ≡ places) ⊎ (start + result ≡ end) }
+{
+    let left = (end - start) as usize;
+    if left < places {
+        return left;
+    }
+    places
+}
+
+/// The first page of the space from `page` on and before `end` with a key that something descends from, and the key.
+pub(crate) fn next_parent(
+    nodes: &Slab<Packed>,
+    pages: &Spaces,
+    space: u64,
+    page: u32,
+    end: u32,
+) -> Option<(u32, usize)>
+    requires forest { (keys : List ℕ) × IsForest nodes.now.slots keys }
+    ensures { MatchOption result (NoParentPage nodes.now.slots pages.now space page end) (λ found. IsParentPage nodes.now.slots pages.now space page end found.0 found.1) }
+{
+    let mut next = page;
+    loop {
+        let Some((start, row)) = pages.next_table(space, next, end) else {
+            return None;
+        };
+        let from = first_low(next, start);
+        let last = last_low(row.len(), start, end);
+        if let Some((low, key)) = parent_in(nodes, row, from, last) {
+            return Some((start + low as u32, key));
+        }
+        next = start + row.len() as u32;
+    }
+}
