@@ -58,3 +58,4 @@ pub mod Tangling
 pub mod Tidying
 pub mod Unchanged
 pub mod View
+pub mod Passing

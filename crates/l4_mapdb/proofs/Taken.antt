@@ -6,12 +6,13 @@ use Rattle.l4_links.specs.declared.Place.{Place as LinkPlace}
 use Rattle.l4_links.specs.declared.Standing.{Standing}
 use Rattle.l4_links.specs.declared.Entry.{Entry}
 use Rattle.l4_links.specs.Leads.{step, steps}
-use Rattle.l4_links.specs.Entries.{Entries, Linked, entry_at, parent_of, Descends, IsAt, IsBlank, HavePlaces, AreTrees, Clears, CutsBelow, NoKeyFrom, NoKeyIn, IsNextKeyIn, cut_off}
+use Rattle.l4_links.specs.Entries.{Entries, Linked, entry_at, parent_of, Descends, IsAt, IsBlank, HavePlaces, AreTrees, Clears, CutsBelow, NoKeyFrom, cut_off}
 use Rattle.l4_links.proofs.Stacking.{common_none}
 use Rattle.l4_mapdb.specs.Inside.Kept.{IsClean}
 use Rattle.l4_mapdb.specs.Inside.Cuts.{IsPageKey, IsOver, IsCovered, TakesKeys, CutsKeys}
 use Rattle.l4_mapdb.proofs.Leading.{leads_on}
 use Rattle.l4_mapdb.proofs.Deciding.{same_or, less_or}
+use Rattle.l4_mapdb.proofs.Passing.{Passes}
 use Rattle.l4_mapdb.proofs.View.{at_place, some_entry, some_standing, some_parent, stands_at}
 
 -- one key
@@ -162,9 +163,8 @@ module _ (space first end : ℕ) (with_self : Bool) (old cur : Linked) (next : �
   still_at : (own page : ℕ) → ¬ (Gone own) → IsAt old.entries (record { space = space; page = page }) own → IsAt cur.entries (record { space = space; page = page }) own
   still_at own page n at = ap (option_map {T = Entry} (λ e. e.place)) (so_far.takes.kept own n) ∙ at
 
-  -- the next page
-  module _ (page key : ℕ) (have : HavePlaces old) (is_next : IsNextKeyIn cur.entries space next end page) (at : IsAt cur.entries (record { space = space; page = page }) key) where
-    -- its key is there
+  -- the key of a page is there
+  module _ (page key : ℕ) (at : IsAt cur.entries (record { space = space; page = page }) key) where
     pub taken_there : entry_at cur.entries key ≢ None
     taken_there none =
         let e = some_entry cur.entries (record { space = space; page = page }) key at in
@@ -175,27 +175,34 @@ module _ (space first end : ℕ) (with_self : Bool) (old cur : Linked) (next : �
         let e = some_entry cur.entries (record { space = space; page = page }) key at in
         at_place old.entries key e.0 (left key e.0 e.1).0 ∙ ap (λ (p : LinkPlace). Some p) e.2
 
+  -- the next page that isn't passed over
+  module _ (page key : ℕ) (have : HavePlaces old) (more : next ≤ page) (less : page < end) (passes : Passes cur.entries space with_self next page) (at : IsAt cur.entries (record { space = space; page = page }) key) where
     apart : (k : ℕ) → IsCovered old.entries space first (page + 1) with_self k → Gone k ⊎ IsOver old.entries with_self key k
-    apart k c = elim (so_far.takes.decided c.0) [
-      | inl g ↦ inl (gone_with c.0 k g c.2)
-      | inr n ↦ elim (less_or c.1.page next) [
-        | inl less ↦ inl (c.0, record { page = c.1.page; from = c.1.from; below = less; at = c.1.at }, c.2)
-        | inr more ↦
-            let least = is_next.least c.1.page more (c.0, still_at c.0 c.1.page n c.1.at) in
-            let same : c.1.page ≡ page = omega (arith, least, c.1.below) in
-            let one : c.0 ≡ key = have.once (record { space = space; page = page }) c.0 key (subst (λ (p : ℕ). IsAt old.entries (record { space = space; page = p }) c.0) same c.1.at) at_old in
-            inr (subst (λ (own : ℕ). IsOver old.entries with_self own k) one c.2)
+    apart k c = elim (so_far.takes.decided k) [
+      | inl g ↦ inl g
+      | inr n ↦ elim (so_far.takes.decided c.0) [
+        | inl g ↦ inl (gone_with c.0 k g c.2)
+        | inr m ↦ elim (less_or c.1.page next) [
+          | inl before ↦ inl (c.0, record { page = c.1.page; from = c.1.from; below = before; at = c.1.at }, c.2)
+          | inr past ↦ elim (less_or c.1.page page) [
+            | inl between ↦ absurd (passes c.1.page c.0 k past between (still_at c.0 c.1.page m c.1.at) (over_cur k c.0 n c.2))
+            | inr from ↦
+                let same : c.1.page ≡ page = omega (arith, from, c.1.below) in
+                let one : c.0 ≡ key = have.once (record { space = space; page = page }) c.0 key (subst (λ (p : ℕ). IsAt old.entries (record { space = space; page = p }) c.0) same c.1.at) (at_old page key at) in
+                inr (subst (λ (own : ℕ). IsOver old.entries with_self own k) one c.2)
+          ]
+        ]
       ]
     ]
 
     together : (k : ℕ) → Gone k ⊎ IsOver old.entries with_self key k → IsCovered old.entries space first (page + 1) with_self k
-    together k (inl c) = (c.0, record { page = c.1.page; from = c.1.from; below = omega (arith, c.1.below, is_next.from); at = c.1.at }, c.2)
-    together k (inr o) = (key, record { page = page; from = omega (arith, so_far.from, is_next.from); below = omega arith; at = at_old }, o)
+    together k (inl c) = (c.0, record { page = c.1.page; from = c.1.from; below = omega (arith, c.1.below, more); at = c.1.at }, c.2)
+    together k (inr o) = (key, record { page = page; from = omega (arith, so_far.from, more); below = omega arith; at = at_old page key at }, o)
 
     pub taken_more : (new : Linked) → TakesKeys (IsOver cur.entries with_self key) cur.entries new.entries → new.spaces ≡ cur.spaces → TakenTo space first end with_self old new (page + 1)
     taken_more new takes spaces = record {
-      from = omega (arith, so_far.from, is_next.from);
-      to = omega (arith, is_next.before);
+      from = omega (arith, so_far.from, more);
+      to = omega (arith, less);
       takes = record {
         decided = λ k. elim (so_far.takes.decided k) [
           | inl g ↦ inl (together k (inl g))
@@ -217,16 +224,19 @@ module _ (space first end : ℕ) (with_self : Bool) (old cur : Linked) (next : �
     }
 
   -- after the last page
-  module _ (none : NoKeyIn cur.entries space next end) where
+  module _ (passes : Passes cur.entries space with_self next end) where
     wider : (k : ℕ) → Gone k → IsCovered old.entries space first end with_self k
     wider k c = (c.0, record { page = c.1.page; from = c.1.from; below = omega (arith, c.1.below, so_far.to); at = c.1.at }, c.2)
 
     narrower : (k : ℕ) → IsCovered old.entries space first end with_self k → Gone k
-    narrower k c = elim (so_far.takes.decided c.0) [
-      | inl g ↦ gone_with c.0 k g c.2
-      | inr n ↦ elim (less_or c.1.page next) [
-        | inl less ↦ (c.0, record { page = c.1.page; from = c.1.from; below = less; at = c.1.at }, c.2)
-        | inr more ↦ absurd (none c.1.page more c.1.below (c.0, still_at c.0 c.1.page n c.1.at))
+    narrower k c = elim (so_far.takes.decided k) [
+      | inl g ↦ g
+      | inr n ↦ elim (so_far.takes.decided c.0) [
+        | inl g ↦ gone_with c.0 k g c.2
+        | inr m ↦ elim (less_or c.1.page next) [
+          | inl less ↦ (c.0, record { page = c.1.page; from = c.1.from; below = less; at = c.1.at }, c.2)
+          | inr more ↦ absurd (passes c.1.page c.0 k more c.1.below (still_at c.0 c.1.page m c.1.at) (over_cur k c.0 n c.2))
+        ]
       ]
     ]
 

@@ -1,6 +1,6 @@
 //! Pages that go at once with all that descends from them.
 
-ghost use Rattle.std.specs.Prelude.{◌≡◌, ◌≢◌, ◌≤◌, None};
+ghost use Rattle.std.specs.Prelude.{◌≡◌, ◌≢◌, ◌≤◌, None, false};
 ghost use Rattle.l4_links.specs.Entries.{entry_at, HaveRights};
 ghost use Rattle.l4_mapdb.specs.Inside.Kept.{IsClean};
 ghost use Rattle.l4_mapdb.specs.Inside.Cuts.{IsOver, IsCovered, TakesKeys};
@@ -32,6 +32,24 @@ pub(crate) fn take_key(links: &mut Links, top: usize, with_self: bool)
     links.cut_below(top);
 }
 
+/// Takes away all that descends from these pages, each of which stays. A page that nothing descends from is passed over in the walk.
+fn cut_pages(links: &mut Links, space: u64, first: u32, end: u32)
+    requires clean { IsClean links.old }
+    requires rising { first ≤ end }
+    ensures takes { TakesKeys (IsCovered links.old.entries space first end false) links.old.entries links.new.entries }
+    ensures spaces { links.new.spaces ≡ links.old.spaces }
+{
+    links.law_places();
+    let mut next = first;
+    loop {
+        let Some((page, key)) = links.next_parent_in(space, next, end) else {
+            return;
+        };
+        take_key(links, key, false);
+        next = page + 1;
+    }
+}
+
 /// Takes away what stands at these pages, where they are meant, and all that descends from them. A page may have gone with an
 /// earlier one.
 pub(crate) fn take_pages(links: &mut Links, space: u64, first: u32, end: u32, with_self: bool)
@@ -40,6 +58,10 @@ pub(crate) fn take_pages(links: &mut Links, space: u64, first: u32, end: u32, wi
     ensures takes { TakesKeys (IsCovered links.old.entries space first end with_self) links.old.entries links.new.entries }
     ensures spaces { links.new.spaces ≡ links.old.spaces }
 {
+    if !with_self {
+        cut_pages(links, space, first, end);
+        return;
+    }
     links.law_places();
     let mut next = first;
     loop {
