@@ -1,13 +1,14 @@
 -- Caps of the rights of keys, one after another, and what is left once those without rights have gone.
-use Rattle.std.proofs.Common.{◌≡◌, ℕ, ◌+◌, ◌≤◌, Bool, true, false, ◌&&◌, Option, Some, None, ◌⊎◌, inl, inr, refl, sym, ap, ◌∙◌, subst, option_and_then, option_map, arith}
+use Rattle.std.proofs.Common.{◌≡◌, ℕ, ◌+◌, ◌<◌, ◌≤◌, Bool, true, false, ◌&&◌, Option, Some, None, ◌⊎◌, inl, inr, refl, sym, ap, ◌∙◌, subst, option_and_then, option_map, arith}
 use Rattle.l4_fpage.specs.Rights.{RightsSet, common}
 use Rattle.l4_links.specs.declared.Place.{Place as LinkPlace}
 use Rattle.l4_links.specs.declared.Standing.{Standing}
 use Rattle.l4_links.specs.declared.Entry.{Entry}
 use Rattle.l4_links.specs.Leads.{Leads, step, steps}
-use Rattle.l4_links.specs.Entries.{Entries, Linked, entry_at, parent_of, Descends, IsAt, HavePlaces, NoKeyIn, IsNextKeyIn, capped}
+use Rattle.l4_links.specs.Entries.{Entries, Linked, entry_at, parent_of, Descends, IsAt, HavePlaces, capped}
 use Rattle.l4_mapdb.specs.Inside.Cuts.{IsPageKey, IsOver, IsCovered, CapsKeys}
 use Rattle.l4_mapdb.proofs.Deciding.{less_or}
+use Rattle.l4_mapdb.proofs.Passing.{Passes}
 
 -- chains go along equal parents
 pub leads_along : (f g : ℕ → Option ℕ) → ((key : ℕ) → f key ≡ g key) → {low high : ℕ} → Leads f low high → Leads g low high
@@ -113,13 +114,13 @@ capped_first space first end with_self cap old le = record {
   no_page : {own : ℕ} → IsPageKey old.entries space first first own → ⊥
   no_page p = omega (arith, p.from, p.below)
 
--- the next page
+-- the next page that isn't passed over
 pub capped_more : (space first end : ℕ) (with_self : Bool) (cap : RightsSet) (old cur new : Linked) (next page key : ℕ) → HavePlaces old → CappedTo space first end with_self cap old cur next
-    → IsNextKeyIn cur.entries space next end page → IsAt cur.entries (record { space = space; page = page }) key
+    → next ≤ page → page < end → Passes cur.entries space with_self next page → IsAt cur.entries (record { space = space; page = page }) key
     → CapsKeys (IsOver cur.entries with_self key) cap cur.entries new.entries → new.spaces ≡ cur.spaces → CappedTo space first end with_self cap old new (page + 1)
-capped_more space first end with_self cap old cur new next page key have so_far is_next at caps spaces = record {
-  from = omega (arith, so_far.from, is_next.from);
-  to = omega (arith, is_next.before);
+capped_more space first end with_self cap old cur new next page key have so_far le lt passes at caps spaces = record {
+  from = omega (arith, so_far.from, le);
+  to = omega (arith, lt);
   caps = caps_both (IsCovered old.entries space first next with_self) (IsOver cur.entries with_self key) (IsCovered old.entries space first (page + 1) with_self) cap old.entries cur.entries new.entries
       apart together so_far.caps caps;
   spaces = spaces ∙ so_far.spaces;
@@ -142,22 +143,23 @@ capped_more space first end with_self cap old cur new next page key have so_far 
   apart k c =
       elim (less_or c.1.page next) [
         | inl less ↦ inl (c.0, record { page = c.1.page; from = c.1.from; below = less; at = c.1.at }, c.2)
-        | inr more ↦
-            let there = at_cur (record { space = space; page = c.1.page }) c.0 c.1.at in
-            let least = is_next.least c.1.page more (c.0, there) in
-            let same : c.1.page ≡ page = omega (arith, least, c.1.below) in
-            let one : c.0 ≡ key = have.once (record { space = space; page = page }) c.0 key (subst (λ (p : ℕ). IsAt old.entries (record { space = space; page = p }) c.0) same c.1.at) (at_old (record { space = space; page = page }) key at) in
-            inr (subst (λ (own : ℕ). IsOver cur.entries with_self own k) one (over_cur k c.0 c.2))
+        | inr more ↦ elim (less_or c.1.page page) [
+          | inl before ↦ absurd (passes c.1.page c.0 k more before (at_cur (record { space = space; page = c.1.page }) c.0 c.1.at) (over_cur k c.0 c.2))
+          | inr past ↦
+              let same : c.1.page ≡ page = omega (arith, past, c.1.below) in
+              let one : c.0 ≡ key = have.once (record { space = space; page = page }) c.0 key (subst (λ (p : ℕ). IsAt old.entries (record { space = space; page = p }) c.0) same c.1.at) (at_old (record { space = space; page = page }) key at) in
+              inr (subst (λ (own : ℕ). IsOver cur.entries with_self own k) one (over_cur k c.0 c.2))
+        ]
       ]
 
   together : (k : ℕ) → IsCovered old.entries space first next with_self k ⊎ IsOver cur.entries with_self key k → IsCovered old.entries space first (page + 1) with_self k
-  together k (inl c) = (c.0, record { page = c.1.page; from = c.1.from; below = omega (arith, c.1.below, is_next.from); at = c.1.at }, c.2)
-  together k (inr o) = (key, record { page = page; from = omega (arith, so_far.from, is_next.from); below = omega arith; at = at_old (record { space = space; page = page }) key at }, over_old k key o)
+  together k (inl c) = (c.0, record { page = c.1.page; from = c.1.from; below = omega (arith, c.1.below, le); at = c.1.at }, c.2)
+  together k (inr o) = (key, record { page = page; from = omega (arith, so_far.from, le); below = omega arith; at = at_old (record { space = space; page = page }) key at }, over_old k key o)
 
 -- after the last page all are
-pub capped_all : (space first end : ℕ) (with_self : Bool) (cap : RightsSet) (old cur : Linked) (next : ℕ) → CappedTo space first end with_self cap old cur next → NoKeyIn cur.entries space next end
+pub capped_all : (space first end : ℕ) (with_self : Bool) (cap : RightsSet) (old cur : Linked) (next : ℕ) → CappedTo space first end with_self cap old cur next → Passes cur.entries space with_self next end
     → CapsKeys (IsCovered old.entries space first end with_self) cap old.entries cur.entries
-capped_all space first end with_self cap old cur next so_far none = record {
+capped_all space first end with_self cap old cur next so_far passes = record {
   decided = λ key. elim (so_far.caps.decided key) [ inl c ↦ inl (wider key c) | inr n ↦ inr (λ c. n (narrower key c)) ];
   here = λ key c. so_far.caps.here key (narrower key c);
   kept = λ key n. so_far.caps.kept key (λ c. n (wider key c));
@@ -165,9 +167,13 @@ capped_all space first end with_self cap old cur next so_far none = record {
   wider : (key : ℕ) → IsCovered old.entries space first next with_self key → IsCovered old.entries space first end with_self key
   wider key c = (c.0, record { page = c.1.page; from = c.1.from; below = omega (arith, c.1.below, so_far.to); at = c.1.at }, c.2)
 
+  over_cur : (key own : ℕ) → IsOver old.entries with_self own key → IsOver cur.entries with_self own key
+  over_cur key own (inl e) = inl e
+  over_cur key own (inr d) = inr (caps_back (IsCovered old.entries space first next with_self) cap old.entries cur.entries so_far.caps d)
+
   narrower : (key : ℕ) → IsCovered old.entries space first end with_self key → IsCovered old.entries space first next with_self key
   narrower key c =
       elim (less_or c.1.page next) [
         | inl less ↦ (c.0, record { page = c.1.page; from = c.1.from; below = less; at = c.1.at }, c.2)
-        | inr more ↦ absurd (none c.1.page more c.1.below (c.0, caps_place (IsCovered old.entries space first next with_self) cap old.entries cur.entries so_far.caps c.0 ∙ c.1.at))
+        | inr more ↦ absurd (passes c.1.page c.0 key more c.1.below (caps_place (IsCovered old.entries space first next with_self) cap old.entries cur.entries so_far.caps c.0 ∙ c.1.at) (over_cur key c.0 c.2))
       ]

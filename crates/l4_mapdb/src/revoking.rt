@@ -1,6 +1,6 @@
 //! Rights taken from what descends from pages.
 
-ghost use Rattle.std.specs.Prelude.{◌≡◌, ◌≢◌, ◌≤◌, ℕ, None};
+ghost use Rattle.std.specs.Prelude.{◌≡◌, ◌≢◌, ◌≤◌, ℕ, None, false};
 ghost use Rattle.l4_fpage.specs.Rights.{without, all_rights};
 ghost use Rattle.l4_links.specs.Entries.{entry_at, HavePlaces, AreTrees};
 ghost use Rattle.l4_mapdb.specs.Inside.Kept.{IsClean};
@@ -23,12 +23,33 @@ fn cap_key(links: &mut Links, top: usize, cap: Rights, with_self: bool)
     links.cap_below(top, cap);
 }
 
+/// Lets all that descends from these pages have no other rights than these. A page that nothing descends from is passed over in the walk.
+fn cap_below_pages(links: &mut Links, space: u64, first: u32, end: u32, cap: Rights)
+    requires { first ≤ end }
+    ensures caps { CapsKeys (IsCovered links.old.entries space first end false) cap links.old.entries links.new.entries }
+    ensures spaces { links.new.spaces ≡ links.old.spaces }
+{
+    links.law_places();
+    let mut next = first;
+    loop {
+        let Some((page, key)) = links.next_parent_in(space, next, end) else {
+            return;
+        };
+        cap_key(links, key, cap, false);
+        next = page + 1;
+    }
+}
+
 /// Lets what stands at these pages, where they are meant, and all that descends from them have no other rights than these.
 fn cap_pages(links: &mut Links, space: u64, first: u32, end: u32, cap: Rights, with_self: bool)
     requires { first ≤ end }
     ensures caps { CapsKeys (IsCovered links.old.entries space first end with_self) cap links.old.entries links.new.entries }
     ensures spaces { links.new.spaces ≡ links.old.spaces }
 {
+    if !with_self {
+        cap_below_pages(links, space, first, end, cap);
+        return;
+    }
     links.law_places();
     let mut next = first;
     loop {
