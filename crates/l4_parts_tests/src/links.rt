@@ -317,6 +317,20 @@ fn finds_pages(rt: HostRuntime) {
 }
 
 #[test]
+fn finds_parents(rt: HostRuntime) {
+    let mut links = Links::new(rt.alloc());
+    let [top, middle, _] = chain(&mut links).expect(&rt, "memory");
+    assert_eq!(rt;
+        [
+            links.next_parent_in(0, 0, 10),
+            links.next_parent_in(0, 6, 2000),
+            links.next_parent_in(0, 11, 2000)
+        ],
+        [Some((5, top)), Some((10, middle)), None]
+    );
+}
+
+#[test]
 fn adds_a_child_at_once(rt: HostRuntime) {
     let mut links = Links::new(rt.alloc());
     let [top, middle, low] = chain(&mut links).expect(&rt, "memory");

@@ -169,3 +169,13 @@ fn keeps_long_keys(rt: HostRuntime) -> Result<(), Fail> {
     );
     Ok(())
 }
+
+#[test]
+fn gives_the_next_table(rt: HostRuntime) -> Result<(), Fail> {
+    let mut spaces = Spaces::new(rt.alloc());
+    put(&mut spaces, 7, 2003, 9)?;
+    let (start, row) = spaces.next_table(7, 4, 4096).expect(&rt, "a table");
+    assert_eq!(rt; (start, row.len(), row.at(979)), (1024, 1024, Some(9)));
+    assert!(rt; spaces.next_table(7, 4, 1024).is_none());
+    Ok(())
+}
