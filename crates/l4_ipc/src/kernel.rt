@@ -245,6 +245,7 @@ impl Kernel {
     }
 
     /// What a page of a space shows; None where it is not present.
+    #[inline]
     pub fn mapping(&self, space: u64, page: u32) -> Option<Mapping>
         ensures { result ≡ shown self.now.mappings (record { space = space; page = page }) }
     {

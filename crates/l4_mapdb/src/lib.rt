@@ -150,6 +150,7 @@ impl Forest {
     }
 
     /// What the page of the space shows, None if it is not present.
+    #[inline]
     pub fn at(&self, space: u64, page: u32) -> Option<Mapping>
         ensures shown { result ≡ shown self.now (record { space = space; page = page }) }
         ensures forest { IsForest self.now }
