@@ -21,6 +21,23 @@ no_node slots ks key f none low l =
     let run = (descendants (limbs slots) (position ks) f.tree key low).0 l in
     let z : ◌≡◌ {A = Option Limb} None (Some run.top) = sym (ap (option_map limb_of) none) ∙ run.at_top in cc
 
+-- a page that has no such key is passed over
+module _ (slots : Slots) (t : Tables) (space page end : ℕ) (none : (key : ℕ) → key_of t space page ≡ Some key → ¬ (IsParent slots key)) where
+  pub none_from : (last : ℕ) → NoParentPage slots t space (page + 1) last → NoParentPage slots t space page last
+  none_from last later other key le lt is = elim (cases_lt page other) [
+    | inl after ↦ later other key (omega (arith, after)) lt is
+    | inr same ↦ (let e : other ≡ page = omega (arith, le, same) in none key (sym (ap (key_of t space) e) ∙ is))
+  ]
+
+  pub found_from : (next key : ℕ) → IsParentPage slots t space (page + 1) end next key → IsParentPage slots t space page end next key
+  found_from next key found = record {
+    named = found.named;
+    parent = found.parent;
+    from = (let from = found.from in omega (arith, from));
+    before = found.before;
+    least = none_from next found.least;
+  }
+
 -- no page before this one has a key that something descends from, and none from the end on is spoken of
 abbrev pub NoneYet : Slots → Tables → ℕ → ℕ → ℕ → ℕ → Type 0
 NoneYet slots t space page end next = (other key : ℕ) → page ≤ other → other < next → other < end → key_of t space other ≡ Some key → ¬ (IsParent slots key)

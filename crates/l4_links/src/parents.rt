@@ -28,6 +28,21 @@ fn is_parent(nodes: &Slab<Packed>, key: usize) -> bool
     after.depth > node.depth
 }
 
+/// The key, if something descends from it.
+#[inline]
+fn parent_key(nodes: &Slab<Packed>, key: Option<usize>) -> Option<usize>
+    requires forest { (keys : List ℕ) × IsForest nodes.now.slots keys }
+    ensures { MatchOption result ((here : ℕ) → key ≡ Some here → ¬ (IsParent nodes.now.slots here)) (λ here. (key ≡ Some here) × IsParent nodes.now.slots here) }
+{
+    let Some(key) = key else {
+        return None;
+    };
+    if !is_parent(nodes, key) {
+        return None;
+    }
+    Some(key)
+}
+
 /// The key of this place of a table, if something descends from it.
 #[inline]
 fn parent_at(nodes: &Slab<Packed>, row: &Row, low: usize) -> Option<usize>
@@ -35,13 +50,7 @@ fn parent_at(nodes: &Slab<Packed>, row: &Row, low: usize) -> Option<usize>
     requires within { low < length row.now }
     ensures { MatchOption result ((key : ℕ) → ¬ (IsParentKey nodes.now.slots row.now low key)) (IsParentKey nodes.now.slots row.now low) }
 {
-    let Some(key) = row.at(low) else {
-        return None;
-    };
-    if !is_parent(nodes, key) {
-        return None;
-    }
-    Some(key)
+    parent_key(nodes, row.at(low))
 }
 
 /// The first place of a table from this one on and before the end with a key that something descends from, and the key.
@@ -84,7 +93,8 @@ fn last_low(places: usize, start: u32, end: u32) -> usize
 }
 
 /// The first page of the space from `page` on and before `end` with a key that something descends from, and the key.
-pub(crate) fn next_parent(
+#[inline(never)]
+fn seek_parent(
     nodes: &Slab<Packed>,
     pages: &Spaces,
     space: u64,
@@ -106,4 +116,28 @@ pub(crate) fn next_parent(
         }
         next = start + row.len() as u32;
     }
+}
+
+/// The same. A page that has such a key is often followed by another, which is seen without a walk.
+#[inline]
+pub(crate) fn next_parent(
+    nodes: &Slab<Packed>,
+    pages: &Spaces,
+    space: u64,
+    page: u32,
+    end: u32,
+) -> Option<(u32, usize)>
+    requires forest { (keys : List ℕ) × IsForest nodes.now.slots keys }
+    ensures { MatchOption result (NoParentPage nodes.now.slots pages.now space page end) (λ found. IsParentPage nodes.now.slots pages.now space page end found.0 found.1) }
+{
+    if page >= end {
+        return None;
+    }
+    if let Some(key) = parent_key(nodes, pages.get(space, page)) {
+        return Some((page, key));
+    }
+    let Some((next, key)) = seek_parent(nodes, pages, space, page + 1, end) else {
+        return None;
+    };
+    Some((next, key))
 }

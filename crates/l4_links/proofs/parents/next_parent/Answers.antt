@@ -1,28 +1,20 @@
-use Rattle.std.proofs.Common.{◌≡◌, ◌+◌, ◌⊎◌, ℕ, ◌∙◌, subst, arith}
-use Rattle.l4_spaces.specs.Tables.{table_pages}
-use Rattle.l4_links.specs.Inside.Parents.{NoParents, IsFirstParent}
-use Rattle.l4_links.proofs.ParentWalk.{NoneYet, table_done, table_has}
+use Rattle.std.proofs.Common.{sym, ◌∙◌, arith}
+use Rattle.l4_links.proofs.ParentWalk.{none_from, found_from}
 use Rattle.l4_links.proofs.parents.next_parent.Goals as goal
 
-pub returns-in-Some-parent_in : goal.returns-in-Some-parent_in
-returns-in-Some-parent_in c =
-    let w = c.in-Some.ensures.whole in
-    let l = c.len.ensures in
-    let s = c.last_low-last.ensures in
-    table_has c.args.nodes.now.slots c.args.pages.now c.args.space c.args.page c.loop-start.next c.args.end c.loop-start.invariant.0 c.loop-start.invariant.1 c.in-Some.start c.in-Some.row.now c.in-Some.ensures c.last_low-last.result
-    c.in-Some-parent_in.low c.in-Some-parent_in.key (omega (arith, w, l, s.within)) s.before
-    (subst (λ (from : ℕ). IsFirstParent c.args.nodes.now.slots c.in-Some.row.now from c.last_low-last.result c.in-Some-parent_in.low c.in-Some-parent_in.key) c.first_low-from.ensures c.in-Some-parent_in.ensures)
+pub returns-in-Some : goal.returns-in-Some
+returns-in-Some c = record {
+  named = sym c.get.ensures.value ∙ c.in-Some.ensures.0;
+  parent = c.in-Some.ensures.1;
+  from = omega arith;
+  before = (let before = c.if-page-end.false in omega (arith, before));
+  least = λ other key le lt is. absurd (omega (arith, le, lt));
+}
 
-pub loop-start-preserved : goal.loop-start-preserved
-loop-start-preserved c =
-    let w = c.in-Some.ensures.whole in
-    let l = c.len.ensures in
-    let s = c.last_low-last.ensures in
-    let next : c.in-Some.start + table_pages ≡ c.in-Some.start + c.len-in-loop-start.result = (let n = c.len-in-loop-start.ensures in omega (arith, w, n)) in
-    let lasts : (c.last_low-last.result ≡ table_pages) ⊎ (c.in-Some.start + c.last_low-last.result ≡ c.args.end) = subst (λ (n : ℕ). (c.last_low-last.result ≡ n) ⊎ (c.in-Some.start + c.last_low-last.result ≡ c.args.end)) (l ∙ w) s.last in (
-      (let from = c.in-Some.ensures.from in let before = c.loop-start.invariant.0 in omega (arith, next, from, before)),
-      subst (λ (n : ℕ). NoneYet c.args.nodes.now.slots c.args.pages.now c.args.space c.args.page c.args.end n) next
-          (table_done c.args.nodes.now.slots c.args.pages.now c.args.space c.args.page c.loop-start.next c.args.end c.loop-start.invariant.0 c.loop-start.invariant.1 c.in-Some.start c.in-Some.row.now c.in-Some.ensures c.last_low-last.result
-          lasts (omega (arith, w, l, s.within))
-          (subst (λ (from : ℕ). NoParents c.args.nodes.now.slots c.in-Some.row.now from c.last_low-last.result) c.first_low-from.ensures c.in_default-parent_in.ensures)),
-    )
+pub returns-in_default-seek_parent : goal.returns-in_default-seek_parent
+returns-in_default-seek_parent c =
+    none_from c.args.nodes.now.slots c.args.pages.now c.args.space c.args.page c.args.end (λ key is. c.in_default.ensures key (c.get.ensures.value ∙ is)) c.args.end c.in_default-seek_parent.ensures
+
+pub returns : goal.returns
+returns c =
+    found_from c.args.nodes.now.slots c.args.pages.now c.args.space c.args.page c.args.end (λ key is. c.in_default.ensures key (c.get.ensures.value ∙ is)) c.in-Some-seek_parent.next c.in-Some-seek_parent.key c.in-Some-seek_parent.ensures
