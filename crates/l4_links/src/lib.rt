@@ -163,7 +163,7 @@ impl Links {
 
     /// The least page of the space that is not below `page` and has a key that something descends from, and its key, if it is below
     /// `end`. Nothing from `end` on is looked at.
-    #[inline]
+    #[inline(always)]
     pub fn next_parent_in(&self, space: u64, page: u32, end: u32) -> Option<(u32, usize)>
         ensures { MatchOption result (NoParentIn self.now.entries space page end) (λ found. IsNextParentIn self.now.entries space page end found.0 found.1) }
     {

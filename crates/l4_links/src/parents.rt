@@ -119,7 +119,7 @@ fn seek_parent(
 }
 
 /// The same. A page that has such a key is often followed by another, which is seen without a walk.
-#[inline]
+#[inline(always)]
 pub(crate) fn next_parent(
     nodes: &Slab<Packed>,
     pages: &Spaces,
