@@ -6,26 +6,21 @@ ghost use Rattle.l4_links.specs.Inside.Parents.{IsParent, IsParentKey, NoParents
 
 use crate::nodes::node_of;
 use crate::packed::Packed;
+use crate::walks::is_leaf;
 use l4_spaces::{Row, Spaces};
 use slab::Slab;
 
-/// Whether something descends from the key. What does would begin with the node after it, one that is deeper, so no walk is needed.
+/// Whether something descends from the key.
 #[inline]
 fn is_parent(nodes: &Slab<Packed>, key: usize) -> bool
     requires forest { (keys : List ℕ) × IsForest nodes.now.slots keys }
     ensures yes { result ≡ true → IsParent nodes.now.slots key }
     ensures no { result ≡ false → ¬ (IsParent nodes.now.slots key) }
 {
-    let Some(node) = node_of(nodes, key) else {
+    let Some(_) = node_of(nodes, key) else {
         return false;
     };
-    let Some(next) = node.next.key() else {
-        return false;
-    };
-    let Some(after) = node_of(nodes, next) else {
-        unreachable!()
-    };
-    after.depth > node.depth
+    !is_leaf(nodes, key)
 }
 
 /// The key, if something descends from it.
