@@ -1,5 +1,5 @@
 -- What is packed into bytes is read again, whatever follows it.
-use Rattle.std.proofs.Common.{◌≡◌, ℕ, zero, suc, ◌+◌, ◌*◌, ◌/◌, ◌%◌, ◌^◌, ◌<◌, ◌≤◌, ◌==◌, Bool, true, false, ltb, if◌then◌else◌, List, [], ◌∷◌, ◌++◌, length, Option, Some, None, refl, sym, ap, subst, ◌∙◌, append_assoc, arith, inl, inr}
+use Rattle.std.proofs.Common.{◌≡◌, ℕ, zero, suc, ◌+◌, ◌*◌, ◌-◌, ◌/◌, ◌%◌, ◌^◌, ◌<◌, ◌≤◌, ◌==◌, Bool, true, false, ltb, if◌then◌else◌, List, [], ◌∷◌, ◌++◌, length, Option, Some, None, refl, sym, ap, subst, ◌∙◌, append_assoc, arith, inl, inr}
 use Rattle.std.proofs.lemmas.Bool.{le-ltb, lt-ltb, cases_lt, eqb-true}
 use Rattle.std.proofs.lemmas.List.{take_at, drop_at, length-append, length_push, append-nil}
 use Rattle.std.proofs.lemmas.List.Concat.{flat_map-append}
@@ -7,35 +7,54 @@ use Rattle.std.proofs.lemmas.Option.{none-some, some_pair_parts}
 use Rattle.l4_packed.specs.Inside.Bytes.{number_code, number_at, numbers_code, numbers_in, words_in, record_code, frame_at, records_code, records_in}
 use Rattle.l4_packed.specs.Inside.Pieces.{AreWords, record_words}
 
-four_again : (n : ℕ) (rest : List ℕ) → ltb n 252 ≡ false → ltb n (2 ^ 16) ≡ false → ltb n (2 ^ 24) ≡ false → (greatest : Bool) → (n == 4294967295) ≡ greatest → number_at (number_code n ++ rest) ≡ Some (n, rest)
+-- the first byte of several, which tells how many there are, and what it counts
+first_byte : (from last high : ℕ) → high + from < last → (ltb (from + high) from ≡ false) × (ltb (from + high) last ≡ true) × ((from + high) - from ≡ high)
+first_byte from last high few = (le-ltb _ _ (omega arith), lt-ltb _ _ (omega (arith, few)), omega arith)
+
+-- it is none of a smaller number
+beyond : (limit from high : ℕ) → limit ≤ from → ltb (from + high) limit ≡ false
+beyond limit from high above = le-ltb _ _ (omega (arith, above))
+
+five_again : (n : ℕ) (rest : List ℕ) → ltb n 192 ≡ false → ltb n (2 ^ 13) ≡ false → ltb n (2 ^ 20) ≡ false → ltb n 234881024 ≡ false → (greatest : Bool) → (n == 4294967295) ≡ greatest → number_at (number_code n ++ rest) ≡ Some (n, rest)
 unfolding number_code number_at
-four_again n rest b b2 b3 true is =
+five_again n rest b b2 b3 b4 true is =
     let same : n ≡ 4294967295 = eqb-true n 4294967295 is in
-    rw (b, b2, b3, is, same) refl
-four_again n rest b b2 b3 false is =
+    rw (b, b2, b3, b4, is, same) refl
+five_again n rest b b2 b3 b4 false is =
     let sum : n % 256 + 256 * (n / 256 % 256) + 2 ^ 16 * (n / 2 ^ 16 % 256) + 2 ^ 24 * (n / 2 ^ 24) ≡ n = omega arith in
-    rw (b, b2, b3, is, sum) refl
+    rw (b, b2, b3, b4, is, sum) refl
 
 pub number_again : (n : ℕ) (rest : List ℕ) → number_at (number_code n ++ rest) ≡ Some (n, rest)
 unfolding number_code number_at
 number_again n rest =
-    elim (cases_lt n 252) [
-      | inl one ↦ let b : ltb n 252 ≡ true = lt-ltb _ _ one in rw (b, b) refl
+    elim (cases_lt n 192) [
+      | inl one ↦ let b : ltb n 192 ≡ true = lt-ltb _ _ one in rw (b, b) refl
       | inr more ↦
-          let b : ltb n 252 ≡ false = le-ltb _ _ more in
-          elim (cases_lt n (2 ^ 16)) [
+          let b : ltb n 192 ≡ false = le-ltb _ _ more in
+          elim (cases_lt n (2 ^ 13)) [
             | inl two ↦
-                let b2 : ltb n (2 ^ 16) ≡ true = lt-ltb _ _ two in
-                let sum : n % 256 + 256 * (n / 256) ≡ n = omega arith in
-                rw (b, b2, sum) refl
+                let b2 : ltb n (2 ^ 13) ≡ true = lt-ltb _ _ two in
+                let first = first_byte 192 224 (n / 256) (omega (arith, two)) in
+                let sum : 256 * (n / 256) + n % 256 ≡ n = omega arith in
+                rw (b, b2, first.0, first.1, first.2, sum) refl
             | inr more2 ↦
-                let b2 : ltb n (2 ^ 16) ≡ false = le-ltb _ _ more2 in
-                elim (cases_lt n (2 ^ 24)) [
+                let b2 : ltb n (2 ^ 13) ≡ false = le-ltb _ _ more2 in
+                elim (cases_lt n (2 ^ 20)) [
                   | inl three ↦
-                      let b3 : ltb n (2 ^ 24) ≡ true = lt-ltb _ _ three in
-                      let sum : n % 256 + 256 * (n / 256 % 256) + 2 ^ 16 * (n / 2 ^ 16) ≡ n = omega arith in
-                      rw (b, b2, b3, sum) refl
-                  | inr more3 ↦ four_again n rest b b2 (le-ltb _ _ more3) (n == 4294967295) refl
+                      let b3 : ltb n (2 ^ 20) ≡ true = lt-ltb _ _ three in
+                      let first = first_byte 224 240 (n / 2 ^ 16) (omega (arith, three)) in
+                      let sum : 2 ^ 16 * (n / 2 ^ 16) + n % 256 + 256 * (n / 256 % 256) ≡ n = omega arith in
+                      rw (b, b2, b3, beyond 192 224 (n / 2 ^ 16) (omega arith), first.0, first.1, first.2, sum) refl
+                  | inr more3 ↦
+                      let b3 : ltb n (2 ^ 20) ≡ false = le-ltb _ _ more3 in
+                      elim (cases_lt n 234881024) [
+                        | inl four ↦
+                            let b4 : ltb n 234881024 ≡ true = lt-ltb _ _ four in
+                            let first = first_byte 240 254 (n / 2 ^ 24) (omega (arith, four)) in
+                            let sum : 2 ^ 24 * (n / 2 ^ 24) + (n % 256 + 256 * (n / 256 % 256) + 2 ^ 16 * (n / 2 ^ 16 % 256)) ≡ n = omega arith in
+                            rw (b, b2, b3, b4, beyond 192 240 (n / 2 ^ 24) (omega arith), beyond 224 240 (n / 2 ^ 24) (omega arith), first.0, first.1, first.2, sum) refl
+                        | inr more4 ↦ five_again n rest b b2 b3 (le-ltb _ _ more4) (n == 4294967295) refl
+                      ]
                 ]
           ]
     ]
@@ -53,24 +72,29 @@ numbers_again (suc k) (w ∷ ws) few =
 abbrev Few : List ℕ → Type 0
 Few bytes = (1 ≤ length bytes) × (length bytes ≤ 5)
 
-few_of_four : (n : ℕ) (greatest : Bool) → Few (if greatest then 255 ∷ [] else 254 ∷ n % 256 ∷ n / 256 % 256 ∷ n / 2 ^ 16 % 256 ∷ n / 2 ^ 24 ∷ [])
-few_of_four n true = (omega arith, omega arith)
-few_of_four n false = (omega arith, omega arith)
+few_of_five : (n : ℕ) (greatest : Bool) → Few (if greatest then 255 ∷ [] else 254 ∷ n % 256 ∷ n / 256 % 256 ∷ n / 2 ^ 16 % 256 ∷ n / 2 ^ 24 ∷ [])
+few_of_five n true = (omega arith, omega arith)
+few_of_five n false = (omega arith, omega arith)
 
 few_bytes : (n : ℕ) → Few (number_code n)
 unfolding number_code
 few_bytes n =
-    elim (cases_lt n 252) [
-      | inl one ↦ let b : ltb n 252 ≡ true = lt-ltb _ _ one in rw b (omega arith, omega arith)
+    elim (cases_lt n 192) [
+      | inl one ↦ let b : ltb n 192 ≡ true = lt-ltb _ _ one in rw b (omega arith, omega arith)
       | inr more ↦
-          let b : ltb n 252 ≡ false = le-ltb _ _ more in
-          elim (cases_lt n (2 ^ 16)) [
-            | inl two ↦ let b2 : ltb n (2 ^ 16) ≡ true = lt-ltb _ _ two in rw (b, b2) (omega arith, omega arith)
+          let b : ltb n 192 ≡ false = le-ltb _ _ more in
+          elim (cases_lt n (2 ^ 13)) [
+            | inl two ↦ let b2 : ltb n (2 ^ 13) ≡ true = lt-ltb _ _ two in rw (b, b2) (omega arith, omega arith)
             | inr more2 ↦
-                let b2 : ltb n (2 ^ 16) ≡ false = le-ltb _ _ more2 in
-                elim (cases_lt n (2 ^ 24)) [
-                  | inl three ↦ let b3 : ltb n (2 ^ 24) ≡ true = lt-ltb _ _ three in rw (b, b2, b3) (omega arith, omega arith)
-                  | inr more3 ↦ let b3 : ltb n (2 ^ 24) ≡ false = le-ltb _ _ more3 in rw (b, b2, b3) (few_of_four n (n == 4294967295))
+                let b2 : ltb n (2 ^ 13) ≡ false = le-ltb _ _ more2 in
+                elim (cases_lt n (2 ^ 20)) [
+                  | inl three ↦ let b3 : ltb n (2 ^ 20) ≡ true = lt-ltb _ _ three in rw (b, b2, b3) (omega arith, omega arith)
+                  | inr more3 ↦
+                      let b3 : ltb n (2 ^ 20) ≡ false = le-ltb _ _ more3 in
+                      elim (cases_lt n 234881024) [
+                        | inl four ↦ let b4 : ltb n 234881024 ≡ true = lt-ltb _ _ four in rw (b, b2, b3, b4) (omega arith, omega arith)
+                        | inr more4 ↦ let b4 : ltb n 234881024 ≡ false = le-ltb _ _ more4 in rw (b, b2, b3, b4) (few_of_five n (n == 4294967295))
+                      ]
                 ]
           ]
     ]

@@ -1,30 +1,43 @@
 //! Numbers as bytes.
-ghost use Rattle.std.specs.Prelude.{◌≡◌, ◌+◌, ◌*◌, ◌≤◌, ◌++◌, ◌∷◌, [], length, true, vec_len, vec_capacity};
+ghost use Rattle.std.specs.Prelude.{◌≡◌, ◌+◌, ◌*◌, ◌^◌, ◌<◌, ◌≤◌, ◌++◌, ◌∷◌, [], length, true, vec_len, vec_capacity};
 ghost use Rattle.std.specs.List.{list_all};
-ghost use Rattle.l4_packed.specs.Inside.Bytes.{Reads, number_code, numbers_code, is_small, number_at, two_bytes_at, three_bytes_at, four_bytes_at};
+ghost use Rattle.l4_packed.specs.Inside.Bytes.{Reads, number_code, numbers_code, is_small, number_at, two_bytes_at, three_bytes_at, four_bytes_at, five_bytes_at};
 
 use crate::bytes::{Bytes, WORDS_BYTES};
 
 /// The greatest number of bytes of a number.
 pub(crate) const NUMBER_BYTES: usize = 5;
 
-/// What stands before a number of two bytes. A number below it is one byte.
-const TWO: u8 = 252;
+/// The first byte of a number is below this if it is the only one, which is the number. From here on it says how many bytes there are, and what
+/// counts most.
+const TWO: u8 = 192;
 
-/// What stands before a number of three bytes.
-const THREE: u8 = 253;
+/// The first byte of a number of three bytes is not below this.
+const THREE: u8 = 224;
 
-/// What stands before a number of four bytes.
-const FOUR: u8 = 254;
+/// The first byte of a number of four bytes is not below this.
+const FOUR: u8 = 240;
+
+/// The first byte of a number of five bytes.
+const FIVE: u8 = 254;
 
 /// The greatest word, which is one byte.
 const GREATEST: u8 = 255;
 
+/// What counts one in the first byte of a number of three bytes.
+const THIRD: u32 = 0x1_0000;
+
+/// What counts one in the first byte of a number of four bytes.
+const FOURTH: u32 = 0x100_0000;
+
 /// A number below this has two bytes at most.
-const TWO_LIMIT: u32 = 0x1_0000;
+const TWO_LIMIT: u32 = 0x2000;
 
 /// A number below this has three bytes at most.
-const THREE_LIMIT: u32 = 0x100_0000;
+const THREE_LIMIT: u32 = 0x10_0000;
+
+/// A number below this has four bytes at most.
+const FOUR_LIMIT: u32 = 0xe00_0000;
 
 /// How many bytes a number has that is not one byte below `TWO`.
 #[tactic(auto, unfolding(crate::specs::Inside::Bytes::number_code))]
@@ -35,8 +48,10 @@ fn long_len(number: u32) -> usize
     ensures few { result ≤ NUMBER_BYTES }
 {
     if number < TWO_LIMIT {
-        3
+        2
     } else if number < THREE_LIMIT {
+        3
+    } else if number < FOUR_LIMIT {
         4
     } else if number == u32::MAX {
         1
@@ -68,23 +83,29 @@ fn put_long(out: &mut Vec<u8>, number: u32)
     ensures len { vec_len out.new ≡ vec_len out.old + length (number_code number) }
     ensures capacity { vec_capacity out.new ≡ vec_capacity out.old }
 {
+    let low = (number % 256) as u8;
+    let second = (number / 256 % 256) as u8;
+    let third = (number / THIRD % 256) as u8;
     if number < TWO_LIMIT {
-        out.push_reserved(TWO);
-        out.push_reserved((number % 256) as u8);
-        out.push_reserved((number / 256) as u8);
+        out.push_reserved(TWO + (number / 256) as u8);
+        out.push_reserved(low);
     } else if number < THREE_LIMIT {
-        out.push_reserved(THREE);
-        out.push_reserved((number % 256) as u8);
-        out.push_reserved((number / 256 % 256) as u8);
-        out.push_reserved((number / TWO_LIMIT) as u8);
+        out.push_reserved(THREE + (number / THIRD) as u8);
+        out.push_reserved(low);
+        out.push_reserved(second);
+    } else if number < FOUR_LIMIT {
+        out.push_reserved(FOUR + (number / FOURTH) as u8);
+        out.push_reserved(low);
+        out.push_reserved(second);
+        out.push_reserved(third);
     } else if number == u32::MAX {
         out.push_reserved(GREATEST);
     } else {
-        out.push_reserved(FOUR);
-        out.push_reserved((number % 256) as u8);
-        out.push_reserved((number / 256 % 256) as u8);
-        out.push_reserved((number / TWO_LIMIT % 256) as u8);
-        out.push_reserved((number / THREE_LIMIT) as u8);
+        out.push_reserved(FIVE);
+        out.push_reserved(low);
+        out.push_reserved(second);
+        out.push_reserved(third);
+        out.push_reserved((number / FOURTH) as u8);
     }
 }
 
@@ -102,8 +123,31 @@ pub(crate) fn put_number(out: &mut Vec<u8>, number: u32)
     put_long(out, number);
 }
 
-/// Appends a number to the bytes of words. Those of one number are appended together, so that where they end is written once.
+/// Appends a number that is not one byte to the bytes of words. Its bytes are appended together, so that where they end is written once.
 #[tactic(auto, unfolding(crate::specs::Inside::Bytes::number_code))]
+#[inline(never)]
+fn add_long(out: &mut Bytes, number: u32)
+    requires long { (TWO ≤ number) × (number < 4294967295) }
+    requires room { length out.old.items + NUMBER_BYTES ≤ WORDS_BYTES }
+    ensures { out.new.items ≡ out.old.items ++ number_code number }
+{
+    let low = (number % 256) as u8;
+    let second = (number / 256 % 256) as u8;
+    let third = (number / THIRD % 256) as u8;
+    if number < TWO_LIMIT {
+        out.extend(&[TWO + (number / 256) as u8, low]);
+    } else if number < THREE_LIMIT {
+        out.extend(&[THREE + (number / THIRD) as u8, low, second]);
+    } else if number < FOUR_LIMIT {
+        out.extend(&[FOUR + (number / FOURTH) as u8, low, second, third]);
+    } else {
+        out.extend(&[FIVE, low, second, third, (number / FOURTH) as u8]);
+    }
+}
+
+/// Appends a number to the bytes of words.
+#[tactic(auto, unfolding(crate::specs::Inside::Bytes::number_code))]
+#[inline(always)]
 pub(crate) fn add_number(out: &mut Bytes, number: u32)
     requires { length out.old.items + NUMBER_BYTES ≤ WORDS_BYTES }
     ensures { out.new.items ≡ out.old.items ++ number_code number }
@@ -111,18 +155,10 @@ pub(crate) fn add_number(out: &mut Bytes, number: u32)
     if number < u32::from(TWO) {
         return out.push(number as u8);
     }
-    let low = (number % 256) as u8;
-    let second = (number / 256 % 256) as u8;
-    let third = (number / TWO_LIMIT % 256) as u8;
-    if number < TWO_LIMIT {
-        out.extend(&[TWO, low, second]);
-    } else if number < THREE_LIMIT {
-        out.extend(&[THREE, low, second, third]);
-    } else if number == u32::MAX {
-        out.push(GREATEST);
-    } else {
-        out.extend(&[FOUR, low, second, third, (number / THREE_LIMIT) as u8]);
+    if number == u32::MAX {
+        return out.push(GREATEST);
     }
+    add_long(out, number);
 }
 
 /// Whether each of these numbers is one byte, which is the number.
@@ -183,37 +219,50 @@ pub(crate) fn add_numbers(out: &mut Bytes, numbers: &[u32])
     add_each(out, numbers);
 }
 
-/// A number of two bytes, and the bytes after it.
-fn two_bytes(bytes: &[u8]) -> Option<(u32, &[u8])>
-    ensures { Reads result (two_bytes_at bytes.now) }
+/// A number of two bytes whose first counts so much, and the bytes after it.
+fn two_bytes(upper: u32, bytes: &[u8]) -> Option<(u32, &[u8])>
+    requires { upper < 2 ^ 31 }
+    ensures { Reads result (two_bytes_at upper bytes.now) }
 {
     match bytes {
-        [a, b, rest @ ..] => Some((u32::from(*a) + 256 * u32::from(*b), rest)),
+        [a, rest @ ..] => Some((upper + u32::from(*a), rest)),
         _ => None,
     }
 }
 
-/// A number of three bytes, and the bytes after it.
-fn three_bytes(bytes: &[u8]) -> Option<(u32, &[u8])>
-    ensures { Reads result (three_bytes_at bytes.now) }
+/// A number of three bytes whose first counts so much, and the bytes after it.
+fn three_bytes(upper: u32, bytes: &[u8]) -> Option<(u32, &[u8])>
+    requires { upper < 2 ^ 31 }
+    ensures { Reads result (three_bytes_at upper bytes.now) }
+{
+    match bytes {
+        [a, b, rest @ ..] => Some((upper + u32::from(*a) + 256 * u32::from(*b), rest)),
+        _ => None,
+    }
+}
+
+/// A number of four bytes whose first counts so much, and the bytes after it.
+fn four_bytes(upper: u32, bytes: &[u8]) -> Option<(u32, &[u8])>
+    requires { upper < 2 ^ 31 }
+    ensures { Reads result (four_bytes_at upper bytes.now) }
 {
     match bytes {
         [a, b, c, rest @ ..] => {
-            let number = u32::from(*a) + 256 * u32::from(*b) + TWO_LIMIT * u32::from(*c);
-            Some((number, rest))
+            let lower = u32::from(*a) + 256 * u32::from(*b) + THIRD * u32::from(*c);
+            Some((upper + lower, rest))
         }
         _ => None,
     }
 }
 
-/// A number of four bytes, and the bytes after it.
-fn four_bytes(bytes: &[u8]) -> Option<(u32, &[u8])>
-    ensures { Reads result (four_bytes_at bytes.now) }
+/// A number of four bytes behind the first, and the bytes after it.
+fn five_bytes(bytes: &[u8]) -> Option<(u32, &[u8])>
+    ensures { Reads result (five_bytes_at bytes.now) }
 {
     match bytes {
         [a, b, c, d, rest @ ..] => {
-            let lower = u32::from(*a) + 256 * u32::from(*b) + TWO_LIMIT * u32::from(*c);
-            Some((lower + THREE_LIMIT * u32::from(*d), rest))
+            let lower = u32::from(*a) + 256 * u32::from(*b) + THIRD * u32::from(*c);
+            Some((lower + FOURTH * u32::from(*d), rest))
         }
         _ => None,
     }
@@ -225,13 +274,21 @@ pub(crate) fn read_number(bytes: &[u8]) -> Option<(u32, &[u8])>
     ensures { Reads result (number_at bytes.now) }
 {
     let (first, rest) = bytes.split_first()?;
-    if *first < TWO {
-        return Some((u32::from(*first), rest));
+    let first = *first;
+    if first < TWO {
+        return Some((u32::from(first), rest));
     }
-    match *first {
-        TWO => two_bytes(rest),
-        THREE => three_bytes(rest),
-        FOUR => four_bytes(rest),
-        _ => Some((u32::MAX, rest)),
+    if first < THREE {
+        return two_bytes(256 * u32::from(first - TWO), rest);
     }
+    if first < FOUR {
+        return three_bytes(THIRD * u32::from(first - THREE), rest);
+    }
+    if first < FIVE {
+        return four_bytes(FOURTH * u32::from(first - FOUR), rest);
+    }
+    if first == FIVE {
+        return five_bytes(rest);
+    }
+    Some((u32::MAX, rest))
 }

@@ -1,5 +1,5 @@
 -- Numbers, and records of numbers, as bytes. (this profile's own)
-use Rattle.std.specs.Prelude.{ℕ, zero, suc, ◌+◌, ◌*◌, ◌/◌, ◌%◌, ◌^◌, ◌==◌, Bool, List, [], ◌∷◌, ◌++◌, length, take, drop, Option, Some, None, nat_lt, if◌then◌else◌}
+use Rattle.std.specs.Prelude.{ℕ, zero, suc, ◌+◌, ◌*◌, ◌-◌, ◌/◌, ◌%◌, ◌^◌, ◌==◌, Bool, List, [], ◌∷◌, ◌++◌, length, take, drop, Option, Some, None, nat_lt, if◌then◌else◌}
 use Rattle.std.specs.List.{flat_map}
 use Rattle.std.specs.Borrow.{Bor}
 use Rattle.l4_packed.specs.Words.{Gives, ◌>>=◌}
@@ -19,46 +19,54 @@ byte_list items = record { items = items }
 abbrev pub Reads : {X : Type 0} → Option (X × Bor (List ℕ)) → Option (X × List ℕ) → Type 0
 Reads result read = Gives (λ x. (x.0, x.1.now)) result read
 
--- A number below 252 is one byte, and the greatest word, 2 ^ 32 - 1, is the byte 255. Any other stands behind a byte that says how many bytes
--- it has, the lowest first: two behind 252, three behind 253, four behind 254.
+-- A number below 192 is one byte, and the greatest word, 2 ^ 32 - 1, is the byte 255. Any other stands behind a byte that says how many bytes it has,
+-- and what counts most: two behind 192 to 223, three behind 224 to 239, four behind 240 to 253, five behind 254. The others follow, the lowest first.
 unfoldable pub number_code : ℕ → List ℕ
 number_code n =
-    if nat_lt n 252 then n ∷ []
-    else (if nat_lt n (2 ^ 16) then 252 ∷ n % 256 ∷ n / 256 ∷ []
-    else (if nat_lt n (2 ^ 24) then 253 ∷ n % 256 ∷ n / 256 % 256 ∷ n / 2 ^ 16 ∷ []
+    if nat_lt n 192 then n ∷ []
+    else (if nat_lt n (2 ^ 13) then (192 + n / 256) ∷ n % 256 ∷ []
+    else (if nat_lt n (2 ^ 20) then (224 + n / 2 ^ 16) ∷ n % 256 ∷ n / 256 % 256 ∷ []
+    else (if nat_lt n 234881024 then (240 + n / 2 ^ 24) ∷ n % 256 ∷ n / 256 % 256 ∷ n / 2 ^ 16 % 256 ∷ []
     else (if n == 4294967295 then 255 ∷ []
-    else 254 ∷ n % 256 ∷ n / 256 % 256 ∷ n / 2 ^ 16 % 256 ∷ n / 2 ^ 24 ∷ [])))
+    else 254 ∷ n % 256 ∷ n / 256 % 256 ∷ n / 2 ^ 16 % 256 ∷ n / 2 ^ 24 ∷ []))))
 
 -- a number of one byte, which is the number
 abbrev pub is_small : ℕ → Bool
-is_small n = nat_lt n 252
+is_small n = nat_lt n 192
 
-abbrev pub two_bytes_at : List ℕ → Option (ℕ × List ℕ)
-two_bytes_at (a ∷ b ∷ rest) = Some (a + 256 * b, rest)
-two_bytes_at (a ∷ []) = None
-two_bytes_at [] = None
+-- the rest of a number of so many bytes whose first byte counts so much
 
-abbrev pub three_bytes_at : List ℕ → Option (ℕ × List ℕ)
-three_bytes_at (a ∷ b ∷ c ∷ rest) = Some (a + 256 * b + 2 ^ 16 * c, rest)
-three_bytes_at (a ∷ b ∷ []) = None
-three_bytes_at (a ∷ []) = None
-three_bytes_at [] = None
+abbrev pub two_bytes_at : ℕ → List ℕ → Option (ℕ × List ℕ)
+two_bytes_at upper (a ∷ rest) = Some (upper + a, rest)
+two_bytes_at upper [] = None
 
-abbrev pub four_bytes_at : List ℕ → Option (ℕ × List ℕ)
-four_bytes_at (a ∷ b ∷ c ∷ d ∷ rest) = Some (a + 256 * b + 2 ^ 16 * c + 2 ^ 24 * d, rest)
-four_bytes_at (a ∷ b ∷ c ∷ []) = None
-four_bytes_at (a ∷ b ∷ []) = None
-four_bytes_at (a ∷ []) = None
-four_bytes_at [] = None
+abbrev pub three_bytes_at : ℕ → List ℕ → Option (ℕ × List ℕ)
+three_bytes_at upper (a ∷ b ∷ rest) = Some (upper + a + 256 * b, rest)
+three_bytes_at upper (a ∷ []) = None
+three_bytes_at upper [] = None
+
+abbrev pub four_bytes_at : ℕ → List ℕ → Option (ℕ × List ℕ)
+four_bytes_at upper (a ∷ b ∷ c ∷ rest) = Some (upper + (a + 256 * b + 2 ^ 16 * c), rest)
+four_bytes_at upper (a ∷ b ∷ []) = None
+four_bytes_at upper (a ∷ []) = None
+four_bytes_at upper [] = None
+
+abbrev pub five_bytes_at : List ℕ → Option (ℕ × List ℕ)
+five_bytes_at (a ∷ b ∷ c ∷ d ∷ rest) = Some (a + 256 * b + 2 ^ 16 * c + 2 ^ 24 * d, rest)
+five_bytes_at (a ∷ b ∷ c ∷ []) = None
+five_bytes_at (a ∷ b ∷ []) = None
+five_bytes_at (a ∷ []) = None
+five_bytes_at [] = None
 
 -- a number that bytes begin with, and the bytes after it
 unfoldable pub number_at : List ℕ → Option (ℕ × List ℕ)
 number_at [] = None
 number_at (first ∷ rest) =
-    if nat_lt first 252 then Some (first, rest)
-    else (if first == 252 then two_bytes_at rest
-    else (if first == 253 then three_bytes_at rest
-    else (if first == 254 then four_bytes_at rest else Some (4294967295, rest))))
+    if nat_lt first 192 then Some (first, rest)
+    else (if nat_lt first 224 then two_bytes_at (256 * (first - 192)) rest
+    else (if nat_lt first 240 then three_bytes_at (2 ^ 16 * (first - 224)) rest
+    else (if nat_lt first 254 then four_bytes_at (2 ^ 24 * (first - 240)) rest
+    else (if first == 254 then five_bytes_at rest else Some (4294967295, rest)))))
 
 -- numbers one after another
 abbrev pub numbers_code : List ℕ → List ℕ
