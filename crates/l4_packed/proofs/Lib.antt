@@ -1,3 +1,4 @@
+pub mod Turned
 pub mod RoundTrip
 pub mod Small
 pub mod Unpacking

@@ -21,6 +21,9 @@ use Rattle.l4_ipc.specs.declared.steps.Answer.{Answer}
 use Rattle.l4_packed.specs.Words.{counted, counted_at, sized_at, flag, if_set, set_at}
 use Rattle.l4_threads.specs.Sizes.{max_threads}
 use Rattle.l4_packed.specs.Codes.{control_code, ipc_flags, call_code, step_code, outcome_code, answer_code, reply_flags, reply_code, place_code, far, are_near, span_code, CallFits, StepFits, AnswerFits, ReplyFits}
+use Rattle.l4_packed.specs.Ids.{id_word, if_named, named_at}
+use Rattle.l4_packed.specs.Tags.{tag_word, if_tagged, tag_at, items_code, items_of, message_code, message_of}
+use Rattle.l4_packed.proofs.Turned.{named_again, tagged_again, items_again, items_length, message_again, message_length}
 use Rattle.l4_packed.specs.Reading.{control_at, ipc_at, call_at, step_at, outcome_of, answer_at, received_at, reply_at, places_at, near_at, span_at}
 
 pub sized_again : (limit : ℕ) (words rest : List ℕ) → length words ≤ limit → sized_at limit (length words) (words ++ rest) ≡ Some (words, rest)
@@ -86,19 +89,53 @@ above : (k n : ℕ) → (ltb (k + n) k ≡ false) × ((k + n) - k ≡ n)
 above k n = (le-ltb _ _ (omega arith), omega arith)
 
 ipc_again : (c : IpcCall) (f : ℕ) (rest : List ℕ) → f ≡ ipc_flags c → length c.words.items ≤ max_words
-    → ipc_at f (if_set c.to.0 ++ (if_set c.«from».0 ++ (if_set c.timeouts ++ (if_set c.acceptor ++ (c.words.items ++ rest))))) ≡ Some (c, rest)
+    → ipc_at f (if_named c.to.0 ++ (if_named c.«from».0 ++ (if_set c.timeouts ++ (if_set c.acceptor ++ (message_code c.words.items ++ rest))))) ≡ Some (c, rest)
 ipc_again c f rest is fits =
     let flags = four_flags (flag c.to.0) (flag c.«from».0) (flag c.timeouts) (flag c.acceptor) (length c.words.items) (flag_few c.to.0) (flag_few c.«from».0) (flag_few c.timeouts) (flag_few c.acceptor) f is in
-    let words3 : List ℕ = if_set c.acceptor ++ (c.words.items ++ rest) in
+    let message = message_code c.words.items in
+    let count = message_length c.words.items in
+    let sized : sized_at max_words (length c.words.items) (message ++ rest) ≡ Some (message, rest) =
+    ap (λ (k : ℕ). sized_at max_words k (message ++ rest)) (sym count) ∙ sized_again max_words message rest (omega (arith, fits, count)) in
+    let words3 : List ℕ = if_set c.acceptor ++ (message ++ rest) in
     let words2 : List ℕ = if_set c.timeouts ++ words3 in
-    let words1 : List ℕ = if_set c.«from».0 ++ words2 in
-    rw (flags.0, flags.1, flags.2, flags.3, flags.4, set_again c.to.0 words1, set_again c.«from».0 words2, set_again c.timeouts words3, set_again c.acceptor (c.words.items ++ rest), sized_again max_words c.words.items rest fits) refl
+    let words1 : List ℕ = if_named c.«from».0 ++ words2 in
+    rw (flags.0, flags.1, flags.2, flags.3, flags.4, named_again c.to.0 words1, named_again c.«from».0 words2, set_again c.timeouts words3, set_again c.acceptor (message ++ rest), sized, message_again c.words.items) refl
+
+few_set : (word : ℕ) → length (if_set word) ≤ 1
+few_set word = elim (nat_eq word 0) as (λ b. length (if b then [] else word ∷ []) ≤ 1) [ true ↦ omega arith | false ↦ omega arith ]
+
+few_named : (id : ℕ) → length (if_named id) ≤ 1
+few_named id = elim (nat_eq id 0) as (λ b. length (if b then [] else id_word id ∷ []) ≤ 1) [ true ↦ omega arith | false ↦ omega arith ]
+
+few_tagged : (count tag : ℕ) → length (if_tagged count tag) ≤ 1
+few_tagged count tag = elim (nat_eq tag 0) as (λ b. length (if b then [] else tag_word count tag ∷ []) ≤ 1) [ true ↦ omega arith | false ↦ omega arith ]
+
+-- so few words are those of an Ipc
+pub ipc_short : (c : IpcCall) → length c.words.items ≤ 64 → length (call_code (Ipc c)) ≤ 69
+ipc_short c fits =
+    let words4 : List ℕ = message_code c.words.items in
+    let words3 : List ℕ = if_set c.acceptor ++ words4 in
+    let words2 : List ℕ = if_set c.timeouts ++ words3 in
+    let words1 : List ℕ = if_named c.«from».0 ++ words2 in
+    omega (
+      arith,
+      fits,
+      message_length c.words.items,
+      length-append (if_named c.to.0) words1,
+      length-append (if_named c.«from».0) words2,
+      length-append (if_set c.timeouts) words3,
+      length-append (if_set c.acceptor) words4,
+      few_named c.to.0,
+      few_named c.«from».0,
+      few_set c.timeouts,
+      few_set c.acceptor,
+    )
 
 pub call_again : (call : Call) (rest : List ℕ) → CallFits call → call_at (call_code call ++ rest) ≡ Some (call, rest)
 unfolding call_at
 call_again (Ipc c) rest fits =
     let at = above 3 (ipc_flags c) in
-    let parts : call_code (Ipc c) ++ rest ≡ (3 + ipc_flags c) ∷ (if_set c.to.0 ++ (if_set c.«from».0 ++ (if_set c.timeouts ++ (if_set c.acceptor ++ (c.words.items ++ rest))))) = simp append_assoc in
+    let parts : call_code (Ipc c) ++ rest ≡ (3 + ipc_flags c) ∷ (if_named c.to.0 ++ (if_named c.«from».0 ++ (if_set c.timeouts ++ (if_set c.acceptor ++ (message_code c.words.items ++ rest))))) = simp append_assoc in
     ap call_at parts ∙ rw (at.0, at.1, ipc_again c (ipc_flags c) rest refl fits) refl
 call_again (Fault f) rest fits = rw (few_bits f.access.r f.access.w f.access.x, rights_by_bits f.access.r f.access.w f.access.x) refl
 call_again (Unmap u) rest fits = rw (counted_again max_words u.words.items rest fits) refl
@@ -130,18 +167,40 @@ answer_again answer rest fits =
     rw (parts.0, outcome.0, parts.1, sized_again max_threads answer.ended.items rest fits) refl
 
 received_again : (r : IpcReply) (f : ℕ) (rest : List ℕ) → f ≡ reply_flags r → length r.words.items ≤ max_words
-    → received_at f (if_set r.tag ++ (if_set r.error ++ (if_set r.«from».0 ++ (r.words.items ++ rest)))) ≡ Some (ByIpc r, rest)
+    → received_at f (if_tagged (length r.words.items) r.tag ++ (if_set r.error ++ (if_named r.«from».0 ++ (items_code r.tag r.words.items ++ rest)))) ≡ Some (ByIpc r, rest)
 received_again r f rest is fits =
     let flags = three_flags (flag r.tag) (flag r.error) (flag r.«from».0) (length r.words.items) (flag_few r.tag) (flag_few r.error) (flag_few r.«from».0) f is in
-    let words2 : List ℕ = if_set r.«from».0 ++ (r.words.items ++ rest) in
+    let items = items_code r.tag r.words.items in
+    let count = items_length r.tag r.words.items in
+    let sized : sized_at max_words (length r.words.items) (items ++ rest) ≡ Some (items, rest) =
+    ap (λ (k : ℕ). sized_at max_words k (items ++ rest)) (sym count) ∙ sized_again max_words items rest (omega (arith, fits, count)) in
+    let words2 : List ℕ = if_named r.«from».0 ++ (items ++ rest) in
     let words1 : List ℕ = if_set r.error ++ words2 in
-    rw (flags.0, flags.1, flags.2, flags.3, set_again r.tag words1, set_again r.error words2, set_again r.«from».0 (r.words.items ++ rest), sized_again max_words r.words.items rest fits) refl
+    rw (flags.0, flags.1, flags.2, flags.3, tagged_again (length r.words.items) r.tag words1, set_again r.error words2, named_again r.«from».0 (items ++ rest), sized, items_again r.tag r.words.items) refl
+
+-- so few words are those of an Ipc's reply
+pub received_short : (r : IpcReply) → length r.words.items ≤ 64 → length (reply_code (ByIpc r)) ≤ 68
+received_short r fits =
+    let words3 : List ℕ = items_code r.tag r.words.items in
+    let words2 : List ℕ = if_named r.«from».0 ++ words3 in
+    let words1 : List ℕ = if_set r.error ++ words2 in
+    omega (
+      arith,
+      fits,
+      items_length r.tag r.words.items,
+      length-append (if_tagged (length r.words.items) r.tag) words1,
+      length-append (if_set r.error) words2,
+      length-append (if_named r.«from».0) words3,
+      few_tagged (length r.words.items) r.tag,
+      few_set r.error,
+      few_named r.«from».0,
+    )
 
 pub reply_again : (reply : Reply) (rest : List ℕ) → ReplyFits reply → reply_at (reply_code reply ++ rest) ≡ Some (reply, rest)
 unfolding reply_at
 reply_again (ByIpc r) rest fits =
     let at = above 6 (reply_flags r) in
-    let parts : reply_code (ByIpc r) ++ rest ≡ (6 + reply_flags r) ∷ (if_set r.tag ++ (if_set r.error ++ (if_set r.«from».0 ++ (r.words.items ++ rest)))) = simp append_assoc in
+    let parts : reply_code (ByIpc r) ++ rest ≡ (6 + reply_flags r) ∷ (if_tagged (length r.words.items) r.tag ++ (if_set r.error ++ (if_named r.«from».0 ++ (items_code r.tag r.words.items ++ rest)))) = simp append_assoc in
     ap reply_at parts ∙ rw (at.0, at.1, received_again r (reply_flags r) rest refl fits) refl
 reply_again Hit rest fits = refl
 reply_again Answered rest fits = refl

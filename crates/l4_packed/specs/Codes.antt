@@ -21,6 +21,8 @@ use Rattle.l4_ipc.specs.declared.steps.NextStep.{NextStep}
 use Rattle.l4_ipc.specs.OwnCall.{own_answer}
 use Rattle.l4_ipc.specs.NextSteps.{step_of, answer_of}
 use Rattle.l4_packed.specs.Words.{counted, flag, if_set}
+use Rattle.l4_packed.specs.Ids.{if_named}
+use Rattle.l4_packed.specs.Tags.{if_tagged, items_code, message_code}
 
 abbrev pub control_code : Control → List ℕ
 control_code (Create c) = 0 ∷ c.id.0 ∷ c.space.0 ∷ c.pager.0 ∷ []
@@ -32,7 +34,7 @@ abbrev pub ipc_flags : IpcCall → ℕ
 ipc_flags c = flag c.to.0 + 2 * flag c.«from».0 + 4 * flag c.timeouts + 8 * flag c.acceptor + 16 * length c.words.items
 
 abbrev pub call_code : Call → List ℕ
-call_code (Ipc c) = (3 + ipc_flags c) ∷ (if_set c.to.0 ++ (if_set c.«from».0 ++ (if_set c.timeouts ++ (if_set c.acceptor ++ c.words.items))))
+call_code (Ipc c) = (3 + ipc_flags c) ∷ (if_named c.to.0 ++ (if_named c.«from».0 ++ (if_set c.timeouts ++ (if_set c.acceptor ++ message_code c.words.items))))
 call_code (Fault f) = 0 ∷ f.address ∷ f.ip ∷ bits_of f.access ∷ []
 call_code (Unmap u) = 1 ∷ u.control ∷ counted u.words.items
 call_code (Controls c) = 2 ∷ control_code c
@@ -66,7 +68,7 @@ abbrev pub reply_flags : IpcReply → ℕ
 reply_flags r = flag r.tag + 2 * flag r.error + 4 * flag r.«from».0 + 8 * length r.words.items
 
 abbrev pub reply_code : Reply → List ℕ
-reply_code (ByIpc r) = (6 + reply_flags r) ∷ (if_set r.tag ++ (if_set r.error ++ (if_set r.«from».0 ++ r.words.items)))
+reply_code (ByIpc r) = (6 + reply_flags r) ∷ (if_tagged (length r.words.items) r.tag ++ (if_set r.error ++ (if_named r.«from».0 ++ items_code r.tag r.words.items)))
 reply_code Hit = 0 ∷ []
 reply_code Answered = 1 ∷ []
 reply_code (FaultFailed error) = 2 ∷ error ∷ []

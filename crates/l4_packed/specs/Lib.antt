@@ -1,4 +1,6 @@
 pub mod Words
+pub mod Ids
+pub mod Tags
 pub mod Codes
 pub mod Reading
 pub mod Records

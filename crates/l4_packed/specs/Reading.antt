@@ -15,6 +15,8 @@ use Rattle.l4_ipc.specs.declared.steps.Outcome.{Outcome}
 use Rattle.l4_ipc.specs.declared.steps.Outcome.TheVariants.{Started, Done, NoWindow, Entangled, NoMemory, Expired}
 use Rattle.l4_ipc.specs.declared.steps.Answer.{Answer}
 use Rattle.l4_packed.specs.Words.{◌>>=◌, word_at, set_at, sized_at, counted_at}
+use Rattle.l4_packed.specs.Ids.{named_at}
+use Rattle.l4_packed.specs.Tags.{tag_at, items_of, message_of}
 use Rattle.l4_packed.specs.Codes.{far}
 use Rattle.l4_threads.specs.Sizes.{max_threads}
 
@@ -41,12 +43,12 @@ control_at words = do
 -- an Ipc behind its first word, which has these flags
 abbrev pub ipc_at : ℕ → List ℕ → Option (IpcCall × List ℕ)
 ipc_at flags words = do
-  to ← set_at (flags % 2) words
-  partner ← set_at (flags / 2 % 2) to.1
+  to ← named_at (flags % 2) words
+  partner ← named_at (flags / 2 % 2) to.1
   timeouts ← set_at (flags / 4 % 2) partner.1
   acceptor ← set_at (flags / 8 % 2) timeouts.1
   message ← sized_at max_words (flags / 16) acceptor.1
-  Some (record { to = record { 0 = to.0 }; «from» = record { 0 = partner.0 }; timeouts = timeouts.0; acceptor = acceptor.0; words = record { items = message.0 } }, message.1)
+  Some (record { to = record { 0 = to.0 }; «from» = record { 0 = partner.0 }; timeouts = timeouts.0; acceptor = acceptor.0; words = record { items = message_of message.0 } }, message.1)
 
 -- any other call behind its first word
 abbrev pub call_of : ℕ → List ℕ → Option (Call × List ℕ)
@@ -124,11 +126,11 @@ reply_of (suc (suc (suc (suc (suc (suc variant)))))) words = None
 -- an Ipc's reply behind its first word, which has these flags
 abbrev pub received_at : ℕ → List ℕ → Option (Reply × List ℕ)
 received_at flags words = do
-  tag ← set_at (flags % 2) words
+  tag ← tag_at (flags / 8) (flags % 2) words
   error ← set_at (flags / 2 % 2) tag.1
-  sender ← set_at (flags / 4 % 2) error.1
+  sender ← named_at (flags / 4 % 2) error.1
   message ← sized_at max_words (flags / 8) sender.1
-  Some (ByIpc (record { tag = tag.0; error = error.0; «from» = record { 0 = sender.0 }; words = record { items = message.0 } }), message.1)
+  Some (ByIpc (record { tag = tag.0; error = error.0; «from» = record { 0 = sender.0 }; words = record { items = items_of tag.0 message.0 } }), message.1)
 
 unfoldable pub reply_at : List ℕ → Option (Reply × List ℕ)
 reply_at words = do

@@ -5,9 +5,11 @@ ghost use Rattle.l4_ipc.specs.declared.calls.Call.TheVariants.{Ipc as AnIpc};
 ghost use Rattle.l4_packed.specs.Codes.{control_code, ipc_flags, call_code, CallFits};
 ghost use Rattle.l4_packed.specs.Reading.{control_at, ipc_at, call_of, sent_at, call_at};
 
+use crate::ids::{put_id, read_id};
+use crate::tags::{message_of, put_message};
 use crate::words::{
-    RECORD_WORDS, Record, Words, flag, put_all, put_counted, put_set, read_counted, read_set,
-    read_sized, read_word,
+    RECORD_WORDS, Record, Words, flag, put_counted, put_set, read_counted, read_set, read_sized,
+    read_word,
 };
 use l4_ipc::{
     Call, Control, Create, FaultCall, IpcCall, MAX_WORDS, Rights, SetPager, ThreadId, UnmapCall,
@@ -70,13 +72,14 @@ fn put_ipc(out: &mut Record, call: &IpcCall)
     requires { length out.old.items + CALL_WORDS ≤ RECORD_WORDS }
     ensures items { out.new.items ≡ out.old.items ++ call_code (AnIpc call.now) }
     ensures fits { CallFits (AnIpc call.now) }
+    ensures short { length (call_code (AnIpc call.now)) ≤ CALL_WORDS }
 {
     out.push(IPC + ipc_flags(call));
-    put_set(out, call.to.0);
-    put_set(out, call.from.0);
+    put_id(out, call.to.0);
+    put_id(out, call.from.0);
     put_set(out, call.timeouts);
     put_set(out, call.acceptor);
-    put_all(out, call.words.as_slice());
+    put_message(out, call.words.as_slice());
 }
 
 /// Appends the control of a thread.
@@ -143,8 +146,8 @@ fn next_control(words: Words<'_>) -> Option<(Control, Words<'_>)>
 fn next_ipc(flags: u32, words: Words<'_>) -> Option<(IpcCall, Words<'_>)>
     ensures { result ≡ ipc_at flags words.entry }
 {
-    let (to, rest) = read_set(words, flags % 2)?;
-    let (from, rest) = read_set(rest, flags / 2 % 2)?;
+    let (to, rest) = read_id(words, flags % 2)?;
+    let (from, rest) = read_id(rest, flags / 2 % 2)?;
     let (timeouts, rest) = read_set(rest, flags / 4 % 2)?;
     let (acceptor, rest) = read_set(rest, flags / 8 % 2)?;
     let (words, rest) = read_sized(rest, (flags / FLAGS) as usize)?;
@@ -153,7 +156,7 @@ fn next_ipc(flags: u32, words: Words<'_>) -> Option<(IpcCall, Words<'_>)>
         from: ThreadId(from),
         timeouts,
         acceptor,
-        words,
+        words: message_of(words),
     };
     Some((call, rest))
 }

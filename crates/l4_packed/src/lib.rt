@@ -4,6 +4,7 @@
 mod bytes;
 mod calls;
 mod full_pieces;
+mod ids;
 mod numbers;
 mod packed_list;
 mod packing;
@@ -12,6 +13,7 @@ mod records;
 mod replies;
 mod spans;
 mod steps;
+mod tags;
 mod words;
 
 pub use calls::{CALL_WORDS, put_call, read_call};
