@@ -18,8 +18,7 @@ use Rattle.l4_ipc.specs.declared.steps.Outcome.{Outcome}
 use Rattle.l4_ipc.specs.declared.steps.Outcome.TheVariants.{Started, Done, NoWindow, Entangled, NoMemory, Expired}
 use Rattle.l4_ipc.specs.declared.steps.Answer.{Answer}
 use Rattle.l4_ipc.specs.declared.steps.NextStep.{NextStep}
-use Rattle.l4_ipc.specs.OwnCall.{own_answer}
-use Rattle.l4_ipc.specs.NextSteps.{step_of, answer_of}
+use Rattle.l4_ipc.specs.declared.steps.NextStep.TheVariants.{Transfer as Transferred, Expire as Expires}
 use Rattle.l4_packed.specs.Words.{counted, flag, if_set}
 use Rattle.l4_packed.specs.Ids.{if_named}
 use Rattle.l4_packed.specs.Tags.{if_tagged, items_code, message_code}
@@ -55,13 +54,21 @@ outcome_code Expired = 5
 abbrev pub answer_code : Answer → List ℕ
 answer_code answer = (outcome_code answer.outcome + 6 * length answer.ended.items) ∷ answer.ended.items
 
--- the start of a call, whose words are these, by a thread whose call ended in it alone, or none did: its number, the answer and the step
-abbrev pub own_start_code : Bool → ℕ → List ℕ → List ℕ
-own_start_code ended thread call = thread ∷ (answer_code (own_answer ended thread) ++ 0 ∷ thread ∷ call)
+-- An entry is told by the number of its seat and a form: 0 and 1 of the start of a call by that thread, in which none ended or its own alone, 2 of
+-- any answer and step, and what is above of a step that came next.
 
--- the answer of a step that came next, and the step
+-- the start of a call, whose words are these, by a thread whose call ended in it alone, or none did
+abbrev pub own_start_code : Bool → ℕ → List ℕ → List ℕ
+own_start_code ended thread call = thread ∷ (if ended then 1 else 0) ∷ call
+
+-- the form of a transfer with this outcome, in which the sender's call ended too or didn't
+abbrev pub transfer_form : Outcome → Bool → ℕ
+transfer_form outcome ends = 4 + (outcome_code outcome + (if ends then 6 else 0))
+
+-- the form of a step that came next, and its threads
 abbrev pub next_code : NextStep → List ℕ
-next_code next = answer_code (answer_of next) ++ step_code (step_of next)
+next_code (Transferred s r outcome ends) = transfer_form outcome ends ∷ s ∷ r ∷ []
+next_code (Expires n) = 3 ∷ n ∷ []
 
 -- which words of an Ipc's reply are there, and how many its message has
 abbrev pub reply_flags : IpcReply → ℕ

@@ -14,6 +14,8 @@ use Rattle.l4_ipc.specs.declared.steps.Step.TheVariants.{Start, Transfer, Expire
 use Rattle.l4_ipc.specs.declared.steps.Outcome.{Outcome}
 use Rattle.l4_ipc.specs.declared.steps.Outcome.TheVariants.{Started, Done, NoWindow, Entangled, NoMemory, Expired}
 use Rattle.l4_ipc.specs.declared.steps.Answer.{Answer}
+use Rattle.l4_ipc.specs.declared.steps.NextStep.{NextStep}
+use Rattle.l4_ipc.specs.declared.steps.NextStep.TheVariants.{Transfer as Transferred, Expire as Expires}
 use Rattle.l4_packed.specs.Words.{◌>>=◌, word_at, set_at, sized_at, counted_at}
 use Rattle.l4_packed.specs.Ids.{named_at}
 use Rattle.l4_packed.specs.Tags.{tag_at, items_of, message_of}
@@ -110,6 +112,18 @@ answer_at words = do
   outcome ← outcome_of (head.0 % 6)
   ended ← sized_at max_threads (head.0 / 6) head.1
   Some (record { outcome = outcome; ended = record { items = ended.0 } }, ended.1)
+
+-- a transfer behind its form less four
+abbrev pub transfer_at : ℕ → List ℕ → Option NextStep
+transfer_at form words = do
+  outcome ← outcome_of (form % 6)
+  sender ← word_at words
+  receiver ← word_at sender.1
+  Some (Transferred sender.0 receiver.0 outcome (nat_lt 5 form))
+
+-- a step that came next, behind its form less three
+unfoldable pub next_at : ℕ → List ℕ → Option NextStep
+next_at form words = if nat_eq form 0 then (word_at words >>= (λ number. Some (Expires number.0))) else transfer_at (form - 1) words
 
 -- any other reply behind its first word
 abbrev pub reply_of : ℕ → List ℕ → Option (Reply × List ℕ)

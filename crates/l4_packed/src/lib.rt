@@ -22,7 +22,8 @@ pub use records::Records;
 pub use replies::{REPLY_WORDS, put_reply, read_reply};
 pub use spans::{SPAN_WORDS, put_span, read_span};
 pub use steps::{
-    ANSWER_WORDS, STEP_WORDS, StepOutline, push_next, push_own_start, put_answer, put_start,
-    put_step, read_answer, read_answer_into, read_outline, read_step,
+    ANSWER_WORDS, ANY_FORM, NEXT_FORM, STEP_WORDS, StepOutline, push_next, push_own_start,
+    put_answer, put_start, put_step, read_answer, read_answer_into, read_next, read_outline,
+    read_step,
 };
 pub use words::{RECORD_WORDS, Record, Words, read_word};

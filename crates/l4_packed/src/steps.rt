@@ -6,7 +6,7 @@ ghost use Rattle.l4_ipc.specs.declared.steps.Step.{Step as AStep};
 ghost use Rattle.l4_ipc.specs.declared.steps.Step.TheVariants.{Start};
 ghost use Rattle.l4_packed.specs.Codes.{step_code, outcome_code, answer_code, own_start_code, next_code, StepFits, AnswerFits};
 ghost use Rattle.l4_packed.specs.Outlines.{step_outline, outline_at};
-ghost use Rattle.l4_packed.specs.Reading.{step_at, outcome_of, answer_at};
+ghost use Rattle.l4_packed.specs.Reading.{step_at, outcome_of, answer_at, transfer_at, next_at};
 ghost use Rattle.l4_packed.specs.Words.{Gives};
 
 use crate::calls::{CALL_WORDS, put_call, read_call};
@@ -93,8 +93,16 @@ pub fn put_answer(out: &mut Record, answer: &Answer)
     put_all(out, answer.ended.as_slice());
 }
 
-/// Appends the item of the start of a call, whose words are these, by this thread: of its number, the answer, in which its call ended alone,
-/// or none did, and the step.
+/// The form of an entry which is that of any answer and step.
+pub const ANY_FORM: u32 = 2;
+
+/// The form of an entry of a step that came next is not below this. Of an Expire it is this.
+pub const NEXT_FORM: u32 = 3;
+
+/// The form of a transfer less that of an Expire, whose outcome has the number 0.
+const TRANSFER: u32 = 1;
+
+/// Appends the item of the start of a call, whose words are these, by this thread, in which its call ended alone, or none did.
 #[inline(always)]
 pub fn push_own_start<T: FromWords>(
     list: &mut PackedList<T>,
@@ -108,14 +116,11 @@ pub fn push_own_start<T: FromWords>(
     ensures items { list.new.items ≡ list.old.items ++ option_to_list (T.item_at (own_start_code ended thread call.now)) }
     ensures room { (length list.new.items ≡ length list.old.items + 1) × (list.new.room ≡ list.old.room) }
 {
-    if ended {
-        list.push_parts(&[thread, OUTCOMES, thread, 0, thread], call);
-    } else {
-        list.push_parts(&[thread, 0, 0, thread], call);
-    }
+    let form = if ended { 1 } else { 0 };
+    list.push_parts(&[thread, form], call);
 }
 
-/// Appends the item of a number, the answer of a step that came next, and that step.
+/// Appends the item of a number and a step that came next.
 #[inline(always)]
 pub fn push_next<T: FromWords>(list: &mut PackedList<T>, number: u32, next: NextStep)
     requires room { length list.old.items < list.old.room }
@@ -126,21 +131,34 @@ pub fn push_next<T: FromWords>(list: &mut PackedList<T>, number: u32, next: Next
     let none = Words::none();
     match next {
         NextStep::Transfer(sender, receiver, outcome, ends) => {
-            let head = outcome_word(outcome) + OUTCOMES;
-            if ends {
-                let both = head + OUTCOMES;
-                list.push_parts(
-                    &[number, both, sender, receiver, 1, sender, receiver],
-                    &none,
-                );
-            } else {
-                list.push_parts(&[number, head, receiver, 1, sender, receiver], &none);
-            }
+            let both = if ends { OUTCOMES } else { 0 };
+            let form = NEXT_FORM + TRANSFER + (outcome_word(outcome) + both);
+            list.push_parts(&[number, form, sender, receiver], &none);
         }
-        NextStep::Expire(waiter) => {
-            list.push_parts(&[number, 5 + OUTCOMES, waiter, 2, waiter], &none);
-        }
+        NextStep::Expire(waiter) => list.push_parts(&[number, NEXT_FORM, waiter], &none),
     }
+}
+
+/// A transfer whose form is so far above the first one.
+fn read_transfer(form: u32, words: Words<'_>) -> Option<NextStep>
+    ensures { result ≡ transfer_at form words.entry }
+{
+    let outcome = outcome_of(form % OUTCOMES)?;
+    let (sender, rest) = read_word(words)?;
+    let (receiver, _) = read_word(rest)?;
+    Some(NextStep::Transfer(sender, receiver, outcome, 5 < form))
+}
+
+/// A step that came next, whose form is so far above `NEXT_FORM`.
+#[tactic(auto, unfolding(crate::specs::Reading::next_at))]
+pub fn read_next(form: u32, words: Words<'_>) -> Option<NextStep>
+    ensures { result ≡ next_at form words.entry }
+{
+    if form == 0 {
+        let (waiter, _) = read_word(words)?;
+        return Some(NextStep::Expire(waiter));
+    }
+    read_transfer(form - TRANSFER, words)
 }
 
 /// A step, and the words after it.
