@@ -192,8 +192,8 @@ impl Records {
         self.grow(more)
     }
 
-    /// `reserve` where there is too little room. No memory is taken while the piece in use has room for more than is asked, so that
-    /// room isn't made for each record at its end.
+    /// `reserve` where there is too little room. No memory is taken while the piece in use has room for more than is asked, or there is one
+    /// to come, so that room isn't made for each record at its end.
     #[cold]
     #[inline(never)]
     fn grow(&mut self, more: usize) -> Result<(), AllocError>
@@ -209,6 +209,10 @@ impl Records {
         let here = self.current.free() / RECORD_BYTES;
         if more < here {
             self.room = len + here;
+            return Ok(());
+        }
+        if more <= PIECE_RECORDS && !self.spare.is_empty() {
+            self.room = len + here + PIECE_RECORDS;
             return Ok(());
         }
         let wanted = more / PIECE_RECORDS + 1 + more / ASKED_EACH;
