@@ -10,9 +10,9 @@ pub small_code : (numbers : List ℕ) → list_all is_small numbers ≡ true →
 unfolding number_code
 small_code [] all = refl
 small_code (n ∷ ns) all =
-    elim (cases_lt n 192) [
-      | inl small ↦ let b : ltb n 192 ≡ true = lt-ltb _ _ small in rw b (ap (λ (t : List ℕ). n ∷ t) (small_code ns (rw b at all)))
-      | inr other ↦ let b : ltb n 192 ≡ false = le-ltb _ _ other in absurd (false≢true (rw b at all))
+    elim (cases_lt n 184) [
+      | inl small ↦ let b : ltb n 184 ≡ true = lt-ltb _ _ small in rw b (ap (λ (t : List ℕ). n ∷ t) (small_code ns (rw b at all)))
+      | inr other ↦ let b : ltb n 184 ≡ false = le-ltb _ _ other in absurd (false≢true (rw b at all))
     ]
 
 -- The record of such numbers and of others, whose bytes are these.

@@ -4,7 +4,7 @@ use Rattle.std.specs.Prelude.{nat_eq, nat_lt}
 use Rattle.std.proofs.lemmas.Bool.{le-ltb, lt-ltb, cases_lt, eqb-true, false≢true}
 use Rattle.l4_packed.specs.Words.{flag}
 use Rattle.l4_packed.specs.Ids.{id_word, id_of, if_named, named_at}
-use Rattle.l4_packed.specs.Tags.{tag_parts, tag_word, tag_of, if_tagged, tag_at, distance, at_distance, distances, at_distances, has_items, items_code, items_of, message_code, message_of}
+use Rattle.l4_packed.specs.Tags.{tag_parts, tag_word, tag_of, if_tagged, tag_at, folded, unfolded, distance, at_distance, distances, at_distances, distances_of, of_distances, has_items, items_code, items_of, message_code, message_of}
 
 -- a number below 2 ^ 32 less one, turned
 turned : (n v : ℕ) → v < 2 ^ 14 → 2 ^ 14 * n + v < 4294967294 → (n + 2 ^ 18 * v < 4294967295) × ((n + 2 ^ 18 * v) % 2 ^ 18 ≡ n) × ((n + 2 ^ 18 * v) / 2 ^ 18 ≡ v)
@@ -66,6 +66,23 @@ tagged_again count tag rest = elim (nat_eq tag 0) as (λ b. nat_eq tag 0 ≡ b �
   | false ↦ λ is. ap (λ (w : ℕ). Some (w, rest)) (tag_again count tag)
 ] refl
 
+-- how far a word is from another is read again, and it is a word
+folded_again : (far : ℕ) → far < 2 ^ 32 → (folded far < 2 ^ 32) × (unfolded (folded far) ≡ far)
+unfolding folded unfolded
+folded_again far few =
+    elim (cases_lt far (2 ^ 31)) [
+      | inl less ↦
+          let b : ltb far (2 ^ 31) ≡ true = lt-ltb _ _ less in
+          let even : (2 * far) % 2 ≡ 0 = omega arith in
+          let half : (2 * far) / 2 ≡ far = omega arith in
+          rw b (omega (arith, less), rw (even, half) refl)
+      | inr more ↦
+          let b : ltb far (2 ^ 31) ≡ false = le-ltb _ _ more in
+          let odd : (2 * (4294967295 - far) + 1) % 2 ≡ 1 = omega arith in
+          let back : 4294967295 - (2 * (4294967295 - far) + 1) / 2 ≡ far = omega (arith, few) in
+          rw b (omega (arith, more), rw (odd, back) refl)
+    ]
+
 -- a word is read again from its distance
 at_distance_again : (base word : ℕ) → at_distance base (distance base word) ≡ word
 unfolding distance at_distance
@@ -73,9 +90,10 @@ at_distance_again base word =
     elim (cases_lt word (2 ^ 32)) [
       | inl less ↦
           let b : ltb word (2 ^ 32) ≡ true = lt-ltb _ _ less in
-          let few : ltb ((word + (2 ^ 32 - base % 2 ^ 32)) % 2 ^ 32) (2 ^ 32) ≡ true = lt-ltb _ _ (omega arith) in
+          let parts = folded_again ((word + (2 ^ 32 - base % 2 ^ 32)) % 2 ^ 32) (omega arith) in
+          let few : ltb (folded ((word + (2 ^ 32 - base % 2 ^ 32)) % 2 ^ 32)) (2 ^ 32) ≡ true = lt-ltb _ _ parts.0 in
           let same : ((word + (2 ^ 32 - base % 2 ^ 32)) % 2 ^ 32 + base % 2 ^ 32) % 2 ^ 32 ≡ word = omega (arith, less) in
-          rw (b, few, same) refl
+          rw (b, few, parts.1, same) refl
       | inr more ↦ let b : ltb word (2 ^ 32) ≡ false = le-ltb _ _ more in rw (b, b) refl
     ]
 
@@ -85,19 +103,27 @@ at_distances_again before last (word ∷ words) =
     let same = at_distance_again before word in
     ap (λ (w : ℕ). w ∷ at_distances last w (distances last word words)) same ∙ ap (λ (t : List ℕ). word ∷ t) (at_distances_again last word words)
 
+of_distances_again : (words : List ℕ) → of_distances (distances_of words) ≡ words
+of_distances_again [] = refl
+of_distances_again (first ∷ words) = ap (λ (t : List ℕ). first ∷ t) (at_distances_again first first words)
+
 distances_length : (before last : ℕ) (words : List ℕ) → length (distances before last words) ≡ length words
 distances_length before last [] = refl
 distances_length before last (word ∷ words) = ap suc (distances_length last word words)
 
+distances_of_length : (words : List ℕ) → length (distances_of words) ≡ length words
+distances_of_length [] = refl
+distances_of_length (first ∷ words) = ap suc (distances_length first first words)
+
 pub items_again : (tag : ℕ) (words : List ℕ) → items_of tag (items_code tag words) ≡ words
-items_again tag words = elim (has_items tag) as (λ b. (if b then at_distances 0 0 (if b then distances 0 0 words else words) else (if b then distances 0 0 words else words)) ≡ words) [
-  | true ↦ at_distances_again 0 0 words
+items_again tag words = elim (has_items tag) as (λ b. (if b then of_distances (if b then distances_of words else words) else (if b then distances_of words else words)) ≡ words) [
+  | true ↦ of_distances_again words
   | false ↦ refl
 ]
 
 pub items_length : (tag : ℕ) (words : List ℕ) → length (items_code tag words) ≡ length words
-items_length tag words = elim (has_items tag) as (λ b. length (if b then distances 0 0 words else words) ≡ length words) [
-  | true ↦ distances_length 0 0 words
+items_length tag words = elim (has_items tag) as (λ b. length (if b then distances_of words else words) ≡ length words) [
+  | true ↦ distances_of_length words
   | false ↦ refl
 ]
 

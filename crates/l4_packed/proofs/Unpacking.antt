@@ -15,7 +15,7 @@ first_byte from last high few = (le-ltb _ _ (omega arith), lt-ltb _ _ (omega (ar
 beyond : (limit from high : ℕ) → limit ≤ from → ltb (from + high) limit ≡ false
 beyond limit from high above = le-ltb _ _ (omega (arith, above))
 
-five_again : (n : ℕ) (rest : List ℕ) → ltb n 192 ≡ false → ltb n (2 ^ 13) ≡ false → ltb n (2 ^ 20) ≡ false → ltb n 234881024 ≡ false → (greatest : Bool) → (n == 4294967295) ≡ greatest → number_at (number_code n ++ rest) ≡ Some (n, rest)
+five_again : (n : ℕ) (rest : List ℕ) → ltb n 184 ≡ false → ltb n 10240 ≡ false → ltb n (2 ^ 20) ≡ false → ltb n 234881024 ≡ false → (greatest : Bool) → (n == 4294967295) ≡ greatest → number_at (number_code n ++ rest) ≡ Some (n, rest)
 unfolding number_code number_at
 five_again n rest b b2 b3 b4 true is =
     let same : n ≡ 4294967295 = eqb-true n 4294967295 is in
@@ -27,24 +27,24 @@ five_again n rest b b2 b3 b4 false is =
 pub number_again : (n : ℕ) (rest : List ℕ) → number_at (number_code n ++ rest) ≡ Some (n, rest)
 unfolding number_code number_at
 number_again n rest =
-    elim (cases_lt n 192) [
-      | inl one ↦ let b : ltb n 192 ≡ true = lt-ltb _ _ one in rw (b, b) refl
+    elim (cases_lt n 184) [
+      | inl one ↦ let b : ltb n 184 ≡ true = lt-ltb _ _ one in rw (b, b) refl
       | inr more ↦
-          let b : ltb n 192 ≡ false = le-ltb _ _ more in
-          elim (cases_lt n (2 ^ 13)) [
+          let b : ltb n 184 ≡ false = le-ltb _ _ more in
+          elim (cases_lt n 10240) [
             | inl two ↦
-                let b2 : ltb n (2 ^ 13) ≡ true = lt-ltb _ _ two in
-                let first = first_byte 192 224 (n / 256) (omega (arith, two)) in
+                let b2 : ltb n 10240 ≡ true = lt-ltb _ _ two in
+                let first = first_byte 184 224 (n / 256) (omega (arith, two)) in
                 let sum : 256 * (n / 256) + n % 256 ≡ n = omega arith in
                 rw (b, b2, first.0, first.1, first.2, sum) refl
             | inr more2 ↦
-                let b2 : ltb n (2 ^ 13) ≡ false = le-ltb _ _ more2 in
+                let b2 : ltb n 10240 ≡ false = le-ltb _ _ more2 in
                 elim (cases_lt n (2 ^ 20)) [
                   | inl three ↦
                       let b3 : ltb n (2 ^ 20) ≡ true = lt-ltb _ _ three in
                       let first = first_byte 224 240 (n / 2 ^ 16) (omega (arith, three)) in
                       let sum : 2 ^ 16 * (n / 2 ^ 16) + n % 256 + 256 * (n / 256 % 256) ≡ n = omega arith in
-                      rw (b, b2, b3, beyond 192 224 (n / 2 ^ 16) (omega arith), first.0, first.1, first.2, sum) refl
+                      rw (b, b2, b3, beyond 184 224 (n / 2 ^ 16) (omega arith), first.0, first.1, first.2, sum) refl
                   | inr more3 ↦
                       let b3 : ltb n (2 ^ 20) ≡ false = le-ltb _ _ more3 in
                       elim (cases_lt n 234881024) [
@@ -52,7 +52,7 @@ number_again n rest =
                             let b4 : ltb n 234881024 ≡ true = lt-ltb _ _ four in
                             let first = first_byte 240 254 (n / 2 ^ 24) (omega (arith, four)) in
                             let sum : 2 ^ 24 * (n / 2 ^ 24) + (n % 256 + 256 * (n / 256 % 256) + 2 ^ 16 * (n / 2 ^ 16 % 256)) ≡ n = omega arith in
-                            rw (b, b2, b3, b4, beyond 192 240 (n / 2 ^ 24) (omega arith), beyond 224 240 (n / 2 ^ 24) (omega arith), first.0, first.1, first.2, sum) refl
+                            rw (b, b2, b3, b4, beyond 184 240 (n / 2 ^ 24) (omega arith), beyond 224 240 (n / 2 ^ 24) (omega arith), first.0, first.1, first.2, sum) refl
                         | inr more4 ↦ five_again n rest b b2 b3 (le-ltb _ _ more4) (n == 4294967295) refl
                       ]
                 ]
@@ -79,14 +79,14 @@ few_of_five n false = (omega arith, omega arith)
 few_bytes : (n : ℕ) → Few (number_code n)
 unfolding number_code
 few_bytes n =
-    elim (cases_lt n 192) [
-      | inl one ↦ let b : ltb n 192 ≡ true = lt-ltb _ _ one in rw b (omega arith, omega arith)
+    elim (cases_lt n 184) [
+      | inl one ↦ let b : ltb n 184 ≡ true = lt-ltb _ _ one in rw b (omega arith, omega arith)
       | inr more ↦
-          let b : ltb n 192 ≡ false = le-ltb _ _ more in
-          elim (cases_lt n (2 ^ 13)) [
-            | inl two ↦ let b2 : ltb n (2 ^ 13) ≡ true = lt-ltb _ _ two in rw (b, b2) (omega arith, omega arith)
+          let b : ltb n 184 ≡ false = le-ltb _ _ more in
+          elim (cases_lt n 10240) [
+            | inl two ↦ let b2 : ltb n 10240 ≡ true = lt-ltb _ _ two in rw (b, b2) (omega arith, omega arith)
             | inr more2 ↦
-                let b2 : ltb n (2 ^ 13) ≡ false = le-ltb _ _ more2 in
+                let b2 : ltb n 10240 ≡ false = le-ltb _ _ more2 in
                 elim (cases_lt n (2 ^ 20)) [
                   | inl three ↦ let b3 : ltb n (2 ^ 20) ≡ true = lt-ltb _ _ three in rw (b, b2, b3) (omega arith, omega arith)
                   | inr more3 ↦

@@ -24,14 +24,22 @@ if_tagged count tag = if nat_eq tag 0 then [] else tag_word count tag ∷ []
 unfoldable pub tag_at : ℕ → ℕ → List ℕ → Option (ℕ × List ℕ)
 tag_at count flag words = if nat_eq flag 0 then Some (0, words) else (word_at words >>= (λ word. Some (tag_of count word.0, word.1)))
 
--- The items of a message, of two words each, mostly follow one another: where there are several, each word is told by how far it is above that two
--- before it, modulo 2 ^ 32.
+-- The two words of an item are mostly near each other, and those of several items follow one another: behind the first word each is told by how far
+-- it is from that two before it, the second by how far it is from the first. That is counted modulo 2 ^ 32, upwards in even numbers and downwards in
+-- odd ones.
+
+-- a number below 2 ^ 32 that counts upwards if it is small, and downwards if it is great
+unfoldable pub folded : ℕ → ℕ
+folded far = if nat_lt far (2 ^ 31) then 2 * far else 2 * (4294967295 - far) + 1
+
+unfoldable pub unfolded : ℕ → ℕ
+unfolded word = if nat_eq (word % 2) 0 then word / 2 else 4294967295 - word / 2
 
 unfoldable pub distance : ℕ → ℕ → ℕ
-distance base word = if nat_lt word (2 ^ 32) then (word + (2 ^ 32 - base % 2 ^ 32)) % 2 ^ 32 else word
+distance base word = if nat_lt word (2 ^ 32) then folded ((word + (2 ^ 32 - base % 2 ^ 32)) % 2 ^ 32) else word
 
 unfoldable pub at_distance : ℕ → ℕ → ℕ
-at_distance base word = if nat_lt word (2 ^ 32) then (word + base % 2 ^ 32) % 2 ^ 32 else word
+at_distance base word = if nat_lt word (2 ^ 32) then (unfolded word + base % 2 ^ 32) % 2 ^ 32 else word
 
 -- words by their distances, behind two words
 abbrev pub distances : ℕ → ℕ → List ℕ → List ℕ
@@ -42,16 +50,25 @@ abbrev pub at_distances : ℕ → ℕ → List ℕ → List ℕ
 at_distances before last [] = []
 at_distances before last (word ∷ words) = at_distance before word ∷ at_distances last (at_distance before word) words
 
--- the tag is that of a message of several items
+-- words by their distances, behind none
+abbrev pub distances_of : List ℕ → List ℕ
+distances_of [] = []
+distances_of (first ∷ words) = first ∷ distances first first words
+
+abbrev pub of_distances : List ℕ → List ℕ
+of_distances [] = []
+of_distances (first ∷ words) = first ∷ at_distances first first words
+
+-- the tag is that of a message with items
 abbrev pub has_items : ℕ → Bool
-has_items tag = nat_lt 3 (tag / 64 % 64)
+has_items tag = nat_lt 1 (tag / 64 % 64)
 
 -- the words behind this tag
 abbrev pub items_code : ℕ → List ℕ → List ℕ
-items_code tag words = if has_items tag then distances 0 0 words else words
+items_code tag words = if has_items tag then distances_of words else words
 
 abbrev pub items_of : ℕ → List ℕ → List ℕ
-items_of tag words = if has_items tag then at_distances 0 0 words else words
+items_of tag words = if has_items tag then of_distances words else words
 
 -- a message: its tag and its words
 abbrev pub message_code : List ℕ → List ℕ

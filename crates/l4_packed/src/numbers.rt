@@ -10,7 +10,7 @@ pub(crate) const NUMBER_BYTES: usize = 5;
 
 /// The first byte of a number is below this if it is the only one, which is the number. From here on it says how many bytes there are, and what
 /// counts most.
-const TWO: u8 = 192;
+const TWO: u8 = 184;
 
 /// The first byte of a number of three bytes is not below this.
 const THREE: u8 = 224;
@@ -31,7 +31,7 @@ const THIRD: u32 = 0x1_0000;
 const FOURTH: u32 = 0x100_0000;
 
 /// A number below this has two bytes at most.
-const TWO_LIMIT: u32 = 0x2000;
+const TWO_LIMIT: u32 = 0x2800;
 
 /// A number below this has three bytes at most.
 const THREE_LIMIT: u32 = 0x10_0000;

@@ -1,6 +1,6 @@
 //! Tags of messages as words.
 ghost use Rattle.std.specs.Prelude.{◌≡◌, ◌+◌, ◌<◌, ◌≤◌, ◌++◌, length};
-ghost use Rattle.l4_packed.specs.Tags.{tag_word, tag_of, if_tagged, tag_at, distances, at_distances, has_items, items_code, items_of, message_code, message_of};
+ghost use Rattle.l4_packed.specs.Tags.{tag_word, tag_of, if_tagged, tag_at, distance, at_distance, distances, at_distances, distances_of, of_distances, has_items, items_code, items_of, message_code, message_of};
 
 use crate::words::{RECORD_WORDS, Record, Words, put_all, read_word};
 use arrayvec::ArrayVec;
@@ -8,20 +8,26 @@ use arrayvec::ArrayVec;
 /// There are fewer typed words than this, and fewer untyped ones.
 const COUNTS: u32 = 64;
 
-/// What the flags count in a tag, and what the label does.
+/// What the flags count in a tag.
 const TAG_FLAGS: u32 = 0x1000;
 
+/// What the label counts in a tag.
 const TAG_LABEL: u32 = 0x1_0000;
 
-/// There are so many flags, and so many labels.
+/// There are so many flags.
 const FLAGS: u32 = 16;
 
+/// There are so many labels.
 const LABELS: u32 = 0x1_0000;
 
-/// What the flags count in the word of a tag, and what the number of untyped words does.
+/// What the flags count in the word of a tag.
 const WORD_FLAGS: u32 = 0x40_0000;
 
+/// What the number of untyped words counts in the word of a tag.
 const WORD_OFF: u32 = 0x400_0000;
+
+/// A word that is as far above another as this is told by how far it is below it.
+const DOWNWARDS: u32 = 0x8000_0000;
 
 /// The word of the tag of a message of so many words. Most have untyped words or typed ones alone, and no flags.
 #[tactic(auto, unfolding(crate::specs::Tags::tag_word))]
@@ -80,27 +86,64 @@ pub(crate) fn read_tag(words: Words<'_>, count: usize, flag: u32) -> Option<(u32
     Some((tag_of(count, word), rest))
 }
 
-/// Whether the tag is that of a message of several items.
+/// Whether the tag is that of a message with items.
 #[inline(always)]
 fn has_items(tag: u32) -> bool
     ensures { result ≡ has_items tag }
 {
-    tag / COUNTS % COUNTS > 3
+    tag / COUNTS % COUNTS > 1
 }
 
-/// Appends words by how far each is above that two before it.
-#[tactic(auto, unfolding(crate::specs::Tags::distance))]
+/// How far a word is from another, upwards in even numbers and downwards in odd ones.
+#[tactic(auto, unfolding(crate::specs::Tags::distance, crate::specs::Tags::folded))]
+#[inline(always)]
+fn distance(base: u32, word: u32) -> u32
+    ensures { result ≡ distance base word }
+{
+    let far = word.wrapping_sub(base);
+    if far < DOWNWARDS {
+        2 * far
+    } else {
+        2 * (u32::MAX - far) + 1
+    }
+}
+
+/// The word that is so far from another.
+#[tactic(auto, unfolding(crate::specs::Tags::at_distance, crate::specs::Tags::unfolded))]
+fn at_distance(base: u32, word: u32) -> u32
+    ensures { result ≡ at_distance base word }
+{
+    let far = if word % 2 == 0 {
+        word / 2
+    } else {
+        u32::MAX - word / 2
+    };
+    far.wrapping_add(base)
+}
+
+/// Appends words by how far each is from that two before it.
+fn put_behind(out: &mut Record, first: u32, words: &[u32])
+    requires { length out.old.items + length words.now ≤ RECORD_WORDS }
+    ensures { out.new.items ≡ out.old.items ++ distances first first words.now }
+{
+    let mut before = first;
+    let mut last = first;
+    for word in words {
+        out.push(distance(before, *word));
+        before = last;
+        last = *word;
+    }
+}
+
+/// The same of all words of a message behind the first.
 #[inline(never)]
 fn put_distances(out: &mut Record, words: &[u32])
     requires { length out.old.items + length words.now ≤ RECORD_WORDS }
-    ensures { out.new.items ≡ out.old.items ++ distances 0 0 words.now }
+    ensures { out.new.items ≡ out.old.items ++ distances_of words.now }
 {
-    let mut before = 0;
-    let mut last = 0;
-    for word in words {
-        out.push(word.wrapping_sub(before));
-        before = last;
-        last = *word;
+    if let [first, rest @ ..] = words {
+        out.push(*first);
+        put_behind(out, *first, rest);
     }
 }
 
@@ -116,19 +159,29 @@ pub(crate) fn put_items(out: &mut Record, tag: u32, words: &[u32])
     put_all(out, words);
 }
 
-/// Appends the words that are told by their distances.
-#[tactic(auto, unfolding(crate::specs::Tags::at_distance))]
-fn push_at_distances<const LIMIT: usize>(out: &mut ArrayVec<u32, LIMIT>, words: &[u32])
+/// Appends the words that are told by how far each is from that two before it.
+fn push_behind<const LIMIT: usize>(out: &mut ArrayVec<u32, LIMIT>, first: u32, words: &[u32])
     requires { length out.old.items + length words.now ≤ LIMIT }
-    ensures { out.new.items ≡ out.old.items ++ at_distances 0 0 words.now }
+    ensures { out.new.items ≡ out.old.items ++ at_distances first first words.now }
 {
-    let mut before = 0u32;
-    let mut last = 0;
+    let mut before = first;
+    let mut last = first;
     for word in words {
-        let next = word.wrapping_add(before);
+        let next = at_distance(before, *word);
         out.push(next);
         before = last;
         last = next;
+    }
+}
+
+/// The same of all words of a message behind the first.
+fn push_of_distances<const LIMIT: usize>(out: &mut ArrayVec<u32, LIMIT>, words: &[u32])
+    requires { length out.old.items + length words.now ≤ LIMIT }
+    ensures { out.new.items ≡ out.old.items ++ of_distances words.now }
+{
+    if let [first, rest @ ..] = words {
+        out.push(*first);
+        push_behind(out, *first, rest);
     }
 }
 
@@ -143,7 +196,7 @@ pub(crate) fn items_of<const LIMIT: usize>(
         return words;
     }
     let mut items = ArrayVec::new();
-    push_at_distances(&mut items, words.as_slice());
+    push_of_distances(&mut items, words.as_slice());
     items
 }
 
@@ -178,7 +231,7 @@ fn push_items<const LIMIT: usize>(out: &mut ArrayVec<u32, LIMIT>, tag: u32, word
     ensures { out.new.items ≡ out.old.items ++ items_of tag words.now }
 {
     if has_items(tag) {
-        return push_at_distances(out, words);
+        return push_of_distances(out, words);
     }
     for word in words {
         out.push(*word);

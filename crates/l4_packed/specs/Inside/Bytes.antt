@@ -19,12 +19,12 @@ byte_list items = record { items = items }
 abbrev pub Reads : {X : Type 0} → Option (X × Bor (List ℕ)) → Option (X × List ℕ) → Type 0
 Reads result read = Gives (λ x. (x.0, x.1.now)) result read
 
--- A number below 192 is one byte, and the greatest word, 2 ^ 32 - 1, is the byte 255. Any other stands behind a byte that says how many bytes it has,
--- and what counts most: two behind 192 to 223, three behind 224 to 239, four behind 240 to 253, five behind 254. The others follow, the lowest first.
+-- A number below 184 is one byte, and the greatest word, 2 ^ 32 - 1, is the byte 255. Any other stands behind a byte that says how many bytes it has,
+-- and what counts most: two behind 184 to 223, three behind 224 to 239, four behind 240 to 253, five behind 254. The others follow, the lowest first.
 unfoldable pub number_code : ℕ → List ℕ
 number_code n =
-    if nat_lt n 192 then n ∷ []
-    else (if nat_lt n (2 ^ 13) then (192 + n / 256) ∷ n % 256 ∷ []
+    if nat_lt n 184 then n ∷ []
+    else (if nat_lt n 10240 then (184 + n / 256) ∷ n % 256 ∷ []
     else (if nat_lt n (2 ^ 20) then (224 + n / 2 ^ 16) ∷ n % 256 ∷ n / 256 % 256 ∷ []
     else (if nat_lt n 234881024 then (240 + n / 2 ^ 24) ∷ n % 256 ∷ n / 256 % 256 ∷ n / 2 ^ 16 % 256 ∷ []
     else (if n == 4294967295 then 255 ∷ []
@@ -32,7 +32,7 @@ number_code n =
 
 -- a number of one byte, which is the number
 abbrev pub is_small : ℕ → Bool
-is_small n = nat_lt n 192
+is_small n = nat_lt n 184
 
 -- the rest of a number of so many bytes whose first byte counts so much
 
@@ -62,8 +62,8 @@ five_bytes_at [] = None
 unfoldable pub number_at : List ℕ → Option (ℕ × List ℕ)
 number_at [] = None
 number_at (first ∷ rest) =
-    if nat_lt first 192 then Some (first, rest)
-    else (if nat_lt first 224 then two_bytes_at (256 * (first - 192)) rest
+    if nat_lt first 184 then Some (first, rest)
+    else (if nat_lt first 224 then two_bytes_at (256 * (first - 184)) rest
     else (if nat_lt first 240 then three_bytes_at (2 ^ 16 * (first - 224)) rest
     else (if nat_lt first 254 then four_bytes_at (2 ^ 24 * (first - 240)) rest
     else (if first == 254 then five_bytes_at rest else Some (4294967295, rest)))))
