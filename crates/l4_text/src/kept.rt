@@ -1,34 +1,36 @@
 //! Bytes that are kept for a while, in a place of their own.
-ghost use Rattle.std.specs.Prelude.{◌≡◌, ◌==◌, ◌+◌, ◌<◌, ◌≤◌, ◌++◌, ◌∷◌, [], length};
+ghost use Rattle.std.specs.Prelude.{◌≡◌, ◌==◌, ◌+◌, ◌^◌, ◌<◌, ◌≤◌, ◌++◌, ◌∷◌, [], length};
 
 use std::marker::Model;
 
 /// At most `LIMIT` bytes. Those that are taken away are not written over before others take their place: a list of the library writes
-/// blanks.
+/// blanks. The length stands in front of the bytes and is no `usize`, so that the compiler sees that no byte is written over it, and keeps it in
+/// a register while a text is put together.
 #[derive(Drop)]
 pub(crate) struct KeptBytes<const LIMIT: usize> {
+    len: u32,
     cells: [u8; LIMIT],
-    len: usize,
 }
 
 impl<const LIMIT: usize> Model for KeptBytes<LIMIT> {
-    ghost use Rattle.std.specs.Prelude.{ℕ, List, ◌≡◌, ◌≤◌, length, take};
+    ghost use Rattle.std.specs.Prelude.{ℕ, List, ◌≡◌, ◌<◌, ◌≤◌, ◌^◌, length, take};
 
     ghost Value = { List ℕ };
 
     ghost view = { λ k. take k.len k.cells };
 
-    ghost invariant = { λ k. (k.len ≤ LIMIT) × (length k.cells ≡ LIMIT) };
+    ghost invariant = { λ k. (k.len ≤ LIMIT) × (LIMIT < 2 ^ 32) × (length k.cells ≡ LIMIT) };
 }
 
 impl<const LIMIT: usize> KeptBytes<LIMIT> {
     /// No bytes.
     pub fn new() -> KeptBytes<LIMIT>
+        requires { LIMIT < 2 ^ 32 }
         ensures { result ≡ [] }
     {
         KeptBytes {
-            cells: [0; LIMIT],
             len: 0,
+            cells: [0; LIMIT],
         }
     }
 
@@ -43,7 +45,7 @@ impl<const LIMIT: usize> KeptBytes<LIMIT> {
     pub fn room(&self) -> usize
         ensures { result + length self.now ≡ LIMIT }
     {
-        LIMIT - self.len
+        LIMIT - self.len as usize
     }
 
     /// Takes all bytes away.
@@ -58,7 +60,7 @@ impl<const LIMIT: usize> KeptBytes<LIMIT> {
         requires { length self.old < LIMIT }
         ensures { self.new ≡ self.old ++ byte ∷ [] }
     {
-        self.cells[self.len] = byte;
+        self.cells[self.len as usize] = byte;
         self.len += 1;
     }
 
@@ -67,16 +69,17 @@ impl<const LIMIT: usize> KeptBytes<LIMIT> {
         requires { length self.old + length bytes.now ≤ LIMIT }
         ensures { self.new ≡ self.old ++ bytes.now }
     {
-        let end = self.len + bytes.len();
+        let start = self.len as usize;
+        let end = start + bytes.len();
         let cells = &mut self.cells[..];
-        cells[self.len..end].copy_from_slice(bytes);
-        self.len = end;
+        cells[start..end].copy_from_slice(bytes);
+        self.len = end as u32;
     }
 
     /// The bytes.
     pub fn as_slice(&self) -> &[u8]
         ensures { result.now ≡ self.now }
     {
-        &self.cells[..self.len]
+        &self.cells[..self.len as usize]
     }
 }
