@@ -1,7 +1,9 @@
 //! The texts of steps, and of how calls ended.
-ghost use Rattle.std.specs.Prelude.{◌≡◌, ◌≤◌, ◌+◌, ◌++◌, length, decimal, codes};
+ghost use Rattle.std.specs.Prelude.{◌≡◌, ◌<◌, ◌≤◌, ◌+◌, ◌++◌, length, Some, true, decimal, codes};
+ghost use Rattle.l4_ipc.specs.declared.steps.Outcome.TheVariants.{Done};
+ghost use Rattle.l4_threads.specs.declared.Reply.TheVariants.{Ipc, Answered};
 ghost use Rattle.std.specs.Option.{option_copied};
-ghost use Rattle.l4_answers.specs.Replies.{outcome_word, transfer_text, expire_text, waits_text, from_text, ipc_head, reply_head, reply_words, reply_text, newline};
+ghost use Rattle.l4_answers.specs.Replies.{outcome_word, transfer_text, expire_text, waits_text, from_text, space, IsShort, ipc_head, reply_head, reply_words, reply_text, newline};
 ghost use Rattle.l4_text.specs.Texts.{words_text};
 ghost use Rattle.l4_text.specs.Streams.{Tells};
 ghost use Rattle.l4_text.specs.Sizes.{held_bytes};
@@ -11,6 +13,9 @@ use l4_ipc::Outcome;
 use l4_text::{Output, Text};
 use l4_threads::{IpcReply, Reply, ThreadId};
 use std::io::Write;
+
+/// The most words of a reply's line that is put together at once.
+const FEW_WORDS: usize = 8;
 
 /// Adds what came of a transfer, in a word. Each is added by itself, so that its length is known as the program is built.
 fn add_outcome(out: &mut Output, outcome: Outcome)
@@ -41,8 +46,9 @@ fn add_transfer(out: &mut Output, sender: u32, receiver: u32, outcome: Outcome)
     out.push(b'\n');
 }
 
-/// Tells `transfer S R done`, or what else came of it in the last word's place.
-pub fn put_transfer<W: Write>(
+/// Tells a transfer, as `put_transfer`, of whatever numbers and outcome.
+#[inline(never)]
+fn put_any_transfer<W: Write>(
     sender: u32,
     receiver: u32,
     outcome: Outcome,
@@ -53,6 +59,38 @@ pub fn put_transfer<W: Write>(
 {
     out.make_room(writer);
     add_transfer(out, sender, receiver, outcome);
+}
+
+/// `transfer S R done` of numbers of one digit, with the end of the line.
+fn short_transfer(sender: u32, receiver: u32) -> [u8; 18]
+    requires { (sender < 10) × (receiver < 10) }
+    ensures { result ≡ transfer_text sender receiver Done }
+{
+    let from = b'0' + sender as u8;
+    let to = b'0' + receiver as u8;
+    [
+        b't', b'r', b'a', b'n', b's', b'f', b'e', b'r', b' ', from, b' ', to, b' ', b'd', b'o',
+        b'n', b'e', b'\n',
+    ]
+}
+
+/// Tells `transfer S R done`, or what else came of it in the last word's place. Most numbers have one digit: then the line is put together
+/// at once.
+pub fn put_transfer<W: Write>(
+    sender: u32,
+    receiver: u32,
+    outcome: Outcome,
+    out: &mut Output,
+    writer: &mut W,
+)
+    ensures { Tells (W.contents writer.old) (W.contents writer.new) out.old out.new (transfer_text sender receiver outcome) }
+{
+    if let Outcome::Done = outcome {
+        if sender < 10 && receiver < 10 && out.has_room() {
+            return out.add(&short_transfer(sender, receiver));
+        }
+    }
+    put_any_transfer(sender, receiver, outcome, out, writer);
 }
 
 /// `expire N`
@@ -151,8 +189,93 @@ fn reply_words(reply: Option<&Reply>) -> &[u32]
     }
 }
 
+/// `N fault answered` of a number of one digit, with the end of the line.
+fn short_answered(number: u32) -> [u8; 17]
+    requires { number < 10 }
+    ensures { result ≡ reply_text number (Some Answered) }
+{
+    let digit = b'0' + number as u8;
+    [
+        digit, b' ', b'f', b'a', b'u', b'l', b't', b' ', b'a', b'n', b's', b'w', b'e', b'r', b'e',
+        b'd', b'\n',
+    ]
+}
+
+/// Whether each number of an Ipc's reply has one digit, and its words are few.
+#[inline(always)]
+fn is_short(number: u32, reply: &IpcReply) -> bool
+    ensures { result ≡ true → IsShort number reply.now }
+{
+    if number >= 10 || reply.error >= 10 || reply.from.0 == 0 {
+        return false;
+    }
+    if reply.from.number() >= 10 || reply.words.len() > FEW_WORDS {
+        return false;
+    }
+    true
+}
+
+/// `N ipc ` of a number of one digit.
+fn short_head(number: u32) -> [u8; 6]
+    requires { number < 10 }
+    ensures { result ≡ decimal number ++ codes " ipc " }
+{
+    [b'0' + number as u8, b' ', b'i', b'p', b'c', b' ']
+}
+
+/// ` ERROR FROM` of numbers of one digit.
+fn short_tail(error: u32, from: u32) -> [u8; 4]
+    requires { (error < 10) × (from < 10) }
+    ensures { result ≡ space ++ decimal error ++ space ++ decimal from }
+{
+    [b' ', b'0' + error as u8, b' ', b'0' + from as u8]
+}
+
+/// Adds a whole line of an Ipc's reply, whose numbers have one digit and whose words are few.
+#[inline(always)]
+fn add_short_ipc(out: &mut Output, number: u32, ipc: &IpcReply)
+    requires room { length out.old.0 + 160 ≤ held_bytes }
+    requires short { IsShort number ipc.now }
+    ensures { out.new ≡ (out.old.0 ++ reply_text number (Some (Ipc ipc.now)), out.old.1) }
+{
+    out.add(&short_head(number));
+    out.add_word(ipc.tag);
+    out.add(&short_tail(ipc.error, ipc.from.number()));
+    out.add_words(ipc.words.as_slice());
+    out.push(b'\n');
+}
+
+/// Tells how a thread's call ended. Most numbers have one digit: then the line is put together at once.
+#[inline(always)]
+fn put_last_reply<W: Write>(number: u32, reply: &Reply, out: &mut Output, writer: &mut W)
+    ensures { Tells (W.contents writer.old) (W.contents writer.new) out.old out.new (reply_text number (Some reply.now)) }
+{
+    if let Reply::Ipc(ipc) = reply {
+        if is_short(number, ipc) && out.has_room() {
+            return add_short_ipc(out, number, ipc);
+        }
+    }
+    if let Reply::Answered = reply {
+        if number < 10 && out.has_room() {
+            return out.add(&short_answered(number));
+        }
+    }
+    put_any_reply(number, Some(reply), out, writer);
+}
+
 /// Tells how a thread's call ended. A thread that is gone has no reply.
 pub fn put_reply<W: Write>(number: u32, reply: Option<&Reply>, out: &mut Output, writer: &mut W)
+    ensures { Tells (W.contents writer.old) (W.contents writer.new) out.old out.new (reply_text number (option_copied reply.entry)) }
+{
+    match reply {
+        Some(reply) => put_last_reply(number, reply, out, writer),
+        None => put_any_reply(number, None, out, writer),
+    }
+}
+
+/// Tells how a thread's call ended, as `put_reply`, in whatever way.
+#[inline(never)]
+fn put_any_reply<W: Write>(number: u32, reply: Option<&Reply>, out: &mut Output, writer: &mut W)
     ensures { Tells (W.contents writer.old) (W.contents writer.new) out.old out.new (reply_text number (option_copied reply.entry)) }
 {
     out.make_room(writer);

@@ -1,5 +1,5 @@
 //! What was answered and has not yet gone out.
-ghost use Rattle.std.specs.Prelude.{◌≡◌, ◌≤◌, ◌+◌, ◌==◌, [], ◌∷◌, ◌++◌, length, decimal, OnOk, IfErr};
+ghost use Rattle.std.specs.Prelude.{◌≡◌, ◌≤◌, ◌+◌, ◌*◌, ◌==◌, [], ◌∷◌, ◌++◌, length, decimal, OnOk, IfErr};
 ghost use Rattle.std.specs.Io.KnownBytes.{Appends};
 ghost use Rattle.std.specs.Prelude.{ℕ, List, Option, true, false};
 ghost use Rattle.l4_text.specs.Streams.{WentOut, HasTold, Tells, IsOutBeforeRead};
@@ -176,6 +176,14 @@ impl Output {
         }
     }
 
+    /// Whether there is room for a text.
+    #[inline(always)]
+    pub fn has_room(&self) -> bool
+        ensures { result ≡ true → length self.now.0 + text_bytes ≤ held_bytes }
+    {
+        self.held.has_room()
+    }
+
     /// Makes room for a text that is then added piece by piece.
     pub fn make_room<W: Write>(&mut self, writer: &mut W)
         ensures room { length self.new.0 + text_bytes ≤ held_bytes }
@@ -264,6 +272,19 @@ impl Output {
         self.make_room(writer);
         self.push(b' ');
         self.add_word(word);
+    }
+
+    /// Adds words in eight hexadecimal digits of lower case, each after a space, for which there is room.
+    #[inline(always)]
+    pub fn add_words(&mut self, row: &[u32])
+        requires { length self.old.0 + 9 * length row.now ≤ held_bytes }
+        ensures value { self.new ≡ (self.old.0 ++ words_text row.now, self.old.1) }
+        ensures len { length self.new.0 ≡ length self.old.0 + 9 * length row.now }
+    {
+        for word in row {
+            self.push(b' ');
+            self.add_word(*word);
+        }
     }
 
     /// Tells words in eight hexadecimal digits of lower case, each after a space.

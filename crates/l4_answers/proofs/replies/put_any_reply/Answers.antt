@@ -3,7 +3,7 @@ use Rattle.std.specs.Option.{option_copied}
 use Rattle.l4_text.specs.Texts.{words_text}
 use Rattle.l4_text.proofs.Telling.{tells_added, tells_more, tells_is}
 use Rattle.l4_answers.specs.Replies.{reply_head, newline}
-use Rattle.l4_answers.proofs.replies.put_reply.Goals as goal
+use Rattle.l4_answers.proofs.replies.put_any_reply.Goals as goal
 
 pub returns : goal.returns
 returns g c =
