@@ -1,13 +1,14 @@
 -- The number of a token whose digits were read byte by byte.
-use Rattle.std.proofs.Common.{◌≡◌, ℕ, zero, suc, ◌+◌, ◌-◌, ◌*◌, ◌^◌, ◌<◌, ◌≤◌, ◌==◌, ◌&&◌, true, false, not, cond, nat_le, List, [], ◌∷◌, length, get_or, take, drop, Option, Some, None, is_some, option_and_then, sym, ap, ◌∙◌, refl, arith, eqb-true, subst}
+use Rattle.std.proofs.Common.{◌≡◌, ℕ, zero, suc, ◌+◌, ◌-◌, ◌*◌, ◌/◌, ◌%◌, ◌^◌, ◌<◌, ◌≤◌, ◌==◌, ◌&&◌, true, false, not, cond, nat_le, List, [], ◌∷◌, length, get_or, take, drop, filter, Option, Some, None, is_some, option_and_then, sym, ap, ◌∙◌, refl, arith, eqb-true, subst}
 use Rattle.std.proofs.lemmas.Bool.{false≢true, and_parts}
 use Rattle.std.proofs.lemmas.Bool.Decides.{nat_tests}
 use Rattle.std.proofs.lemmas.List.{take_rest, take_more, length-take-le}
 use Rattle.std.specs.List.{position_or_len}
 use Rattle.l4_text.specs.Numbers.{digit_of, hex_digit_of, value_from, decimal_of, hex_of, is_hex, below, number_of}
-use Rattle.l4_text.specs.Tokens.{tokens_of, is_space, FirstNumber}
-use Rattle.l4_text.specs.Inside.Reading.{HasDigits, is_no_space}
-use Rattle.l4_text.proofs.Parts.{tokens_cut, tokens_skip, next_none}
+use Rattle.std.specs.List.{slice_split, onto_first}
+use Rattle.l4_text.specs.Tokens.{tokens_of, is_space, has_bytes, FirstNumber}
+use Rattle.l4_text.specs.Inside.Reading.{HasDigits, HasToken, IsPacked, is_no_space}
+use Rattle.l4_text.proofs.Parts.{tokens_cut, tokens_skip, tokens_none}
 use Rattle.l4_text.proofs.Spelled.{value_after, below_all}
 
 not_some : (w : ℕ) → ◌≡◌ {A = Option ℕ} None (Some w) → ⊥
@@ -95,16 +96,43 @@ hex_cut ys n w has some few =
     )
 
 pub hex_first : (rest : List ℕ) (d e n w : ℕ) → 2 ≤ length rest → get_or rest 0 d ≡ 48 → get_or rest 1 e ≡ 120
-    → HasDigits 16 hex_digit_of (take (length rest - 2) (drop 2 rest)) n w → 1 ≤ n → n ≤ 8
-    → FirstNumber rest (Some w) (take (length (take (length rest - 2) (drop 2 rest)) - n) (drop n (take (length rest - 2) (drop 2 rest))))
+    → HasDigits 16 hex_digit_of (take (length rest - 2) (drop 2 rest)) n w → 1 ≤ n → n ≤ 8 → HasToken rest w (n + 2)
 hex_first [] d e n w two a b has some few = absurd (omega (arith, two))
 hex_first (x ∷ []) d e n w two a b has some few = absurd (omega (arith, two))
 hex_first (x ∷ y ∷ ys) d e n w two a b has some few =
     let all : take (length (x ∷ y ∷ ys) - 2) ys ≡ ys = take_rest (x ∷ y ∷ ys) 2 in
-    let cut = hex_cut ys n w (subst (λ t. HasDigits 16 hex_digit_of t n w) all has) some few in
-    let back : FirstNumber (48 ∷ 120 ∷ ys) (Some w) (take (length (take (length (x ∷ y ∷ ys) - 2) ys) - n) (drop n (take (length (x ∷ y ∷ ys) - 2) ys))) =
-    subst (λ t. FirstNumber (48 ∷ 120 ∷ ys) (Some w) (take (length t - n) (drop n t))) (sym all) cut in
-    subst (λ t. FirstNumber t (Some w) (take (length (take (length (x ∷ y ∷ ys) - 2) ys) - n) (drop n (take (length (x ∷ y ∷ ys) - 2) ys)))) (λ i. sym a i ∷ sym b i ∷ ys) back
+    let own : HasDigits 16 hex_digit_of ys n w = subst (λ t. HasDigits 16 hex_digit_of t n w) all has in
+    let cut = hex_cut ys n w own some few in
+    let more : n + 2 ≡ suc (suc n) = omega arith in
+    let there : take (length (x ∷ y ∷ ys) - (n + 2)) (drop (n + 2) (x ∷ y ∷ ys)) ≡ take (length ys - n) (drop n ys) =
+    take_rest (x ∷ y ∷ ys) (n + 2) ∙ ap (λ k. drop k (x ∷ y ∷ ys)) more ∙ sym (take_rest ys n) in
+    let back : FirstNumber (x ∷ y ∷ ys) (Some w) (take (length ys - n) (drop n ys)) =
+    subst (λ t. FirstNumber t (Some w) (take (length ys - n) (drop n ys))) (λ i. sym a i ∷ sym b i ∷ ys) cut in
+    (omega (arith, own.0), omega (arith, few), own.3, subst (λ t. FirstNumber (x ∷ y ∷ ys) (Some w) t) (sym there) back)
+
+space_front : (x : ℕ) (xs : List ℕ) → x ≡ 32 → tokens_of (x ∷ xs) ≡ tokens_of xs
+unfolding tokens_of
+space_front x xs is = ap (λ k. filter has_bytes (cond (k == 32) ([] ∷ slice_split is_space xs) (onto_first k (slice_split is_space xs)))) is
+
+-- the number of the token after a space
+pub packed_after : (line : List ℕ) (a n v : ℕ) → (length line == 0) ≡ false → get_or line 0 a ≡ 32 → HasToken (take (length line - 1) (drop 1 line)) v n
+    → IsPacked line ((n + 1) * 2 ^ 32 + v)
+packed_after [] a n v some is has = absurd (false≢true (sym some))
+packed_after (x ∷ xs) a n v some is has = λ _.
+    let packed = (n + 1) * 2 ^ 32 + v in
+    let all : take (length (x ∷ xs) - 1) xs ≡ xs = take_rest (x ∷ xs) 1 in
+    let own : HasToken xs v n = subst (λ t. HasToken t v n) all has in
+    let place : packed / 2 ^ 32 ≡ suc n = omega (arith, own.2) in
+    let value : packed % 2 ^ 32 ≡ v = omega (arith, own.2) in
+    let there : take (length (x ∷ xs) - packed / 2 ^ 32) (drop (packed / 2 ^ 32) (x ∷ xs)) ≡ take (length xs - n) (drop n xs) =
+    take_rest (x ∷ xs) (packed / 2 ^ 32) ∙ ap (λ k. drop k (x ∷ xs)) place ∙ sym (take_rest xs n) in (
+      omega (arith, place, own.0),
+      (own.3.0, space_front x xs is ∙ own.3.1 ∙ ap (λ t. own.3.0 ∷ tokens_of t) (sym there), ap Some value ∙ own.3.2),
+    )
+
+pub no_bytes : (line : List ℕ) → length line ≡ 0 → tokens_of line ≡ []
+no_bytes [] h = tokens_none
+no_bytes (x ∷ xs) h = absurd (omega (arith, h))
 
 -- what the spaces in front of it leave of a line has the line's first token
 pub first_after : (line : List ℕ) (start : ℕ) (number : Option ℕ) (after : List ℕ) → start ≡ position_or_len is_no_space line
@@ -139,11 +167,3 @@ one_digit_first (x ∷ y ∷ z ∷ zs) a e b d three first third h small =
     ) in
     let got : FirstNumber (y ∷ z ∷ zs) (Some d) (take (length line - 2) (z ∷ zs)) = subst (λ t. FirstNumber (y ∷ z ∷ zs) (Some d) t) after (decimal_first (y ∷ z ∷ zs) 1 d has (omega arith) (omega arith)) in
     first_after line 1 (Some d) (take (length line - 2) (z ∷ zs)) (one_space x y (z ∷ zs) d first h) (subst (λ t. FirstNumber t (Some d) (take (length line - 2) (z ∷ zs))) (sym all) got)
-
-no_len : (xs : List ℕ) → length xs ≡ 0 → 0 ≡ position_or_len is_space xs
-no_len [] h = refl
-no_len (x ∷ xs) h = absurd (omega (arith, h))
-
--- a line of spaces has no token
-pub none_after : (line : List ℕ) (start : ℕ) → start ≡ position_or_len is_no_space line → length (take (length line - start) (drop start line)) ≡ 0 → tokens_of line ≡ []
-none_after line start from none = next_none line start 0 from (no_len (take (length line - start) (drop start line)) none) refl

@@ -2,10 +2,13 @@
 ghost use Rattle.std.specs.Prelude.{◌≡◌, ◌∷◌, [], Some, MatchOption, IfSome};
 ghost use Rattle.l4_text.specs.Numbers.{digit_of, hex_digit_of};
 ghost use Rattle.l4_text.specs.Tokens.{tokens_of, FirstNumber};
-ghost use Rattle.l4_text.specs.Inside.Reading.{HasDigits};
+ghost use Rattle.l4_text.specs.Inside.Reading.{HasDigits, HasToken, IsPacked};
 
 use crate::numbers::{digit, hex_digit, number};
-use crate::tokens::{next_token, spaces};
+use crate::tokens::next_token;
+
+/// What stands for a byte beside a number that is packed with a count of bytes.
+const PLACE: u64 = 0x1_0000_0000;
 
 /// The digits of a base up to a space or the end: their number and how many they are. None where another digit follows a
 /// number larger than this. What a digit is says a function that is named, so this is no function.
@@ -46,35 +49,34 @@ fn hexadecimal_digits(text: &[u8]) -> Option<(u32, usize)>
     leading!(text, 16, hex_digit, 0x0fff_ffff)
 }
 
-/// The number of a decimal token that a text begins with, and what follows the token.
-fn decimal_first(text: &[u8]) -> Option<(u32, &[u8])>
-    ensures { IfSome result (λ p. FirstNumber text.now (Some p.0) p.1.now) }
+/// The number of a decimal token that a text begins with, and how many bytes the token has.
+fn decimal_first(text: &[u8]) -> Option<(u32, usize)>
+    ensures { IfSome result (λ p. HasToken text.now p.0 p.1) }
 {
     let (value, count) = decimal_digits(text)?;
     if count == 0 || count > 10 {
         return None;
     }
-    Some((value, &text[count..]))
+    Some((value, count))
 }
 
-/// The number of a hexadecimal token that a text begins with, and what follows the token.
-fn hexadecimal_first(text: &[u8]) -> Option<(u32, &[u8])>
-    ensures { IfSome result (λ p. FirstNumber text.now (Some p.0) p.1.now) }
+/// The number of a hexadecimal token that a text begins with, and how many bytes the token has.
+fn hexadecimal_first(text: &[u8]) -> Option<(u32, usize)>
+    ensures { IfSome result (λ p. HasToken text.now p.0 p.1) }
 {
     if text.len() < 2 || text[0] != b'0' || text[1] != b'x' {
         return None;
     }
-    let digits = &text[2..];
-    let (value, count) = hexadecimal_digits(digits)?;
+    let (value, count) = hexadecimal_digits(&text[2..])?;
     if count == 0 || count > 8 {
         return None;
     }
-    Some((value, &digits[count..]))
+    Some((value, count + 2))
 }
 
-/// The number of a token that a text begins with, and what follows the token, where it is soon read.
-fn first_number(text: &[u8]) -> Option<(u32, &[u8])>
-    ensures { IfSome result (λ p. FirstNumber text.now (Some p.0) p.1.now) }
+/// The number of a token that a text begins with, and how many bytes the token has, where it is soon read.
+fn first_number(text: &[u8]) -> Option<(u32, usize)>
+    ensures { IfSome result (λ p. HasToken text.now p.0 p.1) }
 {
     if text.len() >= 2 && text[1] == b'x' {
         return hexadecimal_first(text);
@@ -106,12 +108,18 @@ fn one_digit(line: &[u8]) -> Option<(u32, &[u8])>
     Some((u32::from(value), &line[2..]))
 }
 
-/// `quick_number` of any other token.
-fn longer_number(line: &[u8]) -> Option<(u32, &[u8])>
-    ensures { IfSome result (λ p. FirstNumber line.now (Some p.0) p.1.now) }
+/// The number of a line's first token where one space stands before it and it is soon read: with 2^32 for each byte up to the token's end.
+/// Else 0. So a number comes back in one register.
+fn longer_number(line: &[u8]) -> u64
+    ensures { IsPacked line.now result }
 {
-    let (value, after) = first_number(&line[spaces(line)..])?;
-    Some((value, after))
+    if line.is_empty() || line[0] != b' ' {
+        return 0;
+    }
+    let Some((value, count)) = first_number(&line[1..]) else {
+        return 0;
+    };
+    (count as u64 + 1) * PLACE + u64::from(value)
 }
 
 /// The number of a line's first token and what follows the token, where it is soon read.
@@ -122,7 +130,11 @@ pub fn quick_number(line: &[u8]) -> Option<(u32, &[u8])>
     if let Some((value, after)) = one_digit(line) {
         return Some((value, after));
     }
-    longer_number(line)
+    let packed = longer_number(line);
+    if packed < PLACE {
+        return None;
+    }
+    Some(((packed % PLACE) as u32, &line[(packed / PLACE) as usize..]))
 }
 
 /// The number that the first token of a line spells, None where it spells none, and what follows the token. None where
@@ -130,14 +142,10 @@ pub fn quick_number(line: &[u8]) -> Option<(u32, &[u8])>
 pub fn next_number(line: &[u8]) -> Option<(Option<u32>, &[u8])>
     ensures { MatchOption result (tokens_of line.now ≡ []) (λ p. FirstNumber line.now p.0 p.1.now) }
 {
-    if let Some((value, after)) = one_digit(line) {
-        return Some((Some(value), after));
-    }
-    let text = &line[spaces(line)..];
-    if text.is_empty() {
+    if line.is_empty() {
         return None;
     }
-    match first_number(text) {
+    match quick_number(line) {
         None => any_number(line),
         Some((value, after)) => Some((Some(value), after)),
     }

@@ -1,9 +1,9 @@
 -- How a stream is read, piece by piece (this profile's own).
-use Rattle.std.specs.Prelude.{ℕ, ◌≡◌, ◌≢◌, ◌+◌, ◌-◌, ◌==◌, ◌^◌, get_or, ◌<◌, ◌≤◌, Bool, true, false, List, [], length, take, drop, Option, Some, Result, Ok, Err, not, if◌then◌else◌}
+use Rattle.std.specs.Prelude.{ℕ, ◌≡◌, ◌≢◌, ◌+◌, ◌-◌, ◌/◌, ◌%◌, ◌==◌, ◌^◌, get_or, ◌<◌, ◌≤◌, Bool, true, false, List, [], length, take, drop, Option, Some, Result, Ok, Err, not, if◌then◌else◌}
 use Rattle.std.specs.Io.KnownBytes.{Consumes, IsAtEnd}
 use Rattle.std.specs.List.{position_or_len}
 use Rattle.l4_text.specs.Numbers.{value_from}
-use Rattle.l4_text.specs.Tokens.{is_space}
+use Rattle.l4_text.specs.Tokens.{is_space, FirstNumber}
 use Rattle.l4_text.specs.Sizes.{line_bytes, most_reads}
 use Rattle.l4_text.specs.declared.faults.RunFault.{RunFault}
 use Rattle.l4_text.specs.declared.faults.RunFault.TheVariants.{Read}
@@ -45,3 +45,12 @@ is_no_space byte = not (byte == 32)
 abbrev pub HasDigits : ℕ → (ℕ → Option ℕ) → List ℕ → ℕ → ℕ → Type 0
 HasDigits base digit text count value =
     (count ≤ length text) × (value_from base digit 0 (take count text) ≡ Some value) × (position_or_len is_space (drop count text) ≡ 0) × (value < 2 ^ 32)
+
+-- a text begins with a token of so many bytes, which spells a number
+abbrev pub HasToken : List ℕ → ℕ → ℕ → Type 0
+HasToken text value count = (count ≤ length text) × (count ≤ 10) × (value < 2 ^ 32) × FirstNumber text (Some value) (take (length text - count) (drop count text))
+
+-- the number of a line's first token, with 2^32 for each byte up to the token's end
+abbrev pub IsPacked : List ℕ → ℕ → Type 0
+IsPacked line packed =
+    2 ^ 32 ≤ packed → (packed / 2 ^ 32 ≤ length line) × FirstNumber line (Some (packed % 2 ^ 32)) (take (length line - packed / 2 ^ 32) (drop (packed / 2 ^ 32) line))
