@@ -126,16 +126,20 @@ pub fn wait_into(call: &mut Call)
     }
 }
 
-/// Puts these words into message registers. Where as many stand there, as an answer before left them, none of those is cleared first.
-fn set_words(registers: &mut ArrayVec<u32, MAX_WORDS>, words: &[u32])
-    requires { length words.now ≤ max_words }
-    ensures { registers.new.items ≡ words.now }
+/// Puts three words into message registers. Where as many stand there, as an answer before left them, each is written over: none is cleared
+/// first, and none is read again as a part of a longer one that has yet to be stored.
+fn set_words(registers: &mut ArrayVec<u32, MAX_WORDS>, first: u32, second: u32, third: u32)
+    ensures { registers.new.items ≡ first ∷ second ∷ third ∷ [] }
 {
-    if registers.len() == words.len() {
-        return registers.as_mut_slice().copy_from_slice(words);
+    if registers.len() == 3 {
+        let words = registers.as_mut_slice();
+        words[0] = first;
+        words[1] = second;
+        words[2] = third;
+        return;
     }
     registers.clear();
-    let _ = registers.try_extend_from_slice(words);
+    let _ = registers.try_extend_from_slice(&[first, second, third]);
 }
 
 /// Makes an Ipc the one that sends an answer of one map item, and then waits for anybody's message.
@@ -147,7 +151,7 @@ fn set_answer(ipc: &mut IpcCall, sender: ThreadId, base: u32, fpage: Fpage)
     ipc.from = ThreadId::any();
     ipc.timeouts = AT_ONCE;
     ipc.acceptor = 0;
-    set_words(&mut ipc.words, &[ANSWER_TAG, base + MAP_KIND, fpage.word()]);
+    set_words(&mut ipc.words, ANSWER_TAG, base + MAP_KIND, fpage.word());
 }
 
 /// Makes a call the one that `answering` gives for an answer of one map item, which is told by its send base and fpage: written in
