@@ -14,7 +14,7 @@ use Rattle.l4_shell.specs.declared.partners.Partner.TheVariants.{Nil, Any, Threa
 use Rattle.l4_shell.specs.declared.commands.Command.{Command}
 use Rattle.l4_shell.specs.declared.commands.Command.TheVariants.{Receive, Send, Ipc, Fault}
 use Rattle.l4_shell.specs.declared.commands.ScriptFault.TheVariants.{BadTokens}
-use Rattle.l4_shell.specs.Inside.InTurn.{first_by, at_end, receive_in_turn, send_in_turn, ipc_in_turn, fault_in_turn}
+use Rattle.l4_shell.specs.Inside.InTurn.{first_by, at_end, last_rights_of, receive_in_turn, send_in_turn, ipc_in_turn, fault_in_turn}
 
 -- ---- a token that a number spells
 
@@ -250,10 +250,36 @@ in_order (Some x) (Some y) f = refl
 abbrev faults_with : ℕ → ℕ → ℕ → RightsSet → Command
 faults_with n address ip access = Fault n (record { address = address; ip = ip; access = access })
 
+-- the rights of the one token that is left
+pub rights_alone : (token : List ℕ) → rights_of token ≡ last_rights_of (token ∷ [])
+rights_alone token = elim (rights_of token) as (λ (o : Option RightsSet). o ≡ ((o >>= λ z. Some (z, [])) >>= λ (z : RightsSet × List (List ℕ)). at_end z.0 z.1)) [
+  | None ↦ refl
+  | Some z ↦ refl
+]
+
+end_then : {A D : Type 0} (d : A → D) (a : A) (ts : List (List ℕ)) → (at_end a ts >>= λ z. Some (d z)) ≡ at_end (d a) ts
+end_then d a [] = refl
+end_then d a (t ∷ ts) = refl
+
+-- what is made of the rights at a line's end
+rights_then : {D : Type 0} (d : RightsSet → D) (ts : List (List ℕ)) → (last_rights_of ts >>= λ z. Some (d z)) ≡ last_by rights_of d ts
+rights_then {D} d ts =
+    elim (first_by rights_of ts) as (λ (o : Option (RightsSet × List (List ℕ))). ((o >>= λ z. at_end z.0 z.1) >>= λ z. Some (d z)) ≡ (o >>= λ z. at_end (d z.0) z.1)) [
+      | None ↦ refl
+      | Some z ↦ end_then d z.0 z.1
+    ]
+
+abbrev fault_rest : ℕ → ℕ → List (List ℕ) → Option Command
+fault_rest n address ts = first_by number_of ts >>= λ z. last_rights_of z.1 >>= λ r. Some (faults_with n address z.0 r)
+
+fault_rest_is : (n address : ℕ) (ts : List (List ℕ)) → fault_rest n address ts ≡ rest_by number_of rights_of (faults_with n address) ts
+fault_rest_is n address ts = λ i. first_by number_of ts >>= λ z. rights_then (faults_with n address z.0) z.1 i
+
 pub fault_turns : (tokens : List (List ℕ)) → fault_in_turn tokens ≡ fault_asked tokens
 unfolding fault_in_turn
 fault_turns [] = refl
 fault_turns (a ∷ ts) =
-    one_first thread_of a ts (λ x. first_by number_of x.1 >>= λ y. rest_by number_of rights_of (faults_with x.0 y.0) y.1)
+    one_first thread_of a ts (λ x. first_by number_of x.1 >>= λ y. fault_rest x.0 y.0 y.1)
+    ∙ (λ i. thread_of a >>= λ n. first_by number_of ts >>= λ y. fault_rest_is n y.0 y.1 i)
     ∙ (λ i. thread_of a >>= λ n. three_in_turn number_of number_of rights_of (faults_with n) ts i)
     ∙ in_order (thread_of a) (three_of ts) (λ n t. number_of t.0 >>= λ y. number_of t.1.0 >>= λ z. rights_of t.1.1 >>= λ r. Some (faults_with n y z r))

@@ -9,7 +9,7 @@ use crate::partners::{
     NewSpace, Partner, any_or_thread, new_space, next_partner, next_thread, next_word,
     nil_or_thread, thread_number,
 };
-use crate::regions::{region, rights};
+use crate::regions::{last_rights, region, rights};
 use crate::tokens::{one, three, two};
 use arrayvec::ArrayVec;
 use l4_ipc::FaultCall;
@@ -355,17 +355,13 @@ fn fault_in_turn(line: &[u8]) -> Option<(u32, FaultCall)>
     let (number, rest) = next_thread(line)?;
     let (address, rest) = next_word(rest)?;
     let (ip, rest) = next_word(rest)?;
-    let (token, rest) = next_token(rest)?;
-    let access = rights(token)?;
+    let access = last_rights(rest)?;
     let call = FaultCall {
         address,
         ip,
         access,
     };
-    match next_token(rest) {
-        None => Some((number, call)),
-        Some(_) => None,
-    }
+    Some((number, call))
 }
 
 /// `N ADDRESS IP RIGHTS`

@@ -2,11 +2,12 @@
 ghost use Rattle.std.specs.Prelude.{◌≡◌};
 ghost use Rattle.l4_text.specs.Tokens.{tokens_of};
 ghost use Rattle.l4_shell.specs.Commands.{right_of, rights_of, region_of};
+ghost use Rattle.l4_shell.specs.Inside.InTurn.{last_rights_of};
 
 use crate::tokens::three;
 use l4_fpage::Rights;
 use l4_msg::Region;
-use l4_text::{next_token, number};
+use l4_text::{last_three, next_token, number};
 
 /// Whether a byte is a right's letter. None where it is neither that nor a dash.
 fn right(letter: u8, byte: u8) -> Option<bool>
@@ -37,6 +38,22 @@ pub(crate) fn rights(token: &[u8]) -> Option<Rights>
     let write = right(b'w', token[1])?;
     let execute = right(b'x', token[2])?;
     Some(rights_with(read, write, execute))
+}
+
+/// The rights that a line's one token names.
+#[inline(always)]
+pub(crate) fn last_rights(line: &[u8]) -> Option<Rights>
+    ensures { result ≡ last_rights_of (tokens_of line.now) }
+{
+    if let Some(token) = last_three(line) {
+        return rights(token);
+    }
+    let (token, rest) = next_token(line)?;
+    let access = rights(token)?;
+    match next_token(rest) {
+        None => Some(access),
+        Some(_) => None,
+    }
 }
 
 /// `SOURCE TARGET COUNT RIGHTS`

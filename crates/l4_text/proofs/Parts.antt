@@ -1,5 +1,5 @@
 -- The first token of a line.
-use Rattle.std.proofs.Common.{◌≡◌, ℕ, ◌+◌, ◌-◌, ◌==◌, ◌<◌, ◌≤◌, suc, Bool, true, false, not, cond, List, [], ◌∷◌, length, take, drop, filter, Some, None, unwrap_or, nat_lt, sym, ap, ◌∙◌, refl, arith}
+use Rattle.std.proofs.Common.{◌≡◌, ℕ, ◌+◌, ◌-◌, ◌==◌, ◌<◌, ◌≤◌, suc, Bool, true, false, not, cond, List, [], ◌∷◌, length, get_or, take, drop, filter, Some, None, unwrap_or, nat_lt, sym, ap, ◌∙◌, refl, arith}
 use Rattle.std.specs.List.{slice_split, onto_first, position, position_or_len}
 use Rattle.std.proofs.lemmas.List.Sums.{prefix_len-le-length}
 use Rattle.std.proofs.lemmas.Bool.Decides.{nat_tests}
@@ -110,3 +110,23 @@ next_some line start end from to some =
     tokens_skip line ∙ ap tokens_of (sym rest) ∙ tokens_cut r pos
     ∙ ap (λ k. take k r ∷ tokens_of (drop k r)) (sym to)
     ∙ ap (λ t. take end r ∷ tokens_of t) (sym (take_rest r end))
+
+split_more : (x : ℕ) (xs ys : List ℕ) → (x == 32) ≡ false → slice_split is_space xs ≡ ys ∷ [] → slice_split is_space (x ∷ xs) ≡ (x ∷ ys) ∷ []
+split_more x xs ys f h = ap (λ b. cond b ([] ∷ slice_split is_space xs) (onto_first x (slice_split is_space xs))) f ∙ ap (onto_first x) h
+
+four_bytes : (x y z w : ℕ) → x ≡ 32 → (y == 32) ≡ false → (z == 32) ≡ false → (w == 32) ≡ false → tokens_of (x ∷ y ∷ z ∷ w ∷ []) ≡ (y ∷ z ∷ w ∷ []) ∷ []
+unfolding tokens_of
+four_bytes x y z w is f g h =
+    let parts = slice_split is_space (y ∷ z ∷ w ∷ []) in
+    ap (λ k. filter has_bytes (cond (k == 32) ([] ∷ parts) (onto_first k parts))) is
+    ∙ ap (λ s. filter has_bytes ([] ∷ s)) (split_more y (z ∷ w ∷ []) (z ∷ w ∷ []) f (split_more z (w ∷ []) (w ∷ []) g (split_more w [] [] h refl)))
+
+-- a token of three bytes after a space
+pub three_after : (line : List ℕ) (a b d e : ℕ) → length line ≡ 4 → get_or line 0 a ≡ 32 → (get_or line 1 b == 32) ≡ false → (get_or line 2 d == 32) ≡ false → (get_or line 3 e == 32) ≡ false
+    → tokens_of line ≡ take (length line - 1) (drop 1 line) ∷ []
+three_after [] a b d e four is f g h = absurd (omega (arith, four))
+three_after (x ∷ []) a b d e four is f g h = absurd (omega (arith, four))
+three_after (x ∷ y ∷ []) a b d e four is f g h = absurd (omega (arith, four))
+three_after (x ∷ y ∷ z ∷ []) a b d e four is f g h = absurd (omega (arith, four))
+three_after (x ∷ y ∷ z ∷ w ∷ []) a b d e four is f g h = four_bytes x y z w is f g h ∙ ap (λ t. t ∷ []) (sym (take_rest (x ∷ y ∷ z ∷ w ∷ []) 1))
+three_after (x ∷ y ∷ z ∷ w ∷ v ∷ rest) a b d e four is f g h = absurd (omega (arith, four))

@@ -1,4 +1,4 @@
-ghost use Rattle.std.specs.Prelude.{◌≡◌, ◌∷◌, [], ◌≤◌, length, MatchOption};
+ghost use Rattle.std.specs.Prelude.{◌≡◌, ◌∷◌, [], ◌≤◌, length, MatchOption, IfSome};
 ghost use Rattle.std.specs.List.{position, position_or_len};
 ghost use Rattle.l4_text.specs.Tokens.{tokens_of, is_space};
 ghost use Rattle.l4_text.specs.Inside.Reading.{is_no_space};
@@ -45,4 +45,18 @@ pub fn next_token(line: &[u8]) -> Option<(&[u8], &[u8])>
         return None;
     }
     Some((&rest[..end], &rest[end..]))
+}
+
+/// The token of three bytes that a line is after its first space, where it is that and no more.
+#[inline(always)]
+pub fn last_three(line: &[u8]) -> Option<&[u8]>
+    ensures { IfSome result (λ token. tokens_of line.now ≡ token.now ∷ []) }
+{
+    if line.len() != 4 || line[0] != b' ' {
+        return None;
+    }
+    if line[1] == b' ' || line[2] == b' ' || line[3] == b' ' {
+        return None;
+    }
+    Some(&line[1..])
 }

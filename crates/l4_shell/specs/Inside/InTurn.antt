@@ -1,5 +1,6 @@
 -- Tokens that are read one after another (this profile's own).
 use Rattle.std.specs.Prelude.{ℕ, List, [], ◌∷◌, Option, Some, None}
+use Rattle.l4_fpage.specs.Rights.{RightsSet}
 use Rattle.l4_text.specs.Numbers.{number_of}
 use Rattle.l4_shell.specs.Commands.{◌>>=◌, thread_of, partner_of, rights_of, words_of}
 use Rattle.l4_shell.specs.declared.commands.Command.{Command}
@@ -42,11 +43,15 @@ ipc_in_turn tokens = do
   words ← words_of window.1
   Some (Ipc number.0 to.0 from.0 timeouts.0 window.0 words)
 
+-- the rights that one token and no more names
+abbrev pub last_rights_of : List (List ℕ) → Option RightsSet
+last_rights_of tokens = first_by rights_of tokens >>= λ access. at_end access.0 access.1
+
 -- N ADDRESS IP RIGHTS
 unfoldable pub fault_in_turn : List (List ℕ) → Option Command
 fault_in_turn tokens = do
   number ← first_by thread_of tokens
   address ← first_by number_of number.1
   ip ← first_by number_of address.1
-  access ← first_by rights_of ip.1
-  at_end (Fault number.0 (record { address = address.0; ip = ip.0; access = access.0 })) access.1
+  access ← last_rights_of ip.1
+  Some (Fault number.0 (record { address = address.0; ip = ip.0; access = access }))
