@@ -289,19 +289,19 @@ fn push_one(
     Ok(())
 }
 
-/// An item is a number, an answer and a step. A start that ended its call has the outcome 0 and the one thread that ended, then the
-/// step's variant 0, the thread and the call.
+/// The start of a call by a seat's own thread is the thread's number, 1 where the call ended alone or else 0, and the call.
 #[test]
 fn starts_are_pushed(rt: HostRuntime) -> Result<(), Fail> {
     let mut list = PackedList::new(rt.alloc());
     push_start(&mut list, 3, true)?;
     push_start(&mut list, 0x1_0003, false)?;
-    assert!(rt; are_words(list.words(0), &[3, 6, 3, 0, 3, 0xffff_ffff, 9]));
-    assert!(rt; are_words(list.words(1), &[0x1_0003, 0, 0, 0x1_0003, 0xffff_ffff, 9]));
+    assert!(rt; are_words(list.words(0), &[3, 1, 0xffff_ffff, 9]));
+    assert!(rt; are_words(list.words(1), &[0x1_0003, 0, 0xffff_ffff, 9]));
     Ok(())
 }
 
-/// The first word of an answer is the outcome's number, and 6 for each thread whose call ended.
+/// A step that came next is a number and a form: 3 for an Expire; for a transfer 4 and the outcome's number, and 6 where the sender's call
+/// ended too. Its threads come after the form.
 #[test]
 fn steps_that_came_next_are_pushed(rt: HostRuntime) -> Result<(), Fail> {
     let mut list = PackedList::new(rt.alloc());
@@ -316,8 +316,8 @@ fn steps_that_came_next_are_pushed(rt: HostRuntime) -> Result<(), Fail> {
         NextStep::Transfer(4, 3, Outcome::NoMemory, false),
     )?;
     push_one(&mut list, 2, NextStep::Expire(7))?;
-    assert!(rt; are_words(list.words(0), &[2, 13, 2, 300, 1, 2, 300]));
-    assert!(rt; are_words(list.words(1), &[2, 10, 3, 1, 4, 3]));
-    assert!(rt; are_words(list.words(2), &[2, 11, 7, 2, 7]));
+    assert!(rt; are_words(list.words(0), &[2, 11, 2, 300]));
+    assert!(rt; are_words(list.words(1), &[2, 8, 4, 3]));
+    assert!(rt; are_words(list.words(2), &[2, 3, 7]));
     Ok(())
 }
