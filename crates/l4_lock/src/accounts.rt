@@ -9,6 +9,7 @@ ghost use Rattle.l4_lock.specs.Inside.Pending.{AreOf};
 ghost use Rattle.l4_lock.specs.Inside.Entering.{HasBegun};
 ghost use Rattle.l4_ipc.specs.declared.calls.Call.{Call as ACall};
 
+use crate::history::History;
 use crate::seats::{Account, Seat, settle};
 use l4_ipc::{Call, Kernel, Reply};
 use l4_packed::Words;
@@ -148,13 +149,24 @@ impl Accounts {
         self.items[at].cancel();
     }
 
-    /// Notes that the call of this place, if one goes on, ended in the entry of that place.
-    pub fn end(&mut self, at: usize, kernel: &Kernel, place: usize)
+    /// Where the last call of this number started.
+    pub fn last_start(&self, number: u32) -> usize
+        requires { IsOnce (numbers self.now.items) }
+    {
+        match self.position(number) {
+            Some(at) => self.items[at].last_start(),
+            None => 0,
+        }
+    }
+
+    /// Notes that the call of this place, if one goes on, ended in the entry of that place. The source is the entry that started the call whose
+    /// message is in its reply; nothing rests on it.
+    pub fn end(&mut self, at: usize, kernel: &Kernel, place: usize, source: usize)
         requires { at < length self.old.items }
         ensures { (b : Book) → slice_get self.old.items at ≡ Some b
             → self.new.items ≡ slice_set self.old.items at (noted kernel.now (b.number ∷ []) place b) }
     {
-        if self.items[at].end(kernel, place) {
+        if self.items[at].end(kernel, place, source) {
             self.replies += 1;
             self.before = self.last;
             self.last = at;
@@ -163,13 +175,20 @@ impl Accounts {
 
     /// Takes the call of this place, if it has ended: the account and the seat gain its receipt. The seat's has the call that the seat knows of.
     #[inline(always)]
-    pub fn settle(&mut self, at: usize, seat: &mut Seat, own: Option<&Call>) -> bool
+    pub fn settle(
+        &mut self,
+        at: usize,
+        seat: &mut Seat,
+        own: Option<&Call>,
+        history: &mut History,
+    ) -> bool
         requires waiting { seat.old.waiting ≢ 0 }
         requires at { at < length self.old.items }
         ensures settles { result ≡ true → (reply : AReply) × SettlesAt self.old.items self.new.items at seat.old seat.new (own_call (option_copied own.entry)) reply }
         ensures same { result ≡ false → IsUnsettled self.old.items self.new.items at seat.old seat.new }
+        ensures history { history.new ≡ history.old }
     {
-        if !settle(&mut self.items[at], seat, own) {
+        if !settle(&mut self.items[at], seat, own, history) {
             return false;
         }
         self.replies -= 1;
@@ -177,16 +196,23 @@ impl Accounts {
     }
 
     /// The same, with the reply.
-    pub fn finish(&mut self, at: usize, seat: &mut Seat, own: Option<&Call>) -> Option<Reply>
+    pub fn finish(
+        &mut self,
+        at: usize,
+        seat: &mut Seat,
+        own: Option<&Call>,
+        history: &mut History,
+    ) -> Option<Reply>
         requires waiting { seat.old.waiting ≢ 0 }
         requires at { at < length self.old.items }
         ensures some { IfSome result (λ reply. SettlesAt self.old.items self.new.items at seat.old seat.new (own_call (option_copied own.entry)) reply) }
         ensures none { IfNone result (IsUnsettled self.old.items self.new.items at seat.old seat.new) }
+        ensures history { history.new ≡ history.old }
     {
         let Some(reply) = self.items[at].reply() else {
             return None;
         };
-        self.settle(at, seat, own);
+        self.settle(at, seat, own, history);
         Some(reply)
     }
 }

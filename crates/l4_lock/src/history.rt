@@ -11,7 +11,7 @@ ghost use Rattle.l4_ipc.specs.NextSteps.{step_of, answer_of};
 use crate::entries::{Entry, EntryOutline};
 use crate::packed::{read_entry_outline, write_start};
 use l4_ipc::{Answer, Call, NextStep};
-use l4_packed::{ItemsFrom, PackedList, Record, Words, push_next, push_own_start};
+use l4_packed::{FromWords, ItemsFrom, PackedList, Record, Words, push_next, push_own_start};
 use std::alloc::{AllocError, Global};
 use std::marker::Model;
 
@@ -71,8 +71,21 @@ impl History {
     {
         match self.entries.words(at) {
             Some(words) => read_entry_outline(words, entry),
-            None => None,
+            None => self.outline_put_together(at, entry),
         }
+    }
+
+    /// The same, where the words of the entry are put together first.
+    #[cold]
+    #[inline(never)]
+    fn outline_put_together(&self, at: usize, entry: &mut EntryOutline) -> Option<()>
+        ensures { Gives (λ _. entry.new) result (option_map entry_outline (slice_get self.now.entries at)) }
+    {
+        let mut words = Record::new();
+        if !self.entries.read(at, &mut words) {
+            return None;
+        }
+        read_entry_outline(words.words(), entry)
     }
 
     /// The entries from this place on.
@@ -89,6 +102,20 @@ impl History {
         ensures ok { OnOk result (length self.new.entries + more ≤ self.new.room) }
     {
         self.entries.reserve(more)
+    }
+
+    /// Lets memory of both lists that holds the same have two owners, and store by entries of the history what hints say. No item changes.
+    #[inline(always)]
+    pub(crate) fn let_share<T: FromWords>(
+        &mut self,
+        own: &mut PackedList<T>,
+        other: &mut PackedList<T>,
+    )
+        ensures history { self.new ≡ self.old }
+        ensures own { own.new ≡ own.old }
+        ensures other { other.new ≡ other.old }
+    {
+        own.share(other, &mut self.entries);
     }
 
     /// Appends the entry of a step that came next, for which there is room.

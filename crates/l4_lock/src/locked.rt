@@ -165,7 +165,7 @@ impl Locked {
             Ok((at, _)) => at,
             Err(refusal) => return Err(refusal),
         };
-        if let Some(reply) = self.accounts.finish(at, seat, None) {
+        if let Some(reply) = self.accounts.finish(at, seat, None, &mut self.history) {
             return Ok(Entered::Done(reply));
         }
         Ok(Entered::Waiting)
@@ -181,7 +181,7 @@ impl Locked {
             Ok((at, followed)) => (at, followed),
             Err(refusal) => return Err(refusal),
         };
-        self.accounts.settle(at, seat, None);
+        self.accounts.settle(at, seat, None, &mut self.history);
         Ok(followed)
     }
 
@@ -238,7 +238,7 @@ impl Locked {
         let Some(at) = self.accounts.position(seat.number()) else {
             return None;
         };
-        self.accounts.finish(at, seat, None)
+        self.accounts.finish(at, seat, None, &mut self.history)
     }
 
     /// The same, and hands no reply out: whether there was one.
@@ -253,7 +253,7 @@ impl Locked {
         let Some(at) = self.accounts.position(seat.number()) else {
             return false;
         };
-        self.accounts.settle(at, seat, None)
+        self.accounts.settle(at, seat, None, &mut self.history)
     }
 
     /// The number of a seat whose ended call has not been taken. None where there is none.
@@ -274,7 +274,8 @@ impl Locked {
         let Some(at) = self.accounts.position(seat.number()) else {
             return None;
         };
-        self.accounts.finish(at, seat, Some(call))
+        self.accounts
+            .finish(at, seat, Some(call), &mut self.history)
     }
 
     /// Hands out the history and the kernel, with what holds of the whole history, where just the seats that were given come back and agree with what was kept of them.

@@ -30,6 +30,7 @@ enum Phase {
 pub(crate) struct PendingCall {
     phase: Phase,
     start: usize,
+    source: usize,
     packed: Record,
 }
 
@@ -53,6 +54,7 @@ impl PendingCall {
         PendingCall {
             phase: Phase::Idle,
             start: 0,
+            source: 0,
             packed: Record::new(),
         }
     }
@@ -119,17 +121,28 @@ impl PendingCall {
         self.phase = Phase::Ended;
     }
 
-    /// Notes that the number's call, if one goes on, ended in the entry of this place.
-    pub fn end(&mut self, kernel: &Kernel, place: usize, number: u32)
+    /// Notes that the number's call, if one goes on, ended in the entry of this place. The source is that of the words of its reply.
+    pub fn end(&mut self, kernel: &Kernel, place: usize, number: u32, source: usize)
         ensures { self.new ≡ option_map (noted_call kernel.now (number ∷ []) place number) self.old }
     {
         if !self.goes_on() {
             return;
         }
+        self.source = source;
         match kernel.reply(number) {
             Some(reply) => self.end_with(place, reply),
             None => self.end_with(place, &Reply::Gone),
         }
+    }
+
+    /// The place of the entry that started the call.
+    pub fn start(&self) -> usize {
+        self.start
+    }
+
+    /// The place of the entry that started the call whose message is in the reply, where there is one.
+    pub fn source(&self) -> usize {
+        self.source
     }
 
     /// The words of a call that has not ended.

@@ -5,6 +5,7 @@ ghost use Rattle.l4_lock.specs.Lists.{ReceiptList, receipt_list};
 ghost use Rattle.l4_lock.specs.declared.entries.Receipt.{Receipt as AReceipt};
 
 use crate::entries::Receipt;
+use crate::history::History;
 use crate::packed::write_receipt;
 use l4_ipc::{Call, Reply};
 use l4_packed::{ItemsFrom, PackedList, Record, Words};
@@ -98,13 +99,22 @@ impl Receipts {
         self.receipts.push(words);
     }
 
-    /// Lets memory of both that holds the same receipts have two owners. No receipt changes.
+    /// Notes which entries of the history may have words of the last receipt: the one that started its call, and the one that started the
+    /// call whose message is in its reply. Nothing rests on it, and no receipt changes.
+    pub(crate) fn hint(&mut self, start: usize, source: usize)
+        ensures { self.new ≡ self.old }
+    {
+        self.receipts.hint(start, source);
+    }
+
+    /// Lets memory of both that holds the same receipts have two owners, and store by entries of the history what hints say. No receipt changes.
     #[inline(always)]
-    pub(crate) fn share(&mut self, other: &mut Receipts)
+    pub(crate) fn share(&mut self, other: &mut Receipts, history: &mut History)
         ensures own { self.new ≡ self.old }
         ensures other { other.new ≡ other.old }
+        ensures history { history.new ≡ history.old }
     {
-        self.receipts.share(&mut other.receipts);
+        history.let_share(&mut self.receipts, &mut other.receipts);
     }
 
     /// Whether these are the same receipts.

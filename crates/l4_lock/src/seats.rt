@@ -10,12 +10,16 @@ ghost use Rattle.l4_lock.specs.declared.entries.Pending.{Pending as APending};
 ghost use Rattle.l4_lock.specs.declared.entries.Receipt.{Receipt as AReceipt};
 
 use crate::entries::Receipt;
+use crate::history::History;
 use crate::pending::PendingCall;
 use crate::receipts::Receipts;
 use l4_ipc::{Call, Kernel, Reply};
 use l4_packed::{FromWords, Words};
 use std::alloc::{AllocError, Global};
 use std::marker::Model;
+
+/// A receipt of so many bytes or more may be stored by entries of the history.
+const LONG: usize = 64;
 
 /// The right to enter calls of one thread. It keeps a receipt of each call that has ended.
 #[derive(Drop)]
@@ -122,11 +126,12 @@ impl Seat {
 
     /// Lets memory in which the account has the same receipts have two owners.
     #[inline(always)]
-    fn share(&mut self, receipts: &mut Receipts)
+    fn share(&mut self, receipts: &mut Receipts, history: &mut History)
         ensures own { self.new ≡ self.old }
         ensures account { receipts.new ≡ receipts.old }
+        ensures history { history.new ≡ history.old }
     {
-        receipts.share(&mut self.receipts);
+        receipts.share(&mut self.receipts, history);
     }
 }
 
@@ -220,7 +225,7 @@ impl Account {
     }
 
     /// Notes that its call, if one goes on, ended in the entry of this place. Answers whether there is a reply since then.
-    pub fn end(&mut self, kernel: &Kernel, place: usize) -> bool
+    pub fn end(&mut self, kernel: &Kernel, place: usize, source: usize) -> bool
         ensures noted { self.new ≡ noted kernel.now (self.old.number ∷ []) place self.old }
         ensures more { result ≡ true → (has_reply self.old ≡ false) × (has_reply self.new ≡ true) }
         ensures same { result ≡ false → has_reply self.new ≡ has_reply self.old }
@@ -228,8 +233,13 @@ impl Account {
         if self.pending.has_ended() {
             return false;
         }
-        self.pending.end(kernel, place, self.number);
+        self.pending.end(kernel, place, self.number, source);
         self.pending.has_ended()
+    }
+
+    /// The place of the entry that started its last call.
+    pub fn last_start(&self) -> usize {
+        self.pending.start()
     }
 
     /// The words of its call, which goes on.
@@ -263,12 +273,13 @@ fn hand_over(seat: &mut Seat, words: Words<'_>, own: Option<&Call>)
 }
 
 /// Takes the account's call, which has ended: the account and the seat gain its receipt. The seat's has the call that the seat knows of.
-/// Full pieces of receipts that are the same in both then have two owners.
+/// Full pieces of receipts that are the same in both then have two owners, and what is long in them is stored by entries of the history.
 #[inline(never)]
-fn settle_ended(account: &mut Account, seat: &mut Seat, own: Option<&Call>)
+fn settle_ended(account: &mut Account, seat: &mut Seat, own: Option<&Call>, history: &mut History)
     requires waiting { seat.old.waiting ≢ 0 }
     requires ended { option_map_or has_ended account.old.pending false ≡ true }
-    ensures { (reply : _) × Settles account.old account.new seat.old seat.new (own_call (option_copied own.entry)) reply }
+    ensures settles { (reply : _) × Settles account.old account.new seat.old seat.new (own_call (option_copied own.entry)) reply }
+    ensures history { history.new ≡ history.old }
 {
     let Account {
         number: _,
@@ -277,21 +288,30 @@ fn settle_ended(account: &mut Account, seat: &mut Seat, own: Option<&Call>)
     } = account;
     let words = pending.receipt();
     receipts.push_words(&words);
+    if words.size() >= LONG {
+        receipts.hint(pending.start(), pending.source());
+    }
     hand_over(seat, words, own);
-    seat.share(receipts);
+    seat.share(receipts, history);
     pending.forget();
 }
 
 /// Takes the account's call, if it has ended, as `settle_ended` does. That is apart, so that nothing more is done for a call that goes on.
 #[inline(always)]
-pub(crate) fn settle(account: &mut Account, seat: &mut Seat, own: Option<&Call>) -> bool
+pub(crate) fn settle(
+    account: &mut Account,
+    seat: &mut Seat,
+    own: Option<&Call>,
+    history: &mut History,
+) -> bool
     requires { seat.old.waiting ≢ 0 }
+    ensures history { history.new ≡ history.old }
     ensures settles { result ≡ true → (reply : _) × Settles account.old account.new seat.old seat.new (own_call (option_copied own.entry)) reply }
     ensures same { result ≡ false → (account.new ≡ account.old) × (seat.new ≡ seat.old) × (option_map_or has_ended account.old.pending false ≡ false) }
 {
     if !account.has_reply() {
         return false;
     }
-    settle_ended(account, seat, own);
+    settle_ended(account, seat, own, history);
     true
 }

@@ -19,24 +19,24 @@ use crate::history::History;
 use crate::refusals::LockRefusal;
 use l4_ipc::{Call, Control, Kernel, NextStep, Refused};
 
-/// Notes at the account of this number that its call ended in the entry of this place.
-fn note_one(accounts: &mut Accounts, kernel: &Kernel, number: u32, place: usize)
+/// Notes at the account of this number that its call ended in the entry of this place, by a message of the call that started in the source.
+fn note_one(accounts: &mut Accounts, kernel: &Kernel, number: u32, place: usize, source: usize)
     requires { IsOnce (numbers accounts.old.items) }
     ensures { accounts.new.items ≡ map (noted kernel.now (number ∷ []) place) accounts.old.items }
 {
     if let Some(at) = accounts.position(number) {
-        accounts.end(at, kernel, place);
+        accounts.end(at, kernel, place, source);
     }
 }
 
 /// Notes at each account that these calls ended in the entry of this place.
 #[inline(always)]
-fn note_all(accounts: &mut Accounts, kernel: &Kernel, ended: &[u32], place: usize)
+fn note_all(accounts: &mut Accounts, kernel: &Kernel, ended: &[u32], place: usize, source: usize)
     requires { IsOnce (numbers accounts.old.items) }
     ensures { accounts.new.items ≡ map (noted kernel.now ended.now place) accounts.old.items }
 {
     for i in 0..ended.len() {
-        note_one(accounts, kernel, ended[i], place);
+        note_one(accounts, kernel, ended[i], place, source);
     }
 }
 
@@ -46,7 +46,7 @@ fn note_own(accounts: &mut Accounts, kernel: &Kernel, number: u32, ended: bool, 
     ensures { accounts.new.items ≡ map (noted kernel.now (ended_if ended number) place) accounts.old.items }
 {
     if ended {
-        note_all(accounts, kernel, &[number], place);
+        note_all(accounts, kernel, &[number], place, place);
     }
 }
 
@@ -57,10 +57,14 @@ fn note_next(accounts: &mut Accounts, kernel: &Kernel, next: NextStep, place: us
 {
     match next {
         NextStep::Transfer(sender, receiver, _, true) => {
-            note_all(accounts, kernel, &[sender, receiver], place)
+            let source = accounts.last_start(sender);
+            note_all(accounts, kernel, &[sender, receiver], place, source)
         }
-        NextStep::Transfer(_, receiver, _, false) => note_all(accounts, kernel, &[receiver], place),
-        NextStep::Expire(number) => note_all(accounts, kernel, &[number], place),
+        NextStep::Transfer(sender, receiver, _, false) => {
+            let source = accounts.last_start(sender);
+            note_all(accounts, kernel, &[receiver], place, source)
+        }
+        NextStep::Expire(number) => note_all(accounts, kernel, &[number], place, place),
     }
 }
 
@@ -138,7 +142,8 @@ fn start_told(
     ensures same { OnErr result ((history.new.entries ≡ history.old.entries) × (accounts.new.items ≡ accounts.old.items)) }
 {
     let answer = kernel.start(number, call)?;
-    note_all(accounts, kernel, answer.ended.as_slice(), history.len());
+    let place = history.len();
+    note_all(accounts, kernel, answer.ended.as_slice(), place, place);
     history.push_start(number, call, &answer);
     Ok(())
 }

@@ -9,3 +9,4 @@ pub mod Listed
 pub mod Outlining
 pub mod Marks
 pub mod ReadRecords
+pub mod Forms

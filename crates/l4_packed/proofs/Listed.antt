@@ -5,7 +5,7 @@ use Rattle.std.proofs.lemmas.List.{take_more, drop_more, length-drop}
 use Rattle.std.proofs.lemmas.Option.{none-some, some_pair_parts}
 use Rattle.l4_packed.specs.Words.{word_at, list_at}
 
-word_of : (rest : List ℕ) (word : ℕ) (after : List ℕ) → word_at rest ≡ Some (word, after) → rest ≡ word ∷ after
+pub word_of : (rest : List ℕ) (word : ℕ) (after : List ℕ) → word_at rest ≡ Some (word, after) → rest ≡ word ∷ after
 word_of [] word after read = absurd (none-some _ read)
 word_of (w ∷ ws) word after read =
     let both = some_pair_parts w word ws after read in

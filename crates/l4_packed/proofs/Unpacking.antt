@@ -211,3 +211,24 @@ unfolding record_code
 records_have_bytes [] = omega arith
 records_have_bytes (r ∷ rs) =
     omega (arith, length-append (record_code r) (records_code rs), length-append (number_code (length (numbers_code r))) (numbers_code r), (few_bytes (length (numbers_code r))).0, records_have_bytes rs)
+
+-- words whose bytes begin with those of others begin with these, and the rest are words
+behind : (head words rest : List ℕ) → numbers_code words ≡ numbers_code head ++ rest → (words ≡ head ++ words_in rest) × (rest ≡ numbers_code (words_in rest))
+behind [] words rest same =
+    let all : words ≡ words_in rest = sym (words_again words) ∙ ap words_in same in
+    (all, sym same ∙ ap numbers_code all)
+behind (h ∷ head) [] rest same =
+    absurd (omega (arith, ap length same, length-append (number_code h ++ numbers_code head) rest, length-append (number_code h) (numbers_code head), (few_bytes h).0))
+behind (h ∷ head) (w ∷ words) rest same =
+    let read : Some (w, numbers_code words) ≡ Some (h, numbers_code head ++ rest) =
+    sym (number_again w (numbers_code words))
+    ∙ ap number_at (same ∙ append_assoc (number_code h) (numbers_code head) rest)
+    ∙ number_again h (numbers_code head ++ rest) in
+    let both = some_pair_parts w h (numbers_code words) (numbers_code head ++ rest) read in
+    let on = behind head words rest both.1 in
+    (ap (λ (n : ℕ). n ∷ words) both.0 ∙ ap (λ (l : List ℕ). h ∷ l) on.0, on.1)
+
+pub words_behind : (head bytes first rest : List ℕ) → AreWords bytes → bytes ≡ first ++ rest → first ≡ numbers_code head → (words_in bytes ≡ head ++ words_in rest) × AreWords rest
+words_behind head bytes first rest are parts is =
+    let on = behind head (words_in bytes) rest (sym are.whole ∙ parts ∙ ap (λ (t : List ℕ). t ++ rest) is) in
+    (on.0, record { whole = on.1; few = omega (arith, ap length on.0, length-append head (words_in rest), are.few) })

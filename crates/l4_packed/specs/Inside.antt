@@ -2,3 +2,4 @@ pub mod Bytes
 pub mod Pieces
 pub mod ReadRecords
 pub mod FullPieces
+pub mod Quoting

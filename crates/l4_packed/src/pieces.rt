@@ -1,11 +1,12 @@
 //! Pieces of memory that hold records. A piece is allocated once, and never moves.
-ghost use Rattle.std.specs.Prelude.{◌≡◌, ◌+◌, ◌≤◌, ◌++◌, ◌∷◌, [], length, slice_get, vec_len, vec_capacity, true};
+ghost use Rattle.std.specs.Prelude.{◌≡◌, ◌+◌, ◌≤◌, ◌++◌, ◌∷◌, [], length, slice_get, vec_len, vec_capacity, Some, None, true, false, IfSome};
 ghost use Rattle.std.specs.List.{list_all};
 ghost use Rattle.l4_packed.specs.Inside.Bytes.{is_small, record_code, records_in};
 ghost use Rattle.l4_packed.specs.Inside.Pieces.{IsPacked, PieceState, mark_before, piece_state};
 
 use crate::packing::{first_frame, put_parts, put_record};
-use crate::words::{RECORD_WORDS, Words};
+use crate::words::{RECORD_WORDS, Record, Words};
+use std::alloc::Global;
 use std::marker::Model;
 
 /// One of the records that the bytes hold.
@@ -51,6 +52,9 @@ fn mark_before(marks: &[u16], at: usize) -> (usize, usize)
     }
     (MARK_EACH * number, offset)
 }
+
+/// The bytes of a piece that takes records.
+pub(crate) const PIECE_BYTES: usize = 4096;
 
 /// A piece: how many records stand before it, how many it holds, their bytes, and how many bytes stand before some of them.
 #[derive(Drop)]
@@ -101,11 +105,41 @@ impl Piece {
         self.count
     }
 
+    /// How many records stand before it and in it.
+    pub fn end(&self) -> usize {
+        self.first.wrapping_add(self.count)
+    }
+
     /// How many bytes are free.
     pub fn free(&self) -> usize
         ensures { result ≡ self.now.free }
     {
         self.bytes.capacity() - self.bytes.len()
+    }
+
+    /// How many bytes its records take.
+    pub fn bytes(&self) -> usize {
+        self.bytes.len()
+    }
+
+    /// The same records in as much memory as they take, if there is that.
+    pub fn fitted(self, alloc: Global) -> Option<Piece>
+        ensures first { IfSome result (λ p. p.first ≡ self.first) }
+        ensures records { IfSome result (λ p. p.records ≡ self.records) }
+    {
+        let mut bytes = match Vec::with_capacity(alloc, self.bytes.len()) {
+            Ok(bytes) => bytes,
+            Err(_) => return None,
+        };
+        if bytes.extend_from_slice(self.bytes.as_slice()).is_err() {
+            return None;
+        }
+        Some(Piece {
+            first: self.first,
+            count: self.count,
+            bytes,
+            marks: self.marks,
+        })
     }
 
     /// Appends a record, for whose bytes there is room.
@@ -155,6 +189,18 @@ impl Piece {
         }
         let (from, offset) = mark_before(&self.marks, at);
         read_record(&self.bytes[offset..], self.count - from, at - from)
+    }
+
+    /// Reads the record at this place in the place of another. False beyond the records.
+    pub fn read(&self, at: usize, out: &mut Record) -> bool
+        ensures some { result ≡ true → slice_get self.now.records at ≡ Some out.new.items }
+        ensures none { result ≡ false → slice_get self.now.records at ≡ None }
+    {
+        let Some(words) = self.get(at) else {
+            return false;
+        };
+        words.copy_to(out);
+        true
     }
 
     /// Whether this is the same as another.

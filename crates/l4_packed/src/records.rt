@@ -1,5 +1,5 @@
 //! Records, stored one after another.
-ghost use Rattle.std.specs.Prelude.{◌≡◌, ◌+◌, ◌≤◌, ◌<◌, ◌++◌, ◌∷◌, ◌^◌, [], ℕ, nat_eq, length, slice_get, take, vec_len, vec_capacity, OnOk};
+ghost use Rattle.std.specs.Prelude.{◌≡◌, ◌+◌, ◌≤◌, ◌<◌, ◌++◌, ◌∷◌, ◌^◌, [], ℕ, nat_eq, length, slice_get, take, vec_len, vec_capacity, OnOk, Some, None, IfSome, true, false};
 ghost use Rattle.std.specs.List.{All};
 ghost use Rattle.l4_packed.specs.Inside.Pieces.{AreNumbered, IsBlank, IsStore, records_of};
 ghost use Rattle.l4_packed.specs.Records.{RecordList, record_list};
@@ -7,14 +7,12 @@ ghost use Rattle.l4_packed.specs.Records.{RecordList, record_list};
 use crate::full_pieces::{FullPiece, share_at};
 use crate::numbers::are_small;
 use crate::packing::{RECORD_BYTES, parts_len, record_len};
-use crate::pieces::Piece;
+use crate::pieces::{PIECE_BYTES, Piece};
+use crate::short_forms::{Hint, are_quotable};
 use crate::words::{RECORD_WORDS, Record, Words};
 use std::alloc::{AllocError, Global};
 use std::marker::Model;
 use std::mem;
-
-/// The bytes of a piece.
-const PIECE_BYTES: usize = 4096;
 
 /// How many records of the greatest length a piece holds.
 const PIECE_RECORDS: usize = PIECE_BYTES / RECORD_BYTES;
@@ -52,14 +50,25 @@ fn position(pieces: &[FullPiece], place: usize) -> usize
     low
 }
 
-/// The record of this place among those of the pieces.
+/// The record of this place among those of the pieces, if it can be lent.
 fn find(pieces: &[FullPiece], place: usize) -> Option<Words<'_>>
     requires numbered { AreNumbered pieces.now }
     requires below { place < length (records_of pieces.now) }
-    ensures { result ≡ slice_get (records_of pieces.now) place }
+    ensures { IfSome result (λ words. slice_get (records_of pieces.now) place ≡ Some words) }
 {
     let piece = &pieces[position(pieces, place)];
     piece.get(place - piece.first())
+}
+
+/// Reads the record of this place among those of the pieces in the place of another.
+fn read_found(pieces: &[FullPiece], place: usize, out: &mut Record) -> bool
+    requires numbered { AreNumbered pieces.now }
+    requires below { place < length (records_of pieces.now) }
+    ensures some { result ≡ true → slice_get (records_of pieces.now) place ≡ Some out.new.items }
+    ensures none { result ≡ false → slice_get (records_of pieces.now) place ≡ None }
+{
+    let piece = &pieces[position(pieces, place)];
+    piece.read(place - piece.first(), out)
 }
 
 /// Begins another piece, since the current one may have no room for a record.
@@ -123,6 +132,7 @@ pub struct Records {
     spare: Vec<Vec<u8>>,
     room: usize,
     shared: usize,
+    hints: Vec<Hint>,
     alloc: Global,
 }
 
@@ -149,6 +159,7 @@ impl Records {
             spare: Vec::new(alloc),
             room: 0,
             shared: FIRST_SHARED,
+            hints: Vec::new(alloc),
             alloc,
         }
     }
@@ -167,15 +178,28 @@ impl Records {
         self.len() == 0
     }
 
-    /// The record at this place, None beyond the end.
+    /// The record at this place, if it is stored as it is; what shares memory with another list may be stored by what stands in a third one.
+    /// None beyond the end.
     pub fn get(&self, place: usize) -> Option<Words<'_>>
-        ensures { result ≡ slice_get self.now.records place }
+        ensures { IfSome result (λ words. slice_get self.now.records place ≡ Some words) }
     {
         let first = self.current.first();
         if place < first {
             return find(self.full.as_slice(), place);
         }
         self.current.get(place - first)
+    }
+
+    /// Reads the record at this place in the place of another. False beyond the end.
+    pub fn read(&self, place: usize, out: &mut Record) -> bool
+        ensures some { result ≡ true → slice_get self.now.records place ≡ Some out.new.items }
+        ensures none { result ≡ false → slice_get self.now.records place ≡ None }
+    {
+        let first = self.current.first();
+        if place < first {
+            return read_found(self.full.as_slice(), place, out);
+        }
+        self.current.read(place - first, out)
     }
 
     /// Makes room for more records. What is stored isn't moved. After an `Err` there are the same records, and the same room.
@@ -274,17 +298,60 @@ impl Records {
         self.push(&joined.words());
     }
 
+    /// Notes where words of the last record may stand in another list: those of its call in the entry of this start, and the last ones in
+    /// that source. Nothing rests on it. The records stay as they are.
+    pub fn hint(&mut self, start: usize, source: usize)
+        ensures { self.new ≡ self.old }
+    {
+        let hint = Hint {
+            place: self.len().wrapping_sub(1),
+            start,
+            source,
+        };
+        if self.hints.reserve(1).is_ok() {
+            self.hints.push_reserved(hint);
+        }
+    }
+
     /// Lets the next full piece that wasn't looked at yet be one with that of the same place in another store, if both are the same: it
-    /// then has two owners. The records stay as they are.
+    /// then has two owners, and what hints say is stored by records of a third store. The records stay as they are.
     #[inline(always)]
-    pub fn share(&mut self, other: &mut Records)
+    pub fn share(&mut self, other: &mut Records, quoted: &mut Records)
         ensures own { self.new ≡ self.old }
         ensures other { other.new ≡ other.old }
+        ensures quoted { quoted.new ≡ quoted.old }
     {
         let place = self.shared;
         if place < self.full.len() && place < other.full.len() {
-            self.shared = place + 1;
-            share_at(&mut self.full, &mut other.full, place, self.alloc);
+            self.share_next(other, quoted);
         }
+    }
+
+    /// `share` where there is such a piece. It waits until what the hints of the piece name stands in full pieces.
+    #[cold]
+    #[inline(never)]
+    fn share_next(&mut self, other: &mut Records, quoted: &mut Records)
+        ensures own { self.new ≡ self.old }
+        ensures other { other.new ≡ other.old }
+        ensures quoted { quoted.new ≡ quoted.old }
+    {
+        let place = self.shared;
+        if place >= self.full.len() || place >= other.full.len() {
+            return;
+        }
+        let end = self.full[place].end();
+        if !are_quotable(self.hints.as_slice(), end, quoted.current.first()) {
+            return;
+        }
+        self.shared = place + 1;
+        share_at(
+            &mut self.full,
+            &mut other.full,
+            place,
+            self.hints.as_slice(),
+            &mut quoted.full,
+            self.alloc,
+        );
+        self.hints.retain(|hint| hint.place >= end);
     }
 }

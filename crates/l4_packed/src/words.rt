@@ -1,5 +1,5 @@
 //! Words, one after another.
-ghost use Rattle.std.specs.Prelude.{◌≡◌, ◌+◌, ◌<◌, ◌≤◌, ◌++◌, ◌∷◌, [], length, ℕ, List, Some};
+ghost use Rattle.std.specs.Prelude.{◌≡◌, ◌+◌, ◌<◌, ◌≤◌, ◌++◌, ◌∷◌, [], length, ℕ, List, Some, IfSome, true};
 ghost use Rattle.l4_packed.specs.Inside.Bytes.{numbers_code, words_in};
 ghost use Rattle.l4_packed.specs.Inside.Pieces.{AreWords};
 ghost use Rattle.l4_packed.specs.Words.{Gives, counted, flag, if_set, word_at, set_at, list_at, sized_at, counted_at};
@@ -82,6 +82,13 @@ impl Record {
     }
 }
 
+/// Whether bytes are the same.
+fn are_same(a: &[u8], b: &[u8]) -> bool
+    ensures { result ≡ true → a.now ≡ b.now }
+{
+    a == b
+}
+
 /// Words that are left to be read. Contracts see them as a list.
 #[derive(Drop)]
 pub struct Words<'a> {
@@ -115,6 +122,49 @@ impl<'a> Words<'a> {
         ensures { result ≡ words_in bytes.now }
     {
         Words { bytes }
+    }
+
+    /// How many bytes the words take.
+    pub fn size(&self) -> usize {
+        self.bytes.len()
+    }
+
+    /// The same words, to be read from the front again.
+    pub(crate) fn again(&self) -> Words<'a>
+        ensures { result ≡ self.now }
+    {
+        Words { bytes: self.bytes }
+    }
+
+    /// The words behind those of a beginning. None where they don't begin so.
+    pub(crate) fn behind(&self, beginning: &Words<'_>) -> Option<Words<'a>>
+        ensures { IfSome result (λ rest. self.now ≡ beginning.now ++ rest) }
+    {
+        let wanted = beginning.bytes();
+        if self.bytes.len() < wanted.len() {
+            return None;
+        }
+        let (first, rest) = self.bytes.split_at(wanted.len());
+        if !are_same(first, wanted) {
+            return None;
+        }
+        Some(Words { bytes: rest })
+    }
+
+    /// Whether these are the same words.
+    pub(crate) fn same(&self, other: &Words<'_>) -> bool
+        ensures { result ≡ true → self.now ≡ other.now }
+    {
+        are_same(self.bytes, other.bytes)
+    }
+
+    /// Writes the words in the place of those of a record.
+    pub(crate) fn copy_to(&self, out: &mut Record)
+        ensures { out.new.items ≡ self.now }
+    {
+        let _few = self.bytes();
+        out.clear();
+        out.append(self);
     }
 
     /// The bytes of the words.

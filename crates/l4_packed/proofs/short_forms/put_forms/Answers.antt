@@ -1,0 +1,35 @@
+use Rattle.std.proofs.Common.{◌≡◌, ◌≤◌, ◌+◌, ◌++◌, ◌∷◌, [], List, ℕ, Some, length, map, take, sym, ap, subst, ◌∙◌}
+use Rattle.std.specs.Prelude.{slice_get}
+use Rattle.std.proofs.lemmas.List.{map-append, take_more}
+use Rattle.std.proofs.lemmas.List.Elements.{All-push}
+use Rattle.std.proofs.lemmas.Option.{slice_get_within, get_or_from_slice_get}
+use Rattle.l4_packed.specs.Inside.Quoting.{AreShort, quoted}
+use Rattle.l4_packed.proofs.short_forms.put_forms.Goals as goal
+
+pub loop-at-preserved : goal.loop-at-preserved
+loop-at-preserved c =
+    let pieces = c.args.pieces.now in
+    let base = c.args.base in
+    let old = c.loop-at.forms.records in
+    let form = c.put_form.new.form.items in
+    let words = c.in-Some.words in
+    let records = c.args.piece.now.records in
+    let at = c.loop-at.at in
+    let pushed : c.push.new.self.records ≡ old ++ form ∷ [] = c.push.ensures.records.1 ∙ ap (λ (w : List ℕ). old ++ w ∷ []) c.words-words.ensures in
+    let is : quoted pieces base form ≡ words = c.put_form.ensures.form c.if-not-put_form.false in
+    let here : slice_get records at ≡ Some words = sym c.in-Some.ensures in
+    let next : take (at + 1) records ≡ take at records ++ words ∷ [] =
+    take_more records at words (slice_get_within records at words here)
+    ∙ ap (λ (w : List ℕ). take at records ++ w ∷ []) (get_or_from_slice_get records at words words here) in
+    record {
+      first = c.push.ensures.records.0 ∙ c.loop-at.invariant.first;
+      forms =
+          ap (λ (l : List (List ℕ)). map (quoted pieces base) l) pushed
+          ∙ map-append (quoted pieces base) old (form ∷ [])
+          ∙ ap (λ (l : List (List ℕ)). l ++ quoted pieces base form ∷ []) c.loop-at.invariant.forms
+          ∙ ap (λ (w : List ℕ). take at records ++ w ∷ []) is
+          ∙ sym next;
+      short =
+          subst (λ (l : List (List ℕ)). AreShort pieces base l) (sym pushed)
+          (All-push (λ (w : List ℕ). length (quoted pieces base w) ≤ 144) old form c.loop-at.invariant.short (subst (λ (w : List ℕ). length w ≤ 144) (sym is) c.put_form.ensures.few));
+    }
