@@ -10,3 +10,4 @@ pub mod Outlining
 pub mod Marks
 pub mod ReadRecords
 pub mod Forms
+pub mod Writing

@@ -21,8 +21,8 @@ use Rattle.l4_ipc.specs.declared.steps.Answer.{Answer}
 use Rattle.l4_packed.specs.Words.{counted, counted_at, sized_at, flag, if_set, set_at}
 use Rattle.l4_threads.specs.Sizes.{max_threads}
 use Rattle.l4_packed.specs.Codes.{control_code, ipc_flags, call_code, step_code, outcome_code, answer_code, reply_flags, reply_code, place_code, far, are_near, span_code, CallFits, StepFits, AnswerFits, ReplyFits}
-use Rattle.l4_packed.specs.Ids.{id_word, if_named, named_at}
-use Rattle.l4_packed.specs.Tags.{tag_word, if_tagged, tag_at, items_code, items_of, message_code, message_of}
+use Rattle.l4_packed.specs.Ids.{id_word, if_named}
+use Rattle.l4_packed.specs.Tags.{tag_word, if_tagged, items_code, message_code}
 use Rattle.l4_packed.proofs.Turned.{named_again, tagged_again, items_again, items_length, message_again, message_length}
 use Rattle.l4_packed.specs.Reading.{control_at, ipc_at, call_at, step_at, outcome_of, answer_at, received_at, reply_at, places_at, near_at, span_at}
 

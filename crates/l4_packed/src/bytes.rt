@@ -1,6 +1,8 @@
 //! Bytes of a record, in a place of their own.
-ghost use Rattle.std.specs.Prelude.{◌≡◌, ◌+◌, ◌<◌, ◌≤◌, ◌++◌, ◌∷◌, [], length};
+ghost use Rattle.std.specs.Prelude.{◌≡◌, ◌+◌, ◌*◌, ◌<◌, ◌≤◌, ◌++◌, ◌∷◌, [], length};
+ghost use Rattle.l4_packed.specs.Inside.Bytes.{number_code, numbers_code};
 
+use crate::numbers::{NUMBER_BYTES, TWO, write_long, write_numbers};
 use std::marker::Model;
 
 /// The greatest number of bytes of the words of a record.
@@ -63,6 +65,25 @@ impl Bytes {
         let end = self.len + bytes.len();
         self.cells[self.len..end].copy_from_slice(bytes);
         self.len = end;
+    }
+
+    /// Appends a number that is not one byte.
+    #[inline(always)]
+    pub fn push_long(&mut self, number: u32)
+        requires long { (TWO ≤ number) × (number < 4294967295) }
+        requires room { length self.old.items + NUMBER_BYTES ≤ WORDS_BYTES }
+        ensures { self.new.items ≡ self.old.items ++ number_code number }
+    {
+        self.len = write_long(&mut self.cells, self.len, number);
+    }
+
+    /// Appends numbers.
+    #[inline(always)]
+    pub fn push_numbers(&mut self, numbers: &[u32])
+        requires { length self.old.items + NUMBER_BYTES * length numbers.now ≤ WORDS_BYTES }
+        ensures { self.new.items ≡ self.old.items ++ numbers_code numbers.now }
+    {
+        self.len = write_numbers(&mut self.cells, self.len, numbers);
     }
 
     /// The bytes.

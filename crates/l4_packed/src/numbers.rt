@@ -1,5 +1,5 @@
 //! Numbers as bytes.
-ghost use Rattle.std.specs.Prelude.{◌≡◌, ◌+◌, ◌*◌, ◌^◌, ◌<◌, ◌≤◌, ◌++◌, ◌∷◌, [], length, true, vec_len, vec_capacity};
+ghost use Rattle.std.specs.Prelude.{◌≡◌, ◌+◌, ◌*◌, ◌/◌, ◌%◌, ◌^◌, ◌<◌, ◌≤◌, ◌++◌, ◌∷◌, [], ℕ, length, take, true, vec_len, vec_capacity};
 ghost use Rattle.std.specs.List.{list_all};
 ghost use Rattle.l4_packed.specs.Inside.Bytes.{Reads, number_code, numbers_code, is_small, number_at, two_bytes_at, three_bytes_at, four_bytes_at, five_bytes_at};
 
@@ -10,7 +10,7 @@ pub(crate) const NUMBER_BYTES: usize = 5;
 
 /// The first byte of a number is below this if it is the only one, which is the number. From here on it says how many bytes there are, and what
 /// counts most.
-const TWO: u8 = 184;
+pub(crate) const TWO: u8 = 184;
 
 /// The first byte of a number of three bytes is not below this.
 const THREE: u8 = 224;
@@ -123,26 +123,106 @@ pub(crate) fn put_number(out: &mut Vec<u8>, number: u32)
     put_long(out, number);
 }
 
-/// Appends a number that is not one byte to the bytes of words. Its bytes are appended together, so that where they end is written once.
+/// Writes bytes at a place.
+#[inline(always)]
+fn write_at(cells: &mut [u8], at: usize, bytes: &[u8])
+    requires { at + length bytes.now ≤ length cells.old }
+    ensures written { (n : ℕ) → n ≤ length bytes.now → take (at + n) cells.new ≡ take at cells.old ++ take n bytes.now }
+    ensures len { length cells.new ≡ length cells.old }
+{
+    let end = at + bytes.len();
+    cells[at..end].copy_from_slice(bytes);
+}
+
+/// Writes the first byte of a number and the four that may follow it.
+#[inline(always)]
+fn write_five(cells: &mut [u8], at: usize, first: u8, number: u32)
+    requires { at + NUMBER_BYTES ≤ length cells.old }
+    ensures written { (n : ℕ) → n ≤ NUMBER_BYTES → take (at + n) cells.new ≡ take at cells.old ++ take n (first ∷ number % 256 ∷ number / 256 % 256 ∷ number / 2 ^ 16 % 256 ∷ number / 2 ^ 24 ∷ []) }
+    ensures len { length cells.new ≡ length cells.old }
+{
+    let low = (number % 256) as u8;
+    let second = (number / 256 % 256) as u8;
+    let third = (number / THIRD % 256) as u8;
+    let fourth = (number / FOURTH) as u8;
+    write_at(cells, at, &[first, low, second, third, fourth]);
+}
+
+/// Writes a number that is not one byte at a place where five fit, and answers where its bytes end. What is written behind them does not
+/// count.
 #[tactic(auto, unfolding(crate::specs::Inside::Bytes::number_code))]
+#[inline(always)]
+pub(crate) fn write_long(cells: &mut [u8], at: usize, number: u32) -> usize
+    requires long { (TWO ≤ number) × (number < 4294967295) }
+    requires room { at + NUMBER_BYTES ≤ length cells.old }
+    ensures written { take result cells.new ≡ take at cells.old ++ number_code number }
+    ensures end { result ≤ at + NUMBER_BYTES }
+    ensures len { length cells.new ≡ length cells.old }
+{
+    let low = (number % 256) as u8;
+    let second = (number / 256 % 256) as u8;
+    if number < TWO_LIMIT {
+        write_at(cells, at, &[TWO + (number / 256) as u8, low]);
+        at + 2
+    } else if number < THREE_LIMIT {
+        write_at(cells, at, &[THREE + (number / THIRD) as u8, low, second]);
+        at + 3
+    } else if number < FOUR_LIMIT {
+        write_five(cells, at, FOUR + (number / FOURTH) as u8, number);
+        at + 4
+    } else {
+        write_five(cells, at, FIVE, number);
+        at + NUMBER_BYTES
+    }
+}
+
+/// Writes a number at a place where five bytes fit, and answers where its bytes end. Those of one byte and of five are the first to be seen, as
+/// most words are small or any.
+#[tactic(auto, unfolding(crate::specs::Inside::Bytes::number_code))]
+#[inline(always)]
+fn write_number(cells: &mut [u8], at: usize, number: u32) -> usize
+    requires { at + NUMBER_BYTES ≤ length cells.old }
+    ensures written { take result cells.new ≡ take at cells.old ++ number_code number }
+    ensures end { result ≤ at + NUMBER_BYTES }
+    ensures len { length cells.new ≡ length cells.old }
+{
+    // Above the greatest word this is 0, so that one test sees all numbers of one byte.
+    let above = number.wrapping_add(1);
+    if above <= u32::from(TWO) {
+        write_at(cells, at, &[(number % 256) as u8]);
+        return at + 1;
+    }
+    if above > FOUR_LIMIT {
+        write_five(cells, at, FIVE, number);
+        return at + NUMBER_BYTES;
+    }
+    write_long(cells, at, number)
+}
+
+/// Writes numbers one after another from a place on where five bytes fit for each, and answers where their bytes end. No call is made for each,
+/// nor is the end written in memory.
+#[inline(never)]
+pub(crate) fn write_numbers(cells: &mut [u8], at: usize, numbers: &[u32]) -> usize
+    requires { at + NUMBER_BYTES * length numbers.now ≤ length cells.old }
+    ensures written { take result cells.new ≡ take at cells.old ++ numbers_code numbers.now }
+    ensures end { result ≤ at + NUMBER_BYTES * length numbers.now }
+    ensures len { length cells.new ≡ length cells.old }
+{
+    let mut end = at;
+    for number in numbers {
+        end = write_number(cells, end, *number);
+    }
+    end
+}
+
+/// Appends a number that is not one byte to the bytes of words. It stands apart, so that `add_number` is put into its callers.
 #[inline(never)]
 fn add_long(out: &mut Bytes, number: u32)
     requires long { (TWO ≤ number) × (number < 4294967295) }
     requires room { length out.old.items + NUMBER_BYTES ≤ WORDS_BYTES }
     ensures { out.new.items ≡ out.old.items ++ number_code number }
 {
-    let low = (number % 256) as u8;
-    let second = (number / 256 % 256) as u8;
-    let third = (number / THIRD % 256) as u8;
-    if number < TWO_LIMIT {
-        out.extend(&[TWO + (number / 256) as u8, low]);
-    } else if number < THREE_LIMIT {
-        out.extend(&[THREE + (number / THIRD) as u8, low, second]);
-    } else if number < FOUR_LIMIT {
-        out.extend(&[FOUR + (number / FOURTH) as u8, low, second, third]);
-    } else {
-        out.extend(&[FIVE, low, second, third, (number / FOURTH) as u8]);
-    }
+    out.push_long(number);
 }
 
 /// Appends a number to the bytes of words.
@@ -195,18 +275,6 @@ pub(crate) fn put_small(out: &mut Vec<u8>, numbers: &[u32])
     }
 }
 
-/// Appends numbers one by one.
-#[cold]
-#[inline(never)]
-fn add_each(out: &mut Bytes, numbers: &[u32])
-    requires { length out.old.items + NUMBER_BYTES * length numbers.now ≤ WORDS_BYTES }
-    ensures { out.new.items ≡ out.old.items ++ numbers_code numbers.now }
-{
-    for number in numbers {
-        add_number(out, *number);
-    }
-}
-
 /// Appends numbers. Where each is one byte, they are appended together, so that where they end is written once.
 #[inline(always)]
 pub(crate) fn add_numbers(out: &mut Bytes, numbers: &[u32])
@@ -216,7 +284,7 @@ pub(crate) fn add_numbers(out: &mut Bytes, numbers: &[u32])
     if are_small(numbers) {
         return add_small(out, numbers);
     }
-    add_each(out, numbers);
+    out.push_numbers(numbers);
 }
 
 /// A number of two bytes whose first counts so much, and the bytes after it.

@@ -11,7 +11,7 @@ ghost use Rattle.l4_packed.specs.Words.{Gives};
 
 use crate::calls::{CALL_WORDS, put_call, read_call};
 use crate::packed_list::{FromWords, PackedList};
-use crate::words::{RECORD_WORDS, Record, Words, put_all, read_sized, read_sized_into, read_word};
+use crate::words::{RECORD_WORDS, Record, Words, read_sized, read_sized_into, read_word};
 use l4_ipc::{Answer, Call, MAX_THREADS, NextStep, Outcome, Step};
 
 /// A step without the call of a start.
@@ -90,7 +90,7 @@ pub fn put_answer(out: &mut Record, answer: &Answer)
     ensures short { length (answer_code answer.now) ≤ ANSWER_WORDS }
 {
     out.push(outcome_word(answer.outcome) + OUTCOMES * answer.ended.len() as u32);
-    put_all(out, answer.ended.as_slice());
+    out.push_each(answer.ended.as_slice());
 }
 
 /// The form of an entry which is that of any answer and step.

@@ -2,7 +2,7 @@
 ghost use Rattle.std.specs.Prelude.{◌≡◌, ◌+◌, ◌<◌, ◌≤◌, ◌++◌, length};
 ghost use Rattle.l4_packed.specs.Tags.{tag_word, tag_of, if_tagged, tag_at, distance, at_distance, distances, at_distances, distances_of, of_distances, has_items, items_code, items_of, message_code, message_of};
 
-use crate::words::{RECORD_WORDS, Record, Words, put_all, read_word};
+use crate::words::{RECORD_WORDS, Record, Words, read_word};
 use arrayvec::ArrayVec;
 
 /// There are fewer typed words than this, and fewer untyped ones.
@@ -156,7 +156,7 @@ pub(crate) fn put_items(out: &mut Record, tag: u32, words: &[u32])
     if has_items(tag) {
         return put_distances(out, words);
     }
-    put_all(out, words);
+    out.push_each(words);
 }
 
 /// Appends the words that are told by how far each is from that two before it.

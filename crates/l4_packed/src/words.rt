@@ -64,6 +64,15 @@ impl Record {
         add_numbers(&mut self.bytes, words);
     }
 
+    /// Appends words, however many.
+    #[inline(always)]
+    pub(crate) fn push_each(&mut self, words: &[u32])
+        requires { length self.old.items + length words.now ≤ RECORD_WORDS }
+        ensures items { self.new.items ≡ self.old.items ++ words.now }
+    {
+        self.bytes.push_numbers(words);
+    }
+
     /// Appends words.
     pub fn append(&mut self, words: &Words<'_>)
         requires { length self.old.items + length words.now ≤ RECORD_WORDS }
@@ -183,18 +192,7 @@ pub(crate) fn put_counted(out: &mut Record, words: &[u32])
     ensures { out.new.items ≡ out.old.items ++ counted words.now }
 {
     out.push(words.len() as u32);
-    put_all(out, words);
-}
-
-/// Appends a list whose length stands elsewhere.
-#[inline(always)]
-pub(crate) fn put_all(out: &mut Record, words: &[u32])
-    requires { length out.old.items + length words.now ≤ RECORD_WORDS }
-    ensures { out.new.items ≡ out.old.items ++ words.now }
-{
-    for word in words {
-        out.push(*word);
-    }
+    out.push_each(words);
 }
 
 /// Whether a word is there, 1 or 0, where one that is 0 is left out.
