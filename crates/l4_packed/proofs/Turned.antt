@@ -107,7 +107,7 @@ of_distances_again : (words : List ℕ) → of_distances (distances_of words) �
 of_distances_again [] = refl
 of_distances_again (first ∷ words) = ap (λ (t : List ℕ). first ∷ t) (at_distances_again first first words)
 
-distances_length : (before last : ℕ) (words : List ℕ) → length (distances before last words) ≡ length words
+pub distances_length : (before last : ℕ) (words : List ℕ) → length (distances before last words) ≡ length words
 distances_length before last [] = refl
 distances_length before last (word ∷ words) = ap suc (distances_length last word words)
 

@@ -1,8 +1,10 @@
 //! Bytes of a record, in a place of their own.
 ghost use Rattle.std.specs.Prelude.{◌≡◌, ◌+◌, ◌*◌, ◌<◌, ◌≤◌, ◌++◌, ◌∷◌, [], length};
 ghost use Rattle.l4_packed.specs.Inside.Bytes.{number_code, numbers_code};
+ghost use Rattle.l4_packed.specs.Tags.{distances};
 
 use crate::numbers::{NUMBER_BYTES, TWO, write_long, write_numbers};
+use crate::tags::write_distances;
 use std::marker::Model;
 
 /// The greatest number of bytes of the words of a record.
@@ -84,6 +86,15 @@ impl Bytes {
         ensures { self.new.items ≡ self.old.items ++ numbers_code numbers.now }
     {
         self.len = write_numbers(&mut self.cells, self.len, numbers);
+    }
+
+    /// Appends the numbers behind this one, each by how far it is from that two before it.
+    #[inline(always)]
+    pub fn push_distances(&mut self, first: u32, numbers: &[u32])
+        requires { length self.old.items + NUMBER_BYTES * length numbers.now ≤ WORDS_BYTES }
+        ensures { self.new.items ≡ self.old.items ++ numbers_code (distances first first numbers.now) }
+    {
+        self.len = write_distances(&mut self.cells, self.len, first, numbers);
     }
 
     /// The bytes.

@@ -180,7 +180,7 @@ pub(crate) fn write_long(cells: &mut [u8], at: usize, number: u32) -> usize
 /// most words are small or any.
 #[tactic(auto, unfolding(crate::specs::Inside::Bytes::number_code))]
 #[inline(always)]
-fn write_number(cells: &mut [u8], at: usize, number: u32) -> usize
+pub(crate) fn write_number(cells: &mut [u8], at: usize, number: u32) -> usize
     requires { at + NUMBER_BYTES ≤ length cells.old }
     ensures written { take result cells.new ≡ take at cells.old ++ number_code number }
     ensures end { result ≤ at + NUMBER_BYTES }

@@ -1,7 +1,9 @@
 //! Tags of messages as words.
-ghost use Rattle.std.specs.Prelude.{◌≡◌, ◌+◌, ◌<◌, ◌≤◌, ◌++◌, length};
+ghost use Rattle.std.specs.Prelude.{◌≡◌, ◌+◌, ◌*◌, ◌<◌, ◌≤◌, ◌++◌, length, take};
+ghost use Rattle.l4_packed.specs.Inside.Bytes.{numbers_code};
 ghost use Rattle.l4_packed.specs.Tags.{tag_word, tag_of, if_tagged, tag_at, distance, at_distance, distances, at_distances, distances_of, of_distances, has_items, items_code, items_of, message_code, message_of};
 
+use crate::numbers::{NUMBER_BYTES, write_number};
 use crate::words::{RECORD_WORDS, Record, Words, read_word};
 use arrayvec::ArrayVec;
 
@@ -121,21 +123,27 @@ fn at_distance(base: u32, word: u32) -> u32
     far.wrapping_add(base)
 }
 
-/// Appends words by how far each is from that two before it.
-fn put_behind(out: &mut Record, first: u32, words: &[u32])
-    requires { length out.old.items + length words.now ≤ RECORD_WORDS }
-    ensures { out.new.items ≡ out.old.items ++ distances first first words.now }
+/// Writes the words behind this one, each by how far it is from that two before it, at a place where five bytes fit for each, and answers where
+/// their bytes end.
+#[inline(always)]
+pub(crate) fn write_distances(cells: &mut [u8], at: usize, first: u32, words: &[u32]) -> usize
+    requires { at + NUMBER_BYTES * length words.now ≤ length cells.old }
+    ensures written { take result cells.new ≡ take at cells.old ++ numbers_code (distances first first words.now) }
+    ensures end { result ≤ at + NUMBER_BYTES * length words.now }
+    ensures len { length cells.new ≡ length cells.old }
 {
+    let mut end = at;
     let mut before = first;
     let mut last = first;
     for word in words {
-        out.push(distance(before, *word));
+        end = write_number(cells, end, distance(before, *word));
         before = last;
         last = *word;
     }
+    end
 }
 
-/// The same of all words of a message behind the first.
+/// Appends all words of a message, those behind the first by how far each is from that two before it.
 #[inline(never)]
 fn put_distances(out: &mut Record, words: &[u32])
     requires { length out.old.items + length words.now ≤ RECORD_WORDS }
@@ -143,7 +151,7 @@ fn put_distances(out: &mut Record, words: &[u32])
 {
     if let [first, rest @ ..] = words {
         out.push(*first);
-        put_behind(out, *first, rest);
+        out.push_distances(*first, rest);
     }
 }
 

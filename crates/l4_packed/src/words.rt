@@ -2,6 +2,7 @@
 ghost use Rattle.std.specs.Prelude.{◌≡◌, ◌+◌, ◌<◌, ◌≤◌, ◌++◌, ◌∷◌, [], length, ℕ, List, Some, IfSome, true};
 ghost use Rattle.l4_packed.specs.Inside.Bytes.{numbers_code, words_in};
 ghost use Rattle.l4_packed.specs.Inside.Pieces.{AreWords};
+ghost use Rattle.l4_packed.specs.Tags.{distances};
 ghost use Rattle.l4_packed.specs.Words.{Gives, counted, flag, if_set, word_at, set_at, list_at, sized_at, counted_at};
 
 use crate::bytes::{Bytes, WORDS_BYTES};
@@ -71,6 +72,15 @@ impl Record {
         ensures items { self.new.items ≡ self.old.items ++ words.now }
     {
         self.bytes.push_numbers(words);
+    }
+
+    /// Appends the words behind this one, each by how far it is from that two before it.
+    #[inline(always)]
+    pub(crate) fn push_distances(&mut self, first: u32, words: &[u32])
+        requires { length self.old.items + length words.now ≤ RECORD_WORDS }
+        ensures items { self.new.items ≡ self.old.items ++ distances first first words.now }
+    {
+        self.bytes.push_distances(first, words);
     }
 
     /// Appends words.
