@@ -1,5 +1,5 @@
 -- Entries and receipts are read as they were written, and each where it stands.
-use Rattle.std.proofs.Common.{◌≡◌, ℕ, zero, suc, ◌-◌, if◌then◌else◌, Bool, true, false, List, [], ◌∷◌, ◌++◌, Option, Some, None, refl, sym, ap, ◌∙◌, arith}
+use Rattle.std.proofs.Common.{◌≡◌, ℕ, zero, suc, ◌-◌, if◌then◌else◌, Bool, true, false, List, [], ◌∷◌, ◌++◌, Option, Some, None, refl, sym, ap, ◌∙◌}
 use Rattle.std.specs.Prelude.{is_some, IsTrue, nat_lt}
 use Rattle.std.specs.Option.{option_map}
 use Rattle.std.proofs.lemmas.Bool.{false≢true}
@@ -13,9 +13,9 @@ use Rattle.l4_ipc.specs.declared.steps.NextStep.TheVariants.{Transfer as Transfe
 use Rattle.l4_ipc.specs.declared.steps.Step.{Step}
 use Rattle.l4_ipc.specs.declared.steps.Outcome.{Outcome}
 use Rattle.l4_ipc.specs.declared.steps.Outcome.TheVariants.{Started, Done, NoWindow, Entangled, NoMemory, Expired}
-use Rattle.l4_ipc.specs.declared.steps.Step.TheVariants.{Start, Transfer, Expire}
+use Rattle.l4_ipc.specs.declared.steps.Step.TheVariants.{Start, Transfer}
 use Rattle.l4_ipc.specs.OwnCall.{own_answer}
-use Rattle.l4_ipc.specs.NextSteps.{step_of, answer_of, transfer_answer, expire_answer}
+use Rattle.l4_ipc.specs.NextSteps.{step_of, answer_of, transfer_answer}
 use Rattle.l4_packed.specs.declared.steps.StepOutline.{StepOutline}
 use Rattle.l4_packed.specs.Words.{◌>>=◌}
 use Rattle.l4_packed.specs.Reading.{step_at, answer_at, call_at, next_at}

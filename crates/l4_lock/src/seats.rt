@@ -272,6 +272,15 @@ fn hand_over(seat: &mut Seat, words: Words<'_>, own: Option<&Call>)
     }
 }
 
+/// Notes which entries of the history may have words of the last receipt, whose words these are, if it is long.
+fn hint_long(receipts: &mut Receipts, words: &Words<'_>, start: usize, source: usize)
+    ensures { receipts.new ≡ receipts.old }
+{
+    if words.size() >= LONG {
+        receipts.hint(start, source);
+    }
+}
+
 /// Takes the account's call, which has ended: the account and the seat gain its receipt. The seat's has the call that the seat knows of.
 /// Full pieces of receipts that are the same in both then have two owners, and what is long in them is stored by entries of the history.
 #[inline(never)]
@@ -288,9 +297,7 @@ fn settle_ended(account: &mut Account, seat: &mut Seat, own: Option<&Call>, hist
     } = account;
     let words = pending.receipt();
     receipts.push_words(&words);
-    if words.size() >= LONG {
-        receipts.hint(pending.start(), pending.source());
-    }
+    hint_long(receipts, &words, pending.start(), pending.source());
     hand_over(seat, words, own);
     seat.share(receipts, history);
     pending.forget();

@@ -1,5 +1,5 @@
 -- Short forms, and the records that they stand for.
-use Rattle.std.proofs.Common.{◌≡◌, ℕ, zero, suc, ◌+◌, ◌-◌, ◌<◌, ◌≤◌, ◌==◌, Bool, true, false, ltb, List, [], ◌∷◌, ◌++◌, length, drop, get_or, Option, Some, None, refl, sym, ap, subst, ◌∙◌, arith}
+use Rattle.std.proofs.Common.{◌≡◌, ℕ, ◌+◌, ◌-◌, ◌<◌, ◌≤◌, true, false, ltb, List, [], ◌∷◌, ◌++◌, length, drop, get_or, Option, Some, None, refl, sym, ap, subst, ◌∙◌, arith}
 use Rattle.std.proofs.lemmas.Bool.{le-ltb, ne_eqb}
 use Rattle.std.proofs.lemmas.Option.{none-some, slice_get_within, get_or_from_slice_get}
 use Rattle.std.proofs.lemmas.List.{drop_all, drop_more, append-nil, length-drop}
@@ -7,7 +7,7 @@ use Rattle.std.specs.Prelude.{slice_get, nat_eq}
 use Rattle.l4_packed.specs.Codes.{span_code}
 use Rattle.l4_packed.specs.Words.{word_at}
 use Rattle.l4_packed.specs.Inside.Pieces.{PieceState}
-use Rattle.l4_packed.specs.Inside.Quoting.{in_piece, words_among, short_from, entry_head, form_at, ending_at, parts_at, joined, quoted, AreShort}
+use Rattle.l4_packed.specs.Inside.Quoting.{in_piece, words_among, form_at, ending_at, parts_at, joined, quoted, AreShort}
 
 -- what words stand for, by what is read of them
 pub quoted_none : (pieces : List PieceState) (base : ℕ) (words : List ℕ) → parts_at pieces base words ≡ None → quoted pieces base words ≡ words

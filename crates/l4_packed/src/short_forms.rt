@@ -272,9 +272,15 @@ fn put_forms(
     true
 }
 
-/// Whether what the hints name for the records before this end stands before that place in the other list.
+/// Whether what the last hint names for the records before this end stands before that place in the other list.
 pub(crate) fn are_quotable(hints: &[Hint], end: usize, place: usize) -> bool {
-    hints.iter().all(|hint| hint.place >= end || hint.start.max(hint.source) < place)
+    for back in 1..=hints.len() {
+        let hint = &hints[hints.len() - back];
+        if hint.place < end {
+            return hint.start.max(hint.source) < place;
+        }
+    }
+    true
 }
 
 /// Which pieces a piece with these hints quotes: those from here on.

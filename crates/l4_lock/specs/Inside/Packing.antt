@@ -1,5 +1,5 @@
 -- Entries and receipts as words. (this profile's own)
-use Rattle.std.specs.Prelude.{ℕ, zero, suc, ◌-◌, Bool, true, false, List, [], ◌∷◌, ◌++◌, Option, Some, None, nat_lt, if◌then◌else◌}
+use Rattle.std.specs.Prelude.{ℕ, zero, suc, ◌-◌, Bool, true, false, List, ◌∷◌, ◌++◌, Option, Some, nat_lt, if◌then◌else◌}
 use Rattle.l4_ipc.specs.NextSteps.{step_of, answer_of}
 use Rattle.l4_ipc.specs.OwnCall.{own_answer}
 use Rattle.l4_ipc.specs.declared.steps.Step.TheVariants.{Start}

@@ -3,8 +3,8 @@ use Rattle.l4_lock.specs.Books.{Book, SeatState, book, receipt_of}
 use Rattle.l4_lock.specs.Lists.{ReceiptList}
 use Rattle.l4_lock.proofs.seats.settle_ended.Goals as goal
 
-pub returns : goal.returns
-returns c =
+pub returns-clause-settles : goal.returns-clause-settles
+returns-clause-settles c =
     let r = c.receipt-words.ensures in (
       r.1.reply,
       record {
@@ -13,7 +13,7 @@ returns c =
         ended = r.1;
         ended_is = r.3;
         answers = refl;
-        book_is = ap (λ (l : ReceiptList). book c.account.inside.number c.forget.new.self l.items) c.share.ensures.account
+        book_is = ap (λ (l : ReceiptList). book c.account.inside.number c.forget.new.self l.items) (c.share.ensures.account ∙ c.hint_long.ensures)
             ∙ (λ i. book c.account.inside.number (c.forget.ensures i) (c.push_words.ensures.items (receipt_of r.0 r.1) r.4 i))
             ∙ ap (λ (b : Book). book b.number None (b.receipts ++ receipt_of r.0 r.1 ∷ [])) c.account.view_is;
         number = ap (λ (s : SeatState). s.number) c.share.ensures.own ∙ c.hand_over.ensures.waiting.1;

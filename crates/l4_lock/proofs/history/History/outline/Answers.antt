@@ -13,8 +13,3 @@ returns-in-Some c =
     subst (λ (read : Option EntryOutline). Gives (λ _. c.read_entry_outline.new.entry) c.read_entry_outline.result read)
     (outline_read c.in-Some.words c.in-Some.ensures.1 ∙ ap (option_map entry_outline) here)
     c.read_entry_outline.ensures
-
-pub returns-in-None : goal.returns-in-None
-returns-in-None c =
-    let here = sym (ap (λ (l : EntryList). slice_get l.entries c.args.at) c.self.view_is) ∙ c.in-None.ensures in
-    ap (option_map entry_outline) here
