@@ -10,6 +10,8 @@ mod faults;
 #[cfg(test)]
 mod messages;
 #[cfg(test)]
+mod receipts;
+#[cfg(test)]
 mod storms;
 #[cfg(test)]
 mod waiting;

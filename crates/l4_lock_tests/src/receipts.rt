@@ -1,0 +1,78 @@
+//! Receipts of long messages, which are stored by entries of the history where they fill pieces of memory.
+
+use crate::calls::{FRAMES, ROOT, create, receive, send};
+use l4_ipc::{Call, Reply};
+use l4_lock::{Locked, Receipt, Seat};
+use std::process::Abort;
+
+/// The thread that receives.
+const THIRD: u32 = 3;
+
+/// How many messages are sent: enough to fill several pieces.
+const ROUNDS: u32 = 60;
+
+/// The registers of a message of 63 words.
+const REGISTERS: usize = 64;
+
+/// The message of a round, its tag first. Each word has four bytes that count.
+fn message(round: u32) -> [u32; REGISTERS] {
+    let mut words = [0x9e37_79b9u32.wrapping_mul(round.wrapping_add(1)); REGISTERS];
+    for i in 1..REGISTERS {
+        words[i] = words[i - 1]
+            .wrapping_mul(0x0019_660d)
+            .wrapping_add(0x3c6e_f35f);
+    }
+    words[0] = 63;
+    words
+}
+
+/// Root sends the message of a round to the third thread.
+fn exchange<R: Abort>(rt: &R, locked: &mut Locked, root: &mut Seat, third: &mut Seat, round: u32) {
+    assert!(rt; locked.enter(third, receive()).is_ok());
+    assert!(rt; locked.enter(root, send(THIRD, &message(round))).is_ok());
+    assert!(rt; locked.take(third).is_some());
+}
+
+/// Whether a receipt is of the call that sent the message of a round.
+fn has_sent(receipt: &Receipt, round: u32) -> bool {
+    match &receipt.call {
+        Call::Ipc(call) => call.words.as_slice() == message(round).as_slice(),
+        _ => false,
+    }
+}
+
+/// Whether a receipt is of a call that received the words of a round's message.
+fn has_received(receipt: &Receipt, round: u32) -> bool {
+    match &receipt.reply {
+        Reply::Ipc(reply) => reply.words.as_slice() == &message(round)[1..],
+        _ => false,
+    }
+}
+
+/// Each receipt has its message, in both seats and for the lock that closes with them.
+#[test]
+fn long_messages(rt: HostRuntime) {
+    let (mut locked, _, _) = Locked::new(rt.alloc(), FRAMES, 0).expect(&rt, "a lock");
+    let mut root = locked.seat(ROOT).expect(&rt, "a seat");
+    let mut third = locked.seat(THIRD).expect(&rt, "a seat");
+    assert!(rt; locked.enter(&mut root, create(THIRD)).is_ok());
+    for round in 0..ROUNDS {
+        exchange(&rt, &mut locked, &mut root, &mut third, round);
+    }
+    assert_eq!(rt; root.receipts().len(), ROUNDS as usize + 1);
+    assert_eq!(rt; third.receipts().len(), ROUNDS as usize);
+    for round in 0..ROUNDS {
+        let sent = root
+            .receipts()
+            .get(round as usize + 1)
+            .expect(&rt, "a receipt");
+        assert!(rt; has_sent(&sent, round));
+        let received = third
+            .receipts()
+            .get(round as usize)
+            .expect(&rt, "a receipt");
+        assert!(rt; has_received(&received, round));
+    }
+    let seats = Vec::from_array(rt.alloc(), [root, third]).expect(&rt, "memory");
+    assert!(rt; locked.close(seats).is_ok());
+}
