@@ -1,4 +1,5 @@
 //! Receipts of long messages, which are stored by entries of the history where they fill pieces of memory.
+ghost use Rattle.std.specs.Prelude.{◌≤◌};
 
 use crate::calls::{FRAMES, ROOT, create, receive, send};
 use l4_ipc::{Call, Reply};
@@ -33,20 +34,34 @@ fn exchange<R: Abort>(rt: &R, locked: &mut Locked, root: &mut Seat, third: &mut 
     assert!(rt; locked.take(third).is_some());
 }
 
+/// The entries of a round: the start of a receive, that of a send, and the transfer. Before them all a thread is made.
+const ENTRIES: usize = 3;
+
+/// The place of the entry that ends both calls of a round. The two before it start them.
+fn transfer_of(round: u32) -> usize
+    ensures { 2 ≤ result }
+{
+    ENTRIES * round as usize + ENTRIES
+}
+
 /// Whether a receipt is of the call that sent the message of a round.
 fn has_sent(receipt: &Receipt, round: u32) -> bool {
-    match &receipt.call {
-        Call::Ipc(call) => call.words.as_slice() == message(round).as_slice(),
-        _ => false,
-    }
+    let Call::Ipc(call) = &receipt.call else {
+        return false;
+    };
+    receipt.end == transfer_of(round)
+        && receipt.start == transfer_of(round) - 1
+        && call.words.as_slice() == message(round).as_slice()
 }
 
 /// Whether a receipt is of a call that received the words of a round's message.
 fn has_received(receipt: &Receipt, round: u32) -> bool {
-    match &receipt.reply {
-        Reply::Ipc(reply) => reply.words.as_slice() == &message(round)[1..],
-        _ => false,
-    }
+    let Reply::Ipc(reply) = &receipt.reply else {
+        return false;
+    };
+    receipt.end == transfer_of(round)
+        && receipt.start == transfer_of(round) - 2
+        && reply.words.as_slice() == &message(round)[1..]
 }
 
 /// Each receipt has its message, in both seats and for the lock that closes with them.
