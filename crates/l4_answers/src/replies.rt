@@ -1,5 +1,5 @@
 //! The texts of steps, and of how calls ended.
-ghost use Rattle.std.specs.Prelude.{◌≡◌, ◌<◌, ◌≤◌, ◌+◌, ◌++◌, length, Some, true, decimal, codes};
+ghost use Rattle.std.specs.Prelude.{◌≡◌, ◌<◌, ◌≤◌, ◌+◌, ◌++◌, length, Some, true, false, decimal, codes};
 ghost use Rattle.l4_ipc.specs.declared.steps.Outcome.TheVariants.{Done};
 ghost use Rattle.l4_threads.specs.declared.Reply.TheVariants.{Ipc, Answered};
 ghost use Rattle.std.specs.Option.{option_copied};
@@ -204,7 +204,8 @@ fn short_answered(number: u32) -> [u8; 17]
 /// Whether each number of an Ipc's reply has one digit, and its words are few.
 #[inline(always)]
 fn is_short(number: u32, reply: &IpcReply) -> bool
-    ensures { result ≡ true → IsShort number reply.now }
+    ensures yes { result ≡ true → IsShort number reply.now }
+    ensures no { result ≡ false → ¬ (IsShort number reply.now) }
 {
     if number >= 10 || reply.error >= 10 || reply.from.0 == 0 {
         return false;

@@ -1,5 +1,5 @@
 //! The number that a line's first token spells, read in one pass over its bytes.
-ghost use Rattle.std.specs.Prelude.{◌≡◌, ◌∷◌, [], Some, MatchOption, IfSome};
+ghost use Rattle.std.specs.Prelude.{◌≡◌, ◌<◌, ◌^◌, ◌∷◌, [], Some, MatchOption, IfSome};
 ghost use Rattle.l4_text.specs.Numbers.{digit_of, hex_digit_of};
 ghost use Rattle.l4_text.specs.Tokens.{tokens_of, FirstNumber};
 ghost use Rattle.l4_text.specs.Inside.Reading.{HasDigits, HasToken, IsPacked};
@@ -111,7 +111,8 @@ fn one_digit(line: &[u8]) -> Option<(u32, &[u8])>
 /// The number of a line's first token where one space stands before it and it is soon read: with 2^32 for each byte up to the token's end.
 /// Else 0. So a number comes back in one register.
 fn longer_number(line: &[u8]) -> u64
-    ensures { IsPacked line.now result }
+    ensures packed { IsPacked line.now result }
+    ensures none { result < 2 ^ 32 → result ≡ 0 }
 {
     if line.is_empty() || line[0] != b' ' {
         return 0;

@@ -1,5 +1,5 @@
 //! What was answered and has not yet gone out.
-ghost use Rattle.std.specs.Prelude.{◌≡◌, ◌≤◌, ◌+◌, ◌*◌, ◌==◌, [], ◌∷◌, ◌++◌, length, decimal, OnOk, IfErr};
+ghost use Rattle.std.specs.Prelude.{◌≡◌, ◌<◌, ◌≤◌, ◌+◌, ◌*◌, ◌==◌, [], ◌∷◌, ◌++◌, length, decimal, OnOk, IfErr};
 ghost use Rattle.std.specs.Io.KnownBytes.{Appends};
 ghost use Rattle.std.specs.Prelude.{ℕ, List, Option, true, false};
 ghost use Rattle.l4_text.specs.Streams.{WentOut, HasTold, Tells, IsOutBeforeRead};
@@ -70,7 +70,8 @@ impl Held {
 
     /// Whether there is room for a text.
     fn has_room(&self) -> bool
-        ensures { result ≡ true → length self.now + text_bytes ≤ held_bytes }
+        ensures yes { result ≡ true → length self.now + text_bytes ≤ held_bytes }
+        ensures no { result ≡ false → held_bytes < length self.now + text_bytes }
     {
         if self.bytes.room() < MAX_TEXT {
             return false;
@@ -179,7 +180,8 @@ impl Output {
     /// Whether there is room for a text.
     #[inline(always)]
     pub fn has_room(&self) -> bool
-        ensures { result ≡ true → length self.now.0 + text_bytes ≤ held_bytes }
+        ensures yes { result ≡ true → length self.now.0 + text_bytes ≤ held_bytes }
+        ensures no { result ≡ false → held_bytes < length self.now.0 + text_bytes }
     {
         self.held.has_room()
     }
