@@ -20,10 +20,10 @@ use Rattle.l4_lock.specs.declared.refusals.Entered.TheVariants.{Done as HasEnded
 use Rattle.l4_lock.specs.declared.refusals.LockRefusal.{LockRefusal}
 use Rattle.l4_lock.specs.declared.refusals.LockRefusal.TheVariants.{NoMemory, Kernel as ByKernel}
 use Rattle.l4_lock.specs.Receipts.{Proves}
-use Rattle.l4_lock.specs.Books.{SeatState, seat_state, Book, book_at, reply_waits, has_ended, plain, receipts_at, numbers, IsOnce, receipt_of, HasNotEnded, IsPending, IsRight, AreRight}
+use Rattle.l4_lock.specs.Books.{SeatState, seat_state, PassState, pass_state, seat_of, Book, book_at, reply_waits, has_ended, plain, receipts_at, numbers, IsOnce, receipt_of, HasNotEnded, IsPending, IsRight, AreRight}
 use Rattle.l4_lock.specs.Locked.{Lock, lock, IsKept, Enters, Tells, EndsAtOnce, IsLeft, Takes, Refuses, start_entry}
 use Rattle.l4_lock.specs.Inside.Accounts.{SettlesAt, IsUnsettled}
-use Rattle.l4_lock.specs.Inside.Entering.{Begins, IsAdmitted}
+use Rattle.l4_lock.specs.Inside.Entering.{Begins, IsAdmitted, WaitsMore}
 use Rattle.l4_lock.proofs.Right.{pend}
 use Rattle.l4_lock.proofs.Started.{same_book, own_at, set_own, set_other, plain_at, get_there, read_all, right_settled, settled_right, set_same, at_number}
 
@@ -84,21 +84,6 @@ not_taken frames es m books later board published place before after None lt at 
 abbrev pub settled_in : Lock → List Book → Lock
 settled_in l later = record l { books = later }
 
-pub settled_kept : (l : Lock) (later : List Book) (place : ℕ) (before after : SeatState) (own : Call → Call) (ended : Bool) → IsKept l
-    → (ended ≡ true → (reply : Reply) × SettlesAt l.books later place before after own reply) → (ended ≡ false → IsUnsettled l.books later place before after)
-    → IsKept (settled_in l later)
-settled_kept l later place before after own true k settles same =
-    finished l.frames l.history l.kernel l.books later l.board l.published place before after own (Some (settles refl).0) k (settles refl).1 tt
-settled_kept l later place before after own false k settles same =
-    finished l.frames l.history l.kernel l.books later l.board l.published place before after own None k tt (same refl)
-
-pub taken_untold : (l : Lock) (later : List Book) (place : ℕ) (before after : SeatState) (own : Call → Call) (ended : Bool) → IsKept l → book_at l.books before.number ≡ slice_get l.books place
-    → (ended ≡ true → (reply : Reply) × SettlesAt l.books later place before after own reply) → ended ≡ true
-    → (reply : Reply) × Takes l (settled_in l later) before after own reply
-taken_untold l later place before after own ended k at settles is =
-    let s = settles is in
-    (s.0, taken l.frames l.history l.kernel l.books later l.board l.published place before after own (Some s.0) k at s.1)
-
 pub not_taken_untold : (l : Lock) (later : List Book) (place : ℕ) (before after : SeatState) (ended : Bool) → place < length l.books → book_at l.books before.number ≡ slice_get l.books place
     → (ended ≡ false → IsUnsettled l.books later place before after) → ended ≡ false
     → (settled_in l later ≡ l) × (after ≡ before) × ((before.waiting ≡ 0) ⊎ (reply_waits l.books before.number ≡ false))
@@ -125,12 +110,12 @@ others_kept es es' m new books later n place call y b same j ne =
     ∙ plain_at later j ∙ ap (λ (l : List Book). book_at l j) b.same ∙ sym (plain_at (slice_set books place opened) j)
     ∙ ap (option_map plain) (set_other books place b.former opened j b.former_at refl (λ e. ne (e ∙ b.former_number)))
 
-pub placed : (old mid : Lock) (before between : SeatState) (call : Call) (place : ℕ) → IsAdmitted old mid before between call place → place < length mid.books
-placed old mid before between call place a = slice_get_within mid.books place a.begins.book a.begins.at
+pub placed : (old mid : Lock) (n : ℕ) (call : Call) (place : ℕ) → IsAdmitted old mid n call place → place < length mid.books
+placed old mid n call place a = slice_get_within mid.books place a.begins.book a.begins.at
 
-enters : (old mid : Lock) (later : List Book) (before between : SeatState) (call : Call) (place : ℕ) (y : Book) → IsAdmitted old mid before between call place → later ≡ slice_set mid.books place y → y.number ≡ before.number
-    → Enters old (settled_in mid later) before.number call
-enters old mid later before between call place y a changed numbered =
+enters : (old mid : Lock) (later : List Book) (n : ℕ) (call : Call) (place : ℕ) (y : Book) → IsAdmitted old mid n call place → later ≡ slice_set mid.books place y → y.number ≡ n
+    → Enters old (settled_in mid later) n call
+enters old mid later n call place y a changed numbered =
     let b = a.begins in
     record {
       room = a.room;
@@ -143,7 +128,7 @@ enters old mid later before between call place y a changed numbered =
       history = b.history;
       same = a.same;
       others = λ j ne. ap (λ (l : List Book). option_map plain (book_at l j)) changed
-          ∙ others_kept old.history mid.history old.kernel mid.kernel old.books mid.books before.number place call y b numbered j ne;
+          ∙ others_kept old.history mid.history old.kernel mid.kernel old.books mid.books n place call y b numbered j ne;
     }
 
 -- what was kept of the number
@@ -156,10 +141,10 @@ same_call : (p q : Pending) → ◌≡◌ {A = Option Pending} (Some p) (Some q)
 same_call p q e = cc
 
 -- the call has ended, and its receipt is the seat's
-pub entered_done : (old mid : Lock) (later : List Book) (before between after : SeatState) (call : Call) (place : ℕ) (reply : Reply) → IsKept mid → IsAdmitted old mid before between call place
+pub entered_done : (old mid : Lock) (later : List Book) (before between after : SeatState) (call : Call) (place : ℕ) (reply : Reply) → IsKept mid → IsAdmitted old mid before.number call place → WaitsMore before between
     → SettlesAt mid.books later place between after (λ c. c) reply
     → Enters old (settled_in mid later) before.number call × EndsAtOnce old (settled_in mid later) before after call reply
-entered_done old mid later before between after call place reply k a t =
+entered_done old mid later before between after call place reply k a more t =
     let b = a.begins in
     let x : Book = t.former in
     let y : Book = t.settled in
@@ -172,7 +157,7 @@ entered_done old mid later before between after call place reply k a t =
     ∙ subst (λ (j : ℕ). book_at (slice_set mid.books place y) j ≡ Some y) numbered (set_own mid.books place x y t.at (ap (λ (z : Book). z.number) s.book_is) k.right.apart) in
     let had : receipts_at old.books before.number ≡ Some b.former.receipts =
     former_kept old.history mid.history old.kernel mid.kernel old.books mid.books before.number place call b a.apart in (
-      enters old mid later before between call place y a t.changed (ap (λ (z : Book). z.number) s.book_is ∙ numbered),
+      enters old mid later before.number call place y a t.changed (ap (λ (z : Book). z.number) s.book_is ∙ numbered),
       record {
         kept = ap (option_map (λ (z : Book). z.receipts)) settled ∙ ap (λ (rs : List Receipt). Some rs) (ap (λ (z : Book). z.receipts) s.book_is ∙ ap (λ (z : Book). z.receipts ++ receipt_of s.pending s.ended ∷ []) here ∙ ap (λ (rs : List Receipt). rs ++ receipt_of s.pending s.ended ∷ []) b.receipts)
             ∙ sym (ap (option_map (λ (rs : List Receipt). rs ++ receipt_of s.pending s.ended ∷ [])) had);
@@ -182,9 +167,9 @@ entered_done old mid later before between after call place reply k a t =
         start = ap (λ (p : Pending). p.start) its ∙ b.pending_start;
         answers = sym s.answers;
         gains = record {
-          number = s.number ∙ ap (λ (p : SeatState). p.number) a.seat;
-          waiting = (let w = s.waiting in let v = ap (λ (p : SeatState). p.waiting) a.seat in omega (arith, w, v));
-          receipts = s.receipts ∙ ap (λ (p : SeatState). p.receipts ++ receipt_of s.pending s.ended ∷ []) a.seat;
+          number = s.number ∙ ap (λ (p : SeatState). p.number) more;
+          waiting = (let w = s.waiting in let v = ap (λ (p : SeatState). p.waiting) more in omega (arith, w, v));
+          receipts = s.receipts ∙ ap (λ (p : SeatState). p.receipts ++ receipt_of s.pending s.ended ∷ []) more;
           proves = subst (λ (j : ℕ). Proves mid.frames mid.history j (receipt_of s.pending s.ended)) numbered
               (right_settled mid.frames mid.history mid.kernel x s.pending s.ended (read_all (IsRight mid.frames mid.history mid.kernel) mid.books place x t.at k.right.each) s.pending_is s.ended_is).0;
         };
@@ -196,10 +181,10 @@ not_yet frames es m k call start None p e = p.ended
 not_yet frames es m k call start (Some f) p e = absurd (false≢true (sym e))
 
 -- the call has not ended
-pub entered_left : (old mid : Lock) (later : List Book) (before between after : SeatState) (call : Call) (place : ℕ) → IsKept mid → IsAdmitted old mid before between call place
+pub entered_left : (old mid : Lock) (later : List Book) (before between after : SeatState) (call : Call) (place : ℕ) → IsKept mid → IsAdmitted old mid before.number call place → WaitsMore before between
     → IsUnsettled mid.books later place between after
     → Enters old (settled_in mid later) before.number call × IsLeft old (settled_in mid later) before after
-entered_left old mid later before between after call place k a none =
+entered_left old mid later before between after call place k a more none =
     let b = a.begins in
     let its : IsRight mid.frames mid.history mid.kernel b.book = read_all (IsRight mid.frames mid.history mid.kernel) mid.books place b.book b.at k.right.each in
     let pending : IsPending mid.frames mid.history mid.kernel b.book.number b.pending =
@@ -210,25 +195,14 @@ entered_left old mid later before between after call place k a none =
     ap (λ (l : List Book). book_at l before.number) none.same ∙ subst (λ (j : ℕ). book_at mid.books j ≡ Some b.book) b.number (own_at mid.books place b.book b.at k.right.apart) in
     let had : receipts_at old.books before.number ≡ Some b.former.receipts =
     former_kept old.history mid.history old.kernel mid.kernel old.books mid.books before.number place call b a.apart in (
-      enters old mid later before between call place b.book a (none.same ∙ sym (set_same mid.books place b.book b.at)) b.number,
+      enters old mid later before.number call place b.book a (none.same ∙ sym (set_same mid.books place b.book b.at)) b.number,
       record {
         kept = ap (option_map (λ (z : Book). z.receipts)) settled ∙ ap (λ (rs : List Receipt). Some rs) b.receipts ∙ sym had;
-        seat = none.seat ∙ a.seat;
+        seat = none.seat ∙ more;
         not_ended = λ j entry after' at among.
             not_ended.not_ended j entry (let s = b.pending_start in omega (arith, after', s)) at (subst (λ (n : ℕ). Contains entry.answer.ended.items n) (sym b.number) among);
       },
     )
-
--- the same of whether it has ended
-pub entered_either : (old mid : Lock) (later : List Book) (before between after : SeatState) (call : Call) (place : ℕ) (ended : Bool) → IsKept mid → IsAdmitted old mid before between call place
-    → (ended ≡ true → (reply : Reply) × SettlesAt mid.books later place between after (λ c. c) reply) → (ended ≡ false → IsUnsettled mid.books later place between after)
-    → Enters old (settled_in mid later) before.number call × ((e : Entered) × Tells old (settled_in mid later) before after call e)
-entered_either old mid later before between after call place true k a settles same =
-    let done = entered_done old mid later before between after call place (settles refl).0 k a (settles refl).1 in
-    (done.0, (HasEnded (settles refl).0, done.1))
-entered_either old mid later before between after call place false k a settles same =
-    let left = entered_left old mid later before between after call place k a (same refl) in
-    (left.0, (IsWaiting, left.1))
 
 pub seat_back : (before between after : SeatState) → between ≡ record before { waiting = before.waiting + 1 } → between ≡ record after { waiting = after.waiting + 1 } → after ≡ before
 seat_back before between after more less =
@@ -248,3 +222,47 @@ refuses frames es m books board published n call e waits few there why =
 
 pub some_there : (o : Option Book) (b : Book) → o ≡ Some b → o ≢ None
 some_there o b is none = let k : ◌≡◌ {A = Option Book} None (Some b) = sym none ∙ is in cc
+
+-- BY A PASS
+
+-- what a seat gains, whatever receipts it has, in the place of the pass
+abbrev GainsAt : List Book → List Book → ℕ → PassState → PassState → Type 0
+GainsAt books later place p q = (rs : List Receipt) → (reply : Reply) × (more : List Receipt) × SettlesAt books later place (seat_of p rs) (seat_of q more) (λ c. c) reply
+
+abbrev GainsNothing : List Book → List Book → ℕ → PassState → PassState → Type 0
+GainsNothing books later place p q = (rs : List Receipt) → IsUnsettled books later place (seat_of p rs) (seat_of q rs)
+
+pub passed_kept : (l : Lock) (later : List Book) (place : ℕ) (p q : PassState) (ended : Bool) → IsKept l → (ended ≡ true → GainsAt l.books later place p q) → (ended ≡ false → GainsNothing l.books later place p q)
+    → IsKept (settled_in l later)
+passed_kept l later place p q true k settles same =
+    let s = settles refl [] in
+    finished l.frames l.history l.kernel l.books later l.board l.published place (seat_of p []) (seat_of q s.1) (λ c. c) (Some s.0) k s.2 tt
+passed_kept l later place p q false k settles same =
+    finished l.frames l.history l.kernel l.books later l.board l.published place (seat_of p []) (seat_of q []) (λ c. c) None k tt (same refl [])
+
+pub passed_taken : (l : Lock) (later : List Book) (place : ℕ) (p q : PassState) (ended : Bool) → IsKept l → book_at l.books p.number ≡ slice_get l.books place → (ended ≡ true → GainsAt l.books later place p q)
+    → ended ≡ true → (rs : List Receipt) → (reply : Reply) × (more : List Receipt) × Takes l (settled_in l later) (seat_of p rs) (seat_of q more) (λ c. c) reply
+passed_taken l later place p q ended k at settles is rs =
+    let s = settles is rs in
+    (s.0, s.1, taken l.frames l.history l.kernel l.books later l.board l.published place (seat_of p rs) (seat_of q s.1) (λ c. c) (Some s.0) k at s.2)
+
+pub passed_untaken : (l : Lock) (later : List Book) (place : ℕ) (p q : PassState) (ended : Bool) → place < length l.books → book_at l.books p.number ≡ slice_get l.books place
+    → (ended ≡ false → GainsNothing l.books later place p q) → ended ≡ false → (settled_in l later ≡ l) × (q ≡ p) × ((p.waiting ≡ 0) ⊎ (reply_waits l.books p.number ≡ false))
+passed_untaken l later place p q ended lt at same is =
+    let n = not_taken_untold l later place (seat_of p []) (seat_of q []) ended lt at (λ e. same e []) is in
+    (n.0, ap (λ (s : SeatState). pass_state s.number s.waiting) n.1, n.2)
+
+pub passed_entered : (old mid : Lock) (later : List Book) (p between q : PassState) (call : Call) (place : ℕ) (ended : Bool) → IsKept mid → IsAdmitted old mid p.number call place → between ≡ record p { waiting = p.waiting + 1 }
+    → (ended ≡ true → GainsAt mid.books later place between q) → (ended ≡ false → GainsNothing mid.books later place between q)
+    → Enters old (settled_in mid later) p.number call × ((rs : List Receipt) → (e : Entered) × (more : List Receipt) × Tells old (settled_in mid later) (seat_of p rs) (seat_of q more) call e)
+passed_entered old mid later p between q call place true k a waits settles same =
+    let done = λ (rs : List Receipt). entered_done old mid later (seat_of p rs) (seat_of between rs) (seat_of q (settles refl rs).1) call place (settles refl rs).0 k a (ap (λ (x : PassState). seat_of x rs) waits) (settles refl rs).2 in
+    ((done []).0, λ rs. (HasEnded (settles refl rs).0, (settles refl rs).1, (done rs).1))
+passed_entered old mid later p between q call place false k a waits settles same =
+    let left = λ (rs : List Receipt). entered_left old mid later (seat_of p rs) (seat_of between rs) (seat_of q rs) call place k a (ap (λ (x : PassState). seat_of x rs) waits) (same refl rs) in
+    ((left []).0, λ rs. (IsWaiting, rs, (left rs).1))
+
+pub pass_back : (before between after : PassState) → between ≡ record before { waiting = before.waiting + 1 } → between ≡ record after { waiting = after.waiting + 1 } → after ≡ before
+pass_back before between after more less =
+    ap (λ (s : SeatState). pass_state s.number s.waiting)
+    (seat_back (seat_of before []) (seat_of between []) (seat_of after []) (ap (λ (x : PassState). seat_of x []) more) (ap (λ (x : PassState). seat_of x []) less))

@@ -24,6 +24,18 @@ pub record SeatState : Type 0 where
 abbrev pub seat_state : ℕ → ℕ → List Receipt → SeatState
 seat_state number waiting receipts = record { number = number; waiting = waiting; receipts = receipts }
 
+-- what a pass keeps: its number, and how many of its calls were left waiting and not taken yet
+pub record PassState : Type 0 where
+  pub number : ℕ
+  pub waiting : ℕ
+
+abbrev pub pass_state : ℕ → ℕ → PassState
+pass_state number waiting = record { number = number; waiting = waiting }
+
+-- the seat that a pass would be, had it kept these receipts
+abbrev pub seat_of : PassState → List Receipt → SeatState
+seat_of p receipts = seat_state p.number p.waiting receipts
+
 -- the calls that it started: each has its receipt or was left waiting
 abbrev pub starts : SeatState → ℕ
 starts p = length p.receipts + p.waiting

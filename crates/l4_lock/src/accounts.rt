@@ -1,16 +1,18 @@
 //! The accounts of the seats that were given.
-ghost use Rattle.std.specs.Prelude.{◌≡◌, ◌≢◌, ◌<◌, ℕ, Some, None, [], ◌∷◌, ◌++◌, length, IfSome, IfNone, MatchOption, MatchResult, is_some, true, false, slice_get, slice_set};
+ghost use Rattle.std.specs.Prelude.{◌≡◌, ◌≢◌, ◌<◌, ℕ, List, Some, None, [], ◌∷◌, ◌++◌, length, IfSome, IfNone, MatchOption, MatchResult, is_some, true, false, slice_get, slice_set};
 ghost use Rattle.std.specs.Option.{option_copied};
 ghost use Rattle.l4_threads.specs.declared.Reply.{Reply as AReply};
-ghost use Rattle.l4_lock.specs.Books.{Book, book, book_at, reply_waits, numbers, IsOnce};
+ghost use Rattle.l4_lock.specs.Books.{Book, book, book_at, reply_waits, numbers, IsOnce, seat_of};
 ghost use Rattle.l4_lock.specs.Inside.Accounts.{has_reply, SettlesAt, IsUnsettled};
 ghost use Rattle.l4_lock.specs.Inside.Noting.{noted, own_call, first_reply};
 ghost use Rattle.l4_lock.specs.Inside.Pending.{AreOf};
 ghost use Rattle.l4_lock.specs.Inside.Entering.{HasBegun};
 ghost use Rattle.l4_ipc.specs.declared.calls.Call.{Call as ACall};
+ghost use Rattle.l4_lock.specs.declared.entries.Receipt.{Receipt as AReceipt};
 
 use crate::history::History;
-use crate::seats::{Account, Seat, settle};
+use crate::passes::Pass;
+use crate::seats::{Account, Seat, settle, settle_kept};
 use l4_ipc::{Call, Kernel, Reply};
 use l4_packed::Words;
 use std::alloc::{AllocError, Global};
@@ -195,7 +197,24 @@ impl Accounts {
         true
     }
 
-    /// The same, with the reply.
+    /// Takes the call of this place, if it has ended: the account gains its receipt, and so would any seat in the place of the pass.
+    #[inline(always)]
+    pub fn settle_kept(&mut self, at: usize, pass: &mut Pass, history: &mut History) -> bool
+        requires waiting { pass.old.waiting ≢ 0 }
+        requires at { at < length self.old.items }
+        ensures settles { result ≡ true → (receipts : List AReceipt)
+            → (reply : AReply) × (later : List AReceipt) × SettlesAt self.old.items self.new.items at (seat_of pass.old receipts) (seat_of pass.new later) (λ call. call) reply }
+        ensures same { result ≡ false → (receipts : List AReceipt) → IsUnsettled self.old.items self.new.items at (seat_of pass.old receipts) (seat_of pass.new receipts) }
+        ensures history { history.new ≡ history.old }
+    {
+        if !settle_kept(&mut self.items[at], pass, history) {
+            return false;
+        }
+        self.replies -= 1;
+        true
+    }
+
+    /// `settle` with the reply.
     pub fn finish(
         &mut self,
         at: usize,

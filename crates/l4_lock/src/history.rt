@@ -118,6 +118,15 @@ impl History {
         own.share(other, &mut self.entries);
     }
 
+    /// Stores what is full of the list's memory by entries of the history, as hints say. No item changes.
+    #[inline(always)]
+    pub(crate) fn shorten<T: FromWords>(&mut self, own: &mut PackedList<T>)
+        ensures history { self.new ≡ self.old }
+        ensures own { own.new ≡ own.old }
+    {
+        own.shorten(&mut self.entries);
+    }
+
     /// Appends the entry of a step that came next, for which there is room.
     pub(crate) fn push_next(&mut self, seat: u32, next: NextStep)
         requires { length self.old.entries < self.old.room }

@@ -1,7 +1,7 @@
 //! The locked kernel.
-ghost use Rattle.std.specs.Prelude.{◌≡◌, ◌≢◌, ◌⊎◌, ◌+◌, ◌≤◌, ℕ, [], ◌∷◌, ◌++◌, None, IfOk, IfErr, IfSome, IfNone, true, false, MatchOption, MatchResult, length, vec_len, ◌<◌};
+ghost use Rattle.std.specs.Prelude.{◌≡◌, ◌≢◌, ◌⊎◌, ◌+◌, ◌≤◌, ℕ, List, [], ◌∷◌, ◌++◌, None, IfOk, IfErr, IfSome, IfNone, true, false, MatchOption, MatchResult, length, vec_len, ◌<◌};
 ghost use Rattle.l4_ipc.specs.Machine.{IsBoot};
-ghost use Rattle.l4_lock.specs.Books.{seat_state, book, book_at, reply_waits};
+ghost use Rattle.l4_lock.specs.Books.{seat_state, pass_state, seat_of, book, book_at, reply_waits};
 ghost use Rattle.l4_lock.specs.Closing.{Closes, Mismatches, by_history};
 ghost use Rattle.l4_lock.specs.Laws.{IsWholeRun};
 ghost use Rattle.l4_lock.specs.Lists.{AreFollowedFrom};
@@ -9,6 +9,7 @@ ghost use Rattle.l4_lock.specs.Locked.{IsKept, RefusesBoot, Enters, Tells, Refus
 ghost use Rattle.l4_lock.specs.declared.refusals.LockRefusal.TheVariants.{SeatTaken, NoMemory as WantOfMemory};
 ghost use Rattle.l4_threads.specs.declared.Reply.{Reply as AReply};
 ghost use Rattle.l4_lock.specs.declared.refusals.Entered.{Entered as AnEntered};
+ghost use Rattle.l4_lock.specs.declared.entries.Receipt.{Receipt as AReceipt};
 ghost use Rattle.l4_lock.specs.Inside.Entering.{IsAdmitted};
 ghost use Rattle.l4_board.specs.Board.{IsNewWatch};
 ghost use Rattle.std.specs.List.{All};
@@ -17,6 +18,7 @@ use crate::accounts::Accounts;
 use crate::closing::{Unclosed, first_mismatch};
 use crate::followed::Followed;
 use crate::history::History;
+use crate::passes::Pass;
 use crate::refusals::{Entered, LockRefusal};
 use crate::seats::Seat;
 use crate::steps::begin;
@@ -143,13 +145,38 @@ impl Locked {
             (λ e. (self.new ≡ self.old)
             × (((e ≡ SeatTaken) × (book_at self.old.books number ≢ None)) ⊎ ((e ≡ WantOfMemory) × (book_at self.old.books number ≡ None)))) }
     {
+        self.open(number)?;
+        Ok(Seat::new(self.alloc, number))
+    }
+
+    /// The pass of a number in the place of its seat, once.
+    ///
+    /// Refusals as those of `seat`.
+    pub fn pass(&mut self, number: u32) -> Result<Pass, LockRefusal>
+        ensures { MatchResult result
+            (λ p. (p ≡ pass_state number 0) × (book_at self.old.books number ≡ None)
+            × (self.new ≡ record self.old { books = self.old.books ++ book number None [] ∷ [] }))
+            (λ e. (self.new ≡ self.old)
+            × (((e ≡ SeatTaken) × (book_at self.old.books number ≢ None)) ⊎ ((e ≡ WantOfMemory) × (book_at self.old.books number ≡ None)))) }
+    {
+        self.open(number)?;
+        Ok(Pass::new(number))
+    }
+
+    /// Opens the account of a number that has none.
+    fn open(&mut self, number: u32) -> Result<(), LockRefusal>
+        ensures { MatchResult result
+            (λ _. (book_at self.old.books number ≡ None) × (self.new ≡ record self.old { books = self.old.books ++ book number None [] ∷ [] }))
+            (λ e. (self.new ≡ self.old)
+            × (((e ≡ SeatTaken) × (book_at self.old.books number ≢ None)) ⊎ ((e ≡ WantOfMemory) × (book_at self.old.books number ≡ None)))) }
+    {
         if self.accounts.position(number).is_some() {
             return Err(LockRefusal::SeatTaken);
         }
         if self.accounts.add(self.alloc, number).is_err() {
             return Err(LockRefusal::NoMemory);
         }
-        Ok(Seat::new(self.alloc, number))
+        Ok(())
     }
 
     /// Enters a call of the seat's thread: its start is appended to the history, and then the steps that come next until there is
@@ -161,9 +188,16 @@ impl Locked {
         ensures ok { IfOk result (λ e. Enters self.old self.new seat.old.number call × Tells self.old self.new seat.old seat.new call e) }
         ensures err { IfErr result (λ e. Refuses self.old seat.old.number call e × (self.new ≡ self.old) × (seat.new ≡ seat.old)) }
     {
-        let at = match self.admit(seat, &call) {
+        let number = seat.number();
+        let has_room = seat.wait_more();
+        let at = match self.admit(number, has_room, &call) {
             Ok((at, _)) => at,
-            Err(refusal) => return Err(refusal),
+            Err(refusal) => {
+                if has_room {
+                    seat.wait_less();
+                }
+                return Err(refusal);
+            }
         };
         if let Some(reply) = self.accounts.finish(at, seat, None, &mut self.history) {
             return Ok(Entered::Done(reply));
@@ -171,27 +205,41 @@ impl Locked {
         Ok(Entered::Waiting)
     }
 
-    /// The same, and hands no reply out: the seat's receipt and the kernel have it. Answers what was appended to the history, where that is little.
-    pub fn enter_untold(&mut self, seat: &mut Seat, call: &Call) -> Result<Followed, LockRefusal>
-        ensures ok { IfOk result (λ _. Enters self.old self.new seat.old.number call.now × ((e : AnEntered) × Tells self.old self.new seat.old seat.new call.now e)) }
-        ensures followed { IfOk result (λ followed. AreFollowedFrom seat.old.number followed (length self.old.history) self.new.history) }
-        ensures err { IfErr result (λ e. Refuses self.old seat.old.number call.now e × (self.new ≡ self.old) × (seat.new ≡ seat.old)) }
+    /// The same by a pass, and hands no reply out: the lock has the receipt that a seat would gain, and the kernel the reply. Answers what was
+    /// appended to the history, where that is little.
+    pub fn enter_untold(&mut self, pass: &mut Pass, call: &Call) -> Result<Followed, LockRefusal>
+        ensures ok { IfOk result (λ _. Enters self.old self.new pass.old.number call.now
+            × ((receipts : List AReceipt) → (e : AnEntered) × (later : List AReceipt) × Tells self.old self.new (seat_of pass.old receipts) (seat_of pass.new later) call.now e)) }
+        ensures followed { IfOk result (λ followed. AreFollowedFrom pass.old.number followed (length self.old.history) self.new.history) }
+        ensures err { IfErr result (λ e. Refuses self.old pass.old.number call.now e × (self.new ≡ self.old) × (pass.new ≡ pass.old)) }
     {
-        let (at, followed) = match self.admit(seat, call) {
+        let number = pass.number();
+        let has_room = pass.wait_more();
+        let (at, followed) = match self.admit(number, has_room, call) {
             Ok((at, followed)) => (at, followed),
-            Err(refusal) => return Err(refusal),
+            Err(refusal) => {
+                if has_room {
+                    pass.wait_less();
+                }
+                return Err(refusal);
+            }
         };
-        self.accounts.settle(at, seat, None, &mut self.history);
+        self.accounts.settle_kept(at, pass, &mut self.history);
         Ok(followed)
     }
 
-    /// Enters a call up to what its seat gains, and answers where its account stands and what was appended.
-    fn admit(&mut self, seat: &mut Seat, call: &Call) -> Result<(usize, Followed), LockRefusal>
-        ensures ok { IfOk result (λ r. IsAdmitted self.old self.new seat.old seat.new call.now r.0) }
-        ensures followed { IfOk result (λ r. AreFollowedFrom seat.old.number r.1 (length self.old.history) self.new.history) }
-        ensures err { IfErr result (λ e. Refuses self.old seat.old.number call.now e × (self.new ≡ self.old) × (seat.new ≡ seat.old)) }
+    /// Enters a call up to what its seat gains, which has room for that, and answers where its account stands and what was appended.
+    fn admit(
+        &mut self,
+        number: u32,
+        has_room: bool,
+        call: &Call,
+    ) -> Result<(usize, Followed), LockRefusal>
+        ensures ok { IfOk result (λ r. IsAdmitted self.old self.new number call.now r.0) }
+        ensures room { IfOk result (λ _. has_room ≡ true) }
+        ensures followed { IfOk result (λ r. AreFollowedFrom number r.1 (length self.old.history) self.new.history) }
+        ensures err { IfErr result (λ e. Refuses self.old number call.now e × (self.new ≡ self.old)) }
     {
-        let number = seat.number();
         if self.accounts.reply_waits(number) {
             return Err(LockRefusal::ReplyWaiting);
         }
@@ -204,7 +252,7 @@ impl Locked {
         let Some(at) = self.accounts.position(number) else {
             return Err(LockRefusal::Kernel(Refused::UnknownThread));
         };
-        if seat.wait_more().is_err() {
+        if !has_room {
             return Err(LockRefusal::NoMemory);
         }
         let begun = begin(
@@ -217,10 +265,7 @@ impl Locked {
         );
         let followed = match begun {
             Ok(followed) => followed,
-            Err(refusal) => {
-                seat.wait_less();
-                return Err(refusal);
-            }
+            Err(refusal) => return Err(refusal),
         };
         self.publisher.publish(self.history.len() as u64);
         Ok((at, followed))
@@ -241,19 +286,20 @@ impl Locked {
         self.accounts.finish(at, seat, None, &mut self.history)
     }
 
-    /// The same, and hands no reply out: whether there was one.
-    pub fn take_untold(&mut self, seat: &mut Seat) -> bool
-        ensures taken { result ≡ true → (reply : AReply) × Takes self.old self.new seat.old seat.new (λ call. call) reply }
-        ensures none { result ≡ false → (self.new ≡ self.old) × (seat.new ≡ seat.old)
-            × ((seat.old.waiting ≡ 0) ⊎ (reply_waits self.old.books seat.old.number ≡ false)) }
+    /// The same by a pass, and hands no reply out: whether there was one.
+    pub fn take_untold(&mut self, pass: &mut Pass) -> bool
+        ensures taken { result ≡ true → (receipts : List AReceipt)
+            → (reply : AReply) × (later : List AReceipt) × Takes self.old self.new (seat_of pass.old receipts) (seat_of pass.new later) (λ call. call) reply }
+        ensures none { result ≡ false → (self.new ≡ self.old) × (pass.new ≡ pass.old)
+            × ((pass.old.waiting ≡ 0) ⊎ (reply_waits self.old.books pass.old.number ≡ false)) }
     {
-        if seat.waiting() == 0 {
+        if pass.waiting() == 0 {
             return false;
         }
-        let Some(at) = self.accounts.position(seat.number()) else {
+        let Some(at) = self.accounts.position(pass.number()) else {
             return false;
         };
-        self.accounts.settle(at, seat, None, &mut self.history)
+        self.accounts.settle_kept(at, pass, &mut self.history)
     }
 
     /// The number of a seat whose ended call has not been taken. None where there is none.

@@ -117,6 +117,15 @@ impl Receipts {
         history.let_share(&mut self.receipts, &mut other.receipts);
     }
 
+    /// Stores what is full of their memory by entries of the history, as hints say. No receipt changes.
+    #[inline(always)]
+    pub(crate) fn shorten(&mut self, history: &mut History)
+        ensures own { self.new ≡ self.old }
+        ensures history { history.new ≡ history.old }
+    {
+        history.shorten(&mut self.receipts);
+    }
+
     /// Whether these are the same receipts.
     pub(crate) fn same(&self, other: &Receipts) -> bool
         ensures same { result ≡ true → self.now.items ≡ other.now.items }

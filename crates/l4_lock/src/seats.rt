@@ -1,16 +1,18 @@
 //! Seats, and what the lock keeps of each.
-ghost use Rattle.std.specs.Prelude.{◌≡◌, ◌≢◌, ◌+◌, ◌<◌, ◌≤◌, ℕ, Some, None, [], ◌∷◌, ◌++◌, length, MatchResult, IsTrue, is_some, true, false};
+ghost use Rattle.std.specs.Prelude.{◌≡◌, ◌≢◌, ◌+◌, ◌<◌, ◌≤◌, ℕ, List, Some, None, [], ◌∷◌, ◌++◌, length, MatchResult, IsTrue, is_some, true, false};
 ghost use Rattle.std.specs.Option.{option_map_or, option_copied};
-ghost use Rattle.l4_lock.specs.Books.{SeatState, seat_state, starts, Book, book, pending_count, has_ended, Settles};
+ghost use Rattle.l4_lock.specs.Books.{SeatState, seat_state, seat_of, starts, Book, book, pending_count, has_ended, receipt_of, Settles};
 ghost use Rattle.l4_lock.specs.Inside.Accounts.{has_reply};
 ghost use Rattle.l4_lock.specs.Inside.Noting.{started_by, noted, reply_pending, own_call};
 ghost use Rattle.l4_lock.specs.Inside.Packing.{receipt_at};
 ghost use Rattle.l4_lock.specs.Inside.Pending.{AreOf};
 ghost use Rattle.l4_lock.specs.declared.entries.Pending.{Pending as APending};
 ghost use Rattle.l4_lock.specs.declared.entries.Receipt.{Receipt as AReceipt};
+ghost use Rattle.l4_lock.specs.declared.entries.Ended.{Ended as AnEnd};
 
 use crate::entries::Receipt;
 use crate::history::History;
+use crate::passes::Pass;
 use crate::pending::PendingCall;
 use crate::receipts::Receipts;
 use l4_ipc::{Call, Kernel, Reply};
@@ -80,14 +82,17 @@ impl Seat {
         &self.receipts
     }
 
-    /// One call more is left waiting, and there is room for its receipt.
-    pub(crate) fn wait_more(&mut self) -> Result<(), AllocError>
-        ensures { MatchResult result (λ _. self.new ≡ record self.old { waiting = self.old.waiting + 1 }) (λ _. self.new ≡ self.old) }
+    /// One call more is left waiting, and there is room for its receipt. False where there is none, and then nothing has changed.
+    pub(crate) fn wait_more(&mut self) -> bool
+        ensures more { result ≡ true → self.new ≡ record self.old { waiting = self.old.waiting + 1 } }
+        ensures same { result ≡ false → self.new ≡ self.old }
     {
         let room = self.waiting + 1;
-        self.receipts.reserve(room)?;
+        if self.receipts.reserve(room).is_err() {
+            return false;
+        }
         self.waiting = room;
-        Ok(())
+        true
     }
 
     /// One call fewer is left waiting.
@@ -281,6 +286,21 @@ fn hint_long(receipts: &mut Receipts, words: &Words<'_>, start: usize, source: u
     }
 }
 
+/// The receipts gain that of the call, which has ended, and these are its words.
+#[inline(always)]
+fn gain<'a>(receipts: &mut Receipts, pending: &'a PendingCall) -> Words<'a>
+    requires room { length receipts.old.items < receipts.old.room }
+    requires ended { option_map_or has_ended pending.now false ≡ true }
+    ensures receipt { (p : APending) × (e : AnEnd) × (pending.now ≡ Some p) × (p.ended ≡ Some e) × (receipt_at result ≡ Some (receipt_of p e))
+        × (receipts.new.items ≡ receipts.old.items ++ receipt_of p e ∷ []) }
+    ensures room { (length receipts.new.items ≡ length receipts.old.items + 1) × (receipts.new.room ≡ receipts.old.room) }
+{
+    let words = pending.receipt();
+    receipts.push_words(&words);
+    hint_long(receipts, &words, pending.start(), pending.source());
+    words
+}
+
 /// Takes the account's call, which has ended: the account and the seat gain its receipt. The seat's has the call that the seat knows of.
 /// Full pieces of receipts that are the same in both then have two owners, and what is long in them is stored by entries of the history.
 #[inline(never)]
@@ -295,9 +315,7 @@ fn settle_ended(account: &mut Account, seat: &mut Seat, own: Option<&Call>, hist
         pending,
         receipts,
     } = account;
-    let words = pending.receipt();
-    receipts.push_words(&words);
-    hint_long(receipts, &words, pending.start(), pending.source());
+    let words = gain(receipts, pending);
     hand_over(seat, words, own);
     seat.share(receipts, history);
     pending.forget();
@@ -320,5 +338,41 @@ pub(crate) fn settle(
         return false;
     }
     settle_ended(account, seat, own, history);
+    true
+}
+
+/// Takes the account's call, which has ended: the account gains its receipt, and so would any seat in the place of the pass.
+#[inline(never)]
+fn settle_kept_ended(account: &mut Account, pass: &mut Pass, history: &mut History)
+    requires waiting { pass.old.waiting ≢ 0 }
+    requires ended { option_map_or has_ended account.old.pending false ≡ true }
+    ensures settles { (receipts : List AReceipt)
+        → (reply : _) × (later : List AReceipt) × Settles account.old account.new (seat_of pass.old receipts) (seat_of pass.new later) (λ call. call) reply }
+    ensures history { history.new ≡ history.old }
+{
+    let Account {
+        number: _,
+        pending,
+        receipts,
+    } = account;
+    let _words = gain(receipts, pending);
+    receipts.shorten(history);
+    pass.wait_less();
+    pending.forget();
+}
+
+/// Takes the account's call, if it has ended, as `settle_kept_ended` does.
+#[inline(always)]
+pub(crate) fn settle_kept(account: &mut Account, pass: &mut Pass, history: &mut History) -> bool
+    requires { pass.old.waiting ≢ 0 }
+    ensures history { history.new ≡ history.old }
+    ensures settles { result ≡ true → (receipts : List AReceipt)
+        → (reply : _) × (later : List AReceipt) × Settles account.old account.new (seat_of pass.old receipts) (seat_of pass.new later) (λ call. call) reply }
+    ensures same { result ≡ false → (account.new ≡ account.old) × (pass.new ≡ pass.old) × (option_map_or has_ended account.old.pending false ≡ false) }
+{
+    if !account.has_reply() {
+        return false;
+    }
+    settle_kept_ended(account, pass, history);
     true
 }

@@ -163,24 +163,17 @@ fn for_several(alloc: Global, piece: QuotingPiece) -> Option<FullPiece>
     }
 }
 
-/// What a piece is stored as that two lists have, by hints where its words stand in a third one: it is for several owners. None where it
-/// stays as it is.
+/// What a piece is stored as by hints where its words stand in another list: it is for several owners. None where it stays as it is.
 fn shorter(
     own: &FullPiece,
-    theirs: &FullPiece,
     hints: &[Hint],
     full: &mut Vec<FullPiece>,
     alloc: Global,
 ) -> Option<FullPiece>
     ensures own { IfSome result (λ p. p ≡ own.now) }
-    ensures theirs { IfSome result (λ p. p ≡ theirs.now) }
     ensures full { (full.new.items ≡ full.old.items) × (vec_capacity full.new ≡ vec_capacity full.old) }
 {
-    let piece = own.piece()?;
-    if !piece.same(theirs.piece()?) {
-        return None;
-    }
-    for_several(alloc, quoting(piece, hints, full, alloc)?)
+    for_several(alloc, quoting(own.piece()?, hints, full, alloc)?)
 }
 
 /// Whether two pieces are the same, and each has its bytes together.
@@ -208,7 +201,7 @@ fn share(
     if !are_same(own, theirs) {
         return;
     }
-    match shorter(own, theirs, hints, full, alloc) {
+    match shorter(theirs, hints, full, alloc) {
         Some(piece) => *theirs = piece,
         None => theirs.open(alloc),
     }
@@ -235,4 +228,23 @@ pub(crate) fn share_at(
     ensures full { (full.new.items ≡ full.old.items) × (vec_capacity full.new ≡ vec_capacity full.old) }
 {
     share(&mut own[place], &mut theirs[place], hints, full, alloc);
+}
+
+/// Stores the piece at this place by the pieces of another list, where the hints show how.
+#[cold]
+#[inline(never)]
+pub(crate) fn shorten_at(
+    own: &mut Vec<FullPiece>,
+    place: usize,
+    hints: &[Hint],
+    full: &mut Vec<FullPiece>,
+    alloc: Global,
+)
+    requires { place < vec_len own.old }
+    ensures own { (own.new.items ≡ own.old.items) × (vec_capacity own.new ≡ vec_capacity own.old) }
+    ensures full { (full.new.items ≡ full.old.items) × (vec_capacity full.new ≡ vec_capacity full.old) }
+{
+    if let Some(piece) = shorter(&own[place], hints, full, alloc) {
+        own[place] = piece;
+    }
 }

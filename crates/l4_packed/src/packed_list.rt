@@ -158,6 +158,15 @@ impl<T: FromWords> PackedList<T> {
     {
         self.records.share(&mut other.records, &mut quoted.records);
     }
+
+    /// Stores memory of the list that is full by items of another list, as hints say. No item changes.
+    #[inline(always)]
+    pub fn shorten<U: FromWords>(&mut self, quoted: &mut PackedList<U>)
+        ensures own { self.new ≡ self.old }
+        ensures quoted { quoted.new ≡ quoted.old }
+    {
+        self.records.shorten(&mut quoted.records);
+    }
 }
 
 /// Items of a packed list, one after another. Contracts see those that are left.

@@ -4,7 +4,7 @@ ghost use Rattle.std.specs.List.{All};
 ghost use Rattle.l4_packed.specs.Inside.Pieces.{AreNumbered, IsBlank, IsStore, records_of};
 ghost use Rattle.l4_packed.specs.Records.{RecordList, record_list};
 
-use crate::full_pieces::{FullPiece, share_at};
+use crate::full_pieces::{FullPiece, share_at, shorten_at};
 use crate::numbers::are_small;
 use crate::packing::{RECORD_BYTES, parts_len, record_len};
 use crate::pieces::{PIECE_BYTES, Piece};
@@ -347,6 +347,43 @@ impl Records {
         share_at(
             &mut self.full,
             &mut other.full,
+            place,
+            self.hints.as_slice(),
+            &mut quoted.full,
+            self.alloc,
+        );
+        self.hints.retain(|hint| hint.place >= end);
+    }
+
+    /// Stores the next full piece that wasn't looked at yet by records of another store, as hints say. The records stay as they are.
+    #[inline(always)]
+    pub fn shorten(&mut self, quoted: &mut Records)
+        ensures own { self.new ≡ self.old }
+        ensures quoted { quoted.new ≡ quoted.old }
+    {
+        if self.shared < self.full.len() {
+            self.shorten_next(quoted);
+        }
+    }
+
+    /// `shorten` where there is such a piece. It waits until what the hints of the piece name stands in full pieces.
+    #[cold]
+    #[inline(never)]
+    fn shorten_next(&mut self, quoted: &mut Records)
+        ensures own { self.new ≡ self.old }
+        ensures quoted { quoted.new ≡ quoted.old }
+    {
+        let place = self.shared;
+        if place >= self.full.len() {
+            return;
+        }
+        let end = self.full[place].end();
+        if !are_quotable(self.hints.as_slice(), end, quoted.current.first()) {
+            return;
+        }
+        self.shared = place + 1;
+        shorten_at(
+            &mut self.full,
             place,
             self.hints.as_slice(),
             &mut quoted.full,

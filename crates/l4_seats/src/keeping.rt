@@ -7,11 +7,11 @@ ghost use Rattle.l4_ipc.specs.Steps.{IsIdle};
 ghost use Rattle.l4_seats.specs.Inside.Keeping.{numbers_of, seat_at, AreTheirs, AreSeats, waiting_in, OnlyTakes, EntersAndTakes};
 
 use l4_ipc::Call;
-use l4_lock::{Followed, LockRefusal, Locked, Seat};
+use l4_lock::{Followed, LockRefusal, Locked, Pass};
 
 /// Where the seat of a number stands among all. It is rare that the seats were not given in the order of their numbers.
 #[cold]
-fn position_among(seats: &[Seat], number: u32) -> Option<usize>
+fn position_among(seats: &[Pass], number: u32) -> Option<usize>
     requires { IsOnce (numbers_of seats.now) }
     ensures { MatchOption result (seat_at seats.now number ≡ None)
         (λ at. (at < length seats.now) × (seat_at seats.now number ≡ slice_get seats.now at)) }
@@ -25,7 +25,7 @@ fn position_among(seats: &[Seat], number: u32) -> Option<usize>
 }
 
 /// Where the seat of a number stands. Nothing is searched where the seats were given in the order of their numbers, from 1 on.
-pub fn position(seats: &[Seat], number: u32) -> Option<usize>
+pub fn position(seats: &[Pass], number: u32) -> Option<usize>
     requires { IsOnce (numbers_of seats.now) }
     ensures { MatchOption result (seat_at seats.now number ≡ None)
         (λ at. (at < length seats.now) × (seat_at seats.now number ≡ slice_get seats.now at)) }
@@ -38,7 +38,7 @@ pub fn position(seats: &[Seat], number: u32) -> Option<usize>
 }
 
 /// The seat of a number takes the reply of its call that has ended.
-fn take_one(locked: &mut Locked, seats: &mut Vec<Seat>, number: u32)
+fn take_one(locked: &mut Locked, seats: &mut Vec<Pass>, number: u32)
     requires theirs { AreTheirs locked.old.books seats.old.items }
     requires waits { reply_waits locked.old.books number ≡ true }
     ensures theirs { AreTheirs locked.new.books seats.new.items }
@@ -53,7 +53,7 @@ fn take_one(locked: &mut Locked, seats: &mut Vec<Seat>, number: u32)
 }
 
 /// Each seat takes the reply of its call that has ended.
-fn take_all(locked: &mut Locked, seats: &mut Vec<Seat>)
+fn take_all(locked: &mut Locked, seats: &mut Vec<Pass>)
     requires { AreTheirs locked.old.books seats.old.items }
     ensures seats { AreSeats locked.new.books seats.new.items }
     ensures numbers { numbers_of seats.new.items ≡ numbers_of seats.old.items }
@@ -67,7 +67,7 @@ fn take_all(locked: &mut Locked, seats: &mut Vec<Seat>)
 /// Enters a call by the seat at a place, and takes all replies. Answers what was appended to the history. After a refusal nothing has changed.
 pub fn enter_at(
     locked: &mut Locked,
-    seats: &mut Vec<Seat>,
+    seats: &mut Vec<Pass>,
     at: usize,
     number: u32,
     call: &Call,

@@ -7,7 +7,7 @@ ghost use Rattle.l4_seats.specs.Seated.{IsNew, with_number, MayEnter, Refuses, E
 
 use crate::keeping::{enter_at, position};
 use l4_ipc::{Call, Kernel, NoMemory, Refused};
-use l4_lock::{Board, Followed, History, LockRefusal, Locked, MAX_ENTRIES, MAX_STEPS, Seat, Watch};
+use l4_lock::{Board, Followed, History, LockRefusal, Locked, MAX_ENTRIES, MAX_STEPS, Pass, Watch};
 use std::alloc::Global;
 use std::marker::Model;
 
@@ -15,7 +15,7 @@ use std::marker::Model;
 #[derive(Drop)]
 pub struct SeatedKernel {
     locked: Locked,
-    seats: Vec<Seat>,
+    seats: Vec<Pass>,
     board: Board,
     watch: Watch,
 }
@@ -85,10 +85,10 @@ impl SeatedKernel {
         if self.seats.reserve(1).is_err() {
             return Err(NoMemory);
         }
-        let Ok(seat) = self.locked.seat(number) else {
+        let Ok(pass) = self.locked.pass(number) else {
             return Err(NoMemory);
         };
-        self.seats.push_reserved(seat);
+        self.seats.push_reserved(pass);
         Ok(())
     }
 

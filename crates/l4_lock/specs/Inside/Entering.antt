@@ -72,9 +72,12 @@ pub record Begins (n : ℕ) (call : Call) (old new : Machine) (before after : Li
   pub pending_start : pending.start ≡ length before
 
 -- A call was entered, and its seat has not gained its receipt: it is left waiting so far.
-pub record IsAdmitted (old new : Lock) (before after : SeatState) (call : Call) (place : ℕ) : Type 0 where
+pub record IsAdmitted (old new : Lock) (n : ℕ) (call : Call) (place : ℕ) : Type 0 where
   pub apart : IsOnce (numbers old.books)
   pub room : length old.history ≤ last_start
-  pub begins : Begins before.number call old.kernel new.kernel old.history new.history old.books new.books place
+  pub begins : Begins n call old.kernel new.kernel old.history new.history old.books new.books place
   pub same : (new.frames ≡ old.frames) × (new.board ≡ old.board)
-  pub seat : after ≡ record before { waiting = before.waiting + 1 }
+
+-- the seat has one call more that is left waiting
+abbrev pub WaitsMore : SeatState → SeatState → Type 0
+WaitsMore before after = after ≡ record before { waiting = before.waiting + 1 }

@@ -5,7 +5,7 @@ use Rattle.l4_lock.proofs.seats.settle_ended.Goals as goal
 
 pub returns-clause-settles : goal.returns-clause-settles
 returns-clause-settles c =
-    let r = c.receipt-words.ensures in (
+    let r = c.gain-words.ensures.receipt in (
       r.1.reply,
       record {
         pending = r.0;
@@ -13,8 +13,8 @@ returns-clause-settles c =
         ended = r.1;
         ended_is = r.3;
         answers = refl;
-        book_is = ap (λ (l : ReceiptList). book c.account.inside.number c.forget.new.self l.items) (c.share.ensures.account ∙ c.hint_long.ensures)
-            ∙ (λ i. book c.account.inside.number (c.forget.ensures i) (c.push_words.ensures.items (receipt_of r.0 r.1) r.4 i))
+        book_is = ap (λ (l : ReceiptList). book c.account.inside.number c.forget.new.self l.items) c.share.ensures.account
+            ∙ (λ i. book c.account.inside.number (c.forget.ensures i) (r.5 i))
             ∙ ap (λ (b : Book). book b.number None (b.receipts ++ receipt_of r.0 r.1 ∷ [])) c.account.view_is;
         number = ap (λ (s : SeatState). s.number) c.share.ensures.own ∙ c.hand_over.ensures.waiting.1;
         waiting = c.hand_over.ensures.waiting.0 ∙ ap (λ (s : SeatState). s.waiting + 1) (sym c.share.ensures.own);

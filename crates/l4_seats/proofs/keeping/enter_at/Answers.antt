@@ -1,4 +1,4 @@
-use Rattle.std.proofs.Common.{◌≡◌, ℕ, List, length, slice_set, refl, sym, ap, ◌∙◌, subst}
+use Rattle.std.proofs.Common.{◌≡◌, ℕ, List, [], length, slice_set, refl, sym, ap, ◌∙◌, subst}
 use Rattle.std.proofs.lemmas.List.{set-get_or}
 use Rattle.l4_ipc.specs.Steps.{IsIdle}
 use Rattle.l4_lock.specs.declared.entries.Entry.{Entry}
@@ -9,8 +9,8 @@ use Rattle.l4_seats.proofs.keeping.enter_at.Goals as goal
 
 pub take_all-requires : goal.take_all-requires
 take_all-requires c =
-    (entered c.args.locked.now c.enter_untold.new.self c.args.seats.now.items c.args.at c.index_mut.result.now c.enter_untold.new.seat c.index_mut.result.now.number c.args.call.now c.in-Ok.ensures.ok.1.0
-    c.requires.within c.index_mut.ensures.value refl c.requires.seats.theirs c.in-Ok.ensures.ok.0 c.in-Ok.ensures.ok.1.1).0
+    (entered c.args.locked.now c.enter_untold.new.self c.args.seats.now.items c.args.at c.index_mut.result.now c.enter_untold.new.pass c.index_mut.result.now.number c.args.call.now (c.in-Ok.ensures.ok.1 []).0 [] (c.in-Ok.ensures.ok.1 []).1
+    c.requires.within c.index_mut.ensures.value refl c.requires.seats.theirs c.in-Ok.ensures.ok.0 (c.in-Ok.ensures.ok.1 []).2).0
 
 pub returns-in-Ok-clause-ok : goal.returns-in-Ok-clause-ok
 returns-in-Ok-clause-ok c =
@@ -20,8 +20,8 @@ returns-in-Ok-clause-ok c =
       subst IsIdle (sym c.take_all.ensures.same.1) c.law_kept.ensures.idle,
       c.take_all.ensures.seats,
       c.take_all.ensures.numbers
-          ∙ (entered c.args.locked.now c.enter_untold.new.self c.args.seats.now.items c.args.at c.index_mut.result.now c.enter_untold.new.seat c.index_mut.result.now.number c.args.call.now c.in-Ok.ensures.ok.1.0
-          c.requires.within c.index_mut.ensures.value refl c.requires.seats.theirs c.in-Ok.ensures.ok.0 c.in-Ok.ensures.ok.1.1).1,
+          ∙ (entered c.args.locked.now c.enter_untold.new.self c.args.seats.now.items c.args.at c.index_mut.result.now c.enter_untold.new.pass c.index_mut.result.now.number c.args.call.now (c.in-Ok.ensures.ok.1 []).0 [] (c.in-Ok.ensures.ok.1 []).1
+          c.requires.within c.index_mut.ensures.value refl c.requires.seats.theirs c.in-Ok.ensures.ok.0 (c.in-Ok.ensures.ok.1 []).2).1,
     )
 
 pub returns-in-Ok-clause-followed : goal.returns-in-Ok-clause-followed

@@ -1,8 +1,8 @@
 use Rattle.std.proofs.Common.{sym, ap, ◌∙◌}
-use Rattle.l4_lock.specs.Books.{SeatState}
+use Rattle.l4_lock.specs.Books.{PassState}
 use Rattle.l4_seats.proofs.Held.{at_guess}
 use Rattle.l4_seats.proofs.keeping.position.Goals as goal
 
 pub returns-then-number : goal.returns-then-number
 returns-then-number c =
-    (c.if-guess-seats.true, at_guess c.args.seats.now c.args.number _ c.index-seats-guess.result c.requires c.if-guess-seats.true (ap (λ (s : SeatState). s.number) (sym c.index-seats-guess.is) ∙ sym c.number.ensures ∙ c.if-number.true))
+    (c.if-guess-seats.true, at_guess c.args.seats.now c.args.number _ c.index-seats-guess.result c.requires c.if-guess-seats.true (ap (λ (s : PassState). s.number) (sym c.index-seats-guess.is) ∙ sym c.number.ensures ∙ c.if-number.true))

@@ -1,34 +1,48 @@
-use Rattle.std.proofs.Common.{sym, subst, ap}
+use Rattle.std.proofs.Common.{◌≡◌, sym, subst, ap, ◌∙◌, arith}
 use Rattle.l4_lock.specs.Lists.{EntryList}
-use Rattle.l4_lock.specs.Locked.{Lock, lock}
-use Rattle.l4_lock.specs.Inside.Entering.{IsAdmitted}
-use Rattle.l4_lock.proofs.Taking.{placed, finished, entered_done, entered_left}
+use Rattle.l4_lock.specs.Locked.{Lock, lock, Refuses}
+use Rattle.l4_lock.specs.Inside.Entering.{IsAdmitted, WaitsMore}
+use Rattle.l4_lock.proofs.Taking.{placed, finished, entered_done, entered_left, seat_back}
 use Rattle.l4_lock.proofs.locked.Locked.enter.Goals as goal
+
+pub wait_less-requires : goal.wait_less-requires
+wait_less-requires c =
+    let more : WaitsMore c.args.seat.now c.wait_more.new.self = c.wait_more.ensures.more (sym c.if-has_room.true) in
+    let w = ap (λ s. s.waiting) more in
+    λ none. absurd (omega (arith, w, none))
+
+pub finish-requires-clause-waiting : goal.finish-requires-clause-waiting
+finish-requires-clause-waiting c =
+    let more : WaitsMore c.args.seat.now c.wait_more.new.self = c.wait_more.ensures.more c.in-Ok.ensures.room in
+    let w = ap (λ s. s.waiting) more in
+    λ none. absurd (omega (arith, w, none))
 
 pub finish-requires-clause-at : goal.finish-requires-clause-at
 finish-requires-clause-at c =
-    let a : IsAdmitted c.args.self.now (lock c.self.inside.frames c.self.inside.kernel c.self.inside.history.entries c.self.inside.accounts.items c.self.inside.publisher.board c.self.inside.publisher.shown) c.args.seat.now c.admit.new.seat c.args.call c.in-Ok.at =
-    subst (λ (l : Lock). IsAdmitted c.args.self.now l c.args.seat.now c.admit.new.seat c.args.call c.in-Ok.at) (sym c.self.view_is) c.in-Ok.ensures.ok in
-    placed _ _ _ _ _ _ a
+    let a : IsAdmitted c.args.self.now (lock c.self.inside.frames c.self.inside.kernel c.self.inside.history.entries c.self.inside.accounts.items c.self.inside.publisher.board c.self.inside.publisher.shown) c.args.seat.now.number c.args.call c.in-Ok.at =
+    subst (λ (l : Lock). IsAdmitted c.args.self.now l c.args.seat.now.number c.args.call c.in-Ok.at) (sym c.self.view_is) c.in-Ok.ensures.ok in
+    placed _ _ _ _ _ a
 
 pub invariant_of-self : goal.invariant_of-self
 invariant_of-self c =
     rw (ap (λ (l : EntryList). l.entries) c.finish.ensures.history) (
-    finished _ _ _ c.self.inside.accounts.items c.finish.new.self.items _ _ c.in-Ok.at c.admit.new.seat c.finish.new.seat (λ call. call) c.finish.result c.self.invariant c.finish.ensures.some c.finish.ensures.none
+    finished _ _ _ c.self.inside.accounts.items c.finish.new.self.items _ _ c.in-Ok.at c.wait_more.new.self c.finish.new.seat (λ call. call) c.finish.result c.self.invariant c.finish.ensures.some c.finish.ensures.none
     )
 
 pub returns-in-Some-clause-ok : goal.returns-in-Some-clause-ok
 returns-in-Some-clause-ok c =
     rw (ap (λ (l : EntryList). l.entries) c.finish.ensures.history) (
-    let a : IsAdmitted c.args.self.now (lock c.self.inside.frames c.self.inside.kernel c.self.inside.history.entries c.self.inside.accounts.items c.self.inside.publisher.board c.self.inside.publisher.shown) c.args.seat.now c.admit.new.seat c.args.call c.in-Ok.at =
-    subst (λ (l : Lock). IsAdmitted c.args.self.now l c.args.seat.now c.admit.new.seat c.args.call c.in-Ok.at) (sym c.self.view_is) c.in-Ok.ensures.ok in
-    entered_done c.args.self.now (lock c.self.inside.frames c.self.inside.kernel c.self.inside.history.entries c.self.inside.accounts.items c.self.inside.publisher.board c.self.inside.publisher.shown) c.finish.new.self.items c.args.seat.now c.admit.new.seat c.finish.new.seat c.args.call c.in-Ok.at c.in-Some.reply c.self.invariant a c.in-Some.ensures.some
+    let a : IsAdmitted c.args.self.now (lock c.self.inside.frames c.self.inside.kernel c.self.inside.history.entries c.self.inside.accounts.items c.self.inside.publisher.board c.self.inside.publisher.shown) c.args.seat.now.number c.args.call c.in-Ok.at =
+    subst (λ (l : Lock). IsAdmitted c.args.self.now l c.args.seat.now.number c.args.call c.in-Ok.at) (sym c.self.view_is) c.in-Ok.ensures.ok in
+    entered_done c.args.self.now (lock c.self.inside.frames c.self.inside.kernel c.self.inside.history.entries c.self.inside.accounts.items c.self.inside.publisher.board c.self.inside.publisher.shown) c.finish.new.self.items c.args.seat.now c.wait_more.new.self c.finish.new.seat c.args.call c.in-Ok.at c.in-Some.reply c.self.invariant a
+    (c.wait_more.ensures.more c.in-Ok.ensures.room) c.in-Some.ensures.some
     )
 
 pub returns-clause-ok : goal.returns-clause-ok
 returns-clause-ok c =
     rw (ap (λ (l : EntryList). l.entries) c.finish.ensures.history) (
-    let a : IsAdmitted c.args.self.now (lock c.self.inside.frames c.self.inside.kernel c.self.inside.history.entries c.self.inside.accounts.items c.self.inside.publisher.board c.self.inside.publisher.shown) c.args.seat.now c.admit.new.seat c.args.call c.in-Ok.at =
-    subst (λ (l : Lock). IsAdmitted c.args.self.now l c.args.seat.now c.admit.new.seat c.args.call c.in-Ok.at) (sym c.self.view_is) c.in-Ok.ensures.ok in
-    entered_left c.args.self.now (lock c.self.inside.frames c.self.inside.kernel c.self.inside.history.entries c.self.inside.accounts.items c.self.inside.publisher.board c.self.inside.publisher.shown) c.finish.new.self.items c.args.seat.now c.admit.new.seat c.finish.new.seat c.args.call c.in-Ok.at c.self.invariant a c.in_default.ensures.none
+    let a : IsAdmitted c.args.self.now (lock c.self.inside.frames c.self.inside.kernel c.self.inside.history.entries c.self.inside.accounts.items c.self.inside.publisher.board c.self.inside.publisher.shown) c.args.seat.now.number c.args.call c.in-Ok.at =
+    subst (λ (l : Lock). IsAdmitted c.args.self.now l c.args.seat.now.number c.args.call c.in-Ok.at) (sym c.self.view_is) c.in-Ok.ensures.ok in
+    entered_left c.args.self.now (lock c.self.inside.frames c.self.inside.kernel c.self.inside.history.entries c.self.inside.accounts.items c.self.inside.publisher.board c.self.inside.publisher.shown) c.finish.new.self.items c.args.seat.now c.wait_more.new.self c.finish.new.seat c.args.call c.in-Ok.at c.self.invariant a
+    (c.wait_more.ensures.more c.in-Ok.ensures.room) c.in_default.ensures.none
     )
