@@ -7,13 +7,13 @@ use Rattle.l4_lock.proofs.locked.Locked.enter.Goals as goal
 
 pub wait_less-requires : goal.wait_less-requires
 wait_less-requires c =
-    let more : WaitsMore c.args.seat.now c.wait_more.new.self = c.wait_more.ensures.more (sym c.if-has_room.true) in
+    let more : WaitsMore c.args.seat.now c.wait_more-has_room.new.self = c.wait_more-has_room.ensures.more (sym c.if-has_room.true) in
     let w = ap (λ s. s.waiting) more in
     λ none. absurd (omega (arith, w, none))
 
 pub finish-requires-clause-waiting : goal.finish-requires-clause-waiting
 finish-requires-clause-waiting c =
-    let more : WaitsMore c.args.seat.now c.wait_more.new.self = c.wait_more.ensures.more c.in-Ok.ensures.room in
+    let more : WaitsMore c.args.seat.now c.wait_more-has_room.new.self = c.wait_more-has_room.ensures.more c.in-Ok.ensures.room in
     let w = ap (λ s. s.waiting) more in
     λ none. absurd (omega (arith, w, none))
 
@@ -26,7 +26,7 @@ finish-requires-clause-at c =
 pub invariant_of-self : goal.invariant_of-self
 invariant_of-self c =
     rw (ap (λ (l : EntryList). l.entries) c.finish.ensures.history) (
-    finished _ _ _ c.self.inside.accounts.items c.finish.new.self.items _ _ c.in-Ok.at c.wait_more.new.self c.finish.new.seat (λ call. call) c.finish.result c.self.invariant c.finish.ensures.some c.finish.ensures.none
+    finished _ _ _ c.self.inside.accounts.items c.finish.new.self.items _ _ c.in-Ok.at c.wait_more-has_room.new.self c.finish.new.seat (λ call. call) c.finish.result c.self.invariant c.finish.ensures.some c.finish.ensures.none
     )
 
 pub returns-in-Some-clause-ok : goal.returns-in-Some-clause-ok
@@ -34,8 +34,8 @@ returns-in-Some-clause-ok c =
     rw (ap (λ (l : EntryList). l.entries) c.finish.ensures.history) (
     let a : IsAdmitted c.args.self.now (lock c.self.inside.frames c.self.inside.kernel c.self.inside.history.entries c.self.inside.accounts.items c.self.inside.publisher.board c.self.inside.publisher.shown) c.args.seat.now.number c.args.call c.in-Ok.at =
     subst (λ (l : Lock). IsAdmitted c.args.self.now l c.args.seat.now.number c.args.call c.in-Ok.at) (sym c.self.view_is) c.in-Ok.ensures.ok in
-    entered_done c.args.self.now (lock c.self.inside.frames c.self.inside.kernel c.self.inside.history.entries c.self.inside.accounts.items c.self.inside.publisher.board c.self.inside.publisher.shown) c.finish.new.self.items c.args.seat.now c.wait_more.new.self c.finish.new.seat c.args.call c.in-Ok.at c.in-Some.reply c.self.invariant a
-    (c.wait_more.ensures.more c.in-Ok.ensures.room) c.in-Some.ensures.some
+    entered_done c.args.self.now (lock c.self.inside.frames c.self.inside.kernel c.self.inside.history.entries c.self.inside.accounts.items c.self.inside.publisher.board c.self.inside.publisher.shown) c.finish.new.self.items c.args.seat.now c.wait_more-has_room.new.self c.finish.new.seat c.args.call c.in-Ok.at c.in-Some.reply c.self.invariant a
+    (c.wait_more-has_room.ensures.more c.in-Ok.ensures.room) c.in-Some.ensures.some
     )
 
 pub returns-clause-ok : goal.returns-clause-ok
@@ -43,6 +43,6 @@ returns-clause-ok c =
     rw (ap (λ (l : EntryList). l.entries) c.finish.ensures.history) (
     let a : IsAdmitted c.args.self.now (lock c.self.inside.frames c.self.inside.kernel c.self.inside.history.entries c.self.inside.accounts.items c.self.inside.publisher.board c.self.inside.publisher.shown) c.args.seat.now.number c.args.call c.in-Ok.at =
     subst (λ (l : Lock). IsAdmitted c.args.self.now l c.args.seat.now.number c.args.call c.in-Ok.at) (sym c.self.view_is) c.in-Ok.ensures.ok in
-    entered_left c.args.self.now (lock c.self.inside.frames c.self.inside.kernel c.self.inside.history.entries c.self.inside.accounts.items c.self.inside.publisher.board c.self.inside.publisher.shown) c.finish.new.self.items c.args.seat.now c.wait_more.new.self c.finish.new.seat c.args.call c.in-Ok.at c.self.invariant a
-    (c.wait_more.ensures.more c.in-Ok.ensures.room) c.in_default.ensures.none
+    entered_left c.args.self.now (lock c.self.inside.frames c.self.inside.kernel c.self.inside.history.entries c.self.inside.accounts.items c.self.inside.publisher.board c.self.inside.publisher.shown) c.finish.new.self.items c.args.seat.now c.wait_more-has_room.new.self c.finish.new.seat c.args.call c.in-Ok.at c.self.invariant a
+    (c.wait_more-has_room.ensures.more c.in-Ok.ensures.room) c.in_default.ensures.none
     )

@@ -14,7 +14,7 @@ settle_kept-requires-clause-at c =
 pub invariant_of-self : goal.invariant_of-self
 invariant_of-self c =
     rw (ap (λ (l : EntryList). l.entries) c.settle_kept.ensures.history) (
-    passed_kept (lock c.self.inside.frames c.self.inside.kernel c.self.inside.history.entries c.self.inside.accounts.items c.self.inside.publisher.board c.self.inside.publisher.shown) c.settle_kept.new.self.items c.in-Ok.at c.wait_more.new.self c.settle_kept.new.pass c.settle_kept.result c.self.invariant c.settle_kept.ensures.settles c.settle_kept.ensures.same
+    passed_kept (lock c.self.inside.frames c.self.inside.kernel c.self.inside.history.entries c.self.inside.accounts.items c.self.inside.publisher.board c.self.inside.publisher.shown) c.settle_kept.new.self.items c.in-Ok.at c.wait_more-has_room.new.self c.settle_kept.new.pass c.settle_kept.result c.self.invariant c.settle_kept.ensures.settles c.settle_kept.ensures.same
     )
 
 pub returns-clause-ok : goal.returns-clause-ok
@@ -22,8 +22,8 @@ returns-clause-ok c =
     rw (ap (λ (l : EntryList). l.entries) c.settle_kept.ensures.history) (
     let a : IsAdmitted c.args.self.now (lock c.self.inside.frames c.self.inside.kernel c.self.inside.history.entries c.self.inside.accounts.items c.self.inside.publisher.board c.self.inside.publisher.shown) c.args.pass.now.number c.args.call.now c.in-Ok.at =
     subst (λ (l : Lock). IsAdmitted c.args.self.now l c.args.pass.now.number c.args.call.now c.in-Ok.at) (sym c.self.view_is) c.in-Ok.ensures.ok in
-    passed_entered c.args.self.now (lock c.self.inside.frames c.self.inside.kernel c.self.inside.history.entries c.self.inside.accounts.items c.self.inside.publisher.board c.self.inside.publisher.shown) c.settle_kept.new.self.items c.args.pass.now c.wait_more.new.self c.settle_kept.new.pass c.args.call.now c.in-Ok.at c.settle_kept.result c.self.invariant a
-    (c.wait_more.ensures.more c.in-Ok.ensures.room) c.settle_kept.ensures.settles c.settle_kept.ensures.same
+    passed_entered c.args.self.now (lock c.self.inside.frames c.self.inside.kernel c.self.inside.history.entries c.self.inside.accounts.items c.self.inside.publisher.board c.self.inside.publisher.shown) c.settle_kept.new.self.items c.args.pass.now c.wait_more-has_room.new.self c.settle_kept.new.pass c.args.call.now c.in-Ok.at c.settle_kept.result c.self.invariant a
+    (c.wait_more-has_room.ensures.more c.in-Ok.ensures.room) c.settle_kept.ensures.settles c.settle_kept.ensures.same
     )
 
 pub returns-clause-followed : goal.returns-clause-followed
