@@ -31,6 +31,8 @@ pub(crate) struct PendingCall {
     phase: Phase,
     start: usize,
     source: usize,
+    /// How many bytes the words of the call take, if it is an Ipc.
+    ipc_bytes: usize,
     packed: Record,
 }
 
@@ -55,6 +57,7 @@ impl PendingCall {
             phase: Phase::Idle,
             start: 0,
             source: 0,
+            ipc_bytes: 0,
             packed: Record::new(),
         }
     }
@@ -99,6 +102,10 @@ impl PendingCall {
     {
         self.packed.clear();
         put_call(&mut self.packed, call);
+        self.ipc_bytes = match call {
+            Call::Ipc(_) => self.packed.words().size(),
+            _ => 0,
+        };
         self.start = start;
         self.phase = Phase::Begun;
     }
@@ -143,6 +150,11 @@ impl PendingCall {
     /// The place of the entry that started the call whose message is in the reply, where there is one.
     pub fn source(&self) -> usize {
         self.source
+    }
+
+    /// How many bytes the words of its last call take, if that is an Ipc, else 0.
+    pub fn ipc_bytes(&self) -> usize {
+        self.ipc_bytes
     }
 
     /// The words of a call that has not ended.

@@ -23,6 +23,15 @@ use std::marker::Model;
 /// A receipt of so many bytes or more may be stored by entries of the history.
 const LONG: usize = 64;
 
+/// So may a shorter one with an Ipc of so many bytes or more that are most of it.
+const LONG_IPC: usize = 12;
+
+/// Most of so many bytes are `MOST`.
+const MOST_OF: usize = 5;
+
+/// So many of `MOST_OF` bytes are most of them.
+const MOST: usize = 3;
+
 /// The right to enter calls of one thread. It keeps a receipt of each call that has ended.
 #[derive(Drop)]
 pub struct Seat {
@@ -277,12 +286,19 @@ fn hand_over(seat: &mut Seat, words: Words<'_>, own: Option<&Call>)
     }
 }
 
-/// Notes which entries of the history may have words of the last receipt, whose words these are, if it is long.
-fn hint_long(receipts: &mut Receipts, words: &Words<'_>, start: usize, source: usize)
+/// Whether a receipt of so many bytes takes many fewer by entries of the history, which have so many of them in the words of its Ipc: it is
+/// long, or those are most of it.
+fn is_worth(size: usize, ipc: usize) -> bool {
+    size >= LONG || (ipc >= LONG_IPC && ipc / MOST >= size / MOST_OF)
+}
+
+/// Notes which entries of the history may have words of the last receipt, whose words these are, where that is worth it.
+#[inline(always)]
+fn hint_long(receipts: &mut Receipts, words: &Words<'_>, pending: &PendingCall)
     ensures { receipts.new ≡ receipts.old }
 {
-    if words.size() >= LONG {
-        receipts.hint(start, source);
+    if is_worth(words.size(), pending.ipc_bytes()) {
+        receipts.hint(pending.start(), pending.source());
     }
 }
 
@@ -297,7 +313,7 @@ fn gain<'a>(receipts: &mut Receipts, pending: &'a PendingCall) -> Words<'a>
 {
     let words = pending.receipt();
     receipts.push_words(&words);
-    hint_long(receipts, &words, pending.start(), pending.source());
+    hint_long(receipts, &words, pending);
     words
 }
 
