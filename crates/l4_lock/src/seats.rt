@@ -23,14 +23,11 @@ use std::marker::Model;
 /// A receipt of so many bytes or more may be stored by entries of the history.
 const LONG: usize = 64;
 
-/// So may a shorter one with an Ipc of so many bytes or more that are most of it.
+/// So may a shorter one with an Ipc of so many bytes or more, and little behind it.
 const LONG_IPC: usize = 12;
 
-/// Most of so many bytes are `MOST`.
-const MOST_OF: usize = 5;
-
-/// So many of `MOST_OF` bytes are most of them.
-const MOST: usize = 3;
+/// No more than so many bytes are little: the places of a call, and a reply without a message.
+const LITTLE: usize = 8;
 
 /// The right to enter calls of one thread. It keeps a receipt of each call that has ended.
 #[derive(Drop)]
@@ -286,10 +283,10 @@ fn hand_over(seat: &mut Seat, words: Words<'_>, own: Option<&Call>)
     }
 }
 
-/// Whether a receipt of so many bytes takes many fewer by entries of the history, which have so many of them in the words of its Ipc: it is
-/// long, or those are most of it.
+/// Whether a receipt of so many bytes takes many fewer by entries of the history, where so many of them are the words of its Ipc: it is long,
+/// or there is little behind those.
 fn is_worth(size: usize, ipc: usize) -> bool {
-    size >= LONG || (ipc >= LONG_IPC && ipc / MOST >= size / MOST_OF)
+    size >= LONG || (ipc >= LONG_IPC && size.saturating_sub(ipc) <= LITTLE)
 }
 
 /// Notes which entries of the history may have words of the last receipt, whose words these are, where that is worth it.

@@ -5,7 +5,7 @@ use Rattle.l4_lock.proofs.seats.settle_kept_ended.Goals as goal
 
 pub returns-clause-settles : goal.returns-clause-settles
 returns-clause-settles c = λ receipts.
-    let r = c.gain-_words.ensures.receipt in (
+    let r = c.gain-words.ensures.receipt in (
       r.1.reply,
       receipts ++ receipt_of r.0 r.1 ∷ [],
       record {

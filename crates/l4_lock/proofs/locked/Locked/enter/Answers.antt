@@ -1,4 +1,4 @@
-use Rattle.std.proofs.Common.{◌≡◌, sym, subst, ap, ◌∙◌, arith}
+use Rattle.std.proofs.Common.{◌≡◌, ℕ, sym, subst, ap, ◌∙◌, arith}
 use Rattle.l4_lock.specs.Lists.{EntryList}
 use Rattle.l4_lock.specs.Locked.{Lock, lock, Refuses}
 use Rattle.l4_lock.specs.Inside.Entering.{IsAdmitted, WaitsMore}
@@ -7,7 +7,7 @@ use Rattle.l4_lock.proofs.locked.Locked.enter.Goals as goal
 
 pub wait_less-requires : goal.wait_less-requires
 wait_less-requires c =
-    let more : WaitsMore c.args.seat.now c.wait_more-has_room.new.self = c.wait_more-has_room.ensures.more (sym c.if-has_room.true) in
+    let more : WaitsMore c.args.seat.now c.wait_more-has_room.new.self = c.wait_more-has_room.ensures.more c.if-has_room.true in
     let w = ap (λ s. s.waiting) more in
     λ none. absurd (omega (arith, w, none))
 
@@ -20,7 +20,8 @@ finish-requires-clause-waiting c =
 pub finish-requires-clause-at : goal.finish-requires-clause-at
 finish-requires-clause-at c =
     let a : IsAdmitted c.args.self.now (lock c.self.inside.frames c.self.inside.kernel c.self.inside.history.entries c.self.inside.accounts.items c.self.inside.publisher.board c.self.inside.publisher.shown) c.args.seat.now.number c.args.call c.in-Ok.at =
-    subst (λ (l : Lock). IsAdmitted c.args.self.now l c.args.seat.now.number c.args.call c.in-Ok.at) (sym c.self.view_is) c.in-Ok.ensures.ok in
+    subst (λ (l : Lock). IsAdmitted c.args.self.now l c.args.seat.now.number c.args.call c.in-Ok.at) (sym c.self.view_is)
+    (subst (λ (n : ℕ). IsAdmitted c.args.self.now c.admit.new.self n c.args.call c.in-Ok.at) c.number-number.ensures c.in-Ok.ensures.ok) in
     placed _ _ _ _ _ a
 
 pub invariant_of-self : goal.invariant_of-self
@@ -33,7 +34,8 @@ pub returns-in-Some-clause-ok : goal.returns-in-Some-clause-ok
 returns-in-Some-clause-ok c =
     rw (ap (λ (l : EntryList). l.entries) c.finish.ensures.history) (
     let a : IsAdmitted c.args.self.now (lock c.self.inside.frames c.self.inside.kernel c.self.inside.history.entries c.self.inside.accounts.items c.self.inside.publisher.board c.self.inside.publisher.shown) c.args.seat.now.number c.args.call c.in-Ok.at =
-    subst (λ (l : Lock). IsAdmitted c.args.self.now l c.args.seat.now.number c.args.call c.in-Ok.at) (sym c.self.view_is) c.in-Ok.ensures.ok in
+    subst (λ (l : Lock). IsAdmitted c.args.self.now l c.args.seat.now.number c.args.call c.in-Ok.at) (sym c.self.view_is)
+    (subst (λ (n : ℕ). IsAdmitted c.args.self.now c.admit.new.self n c.args.call c.in-Ok.at) c.number-number.ensures c.in-Ok.ensures.ok) in
     entered_done c.args.self.now (lock c.self.inside.frames c.self.inside.kernel c.self.inside.history.entries c.self.inside.accounts.items c.self.inside.publisher.board c.self.inside.publisher.shown) c.finish.new.self.items c.args.seat.now c.wait_more-has_room.new.self c.finish.new.seat c.args.call c.in-Ok.at c.in-Some.reply c.self.invariant a
     (c.wait_more-has_room.ensures.more c.in-Ok.ensures.room) c.in-Some.ensures.some
     )
@@ -42,7 +44,8 @@ pub returns-clause-ok : goal.returns-clause-ok
 returns-clause-ok c =
     rw (ap (λ (l : EntryList). l.entries) c.finish.ensures.history) (
     let a : IsAdmitted c.args.self.now (lock c.self.inside.frames c.self.inside.kernel c.self.inside.history.entries c.self.inside.accounts.items c.self.inside.publisher.board c.self.inside.publisher.shown) c.args.seat.now.number c.args.call c.in-Ok.at =
-    subst (λ (l : Lock). IsAdmitted c.args.self.now l c.args.seat.now.number c.args.call c.in-Ok.at) (sym c.self.view_is) c.in-Ok.ensures.ok in
+    subst (λ (l : Lock). IsAdmitted c.args.self.now l c.args.seat.now.number c.args.call c.in-Ok.at) (sym c.self.view_is)
+    (subst (λ (n : ℕ). IsAdmitted c.args.self.now c.admit.new.self n c.args.call c.in-Ok.at) c.number-number.ensures c.in-Ok.ensures.ok) in
     entered_left c.args.self.now (lock c.self.inside.frames c.self.inside.kernel c.self.inside.history.entries c.self.inside.accounts.items c.self.inside.publisher.board c.self.inside.publisher.shown) c.finish.new.self.items c.args.seat.now c.wait_more-has_room.new.self c.finish.new.seat c.args.call c.in-Ok.at c.self.invariant a
     (c.wait_more-has_room.ensures.more c.in-Ok.ensures.room) c.in_default.ensures.none
     )
