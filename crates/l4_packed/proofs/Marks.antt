@@ -1,9 +1,9 @@
 -- Marks: a piece from a marked record on, and one record more.
-use Rattle.std.proofs.Common.{◌≡◌, ◌≢◌, ℕ, ◌+◌, ◌-◌, ◌*◌, ◌/◌, ◌<◌, ◌≤◌, ◌==◌, inl, inr, Bool, true, false, List, [], ◌∷◌, ◌++◌, length, take, drop, min, get_or, replicate, All, Some, refl, sym, ap, subst, ◌∙◌, arith}
+use Rattle.std.proofs.Common.{◌≡◌, ◌≢◌, ℕ, ◌+◌, ◌-◌, ◌*◌, ◌/◌, ◌<◌, ◌≤◌, ◌==◌, inl, inr, Bool, true, false, List, [], ◌∷◌, ◌++◌, length, take, drop, min, get_or, All, Some, refl, sym, ap, subst, ◌∙◌, arith}
 use Rattle.std.specs.Prelude.{slice_get}
 use Rattle.std.proofs.lemmas.Bool.{false≢true}
-use Rattle.std.proofs.lemmas.Bool.Decides.{eqb_tells}
-use Rattle.std.proofs.lemmas.List.{append-nil, length_push, length-append, length-drop, get_or-drop, take_rest, drop-append-le, get_or-replicate, length-replicate}
+use Rattle.std.proofs.lemmas.Bool.Decides.{eqb_tells, leb_tells}
+use Rattle.std.proofs.lemmas.List.{append-nil, length_push, length-append, length-drop, get_or-drop, get_or_push, get_or_append_left, take_rest, drop-append-le}
 use Rattle.std.proofs.lemmas.List.Concat.{flat_map-append}
 use Rattle.std.proofs.lemmas.Option.{slice_get-get_or}
 use Rattle.std.proofs.Math.Seq.{drop-length}
@@ -14,18 +14,21 @@ use Rattle.l4_packed.proofs.Unpacking.{records_again}
 pub first_mark : (count : ℕ) (bytes : List ℕ) → IsPacked count bytes → IsMark (records_in count bytes) bytes 0 0
 first_mark count bytes packed = record { number_within = omega arith; offset_within = omega arith; rest = packed.whole }
 
-by_offset : (records : List (List ℕ)) (bytes : List ℕ) (number offset : ℕ) (none : Bool) → (offset == 0) ≡ none → IsMark records bytes 0 0 → (0 < offset → IsMark records bytes (8 * number) offset)
+by_number : (records : List (List ℕ)) (bytes : List ℕ) (number offset : ℕ) (none : Bool) → (number == 0) ≡ none → IsMark records bytes 0 0 → (0 < number → IsMark records bytes (8 * number) offset)
     → IsMark records bytes (mark_if none number offset).0 (mark_if none number offset).1
-by_offset records bytes number offset true is first later = first
-by_offset records bytes number offset false is first later =
-    elim (eqb_tells offset 0) [
+by_number records bytes number offset true is first later = first
+by_number records bytes number offset false is first later =
+    elim (eqb_tells number 0) [
       | inl same ↦ absurd (false≢true (sym is ∙ same.0))
-      | inr other ↦ later (let n : offset ≢ 0 = other.1 in omega (arith, n))
+      | inr other ↦ later (let n : number ≢ 0 = other.1 in omega (arith, n))
     ]
 
-pub marked : (records : List (List ℕ)) (bytes : List ℕ) (number offset : ℕ) → IsMark records bytes 0 0 → (0 < offset → IsMark records bytes (8 * number) offset)
-    → IsMark records bytes (mark_at number offset).0 (mark_at number offset).1
-marked records bytes number offset first later = by_offset records bytes number offset (offset == 0) refl first later
+marked : (records : List (List ℕ)) (bytes marks : List ℕ) (number : ℕ) → number ≤ length marks → IsMark records bytes 0 0 → AreMarks marks records bytes
+    → IsMark records bytes (mark_at marks number).0 (mark_at marks number).1
+marked records bytes marks number le first are =
+    by_number records bytes number (get_or marks (number - 1) 0) (number == 0) refl first (λ some.
+    let place : number - 1 + 1 ≡ number = omega (arith, some) in
+    subst (λ (n : ℕ). IsMark records bytes (8 * n) (get_or marks (number - 1) 0)) place (are.right (number - 1) (omega (arith, le, some))))
 
 -- the records from a mark on
 pub records_from : (count : ℕ) (bytes : List ℕ) (number offset : ℕ) → IsPacked count bytes → IsMark (records_in count bytes) bytes number offset
@@ -70,8 +73,7 @@ mark_more records bytes words number offset mark =
     }
 
 pub marks_more : (marks : List ℕ) (records : List (List ℕ)) (bytes words : List ℕ) → AreMarks marks records bytes → AreMarks marks (records ++ words ∷ []) (bytes ++ record_code words)
-marks_more marks records bytes words are =
-    record { counted = are.counted; right = λ k lt some. mark_more records bytes words (8 * k) (get_or marks k 0) (are.right k lt some) }
+marks_more marks records bytes words are = record { right = λ k lt. mark_more records bytes words (8 * (k + 1)) (get_or marks k 0) (are.right k lt) }
 
 -- a mark where the next record will stand
 last_mark : (records : List (List ℕ)) (bytes : List ℕ) (number : ℕ) → number ≡ length records → IsMark records bytes number (length bytes)
@@ -82,20 +84,36 @@ last_mark records bytes number all =
       rest = drop-length bytes ∙ sym (ap (λ k. records_code (drop k records)) all ∙ ap records_code (drop-length records));
     }
 
-pub no_marks : (marks : List ℕ) (records : List (List ℕ)) (bytes : List ℕ) → marks ≡ replicate 64 0 → AreMarks marks records bytes
-no_marks marks records bytes none =
+pub no_marks : (marks : List ℕ) (records : List (List ℕ)) (bytes : List ℕ) → marks ≡ [] → AreMarks marks records bytes
+no_marks marks records bytes none = record { right = λ k lt. absurd (omega (arith, lt, ap length none)) }
+
+-- one mark more
+pub mark_added : (marks new : List ℕ) (records : List (List ℕ)) (bytes : List ℕ) → new ≡ marks ++ length bytes ∷ [] → 8 * (length marks + 1) ≡ length records → AreMarks marks records bytes → AreMarks new records bytes
+mark_added marks new records bytes is next are =
+    subst (λ (l : List ℕ). AreMarks l records bytes) (sym is)
     record {
-      counted = ap length none ∙ length-replicate {A = ℕ} 64 0;
-      right = λ k lt some. absurd (omega (arith, some, ap (λ (l : List ℕ). get_or l k 0) none, get_or-replicate {A = ℕ} 64 k 0 0 lt));
+      right = λ k lt.
+          elim (leb_tells (length marks) k) [
+            | inl last ↦
+                let place : length marks ≡ k = omega (arith, lt, length_push marks (length bytes), last.1) in
+                subst (λ (o : ℕ). IsMark records bytes (8 * (k + 1)) o) (sym (get_or_push marks (length bytes) 0 k place)) (last_mark records bytes (8 * (k + 1)) (omega (arith, next, place)))
+            | inr before ↦
+                let within : k < length marks = omega (arith, before.1) in
+                subst (λ (o : ℕ). IsMark records bytes (8 * (k + 1)) o) (sym (get_or_append_left marks (length bytes ∷ []) 0 k within)) (are.right k within)
+          ];
     }
+
+pub marks_within : (marks : List ℕ) (records : List (List ℕ)) (bytes : List ℕ) → AreMarks marks records bytes → 8 * length marks ≤ length records
+marks_within [] records bytes are = omega arith
+marks_within (mark ∷ marks) records bytes are = omega (arith, (are.right (length marks) (omega arith)).number_within)
 
 -- what a piece is read from: the mark before a place
 pub mark_is : (count at : ℕ) (bytes marks : List ℕ) (mark : ℕ × ℕ) → IsPacked count bytes → AreMarks marks (records_in count bytes) bytes → mark ≡ mark_before marks at → IsMark (records_in count bytes) bytes mark.0 mark.1
 mark_is count at bytes marks mark packed are is =
-    let number = min (at / 8) 63 in
+    let number = min (at / 8) (length marks) in
     let records = records_in count bytes in
-    let lt : number < 64 = omega arith in
-    subst (λ (m : ℕ × ℕ). IsMark records bytes m.0 m.1) (sym is) (marked records bytes number (get_or marks number 0) (first_mark count bytes packed) (λ some. are.right number lt some))
+    let le : number ≤ length marks = omega arith in
+    subst (λ (m : ℕ × ℕ). IsMark records bytes m.0 m.1) (sym is) (marked records bytes marks number le (first_mark count bytes packed) are)
 
 pub part_is : (part bytes : List ℕ) (offset : ℕ) → part ≡ bytes → take (length part - offset) (drop offset part) ≡ drop offset bytes
 part_is part bytes offset is = take_rest part offset ∙ ap (drop offset) is

@@ -134,7 +134,7 @@ impl FullPiece {
     fn open(&mut self, alloc: Global)
         ensures { self.new ≡ self.old }
     {
-        let none = FullPiece::new(Piece::new(0, Vec::new(alloc)));
+        let none = FullPiece::new(Piece::new(alloc, 0, Vec::new(alloc)));
         let piece = mem::replace(self, none);
         *self = piece.opened(alloc);
     }

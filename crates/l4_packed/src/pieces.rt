@@ -30,31 +30,26 @@ fn read_record(bytes: &[u8], count: usize, at: usize) -> Option<Words<'_>>
     Some(Words::of(frame))
 }
 
-/// Each record whose place in its piece is a multiple of this has a mark.
+/// A mark is for each record whose place in its piece is a multiple of this, but for the first.
 const MARK_EACH: usize = 8;
-
-/// How many marks a piece has.
-const MARKS: usize = 64;
 
 /// The greatest number of bytes before a marked record.
 const LAST_MARK: usize = 0xffff;
 
 /// A record at or before this place, and how many bytes stand before it.
 fn mark_before(marks: &[u16], at: usize) -> (usize, usize)
-    requires { length marks.now ≡ MARKS }
     ensures mark { result ≡ mark_before marks.now at }
     ensures before { result.0 ≤ at }
 {
-    let number = (at / MARK_EACH).min(MARKS - 1);
-    let offset = marks[number] as usize;
-    if offset == 0 {
+    let number = (at / MARK_EACH).min(marks.len());
+    if number == 0 {
         return (0, 0);
     }
-    (MARK_EACH * number, offset)
+    (MARK_EACH * number, marks[number - 1] as usize)
 }
 
 /// The bytes of a piece that takes records.
-pub(crate) const PIECE_BYTES: usize = 4096;
+pub(crate) const PIECE_BYTES: usize = 16384;
 
 /// A piece: how many records stand before it, how many it holds, their bytes, and how many bytes stand before some of them.
 #[derive(Drop)]
@@ -62,7 +57,7 @@ pub(crate) struct Piece {
     first: usize,
     count: usize,
     bytes: Vec<u8>,
-    marks: [u16; MARKS],
+    marks: Vec<u16>,
 }
 
 impl Model for Piece {
@@ -74,12 +69,12 @@ impl Model for Piece {
 
     ghost view = { λ p. piece_state p.first (records_in p.count p.bytes.items) (vec_capacity p.bytes - vec_len p.bytes) };
 
-    ghost invariant = { λ p. IsPacked p.count p.bytes.items × AreMarks p.marks (records_in p.count p.bytes.items) p.bytes.items };
+    ghost invariant = { λ p. IsPacked p.count p.bytes.items × AreMarks p.marks.items (records_in p.count p.bytes.items) p.bytes.items };
 }
 
 impl Piece {
     /// A piece without records over this memory.
-    pub fn new(first: usize, bytes: Vec<u8>) -> Piece
+    pub fn new(alloc: Global, first: usize, bytes: Vec<u8>) -> Piece
         requires { bytes.items ≡ [] }
         ensures { result ≡ piece_state first [] (vec_capacity bytes) }
     {
@@ -87,7 +82,7 @@ impl Piece {
             first,
             count: 0,
             bytes,
-            marks: [0; MARKS],
+            marks: Vec::new(alloc),
         }
     }
 
@@ -170,13 +165,28 @@ impl Piece {
     }
 
     /// Marks where the next record will stand, if it is one of those that have a mark.
+    #[inline(always)]
     fn mark(&mut self)
         ensures { self.new ≡ self.old }
     {
-        let number = self.count / MARK_EACH;
+        if self.count % MARK_EACH == 0 {
+            self.put_mark();
+        }
+    }
+
+    /// Marks where the next record will stand, if its mark comes next and there is memory for it. A record without a mark is found by
+    /// the one before.
+    #[cold]
+    #[inline(never)]
+    fn put_mark(&mut self)
+        ensures { self.new ≡ self.old }
+    {
         let len = self.bytes.len();
-        if self.count % MARK_EACH == 0 && number < MARKS && len <= LAST_MARK {
-            self.marks[number] = len as u16;
+        if len <= LAST_MARK
+            && self.count == MARK_EACH * (self.marks.len() + 1)
+            && self.marks.reserve(1).is_ok()
+        {
+            self.marks.push_reserved(len as u16);
         }
     }
 
@@ -187,7 +197,7 @@ impl Piece {
         if at >= self.count {
             return None;
         }
-        let (from, offset) = mark_before(&self.marks, at);
+        let (from, offset) = mark_before(self.marks.as_slice(), at);
         read_record(&self.bytes[offset..], self.count - from, at - from)
     }
 

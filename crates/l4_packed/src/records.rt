@@ -24,7 +24,7 @@ const MOST_RECORDS: usize = 0x4000_0000_0000_0000;
 const MOST_ASKED: usize = MOST_RECORDS / 2;
 
 /// For so many records that are asked for there is a piece more, so that room isn't made each time.
-const ASKED_EACH: usize = 10;
+const ASKED_EACH: usize = 2 * PIECE_RECORDS;
 
 /// The first full piece that is worth sharing: the one before it is the piece without memory that a store begins with.
 const FIRST_SHARED: usize = 1;
@@ -74,7 +74,12 @@ fn read_found(pieces: &[FullPiece], place: usize, out: &mut Record) -> bool
 /// Begins another piece, since the current one may have no room for a record.
 #[cold]
 #[inline(never)]
-fn next_piece(full: &mut Vec<FullPiece>, current: &mut Piece, spare: &mut Vec<Vec<u8>>)
+fn next_piece(
+    alloc: Global,
+    full: &mut Vec<FullPiece>,
+    current: &mut Piece,
+    spare: &mut Vec<Vec<u8>>,
+)
     requires little { current.old.free < RECORD_BYTES }
     requires ready { (room : ℕ) × IsStore full.old.items current.old spare.old.items (vec_capacity full.old) room
         × (length (records_of full.old.items) + length current.old.records < room) }
@@ -86,13 +91,19 @@ fn next_piece(full: &mut Vec<FullPiece>, current: &mut Piece, spare: &mut Vec<Ve
     let Some(bytes) = spare.pop() else {
         unreachable!()
     };
-    let next = Piece::new(current.first() + current.count(), bytes);
+    let next = Piece::new(alloc, current.first() + current.count(), bytes);
     let last = mem::replace(current, next);
     full.push_reserved(FullPiece::new(last));
 }
 
 /// Sees to it that a record of this size fits into the current piece.
-fn make_room(full: &mut Vec<FullPiece>, current: &mut Piece, spare: &mut Vec<Vec<u8>>, size: usize)
+fn make_room(
+    alloc: Global,
+    full: &mut Vec<FullPiece>,
+    current: &mut Piece,
+    spare: &mut Vec<Vec<u8>>,
+    size: usize,
+)
     requires few { size ≤ RECORD_BYTES }
     requires ready { (room : ℕ) × IsStore full.old.items current.old spare.old.items (vec_capacity full.old) room
         × (length (records_of full.old.items) + length current.old.records < room) }
@@ -104,7 +115,7 @@ fn make_room(full: &mut Vec<FullPiece>, current: &mut Piece, spare: &mut Vec<Vec
     if current.free() >= size {
         return;
     }
-    next_piece(full, current, spare);
+    next_piece(alloc, full, current, spare);
 }
 
 /// Gets memory for pieces until there is enough for this many.
@@ -155,7 +166,7 @@ impl Records {
     {
         Records {
             full: Vec::new(alloc),
-            current: Piece::new(0, Vec::new(alloc)),
+            current: Piece::new(alloc, 0, Vec::new(alloc)),
             spare: Vec::new(alloc),
             room: 0,
             shared: FIRST_SHARED,
@@ -254,6 +265,7 @@ impl Records {
         ensures room { self.new.room ≡ self.old.room }
     {
         make_room(
+            self.alloc,
             &mut self.full,
             &mut self.current,
             &mut self.spare,
@@ -275,6 +287,7 @@ impl Records {
             return self.push_joined(head, tail);
         }
         make_room(
+            self.alloc,
             &mut self.full,
             &mut self.current,
             &mut self.spare,

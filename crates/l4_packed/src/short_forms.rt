@@ -341,7 +341,7 @@ pub(crate) fn quoting(
         None => return None,
     };
     let bytes = Vec::with_capacity(alloc, PIECE_BYTES).ok()?;
-    let mut forms = Piece::new(piece.first(), bytes);
+    let mut forms = Piece::new(alloc, piece.first(), bytes);
     if !put_forms(&mut forms, piece, hints, pieces.as_slice(), base) {
         return None;
     }

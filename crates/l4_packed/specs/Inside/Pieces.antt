@@ -1,5 +1,5 @@
 -- Pieces of memory that hold records as bytes. (this profile's own)
-use Rattle.std.specs.Prelude.{◌≡◌, ℕ, ◌+◌, ◌*◌, ◌/◌, ◌≤◌, ◌<◌, List, [], length, take, drop, min, ◌==◌, Bool, true, false, ◌^◌, slice_index_or, vec_capacity}
+use Rattle.std.specs.Prelude.{◌≡◌, ℕ, ◌+◌, ◌-◌, ◌*◌, ◌/◌, ◌≤◌, ◌<◌, List, [], length, take, drop, min, ◌==◌, Bool, true, false, ◌^◌, slice_index_or, vec_capacity}
 use Rattle.std.specs.Global.{Vec}
 use Rattle.std.specs.List.{flat_map, All}
 use Rattle.l4_packed.specs.Inside.Bytes.{numbers_code, words_in, records_code, records_in}
@@ -34,34 +34,33 @@ pub record IsMark (records : List (List ℕ)) (bytes : List ℕ) (number offset 
   pub offset_within : offset ≤ length bytes
   pub rest : drop offset bytes ≡ records_code (drop number records)
 
--- each mark but 0 says how many bytes stand before the record of eight times its number
+-- each mark says how many bytes stand before its record: the first is of the record 8, the next of the record 16, and so on
 pub record AreMarks (marks : List ℕ) (records : List (List ℕ)) (bytes : List ℕ) : Type 0 where
-  pub counted : length marks ≡ 64
-  pub right : (k : ℕ) → k < 64 → 0 < slice_index_or marks k 0 → IsMark records bytes (8 * k) (slice_index_or marks k 0)
+  pub right : (k : ℕ) → k < length marks → IsMark records bytes (8 * (k + 1)) (slice_index_or marks k 0)
 
 -- the last mark at or before a place: the record's number, and the bytes before it
 abbrev pub mark_if : Bool → ℕ → ℕ → ℕ × ℕ
 mark_if true number offset = (0, 0)
 mark_if false number offset = (8 * number, offset)
 
-abbrev pub mark_at : ℕ → ℕ → ℕ × ℕ
-mark_at number offset = mark_if (offset == 0) number offset
+abbrev pub mark_at : List ℕ → ℕ → ℕ × ℕ
+mark_at marks number = mark_if (number == 0) number (slice_index_or marks (number - 1) 0)
 
 abbrev pub mark_before : List ℕ → ℕ → ℕ × ℕ
-mark_before marks at = mark_at (min (at / 8) 63) (slice_index_or marks (min (at / 8) 63) 0)
+mark_before marks at = mark_at marks (min (at / 8) (length marks))
 
 abbrev pub records_of : List PieceState → List (List ℕ)
 records_of pieces = flat_map (λ piece. piece.records) pieces
 
 -- the bytes of a piece, the greatest number of bytes of a record, and how many such records a piece holds
 abbrev pub piece_bytes : ℕ
-piece_bytes = 4096
+piece_bytes = 16384
 
 abbrev pub record_bytes : ℕ
 record_bytes = 725
 
 abbrev pub piece_records : ℕ
-piece_records = 5
+piece_records = 22
 
 -- there are fewer records than this
 abbrev pub most_records : ℕ

@@ -1,4 +1,4 @@
-use Rattle.std.proofs.Common.{◌≡◌, ◌-◌, [], length, ap, vec_len, vec_capacity, arith, refl}
+use Rattle.std.proofs.Common.{◌≡◌, ◌-◌, [], length, ap, vec_len, vec_capacity, arith}
 use Rattle.l4_packed.specs.Inside.Bytes.{records_in}
 use Rattle.l4_packed.specs.Inside.Pieces.{piece_state}
 use Rattle.l4_packed.proofs.Packed.{packed_none}
@@ -6,7 +6,7 @@ use Rattle.l4_packed.proofs.Marks.{no_marks}
 use Rattle.l4_packed.proofs.pieces.Piece.new.Goals as goal
 
 pub invariant_of-result : goal.invariant_of-result
-invariant_of-result c = (packed_none c.args.bytes.items c.requires, no_marks _ _ _ refl)
+invariant_of-result c = (packed_none c.args.bytes.items c.requires, no_marks _ _ _ c.new.ensures.items)
 
 pub returns : goal.returns
 unfolding records_in

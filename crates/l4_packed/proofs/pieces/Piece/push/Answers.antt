@@ -8,7 +8,7 @@ pub overflow_add-self : goal.overflow_add-self
 overflow_add-self c = omega (arith, few_records c.self.inside.count c.self.inside.bytes.items c.self.invariant.0, c.self.inside.bytes.ok.0, c.self.inside.bytes.ok.1, c.self.inside.bytes.small)
 
 pub invariant_of-self : goal.invariant_of-self
-invariant_of-self c = piece_pushed c.self.inside.count c.self.inside.bytes.items c.put_record.new.out.items c.args.words.now c.put_record.ensures.items c.put_record.ensures.few c.self.inside.marks c.self.invariant
+invariant_of-self c = piece_pushed c.self.inside.count c.self.inside.bytes.items c.put_record.new.out.items c.args.words.now c.put_record.ensures.items c.put_record.ensures.few c.self.inside.marks.items c.self.invariant
 
 pub returns-clause-records : goal.returns-clause-records
 returns-clause-records c =

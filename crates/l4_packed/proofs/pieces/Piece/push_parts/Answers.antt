@@ -12,7 +12,7 @@ few_words : (head tail : List ℕ) → length head + length tail ≤ 144 → len
 few_words head tail few = omega (arith, length-append head tail)
 
 pub invariant_of-self : goal.invariant_of-self
-invariant_of-self c = piece_pushed c.self.inside.count c.self.inside.bytes.items c.put_parts.new.out.items (c.args.head.now ++ c.args.tail.now) c.put_parts.ensures.items (few_words c.args.head.now c.args.tail.now c.requires.few) c.self.inside.marks c.self.invariant
+invariant_of-self c = piece_pushed c.self.inside.count c.self.inside.bytes.items c.put_parts.new.out.items (c.args.head.now ++ c.args.tail.now) c.put_parts.ensures.items (few_words c.args.head.now c.args.tail.now c.requires.few) c.self.inside.marks.items c.self.invariant
 
 pub returns-clause-records : goal.returns-clause-records
 returns-clause-records c =
