@@ -1,5 +1,5 @@
 //! Pieces that take no further record. Several lists may own one of them together.
-ghost use Rattle.std.specs.Prelude.{◌≡◌, ◌<◌, slice_get, vec_len, vec_capacity, Some, None, IfSome, true, false};
+ghost use Rattle.std.specs.Prelude.{◌≡◌, ◌<◌, [], slice_get, vec_len, vec_capacity, Some, None, IfSome, true, false};
 ghost use Rattle.l4_packed.specs.Inside.Pieces.{PieceState};
 
 use crate::pieces::Piece;
@@ -139,6 +139,16 @@ impl FullPiece {
         *self = piece.opened(alloc);
     }
 
+    /// The memory of its records, without them, where it has one owner.
+    fn into_memory(self) -> Option<Vec<u8>>
+        ensures { IfSome result (λ bytes. bytes.items ≡ []) }
+    {
+        match self.owned {
+            Owned::Alone(piece) => Some(piece.into_memory()),
+            _ => None,
+        }
+    }
+
     /// The piece for one more owner. None where its bytes don't stand together, or there is no memory for that.
     pub fn shared(&mut self, alloc: Global) -> Option<SharedPiece>
         ensures { self.new ≡ self.old }
@@ -230,7 +240,7 @@ pub(crate) fn share_at(
     share(&mut own[place], &mut theirs[place], hints, full, alloc);
 }
 
-/// Stores the piece at this place by the pieces of another list, where the hints show how.
+/// Stores the piece at this place by the pieces of another list, where the hints show how, and gives the memory that it had.
 #[cold]
 #[inline(never)]
 pub(crate) fn shorten_at(
@@ -239,12 +249,12 @@ pub(crate) fn shorten_at(
     hints: &[Hint],
     full: &mut Vec<FullPiece>,
     alloc: Global,
-)
+) -> Option<Vec<u8>>
     requires { place < vec_len own.old }
     ensures own { (own.new.items ≡ own.old.items) × (vec_capacity own.new ≡ vec_capacity own.old) }
     ensures full { (full.new.items ≡ full.old.items) × (vec_capacity full.new ≡ vec_capacity full.old) }
+    ensures memory { IfSome result (λ bytes. bytes.items ≡ []) }
 {
-    if let Some(piece) = shorter(&own[place], hints, full, alloc) {
-        own[place] = piece;
-    }
+    let piece = shorter(&own[place], hints, full, alloc)?;
+    mem::replace(&mut own[place], piece).into_memory()
 }

@@ -137,6 +137,15 @@ impl Piece {
         })
     }
 
+    /// The memory of its records, without them.
+    pub fn into_memory(self) -> Vec<u8>
+        ensures { result.items ≡ [] }
+    {
+        let mut bytes = self.bytes;
+        bytes.clear();
+        bytes
+    }
+
     /// Appends a record, for whose bytes there is room.
     #[inline(always)]
     pub fn push(&mut self, words: &Words<'_>)

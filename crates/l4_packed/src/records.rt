@@ -134,6 +134,20 @@ fn add_spare(alloc: Global, spare: &mut Vec<Vec<u8>>, wanted: usize) -> Result<(
     Ok(())
 }
 
+/// Keeps memory for a further piece, while there is less than for so many. Memory that is used again isn't split by what is smaller.
+fn keep_spare(spare: &mut Vec<Vec<u8>>, bytes: Vec<u8>, most: usize)
+    requires blank { All IsBlank spare.old.items }
+    requires empty { bytes.items ≡ [] }
+    ensures blank { All IsBlank spare.new.items }
+    ensures more { length spare.old.items ≤ length spare.new.items }
+    ensures few { (n : ℕ) → length spare.old.items ≤ n → most ≤ n → length spare.new.items ≤ n }
+{
+    if bytes.capacity() < PIECE_BYTES || spare.len() >= most || spare.reserve(1).is_err() {
+        return;
+    }
+    spare.push_reserved(bytes);
+}
+
 /// Records, lists of at most `RECORD_WORDS` words each, one after another. They are stored in pieces that never move. A full piece
 /// may have several owners: those of the same contents in two lists can be one. Contracts see the records, and for how many there is room.
 #[derive(Drop)]
@@ -395,7 +409,7 @@ impl Records {
             return;
         }
         self.shared = place + 1;
-        shorten_at(
+        let memory = shorten_at(
             &mut self.full,
             place,
             self.hints.as_slice(),
@@ -403,5 +417,9 @@ impl Records {
             self.alloc,
         );
         self.hints.retain(|hint| hint.place >= end);
+        if let Some(bytes) = memory {
+            let places = self.full.capacity() - self.full.len();
+            keep_spare(&mut self.spare, bytes, places);
+        }
     }
 }

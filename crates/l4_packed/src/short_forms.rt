@@ -42,7 +42,7 @@ const WORTH: usize = 3;
 const WORTH_OF: usize = 4;
 
 /// A piece is kept as it is where fewer than one of so many records have a hint.
-const HINTED: usize = 2;
+const HINTED: usize = 4;
 
 /// Whether bytes end so.
 fn end_so(bytes: &[u8], end: &[u8]) -> bool {

@@ -25,3 +25,6 @@ returns-clause-numbers c = (taken c).numbers
 
 pub returns-clause-fewer : goal.returns-clause-fewer
 returns-clause-fewer c = (taken c).fewer
+
+pub returns-clause-same : goal.returns-clause-same
+returns-clause-same c = (taken c).same

@@ -28,7 +28,7 @@ returns-in_default c = (
 
 pub invariant_of-self-2 : goal.invariant_of-self-2
 invariant_of-self-2 c =
-    let books : c.seat.new.self.books ≡ c.self.inside.locked.books ++ book c.args.number _ [] ∷ [] = ap (λ (l : Lock). l.books) c.in-Ok.ensures.2 in (
+    let books : c.pass.new.self.books ≡ c.self.inside.locked.books ++ book c.args.number _ [] ∷ [] = ap (λ (l : Lock). l.books) c.in-Ok.ensures.2 in (
       subst (λ (l : List Book). AreSeats l c.push_reserved.new.self.items) (sym books)
           (subst (λ (l : List PassState). AreSeats (c.self.inside.locked.books ++ book c.args.number _ [] ∷ []) l)
           (sym (c.push_reserved.ensures.items ∙ (λ i. c.reserve.ensures.items i ++ c.in-Ok.ensures.0 i ∷ [])))
