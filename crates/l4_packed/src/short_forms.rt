@@ -255,10 +255,12 @@ fn put_forms(
     let mut form = Record::new();
     let mut own = Record::new();
     let mut next = 0;
+    let mut rest = piece.rest();
     for at in 0..piece.count() {
-        let Some(words) = piece.get(at) else {
+        let Some((words, after)) = rest.next() else {
             return false;
         };
+        rest = after;
         let hint = hint_at(hints, &mut next, piece.first().wrapping_add(at));
         if !put_form(&mut form, &mut own, &words, hint, pieces, base) {
             return false;
