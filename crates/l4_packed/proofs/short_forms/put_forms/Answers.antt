@@ -10,15 +10,16 @@ loop-at-preserved c =
     let pieces = c.args.pieces.now in
     let base = c.args.base in
     let old = c.loop-at.forms.records in
-    let form = c.put_form.new.form.items in
+    let added = c.push_form.ensures.form c.if-not-push_form.false in
+    let form = added.0 in
     let words = c.in-Some.words in
     let records = c.args.piece.now.records in
     let at = c.loop-at.at in
-    let pushed : c.push.new.self.records ≡ old ++ form ∷ [] = c.push.ensures.records.1 ∙ ap (λ (w : List ℕ). old ++ w ∷ []) c.words-words.ensures in
-    let is : quoted pieces base form ≡ words = c.put_form.ensures.form c.if-not-put_form.false in
+    let pushed : c.push_form.new.forms.records ≡ old ++ form ∷ [] = added.1 in
+    let is : quoted pieces base form ≡ words = added.2 in
     let one = next_of records at words c.in-Some.after (sym c.loop-at.invariant.rest ∙ c.in-Some.ensures) in
     record {
-      first = c.push.ensures.records.0 ∙ c.loop-at.invariant.first;
+      first = c.push_form.ensures.first ∙ c.loop-at.invariant.first;
       forms =
           ap (λ (l : List (List ℕ)). map (quoted pieces base) l) pushed
           ∙ map-append (quoted pieces base) old (form ∷ [])
@@ -28,5 +29,5 @@ loop-at-preserved c =
       rest = one.left;
       short =
           subst (λ (l : List (List ℕ)). AreShort pieces base l) (sym pushed)
-          (All-push (λ (w : List ℕ). length (quoted pieces base w) ≤ 144) old form c.loop-at.invariant.short (subst (λ (w : List ℕ). length w ≤ 144) (sym is) c.put_form.ensures.few));
+          (All-push (λ (w : List ℕ). length (quoted pieces base w) ≤ 144) old form c.loop-at.invariant.short (subst (λ (w : List ℕ). length w ≤ 144) (sym is) c.push_form.ensures.few));
     }
