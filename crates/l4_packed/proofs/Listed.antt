@@ -37,3 +37,17 @@ pub too_few : (count : ℕ) (words : List ℕ) (i : ℕ) (rest : List ℕ) → i
 too_few count words i rest lt left read =
     let short : ltb (length words) count ≡ true = lt-ltb _ _ (omega (arith, lt, nothing_left rest read, ap length left, length-drop i words)) in
     rw short refl
+
+-- one record more
+pub record NextOf (records : List (List ℕ)) (i : ℕ) (words : List ℕ) (after : List (List ℕ)) : Type 0 where
+  pub front : take (i + 1) records ≡ take i records ++ words ∷ []
+  pub left : after ≡ drop (i + 1) records
+
+pub next_of : (records : List (List ℕ)) (i : ℕ) (words : List ℕ) (after : List (List ℕ)) → drop i records ≡ words ∷ after → NextOf records i words after
+next_of records i words after here =
+    let lt : i < length records = omega (arith, ap length here, length-drop i records) in
+    let both : get_or records i words ∷ drop (i + 1) records ≡ words ∷ after = sym (drop_more records i words lt) ∙ here in
+    record {
+      front = take_more records i words lt ∙ ap (λ (l : List (List ℕ)). take i records ++ get_or l 0 words ∷ []) both;
+      left = sym (ap (λ (l : List (List ℕ)). drop 1 l) both);
+    }

@@ -1,12 +1,12 @@
 -- Records in bytes: reading them in order, and one more.
-use Rattle.std.proofs.Common.{◌≡◌, ℕ, ◌+◌, ◌≤◌, ◌<◌, List, [], ◌∷◌, ◌++◌, length, drop, get_or, All, Some, None, refl, sym, ap, subst, ◌∙◌, arith}
-use Rattle.std.proofs.lemmas.List.{drop_more, append-nil, length_push}
+use Rattle.std.proofs.Common.{◌≡◌, ℕ, ◌+◌, ◌-◌, ◌≤◌, ◌<◌, List, [], ◌∷◌, ◌++◌, length, drop, get_or, All, Some, None, refl, sym, ap, subst, ◌∙◌, arith}
+use Rattle.std.proofs.lemmas.List.{drop_more, append-nil, length_push, length-drop, get_or-drop}
 use Rattle.std.proofs.lemmas.List.Concat.{flat_map-append}
 use Rattle.std.proofs.lemmas.List.Elements.{All-push}
 use Rattle.std.proofs.lemmas.Option.{some_pair_parts}
-use Rattle.l4_packed.specs.Inside.Bytes.{numbers_code, record_code, records_code, records_in, frame_at}
-use Rattle.l4_packed.specs.Inside.Pieces.{IsPacked, record_words}
-use Rattle.l4_packed.proofs.Unpacking.{frame_again, records_again, records_have_bytes}
+use Rattle.l4_packed.specs.Inside.Bytes.{numbers_code, words_in, record_code, records_code, records_in, frame_at}
+use Rattle.l4_packed.specs.Inside.Pieces.{AreWords, IsPacked, record_words}
+use Rattle.l4_packed.proofs.Unpacking.{frame_again, records_again, records_have_bytes, are_words_of, words_again}
 
 -- the bytes from one of the records on
 pub record Behind (records : List (List ℕ)) (i : ℕ) (bytes : List ℕ) : Type 0 where
@@ -28,6 +28,44 @@ pub no_frame : {P : Type 0} → (records : List (List ℕ)) (i : ℕ) (bytes : L
 no_frame records i bytes lt behind read =
     let e = next_frame records i bytes lt behind in
     absurd cc
+
+-- the first of the records, and the others
+module _ (count : ℕ) (bytes frame after : List ℕ) (some : 0 < count) (packed : IsPacked count bytes) (read : frame_at bytes ≡ Some (frame, after)) where
+  abbrev records : List (List ℕ)
+  records = records_in count bytes
+
+  at_first : 0 < length records
+  at_first = omega (arith, some, packed.counted)
+
+  first_frame_is : frame ≡ numbers_code (get_or records 0 [])
+  first_frame_is = frame_bytes records 0 bytes frame after at_first (record { rest = packed.whole }) read
+
+  pub first_is_short : AreWords frame
+  first_is_short = subst AreWords (sym first_frame_is) (are_words_of (get_or records 0 []) (packed.short 0 [] at_first))
+
+  rest_bytes : after ≡ records_code (drop 1 records)
+  rest_bytes = (behind_more records 0 bytes frame after at_first (record { rest = packed.whole }) read).rest
+
+  rest_records : records_in (count - 1) after ≡ drop 1 records
+  rest_records =
+      let left = drop 1 records in
+      let size : count - 1 ≡ length left = omega (arith, length-drop 1 records, packed.counted) in
+      ap (λ k. records_in k after) size ∙ ap (records_in (length left)) (rest_bytes ∙ sym (append-nil (records_code left))) ∙ records_again left []
+
+  pub rest_is_packed : IsPacked (count - 1) after
+  rest_is_packed =
+      record {
+        whole = rest_bytes ∙ ap records_code (sym rest_records);
+        counted = ap length rest_records ∙ omega (arith, length-drop 1 records, packed.counted);
+        short = subst (λ (rs : List (List ℕ)). All (λ words. length words ≤ record_words) rs) (sym rest_records)
+            (λ k d lt. subst (λ (words : List ℕ). length words ≤ record_words) (sym (get_or-drop 1 records k d)) (packed.short (1 + k) d (omega (arith, lt, length-drop 1 records))));
+      }
+
+  pub first_and_rest : records ≡ words_in frame ∷ records_in (count - 1) after
+  first_and_rest =
+      drop_more records 0 [] at_first
+      ∙ ap (λ (words : List ℕ). words ∷ drop 1 records) (sym (ap words_in first_frame_is ∙ words_again (get_or records 0 [])))
+      ∙ ap (λ (rest : List (List ℕ)). words_in frame ∷ rest) (sym rest_records)
 
 -- one record more
 pub packed_more : (count : ℕ) (bytes words : List ℕ) → IsPacked count bytes → length words ≤ record_words → records_in (count + 1) (bytes ++ record_code words) ≡ records_in count bytes ++ words ∷ []

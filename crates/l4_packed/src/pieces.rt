@@ -30,6 +30,42 @@ fn read_record(bytes: &[u8], count: usize, at: usize) -> Option<Words<'_>>
     Some(Words::of(frame))
 }
 
+/// Records of a piece, from one on, that are read in turn. Contracts see them as a list.
+#[derive(Drop)]
+pub(crate) struct Rest<'a> {
+    bytes: &'a [u8],
+    count: usize,
+}
+
+impl<'a> Model for Rest<'a> {
+    ghost use Rattle.std.specs.Prelude.{List, ℕ};
+    ghost use Rattle.l4_packed.specs.Inside.Bytes.{records_in};
+    ghost use Rattle.l4_packed.specs.Inside.Pieces.{IsPacked};
+
+    ghost Value = { List (List ℕ) };
+
+    ghost view = { λ r. records_in r.count r.bytes.now };
+
+    ghost invariant = { λ r. IsPacked r.count r.bytes.now };
+}
+
+impl<'a> Rest<'a> {
+    /// The first of them, and those after it. None where there is none.
+    pub fn next(self) -> Option<(Words<'a>, Rest<'a>)>
+        ensures { IfSome result (λ x. self.entry ≡ x.0 ∷ x.1) }
+    {
+        if self.count == 0 {
+            return None;
+        }
+        let (frame, after) = first_frame(self.bytes)?;
+        let rest = Rest {
+            bytes: after,
+            count: self.count - 1,
+        };
+        Some((Words::of(frame), rest))
+    }
+}
+
 /// A mark is for each record whose place in its piece is a multiple of this, but for the first.
 const MARK_EACH: usize = 8;
 
@@ -208,6 +244,16 @@ impl Piece {
         }
         let (from, offset) = mark_before(self.marks.as_slice(), at);
         read_record(&self.bytes[offset..], self.count - from, at - from)
+    }
+
+    /// Its records, to be read in turn.
+    pub fn rest(&self) -> Rest<'_>
+        ensures { result ≡ self.now.records }
+    {
+        Rest {
+            bytes: self.bytes.as_slice(),
+            count: self.count,
+        }
     }
 
     /// Reads the record at this place in the place of another. False beyond the records.

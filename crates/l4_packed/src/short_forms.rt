@@ -1,5 +1,5 @@
 //! Short forms for the records of a full piece, by what stands in records of other pieces.
-ghost use Rattle.std.specs.Prelude.{◌≡◌, ℕ, ◌+◌, ◌<◌, ◌≤◌, ◌++◌, ◌^◌, List, [], drop, length, map, true, IfSome, vec_len, vec_capacity};
+ghost use Rattle.std.specs.Prelude.{◌≡◌, ℕ, ◌+◌, ◌<◌, ◌≤◌, ◌++◌, ◌∷◌, ◌^◌, List, [], drop, length, map, true, IfSome, vec_len, vec_capacity};
 ghost use Rattle.l4_packed.specs.Codes.{span_code};
 ghost use Rattle.l4_packed.specs.Inside.Pieces.{PieceState};
 ghost use Rattle.l4_packed.specs.Inside.Quoting.{AreShort, entry_head, quoted, short_from, words_among};
@@ -202,8 +202,22 @@ fn is_plain(words: &Words<'_>) -> bool
     }
 }
 
-/// Writes a form of a record in the place of what is there: a short one where one is found. False where it has none.
-fn put_form(
+/// Appends a record to a piece. False where its bytes don't fit.
+fn push_fitting(forms: &mut Piece, words: &Words<'_>) -> bool
+    ensures first { forms.new.first ≡ forms.old.first }
+    ensures records { result ≡ true → forms.new.records ≡ forms.old.records ++ words.now ∷ [] }
+{
+    if forms.free() < record_len(words) {
+        return false;
+    }
+    forms.push(words);
+    true
+}
+
+/// Appends a form of a record to a piece: a short one where one is found, else the record itself. False where it doesn't fit, or the record
+/// has no form.
+fn push_form(
+    forms: &mut Piece,
     form: &mut Record,
     own: &mut Record,
     words: &Words<'_>,
@@ -211,17 +225,20 @@ fn put_form(
     pieces: &[SharedPiece],
     base: u32,
 ) -> bool
-    ensures form { result ≡ true → quoted pieces.now base form.new.items ≡ words.now }
+    ensures first { forms.new.first ≡ forms.old.first }
+    ensures form { result ≡ true → (added : List ℕ) × (forms.new.records ≡ forms.old.records ++ added ∷ []) × (quoted pieces.now base added ≡ words.now) }
     ensures few { length words.now ≤ RECORD_WORDS }
 {
     let _few = words.bytes();
     if let Some(hint) = hint {
         if put_short(form, own, words, hint, pieces, base) {
-            return true;
+            return push_fitting(forms, &form.words());
         }
     }
-    words.copy_to(form);
-    is_plain(words)
+    if !is_plain(words) {
+        return false;
+    }
+    push_fitting(forms, words)
 }
 
 /// The hint for the record of this place. The first ones, before the next, are of records before it.
@@ -255,19 +272,16 @@ fn put_forms(
     let mut form = Record::new();
     let mut own = Record::new();
     let mut next = 0;
+    let mut rest = piece.rest();
     for at in 0..piece.count() {
-        let Some(words) = piece.get(at) else {
+        let Some((words, after)) = rest.next() else {
             return false;
         };
+        rest = after;
         let hint = hint_at(hints, &mut next, piece.first().wrapping_add(at));
-        if !put_form(&mut form, &mut own, &words, hint, pieces, base) {
+        if !push_form(forms, &mut form, &mut own, &words, hint, pieces, base) {
             return false;
         }
-        let words = form.words();
-        if forms.free() < record_len(&words) {
-            return false;
-        }
-        forms.push(&words);
     }
     true
 }

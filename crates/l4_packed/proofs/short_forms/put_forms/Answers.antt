@@ -1,9 +1,8 @@
-use Rattle.std.proofs.Common.{◌≡◌, ◌≤◌, ◌+◌, ◌++◌, ◌∷◌, [], List, ℕ, Some, length, map, take, sym, ap, subst, ◌∙◌}
-use Rattle.std.specs.Prelude.{slice_get}
-use Rattle.std.proofs.lemmas.List.{map-append, take_more}
+use Rattle.std.proofs.Common.{◌≡◌, ◌≤◌, ◌++◌, ◌∷◌, [], List, ℕ, length, map, take, sym, ap, subst, ◌∙◌}
+use Rattle.std.proofs.lemmas.List.{map-append}
 use Rattle.std.proofs.lemmas.List.Elements.{All-push}
-use Rattle.std.proofs.lemmas.Option.{slice_get_within, get_or_from_slice_get}
 use Rattle.l4_packed.specs.Inside.Quoting.{AreShort, quoted}
+use Rattle.l4_packed.proofs.Listed.{next_of}
 use Rattle.l4_packed.proofs.short_forms.put_forms.Goals as goal
 
 pub loop-at-preserved : goal.loop-at-preserved
@@ -11,25 +10,24 @@ loop-at-preserved c =
     let pieces = c.args.pieces.now in
     let base = c.args.base in
     let old = c.loop-at.forms.records in
-    let form = c.put_form.new.form.items in
+    let added = c.push_form.ensures.form c.if-not-push_form.false in
+    let form = added.0 in
     let words = c.in-Some.words in
     let records = c.args.piece.now.records in
     let at = c.loop-at.at in
-    let pushed : c.push.new.self.records ≡ old ++ form ∷ [] = c.push.ensures.records.1 ∙ ap (λ (w : List ℕ). old ++ w ∷ []) c.words-words.ensures in
-    let is : quoted pieces base form ≡ words = c.put_form.ensures.form c.if-not-put_form.false in
-    let here : slice_get records at ≡ Some words = sym c.in-Some.ensures in
-    let next : take (at + 1) records ≡ take at records ++ words ∷ [] =
-    take_more records at words (slice_get_within records at words here)
-    ∙ ap (λ (w : List ℕ). take at records ++ w ∷ []) (get_or_from_slice_get records at words words here) in
+    let pushed : c.push_form.new.forms.records ≡ old ++ form ∷ [] = added.1 in
+    let is : quoted pieces base form ≡ words = added.2 in
+    let one = next_of records at words c.in-Some.after (sym c.loop-at.invariant.rest ∙ c.in-Some.ensures) in
     record {
-      first = c.push.ensures.records.0 ∙ c.loop-at.invariant.first;
+      first = c.push_form.ensures.first ∙ c.loop-at.invariant.first;
       forms =
           ap (λ (l : List (List ℕ)). map (quoted pieces base) l) pushed
           ∙ map-append (quoted pieces base) old (form ∷ [])
           ∙ ap (λ (l : List (List ℕ)). l ++ quoted pieces base form ∷ []) c.loop-at.invariant.forms
           ∙ ap (λ (w : List ℕ). take at records ++ w ∷ []) is
-          ∙ sym next;
+          ∙ sym one.front;
+      rest = one.left;
       short =
           subst (λ (l : List (List ℕ)). AreShort pieces base l) (sym pushed)
-          (All-push (λ (w : List ℕ). length (quoted pieces base w) ≤ 144) old form c.loop-at.invariant.short (subst (λ (w : List ℕ). length w ≤ 144) (sym is) c.put_form.ensures.few));
+          (All-push (λ (w : List ℕ). length (quoted pieces base w) ≤ 144) old form c.loop-at.invariant.short (subst (λ (w : List ℕ). length w ≤ 144) (sym is) c.push_form.ensures.few));
     }

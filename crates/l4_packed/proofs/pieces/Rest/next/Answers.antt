@@ -1,0 +1,18 @@
+use Rattle.std.proofs.Common.{◌-◌, ◌∷◌, List, ℕ, sym, ap, ◌∙◌, arith}
+use Rattle.l4_packed.specs.Inside.Bytes.{records_in}
+use Rattle.l4_packed.proofs.Packed.{first_is_short, rest_is_packed, first_and_rest}
+use Rattle.l4_packed.proofs.pieces.Rest.next.Goals as goal
+
+pub of-requires : goal.of-requires
+of-requires c = first_is_short c.self.inside.count c.self.inside.bytes.now c.in_ok-frame.frame.now c.in_ok-frame.after.now (omega (arith, c.if-self-eq0.false)) c.self.invariant c.in_ok-frame.ensures
+
+pub invariant_of-rest : goal.invariant_of-rest
+invariant_of-rest c = rest_is_packed c.self.inside.count c.self.inside.bytes.now c.in_ok-frame.frame.now c.in_ok-frame.after.now (omega (arith, c.if-self-eq0.false)) c.self.invariant c.in_ok-frame.ensures
+
+pub returns : goal.returns
+returns c =
+    let count = c.self.inside.count in
+    let after = c.in_ok-frame.after.now in
+    sym c.self.view_is
+    ∙ first_and_rest count c.self.inside.bytes.now c.in_ok-frame.frame.now after (omega (arith, c.if-self-eq0.false)) c.self.invariant c.in_ok-frame.ensures
+    ∙ ap (λ (words : List ℕ). words ∷ records_in (count - 1) after) (sym c.of.ensures)
