@@ -8,7 +8,7 @@ use crate::full_pieces::{FullPiece, share_at, shorten_at};
 use crate::numbers::are_small;
 use crate::packing::{RECORD_BYTES, parts_len, record_len};
 use crate::pieces::{PIECE_BYTES, Piece};
-use crate::short_forms::{Hint, are_quotable};
+use crate::short_forms::{Hint, are_quotable, forget_before};
 use crate::words::{RECORD_WORDS, Record, Words};
 use std::alloc::{AllocError, Global};
 use std::marker::Model;
@@ -365,7 +365,7 @@ impl Records {
             &mut quoted.full,
             self.alloc,
         );
-        self.hints.retain(|hint| hint.place >= end);
+        forget_before(&mut self.hints, end);
     }
 
     /// Stores the next full piece that wasn't looked at yet by records of another store, as hints say. The records stay as they are.
@@ -402,6 +402,6 @@ impl Records {
             &mut quoted.full,
             self.alloc,
         );
-        self.hints.retain(|hint| hint.place >= end);
+        forget_before(&mut self.hints, end);
     }
 }

@@ -286,15 +286,35 @@ fn put_forms(
     true
 }
 
-/// Whether what the last hint names for the records before this end stands before that place in the other list.
-pub(crate) fn are_quotable(hints: &[Hint], end: usize, place: usize) -> bool {
-    for back in 1..=hints.len() {
-        let hint = &hints[hints.len() - back];
-        if hint.place < end {
-            return hint.start.max(hint.source) < place;
+/// How many hints are of records before this end. The hints stand by their records, and few are of later ones.
+fn count_before(hints: &[Hint], end: usize) -> usize
+    ensures { result ≤ length hints.now }
+{
+    let len = hints.len();
+    for later in 0..len {
+        if hints[len - 1 - later].place < end {
+            return len - later;
         }
     }
-    true
+    0
+}
+
+/// Takes the hints away that are of records before this end.
+pub(crate) fn forget_before(hints: &mut Vec<Hint>, end: usize) {
+    let count = count_before(hints.as_slice(), end);
+    let later = hints.len() - count;
+    hints.copy_within(count.., 0);
+    hints.truncate(later);
+}
+
+/// Whether what the last hint names for the records before this end stands before that place in the other list.
+pub(crate) fn are_quotable(hints: &[Hint], end: usize, place: usize) -> bool {
+    let count = count_before(hints, end);
+    if count == 0 {
+        return true;
+    }
+    let hint = &hints[count - 1];
+    hint.start.max(hint.source) < place
 }
 
 /// Which pieces a piece with these hints quotes: those from here on.
