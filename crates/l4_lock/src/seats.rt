@@ -23,9 +23,6 @@ use std::marker::Model;
 /// A receipt of so many bytes or more may be stored by entries of the history.
 const LONG: usize = 64;
 
-/// So may a shorter one with so many bytes or more behind its call: those of a message.
-const LONG_REPLY: usize = 24;
-
 /// So may a shorter one with an Ipc of so many bytes or more, and little behind it.
 const LONG_IPC: usize = 12;
 
@@ -289,7 +286,7 @@ fn hand_over(seat: &mut Seat, words: Words<'_>, own: Option<&Call>)
 /// Whether a receipt of so many bytes, of which so many are the words of its Ipc, takes many fewer by entries of the history.
 fn is_worth(size: usize, ipc: usize) -> bool {
     let rest = size.saturating_sub(ipc);
-    size >= LONG || rest >= LONG_REPLY || (ipc >= LONG_IPC && rest <= LITTLE)
+    size >= LONG || (ipc >= LONG_IPC && rest <= LITTLE)
 }
 
 /// Notes which entries of the history may have words of the last receipt, whose words these are, where that is worth it.

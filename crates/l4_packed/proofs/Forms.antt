@@ -1,5 +1,5 @@
 -- Short forms, and the records that they stand for.
-use Rattle.std.proofs.Common.{◌≡◌, ℕ, ◌+◌, ◌-◌, ◌<◌, ◌≤◌, true, false, ltb, List, [], ◌∷◌, ◌++◌, length, drop, get_or, Option, Some, None, refl, sym, ap, subst, ◌∙◌, arith}
+use Rattle.std.proofs.Common.{◌≡◌, ℕ, zero, suc, ◌+◌, ◌-◌, ◌<◌, ◌≤◌, true, false, ltb, List, [], ◌∷◌, ◌++◌, length, drop, get_or, Option, Some, None, refl, sym, ap, subst, ◌∙◌, arith}
 use Rattle.std.proofs.lemmas.Bool.{le-ltb, ne_eqb}
 use Rattle.std.proofs.lemmas.Option.{none-some, slice_get_within, get_or_from_slice_get}
 use Rattle.std.proofs.lemmas.List.{drop_all, drop_more, append-nil, length-drop}
@@ -7,7 +7,7 @@ use Rattle.std.specs.Prelude.{slice_get, nat_eq}
 use Rattle.l4_packed.specs.Codes.{span_code}
 use Rattle.l4_packed.specs.Words.{word_at}
 use Rattle.l4_packed.specs.Inside.Pieces.{PieceState}
-use Rattle.l4_packed.specs.Inside.Quoting.{in_piece, words_among, form_at, ending_at, parts_at, joined, quoted, AreShort}
+use Rattle.l4_packed.specs.Inside.Quoting.{in_piece, last_among, words_among, form_at, ending_at, parts_at, joined, quoted, AreShort}
 
 -- what words stand for, by what is read of them
 pub quoted_none : (pieces : List PieceState) (base : ℕ) (words : List ℕ) → parts_at pieces base words ≡ None → quoted pieces base words ≡ words
@@ -65,16 +65,23 @@ none_read (w ∷ ws) none = absurd (none-some _ (sym none))
 pub none_after : (words : List ℕ) (i count : ℕ) (rest : List ℕ) → rest ≡ drop i words → word_at rest ≡ None → i ≤ count → [] ≡ drop count words
 none_after words i count rest left none within = sym (drop_all count words (omega (arith, ap length (none_read rest none), ap length left, length-drop i words, within)))
 
--- a piece that hasn't the record is passed over; one that has it gives it
-pub passed : (pieces : List PieceState) (i place : ℕ) (p : PieceState) → i < length pieces → p ≡ get_or pieces i p → in_piece p place ≡ None → words_among (drop i pieces) place ≡ words_among (drop (i + 1) pieces) place
-passed pieces i place p lt here none =
-    ap (λ (ps : List PieceState). words_among ps place) (drop_more pieces i p lt ∙ ap (λ (q : PieceState). q ∷ drop (i + 1) pieces) (sym here))
-    ∙ ap (λ (found : Option (List ℕ)). elim found as (λ _. List ℕ) [ None ↦ words_among (drop (i + 1) pieces) place | Some words ↦ words ]) none
+-- what pieces from one on have, all have
+last_of_all : (pieces : List PieceState) (i place : ℕ) (words : List ℕ) → last_among (drop i pieces) place ≡ Some words → last_among pieces place ≡ Some words
+last_of_all pieces zero place words some = some
+last_of_all [] (suc i) place words some = some
+last_of_all (p ∷ ps) (suc i) place words some =
+    ap (λ (later : Option (List ℕ)). elim later as (λ _. Option (List ℕ)) [ None ↦ in_piece p place | Some words ↦ Some words ]) (last_of_all ps i place words some)
 
-pub given : (pieces : List PieceState) (i place : ℕ) (p : PieceState) (words : List ℕ) → i < length pieces → p ≡ get_or pieces i p → in_piece p place ≡ Some words → words_among (drop i pieces) place ≡ words
-given pieces i place p words lt here some =
-    ap (λ (ps : List PieceState). words_among ps place) (drop_more pieces i p lt ∙ ap (λ (q : PieceState). q ∷ drop (i + 1) pieces) (sym here))
-    ∙ ap (λ (found : Option (List ℕ)). elim found as (λ _. List ℕ) [ None ↦ words_among (drop (i + 1) pieces) place | Some words ↦ words ]) some
+-- a piece that has the record gives it, where none after it has
+pub last_here : (pieces : List PieceState) (i place : ℕ) (p : PieceState) (words : List ℕ) → i < length pieces → p ≡ get_or pieces i p → in_piece p place ≡ Some words → last_among (drop (i + 1) pieces) place ≡ None
+    → words_among pieces place ≡ words
+last_here pieces i place p words lt here some none =
+    let later = drop (i + 1) pieces in
+    let found : last_among (drop i pieces) place ≡ Some words =
+    ap (λ (ps : List PieceState). last_among ps place) (drop_more pieces i p lt ∙ ap (λ (q : PieceState). q ∷ later) (sym here))
+    ∙ ap (λ (l : Option (List ℕ)). elim l as (λ _. Option (List ℕ)) [ None ↦ in_piece p place | Some words ↦ Some words ]) none
+    ∙ some in
+    ap (λ (l : Option (List ℕ)). elim l as (λ _. List ℕ) [ None ↦ [] | Some words ↦ words ]) (last_of_all pieces i place words found)
 
 -- the record that a form of a piece stands for is short
 pub few_quoted : (slice pieces : List PieceState) (base : ℕ) (forms : List (List ℕ)) (at : ℕ) (words : List ℕ) → slice ≡ pieces → AreShort pieces base forms → slice_get forms at ≡ Some words → length (quoted slice base words) ≤ 144

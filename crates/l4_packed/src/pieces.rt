@@ -173,6 +173,13 @@ impl Piece {
         })
     }
 
+    /// Gives memory back that is there for more marks.
+    pub fn fit_marks(&mut self)
+        ensures { self.new ≡ self.old }
+    {
+        self.marks.shrink_to_fit();
+    }
+
     /// The memory of its records, without them.
     pub fn into_memory(self) -> Vec<u8>
         ensures { result.items ≡ [] }

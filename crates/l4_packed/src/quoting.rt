@@ -74,12 +74,13 @@ fn in_piece(piece: &Piece, place: usize) -> Option<Words<'_>>
     piece.get(place - first)
 }
 
-/// The record of this place by the first of the pieces that has it. No words where none has.
+/// The record of this place by the last of the pieces that has it. No words where none has.
 pub(crate) fn words_among(pieces: &[SharedPiece], place: usize) -> Words<'_>
     ensures { result ≡ words_among pieces.now place }
 {
-    for piece in pieces {
-        if let Some(words) = in_piece(piece.piece(), place) {
+    let len = pieces.len();
+    for passed in 0..len {
+        if let Some(words) = in_piece(pieces[len - 1 - passed].piece(), place) {
             return words;
         }
     }

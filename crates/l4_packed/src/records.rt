@@ -8,7 +8,7 @@ use crate::full_pieces::{FullPiece, share_at, shorten_at};
 use crate::numbers::are_small;
 use crate::packing::{RECORD_BYTES, parts_len, record_len};
 use crate::pieces::{PIECE_BYTES, Piece};
-use crate::short_forms::{Hint, are_quotable};
+use crate::short_forms::{Hint, are_quotable, forget_before};
 use crate::words::{RECORD_WORDS, Record, Words};
 use std::alloc::{AllocError, Global};
 use std::marker::Model;
@@ -92,7 +92,8 @@ fn next_piece(
         unreachable!()
     };
     let next = Piece::new(alloc, current.first() + current.count(), bytes);
-    let last = mem::replace(current, next);
+    let mut last = mem::replace(current, next);
+    last.fit_marks();
     full.push_reserved(FullPiece::new(last));
 }
 
@@ -330,11 +331,7 @@ impl Records {
     pub fn hint(&mut self, start: usize, source: usize)
         ensures { self.new ≡ self.old }
     {
-        let hint = Hint {
-            place: self.len().wrapping_sub(1),
-            start,
-            source,
-        };
+        let hint = Hint::new(self.len().wrapping_sub(1), start, source);
         if self.hints.reserve(1).is_ok() {
             self.hints.push_reserved(hint);
         }
@@ -379,7 +376,7 @@ impl Records {
             &mut quoted.full,
             self.alloc,
         );
-        self.hints.retain(|hint| hint.place >= end);
+        forget_before(&mut self.hints, end);
     }
 
     /// Stores the next full piece that wasn't looked at yet by records of another store, as hints say. The records stay as they are.
@@ -416,7 +413,7 @@ impl Records {
             &mut quoted.full,
             self.alloc,
         );
-        self.hints.retain(|hint| hint.place >= end);
+        forget_before(&mut self.hints, end);
         if let Some(bytes) = memory {
             let places = self.full.capacity() - self.full.len();
             keep_spare(&mut self.spare, bytes, places);

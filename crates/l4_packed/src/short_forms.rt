@@ -12,15 +12,47 @@ use crate::quoting::{ENTRY_HEAD, QuotingPiece, SHORT_FROM, SharedPiece, words_af
 use crate::words::{RECORD_WORDS, Record, Words, read_word};
 use std::alloc::Global;
 
-/// Where words of a record may stand in another list too. It is a guess: what doesn't stand there is stored as it is.
+/// Where words of a record may stand in another list too. It is a guess: what doesn't stand there is stored as it is. Of each place it has the
+/// lower 32 bits.
 #[derive(Clone, Copy, Debug, PartialEq, Eq)]
 pub(crate) struct Hint {
     /// The place of the record.
-    pub place: usize,
+    place: u32,
     /// Where the call of the record starts, in the other list.
-    pub start: usize,
+    start: u32,
     /// Which record of the other list has the last words.
-    pub source: usize,
+    source: u32,
+}
+
+impl Hint {
+    /// The hint for the record of this place.
+    pub fn new(place: usize, start: usize, source: usize) -> Hint {
+        Hint {
+            place: place as u32,
+            start: start as u32,
+            source: source as u32,
+        }
+    }
+
+    /// Where the call of the record starts, in the other list.
+    fn start(&self) -> usize {
+        self.start as usize
+    }
+
+    /// Which record of the other list has the last words.
+    fn source(&self) -> usize {
+        self.source as usize
+    }
+
+    /// Whether it is for a record before this place.
+    fn is_before(&self, place: usize) -> bool {
+        self.place < place as u32
+    }
+
+    /// Whether it is for the record of this place.
+    fn is_at(&self, place: usize) -> bool {
+        self.place == place as u32
+    }
 }
 
 /// The greatest number of pieces that one quotes.
@@ -180,16 +212,17 @@ fn put_short(
 ) -> bool
     ensures { result ≡ true → quoted pieces.now base form.new.items ≡ words.now }
 {
-    let Some(far) = distance(hint.start, base) else {
+    let start = hint.start();
+    let Some(far) = distance(start, base) else {
         return false;
     };
-    let Some(rest) = behind_call(words, hint.start, pieces) else {
+    let Some(rest) = behind_call(words, start, pieces) else {
         return false;
     };
-    let Some((more, rest)) = behind_span(rest, hint.start) else {
+    let Some((more, rest)) = behind_span(rest, start) else {
         return false;
     };
-    put_rest(form, own, (far, more), rest, hint.source, pieces, base)
+    put_rest(form, own, (far, more), rest, hint.source(), pieces, base)
 }
 
 /// Whether a record can be stored as it is, since it begins like no short form.
@@ -244,9 +277,9 @@ fn push_form(
 /// The hint for the record of this place. The first ones, before the next, are of records before it.
 fn hint_at<'a>(hints: &'a [Hint], next: &mut usize, place: usize) -> Option<&'a Hint> {
     for at in *next..hints.len() {
-        if hints[at].place >= place {
+        if !hints[at].is_before(place) {
             *next = at;
-            return if hints[at].place == place {
+            return if hints[at].is_at(place) {
                 Some(&hints[at])
             } else {
                 None
@@ -286,15 +319,35 @@ fn put_forms(
     true
 }
 
-/// Whether what the last hint names for the records before this end stands before that place in the other list.
-pub(crate) fn are_quotable(hints: &[Hint], end: usize, place: usize) -> bool {
-    for back in 1..=hints.len() {
-        let hint = &hints[hints.len() - back];
-        if hint.place < end {
-            return hint.start.max(hint.source) < place;
+/// How many hints are of records before this end. The hints stand by their records, and few are of later ones.
+fn count_before(hints: &[Hint], end: usize) -> usize
+    ensures { result ≤ length hints.now }
+{
+    let len = hints.len();
+    for later in 0..len {
+        if hints[len - 1 - later].is_before(end) {
+            return len - later;
         }
     }
-    true
+    0
+}
+
+/// Takes the hints away that are of records before this end.
+pub(crate) fn forget_before(hints: &mut Vec<Hint>, end: usize) {
+    let count = count_before(hints.as_slice(), end);
+    let later = hints.len() - count;
+    hints.copy_within(count.., 0);
+    hints.truncate(later);
+}
+
+/// Whether what the last hint names for the records before this end stands before that place in the other list.
+pub(crate) fn are_quotable(hints: &[Hint], end: usize, place: usize) -> bool {
+    let count = count_before(hints, end);
+    if count == 0 {
+        return true;
+    }
+    let hint = &hints[count - 1];
+    hint.start().max(hint.source()) < place
 }
 
 /// Which pieces a piece with these hints quotes: those from here on.
@@ -303,7 +356,7 @@ fn first_quoted(full: &[FullPiece], hints: &[Hint]) -> usize {
     let Some(hint) = hints.first() else {
         return len;
     };
-    let least = hint.start.min(hint.source);
+    let least = hint.start().min(hint.source());
     for back in 1..MOST_PIECES {
         if back > len {
             return 0;

@@ -9,10 +9,14 @@ use Rattle.l4_packed.specs.Inside.Pieces.{PieceState, piece_state, record_words}
 abbrev pub in_piece : PieceState → ℕ → Option (List ℕ)
 in_piece p place = if nat_lt place p.first then None else slice_get p.records (place - p.first)
 
--- the same by the first of the pieces that has it; no words where none has
+-- the same by the last of the pieces that has it, None where none has
+abbrev pub last_among : List PieceState → ℕ → Option (List ℕ)
+last_among [] place = None
+last_among (p ∷ ps) place = elim (last_among ps place) [ None ↦ in_piece p place | Some words ↦ Some words ]
+
+-- the same, no words where none has
 abbrev pub words_among : List PieceState → ℕ → List ℕ
-words_among [] place = []
-words_among (p ∷ ps) place = elim (in_piece p place) [ None ↦ words_among ps place | Some words ↦ words ]
+words_among pieces place = elim (last_among pieces place) [ None ↦ [] | Some words ↦ words ]
 
 -- A short form begins with a word of this or more. No record that is stored as it is does.
 abbrev pub short_from : ℕ
