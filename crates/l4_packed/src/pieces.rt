@@ -85,7 +85,7 @@ fn mark_before(marks: &[u16], at: usize) -> (usize, usize)
 }
 
 /// The bytes of a piece that takes records.
-pub(crate) const PIECE_BYTES: usize = 16384;
+pub(crate) const PIECE_BYTES: usize = 8192;
 
 /// A piece: how many records stand before it, how many it holds, their bytes, and how many bytes stand before some of them.
 #[derive(Drop)]

@@ -12,8 +12,15 @@ use crate::quoting::{ENTRY_HEAD, QuotingPiece, SHORT_FROM, SharedPiece, words_af
 use crate::words::{RECORD_WORDS, Record, Words, read_word};
 use std::alloc::Global;
 
-/// Where words of a record may stand in another list too. It is a guess: what doesn't stand there is stored as it is. Of each place it has the
-/// lower 32 bits.
+/// A place in 32 bits, which are enough for most. The greatest number where they are too few.
+fn in_short(place: usize) -> u32 {
+    match u32::try_from(place) {
+        Ok(place) => place,
+        Err(_) => u32::MAX,
+    }
+}
+
+/// Where words of a record may stand in another list too. It is a guess: what doesn't stand there is stored as it is.
 #[derive(Clone, Copy, Debug, PartialEq, Eq)]
 pub(crate) struct Hint {
     /// The place of the record.
@@ -28,9 +35,9 @@ impl Hint {
     /// The hint for the record of this place.
     pub fn new(place: usize, start: usize, source: usize) -> Hint {
         Hint {
-            place: place as u32,
-            start: start as u32,
-            source: source as u32,
+            place: in_short(place),
+            start: in_short(start),
+            source: in_short(source),
         }
     }
 
@@ -46,12 +53,12 @@ impl Hint {
 
     /// Whether it is for a record before this place.
     fn is_before(&self, place: usize) -> bool {
-        self.place < place as u32
+        (self.place as usize) < place
     }
 
     /// Whether it is for the record of this place.
     fn is_at(&self, place: usize) -> bool {
-        self.place == place as u32
+        self.place as usize == place
     }
 }
 
@@ -415,6 +422,7 @@ pub(crate) fn quoting(
     if forms.bytes() / WORTH >= piece.bytes() / WORTH_OF {
         return None;
     }
-    let forms = forms.fitted(alloc)?;
+    let mut forms = forms.fitted(alloc)?;
+    forms.fit_marks();
     Some(QuotingPiece::new(forms, piece.free(), base, pieces))
 }

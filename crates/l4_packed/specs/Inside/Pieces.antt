@@ -54,13 +54,13 @@ records_of pieces = flat_map (λ piece. piece.records) pieces
 
 -- the bytes of a piece, the greatest number of bytes of a record, and how many such records a piece holds
 abbrev pub piece_bytes : ℕ
-piece_bytes = 16384
+piece_bytes = 8192
 
 abbrev pub record_bytes : ℕ
 record_bytes = 725
 
 abbrev pub piece_records : ℕ
-piece_records = 22
+piece_records = 11
 
 -- there are fewer records than this
 abbrev pub most_records : ℕ

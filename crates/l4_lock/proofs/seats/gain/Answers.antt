@@ -1,4 +1,4 @@
-use Rattle.std.proofs.Common.{◌≡◌, length, sym, ap, ◌∙◌}
+use Rattle.std.proofs.Common.{ap, ◌∙◌}
 use Rattle.l4_lock.specs.Books.{receipt_of}
 use Rattle.l4_lock.specs.Lists.{ReceiptList}
 use Rattle.l4_lock.proofs.seats.gain.Goals as goal

@@ -1,4 +1,4 @@
-use Rattle.std.proofs.Common.{None, ◌+◌, ◌++◌, ◌∷◌, [], refl, sym, ap, ◌∙◌}
+use Rattle.std.proofs.Common.{None, ◌++◌, ◌∷◌, [], refl, sym, ap, ◌∙◌}
 use Rattle.l4_lock.specs.Books.{Book, PassState, book, receipt_of}
 use Rattle.l4_lock.specs.Lists.{ReceiptList}
 use Rattle.l4_lock.proofs.seats.settle_kept_ended.Goals as goal

@@ -1,8 +1,8 @@
-use Rattle.std.proofs.Common.{◌≡◌, ℕ, sym, subst, ap, ◌∙◌, arith}
+use Rattle.std.proofs.Common.{ℕ, sym, subst, ap, arith}
 use Rattle.l4_lock.specs.Lists.{EntryList}
-use Rattle.l4_lock.specs.Locked.{Lock, lock, Refuses}
+use Rattle.l4_lock.specs.Locked.{Lock, lock}
 use Rattle.l4_lock.specs.Inside.Entering.{IsAdmitted, WaitsMore}
-use Rattle.l4_lock.proofs.Taking.{placed, finished, entered_done, entered_left, seat_back}
+use Rattle.l4_lock.proofs.Taking.{placed, finished, entered_done, entered_left}
 use Rattle.l4_lock.proofs.locked.Locked.enter.Goals as goal
 
 pub wait_less-requires : goal.wait_less-requires

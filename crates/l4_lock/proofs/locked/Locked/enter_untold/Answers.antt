@@ -1,8 +1,8 @@
-use Rattle.std.proofs.Common.{◌≡◌, ℕ, length, sym, subst, ap, arith}
+use Rattle.std.proofs.Common.{ℕ, length, sym, subst, ap}
 use Rattle.l4_lock.specs.Locked.{Lock, lock}
 use Rattle.l4_lock.specs.Lists.{AreFollowedFrom, EntryList}
 use Rattle.l4_lock.specs.Inside.Entering.{IsAdmitted}
-use Rattle.l4_lock.proofs.Taking.{placed, passed_kept, passed_entered, pass_back}
+use Rattle.l4_lock.proofs.Taking.{placed, passed_kept, passed_entered}
 use Rattle.l4_lock.proofs.locked.Locked.enter_untold.Goals as goal
 
 pub settle_kept-requires-clause-at : goal.settle_kept-requires-clause-at

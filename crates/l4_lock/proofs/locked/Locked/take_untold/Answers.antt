@@ -19,7 +19,7 @@ returns-clause-taken c =
     let at : book_at c.self.inside.accounts.items c.args.pass.now.number ≡ slice_get c.self.inside.accounts.items c.in-Some.at =
     subst (λ (n : ℕ). book_at c.self.inside.accounts.items n ≡ slice_get c.self.inside.accounts.items c.in-Some.at) c.number.ensures c.in-Some.ensures.1 in
     subst (λ (l : Lock). c.settle_kept.result ≡ true → (receipts : List Receipt) → (reply : Reply) × (later : List Receipt)
-        × Takes l (settled_in (lock c.self.inside.frames c.self.inside.kernel c.self.inside.history.entries c.self.inside.accounts.items c.self.inside.publisher.board c.self.inside.publisher.shown) c.settle_kept.new.self.items) (seat_of c.args.pass.now receipts) (seat_of c.settle_kept.new.pass later) (λ call. call) reply) c.self.view_is
+    × Takes l (settled_in (lock c.self.inside.frames c.self.inside.kernel c.self.inside.history.entries c.self.inside.accounts.items c.self.inside.publisher.board c.self.inside.publisher.shown) c.settle_kept.new.self.items) (seat_of c.args.pass.now receipts) (seat_of c.settle_kept.new.pass later) (λ call. call) reply) c.self.view_is
     (passed_taken (lock c.self.inside.frames c.self.inside.kernel c.self.inside.history.entries c.self.inside.accounts.items c.self.inside.publisher.board c.self.inside.publisher.shown) c.settle_kept.new.self.items c.in-Some.at c.args.pass.now c.settle_kept.new.pass c.settle_kept.result c.self.invariant at c.settle_kept.ensures.settles)
     )
 
