@@ -74,6 +74,9 @@ impl Accounts {
         requires { IsOnce (numbers self.now.items) }
         ensures { result ≡ reply_waits self.now.items number }
     {
+        if self.replies == 0 {
+            return false;
+        }
         reply_waits(self.items.as_slice(), number)
     }
 

@@ -24,7 +24,7 @@ use std::marker::Model;
 const LONG: usize = 64;
 
 /// So may a shorter one with an Ipc of so many bytes or more, and little behind it.
-const LONG_IPC: usize = 12;
+const LONG_IPC: usize = 10;
 
 /// No more than so many bytes are little: the places of a call, and a reply without a message.
 const LITTLE: usize = 8;
@@ -355,7 +355,7 @@ pub(crate) fn settle(
 }
 
 /// Takes the account's call, which has ended: the account gains its receipt, and so would any seat in the place of the pass.
-#[inline(never)]
+#[inline(always)]
 fn settle_kept_ended(account: &mut Account, pass: &mut Pass, history: &mut History)
     requires waiting { pass.old.waiting ≢ 0 }
     requires ended { option_map_or has_ended account.old.pending false ≡ true }
