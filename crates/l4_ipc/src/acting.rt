@@ -126,8 +126,36 @@ fn start_message(
     Ok(false)
 }
 
-/// Starts the send phase of a running thread's Ipc whose message has items. A list of items has room for all that a message may have, so of one
-/// item none is made.
+/// Starts the send phase of a running thread's Ipc whose message has items. It is apart from `start_items`, as the list of them has room for all
+/// that a message may have, which no message of one item is to clear.
+#[inline(never)]
+fn start_listed(
+    threads: &mut Threads,
+    number: u32,
+    call: &IpcCall,
+    tag: &Tag,
+) -> Result<bool, Refused>
+    requires running { IsTrue (runs threads.old number) }
+    requires timely { has_bad_timeout call.now ≡ false }
+    requires sends { has_send call.now ≡ true }
+    requires good { HasGoodTag call.now.words.items }
+    requires tag { TagReads (tag_of call.now.words.items) tag.now }
+    ensures { (s : Mappings) → Steps (machine threads.old s) (Start number (Ipc call.now)) (answered_if number result) (machine threads.new s) }
+{
+    let items = match Message::read_typed(call.words.as_slice(), tag) {
+        Ok(items) => items,
+        Err(fault) => return Err(Refused::Lower(Lower::Message(fault))),
+    };
+    start_message(
+        threads,
+        number,
+        call,
+        call.counted_words(tag),
+        items.as_slice(),
+    )
+}
+
+/// Starts the send phase of a running thread's Ipc whose message has items. Of one item no list is made.
 fn start_items(
     threads: &mut Threads,
     number: u32,
@@ -141,24 +169,14 @@ fn start_items(
     requires tag { TagReads (tag_of call.now.words.items) tag.now }
     ensures { (s : Mappings) → Steps (machine threads.old s) (Start number (Ipc call.now)) (answered_if number result) (machine threads.new s) }
 {
-    if tag.typed == ITEM_WORDS {
-        let item = match Message::read_only_item(call.words.as_slice(), tag) {
-            Ok(item) => item,
-            Err(fault) => return Err(Refused::Lower(Lower::Message(fault))),
-        };
-        return start_message(threads, number, call, call.counted_words(tag), &[item]);
+    if tag.typed != ITEM_WORDS {
+        return start_listed(threads, number, call, tag);
     }
-    let items = match Message::read_typed(call.words.as_slice(), tag) {
-        Ok(items) => items,
+    let item = match Message::read_only_item(call.words.as_slice(), tag) {
+        Ok(item) => item,
         Err(fault) => return Err(Refused::Lower(Lower::Message(fault))),
     };
-    start_message(
-        threads,
-        number,
-        call,
-        call.counted_words(tag),
-        items.as_slice(),
-    )
+    start_message(threads, number, call, call.counted_words(tag), &[item])
 }
 
 /// Starts an Ipc of a running thread.

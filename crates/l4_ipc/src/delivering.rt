@@ -122,6 +122,7 @@ fn no_move() -> Move {
 }
 
 /// What an item moves in a window. One that moves no page has no right here, so that nothing of it is used.
+#[inline(always)]
 fn item_move(item: &Item, window: &Fpage) -> ItemMove
     ensures { IsListed window.now item.now result }
 {

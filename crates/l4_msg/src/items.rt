@@ -75,6 +75,7 @@ impl Item {
     /// The item of two words. In the first, bits 9 to 4 and the lowest bit, which says whether
     /// another item follows, mean nothing (this profile's own). `Unsupported` comes for the kinds
     /// of strings and of CtrlXfer, and `Bad` for the kind 7 and for a second word that is no fpage.
+    #[inline(always)]
     pub fn read(first: u32, second: u32) -> Result<Item, ItemFault>
         ensures ok { IfOk result (ItemReads first second) }
         ensures err { IfErr result (ItemFails first second) }

@@ -196,6 +196,7 @@ impl Activity {
     }
 
     /// The thread sends.
+    #[inline(always)]
     pub(crate) fn send(&mut self, words: &[u32], items: &[Item], phase: SendPhase)
         requires words { length words.now ≤ max_words }
         requires items { length items.now ≤ max_items }

@@ -184,6 +184,7 @@ impl Roster {
     }
 
     /// The thread of this number sends.
+    #[inline(always)]
     pub fn send(&mut self, number: u32, words: &[u32], items: &[Item], phase: SendPhase)
         requires there { found self.old number ≢ None }
         requires words { length words.now ≤ max_words }

@@ -355,6 +355,7 @@ impl Threads {
     }
 
     /// A running thread starts to send these words, in which these items stand: it goes to the end of the queue.
+    #[inline(always)]
     pub fn start_message(&mut self, number: u32, words: &[u32], items: &[Item], phase: SendPhase)
         requires running { IsTrue (runs self.old number) }
         requires words { length words.now ≤ max_words }

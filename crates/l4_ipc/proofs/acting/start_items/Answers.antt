@@ -5,7 +5,3 @@ use Rattle.l4_ipc.proofs.acting.start_items.Goals as goal
 pub start_message-requires-clause-sent : goal.start_message-requires-clause-sent
 start_message-requires-clause-sent c =
     sent_by c.args.call.now.words.items c.as_slice.result.now c.counted_words.result.now (c.in-Ok.item ∷ []) (c.in-Ok.item ∷ []) c.requires.good c.as_slice.ensures.value c.counted_words.ensures.value refl c.in-Ok.ensures.ok
-
-pub start_message-requires-2-clause-sent : goal.start_message-requires-2-clause-sent
-start_message-requires-2-clause-sent c =
-    sent_by c.args.call.now.words.items c.as_slice-2.result.now c.counted_words-2.result.now c.in-Ok-read_typed.items.items c.as_slice-3.result.now c.requires.good c.as_slice-2.ensures.value c.counted_words-2.ensures.value c.as_slice-3.ensures.value c.in-Ok-read_typed.ensures.ok
