@@ -5,6 +5,7 @@ pub mod Right
 pub mod Going
 pub mod Books
 pub mod Noting
+pub mod Settling
 pub mod Started
 pub mod Counting
 pub mod Openings

@@ -215,8 +215,8 @@ pub(crate) fn write_numbers(cells: &mut [u8], at: usize, numbers: &[u32]) -> usi
     end
 }
 
-/// Appends a number that is not one byte to the bytes of words. It stands apart, so that `add_number` is put into its callers.
-#[inline(never)]
+/// Appends a number that is not one byte to the bytes of words.
+#[inline(always)]
 fn add_long(out: &mut Bytes, number: u32)
     requires long { (TWO ≤ number) × (number < 4294967295) }
     requires room { length out.old.items + NUMBER_BYTES ≤ WORDS_BYTES }

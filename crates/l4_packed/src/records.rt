@@ -135,6 +135,21 @@ fn add_spare(alloc: Global, spare: &mut Vec<Vec<u8>>, wanted: usize) -> Result<(
     Ok(())
 }
 
+/// Where the piece of this place ends, if there is one, and what the hints name for its records stands before a place in the other list.
+fn quotable_end(full: &[FullPiece], place: usize, hints: &[Hint], from: usize) -> Option<usize>
+    ensures { IfSome result (λ _. place < length full.now) }
+{
+    if place >= full.len() {
+        return None;
+    }
+    let end = full[place].end();
+    if are_quotable(hints, end, from) {
+        Some(end)
+    } else {
+        None
+    }
+}
+
 /// Keeps memory for a further piece, while there is less than for so many. Memory that is used again isn't split by what is smaller.
 fn keep_spare(spare: &mut Vec<Vec<u8>>, bytes: Vec<u8>, most: usize)
     requires blank { All IsBlank spare.old.items }
@@ -360,11 +375,12 @@ impl Records {
         ensures quoted { quoted.new ≡ quoted.old }
     {
         let place = self.shared;
-        if place >= self.full.len() || place >= other.full.len() {
+        let from = quoted.current.first();
+        let hints = self.hints.as_slice();
+        let Some(end) = quotable_end(self.full.as_slice(), place, hints, from) else {
             return;
-        }
-        let end = self.full[place].end();
-        if !are_quotable(self.hints.as_slice(), end, quoted.current.first()) {
+        };
+        if place >= other.full.len() {
             return;
         }
         self.shared = place + 1;
@@ -398,13 +414,11 @@ impl Records {
         ensures quoted { quoted.new ≡ quoted.old }
     {
         let place = self.shared;
-        if place >= self.full.len() {
+        let from = quoted.current.first();
+        let hints = self.hints.as_slice();
+        let Some(end) = quotable_end(self.full.as_slice(), place, hints, from) else {
             return;
-        }
-        let end = self.full[place].end();
-        if !are_quotable(self.hints.as_slice(), end, quoted.current.first()) {
-            return;
-        }
+        };
         self.shared = place + 1;
         let memory = shorten_at(
             &mut self.full,

@@ -20,6 +20,7 @@ const IPC: u32 = 6;
 const FLAGS: u32 = 8;
 
 /// Appends a reply.
+#[inline(always)]
 pub fn put_reply(out: &mut Record, reply: &Reply)
     requires { length out.old.items + REPLY_WORDS ≤ RECORD_WORDS }
     ensures items { out.new.items ≡ out.old.items ++ reply_code reply.now }

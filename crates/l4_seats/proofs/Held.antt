@@ -21,33 +21,33 @@ use Rattle.l4_lock.specs.Locked.{Lock, Enters, Tells, Takes, Refuses, start_entr
 use Rattle.l4_lock.proofs.Openings.{none_of}
 use Rattle.l4_lock.proofs.Started.{once_push}
 use Rattle.l4_seats.specs.Seated.{Seated, seated, with_number, Refuses as Declines, Enters as Entering}
-use Rattle.l4_seats.specs.Inside.Keeping.{numbers_of, seat_at, AreTheirs, AreSeats, waiting_in, OnlyTakes, EntersAndTakes}
+use Rattle.l4_seats.specs.Inside.Keeping.{numbers_of, pass_at, AreTheirs, ArePasses, waiting_in, OnlyTakes, EntersAndTakes}
 use Rattle.l4_seats.proofs.Staying.{Walked, walked, lasts}
 
 -- SEATS BY PLACE AND BY NUMBER
 
-pub at_first : (xs : List PassState) (n i : ℕ) (d : PassState) → i < length xs → (get_or xs i d).number ≡ n → seat_at (drop i xs) n ≡ slice_get xs i
+pub at_first : (xs : List PassState) (n i : ℕ) (d : PassState) → i < length xs → (get_or xs i d).number ≡ n → pass_at (drop i xs) n ≡ slice_get xs i
 at_first [] n i d lt is = absurd (omega (arith, lt))
-at_first (x ∷ xs) n zero d lt is = ap (λ b. if b then Some x else seat_at xs n) (eq-eqb x.number n is)
+at_first (x ∷ xs) n zero d lt is = ap (λ b. if b then Some x else pass_at xs n) (eq-eqb x.number n is)
 at_first (x ∷ xs) n (suc i) d lt is = at_first xs n i d (omega (arith, lt)) is
 
-pub among_at : (xs : List PassState) (n : ℕ) → is_among n (numbers_of xs) ≡ is_some (seat_at xs n)
+pub among_at : (xs : List PassState) (n : ℕ) → is_among n (numbers_of xs) ≡ is_some (pass_at xs n)
 among_at [] n = refl
 among_at (x ∷ xs) n =
-    elim (nat_eq x.number n) as (λ b. (b || is_among n (numbers_of xs)) ≡ is_some (if b then Some x else seat_at xs n)) [
+    elim (nat_eq x.number n) as (λ b. (b || is_among n (numbers_of xs)) ≡ is_some (if b then Some x else pass_at xs n)) [
       | true ↦ refl
       | false ↦ among_at xs n
     ]
 
-at_number : (xs : List PassState) (n : ℕ) (s : PassState) → seat_at xs n ≡ Some s → s.number ≡ n
+at_number : (xs : List PassState) (n : ℕ) (s : PassState) → pass_at xs n ≡ Some s → s.number ≡ n
 at_number [] n s is = absurd (let k : ◌≡◌ {A = Option PassState} None (Some s) = is in cc)
 at_number (x ∷ xs) n s is =
     elim (eqb_tells x.number n) [
       | inl same ↦
-          let e : ◌≡◌ {A = Option PassState} (Some x) (Some s) = sym (ap (λ b. if b then Some x else seat_at xs n) same.0) ∙ is in
+          let e : ◌≡◌ {A = Option PassState} (Some x) (Some s) = sym (ap (λ b. if b then Some x else pass_at xs n) same.0) ∙ is in
           let v : x ≡ s = cc in
           ap (λ (y : PassState). y.number) (sym v) ∙ same.1
-      | inr ne ↦ at_number xs n s (sym (ap (λ b. if b then Some x else seat_at xs n) ne.0) ∙ is)
+      | inr ne ↦ at_number xs n s (sym (ap (λ b. if b then Some x else pass_at xs n) ne.0) ∙ is)
     ]
 
 set_here : (xs : List PassState) (i : ℕ) (c : PassState) → i < length xs → slice_get (slice_set xs i c) i ≡ Some c
@@ -75,39 +75,39 @@ length_numbers (x ∷ xs) = ap suc (length_numbers xs)
 there : (xs : List PassState) (i : ℕ) (s : PassState) → i < length xs → s ≡ get_or xs i s → slice_get xs i ≡ Some s
 there xs i s lt read = slice_get-get_or xs i s lt ∙ ap (λ (x : PassState). Some x) (sym read)
 
-same_seat : (x y : PassState) → ◌≡◌ {A = Option PassState} (Some x) (Some y) → x ≡ y
-same_seat x y e = cc
+same_pass : (x y : PassState) → ◌≡◌ {A = Option PassState} (Some x) (Some y) → x ≡ y
+same_pass x y e = cc
 
 -- a seat of another number stands at another place
 apart : (xs : List PassState) (i k : ℕ) (s x : PassState) → slice_get xs i ≡ Some s → slice_get xs k ≡ Some x → x.number ≢ s.number → k ≢ i
-apart xs i k s x at at' ne same = ne (ap (λ (y : PassState). y.number) (same_seat x s (sym at' ∙ ap (slice_get xs) same ∙ at)))
+apart xs i k s x at at' ne same = ne (ap (λ (y : PassState). y.number) (same_pass x s (sym at' ∙ ap (slice_get xs) same ∙ at)))
 
 number_among : (xs : List PassState) (i : ℕ) (s : PassState) → slice_get xs i ≡ Some s → is_among s.number (numbers_of xs) ≡ true
 number_among [] i s at = absurd (let k : ◌≡◌ {A = Option PassState} None (Some s) = at in cc)
 number_among (x ∷ xs) zero s at =
-    ap (λ t. t || is_among s.number (numbers_of xs)) (eq-eqb x.number s.number (ap (λ (y : PassState). y.number) (same_seat x s at)))
+    ap (λ t. t || is_among s.number (numbers_of xs)) (eq-eqb x.number s.number (ap (λ (y : PassState). y.number) (same_pass x s at)))
 number_among (x ∷ xs) (suc i) s at =
     elim (nat_eq x.number s.number) as (λ t. (t || is_among s.number (numbers_of xs)) ≡ true) [ true ↦ refl | false ↦ number_among xs i s at ]
 
-own_at : (xs : List PassState) (i : ℕ) (s : PassState) → slice_get xs i ≡ Some s → IsOnce (numbers_of xs) → seat_at xs s.number ≡ Some s
+own_at : (xs : List PassState) (i : ℕ) (s : PassState) → slice_get xs i ≡ Some s → IsOnce (numbers_of xs) → pass_at xs s.number ≡ Some s
 own_at [] i s at once = absurd (let k : ◌≡◌ {A = Option PassState} None (Some s) = at in cc)
 own_at (x ∷ xs) zero s at once =
-    ap (λ t. if t then Some x else seat_at xs s.number) (eq-eqb x.number s.number (ap (λ (y : PassState). y.number) (same_seat x s at))) ∙ at
+    ap (λ t. if t then Some x else pass_at xs s.number) (eq-eqb x.number s.number (ap (λ (y : PassState). y.number) (same_pass x s at))) ∙ at
 own_at (x ∷ xs) (suc i) s at once =
     elim (eqb_tells x.number s.number) [
       | inl is ↦ absurd (false≢true (sym once.0 ∙ ap (λ k. is_among k (numbers_of xs)) is.1 ∙ number_among xs i s at))
-      | inr ne ↦ ap (λ t. if t then Some x else seat_at xs s.number) ne.0 ∙ own_at xs i s at once.1
+      | inr ne ↦ ap (λ t. if t then Some x else pass_at xs s.number) ne.0 ∙ own_at xs i s at once.1
     ]
 
 -- where a seat of the number stands is the number's place
-pub at_guess : (xs : List PassState) (n i : ℕ) (d : PassState) → IsOnce (numbers_of xs) → i < length xs → (get_or xs i d).number ≡ n → seat_at xs n ≡ slice_get xs i
+pub at_guess : (xs : List PassState) (n i : ℕ) (d : PassState) → IsOnce (numbers_of xs) → i < length xs → (get_or xs i d).number ≡ n → pass_at xs n ≡ slice_get xs i
 at_guess xs n i d once lt is =
     let there = slice_get-get_or xs i d lt in
-    subst (λ (k : ℕ). seat_at xs k ≡ slice_get xs i) is (own_at xs i (get_or xs i d) there once ∙ sym there)
+    subst (λ (k : ℕ). pass_at xs k ≡ slice_get xs i) is (own_at xs i (get_or xs i d) there once ∙ sym there)
 
 waiting_set : (xs : List PassState) (i : ℕ) (s after : PassState) → slice_get xs i ≡ Some s → s.waiting ≡ after.waiting + 1 → waiting_in xs ≡ waiting_in (slice_set xs i after) + 1
 waiting_set [] i s after at less = absurd (let k : ◌≡◌ {A = Option PassState} None (Some s) = at in cc)
-waiting_set (x ∷ xs) zero s after at less = let w = ap (λ (y : PassState). y.waiting) (same_seat x s at) in omega (arith, w, less)
+waiting_set (x ∷ xs) zero s after at less = let w = ap (λ (y : PassState). y.waiting) (same_pass x s at) in omega (arith, w, less)
 waiting_set (x ∷ xs) (suc i) s after at less = let w = waiting_set xs i s after at less in omega (arith, w)
 
 -- BOOKS
@@ -159,14 +159,14 @@ changed books later xs i s after lt read number there_too own others h =
           elim (eqb_tells m s.number) [
             | inl same ↦ elim own [
               | inl none ↦ inl (ap (pending_at later) same.1 ∙ none)
-              | inr waits ↦ inr (record { place = i; seat = after; at = set_here xs i after lt; number = number ∙ sym same.1; waits = waits })
+              | inr waits ↦ inr (record { place = i; pass = after; at = set_here xs i after lt; number = number ∙ sym same.1; waits = waits })
             ]
             | inr ne ↦ elim (h.held m) [
               | inl none ↦ inl (none_of (pending_at later m) (sym (pending_plain (book_at later m)) ∙ ap (λ (o : Option Book). is_some (pending_in o)) (others m ne.1) ∙ pending_plain (book_at books m) ∙ ap is_some none))
               | inr w ↦ inr (record {
                 place = w.place;
-                seat = w.seat;
-                at = set_there xs i after w.place (apart xs i w.place s w.seat at w.at (λ e. ne.1 (sym w.number ∙ e))) ∙ w.at;
+                pass = w.pass;
+                at = set_there xs i after w.place (apart xs i w.place s w.pass at w.at (λ e. ne.1 (sym w.number ∙ e))) ∙ w.at;
                 number = w.number;
                 waits = w.waits;
               })
@@ -177,17 +177,17 @@ changed books later xs i s after lt read number there_too own others h =
 pub within : (xs ys : List PassState) (i : ℕ) → ys ≡ xs → i < length ys → i < length xs
 within xs ys i same lt = subst (λ (l : List PassState). i < length l) same lt
 
-pub placed : (xs ys : List PassState) (n i : ℕ) → ys ≡ xs → seat_at ys n ≡ slice_get ys i → seat_at xs n ≡ slice_get xs i
-placed xs ys n i same at = subst (λ (l : List PassState). seat_at l n ≡ slice_get l i) same at
+pub placed : (xs ys : List PassState) (n i : ℕ) → ys ≡ xs → pass_at ys n ≡ slice_get ys i → pass_at xs n ≡ slice_get xs i
+placed xs ys n i same at = subst (λ (l : List PassState). pass_at l n ≡ slice_get l i) same at
 
 -- TAKING
 
 -- a number whose reply waits has a seat that waits
-pub waiting_seat : (books : List Book) (xs : List PassState) (n : ℕ) → AreTheirs books xs → reply_waits books n ≡ true → (s : PassState) × (seat_at xs n ≡ Some s) × (s.waiting ≢ 0)
+pub waiting_seat : (books : List Book) (xs : List PassState) (n : ℕ) → AreTheirs books xs → reply_waits books n ≡ true → (s : PassState) × (pass_at xs n ≡ Some s) × (s.waiting ≢ 0)
 waiting_seat books xs n h waits =
     elim (h.held n) [
       | inl none ↦ absurd (false≢true (sym (none_waits books n none) ∙ waits))
-      | inr w ↦ (w.seat, subst (λ k. seat_at xs k ≡ Some w.seat) w.number (own_at xs w.place w.seat w.at h.once), w.waits)
+      | inr w ↦ (w.pass, subst (λ k. pass_at xs k ≡ Some w.pass) w.number (own_at xs w.place w.pass w.at h.once), w.waits)
     ]
 
 -- a reply was taken
@@ -197,7 +197,7 @@ pub record Taken (old new : Lock) (before after : List PassState) : Type 0 where
   pub same : OnlyTakes old new
   pub fewer : waiting_in after < waiting_in before
 
-pub taken_one : (l new : Lock) (seats : List PassState) (i n : ℕ) (s after : PassState) (b : Bool) → i < length seats → s ≡ get_or seats i s → seat_at seats n ≡ slice_get seats i
+pub taken_one : (l new : Lock) (seats : List PassState) (i n : ℕ) (s after : PassState) (b : Bool) → i < length seats → s ≡ get_or seats i s → pass_at seats n ≡ slice_get seats i
     → AreTheirs l.books seats → reply_waits l.books n ≡ true → (b ≡ true → (receipts : List Receipt) → (reply : Reply) × (later : List Receipt) × Takes l new (seat_of s receipts) (seat_of after later) (λ call. call) reply)
     → (b ≡ false → (new ≡ l) × (after ≡ s) × ((s.waiting ≡ 0) ⊎ (reply_waits l.books s.number ≡ false)))
     → Taken l new seats (slice_set seats i after)
@@ -214,14 +214,14 @@ taken_one l new seats i n s after true lt read at h waits takes none =
 taken_one l new seats i n s after false lt read at h waits takes none =
     let w = waiting_seat l.books seats n h waits in
     let here : slice_get seats i ≡ Some s = there seats i s lt read in
-    let is : s ≡ w.0 = same_seat s w.0 (sym here ∙ sym at ∙ w.1) in
+    let is : s ≡ w.0 = same_pass s w.0 (sym here ∙ sym at ∙ w.1) in
     let number : s.number ≡ n = at_number seats n s (at ∙ here) in
     absurd (elim (none refl).2 [
       | inl nothing ↦ w.2 (ap (λ (y : PassState). y.waiting) (sym is) ∙ nothing)
       | inr quiet ↦ false≢true (sym (ap (reply_waits l.books) (sym number) ∙ quiet) ∙ waits)
     ])
 
-pub some_seat : (books : List Book) (xs : List PassState) (n : ℕ) → AreTheirs books xs → reply_waits books n ≡ true → seat_at xs n ≢ None
+pub some_seat : (books : List Book) (xs : List PassState) (n : ℕ) → AreTheirs books xs → reply_waits books n ≡ true → pass_at xs n ≢ None
 some_seat books xs n h waits none =
     let w = waiting_seat books xs n h waits in
     let k : ◌≡◌ {A = Option PassState} None (Some w.0) = sym none ∙ w.1 in
@@ -248,19 +248,19 @@ entered old new seats i s after n call IsWaiting receipts later lt read is h x t
     )
 
 -- the seat at the place of its number
-pub numbered : (seats : List PassState) (i n : ℕ) (s : PassState) → i < length seats → s ≡ get_or seats i s → seat_at seats n ≡ slice_get seats i → s.number ≡ n
+pub numbered : (seats : List PassState) (i n : ℕ) (s : PassState) → i < length seats → s ≡ get_or seats i s → pass_at seats n ≡ slice_get seats i → s.number ≡ n
 numbered seats i n s lt read at = at_number seats n s (at ∙ there seats i s lt read)
 
 -- and it is among the numbers
-pub among : (seats : List PassState) (i n : ℕ) → i < length seats → seat_at seats n ≡ slice_get seats i → is_among n (numbers_of seats) ≡ true
+pub among : (seats : List PassState) (i n : ℕ) → i < length seats → pass_at seats n ≡ slice_get seats i → is_among n (numbers_of seats) ≡ true
 among [] i n lt at = absurd (omega (arith, lt))
 among (x ∷ xs) i n lt at = among_at (x ∷ xs) n ∙ ap is_some (at ∙ slice_get-get_or (x ∷ xs) i x lt)
 
-pub not_among : (seats : List PassState) (n : ℕ) → seat_at seats n ≡ None → is_among n (numbers_of seats) ≡ false
+pub not_among : (seats : List PassState) (n : ℕ) → pass_at seats n ≡ None → is_among n (numbers_of seats) ≡ false
 not_among seats n none = among_at seats n ∙ ap is_some none
 
 -- why a call of a number that has its seat is refused
-pub declines : (l : Lock) (seats : List PassState) (n : ℕ) (call : Call) (e : LockRefusal) → AreSeats l.books seats → is_among n (numbers_of seats) ≡ true → Refuses l n call e
+pub declines : (l : Lock) (seats : List PassState) (n : ℕ) (call : Call) (e : LockRefusal) → ArePasses l.books seats → is_among n (numbers_of seats) ≡ true → Refuses l n call e
     → Declines l.kernel (length l.history) (numbers_of seats) n call e
 declines l seats n call ReplyWaiting h has x = absurd (false≢true (sym (h.taken n) ∙ x))
 declines l seats n call HistoryFull h has x = (has, x.1)
@@ -294,13 +294,13 @@ entering old between new first n seen numbers call has x takes idle same =
 -- the clauses of a call, by the value that its holder sees
 pub ok_enters : {T : Type 0} (r : Result T LockRefusal) (s : Seated) (old new : Lock) (first seats : List PassState) (n seen : ℕ) (call : Call) → is_among n (numbers_of first) ≡ true
     → seated old.kernel old.history (numbers_of first) seen ≡ s
-    → IfOk r (λ _. EntersAndTakes old new n call × IsIdle new.kernel × AreSeats new.books seats × (numbers_of seats ≡ numbers_of first))
+    → IfOk r (λ _. EntersAndTakes old new n call × IsIdle new.kernel × ArePasses new.books seats × (numbers_of seats ≡ numbers_of first))
     → IfOk r (λ _. Entering s (seated new.kernel new.history (numbers_of seats) seen) n call)
 ok_enters (Ok x) s old new first seats n seen call has is h =
     subst (λ (v : Seated). Entering v (seated new.kernel new.history (numbers_of seats) seen) n call) is (entering old h.0.0 new first n seen (numbers_of seats) call has h.0.1 h.0.2 h.1 h.3)
 ok_enters (Err e) s old new first seats n seen call has is h = h
 
-pub err_enters : {T : Type 0} (r : Result T LockRefusal) (s : Seated) (old new : Lock) (first seats : List PassState) (n seen : ℕ) (call : Call) → AreSeats old.books first → is_among n (numbers_of first) ≡ true
+pub err_enters : {T : Type 0} (r : Result T LockRefusal) (s : Seated) (old new : Lock) (first seats : List PassState) (n seen : ℕ) (call : Call) → ArePasses old.books first → is_among n (numbers_of first) ≡ true
     → seated old.kernel old.history (numbers_of first) seen ≡ s
     → IfErr r (λ e. Refuses old n call e × (new ≡ old) × (seats ≡ first))
     → IfErr r (λ e. Declines s.machine (length s.history) s.numbers n call e × (seated new.kernel new.history (numbers_of seats) seen ≡ s))
@@ -312,12 +312,12 @@ err_enters (Err e) s old new first seats n seen call right has is h = (
 
 -- GIVING
 
-pub found : (xs : List PassState) (n : ℕ) (r : Option ℕ) → MatchOption r (seat_at xs n ≡ None) (λ at. (at < length xs) × (seat_at xs n ≡ slice_get xs at)) → is_some r ≡ true
+pub found : (xs : List PassState) (n : ℕ) (r : Option ℕ) → MatchOption r (pass_at xs n ≡ None) (λ at. (at < length xs) × (pass_at xs n ≡ slice_get xs at)) → is_some r ≡ true
     → is_among n (numbers_of xs) ≡ true
 found xs n None h is = absurd (false≢true is)
 found xs n (Some at) h is = among xs at n h.0 h.1
 
-pub not_found : (xs : List PassState) (n : ℕ) (r : Option ℕ) → MatchOption r (seat_at xs n ≡ None) (λ at. (at < length xs) × (seat_at xs n ≡ slice_get xs at)) → is_some r ≡ false
+pub not_found : (xs : List PassState) (n : ℕ) (r : Option ℕ) → MatchOption r (pass_at xs n ≡ None) (λ at. (at < length xs) × (pass_at xs n ≡ slice_get xs at)) → is_some r ≡ false
     → is_among n (numbers_of xs) ≡ false
 not_found xs n None h is = not_among xs n h
 not_found xs n (Some at) h is = absurd (false≢true (sym is))
@@ -360,7 +360,7 @@ numbers_more [] s = refl
 numbers_more (x ∷ xs) s = ap (λ (l : List ℕ). x.number ∷ l) (numbers_more xs s)
 
 -- one seat more, which has entered nothing
-pub one_more : (books : List Book) (xs : List PassState) (n : ℕ) → is_among n (numbers_of xs) ≡ false → AreSeats books xs → AreSeats (books ++ book n None [] ∷ []) (xs ++ pass_state n 0 ∷ [])
+pub one_more : (books : List Book) (xs : List PassState) (n : ℕ) → is_among n (numbers_of xs) ≡ false → ArePasses books xs → ArePasses (books ++ book n None [] ∷ []) (xs ++ pass_state n 0 ∷ [])
 one_more books xs n other h = record {
   theirs = record {
     given = λ m. book_more books (book n None []) m ∙ ap (λ b. b || (nat_eq n m || false)) (h.theirs.given m) ∙ sym (among_more xs (pass_state n 0) m);
@@ -368,7 +368,7 @@ one_more books xs n other h = record {
     held = λ m.
         elim (h.theirs.held m) [
           | inl none ↦ inl (pending_more books n m ∙ none)
-          | inr w ↦ inr (record { place = w.place; seat = w.seat; at = get_front xs (pass_state n 0 ∷ []) w.place w.seat w.at; number = w.number; waits = w.waits })
+          | inr w ↦ inr (record { place = w.place; pass = w.pass; at = get_front xs (pass_state n 0 ∷ []) w.place w.pass w.at; number = w.number; waits = w.waits })
         ];
   };
   taken = λ m. ap (λ (o : Option Pending). option_map_or has_ended o false) (pending_more books n m) ∙ h.taken m;

@@ -15,7 +15,7 @@ use std::marker::Model;
 #[derive(Drop)]
 pub struct SeatedKernel {
     locked: Locked,
-    seats: Vec<Pass>,
+    passes: Vec<Pass>,
     board: Board,
     watch: Watch,
 }
@@ -25,15 +25,15 @@ impl Model for SeatedKernel {
     ghost use Rattle.l4_threads.specs.contracts.Thread as thread;
     ghost use Rattle.l4_lock.specs.contracts.entries.Entry as entry;
     ghost use Rattle.l4_seats.specs.Seated.{Seated, seated, seated_code};
-    ghost use Rattle.l4_seats.specs.Inside.Keeping.{AreSeats, numbers_of};
+    ghost use Rattle.l4_seats.specs.Inside.Keeping.{ArePasses, numbers_of};
 
     ghost Value = { Seated };
 
     ghost coded = { seated_code thread.the_row.coded entry.the_row.coded };
 
-    ghost view = { λ a. seated a.locked.kernel a.locked.history (numbers_of a.seats.items) a.watch.seen };
+    ghost view = { λ a. seated a.locked.kernel a.locked.history (numbers_of a.passes.items) a.watch.seen };
 
-    ghost invariant = { λ a. AreSeats a.locked.books a.seats.items × (a.watch.board ≡ a.board) };
+    ghost invariant = { λ a. ArePasses a.locked.books a.passes.items × (a.watch.board ≡ a.board) };
 }
 
 impl SeatedKernel {
@@ -52,7 +52,7 @@ impl SeatedKernel {
         };
         Ok(SeatedKernel {
             locked,
-            seats: Vec::new(alloc),
+            passes: Vec::new(alloc),
             board,
             watch,
         })
@@ -79,16 +79,16 @@ impl SeatedKernel {
             (λ _. self.new ≡ record self.old { numbers = with_number self.old.numbers number })
             (λ _. (self.new ≡ self.old) × (is_among number self.old.numbers ≡ false)) }
     {
-        if position(self.seats.as_slice(), number).is_some() {
+        if position(self.passes.as_slice(), number).is_some() {
             return Ok(());
         }
-        if self.seats.reserve(1).is_err() {
+        if self.passes.reserve(1).is_err() {
             return Err(NoMemory);
         }
         let Ok(pass) = self.locked.pass(number) else {
             return Err(NoMemory);
         };
-        self.seats.push_reserved(pass);
+        self.passes.push_reserved(pass);
         Ok(())
     }
 
@@ -97,7 +97,7 @@ impl SeatedKernel {
     pub fn may_enter(&self, number: u32) -> bool
         ensures { IsTrue result ↔ MayEnter self.now.machine (length self.now.history) self.now.numbers number }
     {
-        let Some(_) = position(self.seats.as_slice(), number) else {
+        let Some(_) = position(self.passes.as_slice(), number) else {
             return false;
         };
         if self.locked.history().len() >= MAX_ENTRIES - MAX_STEPS {
@@ -118,14 +118,14 @@ impl SeatedKernel {
     {
         let SeatedKernel {
             locked,
-            seats,
+            passes,
             board: _,
             watch: _,
         } = self;
-        let Some(at) = position(seats.as_slice(), number) else {
+        let Some(at) = position(passes.as_slice(), number) else {
             return Err(LockRefusal::Kernel(Refused::UnknownThread));
         };
-        enter_at(locked, seats, at, number, call)
+        enter_at(locked, passes, at, number, call)
     }
 
     /// What the board shows: the length of the history. It is not below what was shown before.
@@ -135,7 +135,7 @@ impl SeatedKernel {
     {
         let SeatedKernel {
             locked: _,
-            seats: _,
+            passes: _,
             board,
             watch,
         } = self;

@@ -5,4 +5,4 @@ use Rattle.l4_seats.proofs.keeping.position.Goals as goal
 
 pub returns-then-number : goal.returns-then-number
 returns-then-number c =
-    (c.if-guess-seats.true, at_guess c.args.seats.now c.args.number _ c.index-seats-guess.result c.requires c.if-guess-seats.true (ap (λ (s : PassState). s.number) (sym c.index-seats-guess.is) ∙ sym c.number.ensures ∙ c.if-number.true))
+    (c.if-guess-passes.true, at_guess c.args.passes.now c.args.number _ c.index-passes-guess.result c.requires c.if-guess-passes.true (ap (λ (s : PassState). s.number) (sym c.index-passes-guess.is) ∙ sym c.number.ensures ∙ c.if-number.true))

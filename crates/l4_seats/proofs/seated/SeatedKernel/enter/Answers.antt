@@ -18,7 +18,7 @@ returns-in_default-clause-err c = (
 
 pub returns-clause-ok : goal.returns-clause-ok
 returns-clause-ok c =
-    ok_enters c.enter_at.result c.args.self.now c.self.inside.locked c.enter_at.new.locked c.self.inside.seats.items c.enter_at.new.seats.items c.args.number c.self.inside.watch.seen c.args.call.now
+    ok_enters c.enter_at.result c.args.self.now c.self.inside.locked c.enter_at.new.locked c.self.inside.passes.items c.enter_at.new.passes.items c.args.number c.self.inside.watch.seen c.args.call.now
     (subst (λ (l : List PassState). is_among c.args.number (numbers_of l) ≡ true) c.as_slice.ensures.value (among c.as_slice.result.now c.in-Some.at c.args.number c.in-Some.ensures.0 c.in-Some.ensures.1))
     c.self.view_is c.enter_at.ensures.ok
 
@@ -28,6 +28,6 @@ returns-clause-followed c =
 
 pub returns-clause-err : goal.returns-clause-err
 returns-clause-err c =
-    err_enters c.enter_at.result c.args.self.now c.self.inside.locked c.enter_at.new.locked c.self.inside.seats.items c.enter_at.new.seats.items c.args.number c.self.inside.watch.seen c.args.call.now c.self.invariant.0
+    err_enters c.enter_at.result c.args.self.now c.self.inside.locked c.enter_at.new.locked c.self.inside.passes.items c.enter_at.new.passes.items c.args.number c.self.inside.watch.seen c.args.call.now c.self.invariant.0
     (subst (λ (l : List PassState). is_among c.args.number (numbers_of l) ≡ true) c.as_slice.ensures.value (among c.as_slice.result.now c.in-Some.at c.args.number c.in-Some.ensures.0 c.in-Some.ensures.1))
     c.self.view_is c.enter_at.ensures.err
