@@ -1,5 +1,5 @@
 //! Pieces of memory that hold records. A piece is allocated once, and never moves.
-ghost use Rattle.std.specs.Prelude.{◌≡◌, ◌+◌, ◌≤◌, ◌++◌, ◌∷◌, [], length, slice_get, vec_len, vec_capacity, Some, None, true, false, IfSome};
+ghost use Rattle.std.specs.Prelude.{◌≡◌, ◌+◌, ◌≤◌, ◌++◌, ◌∷◌, [], length, slice_get, vec_len, vec_capacity, Some, None, true, false, IfSome, MatchOption};
 ghost use Rattle.std.specs.List.{list_all};
 ghost use Rattle.l4_packed.specs.Inside.Bytes.{is_small, record_code, records_in};
 ghost use Rattle.l4_packed.specs.Inside.Pieces.{IsPacked, PieceState, mark_before, piece_state};
@@ -52,12 +52,14 @@ impl<'a> Model for Rest<'a> {
 impl<'a> Rest<'a> {
     /// The first of them, and those after it. None where there is none.
     pub fn next(self) -> Option<(Words<'a>, Rest<'a>)>
-        ensures { IfSome result (λ x. self.entry ≡ x.0 ∷ x.1) }
+        ensures { MatchOption result (self.entry ≡ []) (λ x. self.entry ≡ x.0 ∷ x.1) }
     {
         if self.count == 0 {
             return None;
         }
-        let (frame, after) = first_frame(self.bytes)?;
+        let Some((frame, after)) = first_frame(self.bytes) else {
+            return None;
+        };
         let rest = Rest {
             bytes: after,
             count: self.count - 1,

@@ -8,7 +8,7 @@ use crate::full_pieces::{FullPiece, share_at, shorten_at};
 use crate::numbers::are_small;
 use crate::packing::{RECORD_BYTES, parts_len, record_len};
 use crate::pieces::{PIECE_BYTES, Piece};
-use crate::short_forms::{Hint, are_quotable, forget_before};
+use crate::short_forms::{Hint, forget_before, quotable_from};
 use crate::words::{RECORD_WORDS, Record, Words};
 use std::alloc::{AllocError, Global};
 use std::marker::Model;
@@ -135,19 +135,23 @@ fn add_spare(alloc: Global, spare: &mut Vec<Vec<u8>>, wanted: usize) -> Result<(
     Ok(())
 }
 
-/// Where the piece of this place ends, if there is one, and what the hints name for its records stands before a place in the other list.
-fn quotable_end(full: &[FullPiece], place: usize, hints: &[Hint], from: usize) -> Option<usize>
+/// Where the piece of this place ends, if there is one, and what the hints name for its records stands before a place in the other list. Else
+/// the place that is waited for is noted.
+fn quotable_end(
+    full: &[FullPiece],
+    place: usize,
+    hints: &[Hint],
+    from: usize,
+    awaited: &mut usize,
+) -> Option<usize>
     ensures { IfSome result (λ _. place < length full.now) }
 {
     if place >= full.len() {
         return None;
     }
     let end = full[place].end();
-    if are_quotable(hints, end, from) {
-        Some(end)
-    } else {
-        None
-    }
+    *awaited = quotable_from(hints, end);
+    if *awaited <= from { Some(end) } else { None }
 }
 
 /// Keeps memory for a further piece, while there is less than for so many. Memory that is used again isn't split by what is smaller.
@@ -173,6 +177,8 @@ pub struct Records {
     spare: Vec<Vec<u8>>,
     room: usize,
     shared: usize,
+    /// Nothing is looked at until so many records of the third store stand in full pieces. It is a guess.
+    awaited: usize,
     hints: Vec<Hint>,
     alloc: Global,
 }
@@ -200,6 +206,7 @@ impl Records {
             spare: Vec::new(alloc),
             room: 0,
             shared: FIRST_SHARED,
+            awaited: 0,
             hints: Vec::new(alloc),
             alloc,
         }
@@ -361,7 +368,8 @@ impl Records {
         ensures quoted { quoted.new ≡ quoted.old }
     {
         let place = self.shared;
-        if place < self.full.len() && place < other.full.len() {
+        let is_full = place < self.full.len() && place < other.full.len();
+        if is_full && self.awaited <= quoted.current.first() {
             self.share_next(other, quoted);
         }
     }
@@ -377,7 +385,8 @@ impl Records {
         let place = self.shared;
         let from = quoted.current.first();
         let hints = self.hints.as_slice();
-        let Some(end) = quotable_end(self.full.as_slice(), place, hints, from) else {
+        let full = self.full.as_slice();
+        let Some(end) = quotable_end(full, place, hints, from, &mut self.awaited) else {
             return;
         };
         if place >= other.full.len() {
@@ -401,7 +410,7 @@ impl Records {
         ensures own { self.new ≡ self.old }
         ensures quoted { quoted.new ≡ quoted.old }
     {
-        if self.shared < self.full.len() {
+        if self.shared < self.full.len() && self.awaited <= quoted.current.first() {
             self.shorten_next(quoted);
         }
     }
@@ -416,7 +425,8 @@ impl Records {
         let place = self.shared;
         let from = quoted.current.first();
         let hints = self.hints.as_slice();
-        let Some(end) = quotable_end(self.full.as_slice(), place, hints, from) else {
+        let full = self.full.as_slice();
+        let Some(end) = quotable_end(full, place, hints, from, &mut self.awaited) else {
             return;
         };
         self.shared = place + 1;

@@ -68,6 +68,9 @@ const MOST_PIECES: usize = 64;
 /// The greatest number of words that stand in a short form itself.
 const MOST_OWN: usize = 16;
 
+/// The greatest number of bytes of the words that stand in a short form without an ending.
+const MOST_OWN_BYTES: usize = 128;
+
 /// The last words of a record are looked for behind so many words of another at most.
 const MOST_SKIPPED: u32 = 16;
 
@@ -201,11 +204,13 @@ fn put_rest(
             return true;
         }
     }
-    let fits = split(own, rest, &Words::none());
+    if rest.bytes().len() > MOST_OWN_BYTES {
+        return false;
+    }
     form.clear();
     form.push_all(&[SHORT_FROM + far, more, 0]);
-    form.append(&own.words());
-    fits
+    form.append(&rest);
+    true
 }
 
 /// Writes a short form of a record in the place of what is there. False where none is found.
@@ -243,6 +248,7 @@ fn is_plain(words: &Words<'_>) -> bool
 }
 
 /// Appends a record to a piece. False where its bytes don't fit.
+#[inline(always)]
 fn push_fitting(forms: &mut Piece, words: &Words<'_>) -> bool
     ensures first { forms.new.first ≡ forms.old.first }
     ensures records { result ≡ true → forms.new.records ≡ forms.old.records ++ words.now ∷ [] }
@@ -347,14 +353,14 @@ pub(crate) fn forget_before(hints: &mut Vec<Hint>, end: usize) {
     hints.truncate(later);
 }
 
-/// Whether what the last hint names for the records before this end stands before that place in the other list.
-pub(crate) fn are_quotable(hints: &[Hint], end: usize, place: usize) -> bool {
+/// From which place on all that the last hint names for the records before this end stands before it in the other list.
+pub(crate) fn quotable_from(hints: &[Hint], end: usize) -> usize {
     let count = count_before(hints, end);
     if count == 0 {
-        return true;
+        return 0;
     }
     let hint = &hints[count - 1];
-    hint.start().max(hint.source()) < place
+    hint.start().max(hint.source()).saturating_add(1)
 }
 
 /// Which pieces a piece with these hints quotes: those from here on.

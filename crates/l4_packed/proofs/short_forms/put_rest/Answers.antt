@@ -1,8 +1,8 @@
-use Rattle.std.proofs.Common.{◌≡◌, ◌+◌, ◌++◌, ◌∷◌, [], List, ℕ, drop, sym, ap, ◌∙◌}
-use Rattle.std.proofs.lemmas.List.{append-nil}
+use Rattle.std.proofs.Common.{◌≡◌, ◌+◌, ◌++◌, ◌∷◌, [], List, ℕ, length, drop, sym, ap, ◌∙◌, arith}
 use Rattle.l4_packed.specs.Codes.{span_code}
 use Rattle.l4_packed.specs.Inside.Quoting.{quoted, words_among}
 use Rattle.l4_packed.proofs.Forms.{stands_alone, stands_for}
+use Rattle.l4_packed.proofs.Unpacking.{enough_bytes}
 use Rattle.l4_packed.proofs.short_forms.put_rest.Goals as goal
 
 pub returns-then-split : goal.returns-then-split
@@ -25,19 +25,21 @@ returns-then-split c = λ _.
     ∙ stands_for pieces base far more source skipped own c.in-Some.ensures.0
     ∙ ap (λ (l : List ℕ). drop 2 (words_among pieces (base + far)) ++ (span_code (base + far) (base + far + more) ++ l)) rest
 
+pub append-requires-2 : goal.append-requires-2
+append-requires-2 c =
+    let each = enough_bytes c.args.rest in
+    let three = ap (λ (l : List ℕ). length l) (c.push_all-2.ensures.items ∙ ap (λ (l : List ℕ). l ++ ((1024 + c.args.call.0) ∷ c.args.call.1 ∷ 0 ∷ [])) c.clear-2.ensures) in
+    let bytes = ap (λ (l : List ℕ). length l) c.bytes.ensures.bytes in
+    omega (arith, each, three, bytes)
+
 pub returns : goal.returns
-returns c = λ fits.
+returns c = λ _.
     let pieces = c.args.pieces.now in
     let base = c.args.base in
     let far = c.args.call.0 in
     let more = c.args.call.1 in
-    let own = c.split-fits.new.own.items in
     let head = (1024 + far) ∷ more ∷ 0 ∷ [] in
-    let form : c.append-2.new.self.items ≡ head ++ own =
+    let form : c.append-2.new.self.items ≡ head ++ c.args.rest =
     c.append-2.ensures.items
-    ∙ ap (λ (l : List ℕ). l ++ c.words-2.result) (c.push_all-2.ensures.items ∙ ap (λ (l : List ℕ). l ++ head) c.clear-2.ensures)
-    ∙ ap (λ (l : List ℕ). head ++ l) c.words-2.ensures in
-    let rest : own ≡ c.args.rest = sym (append-nil own) ∙ ap (λ (l : List ℕ). own ++ l) (sym c.none.ensures) ∙ sym (c.split-fits.ensures.words fits) in
-    ap (λ (l : List ℕ). quoted pieces base l) form
-    ∙ stands_alone pieces base far more own
-    ∙ ap (λ (l : List ℕ). drop 2 (words_among pieces (base + far)) ++ (span_code (base + far) (base + far + more) ++ l)) rest
+    ∙ ap (λ (l : List ℕ). l ++ c.args.rest) (c.push_all-2.ensures.items ∙ ap (λ (l : List ℕ). l ++ head) c.clear-2.ensures) in
+    ap (λ (l : List ℕ). quoted pieces base l) form ∙ stands_alone pieces base far more c.args.rest
