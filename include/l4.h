@@ -24,6 +24,16 @@
  * Threads go by their numbers (uint32_t thread) as callers, and by whole thread ids (number in bits 31 to 14, version below) as
  * partners, as in the kernel's own words. Pages have L4_PAGE_BYTES bytes and are counted from 0, below L4_SPACE_PAGES in a space;
  * rights are the sum of L4_READ, L4_WRITE and L4_EXECUTE, and further bits mean nothing.
+ *
+ * WHAT A SIZE OF PAGES CHANGES
+ *
+ * A call whose name ends in _sized does what the call without that ending does, by pages of page_bytes bytes: L4_PAGE_BYTES, as without
+ * it, or L4_SMALL_PAGE_BYTES. Any other number is refused by B4, before all else. Small pages are counted below L4_SMALL_SPACE_PAGES in a
+ * space. A kernel and a table keep the size that they were made with: l4_page_size_of tells a kernel's, and the tables, plans and checks
+ * that go with it are to be of the same. Frames have the size of pages, and are 4,096 at most in either size.
+ *
+ * Words go by bytes, so their form is the same: an fpage of 2^s bytes has 2^(s - 12) pages, or 2^(s - 10) small ones. So one of 1 or 2 KiB
+ * has none, or 1 or 2 small ones, and a region, a fault's page and a plan's pages have other numbers where the same bytes are meant.
  */
 #ifndef L4_H
 #define L4_H
@@ -39,14 +49,21 @@ extern "C" {
 #define L4_PAGE_LOG 12
 #define L4_PAGE_BYTES (UINT32_C(1) << L4_PAGE_LOG)
 
-/* The greatest number of threads, of words of a message, of its map and grant items, of pages that show that a plan is too long, of
- * frames, of pages of a space, and of regions of a pager's table. */
+/* A small page has 2^L4_SMALL_PAGE_LOG bytes. */
+#define L4_SMALL_PAGE_LOG 10
+#define L4_SMALL_PAGE_BYTES (UINT32_C(1) << L4_SMALL_PAGE_LOG)
+
+/* The greatest number of threads, of words of a message, of its map and grant items, of a plan's items and messages, of pages that show
+ * that a plan is too long, of frames, of pages of a space, of small pages of one, and of regions of a pager's table. */
 #define L4_MAX_THREADS 64
 #define L4_MAX_WORDS 64
 #define L4_MAX_ITEMS 31
-#define L4_TOO_MANY 32
+#define L4_MAX_PLAN_ITEMS 1984
+#define L4_MAX_PLAN_MESSAGES 64
+#define L4_TOO_MANY 1985
 #define L4_MAX_FRAMES UINT32_C(4096)
 #define L4_SPACE_PAGES UINT32_C(1048576)
+#define L4_SMALL_SPACE_PAGES UINT32_C(4194304)
 #define L4_MAX_REGIONS 64
 
 /* The ids of nobody and of anybody, and a timeout of zero (0 is never): the send timeout in bits 31 to 16, the receive timeout in bits
@@ -65,6 +82,7 @@ extern "C" {
 #define L4_B1 UINT32_C(0x4231) /* the handle is empty */
 #define L4_B2 UINT32_C(0x4232) /* the handle isn't empty: free it before it is made anew */
 #define L4_B3 UINT32_C(0x4233) /* there is no such kind of call */
+#define L4_B4 UINT32_C(0x4234) /* a page has 4,096 or 1,024 bytes */
 #define L4_K1 UINT32_C(0x4B31) /* nobody waits so: the transfer or expiry can't be done now */
 #define L4_K2 UINT32_C(0x4B32) /* there is no thread of this number */
 #define L4_K3 UINT32_C(0x4B33) /* the thread's last call goes on */
@@ -88,12 +106,14 @@ extern "C" {
 #define L4_N1 UINT32_C(0x4E31) /* the region has no page */
 #define L4_N2 UINT32_C(0x4E32) /* the region goes beyond the pages of a space */
 #define L4_N3 UINT32_C(0x4E33) /* the region has no rights */
-#define L4_N4 UINT32_C(0x4E34) /* no 31 map items, as many as a message holds, move just the region */
+#define L4_N4 UINT32_C(0x4E34) /* no 1,984 map items, as many as 64 messages hold, move just the region */
+#define L4_N5 UINT32_C(0x4E35) /* the plan has more messages than one */
+#define L4_N6 UINT32_C(0x4E36) /* the plan has no message with this number */
 #define L4_C1 UINT32_C(0x4331) /* the item (detail, from 0) of a plan is none of the region's */
 #define L4_C2 UINT32_C(0x4332) /* no item moves the page (detail) */
 #define L4_C3 UINT32_C(0x4333) /* the page at this place (detail, from 0) isn't one of the region's */
 #define L4_C4 UINT32_C(0x4334) /* one map item could move the page at this place (detail, from 0) together with an earlier one */
-#define L4_C5 UINT32_C(0x4335) /* more than 31 items, or not one page an item; or not 32 pages */
+#define L4_C5 UINT32_C(0x4335) /* more than 1,984 items, or not one page an item; or not 1,985 pages */
 #define L4_C6 UINT32_C(0x4336) /* the region is refused by N1, N2 or N3 */
 #define L4_P1 UINT32_C(0x5031) /* a page of the region is one of another region of the table */
 #define L4_P2 UINT32_C(0x5032) /* no region of the table has the page with this access */
@@ -120,6 +140,9 @@ typedef struct l4_kernel {
  * with all rights, and root is thread 2 in space 1, which shows none. The handle is empty, and holds the kernel from then on; after a
  * refusal it is as before. Refusals in this order: B2, K6, NoMemory. */
 uint32_t l4_boot(l4_kernel *kernel, uint32_t frames);
+
+/* The same with pages and frames of so many bytes, for as long as there is the kernel. Refusals in this order: B4, B2, K6, NoMemory. */
+uint32_t l4_boot_sized(l4_kernel *kernel, uint32_t frames, uint32_t page_bytes);
 
 /* Frees a kernel with all its memory. The handle is empty then. */
 void l4_free(l4_kernel *kernel);
@@ -250,6 +273,15 @@ typedef struct l4_space {
 /* The space of a thread. Refusals: B1. */
 l4_space l4_space_of(l4_kernel *kernel, uint32_t thread);
 
+/* How many bytes a page of a kernel has: L4_PAGE_BYTES or L4_SMALL_PAGE_BYTES. */
+typedef struct l4_page_size {
+    uint32_t refusal;
+    uint32_t page_bytes;
+} l4_page_size;
+
+/* The size that a kernel's pages and frames have had since it was booted. Refusals: B1. */
+l4_page_size l4_page_size_of(l4_kernel *kernel);
+
 /* What a page of a space shows; there is 0 where it isn't present. The parent is the page that it was mapped from, or the parent that a
  * granted page brought with it. */
 typedef struct l4_mapping {
@@ -295,6 +327,9 @@ typedef struct l4_pager {
  * this order: B2, NoMemory. */
 uint32_t l4_pager_new(l4_pager *pager);
 
+/* The same with pages of so many bytes, as the kernel has whose faults the table answers. Refusals in this order: B4, B2, NoMemory. */
+uint32_t l4_pager_new_sized(l4_pager *pager, uint32_t page_bytes);
+
 /* Frees a table. The handle is empty then. */
 void l4_pager_free(l4_pager *pager);
 
@@ -329,6 +364,9 @@ typedef struct l4_sigma0 {
  * before. Refusals in this order: B2, K6, NoMemory. */
 uint32_t l4_sigma0_new(l4_sigma0 *sigma0, uint32_t frames);
 
+/* The same with pages and frames of so many bytes, as the kernel has. Refusals in this order: B4, B2, K6, NoMemory. */
+uint32_t l4_sigma0_new_sized(l4_sigma0 *sigma0, uint32_t frames, uint32_t page_bytes);
+
 /* Frees a table. The handle is empty then. */
 void l4_sigma0_free(l4_sigma0 *sigma0);
 
@@ -341,18 +379,42 @@ l4_message l4_sigma0_answer(l4_sigma0 *sigma0, uint64_t space, const uint32_t *w
 
 /* PLANS. No handle is needed. */
 
-/* A plan: the words of the message, from the tag on, that sends its items, and with each item a page of its own. */
+/* A plan: how many items it has, and how many messages send them. All messages but the last have 31 items. */
 typedef struct l4_plan {
     uint32_t refusal;
+    uint32_t items;
+    uint32_t messages;
+} l4_plan;
+
+/* A message of a plan: its words, from the tag on, and with each item a page of its own; and how many messages the plan has. */
+typedef struct l4_part {
+    uint32_t refusal;
+    uint32_t messages;
     uint32_t word_count;
     uint32_t page_count;
     uint32_t words[L4_MAX_WORDS];
-    uint32_t pages[L4_TOO_MANY];
-} l4_plan;
+    uint32_t pages[L4_MAX_ITEMS];
+} l4_part;
 
-/* The shortest list of map items that moves exactly the region, with the pages that show that no list is shorter. Refusals in this
- * order: N1, N2, N3, N4; after N4 the pages are 32 that show that each list has more than 31 items. */
+/* The shortest list of map items that moves exactly the region; no list of fewer items or messages does. Refusals in this order: N1,
+ * N2, N3, N4. */
 l4_plan l4_plan_region(const l4_region *region);
+
+/* The same with pages of so many bytes. Refusals in this order: B4, N1, N2, N3, N4. */
+l4_plan l4_plan_region_sized(const l4_region *region, uint32_t page_bytes);
+
+/* The message with this number, from 0, of that plan. Refusals in this order: N1, N2, N3, N4, N6; after N6 `messages` is right. */
+l4_part l4_plan_message(const l4_region *region, uint32_t number);
+
+/* The same with pages of so many bytes. B4 comes before all other refusals. */
+l4_part l4_plan_message_sized(const l4_region *region, uint32_t number, uint32_t page_bytes);
+
+/* Writes the pages of that plan's items, one an item, which show that no list is shorter; or after N4 the 1,985 pages that show that each
+ * list has more than 1,984 items. As many are written as there is room for, and the answer is how many there are; 0 after N1, N2 or N3. */
+uint32_t l4_plan_pages(const l4_region *region, uint32_t *pages, size_t room);
+
+/* The same with pages of so many bytes; 0 after B4 too. */
+uint32_t l4_plan_pages_sized(const l4_region *region, uint32_t *pages, size_t room, uint32_t page_bytes);
 
 /* Why a claim about a region doesn't hold; L4_OK where it is proved. */
 typedef struct l4_verdict {
@@ -360,14 +422,20 @@ typedef struct l4_verdict {
     uint32_t detail;
 } l4_verdict;
 
-/* Checks that the items of this message move exactly the region, and that these pages, one an item, show that no list of map items that
- * does is shorter. The label and the untyped words aren't looked at. Refusals in this order: M7, M1, M5, M2, M4 or M3; C6, C1, C2, C5,
- * C3, C4. */
+/* Checks that the items of these words, two words an item, message after message without their tags, move exactly the region, and that
+ * these pages, one an item, show that no list of map items that does is shorter. Refusals in this order: M1 (more than 3,968 words), M2
+ * (an odd number), M4 or M3; C6, C1, C2, C5, C3, C4. */
 l4_verdict l4_check_plan(const l4_region *region, const uint32_t *words, size_t count, const uint32_t *pages, size_t page_count);
 
-/* Checks that these are 32 pages which show that each list of map items that moves exactly the region has more than 31. Refusals in
- * this order: C6, C5, C3, C4. */
+/* The same with pages of so many bytes. B4 comes before all other refusals. */
+l4_verdict l4_check_plan_sized(const l4_region *region, const uint32_t *words, size_t count, const uint32_t *pages, size_t page_count, uint32_t page_bytes);
+
+/* Checks that these are 1,985 pages which show that each list of map items that moves exactly the region has more than 1,984. Refusals
+ * in this order: C6, C5, C3, C4. */
 l4_verdict l4_check_too_long(const l4_region *region, const uint32_t *pages, size_t page_count);
+
+/* The same with pages of so many bytes. B4 comes before all other refusals. */
+l4_verdict l4_check_too_long_sized(const l4_region *region, const uint32_t *pages, size_t page_count, uint32_t page_bytes);
 
 #ifdef __cplusplus
 }

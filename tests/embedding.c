@@ -65,6 +65,7 @@ static void empty_handles(void) {
     EXPECT(l4_next(&kernel).refusal == L4_B1);
     EXPECT(l4_reply_of(&kernel, 1).refusal == L4_B1);
     EXPECT(l4_space_of(&kernel, 1).refusal == L4_B1);
+    EXPECT(l4_page_size_of(&kernel).refusal == L4_B1 && l4_page_size_of(&kernel).page_bytes == 0);
     EXPECT(l4_mapping_of(&kernel, 0, 0).refusal == L4_B1);
     EXPECT(l4_next_page(&kernel, 0, 0).refusal == L4_B1);
     {
@@ -161,6 +162,7 @@ static void boots(void) {
     EXPECT(l4_next_page(&kernel, 0, 1).there == 1);
     EXPECT(l4_next_page(&other, 0, 1).there == 0);
     l4_free(&other);
+    EXPECT(l4_page_size_of(&kernel).refusal == L4_OK && l4_page_size_of(&kernel).page_bytes == L4_PAGE_BYTES);
     EXPECT(l4_next_page(&kernel, 0, L4_MAX_FRAMES - 1).page == L4_MAX_FRAMES - 1);
     l4_free(&kernel);
     l4_free(&kernel);
@@ -276,27 +278,37 @@ static void enters(l4_kernel *kernel) {
 }
 
 static void plans(void) {
-    l4_region region = {4, 12, 12, 7}, long_region = {1, 0, 64, 7}, other = {4, 12, 0, 7};
-    l4_plan plan = l4_plan_region(&region);
+    l4_region region = {4, 12, 12, 7}, several = {0, 1, 32, 7}, long_region = {0, 1, 1985, 7}, other = {4, 12, 0, 7};
+    static uint32_t pages[L4_TOO_MANY + 1];
+    const uint32_t *items;
+    l4_plan whole = l4_plan_region(&region);
+    l4_part plan = l4_plan_message(&region, 0);
     l4_verdict verdict;
-    EXPECT(plan.refusal == L4_OK && plan.word_count == 5 && plan.page_count == 2);
+    EXPECT(whole.refusal == L4_OK && whole.items == 2 && whole.messages == 1);
+    EXPECT(plan.refusal == L4_OK && plan.messages == 1 && plan.word_count == 5 && plan.page_count == 2);
     EXPECT(plan.words[0] == 0x100 && plan.words[1] == 0xc009 && plan.words[2] == 0x40e7 && plan.words[3] == 0x10008 && plan.words[4] == 0x80f7);
     EXPECT(plan.pages[0] == 4 && plan.pages[1] == 8);
-    EXPECT(l4_check_plan(&region, plan.words, plan.word_count, plan.pages, plan.page_count).refusal == L4_OK);
-    EXPECT(l4_check_plan(&region, plan.words, plan.word_count, plan.pages, 1).refusal == L4_C5);
-    EXPECT(l4_check_plan(&region, plan.words, 4, plan.pages, 2).refusal == L4_M7);
-    EXPECT(l4_check_plan(&other, plan.words, plan.word_count, plan.pages, 2).refusal == L4_C6);
+    EXPECT(l4_plan_pages(&region, pages, 1) == 2 && pages[0] == 4 && pages[1] == 0);
+    EXPECT(l4_plan_pages(&region, pages, 3) == 2 && pages[0] == 4 && pages[1] == 8 && pages[2] == 0);
+    plan = l4_plan_message(&region, 1);
+    EXPECT(plan.refusal == L4_N6 && plan.messages == 1 && plan.word_count == 0 && plan.page_count == 0);
+    plan = l4_plan_message(&region, 0);
+    items = plan.words + 1;
+    EXPECT(l4_check_plan(&region, items, 4, plan.pages, plan.page_count).refusal == L4_OK);
+    EXPECT(l4_check_plan(&region, items, 4, plan.pages, 1).refusal == L4_C5);
+    EXPECT(l4_check_plan(&region, items, 3, plan.pages, 2).refusal == L4_M2);
+    EXPECT(l4_check_plan(&other, items, 4, plan.pages, 2).refusal == L4_C6);
     plan.pages[1] = 5;
-    verdict = l4_check_plan(&region, plan.words, plan.word_count, plan.pages, 2);
+    verdict = l4_check_plan(&region, items, 4, plan.pages, 2);
     EXPECT(verdict.refusal == L4_C4 && verdict.detail == 1);
     plan.pages[1] = 16;
-    verdict = l4_check_plan(&region, plan.words, plan.word_count, plan.pages, 2);
+    verdict = l4_check_plan(&region, items, 4, plan.pages, 2);
     EXPECT(verdict.refusal == L4_C3 && verdict.detail == 1);
     region.count = 13;
-    verdict = l4_check_plan(&region, plan.words, plan.word_count, plan.pages, 2);
+    verdict = l4_check_plan(&region, items, 4, plan.pages, 2);
     EXPECT(verdict.refusal == L4_C2 && verdict.detail == 16);
     region.rights = 5;
-    verdict = l4_check_plan(&region, plan.words, plan.word_count, plan.pages, 2);
+    verdict = l4_check_plan(&region, items, 4, plan.pages, 2);
     EXPECT(verdict.refusal == L4_C1 && verdict.detail == 0);
     EXPECT(l4_plan_region(&other).refusal == L4_N1);
     other.count = 1;
@@ -304,11 +316,90 @@ static void plans(void) {
     EXPECT(l4_plan_region(&other).refusal == L4_N3);
     other.source = L4_SPACE_PAGES;
     EXPECT(l4_plan_region(&other).refusal == L4_N2);
-    plan = l4_plan_region(&long_region);
-    EXPECT(plan.refusal == L4_N4 && plan.page_count == 32 && plan.word_count == 0);
-    EXPECT(l4_check_too_long(&long_region, plan.pages, plan.page_count).refusal == L4_OK);
-    EXPECT(l4_check_too_long(&long_region, plan.pages, 31).refusal == L4_C5);
-    EXPECT(l4_check_too_long(&region, plan.pages, 32).refusal == L4_C3);
+    whole = l4_plan_region(&several);
+    EXPECT(whole.refusal == L4_OK && whole.items == 32 && whole.messages == 2);
+    plan = l4_plan_message(&several, 1);
+    EXPECT(plan.word_count == 3 && plan.page_count == 1 && plan.words[0] == 0x80 && plan.words[1] == 0x20008 && plan.words[2] == 0x1f0c7);
+    EXPECT(plan.messages == 2 && plan.pages[0] == 31);
+    EXPECT(l4_plan_region(&long_region).refusal == L4_N4 && l4_plan_message(&long_region, 0).refusal == L4_N4);
+    EXPECT(l4_plan_pages(&long_region, pages, L4_TOO_MANY + 1) == L4_TOO_MANY && pages[L4_TOO_MANY - 1] == 1984);
+    EXPECT(l4_check_too_long(&long_region, pages, L4_TOO_MANY).refusal == L4_OK);
+    EXPECT(l4_check_too_long(&long_region, pages, L4_TOO_MANY - 1).refusal == L4_C5);
+    EXPECT(l4_check_too_long(&several, pages, L4_TOO_MANY).refusal == L4_C3);
+}
+
+/* Kernels by pages of 1,024 bytes, and of other numbers of bytes. */
+static void small_kernels(void) {
+    static const uint32_t words[3] = {0x80, 0x20008, 0x100c7};
+    l4_kernel kernel = L4_EMPTY;
+    l4_call call = receive(0x10);
+    uint32_t page;
+    EXPECT(l4_boot_sized(&kernel, 0, 2048) == L4_B4 && l4_next_page(&kernel, 0, 0).refusal == L4_B1);
+    EXPECT(l4_boot_sized(&kernel, 0, L4_SMALL_PAGE_BYTES) == L4_K6);
+    EXPECT(l4_boot_sized(&kernel, 256, L4_SMALL_PAGE_BYTES) == L4_OK && l4_boot_sized(&kernel, 1, L4_PAGE_BYTES) == L4_B2);
+    EXPECT(l4_boot_sized(&kernel, 1, 0) == L4_B4);
+    EXPECT(l4_page_size_of(&kernel).refusal == L4_OK && l4_page_size_of(&kernel).page_bytes == L4_SMALL_PAGE_BYTES);
+    EXPECT(plainly(&kernel, 2, call).refusal == L4_OK);
+    call = send(2);
+    EXPECT(l4_start(&kernel, 1, &call, words, 3).refusal == L4_OK && l4_next(&kernel).outcome == L4_DELIVERED);
+    for (page = 0; page < 4; page++) {
+        EXPECT(l4_mapping_of(&kernel, 1, 128 + page).frame == 64 + page);
+    }
+    EXPECT(l4_next_page(&kernel, 1, 0).page == 128 && l4_next_page(&kernel, 1, 132).there == 0);
+    l4_free(&kernel);
+    EXPECT(l4_boot_sized(&kernel, 256, L4_PAGE_BYTES) == L4_OK && l4_page_size_of(&kernel).page_bytes == L4_PAGE_BYTES);
+    l4_free(&kernel);
+}
+
+/* Tables by such pages. */
+static void small_tables(void) {
+    static const uint32_t request[3] = {0xffa00002, 0x100c0, 0};
+    l4_pager pager = L4_EMPTY;
+    l4_sigma0 sigma0 = L4_EMPTY;
+    l4_region served = {100, 20, 4, 5}, beyond = {L4_SMALL_SPACE_PAGES, 0, 1, 7};
+    uint32_t fault[3];
+    EXPECT(l4_pager_new_sized(&pager, 4095) == L4_B4 && l4_pager_add(&pager, &served) == L4_B1);
+    EXPECT(l4_pager_new_sized(&pager, L4_SMALL_PAGE_BYTES) == L4_OK && l4_pager_new_sized(&pager, L4_SMALL_PAGE_BYTES) == L4_B2);
+    EXPECT(l4_pager_add(&pager, &served) == L4_OK && l4_pager_add(&pager, &beyond) == L4_P4);
+    fault_words(fault, 0x5678, L4_READ);
+    EXPECT(gives(l4_pager_answer(&pager, fault, 3), 0x5400, 0x194a5));
+    l4_pager_free(&pager);
+    EXPECT(l4_sigma0_new_sized(&sigma0, 0, 1) == L4_B4 && l4_sigma0_new_sized(&sigma0, 0, L4_SMALL_PAGE_BYTES) == L4_K6);
+    EXPECT(l4_sigma0_new_sized(&sigma0, 256, L4_SMALL_PAGE_BYTES) == L4_OK);
+    EXPECT(gives(l4_sigma0_answer(&sigma0, 1, fault, 3), 0x5400, 0x54a7));
+    EXPECT(gives(l4_sigma0_answer(&sigma0, 2, request, 3), 0x10000, 0x100c7));
+    l4_sigma0_free(&sigma0);
+}
+
+/* Plans and checks by such pages. */
+static void small_plans(void) {
+    static uint32_t pages[L4_TOO_MANY];
+    l4_region region = {16, 32, 1, 7}, whole = {0, 0, L4_SMALL_SPACE_PAGES, 7}, beyond = {L4_SMALL_SPACE_PAGES, 0, 1, 7};
+    l4_region several = {0, 1, 40, 7}, long_region = {1, 0, 1985, 7};
+    l4_plan plan = l4_plan_region_sized(&region, L4_SMALL_PAGE_BYTES);
+    l4_part part = l4_plan_message_sized(&region, 0, L4_SMALL_PAGE_BYTES);
+    EXPECT(plan.refusal == L4_OK && plan.items == 1 && plan.messages == 1);
+    EXPECT(part.refusal == L4_OK && part.word_count == 3 && part.words[1] == 0x8008 && part.words[2] == 0x40a7 && part.page_count == 1 && part.pages[0] == 16);
+    EXPECT(l4_plan_pages_sized(&region, pages, 1, L4_SMALL_PAGE_BYTES) == 1 && pages[0] == 16);
+    EXPECT(l4_check_plan_sized(&region, part.words + 1, 2, part.pages, 1, L4_SMALL_PAGE_BYTES).refusal == L4_OK);
+    EXPECT(l4_check_plan_sized(&region, part.words + 1, 2, part.pages, 1, L4_PAGE_BYTES).refusal == L4_C2);
+    EXPECT(l4_check_plan_sized(&region, part.words + 1, 2, part.pages, 1, 3).refusal == L4_B4);
+    part = l4_plan_message_sized(&region, 1, L4_SMALL_PAGE_BYTES);
+    EXPECT(part.refusal == L4_N6 && part.messages == 1 && part.word_count == 0);
+    part = l4_plan_message_sized(&whole, 0, L4_SMALL_PAGE_BYTES);
+    EXPECT(part.refusal == L4_OK && part.word_count == 3 && part.words[1] == 0x8 && part.words[2] == 0x17 && part.pages[0] == 0);
+    EXPECT(l4_plan_region_sized(&whole, L4_PAGE_BYTES).refusal == L4_N2 && l4_plan_region_sized(&beyond, L4_SMALL_PAGE_BYTES).refusal == L4_N2);
+    part = l4_plan_message_sized(&several, 1, L4_SMALL_PAGE_BYTES);
+    EXPECT(part.messages == 2 && part.words[0] == 0x480 && part.words[1] == 0x8009 && part.words[2] == 0x7ca7 && part.pages[0] == 31 && part.pages[8] == 39);
+    part = l4_plan_message_sized(&several, 1, L4_PAGE_BYTES);
+    EXPECT(part.messages == 2 && part.words[0] == 0x480 && part.words[1] == 0x20009 && part.words[2] == 0x1f0c7);
+    pages[0] = 7;
+    EXPECT(l4_plan_region_sized(&region, 0).refusal == L4_B4 && l4_plan_region_sized(&region, 0).messages == 0);
+    EXPECT(l4_plan_message_sized(&region, 9, 0).refusal == L4_B4 && l4_plan_pages_sized(&region, pages, 1, 0) == 0 && pages[0] == 7);
+    EXPECT(l4_plan_region_sized(&long_region, L4_SMALL_PAGE_BYTES).refusal == L4_N4);
+    EXPECT(l4_plan_pages_sized(&long_region, pages, L4_TOO_MANY, L4_SMALL_PAGE_BYTES) == L4_TOO_MANY && pages[L4_TOO_MANY - 1] == 1985);
+    EXPECT(l4_check_too_long_sized(&long_region, pages, L4_TOO_MANY, L4_SMALL_PAGE_BYTES).refusal == L4_OK);
+    EXPECT(l4_check_too_long_sized(&long_region, pages, L4_TOO_MANY, 2048).refusal == L4_B4);
 }
 
 /* Each code with its line, and how texts are cut. */
@@ -329,7 +420,7 @@ static void texts(int shows) {
             }
         }
     }
-    EXPECT(found == 38);
+    EXPECT(found == 41);
     EXPECT(l4_refusal_code(L4_OK, code, sizeof code) == 0 && code[0] == 0);
     EXPECT(l4_refusal_code(0x10000 | L4_K1, code, sizeof code) == 0);
     EXPECT(l4_refusal_code(L4_K1, cut, 2) == 2 && cut[0] == 'K' && cut[1] == 0 && cut[2] == 'x');
@@ -351,6 +442,9 @@ int main(int count, char **words) {
     enters(&kernel);
     l4_free(&kernel);
     plans();
+    small_kernels();
+    small_tables();
+    small_plans();
     texts(shows);
     return failures == 0 ? 0 : 1;
 }

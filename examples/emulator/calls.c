@@ -35,10 +35,11 @@ static uint32_t ask_unmap(struct guest *guest) {
     return guest_enter(guest, &call, words, WORD_REGISTERS);
 }
 
-/* The items of the shortest plan go to the other thread as one message. */
+/* The items of the shortest plan go to the other thread, where one message holds them. */
 static uint32_t ask_delegate(struct guest *guest) {
     l4_region region;
     l4_plan plan;
+    l4_part part;
     l4_call call = machine_call(L4_IPC);
     uint32_t to = guest_register(guest, UC_X86_REG_EBX);
     region.source = guest_register(guest, UC_X86_REG_ECX);
@@ -48,11 +49,13 @@ static uint32_t ask_delegate(struct guest *guest) {
     plan = l4_plan_region(&region);
     if (plan.refusal != L4_OK)
         return plan.refusal;
-    printf("%u delegates pages %u to %u ", guest->thread, region.source, region.source + region.count - 1);
-    print_rights(region.rights);
-    printf(" to %u at page %u\n", thread_number(to), region.target);
+    if (plan.messages > 1)
+        return L4_N5;
+    part = l4_plan_message(&region, 0);
+    print_delegation(guest->thread, &region, thread_number(to));
+    printf("\n");
     call.to = to;
-    return guest_enter(guest, &call, plan.words, plan.word_count);
+    return guest_enter(guest, &call, part.words, part.word_count);
 }
 
 static uint32_t ask_print(struct guest *guest) {

@@ -10,7 +10,7 @@ const uint32_t no_words[1] = {0};
 
 void machine_boot(struct machine *machine) {
     machine->kernel = (l4_kernel)L4_EMPTY;
-    check_library(l4_boot(&machine->kernel, FRAME_COUNT), "boot");
+    check_library(l4_boot_sized(&machine->kernel, FRAME_COUNT, L4_PAGE_BYTES), "boot");
     machine->frames = calloc(FRAME_COUNT, L4_PAGE_BYTES);
     check_holds(machine->frames != NULL, "no memory for the frames");
 }
@@ -58,6 +58,12 @@ void print_rights(uint32_t rights) {
 void print_page(uint32_t page, uint32_t frame, uint32_t rights) {
     printf("page %u frame %u ", page, frame);
     print_rights(rights);
+}
+
+void print_delegation(uint32_t from, const l4_region *region, uint32_t to) {
+    printf("%u delegates pages %u to %u ", from, region->source, region->source + region->count - 1);
+    print_rights(region->rights);
+    printf(" to %u at page %u", to, region->target);
 }
 
 static void print_message(const l4_reply *reply) {

@@ -4,8 +4,7 @@
 
 #include "words.h"
 
-#define FRAME_COUNT 32u
-#define FRAME_COUNT_LOG 5u
+#define FRAME_COUNT 72u
 
 #define SIGMA0 1u
 #define ROOT 2u
@@ -42,5 +41,8 @@ l4_mapping machine_mapping(struct machine *machine, uint64_t space, uint32_t pag
 /* A page with its frame and rights, as a line has it: "page 5 frame 9 rw-", and rights alone. */
 void print_rights(uint32_t rights);
 void print_page(uint32_t page, uint32_t frame, uint32_t rights);
+
+/* A region that one thread delegates to another, as a line begins: "4 delegates pages 65 to 67 rw- to 5 at page 129". */
+void print_delegation(uint32_t from, const l4_region *region, uint32_t to);
 
 #endif

@@ -1,15 +1,19 @@
 /* Two programs of machine code run in two address spaces of one kernel. */
 #include "check.h"
 #include "guest.h"
+#include "loader.h"
 #include <stdio.h>
 
 #define PAGER 3u
 #define GIVER 4u
 #define TAKER 5u
+#define LOADER 6u
 #define GUEST_COUNT 2
 
 #define CODE_PAGE 0x10u
 #define STACK_PAGE 0x30u
+/* It is odd where the loader's page is even, so that each page needs a map item of its own. */
+#define LOADED_PAGE 0x101u
 
 /* Pages of the pager. */
 #define GIVER_CODE 0u
@@ -79,9 +83,12 @@ int main(int count, char **words) {
     create_thread(&machine, PAGER, L4_NILTHREAD);
     create_thread(&machine, GIVER, thread_id(PAGER));
     create_thread(&machine, TAKER, thread_id(PAGER));
+    create_thread(&machine, LOADER, L4_NILTHREAD);
     pager_make(&pager, &machine, PAGER);
     add_regions(&pager);
     pager_begin(&pager);
+    loader_begin(&machine, LOADER);
+    loader_give(&machine, LOADER, TAKER, LOADED_PAGE);
     load(words[1], pager_page(&pager, GIVER_CODE));
     load(words[2], pager_page(&pager, TAKER_CODE));
     guest_make(&guests[0], &pager, GIVER, CODE_PAGE * L4_PAGE_BYTES);

@@ -48,7 +48,7 @@ static void receive(struct pager *pager, uint32_t window) {
 }
 
 void pager_begin(struct pager *pager) {
-    const uint32_t words[ONE_ITEM_WORDS] = {ONE_ITEM_TAG, MAP_ITEM, fpage(0, FRAME_COUNT_LOG, ALL_RIGHTS)};
+    const uint32_t words[ONE_ITEM_WORDS] = {ONE_ITEM_TAG, MAP_ITEM, fpage(0, PAGER_FRAMES_LOG, ALL_RIGHTS)};
     l4_call call = machine_call(L4_IPC);
     receive(pager, COMPLETE_WINDOW);
     call.to = thread_id(pager->thread);

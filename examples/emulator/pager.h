@@ -4,6 +4,9 @@
 
 #include "machine.h"
 
+/* The pager's frames are those from 0 on, 2^PAGER_FRAMES_LOG of them. */
+#define PAGER_FRAMES_LOG 5u
+
 /* The greatest number of tables. */
 #define MAX_TABLES 4
 
@@ -27,7 +30,7 @@ void pager_make(struct pager *pager, struct machine *machine, uint32_t thread);
 /* Adds a region to the thread's first table that has none of its pages. */
 void pager_add(struct pager *pager, uint32_t thread, const l4_region *region);
 
-/* Gets all frames from sigma0, each to the page of its number, and waits for faults. */
+/* Gets its frames from sigma0, each to the page of its number, and waits for faults. */
 void pager_begin(struct pager *pager);
 
 /* Answers each message that has come. */

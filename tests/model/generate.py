@@ -4,19 +4,22 @@ messages, long queues, deletions under waiting partners, served faults and deleg
 A maker looks at the model, so most of what it makes can be done; some of it can't, and some can't even be read.
 """
 from machine import ROOT_SPACE, Sending
-from words import ANY_THREAD, PAGES
+from words import ANY_THREAD
 
 ROOT = 2
 COMPLETE = 0x10
 NEVER, SEND_AT_ONCE, RECEIVE_AT_ONCE = 0, 0x04000000, 0x0400
-# where pages lie that are mapped on: at the space's ends, and over a border between two tables of 1,024 pages
-POOLS = [range(0, 12), range(0, 40), range(1016, 1036), range(PAGES - 16, PAGES), range(4, 9)]
 LONGEST_MESSAGE = 31
 MOST_REFUSALS = 30
 
 
 def ident(number):
     return number * 16384 + 1
+
+
+def pools(pages):
+    """Where pages lie that are mapped on: at the ends of a space of so many, and over a border between two tables of 2,048 pages."""
+    return [range(0, 12), range(0, 40), range(2040, 2060), range(pages - 16, pages), range(4, 9)]
 
 
 class Maker:
@@ -26,10 +29,12 @@ class Maker:
         self.random = random
         self.model = model
         self.machine = model.machine
-        self.pool = random.choice(POOLS)
+        self.page_log = self.machine.page_log
+        self.pages = self.machine.page_count
+        self.pool = random.choice(pools(self.pages))
         self.most_threads = random.choice([4, 6, 9, 12])
         self.grants = random.choice([0.1, 0.3, 0.6])
-        self.largest = random.choice([12, 13, 15])
+        self.largest = self.page_log + random.choice([0, 1, 3])
         self.planned = []
         self.refusals = 0
         self.weights = [weight * random.choice([0.1, 1, 1, 4]) for weight in self.PLANS.values()]
@@ -119,12 +124,12 @@ class Maker:
         """A word for an fpage about this page, spelled in any of its ways."""
         chance = self.random.random()
         if chance < 0.02:
-            return self.random.choice([rights, 0x10 | rights, 0x200 | rights | self.page() << 12, 0xA0 | rights, 0xB0 | rights])
+            return self.random.choice([rights, 0x10 | rights, 0x200 | rights | self.page() << self.page_log, 0xA0 | rights, 0xB0 | rights])
         if chance < 0.03:
             return self.random.getrandbits(32)
-        log = 12 if self.random.random() < 0.6 else self.random.randint(10, self.largest)
-        word = page << 12 | log << 4 | rights | self.random.choice([0, 0, 0, 8])
-        return word if self.random.random() < 0.8 else word | self.random.getrandbits(2) << 10
+        log = self.page_log if self.random.random() < 0.6 else self.random.randint(10, self.largest)
+        word = page << self.page_log | log << 4 | rights | self.random.choice([0, 0, 0, 8])
+        return word if self.random.random() < 0.8 else word | self.random.getrandbits(self.page_log - 10) << 10
 
     def window(self):
         chance = self.random.random()
@@ -141,7 +146,7 @@ class Maker:
         middle = self.random.getrandbits(10) & 0x3F0 if self.random.random() < 0.1 else 0
         source = self.page_of(number)
         target = source if self.random.random() < 0.2 else self.page()
-        return [target << 12 | middle | kind | self.random.getrandbits(1), self.fpage(source, self.rights())]
+        return [target << self.page_log | middle | kind | self.random.getrandbits(1), self.fpage(source, self.rights())]
 
     def message(self, number):
         """A message's words: a tag, some words, some items, and now and then words that are not counted, or too few."""
@@ -209,18 +214,18 @@ class Maker:
         self.random.shuffle(pages)
         words = [2 * len(pages) << 6]
         for page, at in zip(pages, self.random.sample(self.pool, min(len(pages), len(self.pool)))):
-            words += [at << 12 | self.random.choice([8, 10, 10]), page << 12 | 0xC0 | self.rights()]
+            words += [at << self.page_log | self.random.choice([8, 10, 10]), page << self.page_log | self.page_log << 4 | self.rights()]
         yield from self.hand_on(giver, other, words)
 
     def one_item(self, source, target, rights, kind=8):
-        return [0x80, target << 12 | kind, source << 12 | 0xC0 | rights]
+        return [0x80, target << self.page_log | kind, source << self.page_log | self.page_log << 4 | rights]
 
     def plan_chain(self):
         giver, taker = self.pair()
         page, at = self.page_of(giver), self.page()
         for _ in range(self.random.choice([4, 12, 30, 60])):
             yield from self.hand_on(giver, taker, self.one_item(page, at, self.random.choice([7, 7, 7, 6, 5])))
-            page, at = at, (at + 1) % PAGES
+            page, at = at, (at + 1) % self.pages
             giver, taker = taker, giver
         yield self.any_unmap(self.random.choice([giver, taker]))
 
@@ -230,10 +235,10 @@ class Maker:
         width = self.random.choice([3, 10, LONGEST_MESSAGE])
         words = [2 * width << 6]
         for k in range(width):
-            words += [(at + k) % PAGES << 12 | 8, page << 12 | 0xC0 | self.rights()]
+            words += [(at + k) % self.pages << self.page_log | 8, page << self.page_log | self.page_log << 4 | self.rights()]
         yield from self.hand_on(giver, taker, words)
         for k in range(0, width, 3):
-            yield from self.hand_on(taker, other, self.one_item((at + k) % PAGES, (at + width + k) % PAGES, 7))
+            yield from self.hand_on(taker, other, self.one_item((at + k) % self.pages, (at + width + k) % self.pages, 7))
         yield self.any_unmap(giver)
 
     def plan_grants(self):
@@ -307,7 +312,7 @@ class StepMaker(Maker):
 
     def any_fault(self, number):
         address = self.page_of(number) if self.random.random() < 0.3 else self.page()
-        return f"start {number} fault {address << 12 | self.random.getrandbits(12):#x} {self.random.getrandbits(32):#x} {self.rights()}"
+        return f"start {number} fault {address << self.page_log | self.random.getrandbits(12):#x} {self.random.getrandbits(32):#x} {self.rights()}"
 
     def any_create(self, number):
         if len(self.machine.threads) >= self.most_threads and self.random.random() < 0.9:
@@ -372,7 +377,7 @@ class StepMaker(Maker):
         yield f"start 2 setpager {self.ident_of(user):#x} {self.ident_of(pager):#x}"
         yield self.ipc(pager, 0, ANY_THREAD, 0, self.window(), [])
         at = self.page()
-        yield f"start {user} fault {at << 12 | 0x678:#x} 0x400100 {self.rights()}"
+        yield f"start {user} fault {at << self.page_log | 0x678:#x} 0x400100 {self.rights()}"
         yield f"transfer {user} {pager}"
         if self.random.random() < 0.2:
             yield f"start 2 delete {self.ident_of(self.random.choice([pager, user])):#x}"
@@ -443,7 +448,7 @@ class ScriptMaker(Maker):
         return f"unmap {number} {control:#x}" + self.words(words)
 
     def any_fault(self, number):
-        address = self.page() << 12 | self.random.getrandbits(12)
+        address = self.page() << self.page_log | self.random.getrandbits(self.page_log)
         return f"fault {number} {address:#x} {self.random.getrandbits(32):#x} {self.rights_text()}"
 
     def rights_text(self):
@@ -466,12 +471,12 @@ class ScriptMaker(Maker):
         return f"delete {self.thread()}"
 
     def any_delegate(self, number):
-        count = self.random.choice([0, 1, 2, 3, 5, 8, 13, 30, 40, 64, 4096, PAGES])
+        count = self.random.choice([0, 1, 2, 3, 5, 8, 13, 30, 40, 64, 4096, self.pages])
         to = self.who(self.partner_to_send(number))
         return f"delegate {number} {to} {self.page_of(number)} {self.page()} {count} {self.rights_text()}"
 
     def any_region(self, _):
-        count = self.random.choice([0, 1, 1, 2, 4, PAGES]) if self.random.random() < 0.3 else self.random.randint(1, 3)
+        count = self.random.choice([0, 1, 1, 2, 4, self.pages]) if self.random.random() < 0.3 else self.random.randint(1, 3)
         number = self.thread()
         return f"region {number} {self.page()} {self.page_of(number)} {count} {self.rights_text()}"
 
@@ -479,7 +484,7 @@ class ScriptMaker(Maker):
         return f"serve {number}"
 
     def any_show(self, number):
-        return f"show {number} {self.page()} {self.random.choice([0, 1, 5, PAGES, 0xFFFFFFFF])}"
+        return f"show {number} {self.page()} {self.random.choice([0, 1, 5, self.pages, 0xFFFFFFFF])}"
 
     def any_parent(self, number):
         return f"parent {number} {self.page_of(number)}"
@@ -518,7 +523,7 @@ class ScriptMaker(Maker):
         for _ in range(self.random.randint(2, 8)):
             number, page = self.running(), self.frame()
             yield f"setpager {number} 1"
-            yield f"fault {number} {page << 12:#x} 0 {self.rights_text()}"
+            yield f"fault {number} {page << self.page_log:#x} 0 {self.rights_text()}"
             asked = self.fpage(page, self.rights())
             yield f"ipc {self.running()} 1 1 0 {self.window():#x} 0xffa00002 {asked:#x} {self.random.choice([0, 0, 0, 1])}"
 
@@ -534,7 +539,7 @@ class ScriptMaker(Maker):
         at = self.frame()
         pages = {}
         for pager, behind in ((first, 1), (second, first)):
-            yield f"ipc {pager} {behind} {behind} 0 0x10 0xffe40002 {at << 12:#x} 0"
+            yield f"ipc {pager} {behind} {behind} 0 0x10 0xffe40002 {at << self.page_log:#x} 0"
             pages[pager] = self.page()
             yield f"region {pager} {pages[pager]} {at} {self.random.randint(1, 4)} {self.rights_text()}"
             yield f"serve {pager}"
@@ -542,14 +547,14 @@ class ScriptMaker(Maker):
         for number in users * 2:
             pager = self.random.choice([first, second])
             yield f"setpager {number} {pager}"
-            page = (pages[pager] + self.random.choice([0, 0, 0, 1, 5])) % PAGES
-            yield f"fault {number} {page << 12:#x} 0x400100 {self.rights_text()}"
+            page = (pages[pager] + self.random.choice([0, 0, 0, 1, 5])) % self.pages
+            yield f"fault {number} {page << self.page_log:#x} 0x400100 {self.rights_text()}"
         if self.random.random() < 0.4:
             yield f"delete {first}"
             yield f"thread {first} {self.random.choice(['new', 1])} 1"
             yield self.random.choice([f"region {first} {pages[first]} {self.page()} 2 rwx", f"show {first} 0 1"])
             yield f"serve {first}"
-            yield f"fault {users[0]} {pages[first] << 12:#x} 0 {self.rights_text()}"
+            yield f"fault {users[0]} {pages[first] << self.page_log:#x} 0 {self.rights_text()}"
 
     def plan_regions(self):
         """A table of regions is filled up."""

@@ -90,7 +90,9 @@ def failed_reply(phase, error):
 
 
 class Machine:
-    def __init__(self, frames):
+    def __init__(self, frames, page_log=PAGE_LOG):
+        self.page_log = page_log
+        self.page_count = 1 << (SPACE_LOG - page_log)
         self.threads = {1: Thread(SIGMA0_ID, 0, NIL_THREAD), 2: Thread(ROOT_ID, ROOT_SPACE, SIGMA0_ID)}
         self.places = {(0, page): Mapping(page, FULL_RIGHTS, None) for page in range(frames)}
         self.queue = []
@@ -167,7 +169,7 @@ class Machine:
 
     def start_fault(self, number, address, ip, access):
         thread = self.threads[number]
-        shown = self.places.get((thread.space, address >> PAGE_LOG))
+        shown = self.places.get((thread.space, address >> self.page_log))
         if shown is not None and shown.rights & access == access:
             return [self.end(number, ("hit",))]
         message = Message(((0xFFE0 | access) << 16 | 2, address, ip), ())
@@ -304,7 +306,7 @@ class Machine:
         home, other = self.threads[sender].space, self.threads[receiver].space
         shown = self.pages(home) if items else []
         for item in items:
-            block = moved_block(item, window)
+            block = moved_block(item, window, self.page_log)
             if block is None:
                 continue
             first, target, count = block
@@ -349,7 +351,7 @@ class Machine:
     def unmap(self, space, with_self, fpages):
         named = {}
         for page, _ in self.pages(space):
-            named[(space, page)] = union(fpage.rights for fpage in fpages if page in fpage.pages())
+            named[(space, page)] = union(fpage.rights for fpage in fpages if page in fpage.pages(self.page_log))
         if not any(named.values()):
             return
         lost = {}

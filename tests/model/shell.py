@@ -1,7 +1,7 @@
 """What is answered to a script, line by line: the commands, the served threads, sigma0's table and the tables of regions."""
 from machine import SIGMA0_ID, Machine
 from steps import RIGHTS
-from words import ANY_THREAD, ERROR_TAG, FULL_RIGHTS, NIL_THREAD, PAGE_LOG, PAGES, WORDS, Refused, read_fpage, write_fpage
+from words import ANY_THREAD, ERROR_TAG, FULL_RIGHTS, NIL_THREAD, PAGE_LOG, SPACE_LOG, WORDS, Refused, read_fpage, write_fpage
 
 ROOT = 2
 NUMBERS = 1 << 18
@@ -22,30 +22,31 @@ def ident(number):
     return number * 16384 + 1
 
 
-def fault_of(words):
+def fault_of(words, page_log):
     """The access and the page of a fault message, or None where the message is none."""
     label, counts = words[0] >> 16, words[0] & 0xFFF
     if counts == 2 and 0xFFE0 <= label <= 0xFFE7:
-        return label & FULL_RIGHTS, words[1] >> PAGE_LOG
+        return label & FULL_RIGHTS, words[1] >> page_log
     return None
 
 
 class Sigma0:
     """Who owns which frame."""
 
-    def __init__(self, frames):
+    def __init__(self, frames, page_log):
         self.frames = frames
+        self.page_log = page_log
         self.owners = {}
 
     def answer(self, space, words):
-        fault = fault_of(words)
+        fault = fault_of(words, self.page_log)
         if fault:
-            asked = read_fpage(write_fpage(fault[1] << PAGE_LOG, PAGE_LOG, 0))
+            asked = read_fpage(write_fpage(fault[1] << self.page_log, self.page_log, 0))
         elif words[0] == 0xFFA00002 and words[2] == 0:
             asked = read_fpage(words[1] & ~15)
         else:
             asked = None
-        pages = asked.pages() if asked else range(0)
+        pages = asked.pages(self.page_log) if asked else range(0)
         if not pages or pages[-1] >= self.frames:
             return NIL_ITEM
         if any(self.owners.get(page, space) != space for page in pages):
@@ -54,22 +55,23 @@ class Sigma0:
         return (ONE_ITEM, asked.base | 8, write_fpage(asked.base, asked.log, FULL_RIGHTS))
 
 
-def region_answer(regions, words):
-    fault = fault_of(words)
+def region_answer(regions, words, page_log):
+    fault = fault_of(words, page_log)
     if fault:
         access, page = fault
         for first, source, count, rights in regions:
             if first <= page < first + count and rights & access == access:
-                at = (source + page - first) << PAGE_LOG
-                return (ONE_ITEM, page << PAGE_LOG | 8, write_fpage(at, PAGE_LOG, rights))
+                at = (source + page - first) << page_log
+                return (ONE_ITEM, page << page_log | 8, write_fpage(at, page_log, rights))
     return NIL_ITEM
 
 
-def plan_words(source, target, count, rights):
+def plan_words(source, target, count, rights, page_log):
     """The message that moves just a region by the fewest map items: again and again the largest block that may move."""
     if count == 0:
         raise Refused("N1")
-    if source + count > PAGES or target + count > PAGES:
+    pages = 1 << (SPACE_LOG - page_log)
+    if source + count > pages or target + count > pages:
         raise Refused("N2")
     if rights == 0:
         raise Refused("N3")
@@ -79,11 +81,11 @@ def plan_words(source, target, count, rights):
         log = 0
         while is_allowed(page, log + 1, source, target, count):
             log += 1
-        items.append(((target + page - source) << PAGE_LOG, write_fpage(page << PAGE_LOG, log + PAGE_LOG, rights)))
+        items.append(((target + page - source) << page_log, write_fpage(page << page_log, log + page_log, rights)))
         page += 1 << log
         if len(items) > PLAN_ITEMS:
             raise Refused("N4")
-    if count == PAGES:
+    if count == pages:
         items = [(0, write_fpage(0, 1, rights))]
     words = [2 * len(items) << 6]
     for k, (base, fpage) in enumerate(items):
@@ -156,9 +158,9 @@ class Tokens:
 class Shell:
     """The machine behind a script. `answer` is the text that a line is answered by; a line is a string with a character for each byte."""
 
-    def __init__(self, frames):
-        self.machine = Machine(frames)
-        self.sigma0 = Sigma0(frames)
+    def __init__(self, frames, page_log=PAGE_LOG):
+        self.machine = Machine(frames, page_log)
+        self.sigma0 = Sigma0(frames, page_log)
         self.served = set()
         self.regions = {}
         self.steps = 0
@@ -238,7 +240,8 @@ class Shell:
         number, to = tokens.thread(), tokens.who()
         source, target, count, rights = tokens.number(), tokens.number(), tokens.number(), tokens.rights()
         tokens.end()
-        self.enter(number, ("ipc", to, NIL_THREAD, 0, 0, plan_words(source, target, count, rights)))
+        words = plan_words(source, target, count, rights, self.machine.page_log)
+        self.enter(number, ("ipc", to, NIL_THREAD, 0, 0, words))
 
     def do_serve(self, tokens):
         number = tokens.thread()
@@ -250,7 +253,7 @@ class Shell:
         tokens.end()
         self.known(number)
         regions = self.regions.setdefault(number, [])
-        if count == 0 or first + count > PAGES or source + count > PAGES or rights == 0:
+        if count == 0 or max(first, source) + count > self.machine.page_count or rights == 0:
             raise Refused("P4")
         if any(first < other[0] + other[2] and other[0] < first + count for other in regions):
             raise Refused("P1")
@@ -329,7 +332,7 @@ class Shell:
             space = NO_SPACE if there is None else self.machine.threads[there].space
             answer = self.sigma0.answer(space, message)
         else:
-            answer = region_answer(self.regions.get(number, []), message)
+            answer = region_answer(self.regions.get(number, []), message, self.machine.page_log)
         return ("ipc", sender, ANY_THREAD, RECEIVE_AT_ONCE, 0, answer)
 
     def go_on(self):
@@ -358,7 +361,7 @@ class Shell:
             space = self.machine.threads[number].space
             if space not in told:
                 told.add(space)
-                lines.append(f"show {number} 0 {PAGES}")
+                lines.append(f"show {number} 0 {self.machine.page_count}")
                 lines += [f"parent {number} {page}" for page, _ in self.machine.pages(space)]
         return lines
 

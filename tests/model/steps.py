@@ -1,6 +1,6 @@
 """What is answered to a list of kernel steps, line by line."""
 from machine import Machine
-from words import Refused
+from words import PAGE_LOG, Refused
 
 RIGHTS = {number: "".join(c if number & bit else "-" for c, bit in zip("rwx", (4, 2, 1))) for number in range(8)}
 
@@ -16,8 +16,8 @@ def reply_text(reply):
 class StepLines:
     """The machine behind a list of steps. `answer` is the text that a line is answered by."""
 
-    def __init__(self, frames):
-        self.machine = Machine(frames)
+    def __init__(self, frames, page_log=PAGE_LOG):
+        self.machine = Machine(frames, page_log)
 
     def answer(self, line):
         word, *rest = line.split()

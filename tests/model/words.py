@@ -1,10 +1,10 @@
 """Words as the manual lays them out: fpages, message tags, items, receive windows, and what an item moves."""
 from typing import NamedTuple
 
-# pages of 4,096 bytes in a space of 2^32 bytes
+# pages of 4,096 bytes, or of 1,024 where a machine is booted so, in a space of 2^32 bytes
 PAGE_LOG = 12
+SMALL_PAGE_LOG = 10
 SPACE_LOG = 32
-PAGES = 1 << (SPACE_LOG - PAGE_LOG)
 FULL_RIGHTS = 7
 NIL_THREAD = 0
 ANY_THREAD = 0xFFFFFFFF
@@ -31,11 +31,11 @@ class Fpage(NamedTuple):
     log: int | None
     rights: int
 
-    def pages(self):
-        if self.log is None or self.log < PAGE_LOG:
+    def pages(self, page_log):
+        if self.log is None or self.log < page_log:
             return range(0)
-        first = self.base >> PAGE_LOG
-        return range(first, first + (1 << (self.log - PAGE_LOG)))
+        first = self.base >> page_log
+        return range(first, first + (1 << (self.log - page_log)))
 
 
 class Item(NamedTuple):
@@ -102,7 +102,7 @@ def read_message(words):
     return Message(tuple(words[: 1 + untyped + typed]), items)
 
 
-def moved_block(item, window):
+def moved_block(item, window, page_log):
     """What an item moves into a window: the first source page, the first target page and how many; None where it moves none."""
     size, room = item.fpage.log, window.log
     if size is None or room is None:
@@ -113,6 +113,6 @@ def moved_block(item, window):
     elif size > room:
         source += item.send_base % (1 << size) >> room << room
     log = min(size, room)
-    if log < PAGE_LOG:
+    if log < page_log:
         return None
-    return source >> PAGE_LOG, target >> PAGE_LOG, 1 << (log - PAGE_LOG)
+    return source >> page_log, target >> page_log, 1 << (log - page_log)

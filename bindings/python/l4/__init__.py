@@ -10,6 +10,10 @@ raise ValueError.
 
 Threads go by their numbers where they act, and by whole `ThreadId`s as partners, as in the kernel's own words. Pages have 4,096 bytes and
 are counted from 0, below 1,048,576 in a space. Spaces have numbers of 64 bits that are never used twice.
+
+What takes `page_bytes` goes by pages of 1,024 bytes where that is given: they are counted below 4,194,304. A kernel and a table keep the
+size that they were made with, and the tables and plans that go with a kernel are to be of its `page_bytes`. Words go by bytes, so their
+form is the same.
 """
 from . import draw
 from .kernel import Answer, Done, Entered, Expire, Kernel, Mapping, Outcome, Place, Reply, ReplyKind, Step, Transfer
@@ -21,6 +25,8 @@ from .words import (
     MAX_THREADS,
     MAX_WORDS,
     PAGE_BYTES,
+    SMALL_PAGE_BYTES,
+    SMALL_SPACE_PAGES,
     SPACE_PAGES,
     Call,
     Fpage,
@@ -39,6 +45,8 @@ __all__ = [
     "MAX_THREADS",
     "MAX_WORDS",
     "PAGE_BYTES",
+    "SMALL_PAGE_BYTES",
+    "SMALL_SPACE_PAGES",
     "SPACE_PAGES",
     "Answer",
     "Call",

@@ -9,6 +9,7 @@ from . import draw
 from .kernel import Kernel
 from .lists import Unread, replay
 from .refusals import Refused
+from .words import PAGE_BYTES, SMALL_PAGE_BYTES
 
 
 def parse(words: Optional[List[str]]) -> argparse.Namespace:
@@ -17,6 +18,7 @@ def parse(words: Optional[List[str]]) -> argparse.Namespace:
         description="Does a list of steps, read on standard input (l4_steps --help has the language).",
     )
     parser.add_argument("--frames", type=int, default=256, help="the frames of the machine, from 1 to 4096 [default: %(default)s]")
+    parser.add_argument("--page-size", type=int, choices=(PAGE_BYTES, SMALL_PAGE_BYTES), default=PAGE_BYTES, help="the bytes of a page [default: %(default)s]")
     commands = parser.add_subparsers(dest="command", required=True)
     commands.add_parser("steps", help="answer each line as l4_steps does")
     tree = commands.add_parser("tree", help="then draw the mapping tree of a frame, as DOT text")
@@ -28,7 +30,7 @@ def parse(words: Optional[List[str]]) -> argparse.Namespace:
 
 def run(options: argparse.Namespace) -> None:
     """Does the steps, and what the command says with them."""
-    with Kernel(options.frames) as kernel:
+    with Kernel(options.frames, options.page_size) as kernel:
         for line in replay(kernel, sys.stdin.buffer):
             if options.command == "steps":
                 print(line)

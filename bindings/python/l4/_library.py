@@ -14,12 +14,17 @@ from typing import Any, Dict, List, Sequence, Tuple
 
 L4_PAGE_LOG = 12
 L4_PAGE_BYTES = 4096
+L4_SMALL_PAGE_LOG = 10
+L4_SMALL_PAGE_BYTES = 1024
 L4_MAX_THREADS = 64
 L4_MAX_WORDS = 64
 L4_MAX_ITEMS = 31
-L4_TOO_MANY = 32
+L4_MAX_PLAN_ITEMS = 1984
+L4_MAX_PLAN_MESSAGES = 64
+L4_TOO_MANY = 1985
 L4_MAX_FRAMES = 4096
 L4_SPACE_PAGES = 1048576
+L4_SMALL_SPACE_PAGES = 4194304
 L4_MAX_REGIONS = 64
 
 L4_NILTHREAD = 0
@@ -34,6 +39,7 @@ L4_OK = 0
 L4_B1 = 0x4231
 L4_B2 = 0x4232
 L4_B3 = 0x4233
+L4_B4 = 0x4234
 L4_K1 = 0x4B31
 L4_K2 = 0x4B32
 L4_K3 = 0x4B33
@@ -58,6 +64,8 @@ L4_N1 = 0x4E31
 L4_N2 = 0x4E32
 L4_N3 = 0x4E33
 L4_N4 = 0x4E34
+L4_N5 = 0x4E35
+L4_N6 = 0x4E36
 L4_C1 = 0x4331
 L4_C2 = 0x4332
 L4_C3 = 0x4333
@@ -133,6 +141,10 @@ class l4_space(Structure):
     _fields_ = numbers("refusal there") + [("space", c_uint64)]
 
 
+class l4_page_size(Structure):
+    _fields_ = numbers("refusal page_bytes")
+
+
 class l4_mapping(Structure):
     _fields_ = numbers("refusal there frame rights has_parent parent_page") + [("parent_space", c_uint64)]
 
@@ -158,9 +170,13 @@ class l4_sigma0(Structure):
 
 
 class l4_plan(Structure):
-    _fields_ = numbers("refusal word_count page_count") + [
+    _fields_ = numbers("refusal items messages")
+
+
+class l4_part(Structure):
+    _fields_ = numbers("refusal messages word_count page_count") + [
         ("words", c_uint32 * L4_MAX_WORDS),
-        ("pages", c_uint32 * L4_TOO_MANY),
+        ("pages", c_uint32 * L4_MAX_ITEMS),
     ]
 
 
@@ -176,6 +192,7 @@ STRUCTS = [
     l4_entered,
     l4_reply,
     l4_space,
+    l4_page_size,
     l4_mapping,
     l4_page,
     l4_region,
@@ -183,6 +200,7 @@ STRUCTS = [
     l4_message,
     l4_sigma0,
     l4_plan,
+    l4_part,
     l4_verdict,
 ]
 
@@ -197,6 +215,7 @@ FUNCTIONS: Dict[str, Tuple[Any, List[Any]]] = {
     "l4_refusal_code": (c_size_t, [c_uint32, c_char_p, c_size_t]),
     "l4_refusal_text": (c_size_t, [c_uint32, c_char_p, c_size_t]),
     "l4_boot": (c_uint32, [KERNEL, c_uint32]),
+    "l4_boot_sized": (c_uint32, [KERNEL, c_uint32, c_uint32]),
     "l4_free": (None, [KERNEL]),
     "l4_start": (l4_answer, [KERNEL, c_uint32, POINTER(l4_call), WORDS, c_size_t]),
     "l4_transfer": (l4_answer, [KERNEL, c_uint32, c_uint32]),
@@ -206,19 +225,29 @@ FUNCTIONS: Dict[str, Tuple[Any, List[Any]]] = {
     "l4_enter": (l4_entered, [KERNEL, c_uint32, POINTER(l4_call), WORDS, c_size_t, POINTER(l4_step), c_size_t]),
     "l4_reply_of": (l4_reply, [KERNEL, c_uint32]),
     "l4_space_of": (l4_space, [KERNEL, c_uint32]),
+    "l4_page_size_of": (l4_page_size, [KERNEL]),
     "l4_mapping_of": (l4_mapping, [KERNEL, c_uint64, c_uint32]),
     "l4_next_page": (l4_page, [KERNEL, c_uint64, c_uint32]),
     "l4_pager_new": (c_uint32, [PAGER]),
+    "l4_pager_new_sized": (c_uint32, [PAGER, c_uint32]),
     "l4_pager_free": (None, [PAGER]),
     "l4_pager_add": (c_uint32, [PAGER, REGION]),
     "l4_pager_find": (l4_page, [PAGER, c_uint32, c_uint32]),
     "l4_pager_answer": (l4_message, [PAGER, WORDS, c_size_t]),
     "l4_sigma0_new": (c_uint32, [SIGMA0, c_uint32]),
+    "l4_sigma0_new_sized": (c_uint32, [SIGMA0, c_uint32, c_uint32]),
     "l4_sigma0_free": (None, [SIGMA0]),
     "l4_sigma0_answer": (l4_message, [SIGMA0, c_uint64, WORDS, c_size_t]),
     "l4_plan_region": (l4_plan, [REGION]),
+    "l4_plan_region_sized": (l4_plan, [REGION, c_uint32]),
+    "l4_plan_message": (l4_part, [REGION, c_uint32]),
+    "l4_plan_message_sized": (l4_part, [REGION, c_uint32, c_uint32]),
+    "l4_plan_pages": (c_uint32, [REGION, WORDS, c_size_t]),
+    "l4_plan_pages_sized": (c_uint32, [REGION, WORDS, c_size_t, c_uint32]),
     "l4_check_plan": (l4_verdict, [REGION, WORDS, c_size_t, WORDS, c_size_t]),
+    "l4_check_plan_sized": (l4_verdict, [REGION, WORDS, c_size_t, WORDS, c_size_t, c_uint32]),
     "l4_check_too_long": (l4_verdict, [REGION, WORDS, c_size_t]),
+    "l4_check_too_long_sized": (l4_verdict, [REGION, WORDS, c_size_t, c_uint32]),
 }
 
 

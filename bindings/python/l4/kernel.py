@@ -10,7 +10,7 @@ from . import _library
 from ._handles import Handle
 from ._library import library, number
 from .refusals import IpcFailed, Refused
-from .words import MAX_THREADS, SPACE_PAGES, Call, Item, Message, Rights, ThreadId, items_of
+from .words import MAX_THREADS, PAGE_BYTES, SMALL_SPACE_PAGES, Call, Item, Message, Rights, ThreadId, items_of
 
 
 class Outcome(enum.Enum):
@@ -175,6 +175,8 @@ def _answer(told: _library.l4_answer) -> Answer:
 class Kernel(Handle):
     """A kernel with its threads, spaces and mappings, as it boots with 1 to 4,096 frames; other numbers are refused by K6.
 
+    Its pages and frames have 4,096 bytes, or 1,024 where that is asked for; other numbers of bytes are refused by B4.
+
     sigma0 is thread 1 in space 0, which shows each frame at the page of its number with all rights; root is thread 2 in space 1, which
     shows none. Threads go by their numbers here. A kernel may be used from several threads, one call after another. It is freed by
     `close`, at the end of a `with`, or with its last reference; from then on each call raises ValueError.
@@ -188,9 +190,15 @@ class Kernel(Handle):
     [(32, 16, 'rwx')]
     """
 
-    def __init__(self, frames: int = 256) -> None:
-        super().__init__(_library.l4_kernel(), library.l4_boot, library.l4_free, number(frames, "the number of frames"))
+    def __init__(self, frames: int = 256, page_bytes: int = PAGE_BYTES) -> None:
+        given = number(frames, "the number of frames"), number(page_bytes, "the number of bytes")
+        super().__init__(_library.l4_kernel(), library.l4_boot_sized, library.l4_free, *given)
         self._threads = {ThreadId.SIGMA0.number, ThreadId.ROOT.number}
+
+    @property
+    def page_bytes(self) -> int:
+        """The bytes of a page and of a frame, with which it was booted."""
+        return self._told(self._ask(library.l4_page_size_of)).page_bytes
 
     def _begin(self, function: Callable[..., Any], thread: int, call: Call, *rest: Any) -> Any:
         """What the library answers to the call."""
@@ -290,7 +298,7 @@ class Kernel(Handle):
             mapping = self.mapping(space, page)
             if mapping is not None:
                 yield mapping
-            page = self.next_page(space, page + 1) if page + 1 < SPACE_PAGES else None
+            page = self.next_page(space, page + 1) if page + 1 < SMALL_SPACE_PAGES else None
 
     def threads(self) -> Tuple[int, ...]:
         """The numbers of the threads, by rising number."""

@@ -3,28 +3,67 @@ from __future__ import annotations
 
 from ctypes import byref
 from dataclasses import dataclass
-from typing import Sequence, Tuple
+from typing import Iterator, Sequence, Tuple
 
 from . import _library
 from ._library import Forks, array, library, number
 from .refusals import Refused, TooLong
-from .words import Item, Message, Rights, items_of
+from .words import PAGE_BYTES, Item, Message, Rights, items_of
 
 
 @dataclass(frozen=True)
 class Plan:
-    """The message, with label 0 and no untyped words, that sends the shortest list of map items which moves exactly a region.
+    """The shortest list of map items that moves exactly a region of pages of so many bytes, in the fewest messages.
 
-    With each item goes a page: one map item could move no two of them, which shows that no list is shorter.
+    It has `item_count` items, 1 to 1,984, and `message_count` messages, 1 to 64, of which all but the last have 31 items. With each item
+    goes a page: one map item could move no two of them, which shows that no list is shorter. It holds no item: each message is asked for
+    as it is needed.
+
+    >>> plan = Region(0, 1, 40, Rights.ALL).plan()
+    >>> plan.item_count, [len(message.words) for message in plan.messages()]
+    (40, [63, 19])
     """
 
-    message: Message
-    pages: Tuple[int, ...]
+    region: Region
+    page_bytes: int
+    item_count: int
+    message_count: int
 
-    @property
+    def message(self, k: int) -> Message:
+        """The message with this number, from 0, with label 0 and no untyped words. Refused by N6 where the plan has none with it."""
+        told = library.l4_plan_message_sized(byref(self.region.given()), number(k, "a message's number"), self.page_bytes)
+        if told.refusal:
+            raise Refused(told.refusal)
+        return Message(tuple(told.words[: told.word_count]))
+
+    def only(self) -> Message:
+        """The message that sends all items. Refused by N5 where there are several."""
+        if self.message_count > 1:
+            raise Refused(_library.L4_N5)
+        return self.message(0)
+
+    def messages(self) -> Iterator[Message]:
+        """The messages, in order."""
+        return map(self.message, range(self.message_count))
+
+    def words(self) -> Tuple[int, ...]:
+        """The words of the items, two an item, in order."""
+        return tuple(word for message in self.messages() for word in message.words[1:])
+
     def items(self) -> Tuple[Item, ...]:
         """The items, in order."""
-        return items_of(self.message.words[1:])
+        return items_of(self.words())
+
+    def pages(self) -> Tuple[int, ...]:
+        """A page of each item, in the items' order."""
+        return _first_pages(self.region, self.page_bytes)
+
+
+def _first_pages(region: Region, page_bytes: int) -> Tuple[int, ...]:
+    """The pages of the items of a region's plan, or those that show that it is too long."""
+    room = array([0] * _library.L4_TOO_MANY)
+    count = library.l4_plan_pages_sized(byref(region.given()), room, len(room), page_bytes)
+    return tuple(room[:count])
 
 
 @dataclass(frozen=True)
@@ -42,41 +81,43 @@ class Region:
         numbers = (number(getattr(self, name), name) for name in ("source", "target", "count"))
         return _library.l4_region(*numbers, self.rights.value)
 
-    def plan(self) -> Plan:
-        """The shortest list of map items that moves exactly the region.
+    def plan(self, page_bytes: int = PAGE_BYTES) -> Plan:
+        """The shortest list of map items that moves exactly the region of pages of so many bytes, 4,096 or 1,024.
 
-        Refused, in this order, by N1, N2, N3 and N4; the last is a TooLong, with the pages that show it.
+        Refused, in this order, by B4, N1, N2, N3 and N4; the last is a TooLong, with the pages that show it.
 
         >>> plan = Region(4, 12, 12, Rights.ALL).plan()
-        >>> [hex(word) for word in plan.message.words], plan.pages
+        >>> [hex(word) for word in plan.only().words], plan.pages()
         (['0x100', '0xc009', '0x40e7', '0x10008', '0x80f7'], (4, 8))
         """
-        told = library.l4_plan_region(byref(self.given()))
-        pages = tuple(told.pages[: told.page_count])
+        page_bytes = number(page_bytes, "the number of bytes")
+        told = library.l4_plan_region_sized(byref(self.given()), page_bytes)
         if told.refusal == _library.L4_N4:
-            raise TooLong(pages)
+            raise TooLong(_first_pages(self, page_bytes))
         if told.refusal:
             raise Refused(told.refusal)
-        return Plan(Message(tuple(told.words[: told.word_count])), pages)
+        return Plan(self, page_bytes, told.items, told.messages)
 
-    def check(self, words: Sequence[int], pages: Sequence[int]) -> None:
-        """Checks that the items of this message, its tag first, move exactly the region, and that these pages, one an item, show that no
-        list of map items that does is shorter. The label and the untyped words aren't looked at.
+    def check(self, words: Sequence[int], pages: Sequence[int], page_bytes: int = PAGE_BYTES) -> None:
+        """Checks that the items of these words, two words an item, move exactly the region, and that these pages, one an item, show that
+        no list of map items that does is shorter.
 
-        Refused, in this order, by M7, M1, M5, M2, M4 or M3; C6, C1, C2, C5, C3, C4.
+        Refused, in this order, by B4; M1 (more than 3,968 words), M2 (an odd number), M4 or M3; C6, C1, C2, C5, C3, C4.
         """
         words = [number(word, "a word") for word in words]
         pages = [number(page, "a page") for page in pages]
-        told = library.l4_check_plan(byref(self.given()), array(words), len(words), array(pages), len(pages))
+        given = array(words), len(words), array(pages), len(pages), number(page_bytes, "the number of bytes")
+        told = library.l4_check_plan_sized(byref(self.given()), *given)
         if told.refusal:
             raise Refused(told.refusal, told.detail)
 
-    def check_too_long(self, pages: Sequence[int]) -> None:
-        """Checks that these are 32 pages which show that each list of map items that moves exactly the region has more than 31.
+    def check_too_long(self, pages: Sequence[int], page_bytes: int = PAGE_BYTES) -> None:
+        """Checks that these are 1,985 pages which show that each list of map items that moves exactly the region has more than 1,984.
 
-        Refused, in this order, by C6, C5, C3, C4.
+        Refused, in this order, by B4, C6, C5, C3, C4.
         """
         pages = [number(page, "a page") for page in pages]
-        told = library.l4_check_too_long(byref(self.given()), array(pages), len(pages))
+        given = array(pages), len(pages), number(page_bytes, "the number of bytes")
+        told = library.l4_check_too_long_sized(byref(self.given()), *given)
         if told.refusal:
             raise Refused(told.refusal, told.detail)

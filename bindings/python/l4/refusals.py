@@ -39,7 +39,7 @@ class Refused(Exception):
 
 
 class TooLong(Refused):
-    """N4: each list of map items that moves exactly the region has more than 31, as these 32 pages show."""
+    """N4: each list of map items that moves exactly the region has more than 1,984, as these 1,985 pages show."""
 
     pages: Sequence[int]
 

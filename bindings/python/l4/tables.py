@@ -9,7 +9,7 @@ from ._handles import Handle
 from ._library import array, library, number
 from .plans import Region
 from .refusals import Refused
-from .words import Message, Rights
+from .words import PAGE_BYTES, Message, Rights
 
 
 def _answer(told: Any) -> Message:
@@ -21,7 +21,8 @@ def _answer(told: Any) -> Message:
 class Pager(Handle):
     """Which pages of its own a pager gives for the pages of those whom it serves.
 
-    There are at most 64 regions, no target page of which is one of two; source pages may be shared.
+    There are at most 64 regions, no target page of which is one of two; source pages may be shared. Pages have as many bytes as the
+    kernel's whose faults the table answers: 4,096 or 1,024, and other numbers are refused by B4.
 
     >>> pager = Pager()
     >>> pager.add(Region(100, 4, 4, Rights.READ))
@@ -32,8 +33,9 @@ class Pager(Handle):
     ['0x80', '0x5008', '0x650c4']
     """
 
-    def __init__(self) -> None:
-        super().__init__(_library.l4_pager(), library.l4_pager_new, library.l4_pager_free)
+    def __init__(self, page_bytes: int = PAGE_BYTES) -> None:
+        page_bytes = number(page_bytes, "the number of bytes")
+        super().__init__(_library.l4_pager(), library.l4_pager_new_sized, library.l4_pager_free, page_bytes)
 
     def add(self, region: Region) -> None:
         """Adds a region at the end. Refused, in this order, by P4, P1 and P3, and then nothing has changed."""
@@ -65,7 +67,8 @@ class Pager(Handle):
 class Sigma0(Handle):
     """Which space owns which of 1 to 4,096 frames: sigma0's table. Other numbers are refused by K6.
 
-    A frame that is given to a space is that space's for good.
+    A frame that is given to a space is that space's for good. Frames have as many bytes as the kernel's: 4,096 or 1,024, and other numbers
+    are refused by B4.
 
     >>> sigma0 = Sigma0(256)
     >>> fault = Message.of(0xffe4, [0x5678, 0x400100])
@@ -75,9 +78,9 @@ class Sigma0(Handle):
     ['0x80', '0x8', '0x0']
     """
 
-    def __init__(self, frames: int = 256) -> None:
-        frames = number(frames, "the number of frames")
-        super().__init__(_library.l4_sigma0(), library.l4_sigma0_new, library.l4_sigma0_free, frames)
+    def __init__(self, frames: int = 256, page_bytes: int = PAGE_BYTES) -> None:
+        given = number(frames, "the number of frames"), number(page_bytes, "the number of bytes")
+        super().__init__(_library.l4_sigma0(), library.l4_sigma0_new_sized, library.l4_sigma0_free, *given)
 
     def answer(self, space: int, message: Message) -> Message:
         """What sigma0 answers a message from a space.

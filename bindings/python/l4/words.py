@@ -8,10 +8,12 @@ from typing import ClassVar, Dict, Iterable, Optional, Sequence, Tuple
 from . import _library
 from ._library import number
 
-#: The bytes of a page.
+#: The bytes of a page, and of a small one.
 PAGE_BYTES = _library.L4_PAGE_BYTES
-#: The pages of a space.
+SMALL_PAGE_BYTES = _library.L4_SMALL_PAGE_BYTES
+#: The pages of a space, and its small pages.
 SPACE_PAGES = _library.L4_SPACE_PAGES
+SMALL_SPACE_PAGES = _library.L4_SMALL_SPACE_PAGES
 #: The greatest number of frames of a machine.
 MAX_FRAMES = _library.L4_MAX_FRAMES
 #: The greatest number of threads of a kernel.
@@ -19,9 +21,18 @@ MAX_THREADS = _library.L4_MAX_THREADS
 #: The greatest number of words of a message, the tag among them, and of fpages of an Unmap.
 MAX_WORDS = _library.L4_MAX_WORDS
 
+# the binary logarithms of the bytes of a page
+_PAGE_LOGS = {PAGE_BYTES: _library.L4_PAGE_LOG, SMALL_PAGE_BYTES: _library.L4_SMALL_PAGE_LOG}
+
 # what an fpage has as its log where it names no bytes, and where it names all of a space
 _NIL_LOG = 0
 _SPACE_LOG = 32
+
+
+def _page_log(page_bytes: int) -> int:
+    if page_bytes not in _PAGE_LOGS:
+        raise ValueError(f"a page has {PAGE_BYTES} or {SMALL_PAGE_BYTES} bytes: {page_bytes}")
+    return _PAGE_LOGS[page_bytes]
 
 
 class ThreadId(int):
@@ -124,16 +135,21 @@ class Fpage:
         return cls(0, _SPACE_LOG, rights)
 
     @classmethod
-    def pages(cls, first: int, log: int, rights: Rights) -> Fpage:
-        """2^log pages from the page `first`, a multiple of 2^log, on: all pages of a space where `log` is 20."""
-        if not 0 <= log <= 20:
+    def pages(cls, first: int, log: int, rights: Rights, page_bytes: int = PAGE_BYTES) -> Fpage:
+        """2^log pages from the page `first`, a multiple of 2^log, on: all pages of a space where `log` is 20, or 22 of small ones."""
+        page_log = _page_log(page_bytes)
+        if not 0 <= log <= _SPACE_LOG - page_log:
             raise ValueError(f"no fpage has 2^{log} pages")
-        return cls(first * PAGE_BYTES, log + _library.L4_PAGE_LOG, rights)
+        return cls(first * page_bytes, log + page_log, rights)
 
     @classmethod
-    def page(cls, page: int, rights: Rights) -> Fpage:
-        """One page, below 1,048,576."""
-        return cls.pages(page, 0, rights)
+    def page(cls, page: int, rights: Rights, page_bytes: int = PAGE_BYTES) -> Fpage:
+        """One page, below 1,048,576, or below 4,194,304 where pages are small.
+
+        >>> hex(Fpage.page(16, Rights.ALL, SMALL_PAGE_BYTES).word)
+        '0x40a7'
+        """
+        return cls.pages(page, 0, rights, page_bytes)
 
     @classmethod
     def read(cls, word: int) -> Fpage:
@@ -165,8 +181,17 @@ class Fpage:
     @property
     def page_range(self) -> range:
         """The pages all of whose bytes it names."""
-        first = self.base // PAGE_BYTES
-        return range(first, first + (1 << self.log) // PAGE_BYTES)
+        return self.range_of(PAGE_BYTES)
+
+    def range_of(self, page_bytes: int) -> range:
+        """The pages of so many bytes all of whose bytes it names.
+
+        >>> Fpage.page(5, Rights.ALL).range_of(SMALL_PAGE_BYTES)
+        range(20, 24)
+        """
+        page_log = _page_log(page_bytes)
+        first = self.base >> page_log
+        return range(first, first + (1 << self.log >> page_log))
 
 
 @dataclass(frozen=True)

@@ -12,6 +12,7 @@ import unittest
 from l4 import (
     MAX_FRAMES,
     MAX_THREADS,
+    SMALL_PAGE_BYTES,
     Call,
     Done,
     Expire,
@@ -56,6 +57,17 @@ class Kernels(unittest.TestCase):
         with self.assertRaises(Refused) as caught:
             step(*values)
         self.assertEqual((caught.exception.code, caught.exception.detail), (code, detail))
+
+    def test_a_kernel_may_have_small_pages(self):
+        with Kernel(256, SMALL_PAGE_BYTES) as kernel:
+            kernel.enter(2, Call.receive(window=WINDOW))
+            kernel.enter(1, Call.send(ThreadId.ROOT, Message((0x80, 0x20008, 0x100C7))))
+            shown = [(mapping.place.page, mapping.frame) for mapping in kernel.mappings(1)]
+            self.assertEqual((kernel.page_bytes, shown), (1024, [(128, 64), (129, 65), (130, 66), (131, 67)]))
+        self.refuses("B4", None, Kernel, 256, 2048)
+        self.refuses("B4", None, Kernel, 0, 1)
+        with self.assertRaises(ValueError):
+            Kernel(256, 1 << 32)
 
     def test_a_kernel_boots_with_its_frames(self):
         self.refuses("K6", None, Kernel, 0)

@@ -56,6 +56,12 @@ pages all;start 1 ipc 0 0 0 0 {words};start 1 unmap 0 {words}"""
         status, out, err = l4("--frames", "0", "steps")
         self.assertEqual((status, out, err), (2, b"", b"error: K6: a machine has 1 to 4,096 frames\n"))
 
+    def test_page_size(self):
+        fault = b"start 1 fault 0x5678 0 4\n"
+        self.assertEqual(l4("--frames", "21", "--page-size", "1024", "steps", lines=fault), (0, b"started\n1 failed 4\n", b""))
+        self.assertEqual(l4("--frames", "22", "--page-size", "1024", "steps", lines=fault), (0, b"started\n1 hit\n", b""))
+        self.assertEqual(l4("--page-size", "2048", "steps")[0], 2)
+
 
 if __name__ == "__main__":
     unittest.main()

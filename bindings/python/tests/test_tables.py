@@ -2,7 +2,22 @@
 import copy
 import unittest
 
-from l4 import MAX_FRAMES, SPACE_PAGES, Call, Kernel, Message, Pager, Refused, Region, ReplyKind, Rights, Sigma0, ThreadId
+from l4 import (
+    MAX_FRAMES,
+    SMALL_PAGE_BYTES,
+    SMALL_SPACE_PAGES,
+    SPACE_PAGES,
+    Call,
+    Kernel,
+    Message,
+    Pager,
+    Refused,
+    Region,
+    ReplyKind,
+    Rights,
+    Sigma0,
+    ThreadId,
+)
 
 NOTHING = Message((0x80, 0x8, 0))
 
@@ -47,6 +62,18 @@ class Tables(unittest.TestCase):
         self.assertEqual((sigma0.answer(2, fault(0x5000)), sigma0.answer(2, fault(0x5FFF))), (given, given))
         self.assertEqual((sigma0.answer(1 << 63, fault(0x5000)), sigma0.answer(2, fault(0x8000))), (NOTHING, NOTHING))
         self.refuses("M3", 1, sigma0.answer, 2, Message((0x100, 8, 0, 14, 0)))
+
+    def test_tables_may_have_small_pages(self):
+        pager = Pager(SMALL_PAGE_BYTES)
+        pager.add(Region(100, 20, 4, Rights.READ | Rights.EXECUTE))
+        self.assertEqual(pager.answer(fault(0x5678)), Message((0x80, 0x5408, 0x194A5)))
+        pager.add(Region(SPACE_PAGES, 4, 1, Rights.READ))
+        self.refuses("P4", None, pager.add, Region(SMALL_SPACE_PAGES, 8, 1, Rights.READ))
+        sigma0 = Sigma0(256, SMALL_PAGE_BYTES)
+        self.assertEqual(sigma0.answer(2, fault(0x5678)), Message((0x80, 0x5408, 0x54A7)))
+        self.assertEqual(sigma0.answer(3, fault(0x5400)), NOTHING)
+        self.refuses("B4", None, Pager, 2048)
+        self.refuses("B4", None, Sigma0, 0, 0)
 
     def test_a_fault_is_served_through_a_kernel(self):
         kernel, sigma0, client = Kernel(256), Sigma0(256), ThreadId.of(3)

@@ -1,7 +1,7 @@
 """Thread ids, rights, fpages, items, messages and calls are the words that C gives."""
 import unittest
 
-from l4 import MAX_WORDS, SPACE_PAGES, Call, Fpage, Item, Message, Rights, ThreadId, Timeout
+from l4 import MAX_WORDS, SMALL_PAGE_BYTES, SMALL_SPACE_PAGES, SPACE_PAGES, Call, Fpage, Item, Message, Rights, ThreadId, Timeout
 
 
 class Words(unittest.TestCase):
@@ -48,6 +48,22 @@ class Words(unittest.TestCase):
         for base, log in ((0, 9), (0, 33), (0x400, 11), (0x400, 0), (1 << 31, 32)):
             with self.assertRaises(ValueError):
                 Fpage(base, log)
+
+    def test_fpages_know_their_small_pages(self):
+        small = SMALL_PAGE_BYTES
+        self.assertEqual(Fpage.pages(20, 2, Rights.ALL, small), Fpage.page(5, Rights.ALL))
+        self.assertEqual(Fpage.page(5, Rights.ALL).range_of(small), range(20, 24))
+        self.assertEqual(Fpage.complete().range_of(small), range(SMALL_SPACE_PAGES))
+        self.assertEqual(Fpage.pages(0, 22, Rights.READ, small), Fpage.complete(Rights.READ))
+        self.assertEqual((len(Fpage.nil().range_of(small)), Fpage(0x1400, 10).range_of(small)), (0, range(5, 6)))
+        for first, log in ((2, 2), (0, 23), (SMALL_SPACE_PAGES, 0), (1, 22)):
+            with self.assertRaises(ValueError):
+                Fpage.pages(first, log, Rights.ALL, small)
+        for page_bytes in (0, 2048):
+            with self.assertRaises(ValueError):
+                Fpage.page(5, Rights.ALL, page_bytes)
+            with self.assertRaises(ValueError):
+                Fpage.nil().range_of(page_bytes)
 
     def test_items_are_read_as_they_are_written(self):
         fpage = Fpage.page(5, Rights.ALL)

@@ -26,12 +26,12 @@ fn main() -> Result<(), Box<dyn Error>> {
         rights: Rights::READ | Rights::WRITE,
     };
     let plan = region.plan()?;
-    region.check(plan.message().words(), plan.pages())?;
+    region.check(&plan.item_words().collect::<Vec<_>>(), &plan.pages())?;
     println!("{} items", plan.items().count());
 
     let window = Fpage::complete(Rights::NONE);
     kernel.enter(3, &Call::receive(ThreadId::SIGMA0, window, Timeout::Never))?;
-    kernel.enter(1, &Call::send(buyer, plan.message(), Timeout::Zero))?;
+    kernel.enter(1, &Call::send(buyer, &plan.only()?, Timeout::Zero))?;
     show(&kernel, space);
 
     let all = Call::unmap(false, &[Fpage::complete(Rights::ALL)]).ok_or("an Unmap has an fpage")?;

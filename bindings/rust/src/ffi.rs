@@ -65,12 +65,17 @@ macro_rules! functions {
 constants! {
     L4_PAGE_LOG = 12;
     L4_PAGE_BYTES = 4096;
+    L4_SMALL_PAGE_LOG = 10;
+    L4_SMALL_PAGE_BYTES = 1024;
     L4_MAX_THREADS = 64;
     L4_MAX_WORDS = 64;
     L4_MAX_ITEMS = 31;
-    L4_TOO_MANY = 32;
+    L4_MAX_PLAN_ITEMS = 1984;
+    L4_MAX_PLAN_MESSAGES = 64;
+    L4_TOO_MANY = 1985;
     L4_MAX_FRAMES = 4096;
     L4_SPACE_PAGES = 1_048_576;
+    L4_SMALL_SPACE_PAGES = 4_194_304;
     L4_MAX_REGIONS = 64;
     L4_NILTHREAD = 0;
     L4_ANYTHREAD = 0xFFFF_FFFF;
@@ -82,6 +87,7 @@ constants! {
     L4_B1 = 0x4231;
     L4_B2 = 0x4232;
     L4_B3 = 0x4233;
+    L4_B4 = 0x4234;
     L4_K1 = 0x4B31;
     L4_K2 = 0x4B32;
     L4_K3 = 0x4B33;
@@ -106,6 +112,8 @@ constants! {
     L4_N2 = 0x4E32;
     L4_N3 = 0x4E33;
     L4_N4 = 0x4E34;
+    L4_N5 = 0x4E35;
+    L4_N6 = 0x4E36;
     L4_C1 = 0x4331;
     L4_C2 = 0x4332;
     L4_C3 = 0x4333;
@@ -201,6 +209,11 @@ structs! {
         space: u64,
     }
 
+    struct l4_page_size {
+        refusal: u32,
+        page_bytes: u32,
+    }
+
     struct l4_mapping {
         refusal: u32,
         there: u32,
@@ -241,10 +254,17 @@ structs! {
 
     struct l4_plan {
         refusal: u32,
+        items: u32,
+        messages: u32,
+    }
+
+    struct l4_part {
+        refusal: u32,
+        messages: u32,
         word_count: u32,
         page_count: u32,
         words: [u32; L4_MAX_WORDS as usize],
-        pages: [u32; L4_TOO_MANY as usize],
+        pages: [u32; L4_MAX_ITEMS as usize],
     }
 
     struct l4_verdict {
@@ -257,6 +277,7 @@ functions! {
     fn l4_refusal_code(refusal: u32, out: *mut c_char, room: usize) -> usize;
     fn l4_refusal_text(refusal: u32, out: *mut c_char, room: usize) -> usize;
     fn l4_boot(kernel: *mut l4_kernel, frames: u32) -> u32;
+    fn l4_boot_sized(kernel: *mut l4_kernel, frames: u32, page_bytes: u32) -> u32;
     fn l4_free(kernel: *mut l4_kernel) -> ();
     fn l4_start(kernel: *mut l4_kernel, thread: u32, call: *const l4_call, words: *const u32, count: usize) -> l4_answer;
     fn l4_transfer(kernel: *mut l4_kernel, sender: u32, receiver: u32) -> l4_answer;
@@ -266,19 +287,29 @@ functions! {
     fn l4_enter(kernel: *mut l4_kernel, thread: u32, call: *const l4_call, words: *const u32, count: usize, steps: *mut l4_step, room: usize) -> l4_entered;
     fn l4_reply_of(kernel: *mut l4_kernel, thread: u32) -> l4_reply;
     fn l4_space_of(kernel: *mut l4_kernel, thread: u32) -> l4_space;
+    fn l4_page_size_of(kernel: *mut l4_kernel) -> l4_page_size;
     fn l4_mapping_of(kernel: *mut l4_kernel, space: u64, page: u32) -> l4_mapping;
     fn l4_next_page(kernel: *mut l4_kernel, space: u64, page: u32) -> l4_page;
     fn l4_pager_new(pager: *mut l4_pager) -> u32;
+    fn l4_pager_new_sized(pager: *mut l4_pager, page_bytes: u32) -> u32;
     fn l4_pager_free(pager: *mut l4_pager) -> ();
     fn l4_pager_add(pager: *mut l4_pager, region: *const l4_region) -> u32;
     fn l4_pager_find(pager: *mut l4_pager, page: u32, access: u32) -> l4_page;
     fn l4_pager_answer(pager: *mut l4_pager, words: *const u32, count: usize) -> l4_message;
     fn l4_sigma0_new(sigma0: *mut l4_sigma0, frames: u32) -> u32;
+    fn l4_sigma0_new_sized(sigma0: *mut l4_sigma0, frames: u32, page_bytes: u32) -> u32;
     fn l4_sigma0_free(sigma0: *mut l4_sigma0) -> ();
     fn l4_sigma0_answer(sigma0: *mut l4_sigma0, space: u64, words: *const u32, count: usize) -> l4_message;
     fn l4_plan_region(region: *const l4_region) -> l4_plan;
+    fn l4_plan_region_sized(region: *const l4_region, page_bytes: u32) -> l4_plan;
+    fn l4_plan_message(region: *const l4_region, number: u32) -> l4_part;
+    fn l4_plan_message_sized(region: *const l4_region, number: u32, page_bytes: u32) -> l4_part;
+    fn l4_plan_pages(region: *const l4_region, pages: *mut u32, room: usize) -> u32;
+    fn l4_plan_pages_sized(region: *const l4_region, pages: *mut u32, room: usize, page_bytes: u32) -> u32;
     fn l4_check_plan(region: *const l4_region, words: *const u32, count: usize, pages: *const u32, page_count: usize) -> l4_verdict;
+    fn l4_check_plan_sized(region: *const l4_region, words: *const u32, count: usize, pages: *const u32, page_count: usize, page_bytes: u32) -> l4_verdict;
     fn l4_check_too_long(region: *const l4_region, pages: *const u32, page_count: usize) -> l4_verdict;
+    fn l4_check_too_long_sized(region: *const l4_region, pages: *const u32, page_count: usize, page_bytes: u32) -> l4_verdict;
 }
 
 /// No step.
@@ -358,10 +389,10 @@ impl<T: Hidden> Drop for Handle<T> {
 }
 
 impl Handle<l4_kernel> {
-    /// A kernel as it boots, or the number of the refusal.
-    pub(crate) fn boot(frames: u32) -> Result<Handle<l4_kernel>, u32> {
+    /// A kernel as it boots, with pages of so many bytes, or the number of the refusal.
+    pub(crate) fn boot(frames: u32, page_bytes: u32) -> Result<Handle<l4_kernel>, u32> {
         // SAFETY: the handle that `made` gives is empty, live and nobody else's.
-        Handle::made(|handle| unsafe { l4_boot(handle, frames) })
+        Handle::made(|handle| unsafe { l4_boot_sized(handle, frames, page_bytes) })
     }
 
     pub(crate) fn start(&mut self, thread: u32, call: &l4_call, words: &[u32]) -> l4_answer {
@@ -424,6 +455,11 @@ impl Handle<l4_kernel> {
         unsafe { l4_space_of(self.cell.get(), thread) }
     }
 
+    pub(crate) fn page_size(&self) -> l4_page_size {
+        // SAFETY: as in `enabled`.
+        unsafe { l4_page_size_of(self.cell.get()) }
+    }
+
     pub(crate) fn mapping_of(&self, space: u64, page: u32) -> l4_mapping {
         // SAFETY: as in `enabled`.
         unsafe { l4_mapping_of(self.cell.get(), space, page) }
@@ -436,10 +472,10 @@ impl Handle<l4_kernel> {
 }
 
 impl Handle<l4_pager> {
-    /// A table without a region, or the number of the refusal.
-    pub(crate) fn pager() -> Result<Handle<l4_pager>, u32> {
+    /// A table of pages of so many bytes without a region, or the number of the refusal.
+    pub(crate) fn pager(page_bytes: u32) -> Result<Handle<l4_pager>, u32> {
         // SAFETY: as in `boot`.
-        Handle::made(|handle| unsafe { l4_pager_new(handle) })
+        Handle::made(|handle| unsafe { l4_pager_new_sized(handle, page_bytes) })
     }
 
     pub(crate) fn add(&mut self, region: &l4_region) -> u32 {
@@ -459,10 +495,10 @@ impl Handle<l4_pager> {
 }
 
 impl Handle<l4_sigma0> {
-    /// A table of frames that no space owns, or the number of the refusal.
-    pub(crate) fn sigma0(frames: u32) -> Result<Handle<l4_sigma0>, u32> {
+    /// A table of frames of so many bytes that no space owns, or the number of the refusal.
+    pub(crate) fn sigma0(frames: u32, page_bytes: u32) -> Result<Handle<l4_sigma0>, u32> {
         // SAFETY: as in `boot`.
-        Handle::made(|handle| unsafe { l4_sigma0_new(handle, frames) })
+        Handle::made(|handle| unsafe { l4_sigma0_new_sized(handle, frames, page_bytes) })
     }
 
     pub(crate) fn answer(&mut self, space: u64, words: &[u32]) -> l4_message {
@@ -471,27 +507,48 @@ impl Handle<l4_sigma0> {
     }
 }
 
-pub(crate) fn plan_region(region: &l4_region) -> l4_plan {
+pub(crate) fn plan_region(region: &l4_region, page_bytes: u32) -> l4_plan {
     // SAFETY: the region lives as long as its borrow, and no handle is needed.
-    unsafe { l4_plan_region(region) }
+    unsafe { l4_plan_region_sized(region, page_bytes) }
 }
 
-pub(crate) fn check_plan(region: &l4_region, words: &[u32], pages: &[u32]) -> l4_verdict {
+pub(crate) fn plan_message(region: &l4_region, number: u32, page_bytes: u32) -> l4_part {
+    // SAFETY: as in `plan_region`.
+    unsafe { l4_plan_message_sized(region, number, page_bytes) }
+}
+
+/// The first pages of the items of a region's plan, or those that show that it is too long; none where the region is refused otherwise.
+pub(crate) fn plan_pages(region: &l4_region, page_bytes: u32) -> Vec<u32> {
+    let mut pages = vec![0; L4_TOO_MANY as usize];
+    let room = pages.len();
+    // SAFETY: the region lives as long as its borrow, and the room is that of the pages, which are borrowed alone.
+    let count = unsafe { l4_plan_pages_sized(region, pages.as_mut_ptr(), room, page_bytes) };
+    pages.truncate(count as usize);
+    pages
+}
+
+pub(crate) fn check_plan(
+    region: &l4_region,
+    words: &[u32],
+    pages: &[u32],
+    page_bytes: u32,
+) -> l4_verdict {
     // SAFETY: the region and the slices live as long as their borrows; a slice's pointer is aligned and never null.
     unsafe {
-        l4_check_plan(
+        l4_check_plan_sized(
             region,
             words.as_ptr(),
             words.len(),
             pages.as_ptr(),
             pages.len(),
+            page_bytes,
         )
     }
 }
 
-pub(crate) fn check_too_long(region: &l4_region, pages: &[u32]) -> l4_verdict {
+pub(crate) fn check_too_long(region: &l4_region, pages: &[u32], page_bytes: u32) -> l4_verdict {
     // SAFETY: as in `check_plan`.
-    unsafe { l4_check_too_long(region, pages.as_ptr(), pages.len()) }
+    unsafe { l4_check_too_long_sized(region, pages.as_ptr(), pages.len(), page_bytes) }
 }
 
 #[cfg(test)]

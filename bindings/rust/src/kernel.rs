@@ -1,7 +1,7 @@
 //! Kernels, their steps, and what there is to be seen.
 use crate::ffi;
 use crate::refusals::unknown;
-use crate::{Call, Refusal, Reply, Rights, MAX_THREADS, SPACE_PAGES};
+use crate::{Call, PageSize, Refusal, Reply, Rights, MAX_THREADS};
 use std::fmt;
 
 /// A step that is done without a call's being started.
@@ -126,7 +126,7 @@ pub struct Entered {
 pub struct Place {
     /// The number of the space.
     pub space: u64,
-    /// The number of the page, below 1,048,576.
+    /// The number of the page, below 1,048,576, or 4,194,304 where pages have 1,024 bytes.
     pub page: u32,
 }
 
@@ -153,11 +153,35 @@ pub struct Kernel {
 impl Kernel {
     /// A kernel as it boots, with 1 to 4,096 frames: sigma0 is thread 1 in space 0, which shows each frame at the page of its number
     /// with all rights, and root is thread 2 in space 1, which shows none. Refused, in this order, by K6 and NoMemory.
+    /// Pages and frames have 4 KiB.
     pub fn boot(frames: u32) -> Result<Kernel, Refusal> {
-        match ffi::Handle::boot(frames) {
+        Kernel::boot_sized(frames, PageSize::Kib4)
+    }
+
+    /// The same with pages and frames of this size.
+    ///
+    /// ```
+    /// use l4::{Call, Fpage, Item, Kernel, Message, PageSize, Rights, ThreadId, Timeout};
+    /// let mut kernel = Kernel::boot_sized(256, PageSize::Kib1)?;
+    /// kernel.start(2, &Call::receive(ThreadId::ANY, Fpage::complete(Rights::NONE), Timeout::Never))?;
+    /// // 4 KiB are four of its pages
+    /// let fpage = Fpage::bytes(0x10000, 12, Rights::ALL).expect("it is aligned");
+    /// let message = Message::new(0, &[], &[Item::map(fpage, 0x20000)])?;
+    /// kernel.enter(1, &Call::send(ThreadId::ROOT, &message, Timeout::Never))?;
+    /// let frames: Vec<_> = kernel.mappings(1).map(|mapping| (mapping.place.page, mapping.frame)).collect();
+    /// assert_eq!(frames, [(128, 64), (129, 65), (130, 66), (131, 67)]);
+    /// # Ok::<(), Box<dyn std::error::Error>>(())
+    /// ```
+    pub fn boot_sized(frames: u32, page_size: PageSize) -> Result<Kernel, Refusal> {
+        match ffi::Handle::boot(frames, page_size.bytes()) {
             Ok(handle) => Ok(Kernel { handle }),
             Err(number) => Err(Refusal::of(number, 0)),
         }
+    }
+
+    /// The size of its pages and frames, which it was booted with.
+    pub fn page_size(&self) -> PageSize {
+        PageSize::of_bytes(self.handle.page_size().page_bytes)
     }
 
     /// Starts a call of a thread: a call that needs no partner, or finds that there can be none, ends at once, and any other waits. Refused,
@@ -296,7 +320,7 @@ impl Iterator for Mappings<'_> {
                 self.kernel.mapping(space, page)
             }
             None => {
-                self.place.page = SPACE_PAGES;
+                self.place.page = self.kernel.page_size().space_pages();
                 None
             }
         }

@@ -29,6 +29,13 @@
 //! Threads go by their numbers (`u32`) where they act, and by whole [`ThreadId`]s as partners, as in the kernel's own words. Pages have
 //! [`PAGE_BYTES`] bytes and are counted from 0, below [`SPACE_PAGES`] in a space. Spaces have numbers (`u64`) that are never used twice.
 //!
+//! # What a size of pages changes
+//!
+//! Each call whose name ends in `_sized` does by pages of a given [`PageSize`] what the call without that ending does by 4 KiB. With
+//! [`PageSize::Kib1`] pages are counted below 4,194,304. A [`Kernel`], a [`Pager`] and a [`Sigma0`] keep the size that they were made with;
+//! the tables and plans that go with a kernel are to be of its [`page_size`](Kernel::page_size). Words go by bytes, so their form is the
+//! same, and [`PageSize::fpage`] and [`PageSize::range`] go between bytes and pages.
+//!
 //! # What can't happen
 //!
 //! What the C header calls the caller's fault (a freed handle, a null pointer, two calls on a kernel at one time) can't be said in safe
@@ -59,12 +66,12 @@ pub use plans::{NoPlan, Plan, Region};
 pub use refusals::Refusal;
 pub use replies::{ErrorCode, Received, Reply};
 pub use tables::{Pager, Sigma0};
-pub use words::{BadFpage, Fpage, Item, Message, Rights, ThreadId, TooManyWords};
+pub use words::{BadFpage, Fpage, Item, Message, PageSize, Rights, ThreadId, TooManyWords};
 
-/// The bytes of a page.
+/// The bytes of a page of 4 KiB.
 pub const PAGE_BYTES: u32 = ffi::L4_PAGE_BYTES;
 
-/// The pages of a space: they are numbered from 0 to `SPACE_PAGES - 1`.
+/// The pages of 4 KiB of a space: they are numbered from 0 to `SPACE_PAGES - 1`.
 pub const SPACE_PAGES: u32 = ffi::L4_SPACE_PAGES;
 
 /// The greatest number of frames of a machine.
@@ -82,5 +89,11 @@ pub const MAX_WORDS: usize = ffi::L4_MAX_WORDS as usize;
 /// The greatest number of map and grant items of a message.
 pub const MAX_ITEMS: usize = ffi::L4_MAX_ITEMS as usize;
 
-/// The number of pages that show that a region needs more items than a message has.
+/// The greatest number of items of a plan.
+pub const MAX_PLAN_ITEMS: usize = ffi::L4_MAX_PLAN_ITEMS as usize;
+
+/// The greatest number of messages of a plan.
+pub const MAX_PLAN_MESSAGES: usize = ffi::L4_MAX_PLAN_MESSAGES as usize;
+
+/// The number of pages that show that a region needs more items than a plan has.
 pub const TOO_MANY: usize = ffi::L4_TOO_MANY as usize;

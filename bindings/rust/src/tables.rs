@@ -1,6 +1,6 @@
 //! The tables of pagers, and sigma0's.
 use crate::ffi;
-use crate::{Message, Refusal, Region, Rights};
+use crate::{Message, PageSize, Refusal, Region, Rights};
 use std::fmt;
 
 /// The message that the library tells, or why it was refused.
@@ -33,9 +33,23 @@ pub struct Pager {
 }
 
 impl Pager {
-    /// A table without a region. Refused by NoMemory.
+    /// A table of pages of 4 KiB without a region. Refused by NoMemory.
     pub fn new() -> Result<Pager, Refusal> {
-        match ffi::Handle::pager() {
+        Pager::new_sized(PageSize::Kib4)
+    }
+
+    /// The same with pages of this size, as the kernel has whose faults it answers.
+    ///
+    /// ```
+    /// use l4::{Message, PageSize, Pager, Region, Rights};
+    /// let mut pager = Pager::new_sized(PageSize::Kib1)?;
+    /// pager.add(&Region { source: 100, target: 20, count: 4, rights: Rights::READ | Rights::EXECUTE })?;
+    /// let fault = Message::new(0xffe4, &[0x5678, 0x400100], &[])?;
+    /// assert_eq!(pager.answer(&fault)?.words(), [0x80, 0x5408, 0x194a5]);
+    /// # Ok::<(), Box<dyn std::error::Error>>(())
+    /// ```
+    pub fn new_sized(size: PageSize) -> Result<Pager, Refusal> {
+        match ffi::Handle::pager(size.bytes()) {
             Ok(handle) => Ok(Pager { handle }),
             Err(number) => Err(Refusal::of(number, 0)),
         }
@@ -89,9 +103,22 @@ pub struct Sigma0 {
 }
 
 impl Sigma0 {
-    /// A table of 1 to 4,096 frames that no space owns. Refused, in this order, by K6 and NoMemory.
+    /// A table of 1 to 4,096 frames of 4 KiB that no space owns. Refused, in this order, by K6 and NoMemory.
     pub fn new(frames: u32) -> Result<Sigma0, Refusal> {
-        match ffi::Handle::sigma0(frames) {
+        Sigma0::new_sized(frames, PageSize::Kib4)
+    }
+
+    /// The same with pages and frames of this size, as the kernel has.
+    ///
+    /// ```
+    /// use l4::{Message, PageSize, Sigma0};
+    /// let mut sigma0 = Sigma0::new_sized(256, PageSize::Kib1)?;
+    /// let fault = Message::new(0xffe4, &[0x5678, 0x400100], &[])?;
+    /// assert_eq!(sigma0.answer(2, &fault)?.words(), [0x80, 0x5408, 0x54a7]);
+    /// # Ok::<(), Box<dyn std::error::Error>>(())
+    /// ```
+    pub fn new_sized(frames: u32, size: PageSize) -> Result<Sigma0, Refusal> {
+        match ffi::Handle::sigma0(frames, size.bytes()) {
             Ok(handle) => Ok(Sigma0 { handle }),
             Err(number) => Err(Refusal::of(number, 0)),
         }

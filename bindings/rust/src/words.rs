@@ -1,11 +1,9 @@
 //! The words of the kernel's interface: thread ids, rights, fpages, items and messages.
-use crate::{ffi, MAX_WORDS, PAGE_BYTES, SPACE_PAGES};
+use crate::refusals::unknown;
+use crate::{ffi, MAX_WORDS};
 use std::error::Error;
 use std::fmt;
 use std::ops::{BitAnd, BitOr, Range, Sub};
-
-/// The binary logarithm of the bytes of a page.
-const PAGE_LOG: u8 = ffi::L4_PAGE_LOG as u8;
 
 /// A thread id: a thread number in bits 31 to 14, and a version in bits 13 to 0 (L4 X.2 manual, ThreadId).
 #[derive(Clone, Copy, PartialEq, Eq, PartialOrd, Ord, Hash)]
@@ -205,17 +203,13 @@ impl Fpage {
         aligned.then_some(Fpage { base, log, rights })
     }
 
-    /// 2^log pages from the page `first` on; all pages of a space where `log` is 20. None where `log` is above 20, `first` is no
-    /// multiple of 2^log, or it isn't below 1,048,576.
+    /// 2^log pages of 4 KiB from the page `first` on; all pages of a space where `log` is 20. None where `log` is above 20, `first` is no
+    /// multiple of 2^log, or it isn't below 1,048,576. [`PageSize::fpage`] has those of another size.
     pub fn pages(first: u32, log: u8, rights: Rights) -> Option<Fpage> {
-        match (first, log) {
-            (0, 20) => Some(Fpage::complete(rights)),
-            (0..SPACE_PAGES, 0..=19) => Fpage::bytes(first * PAGE_BYTES, log + PAGE_LOG, rights),
-            _ => None,
-        }
+        PageSize::Kib4.fpage(first, log, rights)
     }
 
-    /// One page, below 1,048,576.
+    /// One page of 4 KiB, below 1,048,576.
     pub fn page(page: u32, rights: Rights) -> Option<Fpage> {
         Fpage::pages(page, 0, rights)
     }
@@ -264,13 +258,79 @@ impl Fpage {
         self.rights
     }
 
-    /// The pages all of whose bytes it names; none for the nil fpage and for one of 1 or 2 KiB.
+    /// The pages of 4 KiB all of whose bytes it names; none for the nil fpage and for one of 1 or 2 KiB. [`PageSize::range`] has those
+    /// of another size.
     pub const fn page_range(self) -> Range<u32> {
-        let first = self.base / PAGE_BYTES;
-        if self.log < PAGE_LOG {
+        PageSize::Kib4.range(self)
+    }
+}
+
+/// The size of a kernel's pages and frames, which is chosen as it boots.
+///
+/// ```
+/// use l4::{PageSize, Rights};
+/// let page = PageSize::Kib1.fpage(16, 0, Rights::ALL).expect("page 16 is one of a space's");
+/// assert_eq!((page.word(), PageSize::Kib1.range(page)), (0x40a7, 16..17));
+/// // it is too small to be a page of 4 KiB
+/// assert!(page.page_range().is_empty());
+/// ```
+#[derive(Clone, Copy, PartialEq, Eq, Hash, Debug, Default)]
+pub enum PageSize {
+    /// 4,096 bytes.
+    #[default]
+    Kib4,
+    /// 1,024 bytes.
+    Kib1,
+}
+
+impl PageSize {
+    /// The binary logarithm of a page's bytes.
+    const fn log(self) -> u8 {
+        match self {
+            PageSize::Kib4 => ffi::L4_PAGE_LOG as u8,
+            PageSize::Kib1 => ffi::L4_SMALL_PAGE_LOG as u8,
+        }
+    }
+
+    /// The size of pages of so many bytes, as the library tells it.
+    pub(crate) fn of_bytes(bytes: u32) -> PageSize {
+        match bytes {
+            ffi::L4_PAGE_BYTES => PageSize::Kib4,
+            ffi::L4_SMALL_PAGE_BYTES => PageSize::Kib1,
+            other => unknown("size of pages", other),
+        }
+    }
+
+    /// The bytes of a page.
+    pub const fn bytes(self) -> u32 {
+        1 << self.log()
+    }
+
+    /// The pages of a space: they are numbered from 0 to one less.
+    pub const fn space_pages(self) -> u32 {
+        1 << (SPACE_SIZE - self.log())
+    }
+
+    /// 2^log pages from the page `first` on; all pages of a space where these are as many. None where 2^log is more, `first` is no
+    /// multiple of 2^log, or it isn't one of the space's.
+    pub fn fpage(self, first: u32, log: u8, rights: Rights) -> Option<Fpage> {
+        let all = SPACE_SIZE - self.log();
+        if log == all && first == 0 {
+            return Some(Fpage::complete(rights));
+        }
+        if log >= all || first >= self.space_pages() {
+            return None;
+        }
+        Fpage::bytes(first * self.bytes(), log + self.log(), rights)
+    }
+
+    /// The pages all of whose bytes the fpage names; none for the nil fpage and for one that is smaller than a page.
+    pub const fn range(self, fpage: Fpage) -> Range<u32> {
+        let first = fpage.base / self.bytes();
+        if fpage.log < self.log() {
             return first..first;
         }
-        first..first + (1 << (self.log - PAGE_LOG))
+        first..first + (1 << (fpage.log - self.log()))
     }
 }
 
@@ -423,6 +483,7 @@ impl fmt::Debug for Message {
 #[cfg(test)]
 mod tests {
     use super::*;
+    use crate::SPACE_PAGES;
 
     #[test]
     fn ids_have_a_number_and_a_version() {
@@ -498,6 +559,30 @@ mod tests {
                 .end,
             SPACE_PAGES
         );
+    }
+
+    #[test]
+    fn small_pages_are_quarters() {
+        let (large, small) = (PageSize::Kib4, PageSize::Kib1);
+        assert_eq!((large.bytes(), large.space_pages()), (4096, SPACE_PAGES));
+        assert_eq!((small.bytes(), small.space_pages()), (1024, 4_194_304));
+        assert_eq!(PageSize::default(), large);
+        let fpage = Fpage::page(5, Rights::ALL).unwrap();
+        assert_eq!((large.range(fpage), small.range(fpage)), (5..6, 20..24));
+        assert_eq!(small.fpage(20, 2, Rights::ALL), Some(fpage));
+        assert_eq!(small.range(Fpage::complete(Rights::ALL)), 0..4_194_304);
+        assert_eq!(
+            small.fpage(0, 22, Rights::READ),
+            Some(Fpage::complete(Rights::READ))
+        );
+        assert!(small.range(Fpage::NIL).is_empty());
+        assert_eq!(
+            small.fpage(4_194_303, 0, Rights::ALL).map(Fpage::word),
+            Some(0xffff_fca7)
+        );
+        for (first, log) in [(2, 2), (0, 23), (4_194_304, 0), (1, 22), (u32::MAX, 0)] {
+            assert_eq!(small.fpage(first, log, Rights::ALL), None);
+        }
     }
 
     #[test]

@@ -62,6 +62,106 @@ fn a_kernel_boots_with_its_frames() {
 }
 
 #[test]
+fn a_kernel_may_have_small_pages() {
+    assert_eq!(
+        Kernel::boot_sized(0, PageSize::Kib1).unwrap_err(),
+        Refusal::FrameCount
+    );
+    let mut kernel = Kernel::boot_sized(256, PageSize::Kib1).unwrap();
+    assert_eq!(kernel.page_size(), PageSize::Kib1);
+    assert_eq!(Kernel::boot(1).unwrap().page_size(), PageSize::Kib4);
+    kernel
+        .start(2, &Call::receive(ThreadId::ANY, WINDOW, Timeout::Never))
+        .unwrap();
+    let last = PageSize::Kib1.space_pages() - 1;
+    let page = PageSize::Kib1.fpage(16, 0, Rights::READ).unwrap();
+    let item = Item::map(page, last * PageSize::Kib1.bytes());
+    let sent = Message::new(0, &[], &[item]).unwrap();
+    kernel
+        .enter(1, &Call::send(ThreadId::ROOT, &sent, Timeout::Never))
+        .unwrap();
+    let mut mappings = kernel.mappings(1);
+    let mapping = mappings.next().unwrap();
+    assert_eq!((mapping.place.page, mapping.frame), (last, 16));
+    assert_eq!((mappings.next(), mappings.next()), (None, None));
+}
+
+#[test]
+fn small_pages_have_plans_of_their_own() {
+    let region = Region {
+        source: 16,
+        target: 32,
+        count: 1,
+        rights: Rights::ALL,
+    };
+    let plan = region.plan_sized(PageSize::Kib1).unwrap();
+    let (words, pages) = (plan.item_words().collect::<Vec<_>>(), plan.pages());
+    assert_eq!(
+        (words.as_slice(), pages.as_slice()),
+        (&[0x8008, 0x40a7][..], &[16][..])
+    );
+    assert_eq!(region.check_sized(&words, &pages, PageSize::Kib1), Ok(()));
+    assert_eq!(region.check(&words, &pages), Err(Refusal::PageNotMoved(16)));
+    let whole = Region {
+        source: 0,
+        target: 0,
+        count: PageSize::Kib1.space_pages(),
+        rights: Rights::ALL,
+    };
+    let plan = whole.plan_sized(PageSize::Kib1).unwrap();
+    assert_eq!(plan.only().unwrap().words(), [0x80, 0x8, 0x17]);
+    assert_eq!(
+        whole.plan().unwrap_err().refusal(),
+        Refusal::RegionBeyondSpace
+    );
+    let long = Region {
+        source: 1,
+        target: 0,
+        count: TOO_MANY as u32,
+        rights: Rights::ALL,
+    };
+    let Err(NoPlan::TooLong(pages)) = long.plan_sized(PageSize::Kib1) else {
+        panic!("it has a plan");
+    };
+    assert_eq!(long.check_too_long_sized(&pages, PageSize::Kib1), Ok(()));
+}
+
+/// Each page needs an item of its own, by either size.
+#[test]
+fn forty_items_go_in_two_messages() {
+    let region = Region {
+        source: 0,
+        target: 1,
+        count: 40,
+        rights: Rights::READ,
+    };
+    for (size, last) in [
+        (PageSize::Kib4, [0x28008, 0x270c4]),
+        (PageSize::Kib1, [0xa008, 0x9ca4]),
+    ] {
+        let plan = region.plan_sized(size).unwrap();
+        assert_eq!((plan.item_count(), plan.message_count()), (40, 2));
+        let messages: Vec<_> = plan.messages().collect();
+        assert_eq!((plan.messages().len(), messages.len()), (2, 2));
+        assert_eq!(
+            (messages[0].words()[0], messages[0].words().len()),
+            (0xf80, 63)
+        );
+        assert_eq!(
+            (messages[1].words()[0], messages[1].words().len()),
+            (0x480, 19)
+        );
+        assert_eq!(messages[1].words()[17..], last);
+        assert_eq!(plan.only(), Err(Refusal::SeveralMessages));
+        assert_eq!(plan.message(2), Err(Refusal::NoSuchMessage));
+        assert_eq!(plan.pages(), (0..40).collect::<Vec<_>>());
+        assert_eq!(plan.items().count(), 40);
+        let words = plan.item_words().collect::<Vec<_>>();
+        assert_eq!(region.check_sized(&words, &plan.pages(), size), Ok(()));
+    }
+}
+
+#[test]
 fn two_kernels_do_not_meet() {
     let mut one = delivered();
     let other = Kernel::boot(1).unwrap();
@@ -266,10 +366,11 @@ fn plans_are_checked() {
         rights: Rights::ALL,
     };
     let plan = region.plan().unwrap();
-    let (words, pages) = (plan.message().words(), plan.pages());
+    let (words, pages) = (plan.item_words().collect::<Vec<_>>(), plan.pages());
+    let (words, pages) = (words.as_slice(), pages.as_slice());
     assert_eq!((plan.items().count(), pages), (2, &[4, 8][..]));
     assert_eq!(region.check(words, pages), Ok(()));
-    assert_eq!(region.check(&words[..4], pages), Err(Refusal::TooFewWords));
+    assert_eq!(region.check(&words[..3], pages), Err(Refusal::OddItemWords));
     assert_eq!(region.check(words, &[4]), Err(Refusal::PageCount));
     assert_eq!(region.check(words, &[4, 16]), Err(Refusal::ForeignPage(1)));
     assert_eq!(
@@ -306,15 +407,15 @@ fn plans_are_checked() {
 #[test]
 fn a_region_may_need_too_many_items() {
     let region = Region {
-        source: 1,
-        target: 0,
-        count: 64,
+        source: 0,
+        target: 1,
+        count: 1985,
         rights: Rights::ALL,
     };
     let refused = region.plan().unwrap_err();
     assert_eq!(
         refused.to_string(),
-        "N4: no 31 map items, as many as a message holds, move just the region"
+        "N4: no 1,984 map items, as many as 64 messages hold, move just the region"
     );
     let NoPlan::TooLong(pages) = refused else {
         panic!("{refused:?}");

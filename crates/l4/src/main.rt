@@ -7,6 +7,7 @@
 ghost use Rattle.std.specs.Prelude.{◌≤◌};
 ghost use Rattle.l4_fpage.specs.Pages.{max_frames};
 
+use l4_fpage::PageSize;
 use l4_msg::Region;
 use l4_options::{Options, command_words, misread, show, status_of, stopped};
 use l4_shell::{RunFault, check_lines, options, plan_lines, run};
@@ -16,11 +17,17 @@ use std::process::ExitCode;
 const NOT_PROVED: u8 = 1;
 
 /// Answers the script on standard input.
-fn answer_script<R: AllocGlobal + Input + Print + Eprint>(rt: &R, frames: u32) -> u8
+fn answer_script<R: AllocGlobal + Input + Print + Eprint>(rt: &R, frames: u32, size: PageSize) -> u8
     requires some { 1 ≤ frames }
     requires fit { frames ≤ max_frames }
 {
-    match run(rt.alloc(), frames, &mut rt.reader(), &mut io::writer(rt)) {
+    match run(
+        rt.alloc(),
+        frames,
+        size,
+        &mut rt.reader(),
+        &mut io::writer(rt),
+    ) {
         Ok(_) => 0,
         Err(fault) => stopped(rt, fault),
     }
@@ -36,24 +43,24 @@ fn judged(rt: &impl Eprint, outcome: Result<bool, RunFault>) -> u8 {
 }
 
 /// Plans a region.
-fn plan<R: Print + Eprint>(rt: &R, region: &Region) -> u8 {
-    judged(rt, plan_lines(region, &mut io::writer(rt)))
+fn plan<R: Print + Eprint>(rt: &R, region: &Region, size: PageSize) -> u8 {
+    judged(rt, plan_lines(region, size, &mut io::writer(rt)))
 }
 
 /// Checks the plan on standard input.
-fn check<R: Input + Print + Eprint>(rt: &R, region: &Region) -> u8 {
+fn check<R: Input + Print + Eprint>(rt: &R, region: &Region, size: PageSize) -> u8 {
     judged(
         rt,
-        check_lines(region, &mut rt.reader(), &mut io::writer(rt)),
+        check_lines(region, size, &mut rt.reader(), &mut io::writer(rt)),
     )
 }
 
 /// Does what these words ask for.
 fn obey<R: AllocGlobal + Input + Print + Eprint>(rt: &R, words: &[String]) -> u8 {
     match options(rt.alloc(), words) {
-        Ok(Options::Run { frames }) => answer_script(rt, frames),
-        Ok(Options::Plan { region }) => plan(rt, &region),
-        Ok(Options::Check { region }) => check(rt, &region),
+        Ok(Options::Run { frames, size }) => answer_script(rt, frames, size),
+        Ok(Options::Plan { region, size }) => plan(rt, &region, size),
+        Ok(Options::Check { region, size }) => check(rt, &region, size),
         Ok(Options::Show(text)) => show(rt, text.as_str()),
         Err(fault) => misread(rt, &fault),
     }

@@ -16,11 +16,12 @@ pub struct View {
     pub seen: u64,
 }
 
-/// The rule of the board: the word is the number that the publisher showed last, and nobody has seen a greater one.
+/// The rule that the board is kept to, whoever does what to it: the word is the number that the publisher showed last, only the publisher
+/// stores it, and nobody has seen a greater one. No value of it is made.
 pub struct BoardRule;
 
 impl TableRule<(), View, ()> for BoardRule {
-    ghost use Rattle.l4_board.specs.Inside.Board.{IsBoard, view};
+    ghost use Rattle.l4_board.specs.Board.{IsBoard, view};
     ghost use Rattle.std.specs.Prelude.{true};
 
     ghost holds = { λ _ s. IsBoard s };
@@ -32,7 +33,7 @@ impl TableRule<(), View, ()> for BoardRule {
 struct Begin;
 
 impl Play<(), View> for Begin {
-    ghost use Rattle.l4_board.specs.Inside.Board.{Begins};
+    ghost use Rattle.l4_board.specs.Board.{Begins};
 
     ghost then = { Begins };
 }
@@ -41,7 +42,7 @@ impl Play<(), View> for Begin {
 struct Publish;
 
 impl Play<(), View> for Publish {
-    ghost use Rattle.l4_board.specs.Inside.Board.{Publishes};
+    ghost use Rattle.l4_board.specs.Board.{Publishes};
 
     ghost then = { Publishes };
 }
@@ -50,7 +51,7 @@ impl Play<(), View> for Publish {
 struct Look;
 
 impl Play<(), View> for Look {
-    ghost use Rattle.l4_board.specs.Inside.Board.{Looks};
+    ghost use Rattle.l4_board.specs.Board.{Looks};
 
     ghost then = { Looks };
 }

@@ -3,4 +3,4 @@
 
 mod board;
 
-pub use board::{Board, Publisher, Watch};
+pub use board::{Board, BoardRule, Publisher, View, Watch};

@@ -1,7 +1,5 @@
+pub mod Bytes
 pub mod Following
-pub mod Forms
-pub mod Handles
-pub mod Holding
 pub mod Lists
+pub mod Placing
 pub mod Starting
-pub mod Values

@@ -1,11 +1,7 @@
 -- Calls that were started, as they are told.
-use Rattle.std.proofs.Common.{◌≡◌, ◌≢◌, ℕ, Bool, false, List, Some, Result, Ok, Err, refl, sym, ap, ◌∙◌, inl, inr, subst, arith}
+use Rattle.std.proofs.Common.{◌≡◌, ℕ, List, Some, Ok, Err, refl, sym, ap, ◌∙◌, inl, inr, subst, arith}
 use Rattle.l4_ipc.specs.Machine.{Machine}
-use Rattle.l4_ipc.specs.OwnCall.{answered_if, is_delete, Enters}
 use Rattle.l4_ipc.specs.Steps.{Steps}
-use Rattle.l4_ipc.specs.declared.calls.Call.{Call}
-use Rattle.l4_ipc.specs.declared.calls.Call.TheVariants.{Ipc, Fault, Unmap as UnmapCall, Control}
-use Rattle.l4_ipc.specs.declared.calls.Control.TheVariants.{Create, SetPager, Delete}
 use Rattle.l4_ipc.specs.declared.steps.Refused.{Refused}
 use Rattle.l4_ipc.specs.declared.steps.Refused.TheVariants.{NotEnabled, UnknownThread, Busy, BadTimeout, Lower, BadFrames}
 use Rattle.l4_ipc.specs.declared.steps.Lower.TheVariants.{Message, Unmap, Thread, NoMemory}
@@ -15,9 +11,7 @@ use Rattle.l4_msg.specs.declared.messages.MsgFault.TheVariants.{TooManyWords, Od
 use Rattle.l4_threads.specs.declared.ThreadFault.TheVariants.{NoPrivilege, BadId, Taken, Unknown, Full, Kept}
 use Rattle.l4_answers.specs.Refusals.{kernel_refusal}
 use Rattle.l4_refusals.specs.Texts.{spelled}
-use Rattle.l4_c.specs.Called.{IsCall}
 use Rattle.l4_c.specs.Exports.{Starts, Follows, Goes}
-use Rattle.l4_c.specs.Told.{step_result}
 use Rattle.l4_c.specs.declared.calls.CallGiven.{CallGiven}
 use Rattle.l4_c.specs.declared.results.NextResult.{NextResult}
 use Rattle.l4_c.specs.declared.results.StepResult.{StepResult}
@@ -66,20 +60,3 @@ goes_nowhere old new thread g words places start (inl kind) refused = inl (kind.
 goes_nowhere old new thread g words places start (inr (call, is, (Ok answer, after, steps, told, held))) refused = absurd (refused (ap (λ (r : StepResult). r.refusal) told))
 goes_nowhere old new thread g words places start (inr (call, is, (Err e, after, steps, told, held))) refused =
     inr (call, is, inl (e, subst (λ (m : Machine). Steps old (Start thread call) (Err e) m) (sym (some_is new after held)) steps, ap (λ (r : StepResult). record { start = r; step_count = 0 }) told, refl))
-
--- a call of another kind is no Delete
-pub no_delete : (g : CallGiven) (words : List ℕ) (call : Call) → IsCall g words call → g.kind ≢ 6 → is_delete call ≡ false
-no_delete g words (Ipc call) is other = refl
-no_delete g words (Fault call) is other = refl
-no_delete g words (UnmapCall call) is other = refl
-no_delete g words (Control (Create c)) is other = refl
-no_delete g words (Control (SetPager c)) is other = refl
-no_delete g words (Control (Delete id)) is other = absurd (other is.0)
-
--- a call of another kind that was entered is told as it started
-pub entered : (old new : Machine) (thread : ℕ) (g : CallGiven) (words : List ℕ) (call : Call) (given : Result Bool Refused) (r : StepResult)
-    → IsCall g words call → g.kind ≢ 6 → Enters (is_delete call) old thread call given new → r ≡ step_result (answered_if thread given)
-    → Starts (Some old) thread g words r (Some new)
-entered old new thread g words call given r is other enters told =
-    let steps : Steps old (Start thread call) (answered_if thread given) new = subst (λ (deletes : Bool). Enters deletes old thread call given new) (no_delete g words call is other) enters in
-    inr (call, is, (answered_if thread given, new, steps, told, refl))

@@ -1,5 +1,6 @@
 -- The answers to questions, as they are told to C (this profile's own).
 use Rattle.std.specs.Prelude.{◌≡◌, ◌⊎◌, ℕ, [], codes, Option, None, Some, length}
+use Rattle.l4_fpage.specs.Pages.{page_bytes}
 use Rattle.l4_fpage.specs.Rights.{bits_of}
 use Rattle.l4_threads.specs.Threads.{space_of}
 use Rattle.l4_threads.specs.declared.Reply.{Reply}
@@ -13,6 +14,7 @@ use Rattle.l4_ipc.specs.Machine.{Machine}
 use Rattle.l4_refusals.specs.Texts.{spelled}
 use Rattle.l4_c.specs.Told.{filled}
 use Rattle.l4_c.specs.declared.results.ReplyResult.{ReplyResult}
+use Rattle.l4_c.specs.declared.results.SizeResult.{SizeResult}
 use Rattle.l4_c.specs.declared.results.SpaceResult.{SpaceResult}
 use Rattle.l4_c.specs.declared.results.MappingResult.{MappingResult}
 use Rattle.l4_c.specs.declared.results.PageResult.{PageResult}
@@ -21,6 +23,11 @@ use Rattle.l4_c.specs.declared.results.PageResult.{PageResult}
 abbrev pub space_result : ℕ → Option ℕ → SpaceResult
 space_result code None = record { refusal = code; there = 0; space = 0 }
 space_result code (Some space) = record { refusal = code; there = 1; space = space }
+
+-- the bytes of a page of the kernel; an empty handle is refused (B1)
+abbrev pub TellsSize : Option Machine → SizeResult → Type 0
+TellsSize None r = r ≡ record { refusal = spelled (codes "B1"); page_bytes = 0 }
+TellsSize (Some m) r = r ≡ record { refusal = 0; page_bytes = page_bytes m.size }
 
 -- the space of a thread; an empty handle is refused (B1)
 abbrev pub TellsSpace : Option Machine → ℕ → SpaceResult → Type 0

@@ -1,6 +1,7 @@
 -- What calls from C do (this profile's own).
 use Rattle.std.specs.Prelude.{◌≡◌, ◌⊎◌, ℕ, ◌<◌, ◌≤◌, List, [], ◌∷◌, length, codes, Option, None, Some, Result, Ok, Err}
 use Rattle.l4_fpage.specs.Pages.{max_frames}
+use Rattle.l4_fpage.specs.declared.sizes.PageSize.{PageSize}
 use Rattle.l4_ipc.specs.Machine.{Machine, IsBoot}
 use Rattle.l4_ipc.specs.Steps.{Steps, IsNext, IsIdle}
 use Rattle.l4_ipc.specs.declared.calls.Call.{Call}
@@ -23,12 +24,12 @@ Answers None step r new = (r ≡ refusal_result (spelled (codes "B1")) 0) × (ne
 Answers (Some old) step r new =
     (given : Result Answer Refused) × (after : Machine) × Steps old step given after × (r ≡ step_result given) × (new ≡ Some after)
 
--- A handle that is empty holds a kernel as it boots from then on, or there was no memory for it or not 1 to 4,096 frames (K6).
--- One that holds a kernel keeps it (B2).
-abbrev pub Boots : Option Machine → ℕ → ℕ → Option Machine → Type 0
-Boots (Some old) frames number new = (number ≡ spelled (codes "B2")) × (new ≡ Some old)
-Boots None frames number new =
-    ((m : Machine) × (1 ≤ frames) × (frames ≤ max_frames) × IsBoot frames m × (number ≡ 0) × (new ≡ Some m))
+-- A handle that is empty holds a kernel as it boots with pages of this size from then on, or there was no memory for it or not 1 to 4,096
+-- frames (K6). One that holds a kernel keeps it (B2).
+abbrev pub Boots : Option Machine → PageSize → ℕ → ℕ → Option Machine → Type 0
+Boots (Some old) size frames number new = (number ≡ spelled (codes "B2")) × (new ≡ Some old)
+Boots None size frames number new =
+    ((m : Machine) × (1 ≤ frames) × (frames ≤ max_frames) × (m.size ≡ size) × IsBoot frames m × (number ≡ 0) × (new ≡ Some m))
     ⊎ (((frames ≡ 0) ⊎ (max_frames < frames)) × (number ≡ spelled (codes "K6")) × (new ≡ None))
     ⊎ ((1 ≤ frames) × (frames ≤ max_frames) × (number ≡ spelled (codes "NoMemory")) × (new ≡ None))
 

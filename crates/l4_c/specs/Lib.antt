@@ -1,7 +1,8 @@
 pub mod Asked
 pub mod Called
+pub mod Checked
 pub mod Exports
-pub mod Inside
+pub mod InBytes
 pub mod Planned
 pub mod Served
 pub mod Told

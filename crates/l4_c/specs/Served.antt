@@ -1,12 +1,13 @@
 -- The tables of pagers and of sigma0 as C has them (this profile's own).
-use Rattle.std.specs.Prelude.{◌≡◌, ◌⊎◌, ℕ, ◌<◌, ◌≤◌, List, [], ◌∷◌, ◌++◌, length, codes, Option, None, Some, MatchOption}
+use Rattle.std.specs.Prelude.{◌≡◌, ◌⊎◌, ℕ, ◌<◌, ◌≤◌, List, [], length, codes, Option, None, Some, MatchOption}
 use Rattle.std.specs.FinMap as fin
 use Rattle.l4_fpage.specs.Pages.{max_frames}
 use Rattle.l4_fpage.specs.Rights.{set_of_bits}
+use Rattle.l4_fpage.specs.declared.sizes.PageSize.{PageSize}
 use Rattle.l4_msg.specs.Messages.{MessageReads, MessageFails, message_words}
 use Rattle.l4_msg.specs.declared.messages.Message.{Message}
 use Rattle.l4_msg.specs.declared.messages.MsgFault.{MsgFault}
-use Rattle.l4_pager.specs.Regions.{CanAdd, AddFails, code_of, entry_for, source_of, Answers as AnswersByTable}
+use Rattle.l4_pager.specs.Regions.{Regions, no_entries, with_entry, CanAdd, AddFails, code_of, entry_for, source_of, Answers as AnswersByTable}
 use Rattle.l4_pager.specs.declared.regions.Entry.{Entry}
 use Rattle.l4_pager.specs.declared.regions.PagerRefusal.{PagerRefusal}
 use Rattle.l4_pager.specs.declared.regions.PagerRefusal.TheVariants.{NoRegion}
@@ -26,23 +27,23 @@ entry_refusal refusal = spelled (code_of refusal)
 abbrev pub entry_of : RegionGiven → Entry
 entry_of g = record { first = g.target; source = g.source; count = g.count; rights = set_of_bits g.rights }
 
--- a handle that is empty holds a table without an entry from then on, or there was no memory for it; one that holds a table keeps it (B2)
-abbrev pub MakesTable : Option (List Entry) → ℕ → Option (List Entry) → Type 0
-MakesTable (Some es) number new = (number ≡ spelled (codes "B2")) × (new ≡ Some es)
-MakesTable None number new = ((number ≡ 0) × (new ≡ Some [])) ⊎ ((number ≡ spelled (codes "NoMemory")) × (new ≡ None))
+-- a handle that is empty holds a table of pages of this size without an entry from then on, or there was no memory for it; one that holds a table keeps it (B2)
+abbrev pub MakesTable : Option Regions → PageSize → ℕ → Option Regions → Type 0
+MakesTable (Some t) size number new = (number ≡ spelled (codes "B2")) × (new ≡ Some t)
+MakesTable None size number new = ((number ≡ 0) × (new ≡ Some (no_entries size))) ⊎ ((number ≡ spelled (codes "NoMemory")) × (new ≡ None))
 
 -- the region is added at the end of the table, or it is refused and nothing changes
-abbrev pub Adds : Option (List Entry) → RegionGiven → ℕ → Option (List Entry) → Type 0
+abbrev pub Adds : Option Regions → RegionGiven → ℕ → Option Regions → Type 0
 Adds None g number new = (number ≡ spelled (codes "B1")) × (new ≡ None)
-Adds (Some es) g number new =
-    (CanAdd es (entry_of g) × (number ≡ 0) × (new ≡ Some (es ++ entry_of g ∷ [])))
-    ⊎ ((refusal : PagerRefusal) × AddFails es (entry_of g) refusal × (number ≡ entry_refusal refusal) × (new ≡ Some es))
+Adds (Some t) g number new =
+    (CanAdd t (entry_of g) × (number ≡ 0) × (new ≡ Some (with_entry t (entry_of g))))
+    ⊎ ((refusal : PagerRefusal) × AddFails t (entry_of g) refusal × (number ≡ entry_refusal refusal) × (new ≡ Some t))
 
 -- the source page of a page whose entry holds the access, or there is none (P2)
-abbrev pub FindsSource : Option (List Entry) → ℕ → ℕ → PageResult → Type 0
+abbrev pub FindsSource : Option Regions → ℕ → ℕ → PageResult → Type 0
 FindsSource None page access r = r ≡ no_page_result (spelled (codes "B1"))
-FindsSource (Some es) page access r =
-    MatchOption (entry_for es page (set_of_bits access)) (r ≡ no_page_result (entry_refusal NoRegion)) (λ e. r ≡ page_result (source_of e page))
+FindsSource (Some t) page access r =
+    MatchOption (entry_for t.entries page (set_of_bits access)) (r ≡ no_page_result (entry_refusal NoRegion)) (λ e. r ≡ page_result (source_of e page))
 
 -- a refusal with its number, and no word
 abbrev pub no_message_result : ℕ → ℕ → MessageResult
@@ -58,18 +59,18 @@ TellsUnread words r =
     (fault : MsgFault) × MessageFails words fault × (r ≡ no_message_result (spelled (message_refusal fault).name) (carried (message_refusal fault).number))
 
 -- the words are a message, which is answered by the table
-abbrev pub TellsTablesAnswer : Option (List Entry) → List ℕ → MessageResult → Type 0
+abbrev pub TellsTablesAnswer : Option Regions → List ℕ → MessageResult → Type 0
 TellsTablesAnswer None words r = r ≡ no_message_result (spelled (codes "B1")) 0
-TellsTablesAnswer (Some es) words r =
+TellsTablesAnswer (Some t) words r =
     TellsUnread words r
-    ⊎ ((m : Message) × MessageReads words m × (answer : Message) × AnswersByTable es m answer × (r ≡ message_result answer))
+    ⊎ ((m : Message) × MessageReads words m × (answer : Message) × AnswersByTable t m answer × (r ≡ message_result answer))
 
--- A handle that is empty holds a table of so many frames that nobody owns from then on, or there was no memory for it or not 1 to 4,096
--- frames (K6). One that holds a table keeps it (B2).
-abbrev pub MakesOwners : Option Owners → ℕ → ℕ → Option Owners → Type 0
-MakesOwners (Some old) frames number new = (number ≡ spelled (codes "B2")) × (new ≡ Some old)
-MakesOwners None frames number new =
-    ((1 ≤ frames) × (frames ≤ max_frames) × (number ≡ 0) × (new ≡ Some (record { frames = frames; owner = fin.empty })))
+-- A handle that is empty holds a table of so many frames of this size that nobody owns from then on, or there was no memory for it or not 1 to
+-- 4,096 frames (K6). One that holds a table keeps it (B2).
+abbrev pub MakesOwners : Option Owners → PageSize → ℕ → ℕ → Option Owners → Type 0
+MakesOwners (Some old) size frames number new = (number ≡ spelled (codes "B2")) × (new ≡ Some old)
+MakesOwners None size frames number new =
+    ((1 ≤ frames) × (frames ≤ max_frames) × (number ≡ 0) × (new ≡ Some (record { size = size; frames = frames; owner = fin.empty })))
     ⊎ (((frames ≡ 0) ⊎ (max_frames < frames)) × (number ≡ spelled (codes "K6")) × (new ≡ None))
     ⊎ ((1 ≤ frames) × (frames ≤ max_frames) × (number ≡ spelled (codes "NoMemory")) × (new ≡ None))
 

@@ -3,11 +3,12 @@ ghost use Rattle.std.specs.Prelude.{◌≡◌, None, Some, MatchOption};
 ghost use Rattle.l4_threads.specs.Threads.{space_of};
 ghost use Rattle.l4_mapdb.specs.Mappings.{shown};
 ghost use Rattle.l4_mapdb.specs.Places.{NonePresentFrom, IsNextPresent};
-ghost use Rattle.l4_c.specs.Asked.{TellsSpace, TellsMapping, TellsPage, space_result, no_mapping_result, mapping_result};
+ghost use Rattle.l4_c.specs.Asked.{TellsSpace, TellsSize, TellsMapping, TellsPage, space_result, no_mapping_result, mapping_result};
 
-use crate::kernels::KernelHandle;
 use crate::numbers::EMPTY;
-use crate::results::{MappingResult, PageResult, SpaceResult, no_page, page_told};
+use crate::results::{MappingResult, PageResult, SizeResult, SpaceResult, no_page, page_told};
+use crate::sizes::bytes_of;
+use l4_handles::KernelHandle;
 use l4_ipc::Mapping;
 use std::alloc::Global;
 
@@ -45,6 +46,26 @@ pub extern "C" fn l4_space_of(alloc: Global, handle: &mut KernelHandle, thread: 
     let found = kernel.space_of(thread);
     handle.put(kernel);
     space_told(found)
+}
+
+/// The size of the kernel's pages.
+#[unsafe(no_mangle)]
+pub extern "C" fn l4_page_size_of(alloc: Global, handle: &mut KernelHandle) -> SizeResult
+    ensures kept { handle.new.value ≡ handle.old.value }
+    ensures told { TellsSize handle.old.value result }
+{
+    let Some(kernel) = handle.take(alloc) else {
+        return SizeResult {
+            refusal: EMPTY,
+            page_bytes: 0,
+        };
+    };
+    let size = kernel.page_size();
+    handle.put(kernel);
+    SizeResult {
+        refusal: 0,
+        page_bytes: bytes_of(size),
+    }
 }
 
 /// A mapping.

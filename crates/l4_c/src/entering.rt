@@ -1,39 +1,25 @@
 //! Calls that are entered: their start, and the steps that come next.
-ghost use Rattle.std.specs.Prelude.{◌≡◌, ◌≤◌, ◌<◌, Ok, length, slice_set};
-ghost use Rattle.l4_ipc.specs.Machine.{Machine};
-ghost use Rattle.l4_ipc.specs.declared.steps.Answer.{Answer};
-ghost use Rattle.l4_ipc.specs.Steps.{Steps, IsNext};
+ghost use Rattle.std.specs.Prelude.{◌≡◌, ◌≤◌, ◌<◌, length, slice_set};
+ghost use Rattle.l4_ipc.specs.NextSteps.{step_of, answer_of};
 ghost use Rattle.l4_c.specs.Told.{done_result};
 ghost use Rattle.l4_c.specs.Exports.{Follows, Goes, Enters};
 
 use crate::calls::CallGiven;
-use crate::kernels::KernelHandle;
 use crate::numbers::EMPTY;
 use crate::results::{EnterResult, NextResult, done_told, refused};
 use crate::stepping::start;
-use l4_ipc::{Answer, Kernel, Step};
+use l4_handles::KernelHandle;
+use l4_ipc::{Kernel, NextStep};
 use std::alloc::Global;
 
 /// Writes down a step that was done, where there is room.
-fn note(steps: &mut [NextResult], at: u32, step: &Step, answer: &Answer)
-    requires { (old : Machine) × (new : Machine) × IsNext old step.now × Steps old step.now (Ok answer.now) new }
-    ensures there { at < length steps.old → steps.new ≡ slice_set steps.old at (done_result step.now answer.now) }
+fn note(steps: &mut [NextResult], at: u32, next: NextStep)
+    ensures there { at < length steps.old → steps.new ≡ slice_set steps.old at (done_result (step_of next) (answer_of next)) }
     ensures beyond { length steps.old ≤ at → steps.new ≡ steps.old }
 {
     let at = at as usize;
     if at < steps.len() {
-        steps[at] = done_told(step, answer);
-    }
-}
-
-/// Does the step that comes next, and writes it down where there is room.
-fn go_on(kernel: &mut Kernel, step: &Step, steps: &mut [NextResult], at: u32)
-    requires { IsNext kernel.old step.now }
-    ensures { (answer : Answer) × Steps kernel.old step.now (Ok answer) kernel.new
-        × (at < length steps.old → steps.new ≡ slice_set steps.old at (done_result step.now answer)) × (length steps.old ≤ at → steps.new ≡ steps.old) }
-{
-    if let Ok(answer) = &kernel.step(step) {
-        note(steps, at, step, answer);
+        steps[at] = done_told(next);
     }
 }
 
@@ -43,8 +29,8 @@ fn follow(kernel: &mut Kernel, steps: &mut [NextResult]) -> u32
 {
     kernel.law_consistent();
     let mut count = 0u32;
-    while let Some(step) = &kernel.next_enabled() {
-        go_on(kernel, step, steps, count);
+    while let Some(step) = kernel.next() {
+        note(steps, count, step);
         count += 1;
     }
     count

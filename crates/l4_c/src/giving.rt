@@ -1,18 +1,21 @@
 //! sigma0's tables.
-ghost use Rattle.std.specs.Prelude.{◌≡◌, None, Some};
+ghost use Rattle.std.specs.Prelude.{◌≡◌, None, Some, codes};
+ghost use Rattle.l4_fpage.specs.declared.sizes.PageSize.TheVariants.{Kib4};
+ghost use Rattle.l4_refusals.specs.Texts.{spelled};
+ghost use Rattle.l4_c.specs.InBytes.{InBytes};
 ghost use Rattle.l4_c.specs.Served.{MakesOwners, TellsSigma0sAnswer};
 
 use crate::messages::{MessageResult, message_told, no_message, unread};
-use crate::numbers::{BAD_FRAMES, EMPTY, HELD, NO_MEMORY};
-use crate::sigma0s::Sigma0Handle;
-use l4_ipc::Message;
+use crate::numbers::{BAD_FRAMES, EMPTY, HELD, NO_MEMORY, NO_SUCH_SIZE};
+use crate::sizes::size_of;
+use l4_handles::Sigma0Handle;
+use l4_ipc::{Message, PageSize};
 use l4_sigma0::{MAX_FRAMES, Sigma0};
 use std::alloc::Global;
 
-/// Makes a table of frames that nobody owns.
-#[unsafe(no_mangle)]
-pub extern "C" fn l4_sigma0_new(alloc: Global, handle: &mut Sigma0Handle, frames: u32) -> u32
-    ensures { MakesOwners handle.old.value frames result handle.new.value }
+/// Makes a table of frames of this size that nobody owns.
+fn make(alloc: Global, handle: &mut Sigma0Handle, size: PageSize, frames: u32) -> u32
+    ensures { MakesOwners handle.old.value size frames result handle.new.value }
 {
     if let Some(table) = handle.take(alloc) {
         handle.put(table);
@@ -21,12 +24,36 @@ pub extern "C" fn l4_sigma0_new(alloc: Global, handle: &mut Sigma0Handle, frames
     if frames == 0 || frames > MAX_FRAMES as u32 {
         return BAD_FRAMES;
     }
-    match Box::new(alloc, Sigma0::new(frames)) {
+    match Box::new(alloc, Sigma0::new(frames, size)) {
         Ok(table) => {
             handle.put(table);
             0
         }
         Err(_) => NO_MEMORY,
+    }
+}
+
+/// Makes a table of frames of 4,096 bytes that nobody owns.
+#[unsafe(no_mangle)]
+pub extern "C" fn l4_sigma0_new(alloc: Global, handle: &mut Sigma0Handle, frames: u32) -> u32
+    ensures { MakesOwners handle.old.value Kib4 frames result handle.new.value }
+{
+    make(alloc, handle, PageSize::Kib4, frames)
+}
+
+/// Makes a table of frames of so many bytes that nobody owns.
+#[unsafe(no_mangle)]
+pub extern "C" fn l4_sigma0_new_sized(
+    alloc: Global,
+    handle: &mut Sigma0Handle,
+    frames: u32,
+    page_bytes: u32,
+) -> u32
+    ensures { InBytes page_bytes (λ size. MakesOwners handle.old.value size frames result handle.new.value) ((result ≡ spelled (codes "B4")) × (handle.new.value ≡ handle.old.value)) }
+{
+    match size_of(page_bytes) {
+        Some(size) => make(alloc, handle, size, frames),
+        None => NO_SUCH_SIZE,
     }
 }
 

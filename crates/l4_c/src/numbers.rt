@@ -18,6 +18,9 @@ pub const HELD: u32 = 0x4232;
 /// B3: there is no such kind of call.
 pub const NO_SUCH_CALL: u32 = 0x4233;
 
+/// B4: a page has 4,096 or 1,024 bytes.
+pub const NO_SUCH_SIZE: u32 = 0x4234;
+
 /// K6: a machine has 1 to 4,096 frames.
 pub const BAD_FRAMES: u32 = 0x4b36;
 

@@ -1,22 +1,25 @@
 //! Handles are filled and emptied.
-ghost use Rattle.std.specs.Prelude.{◌≡◌, None};
+ghost use Rattle.std.specs.Prelude.{◌≡◌, None, codes};
+ghost use Rattle.l4_fpage.specs.declared.sizes.PageSize.TheVariants.{Kib4};
+ghost use Rattle.l4_refusals.specs.Texts.{spelled};
 ghost use Rattle.l4_c.specs.Exports.{Boots};
+ghost use Rattle.l4_c.specs.InBytes.{InBytes};
 
-use crate::kernels::KernelHandle;
-use crate::numbers::{HELD, NO_MEMORY, kernel_number};
-use l4_ipc::Kernel;
+use crate::numbers::{HELD, NO_MEMORY, NO_SUCH_SIZE, kernel_number};
+use crate::sizes::size_of;
+use l4_handles::KernelHandle;
+use l4_ipc::{Kernel, PageSize};
 use std::alloc::Global;
 
-/// Boots a kernel.
-#[unsafe(no_mangle)]
-pub extern "C" fn l4_boot(alloc: Global, handle: &mut KernelHandle, frames: u32) -> u32
-    ensures { Boots handle.old.value frames result handle.new.value }
+/// Boots a kernel with pages of this size.
+fn boot(alloc: Global, handle: &mut KernelHandle, size: PageSize, frames: u32) -> u32
+    ensures { Boots handle.old.value size frames result handle.new.value }
 {
     if let Some(kernel) = handle.take(alloc) {
         handle.put(kernel);
         return HELD;
     }
-    let kernel = match Kernel::boot(alloc, frames) {
+    let kernel = match Kernel::boot(alloc, frames, size) {
         Ok(kernel) => kernel,
         Err(refused) => return kernel_number(refused),
     };
@@ -26,6 +29,30 @@ pub extern "C" fn l4_boot(alloc: Global, handle: &mut KernelHandle, frames: u32)
             0
         }
         Err(_) => NO_MEMORY,
+    }
+}
+
+/// Boots a kernel with pages of 4,096 bytes.
+#[unsafe(no_mangle)]
+pub extern "C" fn l4_boot(alloc: Global, handle: &mut KernelHandle, frames: u32) -> u32
+    ensures { Boots handle.old.value Kib4 frames result handle.new.value }
+{
+    boot(alloc, handle, PageSize::Kib4, frames)
+}
+
+/// Boots a kernel with pages of so many bytes.
+#[unsafe(no_mangle)]
+pub extern "C" fn l4_boot_sized(
+    alloc: Global,
+    handle: &mut KernelHandle,
+    frames: u32,
+    page_bytes: u32,
+) -> u32
+    ensures { InBytes page_bytes (λ size. Boots handle.old.value size frames result handle.new.value) ((result ≡ spelled (codes "B4")) × (handle.new.value ≡ handle.old.value)) }
+{
+    match size_of(page_bytes) {
+        Some(size) => boot(alloc, handle, size, frames),
+        None => NO_SUCH_SIZE,
     }
 }
 

@@ -1,14 +1,18 @@
 //! Tables of pagers.
-ghost use Rattle.std.specs.Prelude.{◌≡◌, None, Some};
+ghost use Rattle.std.specs.Prelude.{◌≡◌, None, Some, codes};
+ghost use Rattle.l4_fpage.specs.declared.sizes.PageSize.TheVariants.{Kib4};
+ghost use Rattle.l4_refusals.specs.Texts.{spelled};
+ghost use Rattle.l4_c.specs.InBytes.{InBytes};
 ghost use Rattle.l4_c.specs.Served.{entry_refusal, MakesTable, Adds, FindsSource, TellsTablesAnswer};
 
 use crate::calls::rights;
 use crate::messages::{MessageResult, message_told, no_message, unread};
-use crate::numbers::{EMPTY, HELD, NO_MEMORY};
-use crate::pagers::PagerHandle;
+use crate::numbers::{EMPTY, HELD, NO_MEMORY, NO_SUCH_SIZE};
 use crate::regions::{RegionGiven, entry_of};
 use crate::results::{PageResult, no_page, page_told};
-use l4_ipc::Message;
+use crate::sizes::size_of;
+use l4_handles::PagerHandle;
+use l4_ipc::{Message, PageSize};
 use l4_pager::{PagerRefusal, RegionPager};
 use std::alloc::Global;
 
@@ -24,21 +28,43 @@ fn entry_number(refusal: PagerRefusal) -> u32
     }
 }
 
-/// Makes a table without a region.
-#[unsafe(no_mangle)]
-pub extern "C" fn l4_pager_new(alloc: Global, handle: &mut PagerHandle) -> u32
-    ensures { MakesTable handle.old.value result handle.new.value }
+/// Makes a table of pages of this size without a region.
+fn make(alloc: Global, handle: &mut PagerHandle, size: PageSize) -> u32
+    ensures { MakesTable handle.old.value size result handle.new.value }
 {
     if let Some(table) = handle.take(alloc) {
         handle.put(table);
         return HELD;
     }
-    match Box::new(alloc, RegionPager::new()) {
+    match Box::new(alloc, RegionPager::new(size)) {
         Ok(table) => {
             handle.put(table);
             0
         }
         Err(_) => NO_MEMORY,
+    }
+}
+
+/// Makes a table of pages of 4,096 bytes without a region.
+#[unsafe(no_mangle)]
+pub extern "C" fn l4_pager_new(alloc: Global, handle: &mut PagerHandle) -> u32
+    ensures { MakesTable handle.old.value Kib4 result handle.new.value }
+{
+    make(alloc, handle, PageSize::Kib4)
+}
+
+/// Makes a table of pages of so many bytes without a region.
+#[unsafe(no_mangle)]
+pub extern "C" fn l4_pager_new_sized(
+    alloc: Global,
+    handle: &mut PagerHandle,
+    page_bytes: u32,
+) -> u32
+    ensures { InBytes page_bytes (λ size. MakesTable handle.old.value size result handle.new.value) ((result ≡ spelled (codes "B4")) × (handle.new.value ≡ handle.old.value)) }
+{
+    match size_of(page_bytes) {
+        Some(size) => make(alloc, handle, size),
+        None => NO_SUCH_SIZE,
     }
 }
 

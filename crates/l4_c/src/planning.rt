@@ -1,144 +1,210 @@
-//! Plans of regions, and checks of plans.
+//! Plans of regions.
 ghost use Rattle.std.specs.Prelude.{◌≡◌, ◌≤◌, [], length, codes};
+ghost use Rattle.l4_fpage.specs.declared.sizes.PageSize.TheVariants.{Kib4};
 ghost use Rattle.l4_refusals.specs.Texts.{spelled};
-ghost use Rattle.l4_c.specs.Planned.{region_of, told_place, plan_result, PlanIsTold, TellsPlan, verdict_of, fault_verdict, TellsCheck, TellsLongCheck};
+ghost use Rattle.l4_c.specs.InBytes.{InBytes};
+ghost use Rattle.l4_c.specs.Planned.{region_of, plan_result, part_result, PartIsTold, TellsPlan, TellsPart, placed, TellsPages};
 
-use crate::numbers::{message_detail, message_number};
+use crate::numbers::NO_SUCH_SIZE;
 use crate::regions::{RegionGiven, region_of};
 use crate::results::padded;
-use l4_ipc::{MAX_WORDS, Message};
-use l4_msg::TOO_MANY;
-use l4_plan::{Plan, PlanRefusal, plan};
-use l4_plan_check::{Fault, Proved, check, check_too_long};
+use crate::sizes::size_of;
+use l4_ipc::{MAX_WORDS, PageSize};
+use l4_msg::MAX_ITEMS;
+use l4_plan::{Pages, Plan, PlanRefusal, plan};
 
-/// A plan.
+/// How many items a plan has, and how many messages send them.
 #[repr(C)]
 #[derive(Clone, Copy)]
 pub struct PlanResult {
     pub refusal: u32,
+    pub items: u32,
+    pub messages: u32,
+}
+
+/// A message of a plan.
+#[repr(C)]
+#[derive(Clone, Copy)]
+pub struct PartResult {
+    pub refusal: u32,
+    pub messages: u32,
     pub word_count: u32,
     pub page_count: u32,
     pub words: [u32; MAX_WORDS],
-    pub pages: [u32; TOO_MANY],
+    pub pages: [u32; MAX_ITEMS],
 }
 
-/// Why a claim about a region doesn't hold.
-#[repr(C)]
-#[derive(Clone, Copy)]
-pub struct Verdict {
-    pub refusal: u32,
-    pub detail: u32,
-}
-
-/// No plan, for this refusal.
-fn no_plan(refusal: u32) -> PlanResult
-    ensures { result ≡ plan_result refusal [] [] }
+/// A plan of so many items, in so many messages, or why there is none.
+fn plan_result(refusal: u32, items: u32, messages: u32) -> PlanResult
+    ensures { result ≡ plan_result refusal items messages }
 {
     PlanResult {
         refusal,
+        items,
+        messages,
+    }
+}
+
+/// The shortest plan of a region of pages of this size.
+fn planned(given: &RegionGiven, size: PageSize) -> PlanResult
+    ensures { TellsPlan size (region_of given.now) result }
+{
+    match plan(&region_of(given), size) {
+        Ok(plan) => plan_result(0, plan.len() as u32, plan.messages()),
+        Err(PlanRefusal::Empty) => plan_result(0x4e31, 0, 0),
+        Err(PlanRefusal::OutOfSpace) => plan_result(0x4e32, 0, 0),
+        Err(PlanRefusal::NoRights) => plan_result(0x4e33, 0, 0),
+        Err(PlanRefusal::TooLong(_)) => plan_result(0x4e34, 0, 0),
+        Err(PlanRefusal::Several(_)) => plan_result(0x4e35, 0, 0),
+        Err(PlanRefusal::NoPart(_)) => plan_result(0x4e36, 0, 0),
+    }
+}
+
+/// The shortest plan of a region of pages of 4,096 bytes.
+#[unsafe(no_mangle)]
+pub extern "C" fn l4_plan_region(given: &RegionGiven) -> PlanResult
+    ensures { TellsPlan Kib4 (region_of given.now) result }
+{
+    planned(given, PageSize::Kib4)
+}
+
+/// The shortest plan of a region of pages of so many bytes.
+#[unsafe(no_mangle)]
+pub extern "C" fn l4_plan_region_sized(given: &RegionGiven, page_bytes: u32) -> PlanResult
+    ensures { InBytes page_bytes (λ size. TellsPlan size (region_of given.now) result) (result ≡ plan_result (spelled (codes "B4")) 0 0) }
+{
+    match size_of(page_bytes) {
+        Some(size) => planned(given, size),
+        None => plan_result(NO_SUCH_SIZE, 0, 0),
+    }
+}
+
+/// No message, for this refusal, of a plan of so many.
+fn no_part(refusal: u32, messages: u32) -> PartResult
+    ensures { result ≡ part_result refusal messages [] [] }
+{
+    PartResult {
+        refusal,
+        messages,
         word_count: 0,
         page_count: 0,
         words: [0; MAX_WORDS],
-        pages: [0; TOO_MANY],
+        pages: [0; MAX_ITEMS],
     }
 }
 
-/// The words and the pages of a plan.
-fn plan_told(plan: &Plan) -> PlanResult
-    ensures { PlanIsTold plan.now result }
+/// The words and the pages of the message with this number of a plan.
+fn part_told(plan: &Plan, number: u32) -> PartResult
+    ensures { PartIsTold plan.now number result }
 {
-    plan.law_kept();
-    let words = plan.message().write();
-    PlanResult {
-        refusal: 0,
-        word_count: words.len() as u32,
-        page_count: plan.pages().len() as u32,
-        words: padded(words.as_slice()),
-        pages: padded(plan.pages()),
-    }
-}
-
-/// The 32 pages that show that each list is too long.
-fn too_long(pages: &[u32]) -> PlanResult
-    requires { length pages.now ≤ 32 }
-    ensures { result ≡ plan_result (spelled (codes "N4")) [] pages.now }
-{
-    let mut told = no_plan(0x4e34);
-    told.page_count = pages.len() as u32;
-    told.pages = padded(pages);
-    told
-}
-
-/// The shortest plan of a region.
-#[unsafe(no_mangle)]
-pub extern "C" fn l4_plan_region(given: &RegionGiven) -> PlanResult
-    ensures { TellsPlan (region_of given.now) result }
-{
-    match plan(&region_of(given)) {
-        Ok(plan) => plan_told(&plan),
-        Err(PlanRefusal::Empty) => no_plan(0x4e31),
-        Err(PlanRefusal::OutOfSpace) => no_plan(0x4e32),
-        Err(PlanRefusal::NoRights) => no_plan(0x4e33),
-        Err(PlanRefusal::TooLong(pages)) => too_long(pages.as_slice()),
-    }
-}
-
-/// A place from 0.
-fn place(at: usize) -> u32
-    ensures { result ≡ told_place at }
-{
-    if at <= 0xffff_ffff {
-        at as u32
-    } else {
-        0xffff_ffff
-    }
-}
-
-/// A refusal of a claim, or none.
-fn verdict_of(refusal: u32, detail: u32) -> Verdict
-    ensures { result ≡ verdict_of refusal detail }
-{
-    Verdict { refusal, detail }
-}
-
-/// A fault of a plan.
-fn fault_told(fault: Fault) -> Verdict
-    ensures { result ≡ fault_verdict fault }
-{
-    match fault {
-        Fault::Region => verdict_of(0x4336, 0),
-        Fault::Item(i) => verdict_of(0x4331, place(i)),
-        Fault::Gap(page) => verdict_of(0x4332, page),
-        Fault::Count => verdict_of(0x4335, 0),
-        Fault::Page(i) => verdict_of(0x4333, place(i)),
-        Fault::Pair(i) => verdict_of(0x4334, place(i)),
-    }
-}
-
-/// Checks a plan of a region.
-#[unsafe(no_mangle)]
-pub extern "C" fn l4_check_plan(given: &RegionGiven, words: &[u32], pages: &[u32]) -> Verdict
-    ensures { TellsCheck (region_of given.now) words.now pages.now result }
-{
-    let message = match Message::read(words) {
-        Ok(message) => message,
-        Err(fault) => {
-            return verdict_of(message_number(fault), message_detail(fault));
-        }
+    let messages = plan.messages();
+    let Ok(message) = plan.message(number) else {
+        return no_part(0x4e36, messages);
     };
-    match check(&region_of(given), message.items.as_slice(), pages) {
-        Ok(Proved) => verdict_of(0, 0),
-        Err(fault) => fault_told(fault),
+    let words = message.write();
+    let pages = plan.pages_of(number);
+    PartResult {
+        refusal: 0,
+        messages,
+        word_count: words.len() as u32,
+        page_count: pages.len() as u32,
+        words: padded(words.as_slice()),
+        pages: padded(pages.as_slice()),
     }
 }
 
-/// Checks that each list of map items is too long.
-#[unsafe(no_mangle)]
-pub extern "C" fn l4_check_too_long(given: &RegionGiven, pages: &[u32]) -> Verdict
-    ensures { TellsLongCheck (region_of given.now) pages.now result }
+/// A message of the shortest plan of a region of pages of this size.
+fn part(given: &RegionGiven, size: PageSize, number: u32) -> PartResult
+    ensures { TellsPart size (region_of given.now) number result }
 {
-    match check_too_long(&region_of(given), pages) {
-        Ok(Proved) => verdict_of(0, 0),
-        Err(fault) => fault_told(fault),
+    match plan(&region_of(given), size) {
+        Ok(plan) => part_told(&plan, number),
+        Err(PlanRefusal::Empty) => no_part(0x4e31, 0),
+        Err(PlanRefusal::OutOfSpace) => no_part(0x4e32, 0),
+        Err(PlanRefusal::NoRights) => no_part(0x4e33, 0),
+        Err(PlanRefusal::TooLong(_)) => no_part(0x4e34, 0),
+        Err(PlanRefusal::Several(_)) => no_part(0x4e35, 0),
+        Err(PlanRefusal::NoPart(_)) => no_part(0x4e36, 0),
+    }
+}
+
+/// A message, by its number from 0, of the shortest plan of a region of pages of 4,096 bytes.
+#[unsafe(no_mangle)]
+pub extern "C" fn l4_plan_message(given: &RegionGiven, number: u32) -> PartResult
+    ensures { TellsPart Kib4 (region_of given.now) number result }
+{
+    part(given, PageSize::Kib4, number)
+}
+
+/// A message, by its number from 0, of the shortest plan of a region of pages of so many bytes.
+#[unsafe(no_mangle)]
+pub extern "C" fn l4_plan_message_sized(
+    given: &RegionGiven,
+    number: u32,
+    page_bytes: u32,
+) -> PartResult
+    ensures { InBytes page_bytes (λ size. TellsPart size (region_of given.now) number result) (result ≡ part_result (spelled (codes "B4")) 0 [] []) }
+{
+    match size_of(page_bytes) {
+        Some(size) => part(given, size, number),
+        None => no_part(NO_SUCH_SIZE, 0),
+    }
+}
+
+/// Writes pages, as many as there is room for, and says how many there are.
+fn write_pages(pages: Pages, out: &mut [u32]) -> u32
+    requires { length pages ≤ 1985 }
+    ensures count { result ≡ length pages }
+    ensures written { out.new ≡ placed pages out.old }
+{
+    let count = pages.len() as u32;
+    let room = out.len();
+    let mut at = 0;
+    for page in pages {
+        if at >= room {
+            return count;
+        }
+        out[at] = page;
+        at += 1;
+    }
+    count
+}
+
+/// The first source pages of the items of the shortest plan of a region of pages of this size, or those that show that each list is too
+/// long.
+fn pages(given: &RegionGiven, size: PageSize, out: &mut [u32]) -> u32
+    ensures told { TellsPages size (region_of given.now) out.old out.new result }
+    ensures room { length out.new ≡ length out.old }
+{
+    match plan(&region_of(given), size) {
+        Ok(plan) => write_pages(plan.pages(), out),
+        Err(PlanRefusal::TooLong(pages)) => write_pages(pages, out),
+        Err(PlanRefusal::Empty) => 0,
+        Err(PlanRefusal::OutOfSpace) => 0,
+        Err(PlanRefusal::NoRights) => 0,
+        Err(PlanRefusal::Several(_)) => 0,
+        Err(PlanRefusal::NoPart(_)) => 0,
+    }
+}
+
+/// The first source pages of the items of the shortest plan of a region of pages of 4,096 bytes, or those that show that each list is too
+/// long.
+#[unsafe(no_mangle)]
+pub extern "C" fn l4_plan_pages(given: &RegionGiven, out: &mut [u32]) -> u32
+    ensures told { TellsPages Kib4 (region_of given.now) out.old out.new result }
+    ensures room { length out.new ≡ length out.old }
+{
+    pages(given, PageSize::Kib4, out)
+}
+
+/// The same of a region of pages of so many bytes.
+#[unsafe(no_mangle)]
+pub extern "C" fn l4_plan_pages_sized(given: &RegionGiven, out: &mut [u32], page_bytes: u32) -> u32
+    ensures told { InBytes page_bytes (λ size. TellsPages size (region_of given.now) out.old out.new result) ((result ≡ 0) × (out.new ≡ out.old)) }
+    ensures room { length out.new ≡ length out.old }
+{
+    match size_of(page_bytes) {
+        Some(size) => pages(given, size, out),
+        None => 0,
     }
 }

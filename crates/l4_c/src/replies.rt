@@ -3,9 +3,9 @@ ghost use Rattle.std.specs.Prelude.{◌≡◌, None, Some};
 ghost use Rattle.l4_threads.specs.declared.Reply.TheVariants.{Ipc};
 ghost use Rattle.l4_c.specs.Asked.{plain_result, reply_result, TellsReply};
 
-use crate::kernels::KernelHandle;
 use crate::numbers::EMPTY;
 use crate::results::{ReplyResult, padded};
+use l4_handles::KernelHandle;
 use l4_ipc::{IpcReply, MAX_WORDS, Reply};
 use std::alloc::Global;
 

@@ -1,13 +1,11 @@
 //! What calls give to C.
-ghost use Rattle.std.specs.Prelude.{◌≡◌, ◌≤◌, Ok, length};
-ghost use Rattle.l4_ipc.specs.Machine.{Machine};
-ghost use Rattle.l4_ipc.specs.Steps.{Steps, IsNext};
-ghost use Rattle.l4_ipc.specs.OwnCall.{answered_if};
+ghost use Rattle.std.specs.Prelude.{◌≡◌, ◌≤◌, length};
+ghost use Rattle.l4_ipc.specs.NextSteps.{step_of, answer_of};
 ghost use Rattle.l4_c.specs.Asked.{no_page_result, page_result};
-ghost use Rattle.l4_c.specs.Told.{filled, refusal_result, answer_result, step_result, no_step_result, next_result, done_result};
+ghost use Rattle.l4_c.specs.Told.{filled, outcome_number, refusal_result, answer_result, step_result, no_step_result, next_result, done_result};
 
 use crate::numbers::{kernel_detail, kernel_number, outcome_number};
-use l4_ipc::{Answer, MAX_THREADS, MAX_WORDS, Outcome, Refused, Step};
+use l4_ipc::{Answer, MAX_THREADS, MAX_WORDS, NextStep, Outcome, Refused, Step};
 
 /// What a step did, or why it was refused.
 #[repr(C)]
@@ -61,6 +59,14 @@ pub struct SpaceResult {
     pub refusal: u32,
     pub there: u32,
     pub space: u64,
+}
+
+/// The size of a kernel's pages.
+#[repr(C)]
+#[derive(Clone, Copy)]
+pub struct SizeResult {
+    pub refusal: u32,
+    pub page_bytes: u32,
 }
 
 /// What a page shows.
@@ -155,31 +161,48 @@ pub fn step_told(step: &Step) -> NextResult
     told
 }
 
-/// A step that came next, and what it did.
-pub fn done_told(step: &Step, answer: &Answer) -> NextResult
-    requires { (old : Machine) × (new : Machine) × IsNext old step.now × Steps old step.now (Ok answer.now) new }
-    ensures { result ≡ done_result step.now answer.now }
+/// A transfer that came next, with what it did and whose calls ended in it.
+fn transfer_told(
+    sender: u32,
+    receiver: u32,
+    outcome: Outcome,
+    ended_count: u32,
+    ended: [u32; 2],
+) -> NextResult
+    ensures { result ≡ record { refusal = 0; kind = 1; thread = sender; receiver = receiver; outcome = outcome_number outcome; ended_count = ended_count; ended = ended } }
 {
-    let mut told = step_told(step);
-    told.outcome = outcome_number(answer.outcome);
-    told.ended_count = answer.ended.len() as u32;
-    told.ended = first_two(answer.ended.as_slice());
-    told
+    NextResult {
+        refusal: 0,
+        kind: 1,
+        thread: sender,
+        receiver,
+        outcome: outcome_number(outcome),
+        ended_count,
+        ended,
+    }
 }
 
-/// At most two numbers, and 0 after them. They are read by fixed places, so that no list of them is copied.
-#[inline(always)]
-fn first_two(numbers: &[u32]) -> [u32; 2]
-    requires { length numbers.now ≤ 2 }
-    ensures { result ≡ filled 2 numbers.now }
+/// A step that came next, and what it did.
+pub fn done_told(next: NextStep) -> NextResult
+    ensures { result ≡ done_result (step_of next) (answer_of next) }
 {
-    if numbers.len() == 2 {
-        return [numbers[0], numbers[1]];
+    match next {
+        NextStep::Transfer(sender, receiver, outcome, true) => {
+            transfer_told(sender, receiver, outcome, 2, [sender, receiver])
+        }
+        NextStep::Transfer(sender, receiver, outcome, false) => {
+            transfer_told(sender, receiver, outcome, 1, [receiver, 0])
+        }
+        NextStep::Expire(thread) => NextResult {
+            refusal: 0,
+            kind: 2,
+            thread,
+            receiver: 0,
+            outcome: outcome_number(Outcome::Expired),
+            ended_count: 1,
+            ended: [thread, 0],
+        },
     }
-    if numbers.len() == 1 {
-        return [numbers[0], 0];
-    }
-    [0, 0]
 }
 
 /// The numbers, and 0 after them.
@@ -205,25 +228,6 @@ pub fn answered(answer: &Answer) -> StepResult
         ended_count: answer.ended.len() as u32,
         ended: padded(answer.ended.as_slice()),
     }
-}
-
-/// A call that was started, which has ended or hasn't, and no other call has.
-#[inline(always)]
-pub fn started_told(ends: bool, thread: u32) -> StepResult
-    ensures { result ≡ step_result (answered_if thread (Ok ends)) }
-{
-    let mut told = StepResult {
-        refusal: 0,
-        detail: 0,
-        outcome: outcome_number(Outcome::Started),
-        ended_count: 0,
-        ended: [0; MAX_THREADS],
-    };
-    if ends {
-        told.ended_count = 1;
-        told.ended[0] = thread;
-    }
-    told
 }
 
 /// What a step gave.

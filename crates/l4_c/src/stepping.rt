@@ -2,16 +2,16 @@
 ghost use Rattle.std.specs.Prelude.{◌≡◌, None, Some, MatchOption};
 ghost use Rattle.l4_ipc.specs.Machine.{Machine};
 ghost use Rattle.l4_ipc.specs.Steps.{Steps};
-ghost use Rattle.l4_ipc.specs.declared.steps.Step.TheVariants.{Transfer, Expire};
+ghost use Rattle.l4_ipc.specs.declared.steps.Step.TheVariants.{Start, Transfer, Expire};
 ghost use Rattle.l4_c.specs.Exports.{Answers, Starts, Names, GoesOn};
 
 use crate::calls::{CallGiven, DELETE, delete, write_call};
-use crate::kernels::KernelHandle;
 use crate::numbers::{EMPTY, NO_SUCH_CALL, kernel_detail, kernel_number};
 use crate::results::{
-    NextResult, StepResult, done_told, no_step, refused, started_told, step_told, told,
+    NextResult, StepResult, answered, done_told, no_step, refused, step_told, told,
 };
-use l4_ipc::{ArrayVec, Call, IpcCall, Kernel, Step, ThreadId};
+use l4_handles::KernelHandle;
+use l4_ipc::{Answer, ArrayVec, Call, IpcCall, Kernel, Outcome, Step, ThreadId};
 use std::alloc::Global;
 
 /// Does a step of the kernel that the handle holds.
@@ -47,13 +47,18 @@ pub extern "C" fn l4_expire(alloc: Global, handle: &mut KernelHandle, thread: u3
     step(alloc, handle, &Step::Expire(thread))
 }
 
-/// Starts a Delete, which ends any number of calls.
-fn start_delete(kernel: &mut Kernel, thread: u32, given: &CallGiven, words: &[u32]) -> StepResult
-    requires { given.now.kind ≡ 6 }
-    ensures { Starts (Some kernel.old) thread given.now words.now result (Some kernel.new) }
+/// Starts this call of a thread.
+fn start_call(kernel: &mut Kernel, thread: u32, call: &Call) -> StepResult
+    ensures { Answers (Some kernel.old) (Start thread call.now) result (Some kernel.new) }
 {
-    let call = delete(given, words);
-    told(&kernel.start(thread, &call))
+    let mut answer = Answer {
+        outcome: Outcome::Started,
+        ended: ArrayVec::new(),
+    };
+    match kernel.start(thread, call, &mut answer) {
+        Ok(()) => answered(&answer),
+        Err(e) => refused(kernel_number(e), kernel_detail(e)),
+    }
 }
 
 /// Starts a call of a thread.
@@ -62,7 +67,7 @@ pub fn start(kernel: &mut Kernel, thread: u32, given: &CallGiven, words: &[u32])
     ensures { Starts (Some kernel.old) thread given.now words.now result (Some kernel.new) }
 {
     if given.kind == DELETE {
-        return start_delete(kernel, thread, given, words);
+        return start_call(kernel, thread, &delete(given, words));
     }
     let mut call = Call::Ipc(IpcCall {
         to: ThreadId(0),
@@ -74,10 +79,7 @@ pub fn start(kernel: &mut Kernel, thread: u32, given: &CallGiven, words: &[u32])
     if !write_call(&mut call, given, words) {
         return refused(NO_SUCH_CALL, 0);
     }
-    match kernel.enter(thread, &call) {
-        Ok(ends) => started_told(ends, thread),
-        Err(e) => refused(kernel_number(e), kernel_detail(e)),
-    }
+    start_call(kernel, thread, &call)
 }
 
 /// Starts a call of a thread.
@@ -124,10 +126,10 @@ pub extern "C" fn l4_next(alloc: Global, handle: &mut KernelHandle) -> NextResul
     let Some(mut kernel) = handle.take(alloc) else {
         return no_step(EMPTY);
     };
-    let done = kernel.step_next();
+    let done = kernel.next();
     handle.put(kernel);
     match done {
-        Some((step, answer)) => done_told(&step, &answer),
+        Some(next) => done_told(next),
         None => no_step(0),
     }
 }

@@ -3,7 +3,9 @@
 //! It makes other calls of the library too, as its users do: a function that one place alone calls becomes a part of that place, and costs less there.
 #![tactic(auto)]
 
-use l4_ipc::{ArrayVec, Call, IpcCall, Kernel, MAX_THREADS, Outcome, Step, ThreadId};
+use l4_ipc::{
+    ArrayVec, Call, IpcCall, Kernel, MAX_THREADS, NextStep, Outcome, PageSize, Step, ThreadId,
+};
 use l4_msg::copied;
 use l4_pager::brought;
 use std::io;
@@ -53,10 +55,10 @@ fn enter(kernel: &mut Kernel, thread: u32, call: Call) -> u32 {
     }
     let mut delivered = 0;
     for step in 0..MAX_THREADS as u32 {
-        let Some((_, answer)) = kernel.step_next() else {
+        let Some(next) = kernel.next() else {
             break;
         };
-        if answer.outcome == Outcome::Done {
+        if matches!(next, NextStep::Transfer(_, _, Outcome::Done, _)) {
             delivered = step + 1;
         }
     }
@@ -85,7 +87,7 @@ fn last_words(kernel: &Kernel) -> usize {
 }
 
 fn main(rt: HostRuntime) -> io::Result<ExitCode> {
-    let Ok(mut kernel) = Kernel::boot(rt.alloc(), FRAMES) else {
+    let Ok(mut kernel) = Kernel::boot(rt.alloc(), FRAMES, PageSize::Kib4) else {
         return Ok(ExitCode::from(1));
     };
     let delivered = enter_all(&mut kernel);

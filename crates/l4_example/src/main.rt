@@ -3,18 +3,20 @@
 #![tactic(auto)]
 
 use l4_ipc::{
-    ArrayVec, Block, Call, Fpage, Kernel, MAX_WORDS, Message, Refused, Rights, Step, ThreadId,
-    Timeout,
+    Block, Call, Fpage, Kernel, Message, PageSize, Refused, Rights, Step, ThreadId, Timeout,
 };
 use l4_msg::Region;
 use l4_pager::{Entry, RegionPager, answering, brought, wait};
-use l4_plan::{Plan, plan};
+use l4_plan::plan;
 use l4_plan_check::{Proved, check};
 use std::io;
 use std::process::ExitCode;
 
 /// The page frames of the machine.
 const FRAMES: u32 = 64;
+
+/// The size of its pages and frames.
+const SIZE: PageSize = PageSize::Kib4;
 
 /// The number of root, which may create threads.
 const ROOT: u32 = 2;
@@ -59,7 +61,7 @@ fn step(kernel: &mut Kernel, step: &Step) -> Result<(), Stop> {
 
 /// Does the step that comes next.
 fn go_on(kernel: &mut Kernel) -> Result<(), Stop> {
-    match kernel.step_next() {
+    match kernel.next() {
         Some(_) => Ok(()),
         None => Err(Stop::NothingEnabled),
     }
@@ -72,23 +74,22 @@ fn create(kernel: &mut Kernel, number: u32, pager: &Party) -> Result<Party, Stop
     Ok(Party { number, id })
 }
 
-/// The message registers that send a plan's items.
-fn words_of(plan: &Plan) -> ArrayVec<u32, MAX_WORDS> {
-    plan.message().write()
-}
-
 /// Lets a thread hand a region of its pages to another, by the shortest message that does it.
 fn delegate(kernel: &mut Kernel, from: &Party, to: &Party, region: &Region) -> Result<(), Stop> {
-    let Ok(plan) = plan(region) else {
+    let Ok(plan) = plan(region, SIZE) else {
         return Err(Stop::NoPlan);
     };
-    let Ok(Proved) = check(region, plan.items(), plan.pages()) else {
+    let Ok(message) = plan.only() else {
+        return Err(Stop::NoPlan);
+    };
+    let pages = plan.pages_of(0);
+    let Ok(Proved) = check(region, SIZE, message.items.as_slice(), pages.as_slice()) else {
         return Err(Stop::NotProved);
     };
     let window = Fpage::Complete(Rights::all());
     let receive = Call::receive(from.id, window, Timeout::Never);
     step(kernel, &Step::Start(to.number, receive))?;
-    let send = Call::send(to.id, words_of(&plan), Timeout::Never);
+    let send = Call::send(to.id, message.write(), Timeout::Never);
     step(kernel, &Step::Start(from.number, send))?;
     go_on(kernel)
 }
@@ -133,7 +134,7 @@ fn show(rt: &impl Print, kernel: &Kernel, party: &Party) -> io::Result<()> {
 
 /// A pager's table of one region: pages 8 to 11 are its own pages 16 to 19, to be read.
 fn table() -> Result<RegionPager, Stop> {
-    let mut regions = RegionPager::new();
+    let mut regions = RegionPager::new(SIZE);
     let region = Entry {
         first: 8,
         source: 16,
@@ -146,9 +147,19 @@ fn table() -> Result<RegionPager, Stop> {
     }
 }
 
+/// The fpage of a block of pages, with all rights.
+fn fpage_of(first: u32, log: u8) -> Result<Fpage, Stop> {
+    let block = Block::new(first, log).ok_or(Stop::NoPlan)?;
+    if block.lies_in(SIZE) {
+        Ok(Fpage::of_block(block, SIZE, Rights::all()))
+    } else {
+        Err(Stop::NoPlan)
+    }
+}
+
 /// Delegates, takes back and answers a fault, and prints what the spaces show after each.
 fn tell<R: AllocGlobal + Print>(rt: &R) -> Result<(), Stop> {
-    let mut kernel = Kernel::boot(rt.alloc(), FRAMES).map_err(Stop::Refused)?;
+    let mut kernel = Kernel::boot(rt.alloc(), FRAMES, SIZE).map_err(Stop::Refused)?;
     let first = create(&mut kernel, 3, &SIGMA0)?;
     let second = create(&mut kernel, 4, &SIGMA0)?;
     let pages = Region {
@@ -167,8 +178,8 @@ fn tell<R: AllocGlobal + Print>(rt: &R) -> Result<(), Stop> {
     delegate(&mut kernel, &first, &second, &range)?;
     show(rt, &kernel, &first).map_err(Stop::Output)?;
     show(rt, &kernel, &second).map_err(Stop::Output)?;
-    let block = Block::new(16, 3).ok_or(Stop::NoPlan)?;
-    let unmap = Call::unmap(false, &[Fpage::of_block(block, Rights::all())]).ok_or(Stop::NoPlan)?;
+    let eight = fpage_of(16, 3)?;
+    let unmap = Call::unmap(false, &[eight]).ok_or(Stop::NoPlan)?;
     step(&mut kernel, &Step::Start(first.number, unmap))?;
     show(rt, &kernel, &first).map_err(Stop::Output)?;
     show(rt, &kernel, &second).map_err(Stop::Output)?;

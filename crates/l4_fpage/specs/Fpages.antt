@@ -5,6 +5,7 @@ use Rattle.l4_fpage.specs.Rights.{RightsSet, no_rights, set_of_bits, bits_of}
 use Rattle.l4_fpage.specs.declared.fpages.Fpage.{Fpage}
 use Rattle.l4_fpage.specs.declared.fpages.Fpage.TheVariants.{Nil, Complete, Sized}
 use Rattle.l4_fpage.specs.Pages.{page_bytes, address_log}
+use Rattle.l4_fpage.specs.declared.sizes.PageSize.{PageSize}
 
 -- 2 ^ log bytes from base on
 pub record Bytes : Type 0 where
@@ -24,13 +25,13 @@ rights_of (Complete r) = r
 rights_of (Sized e) = e.rights
 
 -- page by page: a page is named where all its bytes are
-pub record HasPage (b : Bytes) (page : ℕ) : Type 0 where
-  pub from : b.base ≤ page * page_bytes
-  pub below : page * page_bytes + page_bytes ≤ b.base + 2 ^ b.log
+pub record HasPage (size : PageSize) (b : Bytes) (page : ℕ) : Type 0 where
+  pub from : b.base ≤ page * page_bytes size
+  pub below : page * page_bytes size + page_bytes size ≤ b.base + 2 ^ b.log
 
--- the fpage names the page
-abbrev pub HoldsPage : Fpage → ℕ → Type 0
-HoldsPage fpage page = MatchOption (bytes_of fpage) ⊥ (λ b. HasPage b page)
+-- the fpage names the page, where pages have this size
+abbrev pub HoldsPage : PageSize → Fpage → ℕ → Type 0
+HoldsPage size fpage page = MatchOption (bytes_of fpage) ⊥ (λ b. HasPage size b page)
 
 -- THE WORD OF AN FPAGE: the base in units of 1,024 bytes in bits 31 to 10, the log of the size in bits 9 to 4, the
 -- rights in bits 2 to 0. Bit 3 means nothing.

@@ -1,20 +1,11 @@
 ghost use Rattle.std.specs.Prelude.{◌≡◌, ℕ, ◌+◌, ◌%◌, ◌^◌, ◌<◌, ◌≤◌, ◌↔◌, ◌⊎◌, IsTrue, IsSome, IfSome, MatchOption};
-ghost use Rattle.l4_fpage.specs.Pages.{IsBlock, InBlock, space_pages};
+ghost use Rattle.l4_fpage.specs.Pages.{IsBlock, InBlock, LiesIn, most_pages};
 
-/// The binary logarithm of the bytes of a page: 4,096 bytes (this profile's own).
-pub const PAGE_LOG: u8 = 12;
+use crate::{MOST_PAGES, MOST_SPACE_LOG, PageSize};
 
-/// The binary logarithm of the pages of a space: 2^20 pages, numbered from 0.
-pub const SPACE_LOG: u8 = 20;
-
-/// The pages of a space: 1,048,576.
-pub const SPACE_PAGES: u32 = 1 << SPACE_LOG;
-
-/// The frames of a machine, at most (this profile's own).
-pub const MAX_FRAMES: u32 = 4096;
-
-/// A block of pages: 2^log of them, `log` from 0 to 20, the first page a multiple of 2^log, all of
-/// them below 2^20 (this profile's own).
+/// A block of pages: 2^log of them, `log` from 0 to 22, the first page a multiple of 2^log, all of
+/// them below 2^22, of which a space with pages of 4,096 bytes has those below 2^20 (this profile's
+/// own).
 #[derive(Clone, Copy, PartialEq, Eq, Debug)]
 pub struct Block {
     pub first: u32,
@@ -23,20 +14,27 @@ pub struct Block {
 }
 
 impl Block {
-    /// The block of 2^log pages from the page `first` on; `None` where `log` is above 20, `first`
-    /// is no multiple of 2^log, or a page of it is not below 2^20.
+    /// The block of 2^log pages from the page `first` on; `None` where `log` is above 22, `first`
+    /// is no multiple of 2^log, or a page of it is not below 2^22.
     pub fn new(first: u32, log: u8) -> Option<Block>
         ensures valid { IsSome result ↔ IsBlock first log }
         ensures first { IfSome result (λ b. b.first ≡ first) }
         ensures log { IfSome result (λ b. b.log ≡ log) }
     {
-        if log <= SPACE_LOG {
+        if log <= MOST_SPACE_LOG {
             let size = 1u32 << log;
-            if first % size == 0 && first < 1 << SPACE_LOG {
+            if first % size == 0 && first < MOST_PAGES {
                 return Some(Block { first, log });
             }
         }
         None
+    }
+
+    /// Whether a space with pages of this size has all pages of the block.
+    pub fn lies_in(&self, size: PageSize) -> bool
+        ensures { IsTrue result ↔ LiesIn size self.now.first self.now.log }
+    {
+        self.first + (1 << self.log) <= size.space_pages()
     }
 
     /// Whether the block holds this page.
@@ -68,14 +66,14 @@ impl Block {
 
     /// The smallest block that holds both pages.
     pub fn join(a: u32, b: u32) -> Block
-        requires a { a < space_pages }
-        requires b { b < space_pages }
+        requires a { a < most_pages }
+        requires b { b < most_pages }
         ensures holds_a { InBlock result.first result.log a }
         ensures holds_b { InBlock result.first result.log b }
         ensures smallest { (first log : ℕ) → IsBlock first log → InBlock first log a → InBlock first log b → result.log ≤ log }
     {
         let mut log = 0u8;
-        while log < SPACE_LOG && a >> log != b >> log {
+        while log < MOST_SPACE_LOG && a >> log != b >> log {
             log += 1;
         }
         Block {

@@ -1,7 +1,7 @@
 ghost use Rattle.std.specs.Prelude.{◌≡◌, ℕ, ◌+◌, ◌-◌, ◌*◌, ◌/◌, ◌%◌, ◌^◌, ◌<◌, ◌≤◌, ◌↔◌, IsTrue, IsSome, IfSome, MatchOption, IfOk, IsErr};
-ghost use Rattle.l4_fpage.specs.Pages.{InBlock, page_bytes, page_log};
+ghost use Rattle.l4_fpage.specs.Pages.{InBlock, LiesIn, page_bytes, page_log, space_log};
 
-use crate::{Block, PAGE_LOG, Rights, SPACE_LOG};
+use crate::{Block, PageSize, Rights};
 
 /// The word is no fpage: its size field is 1 with a base that is not 0, 2 to 9, or 33 to 63.
 #[derive(Clone, Copy, PartialEq, Eq, Debug)]
@@ -30,17 +30,20 @@ pub enum Fpage {
 impl Fpage {
     ghost use Rattle.l4_fpage.specs.Fpages.{bytes_of, rights_of, HasPage, HoldsPage, ReadsAs, IsMalformed, fpage_word};
 
-    /// The fpage of a block's pages: the complete one for the block of the whole space.
-    pub fn of_block(block: Block, rights: Rights) -> Fpage
-        ensures bytes { bytes_of result ≡ Some (record { base = block.first * page_bytes; log = block.log + page_log }) }
+    /// The fpage of a block's pages, which have this size: the complete one for the block of the whole
+    /// space.
+    pub fn of_block(block: Block, size: PageSize, rights: Rights) -> Fpage
+        requires { LiesIn size block.first block.log }
+        ensures bytes { bytes_of result ≡ Some (record { base = block.first * page_bytes size; log = block.log + page_log size }) }
         ensures rights { rights_of result ≡ rights }
     {
-        if block.log == SPACE_LOG {
+        if block.log == size.space_log() {
             return Fpage::Complete(rights);
         }
+        let page_log = size.log();
         Fpage::Sized(Extent {
-            base: block.first << PAGE_LOG,
-            log: block.log + PAGE_LOG,
+            base: block.first << page_log,
+            log: block.log + page_log,
             rights,
         })
     }
@@ -98,26 +101,28 @@ impl Fpage {
         }
     }
 
-    /// The block of the pages all of whose bytes the fpage names; `None` where it names no whole
-    /// page: for the nil fpage and for one of 1 or 2 KiB.
-    pub fn pages(&self) -> Option<Block>
-        ensures none { IsSome result ↔ MatchOption (bytes_of self.now) ⊥ (λ b. 12 ≤ b.log) }
-        ensures exact { IfSome result (λ block. MatchOption (bytes_of self.now) ⊥ (λ b. (block.first ≡ b.base / page_bytes) × (block.log ≡ b.log - page_log))) }
-        ensures pages { (page : ℕ) → MatchOption result ⊥ (λ block. InBlock block.first block.log page) ↔ HoldsPage self.now page }
+    /// The block of the pages of this size all of whose bytes the fpage names; `None` where it names
+    /// no whole page: for the nil fpage, and for one that is smaller than a page.
+    pub fn pages(&self, size: PageSize) -> Option<Block>
+        ensures none { IsSome result ↔ MatchOption (bytes_of self.now) ⊥ (λ b. page_log size ≤ b.log) }
+        ensures exact { IfSome result (λ block. MatchOption (bytes_of self.now) ⊥ (λ b. (block.first ≡ b.base / page_bytes size) × (block.log ≡ b.log - page_log size))) }
+        ensures inside { IfSome result (λ block. LiesIn size block.first block.log) }
+        ensures pages { (page : ℕ) → MatchOption result ⊥ (λ block. InBlock block.first block.log page) ↔ HoldsPage size self.now page }
     {
         match self {
             Fpage::Nil => None,
             Fpage::Complete(_) => Some(Block {
                 first: 0,
-                log: SPACE_LOG,
+                log: size.space_log(),
             }),
             Fpage::Sized(extent) => {
-                if extent.log < PAGE_LOG {
+                let page_log = size.log();
+                if extent.log < page_log {
                     return None;
                 }
                 Some(Block {
-                    first: extent.base >> PAGE_LOG,
-                    log: extent.log - PAGE_LOG,
+                    first: extent.base >> page_log,
+                    log: extent.log - page_log,
                 })
             }
         }

@@ -4,7 +4,7 @@ ghost use Rattle.std.specs.FinSet as set;
 ghost use Rattle.l4_mapdb.specs.Mappings.{Mappings};
 
 use crate::{end_memory, stop};
-use l4_ipc::{Block, Rights, SPACE_PAGES};
+use l4_ipc::{Block, MOST_PAGES, PageSize, Rights};
 use l4_mapdb::{Cause, Forest, ItemMove, Place};
 use l4_msg::Move;
 use l4_unmap::unmap;
@@ -18,7 +18,7 @@ const FRAMES: u32 = 8;
 /// Tells all pages of a space.
 fn show_pages(rt: &impl Print, forest: &Forest, space: u64) -> io::Result<()> {
     let mut from = 0;
-    for _ in 0..SPACE_PAGES {
+    for _ in 0..MOST_PAGES {
         let Some(page) = forest.next_present(space, from) else {
             break;
         };
@@ -98,7 +98,7 @@ fn take_back<R: Input + Print>(rt: &R, forest: &mut Forest) -> io::Result<()> {
     let page = Place { space: 0, page: 4 };
     forest.revoke(page, Rights::of_bits(1), false);
     show(rt, "done revoke", forest)?;
-    if unmap(forest, 2, 0x40, &[READS_1020]).is_err() {
+    if unmap(forest, 2, PageSize::Kib4, 0x40, &[READS_1020]).is_err() {
         return Err(stop());
     }
     show(rt, "done unmap", forest)?;

@@ -2,8 +2,8 @@
 
 use crate::{end_memory, stop};
 use l4_ipc::{
-    Answer, ArrayVec, Call, Fpage, Kernel, MAX_WORDS, Outcome, Refused, Rights, SPACE_PAGES, Step,
-    ThreadId, Timeout, UnmapCall,
+    Answer, ArrayVec, Call, Fpage, Kernel, MAX_WORDS, MOST_PAGES, Outcome, PageSize, Refused,
+    Rights, Step, ThreadId, Timeout, UnmapCall,
 };
 use std::io;
 
@@ -79,7 +79,7 @@ fn show_threads(rt: &impl Print, kernel: &Kernel) -> io::Result<()> {
 /// Tells all pages of a space.
 fn show_pages(rt: &impl Print, kernel: &Kernel, space: u64) -> io::Result<()> {
     let mut from = 0;
-    for _ in 0..SPACE_PAGES {
+    for _ in 0..MOST_PAGES {
         let Some(page) = kernel.next_page(space, from) else {
             break;
         };
@@ -209,7 +209,7 @@ fn take_memory(rt: &impl Print, kernel: &mut Kernel) -> io::Result<()> {
 
 /// Boots, makes threads, maps pages, and does steps that take no memory. Answers whether there was memory to boot.
 fn tell_once<R: AllocGlobal + Input + Print>(rt: &R) -> io::Result<bool> {
-    let Ok(mut kernel) = Kernel::boot(rt.alloc(), FRAMES) else {
+    let Ok(mut kernel) = Kernel::boot(rt.alloc(), FRAMES, PageSize::Kib4) else {
         println!(rt; "refused boot\n.")?;
         return Ok(false);
     };

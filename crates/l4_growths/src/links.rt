@@ -2,7 +2,7 @@
 ghost use Rattle.l4_spaces.specs.Tables.{IsPage};
 
 use crate::stop;
-use l4_ipc::{Rights, SPACE_PAGES};
+use l4_ipc::{MOST_PAGES, Rights};
 use l4_links::{Links, NoMemory, Place};
 use std::io;
 
@@ -12,7 +12,7 @@ const SPACES: u64 = 2;
 /// Tells the keys of all pages of a space, and what stands under each.
 fn show_keys(rt: &impl Print, links: &Links, space: u64) -> io::Result<()> {
     let mut from = 0;
-    for _ in 0..SPACE_PAGES {
+    for _ in 0..MOST_PAGES {
         let Some(page) = links.next_key(space, from) else {
             break;
         };

@@ -3,7 +3,7 @@ ghost use Rattle.std.specs.Prelude.{◌≡◌};
 
 use crate::kernel::{create, receive, send};
 use crate::{end_memory, kernel, stop};
-use l4_ipc::{Call, Kernel};
+use l4_ipc::{Call, Kernel, PageSize};
 use l4_lock::{Board, History, KernelLock, Locked, Seat, Watch};
 use std::io;
 
@@ -20,6 +20,15 @@ enum Asked {
 }
 
 impl Asked {
+    /// The place of the seat that enters it.
+    fn place(self) -> usize {
+        match self {
+            Asked::Create => 0,
+            Asked::Receive => 1,
+            Asked::Send => 0,
+        }
+    }
+
     fn call(self) -> Call {
         match self {
             Asked::Create => create(3),
@@ -92,12 +101,11 @@ fn show_done(
     show(rt, locked, seats, board, watch)
 }
 
-/// Lets a seat enter a call, and take the reply of the call before.
+/// Lets a seat enter what is asked, and take the reply of the call before.
 fn enter(
     rt: &impl Print,
     locked: &mut Locked,
     seats: &mut [Seat],
-    place: usize,
     asked: Asked,
     board: &Board,
     watch: &mut Watch,
@@ -105,6 +113,7 @@ fn enter(
     requires { watch.old.board ≡ board.now }
     ensures { watch.new.board ≡ board.now }
 {
+    let place = asked.place();
     if place >= seats.len() {
         return Err(stop());
     }
@@ -191,9 +200,9 @@ fn exchange<R: Input + Print>(
     ensures { watch.new.board ≡ board.now }
 {
     show_done(rt, "seats", locked, seats, board, watch)?;
-    enter(rt, locked, seats, 0, Asked::Create, board, watch)?;
-    enter(rt, locked, seats, 1, Asked::Receive, board, watch)?;
-    enter(rt, locked, seats, 0, Asked::Send, board, watch)?;
+    enter(rt, locked, seats, Asked::Create, board, watch)?;
+    enter(rt, locked, seats, Asked::Receive, board, watch)?;
+    enter(rt, locked, seats, Asked::Send, board, watch)?;
     end_memory(rt)?;
     take(rt, locked, seats, board, watch)
 }
@@ -220,7 +229,7 @@ fn refused(rt: &impl Print, told: &str) -> io::Result<bool> {
 
 /// Takes a kernel out of a lock that threads may share. Answers whether there was memory for the lock.
 fn unlock<R: AllocGlobal + Input + Print>(rt: &R) -> io::Result<bool> {
-    let Ok((lock, _watches)) = KernelLock::new(rt.alloc(), FRAMES, 1) else {
+    let Ok((lock, _watches)) = KernelLock::new(rt.alloc(), FRAMES, PageSize::Kib4, 1) else {
         return refused(rt, "unlock");
     };
     end_memory(rt)?;
@@ -234,7 +243,8 @@ fn tell_once<R: AllocGlobal + Input + Print>(rt: &R) -> io::Result<bool> {
     let Ok(mut seats) = Vec::with_capacity(rt.alloc(), 2) else {
         return refused(rt, "new_lock");
     };
-    let Ok((mut locked, board, mut watches)) = Locked::new(rt.alloc(), FRAMES, 1) else {
+    let Ok((mut locked, board, mut watches)) = Locked::new(rt.alloc(), FRAMES, PageSize::Kib4, 1)
+    else {
         return refused(rt, "new_lock");
     };
     let Some(mut watch) = watches.pop() else {

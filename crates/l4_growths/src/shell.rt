@@ -1,6 +1,7 @@
 //! Scripts and command lines.
 
 use crate::stop;
+use l4_ipc::PageSize;
 use l4_options::{OptionFault, Options, StepOptions, options, step_options};
 use l4_shell::{RunFault, run};
 use std::io;
@@ -13,7 +14,13 @@ const SCRIPT: &[u8] = b"show 1 0 16\nparent 1 4\nfrob\nsteps\n";
 fn run_once<R: AllocGlobal + Print>(rt: &R) -> io::Result<bool> {
     let mut script = SCRIPT;
     println!(rt; "script")?;
-    match run(rt.alloc(), FRAMES, &mut script, &mut io::writer(rt)) {
+    match run(
+        rt.alloc(),
+        FRAMES,
+        PageSize::Kib4,
+        &mut script,
+        &mut io::writer(rt),
+    ) {
         Ok(lines) => {
             println!(rt; "done script {lines} left {}\n.", script.len())?;
             Ok(true)

@@ -3,7 +3,7 @@ ghost use Rattle.std.specs.Prelude.{All};
 ghost use Rattle.l4_spaces.specs.Tables.{IsPage};
 
 use crate::{end_memory, stop};
-use l4_ipc::SPACE_PAGES;
+use l4_ipc::MOST_PAGES;
 use l4_spaces::{NoMemory, Spaces};
 use std::io;
 
@@ -14,7 +14,7 @@ const SPACES: u64 = 3;
 fn show_space(rt: &impl Print, spaces: &Spaces, space: u64) -> io::Result<()> {
     println!(rt; "space {space} {}", spaces.has(space))?;
     let mut from = 0;
-    for _ in 0..SPACE_PAGES {
+    for _ in 0..MOST_PAGES {
         let Some(page) = spaces.next_present(space, from) else {
             break;
         };
@@ -76,12 +76,12 @@ fn set_later<R: Input + Print>(rt: &R, spaces: &mut Spaces) -> io::Result<bool> 
     if !spaces.has(1) {
         return Err(stop());
     }
-    if spaces.prepare(1, &[3000]).is_err() {
+    if spaces.prepare(1, &[7000]).is_err() {
         show(rt, "refused set", spaces)?;
         return Ok(false);
     }
     end_memory(rt)?;
-    spaces.set(1, 3000, 4);
+    spaces.set(1, 7000, 4);
     show(rt, "done set", spaces)?;
     Ok(true)
 }
@@ -101,8 +101,8 @@ pub fn tell<R: AllocGlobal + Input + Print>(rt: &R) -> io::Result<()> {
     add(rt, &mut spaces, 1)?;
     set(rt, &mut spaces, 1, &[5])?;
     add(rt, &mut spaces, 2)?;
-    set(rt, &mut spaces, 1, &[2000, 9, 1_048_575, 0])?;
-    set(rt, &mut spaces, 2, &[1023, 1024])?;
+    set(rt, &mut spaces, 1, &[4100, 9, 1_048_575, 0])?;
+    set(rt, &mut spaces, 2, &[2047, 2048])?;
     if !set_later(rt, &mut spaces)? && !set_later(rt, &mut spaces)? {
         return Err(stop());
     }

@@ -1,8 +1,8 @@
 //! Plans, checks and the answers of pagers, which take no memory.
 
 use crate::{end_memory, stop};
-use l4_ipc::Rights;
-use l4_msg::{Message, PageFault, Region};
+use l4_ipc::{PageSize, Rights};
+use l4_msg::{Message, PageFault, Region, TOO_MANY};
 use l4_pager::{Entry, RegionPager};
 use l4_plan::{PlanRefusal, plan};
 use l4_plan_check::{check, check_too_long};
@@ -11,6 +11,8 @@ use l4_sigma0::Sigma0;
 use std::io;
 
 const FRAMES: u32 = 8;
+
+const SIZE: PageSize = PageSize::Kib4;
 
 /// Twelve pages, which two items move.
 const REGION: Region = Region {
@@ -24,7 +26,7 @@ const REGION: Region = Region {
 const LONG: Region = Region {
     source: 0,
     target: 1,
-    count: 32,
+    count: 1985,
     rights: Rights::R,
 };
 
@@ -37,30 +39,41 @@ const REQUEST: [u32; 3] = [0xffa0_0002, 0x30c0, 0];
 
 /// Plans a region, and checks the plan.
 fn tell_plan(rt: &impl Print) -> io::Result<()> {
-    let Ok(plan) = plan(&REGION) else {
+    let Ok(plan) = plan(&REGION, SIZE) else {
         return Err(stop());
     };
-    println!(rt; "done plan {:?} {:?}", plan.items(), plan.pages())?;
-    let proved = check(&REGION, plan.items(), plan.pages());
+    let Ok(message) = plan.only() else {
+        return Err(stop());
+    };
+    let items = message.items.as_slice();
+    let pages = plan.pages_of(0);
+    println!(rt; "done plan {items:?} {:?}", pages.as_slice())?;
+    let proved = check(&REGION, SIZE, items, pages.as_slice());
     println!(rt; "{proved:?}\n.")
 }
 
 /// Shows that a region has no plan.
 fn tell_too_long(rt: &impl Print) -> io::Result<()> {
-    let Err(PlanRefusal::TooLong(pages)) = plan(&LONG) else {
+    let Err(PlanRefusal::TooLong(pages)) = plan(&LONG, SIZE) else {
         return Err(stop());
     };
-    let proved = check_too_long(&LONG, pages.as_slice());
-    println!(rt; "done too_long {:?} {proved:?}\n.", pages.as_slice())
+    let mut list = [0; TOO_MANY];
+    for (i, page) in pages.enumerate() {
+        if i < TOO_MANY {
+            list[i] = page;
+        }
+    }
+    let proved = check_too_long(&LONG, SIZE, list.as_slice());
+    println!(rt; "done too_long {:?} {proved:?}\n.", list.last())
 }
 
 /// Writes the plan of a region, and checks its lines.
 fn tell_lines(rt: &impl Print) -> io::Result<()> {
     println!(rt; "done plan_lines")?;
-    let planned = plan_lines(&REGION, &mut io::writer(rt));
+    let planned = plan_lines(&REGION, SIZE, &mut io::writer(rt));
     println!(rt; "{planned:?}\n.\ndone check_lines")?;
     let mut lines = LINES;
-    let checked = check_lines(&REGION, &mut lines, &mut io::writer(rt));
+    let checked = check_lines(&REGION, SIZE, &mut lines, &mut io::writer(rt));
     println!(rt; "{checked:?} left {}\n.", lines.len())
 }
 
@@ -76,7 +89,7 @@ fn entry() -> Entry {
 
 /// Adds a region to a table twice, the second time in vain, and answers a fault of a page, and of one that no region holds.
 fn tell_pager(rt: &impl Print) -> io::Result<()> {
-    let mut regions = RegionPager::new();
+    let mut regions = RegionPager::new(SIZE);
     let added = regions.add(entry());
     let again = regions.add(entry());
     println!(rt; "done add {added:?} {again:?}")?;
@@ -94,7 +107,7 @@ fn tell_pager(rt: &impl Print) -> io::Result<()> {
 
 /// Asks sigma0 for a frame twice, the second time from another space.
 fn tell_sigma0(rt: &impl Print) -> io::Result<()> {
-    let mut sigma0 = Sigma0::new(FRAMES);
+    let mut sigma0 = Sigma0::new(FRAMES, SIZE);
     let request = Message::read(&REQUEST);
     println!(rt; "done sigma0 {request:?}")?;
     if let Ok(message) = request {

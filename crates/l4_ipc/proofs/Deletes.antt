@@ -26,6 +26,7 @@ use Rattle.l4_ipc.specs.declared.steps.Step.TheVariants.{Start}
 use Rattle.l4_ipc.specs.Machine.{machine}
 use Rattle.l4_ipc.specs.Steps.{IsDeleteList, Steps}
 use Rattle.l4_ipc.proofs.Threads.{past, running_thread, state_other}
+use Rattle.l4_fpage.specs.declared.sizes.PageSize.{PageSize}
 
 pub differs : (a b : ℕ) → a ≢ b → (a == b) ≡ false
 differs a b ne = elim (eqb_tells a b) [ inl h ↦ absurd (ne h.1) | inr h ↦ h.0 ]
@@ -137,9 +138,9 @@ few_ended old left caller victim others consistent h ended =
 
 -- WHAT A DELETE DOES
 
-delete_list : (old left : Threads) (s new : Mappings) (caller victim : ℕ) (others : List ℕ) → IsTrue (runs old caller) → IsEndedList old left victim others
-    → IsDeleteList caller victim (machine old s) (machine (end_call left caller Controlled) new) (caller ∷ others)
-delete_list old left s new caller victim others h ended = record {
+delete_list : (size : PageSize) (old left : Threads) (s new : Mappings) (caller victim : ℕ) (others : List ℕ) → IsTrue (runs old caller) → IsEndedList old left victim others
+    → IsDeleteList caller victim (machine size old s) (machine size (end_call left caller Controlled) new) (caller ∷ others)
+delete_list size old left s new caller victim others h ended = record {
   others = others;
   list = refl;
   rising = ended.rising;
@@ -169,11 +170,11 @@ space_goes t left victim thread s new (Some space) at tells ends =
     let same : space ≡ thread.space = cc in
     inl (subst (HasEnded left) same tells.1, subst (λ (k : ℕ). EndsSpace k s new) same ends)
 
-pub deleted : (t left after : Threads) (s new : Mappings) (n : ℕ) (id : ThreadId) (victim : ℕ) (others : List ℕ) (space : Option ℕ) (answer : Answer)
+pub deleted : (size : PageSize) (t left after : Threads) (s new : Mappings) (n : ℕ) (id : ThreadId) (victim : ℕ) (others : List ℕ) (space : Option ℕ) (answer : Answer)
     → IsTrue (runs t n) → delete_test t n id ≡ Ok victim → Deletes victim t left → IsEndedList t left victim others → TellsEnd t left victim space
     → MatchOption space (new ≡ s) (λ ended. EndsSpace ended s new) → after ≡ end_call left n Controlled → answer.outcome ≡ Started → answer.ended.items ≡ n ∷ others
-    → Steps (machine t s) (Start n (Controls (Delete id))) (Ok answer) (machine after new)
-deleted t left after s new n id victim others space answer h test deletes ended tells goes is outcome list =
+    → Steps (machine size t s) (Start n (Controls (Delete id))) (Ok answer) (machine size after new)
+deleted size t left after s new n id victim others space answer h test deletes ended tells goes is outcome list =
     let there = running_thread t n h in
     let gone = victim_is t n victim id test in (
       there.0,
@@ -185,8 +186,8 @@ deleted t left after s new n id victim others space answer h test deletes ended 
         gone.0,
         test,
         gone.1.0,
-        subst (λ (v : Threads). IsDeleteList n victim (machine t s) (machine v new) answer.ended.items) (sym is)
-            (subst (IsDeleteList n victim (machine t s) (machine (end_call left n Controlled) new)) (sym list) (delete_list t left s new n victim others h ended)),
-        record { left = left; deleted = deletes; threads = is; mappings = space_goes t left victim gone.0 s new space gone.1.0 tells goes },
+        subst (λ (v : Threads). IsDeleteList n victim (machine size t s) (machine size v new) answer.ended.items) (sym is)
+            (subst (IsDeleteList n victim (machine size t s) (machine size (end_call left n Controlled) new)) (sym list) (delete_list size t left s new n victim others h ended)),
+        record { left = left; size = refl; deleted = deletes; threads = is; mappings = space_goes t left victim gone.0 s new space gone.1.0 tells goes },
       ),
     )

@@ -49,6 +49,7 @@ use Rattle.l4_ipc.proofs.Lasting.{one_delivery}
 use Rattle.l4_ipc.specs.Provenance.{Link, Brings, LeavesAlone, HasProvenance, Flushes, NoneThroughFlushed}
 use Rattle.l4_ipc.proofs.OneState.{same_value}
 use Rattle.l4_ipc.specs.Delegation.{source_at, target_at, IsNewPlace, IsReplaced, Delegates, IsDelegation}
+use Rattle.l4_fpage.specs.declared.sizes.PageSize.TheVariants.{Kib4}
 
 -- MAPPINGS OF FEW PLACES
 
@@ -75,7 +76,7 @@ shows_nothing q = map.get-empty place_cmp q
 
 -- one step, which is refused, over mappings that show one page
 abbrev refused : Mappings → Event
-refused s = record { before = machine first_threads s; step = Expire 1; answer = Err NotEnabled; after = machine first_threads s }
+refused s = record { before = machine Kib4 first_threads s; step = Expire 1; answer = Err NotEnabled; after = machine Kib4 first_threads s }
 
 brings_none : (s : Mappings) (link : Link) → ¬ (Brings (refused s) link)
 brings_none s link b = let k : Expire 1 ≡ Transfer b.delivery.sender b.delivery.receiver = b.delivery.step in cc
@@ -121,10 +122,10 @@ foreign_page s m p = elim p.leads [
 -- an Unmap by sigma0 with one register
 abbrev unmaps : ℕ → ℕ → Mappings → Mappings → Event
 unmaps control word old new = record {
-  before = machine first_threads old;
+  before = machine Kib4 first_threads old;
   step = Start 1 (Unmap (record { control = control; words = record { items = word ∷ [] } }));
   answer = Ok (record { outcome = Started; ended = record { items = 1 ∷ [] } });
-  after = machine first_threads new;
+  after = machine Kib4 first_threads new;
 }
 
 abbrev page_5 : Fpage
@@ -287,13 +288,13 @@ runs_on : ¬ (CanExpire first_threads 1)
 runs_on e = false≢true (ap expires (same_value (sym idle_state ∙ e.at)) ∙ e.zero)
 
 -- a step that is not enabled is refused
-pub refused_step : (s : Mappings) → IsTrace (machine first_threads s) (Expire 1 ∷ []) (Err NotEnabled ∷ []) (refused s ∷ []) (machine first_threads s)
+pub refused_step : (s : Mappings) → IsTrace (machine Kib4 first_threads s) (Expire 1 ∷ []) (Err NotEnabled ∷ []) (refused s ∷ []) (machine Kib4 first_threads s)
 refused_step s = record { steps_are = refl; answers_are = refl; follow = (refl, (runs_on, refl, refl), refl) }
 
 -- and changes nothing
-pub refused_and_changed : ¬ (Run (machine first_threads of_sigma0) (Expire 1 ∷ []) (Err NotEnabled ∷ []) (machine first_threads nothing))
+pub refused_and_changed : ¬ (Run (machine Kib4 first_threads of_sigma0) (Expire 1 ∷ []) (Err NotEnabled ∷ []) (machine Kib4 first_threads nothing))
 refused_and_changed r =
-    let same : machine first_threads nothing ≡ machine first_threads of_sigma0 = r.2 ∙ r.1.2 in
+    let same : machine Kib4 first_threads nothing ≡ machine Kib4 first_threads of_sigma0 = r.2 ∙ r.1.2 in
     false≢true (ap is_some (sym (shows_nothing (page_of 0 5)) ∙ ap (λ (m : Machine). shown m.mappings (page_of 0 5)) same ∙ there))
 
 -- A PROVENANCE THROUGH A TRANSFER: sigma0 sends page 5, to read, and root takes it at page 6
@@ -341,10 +342,10 @@ meets = record {
 
 abbrev delivers : Mappings → Event
 delivers new = record {
-  before = machine partners of_sigma0;
+  before = machine Kib4 partners of_sigma0;
   step = Transfer 1 2;
   answer = Ok (record { outcome = Done; ended = record { items = 1 ∷ 2 ∷ [] } });
-  after = machine (after_transfer true partners 1 2 sender sends_page takes_all) new;
+  after = machine Kib4 (after_transfer true partners 1 2 sender sends_page takes_all) new;
 }
 
 delivery : (new : Mappings) → IsDelivery (delivers new) sender receiver sends_page takes_all
@@ -354,7 +355,7 @@ abbrev moves_5_to_6 : PageMove
 moves_5_to_6 = record { item = 0; source = page_of 0 5; target = page_of 1 6; grant = false; shows = frame_5; rights = region.rights }
 
 -- the move is used
-pub used : IsUsedBy of_sigma0 0 1 (item ∷ []) (Complete no_rights) moves_5_to_6
+pub used : IsUsedBy Kib4 of_sigma0 0 1 (item ∷ []) (Complete no_rights) moves_5_to_6
 used = record {
   by = item;
   item = refl;
@@ -368,7 +369,7 @@ used = record {
 }
 
 -- where the sender has no page it isn't
-pub absent : (move : PageMove) → ¬ (IsUsedBy nothing 0 1 (item ∷ []) (Complete no_rights) move)
+pub absent : (move : PageMove) → ¬ (IsUsedBy Kib4 nothing 0 1 (item ∷ []) (Complete no_rights) move)
 absent move u = false≢true (ap is_some (sym (shows_nothing move.source) ∙ u.present))
 
 item_is : (k : ℕ) (by : Item) → slice_get (item ∷ []) k ≡ Some by → (k ≡ 0) × (item ≡ by)
@@ -376,10 +377,10 @@ item_is zero by at = (refl, same_value at)
 item_is (suc k) by at = absurd (let lt : suc k < 1 = slice_get_within (item ∷ []) (suc k) by at in omega (arith, lt))
 
 -- no other is
-one_move : (move : PageMove) → IsUsedBy of_sigma0 0 1 (item ∷ []) (Complete no_rights) move → move ≡ moves_5_to_6
+one_move : (move : PageMove) → IsUsedBy Kib4 of_sigma0 0 1 (item ∷ []) (Complete no_rights) move → move ≡ moves_5_to_6
 one_move move u =
     let by = item_is move.item u.by u.item in
-    let pages : ItemMoves item (Complete no_rights) move.source.page move.target.page = subst (λ (x : Item). ItemMoves x (Complete no_rights) move.source.page move.target.page) (sym by.1) u.pages in
+    let pages : ItemMoves Kib4 item (Complete no_rights) move.source.page move.target.page = subst (λ (x : Item). ItemMoves Kib4 x (Complete no_rights) move.source.page move.target.page) (sym by.1) u.pages in
     let source_page : move.source.page ≡ 5 = omega (arith, pages.1.within, pages.1.source_is) in
     let target_page : move.target.page ≡ 6 = omega (arith, pages.1.within, pages.1.target_is) in
     let source : move.source ≡ page_of 0 5 = λ i. record { space = u.from_space i; page = source_page i } in
@@ -398,11 +399,11 @@ brings new = record { «from» = sender; to = receiver; sends = sends_page; take
 one_link : (new : Mappings) (link : Link) → Brings (delivers new) link → link ≡ through
 one_link new link b =
     let m = one_delivery (delivers new) b.«from» sender b.to receiver b.sends sends_page b.takes takes_all b.delivery (delivery new) in
-    let u : IsUsedBy of_sigma0 0 1 (item ∷ []) (Complete no_rights) link.move =
-    subst (λ (v : Receiving). IsUsedBy of_sigma0 0 1 (item ∷ []) v.window link.move) m.takes
-    (subst (λ (v : Sending). IsUsedBy of_sigma0 0 1 v.items.items b.takes.window link.move) m.sends
-    (subst (λ (v : Thread). IsUsedBy of_sigma0 0 v.space b.sends.items.items b.takes.window link.move) m.to
-    (subst (λ (v : Thread). IsUsedBy of_sigma0 v.space b.to.space b.sends.items.items b.takes.window link.move) m.«from» b.used))) in
+    let u : IsUsedBy Kib4 of_sigma0 0 1 (item ∷ []) (Complete no_rights) link.move =
+    subst (λ (v : Receiving). IsUsedBy Kib4 of_sigma0 0 1 (item ∷ []) v.window link.move) m.takes
+    (subst (λ (v : Sending). IsUsedBy Kib4 of_sigma0 0 1 v.items.items b.takes.window link.move) m.sends
+    (subst (λ (v : Thread). IsUsedBy Kib4 of_sigma0 0 v.space b.sends.items.items b.takes.window link.move) m.to
+    (subst (λ (v : Thread). IsUsedBy Kib4 of_sigma0 v.space b.to.space b.sends.items.items b.takes.window link.move) m.«from» b.used))) in
     let move : link.move ≡ moves_5_to_6 = one_move link.move u in
     let named : item ≡ link.item = (item_is link.move.item link.item (subst (λ (v : Sending). slice_get v.items.items link.move.item ≡ Some link.item) m.sends b.item)).1 in
     λ i. record { move = move i; item = sym named i }
@@ -454,15 +455,15 @@ more_than_named p = elim p.leads [
 
 -- A DELIVERED DELEGATION
 
-moved_alone : (k : ℕ) (by : Item) (source target : ℕ) → k < 1 → slice_index_or (item ∷ []) k by ≡ by → ItemMoves by complete source target → RegionMoves region source target
-moved_alone zero by source target lt is moves = (subst (λ (x : Item). ItemMoves x complete source target) (sym is) moves).1
+moved_alone : (k : ℕ) (by : Item) (source target : ℕ) → k < 1 → slice_index_or (item ∷ []) k by ≡ by → ItemMoves Kib4 by complete source target → RegionMoves region source target
+moved_alone zero by source target lt is moves = (subst (λ (x : Item). ItemMoves Kib4 x complete source target) (sym is) moves).1
 moved_alone (suc k) by source target lt is moves = absurd (omega (arith, lt))
 
 abbrev IsInside : ℕ → Type 0
 IsInside page = (5 ≤ page) × (page < 6)
 
 -- the one item is a plan of its page
-pub one_page : (new : Mappings) → IsDelegation (delivers new) region sender receiver sends_page takes_all (5 ∷ [])
+pub one_page : (new : Mappings) → IsDelegation (delivers new) region (item ∷ []) (5 ∷ []) 0 sender receiver sends_page takes_all
 one_page new = record {
   sound = record { some = lit< tt; space = record { source = lit≤ tt; target = lit≤ tt }; rights = λ none. false≢true none };
   plan = record {
@@ -474,14 +475,15 @@ one_page new = record {
     rising = λ i j d lt less. absurd (omega (arith, lt, less));
     certificate = record { inside = All-cons IsInside 5 [] (lit≤ tt, lit< tt) (All-nil IsInside); apart = λ i j d lt less. absurd (omega (arith, lt, less)) };
   };
+  part = refl;
   window_rights = no_rights;
   window = refl;
   delivery = delivery new;
 }
 
 -- and of no larger region
-pub two_pages : (new : Mappings) (pages : List ℕ) → ¬ (IsDelegation (delivers new) (record region { count = 2 }) sender receiver sends_page takes_all pages)
-two_pages new pages d =
+pub two_pages : (new : Mappings) (pages : List ℕ) (number : ℕ) → ¬ (IsDelegation (delivers new) (record region { count = 2 }) (item ∷ []) pages number sender receiver sends_page takes_all)
+two_pages new pages number d =
     let any = (d.plan.rival.moves 6 7).1 (record { index = 1; within = lit< tt; source_is = refl; target_is = refl }) in
     let m : RegionMoves region 6 7 = moved_alone any.0 any.1 6 7 any.2 any.3 any.4 in
     omega (arith, m.within, m.source_is)
@@ -489,7 +491,7 @@ two_pages new pages d =
 -- THE STEP THAT DELIVERS IT
 
 abbrev Used : PageMove → Type 0
-Used = IsUsedBy of_sigma0 0 1 (item ∷ []) (Complete no_rights)
+Used = IsUsedBy Kib4 of_sigma0 0 1 (item ∷ []) (Complete no_rights)
 
 no_grant : (u : PageMove) → Used u → ¬ (IsTrue u.grant)
 no_grant u is h = false≢true (sym (ap (λ (m : PageMove). m.grant) (one_move u is)) ∙ h)
@@ -599,9 +601,9 @@ uncut = record {
 }
 
 -- so the event follows from the state in which both wait: with the page's provenance above, a run that leads to it
-pub delivered : Follow (machine partners of_sigma0) (delivers (delegated region.rights) ∷ []) (machine (after_transfer true partners 1 2 sender sends_page takes_all) (delegated region.rights))
+pub delivered : Follow (machine Kib4 partners of_sigma0) (delivers (delegated region.rights) ∷ []) (machine Kib4 (after_transfer true partners 1 2 sender sends_page takes_all) (delegated region.rights))
 delivered = (
   refl,
-  (sender, receiver, sends_page, takes_all, meets, ((λ l. let k : Complete no_rights ≡ Nil = l.1 in cc), not_entangled, record { middle = delegated region.rights; moved = moved; cut = uncut }), refl, refl),
+  (sender, receiver, sends_page, takes_all, meets, ((λ l. let k : Complete no_rights ≡ Nil = l.1 in cc), not_entangled, record { middle = delegated region.rights; moved = moved; cut = uncut }), refl, refl, refl),
   refl,
 )

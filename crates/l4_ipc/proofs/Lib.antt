@@ -17,3 +17,5 @@ pub mod Flushing
 pub mod Delegating
 pub mod OneChain
 pub mod Examples
+pub mod SizeStays
+pub mod Fitting

@@ -20,39 +20,40 @@ use Rattle.l4_mapdb.proofs.Along.{transfers_along, entangled_along}
 use Rattle.l4_ipc.specs.declared.steps.Outcome.TheVariants.{Done}
 use Rattle.l4_ipc.specs.Inside.Delivering.{IsListed, outcome_of}
 use Rattle.l4_ipc.specs.Moving.{IsUsedBy, LacksWindow, Moves}
+use Rattle.l4_fpage.specs.declared.sizes.PageSize.{PageSize}
 
 -- one more item, and what it moves
-listed_push : (window : Fpage) (items : List Item) (moves : List ItemMove) (item : Item) (move : ItemMove) → AllZip (IsListed window) items moves → IsListed window item move
-    → AllZip (IsListed window) (items ++ item ∷ []) (moves ++ move ∷ [])
-listed_push window [] [] item move zip is = (is, tt)
-listed_push window [] (m ∷ moves) item move zip is = absurd zip
-listed_push window (i ∷ items) [] item move zip is = absurd zip
-listed_push window (i ∷ items) (m ∷ moves) item move zip is = (zip.0, listed_push window items moves item move zip.1 is)
+listed_push : (size : PageSize) → (window : Fpage) (items : List Item) (moves : List ItemMove) (item : Item) (move : ItemMove) → AllZip (IsListed size window) items moves → IsListed size window item move
+    → AllZip (IsListed size window) (items ++ item ∷ []) (moves ++ move ∷ [])
+listed_push size window [] [] item move zip is = (is, tt)
+listed_push size window [] (m ∷ moves) item move zip is = absurd zip
+listed_push size window (i ∷ items) [] item move zip is = absurd zip
+listed_push size window (i ∷ items) (m ∷ moves) item move zip is = (zip.0, listed_push size window items moves item move zip.1 is)
 
-pub listed_more : (window : Fpage) (items : List Item) (i : ℕ) (item : Item) (moves more : List ItemMove) (move : ItemMove) → i < length items → item ≡ slice_index_or items i item
-    → more ≡ moves ++ move ∷ [] → AllZip (IsListed window) (take i items) moves → IsListed window item move → AllZip (IsListed window) (take (i + 1) items) more
-listed_more window items i item moves more move less at is zip listed =
+pub listed_more : (size : PageSize) → (window : Fpage) (items : List Item) (i : ℕ) (item : Item) (moves more : List ItemMove) (move : ItemMove) → i < length items → item ≡ slice_index_or items i item
+    → more ≡ moves ++ move ∷ [] → AllZip (IsListed size window) (take i items) moves → IsListed size window item move → AllZip (IsListed size window) (take (i + 1) items) more
+listed_more size window items i item moves more move less at is zip listed =
     let taken : take (i + 1) items ≡ take i items ++ item ∷ [] = take_more items i item less ∙ ap (λ (x : Item). take i items ++ x ∷ []) (sym at) in
-    subst (λ (l : List Item). AllZip (IsListed window) l more) (sym taken)
-    (subst (λ (l : List ItemMove). AllZip (IsListed window) (take i items ++ item ∷ []) l) (sym is) (listed_push window (take i items) moves item move zip listed))
+    subst (λ (l : List Item). AllZip (IsListed size window) l more) (sym taken)
+    (subst (λ (l : List ItemMove). AllZip (IsListed size window) (take i items ++ item ∷ []) l) (sym is) (listed_push size window (take i items) moves item move zip listed))
 
 -- there is room for what one more item moves
-pub listed_room : (window : Fpage) (items : List Item) (i : ℕ) (moves : List ItemMove) → i < length items → length items ≤ 31 → AllZip (IsListed window) (take i items) moves → length moves < 31
-listed_room window items i moves less few zip =
-    let same : length moves ≡ length (take i items) = AllZip-long (IsListed window) (take i items) moves zip in
+pub listed_room : (size : PageSize) → (window : Fpage) (items : List Item) (i : ℕ) (moves : List ItemMove) → i < length items → length items ≤ 31 → AllZip (IsListed size window) (take i items) moves → length moves < 31
+listed_room size window items i moves less few zip =
+    let same : length moves ≡ length (take i items) = AllZip-long (IsListed size window) (take i items) moves zip in
     let taken : length (take i items) ≡ i = length-take-le i items (omega arith) in
     omega (arith, same, taken)
 
 -- what was listed, as it is handed over
-pub listed_moves : (window : Fpage) (items : List Item) (held moves : List ItemMove) → moves ≡ held → AllZip (IsListed window) items held → AllZip (IsListed window) items moves
-listed_moves window items held moves is zip = subst (λ (l : List ItemMove). AllZip (IsListed window) items l) (sym is) zip
+pub listed_moves : (size : PageSize) → (window : Fpage) (items : List Item) (held moves : List ItemMove) → moves ≡ held → AllZip (IsListed size window) items held → AllZip (IsListed size window) items moves
+listed_moves size window items held moves is zip = subst (λ (l : List ItemMove). AllZip (IsListed size window) items l) (sym is) zip
 
 -- one item is listed by its move
-pub one_listed : (window : Fpage) (items : List Item) (item : Item) (move : ItemMove) → length items ≡ 1 → item ≡ slice_index_or items 0 item → IsListed window item move
-    → AllZip (IsListed window) items (move ∷ [])
-one_listed window [] item move one first listed = absurd (omega (arith, one))
-one_listed window (x ∷ []) item move one first listed = (subst (λ i. IsListed window i move) first listed, tt)
-one_listed window (x ∷ y ∷ items) item move one first listed = absurd (omega (arith, one))
+pub one_listed : (size : PageSize) → (window : Fpage) (items : List Item) (item : Item) (move : ItemMove) → length items ≡ 1 → item ≡ slice_index_or items 0 item → IsListed size window item move
+    → AllZip (IsListed size window) items (move ∷ [])
+one_listed size window [] item move one first listed = absurd (omega (arith, one))
+one_listed size window (x ∷ []) item move one first listed = (subst (λ i. IsListed size window i move) first listed, tt)
+one_listed size window (x ∷ y ∷ items) item move one first listed = absurd (omega (arith, one))
 
 some_and : {X : Type 0} (o : Option X) (P : X → Type 0) → IsSomeAnd o P → (x : X) × ((o ≡ Some x) × P x)
 some_and None P h = absurd h
@@ -66,26 +67,26 @@ and_false false = refl
 common_none : (a : RightsSet) → common a no_rights ≡ no_rights
 common_none a = λ i. record { r = and_false a.r i; w = and_false a.w i; x = and_false a.x i }
 
-module _ (s : Mappings) (from to : ℕ) (items : List Item) (window : Fpage) (moves : List ItemMove) (zip : AllZip (IsListed window) items moves) where
+module _ (size : PageSize) (s : Mappings) (from to : ℕ) (items : List Item) (window : Fpage) (moves : List ItemMove) (zip : AllZip (IsListed size window) items moves) where
   abbrev Named : PageMove → Type 0
-  Named = IsUsedBy s from to items window
+  Named = IsUsedBy size s from to items window
 
   abbrev Listed : PageMove → Type 0
   Listed = IsUsed s from to moves
 
   -- the item that a used move of the list stands for
-  item_at : (k : ℕ) (move : ItemMove) → slice_get moves k ≡ Some move → (item : Item) × ((slice_get items k ≡ Some item) × IsListed window item move)
+  pub item_at : (k : ℕ) (move : ItemMove) → slice_get moves k ≡ Some move → (item : Item) × ((slice_get items k ≡ Some item) × IsListed size window item move)
   item_at k move at =
-      some_and (slice_get items k) (λ item. IsListed window item move)
-      (subst (λ (o : Option ItemMove). MatchOption o (Unit {0}) (λ m. IsSomeAnd (slice_get items k) (λ item. IsListed window item m))) at
-      (AllZip-right (IsListed window) items moves zip k))
+      some_and (slice_get items k) (λ item. IsListed size window item move)
+      (subst (λ (o : Option ItemMove). MatchOption o (Unit {0}) (λ m. IsSomeAnd (slice_get items k) (λ item. IsListed size window item m))) at
+      (AllZip-right (IsListed size window) items moves zip k))
 
   -- what stands for an item
-  move_at : (k : ℕ) (item : Item) → slice_get items k ≡ Some item → (move : ItemMove) × ((slice_get moves k ≡ Some move) × IsListed window item move)
+  move_at : (k : ℕ) (item : Item) → slice_get items k ≡ Some item → (move : ItemMove) × ((slice_get moves k ≡ Some move) × IsListed size window item move)
   move_at k item at =
-      some_and (slice_get moves k) (IsListed window item)
-      (subst (λ (o : Option Item). MatchOption o (Unit {0}) (λ i. IsSomeAnd (slice_get moves k) (IsListed window i))) at
-      (AllZip-left (IsListed window) items moves zip k))
+      some_and (slice_get moves k) (IsListed size window item)
+      (subst (λ (o : Option Item). MatchOption o (Unit {0}) (λ i. IsSomeAnd (slice_get moves k) (IsListed size window i))) at
+      (AllZip-left (IsListed size window) items moves zip k))
 
   named : (move : PageMove) → Listed move → Named move
   named move u =
@@ -124,14 +125,14 @@ module _ (s : Mappings) (from to : ℕ) (items : List Item) (window : Fpage) (mo
       ]
 
   abbrev CanMove : Type 0
-  CanMove = ¬ (LacksWindow s from to items window)
+  CanMove = ¬ (LacksWindow size s from to items window)
 
   -- what the mapping database delivered is what the message moves
-  pub moves_done : CanMove → ¬ (IsEntangled Listed s) → (new : Mappings) → Delivers from to moves s new → Moves s from to items window Done new
+  pub moves_done : CanMove → ¬ (IsEntangled Listed s) → (new : Mappings) → Delivers from to moves s new → Moves size s from to items window Done new
   moves_done can free new d = (can, λ h. free (entangled_along Named Listed listed named s h), transfers_along Listed Named named listed s new d)
 
   -- and what it refused moves nothing
-  pub moves_failed : CanMove → (cause : Cause) → HasCause Listed s cause → (new : Mappings) → new ≡ s → Moves s from to items window (outcome_of cause) new
+  pub moves_failed : CanMove → (cause : Cause) → HasCause Listed s cause → (new : Mappings) → new ≡ s → Moves size s from to items window (outcome_of cause) new
   moves_failed can IsTangle h new same = (can, entangled_along Listed Named named listed s h, same)
   moves_failed can WantOfMemory h new same =
       (can, λ e. h.0 (entangled_along Named Listed listed named s e), record { move = h.1.move; used = named h.1.move h.1.used; absent = h.1.absent }, same)
@@ -142,9 +143,9 @@ pub none_listed : (items : List Item) → length items ≡ 0 → items ≡ []
 none_listed [] h = refl
 none_listed (item ∷ items) h = absurd (omega (arith, h))
 
-module _ (s : Mappings) (from to : ℕ) (window : Fpage) where
+module _ (size : PageSize) (s : Mappings) (from to : ℕ) (window : Fpage) where
   abbrev None_used : PageMove → Type 0
-  None_used = IsUsedBy s from to [] window
+  None_used = IsUsedBy size s from to [] window
 
   none_used : (move : PageMove) → None_used move → ⊥
   none_used move used = let k : ◌≡◌ {A = Option Item} None (Some used.by) = used.item in cc
@@ -178,7 +179,7 @@ module _ (s : Mappings) (from to : ℕ) (window : Fpage) where
             ]
 
   -- nothing moves
-  pub nothing_moves : IsForest s → Moves s from to [] window Done s
+  pub nothing_moves : IsForest s → Moves size s from to [] window Done s
   nothing_moves forest = (
     λ lacks. lacks.0 refl,
     λ tangled. elim tangled [

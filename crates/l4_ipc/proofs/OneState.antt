@@ -38,12 +38,13 @@ use Rattle.l4_ipc.specs.Machine.{Machine}
 use Rattle.l4_ipc.specs.Moving.{IsUsedBy, Moves}
 use Rattle.l4_ipc.specs.Start.{has_send, has_receive, ipc_next, enters, IsSent, IsWindow}
 use Rattle.l4_ipc.specs.Steps.{Steps, Starts, DeletesThread, Meets, expiry, after_transfer, is_done, with_space}
+use Rattle.l4_fpage.specs.declared.sizes.PageSize.{PageSize}
 
 pub same_value : {X : Type 0} {x y : X} → Some x ≡ Some y → x ≡ y
 same_value {x = x} {y = y} e = cc
 
-same_machine : (a b : Machine) → a.threads ≡ b.threads → a.mappings ≡ b.mappings → a ≡ b
-same_machine a b t m = λ i. record { threads = t i; mappings = m i }
+same_machine : (a b : Machine) → a.size ≡ b.size → a.threads ≡ b.threads → a.mappings ≡ b.mappings → a ≡ b
+same_machine a b e t m = λ i. record { size = e i; threads = t i; mappings = m i }
 
 -- WHAT A CALL READS
 
@@ -98,7 +99,7 @@ one_delete old n victim space a b x y =
     let threads : a.threads ≡ b.threads = x.threads ∙ ap (λ (t : Threads). end_call t n Controlled) left ∙ sym y.threads in
     let again : (HasEnded y.left space × EndsSpace space old.mappings a.mappings) ⊎ (¬ (HasEnded y.left space) × (a.mappings ≡ old.mappings)) =
     subst (λ (t : Threads). (HasEnded t space × EndsSpace space old.mappings a.mappings) ⊎ (¬ (HasEnded t space) × (a.mappings ≡ old.mappings))) left x.mappings in
-    same_machine a b threads (elim again [
+    same_machine a b (x.size ∙ sym y.size) threads (elim again [
       | inl p ↦ elim y.mappings [ inl q ↦ ends_one space old.mappings a.mappings b.mappings p.1 q.1 | inr q ↦ absurd (q.0 p.0) ]
       | inr p ↦ elim y.mappings [ inl q ↦ absurd (p.0 q.0) | inr q ↦ p.1 ∙ sym q.1 ]
     ])
@@ -113,13 +114,13 @@ one_start old n caller (Ipc call) ended a b x y =
 one_start old n caller (Fault call) ended a b x y = x.1 ∙ sym y.1
 one_start old n caller (Unmap call) ended a b x y =
     let fpages : x.0 ≡ y.0 = unmap_reads_same call.control call.words.items x.0 y.0 x.1 y.1 in
-    same_machine a b (x.3 ∙ sym y.3)
-    (unmaps_unique caller.space (with_own call.control) y.0 old.mappings a.mappings b.mappings
-    (subst (λ (f : List Fpage). Unmaps caller.space (with_own call.control) f old.mappings a.mappings) fpages x.4) y.4)
+    same_machine a b (x.5 ∙ sym y.5) (x.3 ∙ sym y.3)
+    (unmaps_unique old.size caller.space (with_own call.control) y.0 old.mappings a.mappings b.mappings
+    (subst (λ (f : List Fpage). Unmaps old.size caller.space (with_own call.control) f old.mappings a.mappings) fpages x.4) y.4)
 one_start old n caller (Controls (Create c)) ended a b x y =
     let both : Ok x.0 ≡ Ok y.0 = sym x.1 ∙ y.1 in
     let space : x.0 ≡ y.0 = cc in
-    x.3 ∙ (λ i. record { threads = end_call (created old.threads c.id (space i) c.pager) n Controlled; mappings = with_space old.mappings (asks_new c.id c.space) (space i) }) ∙ sym y.3
+    x.3 ∙ (λ i. record old { threads = end_call (created old.threads c.id (space i) c.pager) n Controlled; mappings = with_space old.mappings (asks_new c.id c.space) (space i) }) ∙ sym y.3
 one_start old n caller (Controls (SetPager c)) ended a b x y =
     let both : Ok x.0 ≡ Ok y.0 = sym x.1 ∙ y.1 in
     let other : x.0 ≡ y.0 = cc in
@@ -161,19 +162,19 @@ one_meeting t s r a b c d u v p q x y =
     let takes_both : IsReceiver p ≡ IsReceiver q = sym x.to_state ∙ ap (λ (w : Thread). w.state) te ∙ y.to_state in
     record { «from» = fe; to = te; sends = cc; takes = cc }
 
-one_moving : (old : Mappings) (a b : Mappings) (from to : Thread) (sends : Sending) (takes : Receiving) (o : Outcome)
-    → Moves old from.space to.space sends.items.items takes.window o a → Moves old from.space to.space sends.items.items takes.window o b → a ≡ b
-one_moving old a b from to sends takes NoWindow x y = x.1 ∙ sym y.1
-one_moving old a b from to sends takes Entangled x y = x.2 ∙ sym y.2
-one_moving old a b from to sends takes NoMemory x y = x.3 ∙ sym y.3
-one_moving old a b from to sends takes Done x y = transfers_unique (IsUsedBy old from.space to.space sends.items.items takes.window) old a b x.2 y.2
-one_moving old a b from to sends takes Started x y = absurd x
-one_moving old a b from to sends takes Expired x y = absurd x
+one_moving : (size : PageSize) (old : Mappings) (a b : Mappings) (from to : Thread) (sends : Sending) (takes : Receiving) (o : Outcome)
+    → Moves size old from.space to.space sends.items.items takes.window o a → Moves size old from.space to.space sends.items.items takes.window o b → a ≡ b
+one_moving size old a b from to sends takes NoWindow x y = x.1 ∙ sym y.1
+one_moving size old a b from to sends takes Entangled x y = x.2 ∙ sym y.2
+one_moving size old a b from to sends takes NoMemory x y = x.3 ∙ sym y.3
+one_moving size old a b from to sends takes Done x y = transfers_unique (IsUsedBy size old from.space to.space sends.items.items takes.window) old a b x.2 y.2
+one_moving size old a b from to sends takes Started x y = absurd x
+one_moving size old a b from to sends takes Expired x y = absurd x
 
 -- what a transfer does
 abbrev Carries : Machine → ℕ → ℕ → Answer → Machine → Thread → Thread → Sending → Receiving → Type 0
 Carries old s r answer new from to sends takes =
-    Moves old.mappings from.space to.space sends.items.items takes.window answer.outcome new.mappings
+    Moves old.size old.mappings from.space to.space sends.items.items takes.window answer.outcome new.mappings
     × (new.threads ≡ after_transfer (is_done answer.outcome) old.threads s r from sends takes)
 
 one_transfer : (old : Machine) (s r : ℕ) (answer : Answer) (a b : Machine) → Steps old (Transfer s r) (Ok answer) a → Steps old (Transfer s r) (Ok answer) b → a ≡ b
@@ -184,7 +185,7 @@ one_transfer old s r answer a b x y =
     (subst (λ (v : Sending). Carries old s r answer a y.0 y.1 v x.3) m.sends
     (subst (λ (v : Thread). Carries old s r answer a y.0 v x.2 x.3) m.to
     (subst (λ (v : Thread). Carries old s r answer a v x.1 x.2 x.3) m.«from» (x.5, x.7)))) in
-    same_machine a b (c.1 ∙ sym y.7) (one_moving old.mappings a.mappings b.mappings y.0 y.1 y.2 y.3 answer.outcome c.0 y.5)
+    same_machine a b (x.8 ∙ sym y.8) (c.1 ∙ sym y.7) (one_moving old.size old.mappings a.mappings b.mappings y.0 y.1 y.2 y.3 answer.outcome c.0 y.5)
 
 -- THE STEP
 

@@ -49,6 +49,8 @@ use Rattle.l4_ipc.proofs.Items.{items_of_words}
 use Rattle.l4_ipc.proofs.Deletes.{differs, left_at}
 use Rattle.l4_ipc.proofs.Faults.{items_of_fault}
 use Rattle.l4_ipc.proofs.Threads.{past, put_at, state_at, same_next, pager_at, pager_next}
+use Rattle.l4_fpage.specs.declared.sizes.PageSize.{PageSize}
+use Rattle.l4_fpage.specs.declared.sizes.PageSize.TheVariants.{Kib4}
 
 -- THREADS
 
@@ -118,9 +120,9 @@ faithful_ipc t n call sent window sends =
       | false ↦ λ is. faithful_going_on t (later_of call window) false
     ] sends
 
-faithful_fault : (t : Threads) (s : Mappings) (n space : ℕ) (pager : ThreadId) (call : FaultCall) → IsFaithfulNext (fault_next t s n space pager call)
-faithful_fault t s n space pager call =
-    elim (has_page s space call) as (λ b. IsFaithfulNext (if b then Ends Hit else
+faithful_fault : (size : PageSize) (t : Threads) (s : Mappings) (n space : ℕ) (pager : ThreadId) (call : FaultCall) → IsFaithfulNext (fault_next size t s n space pager call)
+faithful_fault size t s n space pager call =
+    elim (has_page size s space call) as (λ b. IsFaithfulNext (if b then Ends Hit else
     option_map_or (λ to. Sends (record { words = record { items = fault_words call }; items = record { items = [] }; to = to; expires = false; «then» = Some (record { «from» = pager; window = Complete all_rights; expires = false }); fault = true }))
     (partner t n pager) (Ends (failed true 4)))) [
       | true ↦ tt
@@ -214,7 +216,7 @@ next_used : (t : Threads) (id : ThreadId) (pager : ThreadId) → (created t id t
 next_used t id pager = ap (λ (b : Bool). if b then t.next_space + 1 else t.next_space) (eq-eqb t.next_space t.next_space refl)
 
 -- a new thread keeps it, in a new space or in that of another thread
-sound_with_space : (s : Mappings) (t : Threads) (id : ThreadId) (space : ℕ) (pager : ThreadId) (asks : Bool) → SpaceOf t asks space → IsSound (machine t s)
+sound_with_space : (s : Mappings) (t : Threads) (id : ThreadId) (space : ℕ) (pager : ThreadId) (asks : Bool) → SpaceOf t asks space → IsSound (machine Kib4 t s)
     → AreSound (with_space s asks space).spaces (created t id space pager)
 sound_with_space s t id space pager true is sound =
     sound_created s.spaces (set.insert s.spaces space) t id space pager (in_new s.spaces space) (in_old s.spaces space)
@@ -282,13 +284,13 @@ sound_without old new t left victim space d (inr stays) sound =
 -- A TRANSFER
 
 -- a transfer begins and ends no space
-moves_keep : (old new : Mappings) («from» to : ℕ) (items : List Item) (window : Fpage) (outcome : Outcome) → Moves old «from» to items window outcome new → new.spaces ≡ old.spaces
-moves_keep old new «from» to items window NoWindow h = ap (λ (s : Mappings). s.spaces) h.1
-moves_keep old new «from» to items window Entangled h = ap (λ (s : Mappings). s.spaces) h.2
-moves_keep old new «from» to items window NoMemory h = ap (λ (s : Mappings). s.spaces) h.3
-moves_keep old new «from» to items window Done h = h.2.cut.spaces ∙ h.2.moved.spaces
-moves_keep old new «from» to items window Started h = absurd h
-moves_keep old new «from» to items window Expired h = absurd h
+moves_keep : (size : PageSize) → (old new : Mappings) («from» to : ℕ) (items : List Item) (window : Fpage) (outcome : Outcome) → Moves size old «from» to items window outcome new → new.spaces ≡ old.spaces
+moves_keep size old new «from» to items window NoWindow h = ap (λ (s : Mappings). s.spaces) h.1
+moves_keep size old new «from» to items window Entangled h = ap (λ (s : Mappings). s.spaces) h.2
+moves_keep size old new «from» to items window NoMemory h = ap (λ (s : Mappings). s.spaces) h.3
+moves_keep size old new «from» to items window Done h = h.2.cut.spaces ∙ h.2.moved.spaces
+moves_keep size old new «from» to items window Started h = absurd h
+moves_keep size old new «from» to items window Expired h = absurd h
 
 -- THE STEP
 
@@ -300,8 +302,8 @@ start_keeps old n (Ipc call) answer new sound x =
     refused_keeps (record old { threads = enters old.threads n (ipc_next old.threads n call x.4.0 x.4.1) }) new x.4.4
     (sound_enters old.mappings.spaces old.threads n _ (faithful_ipc old.threads n call x.4.0 x.4.1 x.4.2.sends) sound)
 start_keeps old n (Fault call) answer new sound x =
-    refused_keeps (record old { threads = enters old.threads n (fault_next old.threads old.mappings n x.0.space x.0.pager call) }) new x.4.1
-    (sound_enters old.mappings.spaces old.threads n _ (faithful_fault old.threads old.mappings n x.0.space x.0.pager call) sound)
+    refused_keeps (record old { threads = enters old.threads n (fault_next old.size old.threads old.mappings n x.0.space x.0.pager call) }) new x.4.1
+    (sound_enters old.mappings.spaces old.threads n _ (faithful_fault old.size old.threads old.mappings n x.0.space x.0.pager call) sound)
 start_keeps old n (Unmap call) answer new sound x =
     let spaces : set.FinSet nat_cmp = old.mappings.spaces in
     let after = sound_state spaces old.threads _ n (Running (Some Unmapped)) tt sound in
@@ -320,12 +322,12 @@ start_keeps old n (Controls (Create c)) answer new sound x =
     let asks : Bool = asks_new c.id c.space in
     let t : Threads = created old.threads c.id space c.pager in
     let made = sound_with_space old.mappings old.threads c.id space c.pager asks (space_is old.threads n c.id c.space space x.4.1) sound in
-    refused_keeps (record { threads = end_call t n Controlled; mappings = with_space old.mappings asks space }) new x.4.3
+    refused_keeps (record old { threads = end_call t n Controlled; mappings = with_space old.mappings asks space }) new x.4.3
     (sound_state (with_space old.mappings asks space).spaces t _ n (Running (Some Controlled)) tt made)
 
 transfer_keeps : (old : Machine) (sender receiver : ℕ) (answer : Answer) (new : Machine) → IsSound old → Steps old (Transfer sender receiver) (Ok answer) new → IsSound new
 transfer_keeps old sender receiver answer new sound x =
-    let kept = moves_keep old.mappings new.mappings x.0.space x.1.space x.2.items.items x.3.window answer.outcome x.5 in
+    let kept = moves_keep old.size old.mappings new.mappings x.0.space x.1.space x.2.items.items x.3.window answer.outcome x.5 in
     let spaces : set.FinSet nat_cmp = old.mappings.spaces in
     let met = sound_state spaces old.threads _ receiver (Running (Some (receiver_reply (is_done answer.outcome) x.0 x.2 x.3))) tt sound in
     let after = sound_enters spaces _ sender (sender_next (is_done answer.outcome) old.threads x.2) (faithful_sender old.threads (is_done answer.outcome) x.2) met in
@@ -368,8 +370,8 @@ two n thread at =
           ]
     ]
 
-pub sound_boot : (frames : ℕ) (first : Mappings) → IsFirst frames first → IsSound (machine first_threads (record first { spaces = set.insert first.spaces 1 }))
-sound_boot frames first is = record {
+pub sound_boot : (size : PageSize) (frames : ℕ) (first : Mappings) → IsFirst frames first → IsSound (machine size first_threads (record first { spaces = set.insert first.spaces 1 }))
+sound_boot size frames first is = record {
   have_spaces = λ n thread at.
       elim (two n thread at) [
         | inl root ↦ subst (λ (k : ℕ). IsTrue (set.contains (set.insert first.spaces 1) k)) (sym root.1) (in_new first.spaces 1)

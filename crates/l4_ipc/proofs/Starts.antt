@@ -1,5 +1,5 @@
 -- Starts, as the machine says them.
-use Rattle.std.proofs.Common.{◌≡◌, ◌≢◌, ℕ, ◌+◌, ◌-◌, ◌==◌, List, length, take, drop, arith, Bool, true, false, if◌then◌else◌, not, Option, Some, None, [], ◌∷◌, Result, Ok, Err, MatchOption, IsTrue, IsSome, refl, sym, ap, ◌∙◌, subst}
+use Rattle.std.proofs.Common.{◌≡◌, ◌≢◌, ℕ, ◌+◌, ◌-◌, ◌==◌, List, length, take, drop, arith, Bool, true, false, if◌then◌else◌, not, Option, Some, None, [], ◌∷◌, Result, Ok, Err, IfOk, IfErr, MatchOption, IsTrue, IsSome, refl, sym, ap, ◌∙◌, subst}
 use Rattle.std.specs.Option.{option_map_or, option_map}
 use Rattle.std.specs.List.{slice_range}
 use Rattle.std.proofs.lemmas.Bool.{false≢true}
@@ -33,12 +33,13 @@ use Rattle.l4_ipc.specs.declared.steps.Refused.{Refused}
 use Rattle.l4_ipc.specs.declared.steps.Refused.TheVariants.{UnknownThread}
 use Rattle.l4_ipc.specs.declared.steps.Step.TheVariants.{Start, Expire}
 use Rattle.l4_ipc.specs.Machine.{Machine, machine}
-use Rattle.l4_ipc.specs.OwnCall.{answered_if, Enters}
 use Rattle.l4_ipc.specs.Start.{has_send, send_timeout, counted_words, partner, IsSent, IsAccepted, CallRefuses, RefusesIn, StartRefuses, later_of, ipc_next, going_on, enters, ended_by}
+use Rattle.l4_ipc.specs.Inside.Answering.{written}
 use Rattle.l4_ipc.specs.Inside.Entering.{CanEnter}
 use Rattle.l4_ipc.specs.Inside.Turns.{sent_of}
 use Rattle.l4_ipc.specs.Steps.{expiry, Meets, sender_next, Steps}
 use Rattle.l4_ipc.proofs.Threads.{running_thread, put_there, pager_there, has_state, state_other}
+use Rattle.l4_fpage.specs.declared.sizes.PageSize.{PageSize}
 
 -- the Start of a running thread is refused where its call is
 pub refuses : (m : Machine) (n : ℕ) (call : Call) (e : Refused) → IsTrue (runs m.threads n) → CallRefuses m n call e → StartRefuses m n call e
@@ -48,22 +49,22 @@ refuses m n call e h r =
     (subst (λ (b : Bool). RefusesIn b m n call e) (sym there.1.1) r)
 
 -- a running thread's Ipc starts
-pub started : (t new : Threads) (s : Mappings) (n : ℕ) (call : IpcCall) (sent : Sent) (window : Fpage) (next : Next) (answer : Answer)
+pub started : (size : PageSize) (t new : Threads) (s : Mappings) (n : ℕ) (call : IpcCall) (sent : Sent) (window : Fpage) (next : Next) (answer : Answer)
     → IsTrue (runs t n) → IsAccepted call sent window
     → next ≡ ipc_next t n call sent window → answer.outcome ≡ Started → answer.ended.items ≡ ended_by n next → new ≡ enters t n next
-    → Steps (machine t s) (Start n (Ipc call)) (Ok answer) (machine new s)
-started t new s n call sent window next answer h accepted is outcome ended after =
+    → Steps (machine size t s) (Start n (Ipc call)) (Ok answer) (machine size new s)
+started size t new s n call sent window next answer h accepted is outcome ended after =
     let there = running_thread t n h in
-    (there.0, there.1.0, there.1.1, outcome, (sent, window, accepted, ended ∙ ap (ended_by n) is, ap (λ (v : Threads). machine v s) (after ∙ ap (enters t n) is)))
+    (there.0, there.1.0, there.1.1, outcome, (sent, window, accepted, ended ∙ ap (ended_by n) is, ap (λ (v : Threads). machine size v s) (after ∙ ap (enters t n) is)))
 
 -- a wait with a timeout of zero that takes part in no enabled transfer ends
-pub expired : (t new : Threads) (s : Mappings) (n : ℕ) (state : State) (reply : Reply) (answer : Answer)
+pub expired : (size : PageSize) (t new : Threads) (s : Mappings) (n : ℕ) (state : State) (reply : Reply) (answer : Answer)
     → CanExpire t n → Some state ≡ state_of t n → reply ≡ expiry state → answer.outcome ≡ Expired → answer.ended.items ≡ n ∷ [] → new ≡ end_call t n reply
-    → Steps (machine t s) (Expire n) (Ok answer) (machine new s)
-expired t new s n state reply answer able at is outcome ended after =
+    → Steps (machine size t s) (Expire n) (Ok answer) (machine size new s)
+expired size t new s n state reply answer able at is outcome ended after =
     let both : Some state ≡ Some able.state = at ∙ able.at in
     let same : state ≡ able.state = cc in
-    (able, outcome, ended, ap (λ (v : Threads). machine v s) (after ∙ ap (end_call t n) (is ∙ ap expiry same)))
+    (able, outcome, ended, ap (λ (v : Threads). machine size v s) (after ∙ ap (end_call t n) (is ∙ ap expiry same)))
 
 -- a thread that runs is there
 running_there : (t : Threads) (n : ℕ) → IsTrue (runs t n) → thread_at t n ≢ None
@@ -192,9 +193,14 @@ sends_to t n call words items window to expires later h there e l =
     ∙ ap (λ o. option_map_or (λ to. Sends (sending_of words items (record { to = to; expires = send_timeout call == 0x400; «then» = later_of call window; fault = false }))) o (Ends (failed false 4))) there
     ∙ sym (sends_next t n call words items window h)
 
--- a start that tells only of its own call is the step all the same
-pub entered : (deletes : Bool) (old new : Machine) (n : ℕ) (call : Call) (told : Result Bool Refused)
-    → Enters deletes old n call told new → (given : Result Answer Refused) × Steps old (Start n call) given new
-entered true old new n call (Ok ended) h = (Ok h.0, h.1)
-entered true old new n call (Err e) h = (Err e, h)
-entered false old new n call told h = (answered_if n told, h)
+-- A START THAT WRITES ITS ANSWER
+
+pub written_ok : (old new : Machine) (n : ℕ) (call : Call) (given : Result (Unit {0}) Refused) (answer : Answer) → Steps old (Start n call) (written given answer) new
+    → IfOk given (λ done. Steps old (Start n call) (Ok answer) new)
+written_ok old new n call (Ok done) answer h = h
+written_ok old new n call (Err e) answer h = tt
+
+pub written_err : (old new : Machine) (n : ℕ) (call : Call) (given : Result (Unit {0}) Refused) (answer : Answer) → Steps old (Start n call) (written given answer) new
+    → IfErr given (λ e. Steps old (Start n call) (Err e) new)
+written_err old new n call (Ok done) answer h = tt
+written_err old new n call (Err e) answer h = h

@@ -179,7 +179,7 @@ pub over : (old new : Machine) (step : Step) (answer : Answer) (n : ℕ) → Ste
 over old new (Start k (Ipc call)) answer n s among =
     subst (λ (m : Machine). IsOver (state_of m.threads n)) (sym s.4.4) (over_entered old.threads k (ipc_next old.threads k call s.4.0 s.4.1) n (subst (λ (xs : List ℕ). Contains xs n) s.4.3 among))
 over old new (Start k (Fault call)) answer n s among =
-    subst (λ (m : Machine). IsOver (state_of m.threads n)) (sym s.4.1) (over_entered old.threads k (fault_next old.threads old.mappings k s.0.space s.0.pager call) n (subst (λ (xs : List ℕ). Contains xs n) s.4.0 among))
+    subst (λ (m : Machine). IsOver (state_of m.threads n)) (sym s.4.1) (over_entered old.threads k (fault_next old.size old.threads old.mappings k s.0.space s.0.pager call) n (subst (λ (xs : List ℕ). Contains xs n) s.4.0 among))
 over old new (Start k (Unmap call)) answer n s among =
     over_at old.threads new.threads k n Unmapped (only k n (subst (λ (xs : List ℕ). Contains xs n) s.4.2 among)) s.4.3
 over old new (Start k (Controls (Create c))) answer n s among =
@@ -263,7 +263,7 @@ still_waits old new (Start k (Ipc call)) answer n s waits left =
     ap (λ (m : Machine). option_map is_running (state_of m.threads n)) s.4.4 ∙ ap (option_map is_running) (entered_else old.threads k (ipc_next old.threads k call s.4.0 s.4.1) n other) ∙ waits
 still_waits old new (Start k (Fault call)) answer n s waits left =
     let other = waits_apart old.threads k n s.0 s.1 s.2 waits in
-    ap (λ (m : Machine). option_map is_running (state_of m.threads n)) s.4.1 ∙ ap (option_map is_running) (entered_else old.threads k (fault_next old.threads old.mappings k s.0.space s.0.pager call) n other) ∙ waits
+    ap (λ (m : Machine). option_map is_running (state_of m.threads n)) s.4.1 ∙ ap (option_map is_running) (entered_else old.threads k (fault_next old.size old.threads old.mappings k s.0.space s.0.pager call) n other) ∙ waits
 still_waits old new (Start k (Unmap call)) answer n s waits left =
     waits_else old.threads new.threads k Unmapped n s.4.3 (waits_apart old.threads k n s.0 s.1 s.2 waits) waits
 still_waits old new (Start k (Controls (Create c))) answer n s waits left =
@@ -307,7 +307,7 @@ starts_waiting old new (Ipc call) answer n s left =
     ∙ waits_entered old.threads n (ipc_next old.threads n call s.4.0 s.4.1) s.0 s.1 (λ c. left (subst (λ (xs : List ℕ). Contains xs n) (sym s.4.3) c))
 starts_waiting old new (Fault call) answer n s left =
     ap (λ (m : Machine). option_map is_running (state_of m.threads n)) s.4.1
-    ∙ waits_entered old.threads n (fault_next old.threads old.mappings n s.0.space s.0.pager call) s.0 s.1 (λ c. left (subst (λ (xs : List ℕ). Contains xs n) (sym s.4.0) c))
+    ∙ waits_entered old.threads n (fault_next old.size old.threads old.mappings n s.0.space s.0.pager call) s.0 s.1 (λ c. left (subst (λ (xs : List ℕ). Contains xs n) (sym s.4.0) c))
 starts_waiting old new (Unmap call) answer n s left = absurd (left (subst (λ (xs : List ℕ). Contains xs n) (sym s.4.2) (in_first n [] n refl)))
 starts_waiting old new (Controls (Create c)) answer n s left = absurd (left (subst (λ (xs : List ℕ). Contains xs n) (sym s.4.2) (in_first n [] n refl)))
 starts_waiting old new (Controls (SetPager c)) answer n s left = absurd (left (subst (λ (xs : List ℕ). Contains xs n) (sym s.4.2) (in_first n [] n refl)))

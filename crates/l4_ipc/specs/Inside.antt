@@ -1,3 +1,4 @@
+pub mod Answering
 pub mod Delivering
 pub mod Entering
 pub mod Kept

@@ -1,4 +1,5 @@
 pub mod Machine
+pub mod SpacePages
 pub mod Start
 pub mod Moving
 pub mod Steps

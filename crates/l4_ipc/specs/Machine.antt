@@ -6,24 +6,28 @@ use Rattle.l4_mapdb.specs.Mappings.{Mappings, mappings_code}
 use Rattle.l4_mapdb.specs.Boot.{IsFirst}
 use Rattle.l4_threads.specs.declared.Thread.{Thread}
 use Rattle.l4_threads.specs.Threads.{Threads, first_threads, threads_code}
+use Rattle.l4_fpage.specs.declared.sizes.PageSize.{PageSize}
+use Rattle.l4_fpage.specs.Pages.{size_code}
 
--- who there is and what each does, and what each space shows
+-- the size of its pages, who there is and what each does, and what each space shows
 pub record Machine : Type 0 where
+  pub size : PageSize
   pub threads : Threads
   pub mappings : Mappings
 
--- the machine of these two parts
-abbrev pub machine : Threads → Mappings → Machine
-machine t s = record { threads = t; mappings = s }
+-- the machine of these three parts
+abbrev pub machine : PageSize → Threads → Mappings → Machine
+machine size t s = record { size = size; threads = t; mappings = s }
 
--- the kernel as it boots (this profile's own): sigma0 and root run, space 0 shows each frame at the page of its number, and space 1 shows none
+-- the kernel as it boots, whatever the size of its pages (this profile's own): sigma0 and root run, space 0 shows each frame at the page of its number, and space 1 shows none
 pub record IsBoot (frames : ℕ) (m : Machine) : Type 0 where
   pub threads : m.threads ≡ first_threads
   pub first : Mappings
   pub first_is : IsFirst frames first
   pub mappings : m.mappings ≡ record first { spaces = set.insert first.spaces 1 }
 
--- a machine is stored as its two parts
+-- a machine is stored as its three parts
 abbrev pub machine_code : Coded Thread → Coded Machine
 machine_code thread =
-    code_by (Threads × Mappings) (coded× (threads_code thread) mappings_code) (λ m. (m.threads, m.mappings)) (λ p. record { threads = p.0; mappings = p.1 }) (λ _. refl)
+    code_by (PageSize × (Threads × Mappings)) (coded× size_code (coded× (threads_code thread) mappings_code)) (λ m. (m.size, (m.threads, m.mappings)))
+    (λ p. record { size = p.0; threads = p.1.0; mappings = p.1.1 }) (λ _. refl)

@@ -11,23 +11,24 @@ use Rattle.l4_mapdb.specs.Mappings.{Mappings, shown}
 use Rattle.l4_mapdb.specs.Transfer.{PageMove, IsEntangled, NeedsPlace, Transfers}
 use Rattle.l4_ipc.specs.declared.steps.Outcome.{Outcome}
 use Rattle.l4_ipc.specs.declared.steps.Outcome.TheVariants.{Started, Done, NoWindow, Entangled, NoMemory, Expired}
+use Rattle.l4_fpage.specs.declared.sizes.PageSize.{PageSize}
 
 -- The move is used: the item of its number moves its source to its target in the window, the source is present, and the rights
 -- that it has in common with the item are not none. All is read from the mappings before the step.
-pub record IsUsedBy (old : Mappings) («from» to : ℕ) (items : List Item) (window : Fpage) (move : PageMove) : Type 0 where
+pub record IsUsedBy (size : PageSize) (old : Mappings) («from» to : ℕ) (items : List Item) (window : Fpage) (move : PageMove) : Type 0 where
   pub by : Item
   pub item : slice_get items move.item ≡ Some by
   pub from_space : move.source.space ≡ «from»
   pub to_space : move.target.space ≡ to
-  pub pages : ItemMoves by window move.source.page move.target.page
+  pub pages : ItemMoves size by window move.source.page move.target.page
   pub grant : move.grant ≡ is_grant by
   pub present : shown old move.source ≡ Some move.shows
   pub rights : move.rights ≡ common move.shows.rights (rights_of (fpage_of by))
   pub some_right : move.rights ≢ no_rights
 
-module _ (old : Mappings) («from» to : ℕ) (items : List Item) (window : Fpage) where
+module _ (size : PageSize) (old : Mappings) («from» to : ℕ) (items : List Item) (window : Fpage) where
   abbrev pub Used : PageMove → Type 0
-  Used = IsUsedBy old «from» to items window
+  Used = IsUsedBy size old «from» to items window
 
   -- the message has items and the receiver's window is nil
   abbrev pub LacksWindow : Type 0

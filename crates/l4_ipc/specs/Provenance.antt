@@ -41,7 +41,7 @@ pub record Brings (event : Event) (link : Link) : Type 0 where
   pub sends : Sending
   pub takes : Receiving
   pub delivery : IsDelivery event «from» to sends takes
-  pub used : IsUsedBy event.before.mappings «from».space to.space sends.items.items takes.window link.move
+  pub used : IsUsedBy event.before.size event.before.mappings «from».space to.space sends.items.items takes.window link.move
   pub item : slice_get sends.items.items link.move.item ≡ Some link.item
 
 -- the event neither removes the place nor writes it again
@@ -94,7 +94,7 @@ pub record Flushes (event : Event) (place : Place) : Type 0 where
   pub fpages : List Fpage
   pub reads : UnmapReads call.control call.words.items fpages
   pub space : place.space ≡ caller.space
-  pub named : (right : Right) → (fpage : Fpage) × Contains fpages fpage × IsTrue (has (rights_of fpage) right) × HoldsPage fpage place.page
+  pub named : (right : Right) → (fpage : Fpage) × Contains fpages fpage × IsTrue (has (rights_of fpage) right) × HoldsPage event.before.size fpage place.page
 
 -- The provenance of the last place leads through this one, as it stood before the rest of the events: it reached the place after
 -- the earlier events, none of the events since then removed the place or wrote it again, and from there it leads on.

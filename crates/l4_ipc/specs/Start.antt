@@ -36,6 +36,7 @@ use Rattle.l4_ipc.specs.declared.next.Next.{Next}
 use Rattle.l4_ipc.specs.declared.next.Next.TheVariants.{Ends, Sends, Receives}
 use Rattle.l4_ipc.specs.declared.sent.Sent.{Sent}
 use Rattle.l4_ipc.specs.Machine.{Machine}
+use Rattle.l4_fpage.specs.declared.sizes.PageSize.{PageSize}
 
 -- WHAT THE PHASES OF AN IPC BRING
 
@@ -149,8 +150,8 @@ ipc_next t n call sent window =
     else going_on t (later_of call window) false
 
 -- the space shows the page, with all rights of the access
-abbrev pub has_page : Mappings → ℕ → FaultCall → Bool
-has_page s space call = holds (rights_at s (record { space = space; page = call.address / page_bytes })) where
+abbrev pub has_page : PageSize → Mappings → ℕ → FaultCall → Bool
+has_page size s space call = holds (rights_at s (record { space = space; page = call.address / page_bytes size })) where
   holds : RightsSet → Bool
   holds rights = is_none (without call.access rights) && not (is_none rights)
 
@@ -159,9 +160,9 @@ abbrev pub fault_words : FaultCall → List ℕ
 fault_words call = message_words (fault_message (record { address = call.address; ip = call.ip; access = call.access }))
 
 -- a fault starts: it is a hit, or it is sent to the pager, from which it then receives
-abbrev pub fault_next : Threads → Mappings → ℕ → ℕ → ThreadId → FaultCall → Next
-fault_next t s n space pager call =
-    if has_page s space call then Ends Hit else
+abbrev pub fault_next : PageSize → Threads → Mappings → ℕ → ℕ → ThreadId → FaultCall → Next
+fault_next size t s n space pager call =
+    if has_page size s space call then Ends Hit else
     option_map_or (λ to. Sends (record { words = record { items = fault_words call }; items = record { items = [] }; to = to; expires = false; «then» = Some (record { «from» = pager; window = Complete all_rights; expires = false }); fault = true }))
     (partner t n pager) (Ends (failed true 4))
 

@@ -52,6 +52,7 @@ pub record IsDeleteList (caller victim : ℕ) (old new : Machine) (ended : List 
 pub record DeletesThread (caller victim space : ℕ) (old new : Machine) : Type 0 where
   pub left : Threads
   pub deleted : Deletes victim old.threads left
+  pub size : new.size ≡ old.size
   pub threads : new.threads ≡ end_call left caller Controlled
   pub mappings :
       (HasEnded left space × EndsSpace space old.mappings new.mappings)
@@ -69,15 +70,16 @@ Starts old n caller (Ipc call) ended new =
     × (ended ≡ ended_by n (ipc_next old.threads n call sent window))
     × (new ≡ record old { threads = enters old.threads n (ipc_next old.threads n call sent window) })
 Starts old n caller (Fault call) ended new =
-    (ended ≡ ended_by n (fault_next old.threads old.mappings n caller.space caller.pager call))
-    × (new ≡ record old { threads = enters old.threads n (fault_next old.threads old.mappings n caller.space caller.pager call) })
+    (ended ≡ ended_by n (fault_next old.size old.threads old.mappings n caller.space caller.pager call))
+    × (new ≡ record old { threads = enters old.threads n (fault_next old.size old.threads old.mappings n caller.space caller.pager call) })
 Starts old n caller (Unmap call) ended new =
     (fpages : List Fpage) × UnmapReads call.control call.words.items fpages
     × (ended ≡ n ∷ []) × (new.threads ≡ end_call old.threads n Unmapped)
-    × Unmaps caller.space (with_own call.control) fpages old.mappings new.mappings
+    × Unmaps old.size caller.space (with_own call.control) fpages old.mappings new.mappings
+    × (new.size ≡ old.size)
 Starts old n caller (Controls (Create c)) ended new =
     (space : ℕ) × (create_test old.threads n c.id c.space ≡ Ok space) × (ended ≡ n ∷ [])
-    × (new ≡ record { threads = end_call (created old.threads c.id space c.pager) n Controlled; mappings = with_space old.mappings (asks_new c.id c.space) space })
+    × (new ≡ record old { threads = end_call (created old.threads c.id space c.pager) n Controlled; mappings = with_space old.mappings (asks_new c.id c.space) space })
 Starts old n caller (Controls (SetPager c)) ended new =
     (other : ℕ) × (set_pager_test old.threads n c.id ≡ Ok other) × (ended ≡ n ∷ [])
     × (new ≡ record old { threads = end_call (with_pager old.threads other c.pager) n Controlled })
@@ -158,9 +160,10 @@ Steps old (Start n call) (Err e) new =
     (StartRefuses old n call e ⊎ (LacksMemory old n call × (e ≡ Lower LowerNoMemory))) × (new ≡ old)
 Steps old (Transfer sender receiver) (Ok answer) new =
     («from» : Thread) × (to : Thread) × (sends : Sending) × (takes : Receiving) × Meets old.threads sender receiver «from» to sends takes
-    × Moves old.mappings «from».space to.space sends.items.items takes.window answer.outcome new.mappings
+    × Moves old.size old.mappings «from».space to.space sends.items.items takes.window answer.outcome new.mappings
     × (answer.ended.items ≡ ended_in_transfer (is_done answer.outcome) old.threads sender receiver sends)
     × (new.threads ≡ after_transfer (is_done answer.outcome) old.threads sender receiver «from» sends takes)
+    × (new.size ≡ old.size)
 Steps old (Transfer sender receiver) (Err e) new = ¬ (IsFirstSender old.threads receiver sender) × (e ≡ NotEnabled) × (new ≡ old)
 Steps old (Expire n) (Ok answer) new =
     (able : CanExpire old.threads n)

@@ -5,6 +5,8 @@ ghost use Rattle.l4_threads.specs.Threads.{state_of, runs, end_call};
 ghost use Rattle.l4_threads.specs.Enabled.{IsFirstSender};
 ghost use Rattle.l4_threads.specs.declared.Reply.TheVariants.{Controlled};
 ghost use Rattle.l4_ipc.specs.Machine.{machine};
+ghost use Rattle.l4_ipc.specs.SpacePages.{FitIn};
+ghost use Rattle.l4_fpage.specs.declared.sizes.PageSize.{PageSize as APageSize};
 ghost use Rattle.l4_threads.specs.Control.{asks_new};
 ghost use Rattle.l4_ipc.specs.Inside.Sound.{HaveSpaces};
 ghost use Rattle.l4_msg.specs.Messages.{HasGoodTag, tag_of};
@@ -12,7 +14,8 @@ ghost use Rattle.l4_msg.specs.Sizes.{max_words, max_items};
 ghost use Rattle.l4_msg.specs.Tags.{TagReads};
 ghost use Rattle.l4_ipc.specs.Start.{has_send, has_bad_timeout, IsSent};
 ghost use Rattle.l4_ipc.specs.Inside.Turns.{reply_of, sent_of};
-ghost use Rattle.l4_ipc.specs.OwnCall.{ended_if, answered_if, is_delete, Enters};
+ghost use Rattle.l4_ipc.specs.Inside.Answering.{answered_if, written};
+ghost use Rattle.l4_ipc.specs.OwnCall.{ended_if, own_answer};
 ghost use Rattle.l4_ipc.specs.NextSteps.{transfer_answer, expire_answer};
 ghost use Rattle.l4_ipc.specs.Steps.{expiry, with_space, Steps};
 ghost use Rattle.l4_ipc.specs.declared.steps.Step.TheVariants.{Start, Transfer as Transfers, Expire as Expires};
@@ -31,6 +34,7 @@ use crate::starting::{end, enter, going_on, partner};
 use crate::steps::{Answer, Lower, Outcome, Refused};
 use crate::turns::Ending;
 use arrayvec::ArrayVec;
+use l4_fpage::PageSize;
 use l4_mapdb::{Forest, NoMemory};
 use l4_msg::{Item, Message, Tag};
 use l4_threads::{Activity, Envelope, MAX_THREADS, SendPhase, ThreadId, Threads, Wordless};
@@ -51,24 +55,27 @@ fn list_if(ends: bool, number: u32) -> ArrayVec<u32, MAX_THREADS>
     list
 }
 
-/// The answer of a call that was entered, in which this thread's call ended or none did.
-fn started(ends: bool, number: u32) -> Answer
-    ensures outcome { result.outcome ≡ Started }
-    ensures ended { result.ended.items ≡ ended_if ends number }
+/// Writes that a call was entered, in which this thread's call ended or none did.
+fn write_started(answer: &mut Answer, number: u32, ends: bool)
+    ensures { answer.new ≡ own_answer ends number }
 {
-    Answer {
-        outcome: Outcome::Started,
-        ended: list_if(ends, number),
+    answer.outcome = Outcome::Started;
+    answer.ended.clear();
+    if ends {
+        answer.ended.push(number);
     }
 }
 
-/// The answer of a call that was entered, or why it is refused: a list of threads has room for all of them, so it is made once and last.
+/// Writes what a call that was entered did, or hands on why it is refused.
 #[inline(always)]
-fn answered(entered: Result<bool, Refused>, number: u32) -> Result<Answer, Refused>
-    ensures { result ≡ answered_if number entered }
+fn tell(entered: Result<bool, Refused>, number: u32, answer: &mut Answer) -> Result<(), Refused>
+    ensures { written result answer.new ≡ answered_if number entered }
 {
     match entered {
-        Ok(ends) => Ok(started(ends, number)),
+        Ok(ends) => {
+            write_started(answer, number, ends);
+            Ok(())
+        }
         Err(e) => Err(e),
     }
 }
@@ -77,7 +84,7 @@ fn answered(entered: Result<bool, Refused>, number: u32) -> Result<Answer, Refus
 fn start_receive(threads: &mut Threads, number: u32, call: &IpcCall) -> Result<bool, Refused>
     requires running { IsTrue (runs threads.old number) }
     requires receives { has_send call.now ≡ false }
-    ensures { (s : Mappings) → Steps (machine threads.old s) (Start number (Ipc call.now)) (answered_if number result) (machine threads.new s) }
+    ensures { (size : APageSize) (s : Mappings) → Steps (machine size threads.old s) (Start number (Ipc call.now)) (answered_if number result) (machine size threads.new s) }
 {
     if call.has_bad_timeout() {
         return Err(Refused::BadTimeout);
@@ -106,7 +113,7 @@ fn start_message(
     requires sent { IsSent true call.now.words.items (sent_of words.now items.now) }
     requires words { length words.now ≤ max_words }
     requires items { length items.now ≤ max_items }
-    ensures { (s : Mappings) → Steps (machine threads.old s) (Start number (Ipc call.now)) (answered_if number result) (machine threads.new s) }
+    ensures { (size : APageSize) (s : Mappings) → Steps (machine size threads.old s) (Start number (Ipc call.now)) (answered_if number result) (machine size threads.new s) }
 {
     let window = match call.window() {
         Ok(window) => window,
@@ -140,7 +147,7 @@ fn start_listed(
     requires sends { has_send call.now ≡ true }
     requires good { HasGoodTag call.now.words.items }
     requires tag { TagReads (tag_of call.now.words.items) tag.now }
-    ensures { (s : Mappings) → Steps (machine threads.old s) (Start number (Ipc call.now)) (answered_if number result) (machine threads.new s) }
+    ensures { (size : APageSize) (s : Mappings) → Steps (machine size threads.old s) (Start number (Ipc call.now)) (answered_if number result) (machine size threads.new s) }
 {
     let items = match Message::read_typed(call.words.as_slice(), tag) {
         Ok(items) => items,
@@ -167,7 +174,7 @@ fn start_items(
     requires sends { has_send call.now ≡ true }
     requires good { HasGoodTag call.now.words.items }
     requires tag { TagReads (tag_of call.now.words.items) tag.now }
-    ensures { (s : Mappings) → Steps (machine threads.old s) (Start number (Ipc call.now)) (answered_if number result) (machine threads.new s) }
+    ensures { (size : APageSize) (s : Mappings) → Steps (machine size threads.old s) (Start number (Ipc call.now)) (answered_if number result) (machine size threads.new s) }
 {
     if tag.typed != ITEM_WORDS {
         return start_listed(threads, number, call, tag);
@@ -182,7 +189,7 @@ fn start_items(
 /// Starts an Ipc of a running thread.
 fn start_ipc(threads: &mut Threads, number: u32, call: &IpcCall) -> Result<bool, Refused>
     requires { IsTrue (runs threads.old number) }
-    ensures { (s : Mappings) → Steps (machine threads.old s) (Start number (Ipc call.now)) (answered_if number result) (machine threads.new s) }
+    ensures { (size : APageSize) (s : Mappings) → Steps (machine size threads.old s) (Start number (Ipc call.now)) (answered_if number result) (machine size threads.new s) }
 {
     if !call.has_send() {
         return start_receive(threads, number, call);
@@ -204,17 +211,18 @@ fn start_ipc(threads: &mut Threads, number: u32, call: &IpcCall) -> Result<bool,
 fn start_fault(
     threads: &mut Threads,
     forest: &Forest,
+    size: PageSize,
     number: u32,
     call: &FaultCall,
 ) -> Result<bool, Refused>
     requires { IsTrue (runs threads.old number) }
-    ensures { Steps (machine threads.old forest.now) (Start number (Faults call.now)) (answered_if number result) (machine threads.new forest.now) }
+    ensures { Steps (machine size threads.old forest.now) (Start number (Faults call.now)) (answered_if number result) (machine size threads.new forest.now) }
 {
     let Some(thread) = threads.thread(number) else {
         return Err(Refused::UnknownThread);
     };
     let (space, pager) = (thread.space, thread.pager);
-    let ends = enter_fault(threads, forest, number, space, pager, call);
+    let ends = enter_fault(threads, forest, size, number, space, pager, call);
     Ok(ends)
 }
 
@@ -222,16 +230,17 @@ fn start_fault(
 fn start_unmap(
     threads: &mut Threads,
     forest: &mut Forest,
+    size: PageSize,
     number: u32,
     call: &UnmapCall,
 ) -> Result<bool, Refused>
     requires { IsTrue (runs threads.old number) }
-    ensures { Steps (machine threads.old forest.old) (Start number (Unmaps call.now)) (answered_if number result) (machine threads.new forest.new) }
+    ensures { Steps (machine size threads.old forest.old) (Start number (Unmaps call.now)) (answered_if number result) (machine size threads.new forest.new) }
 {
     let Some(space) = threads.space_of(number) else {
         return Err(Refused::UnknownThread);
     };
-    if let Err(fault) = unmap(forest, space, call.control, call.words.as_slice()) {
+    if let Err(fault) = unmap(forest, space, size, call.control, call.words.as_slice()) {
         return Err(Refused::Lower(Lower::Unmap(fault)));
     }
     threads.end_wordless(number, Wordless::Unmapped);
@@ -267,7 +276,7 @@ fn create(
     call: &Create,
 ) -> Result<bool, Refused>
     requires { IsTrue (runs threads.old number) }
-    ensures { Steps (machine threads.old forest.old) (Start number (Controls (Creates call.now))) (answered_if number result) (machine threads.new forest.new) }
+    ensures { (size : APageSize) → Steps (machine size threads.old forest.old) (Start number (Controls (Creates call.now))) (answered_if number result) (machine size threads.new forest.new) }
 {
     let space = match threads.test_create(number, call.id, call.space) {
         Ok(space) => space,
@@ -284,7 +293,7 @@ fn create(
 /// Gives a thread another pager for a running thread.
 fn set_pager(threads: &mut Threads, number: u32, call: &SetPager) -> Result<bool, Refused>
     requires { IsTrue (runs threads.old number) }
-    ensures { (s : Mappings) → Steps (machine threads.old s) (Start number (Controls (SetsPager call.now))) (answered_if number result) (machine threads.new s) }
+    ensures { (size : APageSize) (s : Mappings) → Steps (machine size threads.old s) (Start number (Controls (SetsPager call.now))) (answered_if number result) (machine size threads.new s) }
 {
     if let Err(fault) = threads.set_pager(number, call.id, call.pager) {
         return Err(Refused::Lower(Lower::Thread(fault)));
@@ -293,43 +302,28 @@ fn set_pager(threads: &mut Threads, number: u32, call: &SetPager) -> Result<bool
     Ok(true)
 }
 
-/// Deletes a thread for a running thread, whose call it ends.
-fn delete_untold(
-    threads: &mut Threads,
-    forest: &mut Forest,
-    number: u32,
-    id: ThreadId,
-) -> Result<bool, Refused>
-    requires { IsTrue (runs threads.old number) }
-    ensures { Enters true (machine threads.old forest.old) number (Controls (Deletes id)) result (machine threads.new forest.new) }
-{
-    match delete(threads, forest, number, id) {
-        Ok(_) => Ok(true),
-        Err(e) => Err(e),
-    }
-}
-
 /// Starts a control of threads by a running thread.
-fn enter_control(
+fn start_control(
     threads: &mut Threads,
     forest: &mut Forest,
     number: u32,
     control: &Control,
-) -> Result<bool, Refused>
+    answer: &mut Answer,
+) -> Result<(), Refused>
     requires { IsTrue (runs threads.old number) }
-    ensures { Enters (is_delete (Controls control.now)) (machine threads.old forest.old) number (Controls control.now) result (machine threads.new forest.new) }
+    ensures { (size : APageSize) → Steps (machine size threads.old forest.old) (Start number (Controls control.now)) (written result answer.new) (machine size threads.new forest.new) }
 {
     match control {
-        Control::Create(call) => create(threads, forest, number, call),
-        Control::SetPager(call) => set_pager(threads, number, call),
-        Control::Delete(id) => delete_untold(threads, forest, number, *id),
+        Control::Create(call) => tell(create(threads, forest, number, call), number, answer),
+        Control::SetPager(call) => tell(set_pager(threads, number, call), number, answer),
+        Control::Delete(id) => delete(threads, forest, number, *id, answer),
     }
 }
 
 /// Why a thread can start no call, where it can't.
 fn not_running(threads: &Threads, number: u32) -> Option<Refused>
     ensures { MatchOption result (IsTrue (runs threads.now number))
-        (λ e. (call : Call) (s : Mappings) → Steps (machine threads.now s) (Start number call) (Err e) (machine threads.now s)) }
+        (λ e. (call : Call) (size : APageSize) (s : Mappings) → Steps (machine size threads.now s) (Start number call) (Err e) (machine size threads.now s)) }
 {
     let Some(state) = threads.state(number) else {
         return Some(Refused::UnknownThread);
@@ -340,64 +334,68 @@ fn not_running(threads: &Threads, number: u32) -> Option<Refused>
     Some(Refused::Busy)
 }
 
-/// Starts a call, and tells whether it has ended.
-pub fn enter_call(
-    threads: &mut Threads,
-    forest: &mut Forest,
-    number: u32,
-    call: &Call,
-) -> Result<bool, Refused>
-    ensures { Enters (is_delete call.now) (machine threads.old forest.old) number call.now result (machine threads.new forest.new) }
-{
-    if let Some(e) = not_running(threads, number) {
-        return Err(e);
-    }
-    match call {
-        Call::Ipc(call) => start_ipc(threads, number, call),
-        Call::Unmap(call) => start_unmap(threads, forest, number, call),
-        Call::Fault(call) => start_fault(threads, forest, number, call),
-        Call::Control(control) => enter_control(threads, forest, number, control),
-    }
-}
-
-/// The thread that a Delete names.
-fn victim(call: &Call) -> Option<ThreadId>
-    ensures { MatchOption result (is_delete call.now ≡ false) (λ id. call.now ≡ Controls (Deletes id)) }
-{
-    match call {
-        Call::Control(Control::Delete(id)) => Some(*id),
-        _ => None,
-    }
-}
-
-/// Starts a call.
+/// Starts a call, and writes what that did in the place of another answer.
 pub fn start(
     threads: &mut Threads,
     forest: &mut Forest,
+    size: PageSize,
     number: u32,
     call: &Call,
-) -> Result<Answer, Refused>
-    ensures { Steps (machine threads.old forest.old) (Start number call.now) result (machine threads.new forest.new) }
+    answer: &mut Answer,
+) -> Result<(), Refused>
+    ensures { Steps (machine size threads.old forest.old) (Start number call.now) (written result answer.new) (machine size threads.new forest.new) }
 {
-    let Some(id) = victim(call) else {
-        return answered(enter_call(threads, forest, number, call), number);
-    };
     if let Some(e) = not_running(threads, number) {
         return Err(e);
     }
-    delete(threads, forest, number, id)
+    match call {
+        Call::Ipc(call) => tell(start_ipc(threads, number, call), number, answer),
+        Call::Unmap(call) => tell(
+            start_unmap(threads, forest, size, number, call),
+            number,
+            answer,
+        ),
+        Call::Fault(call) => tell(
+            start_fault(threads, forest, size, number, call),
+            number,
+            answer,
+        ),
+        Call::Control(control) => start_control(threads, forest, number, control, answer),
+    }
+}
+
+/// Starts a call, and gives what that did.
+pub fn start_answered(
+    threads: &mut Threads,
+    forest: &mut Forest,
+    size: PageSize,
+    number: u32,
+    call: &Call,
+) -> Result<Answer, Refused>
+    ensures { Steps (machine size threads.old forest.old) (Start number call.now) result (machine size threads.new forest.new) }
+{
+    let mut answer = Answer {
+        outcome: Outcome::Started,
+        ended: ArrayVec::new(),
+    };
+    match start(threads, forest, size, number, call, &mut answer) {
+        Ok(()) => Ok(answer),
+        Err(e) => Err(e),
+    }
 }
 
 /// Does a transfer that is enabled, and tells what it did, and whether the sender's call ended.
 pub fn carry_over(
     threads: &mut Threads,
     forest: &mut Forest,
+    size: PageSize,
     sender: u32,
     receiver: u32,
 ) -> (Outcome, bool)
     requires spaces { HaveSpaces forest.old.spaces threads.old }
     requires enabled { IsFirstSender threads.old receiver sender }
-    ensures { Steps (machine threads.old forest.old) (Transfers sender receiver) (Ok (transfer_answer sender receiver result.0 result.1)) (machine threads.new forest.new) }
+    ensures step { Steps (machine size threads.old forest.old) (Transfers sender receiver) (Ok (transfer_answer sender receiver result.0 result.1)) (machine size threads.new forest.new) }
+    ensures fits { FitIn size forest.old → FitIn size forest.new }
 {
     let Some(meeting) = meet(threads, sender, receiver) else {
         unreachable!()
@@ -407,6 +405,7 @@ pub fn carry_over(
         forest,
         meeting.from.space,
         meeting.to.space,
+        size,
         items,
         &meeting.takes.window,
     );
@@ -436,16 +435,18 @@ pub fn transfer_answer(sender: u32, receiver: u32, outcome: Outcome, ends: bool)
 pub fn transfer(
     threads: &mut Threads,
     forest: &mut Forest,
+    size: PageSize,
     sender: u32,
     receiver: u32,
 ) -> Result<Answer, Refused>
     requires { HaveSpaces forest.old.spaces threads.old }
-    ensures { Steps (machine threads.old forest.old) (Transfers sender receiver) result (machine threads.new forest.new) }
+    ensures step { Steps (machine size threads.old forest.old) (Transfers sender receiver) result (machine size threads.new forest.new) }
+    ensures fits { FitIn size forest.old → FitIn size forest.new }
 {
     if !threads.can_transfer(sender, receiver) {
         return Err(Refused::NotEnabled);
     }
-    let (outcome, ends) = carry_over(threads, forest, sender, receiver);
+    let (outcome, ends) = carry_over(threads, forest, size, sender, receiver);
     Ok(transfer_answer(sender, receiver, outcome, ends))
 }
 
@@ -464,8 +465,8 @@ fn expiry(state: &Activity) -> Ending
 
 /// Ends a wait with a timeout of zero, and tells no more.
 pub fn expire_untold(threads: &mut Threads, number: u32) -> Result<(), Refused>
-    ensures ok { IfOk result (λ _. (s : Mappings) → Steps (machine threads.old s) (Expires number) (Ok (expire_answer number)) (machine threads.new s)) }
-    ensures err { IfErr result (λ e. (s : Mappings) → Steps (machine threads.old s) (Expires number) (Err e) (machine threads.new s)) }
+    ensures ok { IfOk result (λ _. (size : APageSize) (s : Mappings) → Steps (machine size threads.old s) (Expires number) (Ok (expire_answer number)) (machine size threads.new s)) }
+    ensures err { IfErr result (λ e. (size : APageSize) (s : Mappings) → Steps (machine size threads.old s) (Expires number) (Err e) (machine size threads.new s)) }
 {
     if !threads.can_expire(number) {
         return Err(Refused::NotEnabled);
@@ -490,7 +491,7 @@ pub fn expire_answer(number: u32) -> Answer
 
 /// Ends a wait with a timeout of zero.
 pub fn expire(threads: &mut Threads, number: u32) -> Result<Answer, Refused>
-    ensures { (s : Mappings) → Steps (machine threads.old s) (Expires number) result (machine threads.new s) }
+    ensures { (size : APageSize) (s : Mappings) → Steps (machine size threads.old s) (Expires number) result (machine size threads.new s) }
 {
     match expire_untold(threads, number) {
         Ok(()) => Ok(expire_answer(number)),

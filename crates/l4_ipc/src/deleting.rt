@@ -4,6 +4,8 @@ ghost use Rattle.l4_mapdb.specs.Losing.{EndsSpace};
 ghost use Rattle.l4_threads.specs.Sizes.{max_threads};
 ghost use Rattle.l4_threads.specs.Threads.{runs};
 ghost use Rattle.l4_ipc.specs.Machine.{machine};
+ghost use Rattle.l4_fpage.specs.declared.sizes.PageSize.{PageSize as APageSize};
+ghost use Rattle.l4_ipc.specs.Inside.Answering.{written};
 ghost use Rattle.l4_ipc.specs.Steps.{Steps};
 ghost use Rattle.l4_ipc.specs.declared.steps.Step.TheVariants.{Start};
 ghost use Rattle.l4_ipc.specs.declared.calls.Call.TheVariants.{Control as Controls};
@@ -33,15 +35,18 @@ fn caller_first(number: u32, others: ArrayVec<u32, MAX_THREADS>) -> ArrayVec<u32
     ended
 }
 
-/// Deletes a thread for a running thread.
+/// Deletes a thread for a running thread, and writes whose calls ended in the place of another answer. It is apart, as the list of a deletion has room
+/// for the numbers of all threads, which no other call is to clear.
+#[inline(never)]
 pub fn delete(
     threads: &mut Threads,
     forest: &mut Forest,
     number: u32,
     id: ThreadId,
-) -> Result<Answer, Refused>
+    answer: &mut Answer,
+) -> Result<(), Refused>
     requires { IsTrue (runs threads.old number) }
-    ensures { Steps (machine threads.old forest.old) (Start number (Controls (Deletion id))) result (machine threads.new forest.new) }
+    ensures { (size : APageSize) → Steps (machine size threads.old forest.old) (Start number (Controls (Deletion id))) (written result answer.new) (machine size threads.new forest.new) }
 {
     threads.law_consistent();
     let deleted = match threads.delete(number, id) {
@@ -50,8 +55,7 @@ pub fn delete(
     };
     end_space(forest, deleted.space);
     threads.end_wordless(number, Wordless::Controlled);
-    Ok(Answer {
-        outcome: Outcome::Started,
-        ended: caller_first(number, deleted.ended),
-    })
+    answer.outcome = Outcome::Started;
+    answer.ended = caller_first(number, deleted.ended);
+    Ok(())
 }

@@ -6,6 +6,8 @@ ghost use Rattle.l4_fpage.specs.declared.fpages.Fpage.TheVariants.{Nil as NilFpa
 ghost use Rattle.l4_msg.specs.Sizes.{max_items};
 ghost use Rattle.l4_threads.specs.Enabled.{IsFirstSender};
 ghost use Rattle.l4_ipc.specs.Moving.{Moves};
+ghost use Rattle.l4_ipc.specs.SpacePages.{FitIn};
+ghost use Rattle.l4_msg.specs.Moves.{StaysIn};
 ghost use Rattle.l4_ipc.specs.Inside.Delivering.{IsListed, outcome_of};
 ghost use Rattle.l4_ipc.specs.Inside.Turns.{reply_or, next_of, message_reply};
 ghost use Rattle.l4_ipc.specs.Steps.{Meets, receiver_reply, sender_next, is_done};
@@ -13,6 +15,7 @@ ghost use Rattle.l4_threads.specs.Threads.{state_of, end_call, message_of};
 ghost use Rattle.l4_threads.specs.declared.Reply.TheVariants.{Ipc};
 ghost use Rattle.l4_threads.specs.declared.State.TheVariants.{Sending as Sends};
 ghost use Rattle.l4_fpage.specs.declared.fpages.Fpage.{Fpage as AnFpage};
+ghost use Rattle.l4_fpage.specs.declared.sizes.PageSize.{PageSize as APageSize};
 ghost use Rattle.l4_msg.specs.declared.items.Item.{Item as AnItem};
 ghost use Rattle.l4_threads.specs.declared.Sending.{Sending as ASending};
 ghost use Rattle.l4_threads.specs.declared.Thread.{Thread as AThread};
@@ -21,7 +24,7 @@ use crate::starting::{end, going_on};
 use crate::steps::Outcome;
 use crate::turns::{Ending, Turn};
 use arrayvec::ArrayVec;
-use l4_fpage::{Block, Fpage, Rights};
+use l4_fpage::{Block, Fpage, PageSize, Rights};
 use l4_mapdb::{Cause, Forest, ItemMove};
 use l4_msg::{Item, MAX_ITEMS, Move, item_moves};
 use l4_threads::{Envelope, Receiving, Sending, Thread, Threads};
@@ -113,7 +116,9 @@ pub fn sender_turn(done: bool, threads: &Threads, sends: &Sending) -> Turn
 }
 
 /// The first page, which goes nowhere.
-fn no_move() -> Move {
+fn no_move() -> Move
+    ensures { (size : APageSize) → StaysIn size result }
+{
     let page = Block { first: 0, log: 0 };
     Move {
         source: page,
@@ -123,11 +128,11 @@ fn no_move() -> Move {
 
 /// What an item moves in a window. One that moves no page has no right here, so that nothing of it is used.
 #[inline(always)]
-fn item_move(item: &Item, window: &Fpage) -> ItemMove
-    ensures { IsListed window.now item.now result }
+fn item_move(item: &Item, window: &Fpage, size: PageSize) -> ItemMove
+    ensures { IsListed size window.now item.now result }
 {
     let grant = item.is_grant();
-    match item_moves(item, window) {
+    match item_moves(item, window, size) {
         Some(mv) => ItemMove {
             mv,
             rights: item.fpage().rights(),
@@ -142,13 +147,13 @@ fn item_move(item: &Item, window: &Fpage) -> ItemMove
 }
 
 /// What the items of a message move in a window. Each item keeps its number.
-fn listed(items: &[Item], window: &Fpage) -> ArrayVec<ItemMove, MAX_ITEMS>
+fn listed(items: &[Item], window: &Fpage, size: PageSize) -> ArrayVec<ItemMove, MAX_ITEMS>
     requires { length items.now ≤ max_items }
-    ensures { AllZip (IsListed window.now) items.now result.items }
+    ensures { AllZip (IsListed size window.now) items.now result.items }
 {
     let mut moves = ArrayVec::new();
     for item in items {
-        moves.push(item_move(item, window));
+        moves.push(item_move(item, window, size));
     }
     moves
 }
@@ -177,8 +182,9 @@ fn outcome_of(cause: Cause) -> Outcome
 fn move_pages(forest: &mut Forest, from: u64, to: u64, moves: &[ItemMove]) -> Outcome
     requires from_there { IsTrue (set.contains forest.old.spaces from) }
     requires to_there { IsTrue (set.contains forest.old.spaces to) }
-    ensures { (items : List AnItem) (window : AnFpage) → AllZip (IsListed window) items moves.now → ¬ ((items ≢ []) × (window ≡ NilFpage))
-        → Moves forest.old from to items window result forest.new }
+    ensures moves { (size : APageSize) (items : List AnItem) (window : AnFpage) → AllZip (IsListed size window) items moves.now → ¬ ((items ≢ []) × (window ≡ NilFpage))
+        → Moves size forest.old from to items window result forest.new }
+    ensures fits { (size : APageSize) (items : List AnItem) (window : AnFpage) → AllZip (IsListed size window) items moves.now → FitIn size forest.old → FitIn size forest.new }
 {
     match forest.map_all(from, to, moves) {
         Ok(()) => Outcome::Done,
@@ -186,13 +192,41 @@ fn move_pages(forest: &mut Forest, from: u64, to: u64, moves: &[ItemMove]) -> Ou
     }
 }
 
-/// Moves the pages of a message from the one space to the other, two that are there. A list of moves has room for those of all items, so
-/// none is made for one item.
-pub fn deliver(forest: &mut Forest, from: u64, to: u64, items: &[Item], window: &Fpage) -> Outcome
+/// Moves the pages of a message with a list of what its items move. It is apart, as the list has room for the moves of all items that a message may
+/// have, which no message of fewer than two is to clear.
+#[inline(never)]
+fn move_listed(
+    forest: &mut Forest,
+    from: u64,
+    to: u64,
+    size: PageSize,
+    items: &[Item],
+    window: &Fpage,
+) -> Outcome
     requires from_there { IsTrue (set.contains forest.old.spaces from) }
     requires to_there { IsTrue (set.contains forest.old.spaces to) }
     requires few { length items.now ≤ max_items }
-    ensures { Moves forest.old from to items.now window.now result forest.new }
+    ensures moves { ¬ ((items.now ≢ []) × (window.now ≡ NilFpage)) → Moves size forest.old from to items.now window.now result forest.new }
+    ensures fits { FitIn size forest.old → FitIn size forest.new }
+{
+    let moves = listed(items, window, size);
+    move_pages(forest, from, to, moves.as_slice())
+}
+
+/// Moves the pages of a message from the one space to the other, two that are there.
+pub fn deliver(
+    forest: &mut Forest,
+    from: u64,
+    to: u64,
+    size: PageSize,
+    items: &[Item],
+    window: &Fpage,
+) -> Outcome
+    requires from_there { IsTrue (set.contains forest.old.spaces from) }
+    requires to_there { IsTrue (set.contains forest.old.spaces to) }
+    requires few { length items.now ≤ max_items }
+    ensures moves { Moves size forest.old from to items.now window.now result forest.new }
+    ensures fits { FitIn size forest.old → FitIn size forest.new }
 {
     if items.is_empty() {
         forest.law_forest();
@@ -202,8 +236,7 @@ pub fn deliver(forest: &mut Forest, from: u64, to: u64, items: &[Item], window: 
         return Outcome::NoWindow;
     }
     if items.len() == 1 {
-        return move_pages(forest, from, to, &[item_move(&items[0], window)]);
+        return move_pages(forest, from, to, &[item_move(&items[0], window, size)]);
     }
-    let moves = listed(items, window);
-    move_pages(forest, from, to, moves.as_slice())
+    move_listed(forest, from, to, size, items, window)
 }

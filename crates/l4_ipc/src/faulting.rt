@@ -10,7 +10,7 @@ ghost use Rattle.l4_ipc.specs.declared.turns.FaultTurn.TheVariants.{Tells};
 use crate::calls::FaultCall;
 use crate::starting::{end, partner};
 use crate::turns::{Ending, FaultTurn};
-use l4_fpage::{Fpage, PAGE_LOG, Rights};
+use l4_fpage::{Fpage, PageSize, Rights};
 use l4_mapdb::Forest;
 use l4_msg::{FAULT_LABEL, Tag};
 use l4_threads::{Later, SendPhase, ThreadId, Threads};
@@ -29,10 +29,10 @@ fn rights_at(forest: &Forest, space: u64, page: u32) -> Rights
 }
 
 /// Whether the space shows the page of the fault with all rights of the access, and with a right at all.
-fn has_page(forest: &Forest, space: u64, call: &FaultCall) -> bool
-    ensures { result ≡ has_page forest.now space call.now }
+fn has_page(forest: &Forest, size: PageSize, space: u64, call: &FaultCall) -> bool
+    ensures { result ≡ has_page size forest.now space call.now }
 {
-    let rights = rights_at(forest, space, call.address >> PAGE_LOG);
+    let rights = rights_at(forest, space, size.page_of(call.address));
     rights.contains(call.access) && !rights.is_empty()
 }
 
@@ -53,14 +53,15 @@ fn fault_words(call: &FaultCall) -> [u32; UNTYPED + 1]
 fn fault_turn(
     threads: &Threads,
     forest: &Forest,
+    size: PageSize,
     number: u32,
     space: u64,
     pager: ThreadId,
     call: &FaultCall,
 ) -> FaultTurn
-    ensures { next_of_fault pager call.now result ≡ fault_next threads.now forest.now number space pager call.now }
+    ensures { next_of_fault pager call.now result ≡ fault_next size threads.now forest.now number space pager call.now }
 {
-    if has_page(forest, space, call) {
+    if has_page(forest, size, space, call) {
         return FaultTurn::Ends(Ending::Hit);
     }
     match partner(threads, number, pager) {
@@ -92,16 +93,17 @@ fn tell(threads: &mut Threads, number: u32, pager: ThreadId, call: &FaultCall, t
 pub fn enter_fault(
     threads: &mut Threads,
     forest: &Forest,
+    size: PageSize,
     number: u32,
     space: u64,
     pager: ThreadId,
     call: &FaultCall,
 ) -> bool
     requires { IsTrue (runs threads.old number) }
-    ensures threads { threads.new ≡ enters threads.old number (fault_next threads.old forest.now number space pager call.now) }
-    ensures ended { ended_if result number ≡ ended_by number (fault_next threads.old forest.now number space pager call.now) }
+    ensures threads { threads.new ≡ enters threads.old number (fault_next size threads.old forest.now number space pager call.now) }
+    ensures ended { ended_if result number ≡ ended_by number (fault_next size threads.old forest.now number space pager call.now) }
 {
-    match fault_turn(threads, forest, number, space, pager, call) {
+    match fault_turn(threads, forest, size, number, space, pager, call) {
         FaultTurn::Ends(ending) => {
             end(threads, number, ending);
             true

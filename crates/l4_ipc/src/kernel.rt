@@ -1,12 +1,13 @@
 //! The kernel.
-ghost use Rattle.std.specs.Prelude.{◌≡◌, ◌<◌, ◌≤◌, ◌⊎◌, ℕ, List, IsTrue, Ok, IfOk, OnErr, MatchOption, MatchResult};
+ghost use Rattle.std.specs.Prelude.{◌≡◌, ◌<◌, ◌≤◌, ◌⊎◌, ℕ, List, IsTrue, Ok, Err, IfOk, IfErr, OnErr, MatchOption, MatchResult};
 ghost use Rattle.std.specs.List.{All};
 ghost use Rattle.std.specs.Option.{option_copied};
 ghost use Rattle.l4_mapdb.specs.declared.Place.{Place};
 
-use crate::acting::{carry_over, enter_call, expire, expire_untold, start, transfer};
+use crate::acting::{carry_over, expire, expire_untold, start, start_answered, transfer};
 use crate::calls::Call;
 use crate::steps::{Answer, Lower, NextStep, Refused, Step};
+use l4_fpage::PageSize;
 use l4_mapdb::{Forest, MAX_FRAMES, Mapping, NoMemory};
 use l4_threads::{ROOT_SPACE, Reply, Threads};
 use std::alloc::Global;
@@ -18,6 +19,7 @@ pub struct Kernel {
     /// In memory of its own, as it has room for all threads and a kernel is handed on by value.
     threads: Box<Threads>,
     forest: Forest,
+    size: PageSize,
     alloc: Global,
 }
 
@@ -42,8 +44,8 @@ impl Kernel {
     ghost use Rattle.l4_mapdb.specs.Mappings.{shown, IsForest};
     ghost use Rattle.l4_mapdb.specs.Places.{NonePresentFrom, IsNextPresent};
     ghost use Rattle.l4_ipc.specs.Machine.{IsBoot};
+    ghost use Rattle.l4_ipc.specs.SpacePages.{FitIn};
     ghost use Rattle.l4_ipc.specs.Steps.{IsNext, IsIdle, Steps};
-    ghost use Rattle.l4_ipc.specs.OwnCall.{is_delete, Enters};
     ghost use Rattle.l4_ipc.specs.NextSteps.{step_of, answer_of};
     ghost use Rattle.l4_ipc.specs.Runs.{Run};
     ghost use Rattle.l4_ipc.specs.Events.{Event, IsTrace, IsOnlyTrace};
@@ -54,13 +56,13 @@ impl Kernel {
     ghost use Rattle.l4_ipc.specs.declared.steps.Lower.TheVariants.{NoMemory as WantOfMemory};
     ghost use Rattle.l4_ipc.specs.declared.steps.Step.TheVariants.{Start};
 
-    /// The kernel as it boots: sigma0 is thread 1 in space 0, which shows each frame below `frames` at the page of its number with
+    /// The kernel as it boots, with pages and frames of this size: sigma0 is thread 1 in space 0, which shows each frame below `frames` at the page of its number with
     /// all rights, and root is thread 2 in space 1, which shows none. There are 1 to 4,096 frames.
     ///
     /// `BadFrames` (K6) comes for any other number, and then `Lower(NoMemory)` where a growth was refused.
-    pub fn boot(alloc: Global, frames: u32) -> Result<Kernel, Refused>
+    pub fn boot(alloc: Global, frames: u32, size: PageSize) -> Result<Kernel, Refused>
         ensures { MatchResult result
-            (λ m. (1 ≤ frames) × (frames ≤ max_frames) × IsBoot frames m)
+            (λ m. (1 ≤ frames) × (frames ≤ max_frames) × (m.size ≡ size) × IsBoot frames m)
             (λ e. (((frames ≡ 0) ⊎ (max_frames < frames)) × (e ≡ BadFrames)) ⊎ ((1 ≤ frames) × (frames ≤ max_frames) × (e ≡ IsLower WantOfMemory))) }
     {
         if frames == 0 || frames > MAX_FRAMES {
@@ -76,6 +78,7 @@ impl Kernel {
             Ok(()) => Ok(Kernel {
                 threads,
                 forest,
+                size,
                 alloc,
             }),
             Err(_) => Err(Refused::Lower(Lower::NoMemory)),
@@ -92,10 +95,17 @@ impl Kernel {
         ensures { Steps self.old step.now result self.new }
     {
         match step {
-            Step::Start(number, call) => start(&mut *self.threads, &mut self.forest, *number, call),
+            Step::Start(number, call) => start_answered(
+                &mut *self.threads,
+                &mut self.forest,
+                self.size,
+                *number,
+                call,
+            ),
             Step::Transfer(sender, receiver) => transfer(
                 &mut *self.threads,
                 &mut self.forest,
+                self.size,
                 *sender,
                 *receiver,
             ),
@@ -103,19 +113,20 @@ impl Kernel {
         }
     }
 
-    /// Does the step that starts this call. `step` says what it refuses.
-    pub fn start(&mut self, number: u32, call: &Call) -> Result<Answer, Refused>
-        ensures { Steps self.old (Start number call.now) result self.new }
+    /// Does the step that starts this call, and writes what that did in the place that is lent, whatever stood there. `step` says what it
+    /// refuses; then nothing is said of the place.
+    pub fn start(&mut self, number: u32, call: &Call, answer: &mut Answer) -> Result<(), Refused>
+        ensures ok { IfOk result (λ _. Steps self.old (Start number call.now) (Ok answer.new) self.new) }
+        ensures err { IfErr result (λ e. Steps self.old (Start number call.now) (Err e) self.new) }
     {
-        start(&mut *self.threads, &mut self.forest, number, call)
-    }
-
-    /// Does the step that starts this call, and tells whether the call has ended. No call of another thread ends in it, but in a
-    /// Delete: of that, `start` tells them all. `step` says what it refuses.
-    pub fn enter(&mut self, number: u32, call: &Call) -> Result<bool, Refused>
-        ensures { Enters (is_delete call.now) self.old number call.now result self.new }
-    {
-        enter_call(&mut *self.threads, &mut self.forest, number, call)
+        start(
+            &mut *self.threads,
+            &mut self.forest,
+            self.size,
+            number,
+            call,
+            answer,
+        )
     }
 
     /// What holds of the threads at all times: the queue is a strict order of the senders. It does nothing.
@@ -133,8 +144,18 @@ impl Kernel {
         self.forest.law_forest();
     }
 
+    /// Each present page is one of a space's at all times, by the size of the pages. It does nothing.
+    pub fn law_pages(&self)
+        ensures { FitIn self.now.size self.now.mappings }
+    {
+        let _ = &self.size;
+    }
+
     /// Does some steps one after another, and gives their answers and refusals in order. Room for all of them is made first; where that
     /// is refused, nothing is done.
+    ///
+    /// Of delegations: each delivered message of a plan moves exactly its part of the region. The parts are disjoint and together the
+    /// region, and no fewer items or messages move it.
     pub fn run(&mut self, steps: &[Step]) -> Result<Vec<Result<Answer, Refused>>, NoMemory>
         ensures ok { IfOk result (λ answers. Run self.old steps.now answers.items self.new) }
         ensures err { OnErr result (self.new ≡ self.old) }
@@ -168,34 +189,22 @@ impl Kernel {
         Some(Step::Expire(number))
     }
 
-    /// The step that comes next, as `enabled` names it. Where there is none, that is remembered, so that the next call that waits is the
-    /// one that may act. Nothing that is seen changes.
-    #[inline]
-    pub fn next_enabled(&mut self) -> Option<Step>
-        ensures next { MatchOption result (IsIdle self.old) (IsNext self.old) }
-        ensures kept { self.new ≡ self.old }
-    {
-        let threads = &mut *self.threads;
-        if let Some((from, to)) = threads.next_transfer() {
-            return Some(Step::Transfer(from, to));
-        }
-        if let Some(number) = threads.next_expiry() {
-            return Some(Step::Expire(number));
-        }
-        threads.settle();
-        None
-    }
-
-    /// Does the step that comes next, as `enabled` names it, and tells what it did without a list of threads. None where none is enabled,
-    /// and then nothing changes.
-    pub fn enter_next(&mut self) -> Option<NextStep>
+    /// Does the step that comes next, as `enabled` names it, and tells what it did without a list of threads. None where none is enabled:
+    /// then nothing that is seen changes, and it is remembered, so that of the next call that waits alone is asked whether it may act.
+    pub fn next(&mut self) -> Option<NextStep>
         ensures { MatchOption result (IsIdle self.old × (self.new ≡ self.old))
             (λ done. IsNext self.old (step_of done) × Steps self.old (step_of done) (Ok (answer_of done)) self.new) }
     {
         let threads = &*self.threads;
         let enabled = threads.next_transfer();
         if let Some((from, to)) = enabled {
-            let (outcome, ends) = carry_over(&mut *self.threads, &mut self.forest, from, to);
+            let (outcome, ends) = carry_over(
+                &mut *self.threads,
+                &mut self.forest,
+                self.size,
+                from,
+                to,
+            );
             return Some(NextStep::Transfer(from, to, outcome, ends));
         }
         let Some(number) = threads.next_expiry() else {
@@ -206,18 +215,6 @@ impl Kernel {
             return None;
         };
         Some(NextStep::Expire(number))
-    }
-
-    /// Does the step that comes next, as `enabled` names it, and gives it with its answer. None where none is enabled, and then nothing
-    /// changes.
-    pub fn step_next(&mut self) -> Option<(Step, Answer)>
-        ensures { MatchOption result (IsIdle self.old × (self.new ≡ self.old))
-            (λ done. IsNext self.old done.0 × Steps self.old done.0 (Ok done.1) self.new) }
-    {
-        match self.enter_next() {
-            Some(done) => Some((done.step(), done.answer())),
-            None => None,
-        }
     }
 
     /// The reply of the last ended call of a thread that runs.
@@ -242,6 +239,13 @@ impl Kernel {
         ensures { result ≡ space_of self.now.threads number }
     {
         self.threads.space_of(number)
+    }
+
+    /// The size of the pages and frames, as it was chosen at boot.
+    pub fn page_size(&self) -> PageSize
+        ensures { result ≡ self.now.size }
+    {
+        self.size
     }
 
     /// What a page of a space shows; None where it is not present.

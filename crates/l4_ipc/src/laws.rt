@@ -11,3 +11,8 @@ ghost use Rattle.l4_ipc.specs.Steps.{Steps};
 pub fn an_answer_leads_to_one_state()
     ensures { (old : Machine) (step : AStep) (answer : Result AnAnswer ARefusal) (a b : Machine) → Steps old step answer a → Steps old step answer b → a ≡ b }
 {}
+
+/// No step changes the size of the pages, which was chosen at boot.
+pub fn the_size_of_pages_stays()
+    ensures { (old : Machine) (step : AStep) (answer : Result AnAnswer ARefusal) (new : Machine) → Steps old step answer new → new.size ≡ old.size }
+{}

@@ -21,14 +21,14 @@ pub use arrayvec::ArrayVec;
 pub use calls::{Call, Control, Create, FaultCall, IpcCall, SetPager, UnmapCall};
 pub use constructors::Timeout;
 pub use kernel::Kernel;
-pub use l4_fpage::{BadFpage, Block, Extent, Fpage, Rights, SPACE_PAGES};
+pub use l4_fpage::{BadFpage, Block, Extent, Fpage, MOST_PAGES, PageSize, Rights};
 pub use l4_mapdb::{MAX_FRAMES, Mapping, NoMemory, Place};
 pub use l4_msg::{
     Acceptor, Item, ItemFault, MAX_ITEMS, MAX_UNTYPED, MAX_WORDS, Message, MsgFault, Tag,
 };
 pub use l4_threads::{IpcReply, MAX_THREADS, Reply, ThreadFault, ThreadId};
 pub use l4_unmap::UnmapFault;
-pub use laws::an_answer_leads_to_one_state;
+pub use laws::{an_answer_leads_to_one_state, the_size_of_pages_stays};
 pub use next::Next;
 pub use sent::Sent;
 pub use steps::{Answer, Lower, NextStep, Outcome, Refused, Step};

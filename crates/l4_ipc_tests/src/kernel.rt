@@ -1,10 +1,10 @@
 ghost use Rattle.std.specs.Prelude.{◌≤◌, length};
 ghost use Rattle.l4_msg.specs.Sizes.{max_words};
 
-use l4_fpage::{Fpage, Rights};
+use l4_fpage::{Fpage, PageSize, Rights};
 use l4_ipc::{
-    Answer, Call, Control, Create, FaultCall, IpcCall, Kernel, Lower, NextStep, Outcome, Refused,
-    SetPager, Step, Timeout, UnmapCall,
+    Answer, ArrayVec, Call, Control, Create, FaultCall, IpcCall, Kernel, Lower, NextStep, Outcome,
+    Refused, SetPager, Step, Timeout, UnmapCall,
 };
 use l4_mapdb::{Mapping, Place};
 use l4_msg::{MsgFault, copied};
@@ -166,7 +166,7 @@ fn fault_failed(kernel: &Kernel, number: u32, error: u32) -> bool {
 
 /// A kernel in which root created thread 3, and that thread waits for anybody's message.
 fn waiting(alloc: Global, acceptor: u32) -> Result<Kernel, Refused> {
-    let mut kernel = Kernel::boot(alloc, 256)?;
+    let mut kernel = Kernel::boot(alloc, 256, PageSize::Kib4)?;
     step_all(
         &mut kernel,
         &[create(2, THIRD, THIRD), receive(3, ANYBODY, acceptor)],
@@ -273,11 +273,11 @@ fn other_usual_calls(rt: HostRuntime) {
 fn the_start(rt: HostRuntime) -> Result<(), Fail> {
     for frames in [0, 4097] {
         assert_eq!(rt;
-            Kernel::boot(rt.alloc(), frames).err(),
+            Kernel::boot(rt.alloc(), frames, PageSize::Kib4).err(),
             Some(Refused::BadFrames)
         );
     }
-    let kernel = Kernel::boot(rt.alloc(), 4096)?;
+    let kernel = Kernel::boot(rt.alloc(), 4096, PageSize::Kib4)?;
     assert_eq!(rt; kernel.space_of(1), Some(0));
     assert_eq!(rt; kernel.space_of(2), Some(1));
     assert_eq!(rt; kernel.space_of(3), None);
@@ -291,7 +291,7 @@ fn the_start(rt: HostRuntime) -> Result<(), Fail> {
 
 #[test]
 fn maps_a_page_of_sigma0(rt: HostRuntime) -> Result<(), Fail> {
-    let mut kernel = Kernel::boot(rt.alloc(), 256)?;
+    let mut kernel = Kernel::boot(rt.alloc(), 256, PageSize::Kib4)?;
     let steps = [
         create(2, THIRD, THIRD),
         receive(3, ANYBODY, COMPLETE),
@@ -318,6 +318,34 @@ fn maps_a_page_of_sigma0(rt: HostRuntime) -> Result<(), Fail> {
     assert!(rt; replied(&kernel, 3, 0x80, 0, SIGMA0, &[0x2_0008, 0x1_00c7]));
     assert!(rt; replied(&kernel, 1, 0, 0, NOBODY, &[]));
     assert!(rt; is_controlled(&kernel, 2));
+    Ok(())
+}
+
+#[test]
+fn maps_small_pages_of_sigma0(rt: HostRuntime) -> Result<(), Fail> {
+    let mut kernel = Kernel::boot(rt.alloc(), 256, PageSize::Kib1)?;
+    let steps = [
+        create(2, THIRD, THIRD),
+        receive(3, ANYBODY, COMPLETE),
+        send(1, THIRD, &MAPS),
+        Step::Transfer(1, 3),
+        // the second of the four pages is at 0x20400, and no other right of it is taken than to write
+        unmap(1, 0, &[0x1_04a2]),
+        fault(3, 0x2_07ff, 5),
+    ];
+    step_all(&mut kernel, &steps)?;
+    let space = kernel.space_of(3).ok_or("thread 3 is missing")?;
+    for (page, rights) in [(0, 7), (1, 5), (2, 7), (3, 7)] {
+        assert_eq!(rt;
+            kernel.mapping(space, 128 + page),
+            mapped(64 + page, rights, 0, 64 + page)
+        );
+    }
+    assert_eq!(rt; kernel.next_page(space, 0), Some(128));
+    assert_eq!(rt; kernel.next_page(space, 132), None);
+    assert!(rt; is_hit(&kernel, 3));
+    assert!(rt; kernel.page_size() == PageSize::Kib1);
+    kernel.law_pages();
     Ok(())
 }
 
@@ -364,7 +392,7 @@ const DELEGATED: [Option<Outcome>; 11] = [
 
 #[test]
 fn delegates_what_is_there_at_the_transfer(rt: HostRuntime) -> Result<(), Fail> {
-    let mut kernel = Kernel::boot(rt.alloc(), 256)?;
+    let mut kernel = Kernel::boot(rt.alloc(), 256, PageSize::Kib4)?;
     let steps = delegation();
     let answers = kernel.run(steps.as_slice())?;
     assert_eq!(rt; answers.len(), 11);
@@ -399,7 +427,7 @@ fn many_messages(alloc: Global, rounds: u32) -> Result<Vec<Step>, Fail> {
 
 #[test]
 fn a_hundred_thousand_steps(rt: HostRuntime) -> Result<(), Fail> {
-    let mut kernel = Kernel::boot(rt.alloc(), 1)?;
+    let mut kernel = Kernel::boot(rt.alloc(), 1, PageSize::Kib4)?;
     let steps = many_messages(rt.alloc(), 33_334)?;
     let answers = kernel.run(steps.as_slice())?;
     assert_eq!(rt; answers.len(), 100_002);
@@ -456,9 +484,10 @@ fn enabled_transfers(rt: HostRuntime) -> Result<(), Fail> {
 
 /// Whether this step comes next, is done with this outcome, and ends the calls of these threads.
 fn comes_next(kernel: &mut Kernel, want: &Step, outcome: Outcome, ended: &[u32]) -> bool {
-    match kernel.step_next() {
-        Some((step, answer)) => {
-            step == *want && answer.outcome == outcome && answer.ended.as_slice() == ended
+    match kernel.next() {
+        Some(next) => {
+            let answer = next.answer();
+            next.step() == *want && answer.outcome == outcome && answer.ended.as_slice() == ended
         }
         None => false,
     }
@@ -467,61 +496,69 @@ fn comes_next(kernel: &mut Kernel, want: &Step, outcome: Outcome, ended: &[u32])
 #[test]
 fn steps_that_come_next(rt: HostRuntime) -> Result<(), Fail> {
     let mut kernel = waiting(rt.alloc(), COMPLETE)?;
-    assert!(rt; kernel.step_next().is_none());
+    assert!(rt; kernel.next().is_none());
     let expiring = ipc(1, NOBODY, ANYBODY, 0x0400, 0, &[]);
     step_all(&mut kernel, &[send(2, THIRD, &[0x1, 7]), expiring]).expect(&rt, "two calls");
     assert!(rt; comes_next(&mut kernel, &Step::Transfer(2, 3), Outcome::Done, &[2, 3]));
     assert!(rt; comes_next(&mut kernel, &Step::Expire(1), Outcome::Expired, &[1]));
-    assert!(rt; kernel.step_next().is_none());
+    assert!(rt; kernel.next().is_none());
     Ok(())
 }
 
 /// Whether this step comes next, and is done and told so.
 fn tells_next(kernel: &mut Kernel, want: NextStep) -> bool {
-    match kernel.enter_next() {
+    match kernel.next() {
         Some(next) => next == want,
         None => false,
     }
 }
 
-/// Whether this is what comes next, and asking changes nothing of it.
-fn is_next(kernel: &mut Kernel, want: Option<Step>) -> bool {
-    kernel.next_enabled() == want && kernel.enabled() == want
+/// Whether this is what comes next.
+fn is_next(kernel: &Kernel, want: Option<Step>) -> bool {
+    kernel.enabled() == want
 }
 
 #[test]
 fn steps_that_are_told_without_a_list(rt: HostRuntime) -> Result<(), Fail> {
     let mut kernel = waiting(rt.alloc(), COMPLETE)?;
-    assert!(rt; is_next(&mut kernel, None));
+    assert!(rt; is_next(&kernel, None));
     let expiring = ipc(1, NOBODY, ANYBODY, 0x0400, 0, &[]);
     step_all(&mut kernel, &[send(2, THIRD, &[0x1, 7]), expiring]).expect(&rt, "two calls");
-    assert!(rt; is_next(&mut kernel, Some(Step::Transfer(2, 3))));
+    assert!(rt; is_next(&kernel, Some(Step::Transfer(2, 3))));
     assert!(rt; tells_next(&mut kernel, NextStep::Transfer(2, 3, Outcome::Done, true)));
-    assert!(rt; is_next(&mut kernel, Some(Step::Expire(1))));
+    assert!(rt; is_next(&kernel, Some(Step::Expire(1))));
     assert!(rt; tells_next(&mut kernel, NextStep::Expire(1)));
-    assert!(rt; is_next(&mut kernel, None));
-    assert!(rt; kernel.enter_next().is_none());
+    assert!(rt; is_next(&kernel, None));
+    assert!(rt; kernel.next().is_none());
     Ok(())
 }
 
-/// Whether the call that is started has ended, or None where it is refused.
-fn has_ended(kernel: &mut Kernel, start: &Step) -> Option<bool> {
+/// Whether the call starts, and this is written in the place of another answer: the calls of these threads ended.
+fn writes(kernel: &mut Kernel, start: &Step, answer: &mut Answer, ended: &[u32]) -> bool {
     match start {
-        Step::Start(number, call) => kernel.enter(*number, call).ok(),
-        _ => None,
+        Step::Start(number, call) => {
+            kernel.start(*number, call, answer).is_ok()
+                && answer.outcome == Outcome::Started
+                && answer.ended.as_slice() == ended
+        }
+        _ => false,
     }
 }
 
 #[test]
-fn calls_that_are_entered(rt: HostRuntime) -> Result<(), Fail> {
+fn calls_that_start_in_a_lent_place(rt: HostRuntime) -> Result<(), Fail> {
     let mut kernel = waiting(rt.alloc(), COMPLETE)?;
-    assert!(rt; has_ended(&mut kernel, &send(2, THIRD, &[0x1, 7])) == Some(false));
-    assert!(rt; has_ended(&mut kernel, &unmap(2, 0, &[0x1_00c7])).is_none());
+    let mut answer = Answer {
+        outcome: Outcome::Expired,
+        ended: ArrayVec::new(),
+    };
+    assert!(rt; writes(&mut kernel, &send(2, THIRD, &[0x1, 7]), &mut answer, &[]));
+    assert!(rt; !writes(&mut kernel, &unmap(2, 0, &[0x1_00c7]), &mut answer, &[]));
     assert!(rt; comes_next(&mut kernel, &Step::Transfer(2, 3), Outcome::Done, &[2, 3]));
-    assert!(rt; has_ended(&mut kernel, &unmap(3, 0, &[0x1_00c7])) == Some(true));
-    assert!(rt; has_ended(&mut kernel, &create(2, FOURTH, THIRD)) == Some(true));
-    assert!(rt; has_ended(&mut kernel, &receive(3, FOURTH, COMPLETE)) == Some(false));
-    assert!(rt; has_ended(&mut kernel, &delete(2, FOURTH)) == Some(true));
+    assert!(rt; writes(&mut kernel, &unmap(3, 0, &[0x1_00c7]), &mut answer, &[3]));
+    assert!(rt; writes(&mut kernel, &create(2, FOURTH, THIRD), &mut answer, &[2]));
+    assert!(rt; writes(&mut kernel, &receive(3, FOURTH, COMPLETE), &mut answer, &[]));
+    assert!(rt; writes(&mut kernel, &delete(2, FOURTH), &mut answer, &[2, 3]));
     assert!(rt; ipc_failed(&kernel, 3, 5));
     Ok(())
 }
@@ -546,7 +583,7 @@ fn a_message_without_a_window(rt: HostRuntime) -> Result<(), Fail> {
 
 #[test]
 fn partners_that_are_missing(rt: HostRuntime) -> Result<(), Fail> {
-    let mut kernel = Kernel::boot(rt.alloc(), 1)?;
+    let mut kernel = Kernel::boot(rt.alloc(), 1, PageSize::Kib4)?;
     assert!(rt; starts(&mut kernel, &send(2, THIRD, &[0]), &[2]));
     assert!(rt; ipc_failed(&kernel, 2, 4));
     assert!(rt; starts(&mut kernel, &receive(2, THIRD, 0), &[2]));
@@ -734,7 +771,7 @@ fn maps(kernel: &mut Kernel, from: u32, to: ThreadId, words: &[u32]) -> bool
 
 /// A kernel in which root created threads 3, 4 and 5 in spaces 2, 3 and 4, and sigma0 mapped its page 5 to page 5 of thread 3.
 fn with_page(alloc: Global) -> Result<Kernel, Fail> {
-    let mut kernel = Kernel::boot(alloc, 256)?;
+    let mut kernel = Kernel::boot(alloc, 256, PageSize::Kib4)?;
     let threads = [
         create(2, THIRD, THIRD),
         create(2, FOURTH, FOURTH),
@@ -759,7 +796,7 @@ fn mapped(frame: u32, rights: u8, space: u64, page: u32) -> Option<Mapping> {
 
 #[test]
 fn rights_are_common(rt: HostRuntime) -> Result<(), Fail> {
-    let mut kernel = Kernel::boot(rt.alloc(), 256)?;
+    let mut kernel = Kernel::boot(rt.alloc(), 256, PageSize::Kib4)?;
     step_all(
         &mut kernel,
         &[create(2, THIRD, THIRD), create(2, FOURTH, FOURTH)],
@@ -978,7 +1015,7 @@ fn has_gone(kernel: &mut Kernel) -> bool {
 
 #[test]
 fn a_space_goes_with_its_last_thread(rt: HostRuntime) -> Result<(), Fail> {
-    let mut kernel = Kernel::boot(rt.alloc(), 256)?;
+    let mut kernel = Kernel::boot(rt.alloc(), 256, PageSize::Kib4)?;
     step_all(
         &mut kernel,
         &[create(2, THIRD, THIRD), create(2, FOURTH, THIRD)],
@@ -995,7 +1032,7 @@ fn a_space_goes_with_its_last_thread(rt: HostRuntime) -> Result<(), Fail> {
 
 #[test]
 fn a_thread_never_deletes_itself(rt: HostRuntime) -> Result<(), Fail> {
-    let mut kernel = Kernel::boot(rt.alloc(), 1)?;
+    let mut kernel = Kernel::boot(rt.alloc(), 1, PageSize::Kib4)?;
     step_all(
         &mut kernel,
         &[create(2, THIRD, ROOT), create(2, FOURTH, ROOT)],
@@ -1047,7 +1084,7 @@ fn another_pager(rt: HostRuntime) -> Result<(), Fail> {
 
 #[test]
 fn a_thread_in_the_space_of_another(rt: HostRuntime) -> Result<(), Fail> {
-    let mut kernel = Kernel::boot(rt.alloc(), 256)?;
+    let mut kernel = Kernel::boot(rt.alloc(), 256, PageSize::Kib4)?;
     let threads = [
         create(2, THIRD, THIRD),
         create(2, FOURTH, THIRD),

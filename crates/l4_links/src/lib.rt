@@ -40,7 +40,7 @@ use std::marker::Model;
 pub struct Place {
     /// The number of the space.
     pub space: u64,
-    /// The page, below 2^20, in units of 4,096 bytes.
+    /// The page, below 2^22, in units of the size of the machine's pages.
     pub page: u32,
 }
 

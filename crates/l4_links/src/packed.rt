@@ -1,6 +1,6 @@
 //! A slot in forty-four bytes, so that four of them take three lines of a cache with the slab's own words. A number of eight bytes is
-//! kept in two halves, since eight bytes at once would have to lie at each eighth byte; a page takes twenty bits, and what else is
-//! small stands in the twelve that are left of four bytes.
+//! kept in two halves, since eight bytes at once would have to lie at each eighth byte; a page takes twenty-two bits, and what else is
+//! small stands in the ten that are left of four bytes: three for the rights, three for the notes, and four for the rights of an item.
 
 ghost use Rattle.std.specs.Prelude.{◌≡◌, ◌<◌, ℕ, false, Some, None, IfSome};
 ghost use Rattle.std.specs.Option.{option_map};
@@ -61,78 +61,152 @@ impl Halves {
     }
 }
 
-/// How many values a digit has: half a byte.
-const DIGIT: u8 = 16;
+/// What a page adds to the word where it is one greater, and so the rights, the notes and the rights of an item: the number of values
+/// of all that stands below.
+const RIGHTS_PLACE: u32 = 1 << 22;
 
-/// How many values two bytes have.
-const NEAR: u32 = 1 << 16;
+const NOTES_PLACE: u32 = 1 << 25;
 
-/// Two digits in a byte.
+const GRANTED_PLACE: u32 = 1 << 28;
+
+/// The small numbers of a slot: its page, the digit of its rights, that of its notes, and that of the rights of an item.
+#[derive(Clone, Copy)]
+struct Parts {
+    page: u32,
+    rights: u8,
+    notes: u8,
+    granted: u8,
+}
+
+/// These numbers in four bytes.
 #[derive(Drop)]
-struct Digits {
-    byte: u8,
+struct Word {
+    bits: u32,
 }
 
-impl Model for Digits {
-    ghost use Rattle.std.specs.Prelude.{ℕ};
-    ghost use Rattle.std.specs.Coded.{coded_ℕ, coded×};
+impl Model for Word {
+    ghost use Rattle.l4_links.specs.declared.packed.Parts.{Parts};
 
-    ghost Value = { ℕ × ℕ };
+    ghost Value = { Parts };
 
-    ghost coded = { coded× coded_ℕ coded_ℕ };
+    ghost use Rattle.l4_links.specs.Inside.Packed.{parts_shown};
 
-    ghost use Rattle.l4_links.specs.Inside.Packed.{digits_shown};
-
-    ghost view = { digits_shown };
+    ghost view = { parts_shown };
 }
 
-impl Digits {
-    /// These two digits.
+impl Word {
+    /// The word of these numbers.
     #[inline]
-    fn of(low: u8, high: u8) -> Digits
-        requires low { low < 16 }
-        requires high { high < 16 }
-        ensures { result ≡ (low, high) }
+    fn of(parts: Parts) -> Word
+        requires page { IsPage parts.page }
+        requires rights { parts.rights < 8 }
+        requires notes { parts.notes < 8 }
+        requires granted { parts.granted < 16 }
+        ensures { result ≡ parts }
     {
-        Digits {
-            byte: high * DIGIT + low,
+        let above = parts.rights as u32 * RIGHTS_PLACE
+            + parts.notes as u32 * NOTES_PLACE
+            + parts.granted as u32 * GRANTED_PLACE;
+        Word {
+            bits: above + parts.page,
         }
     }
 
-    /// The low digit.
+    /// The page.
     #[inline]
-    fn low(&self) -> u8
-        ensures same { result ≡ self.now.0 }
+    fn page(&self) -> u32
+        ensures same { result ≡ self.now.page }
+        ensures fits { IsPage result }
+    {
+        self.bits % RIGHTS_PLACE
+    }
+
+    /// The digit of the rights.
+    #[inline]
+    fn rights(&self) -> u8
+        ensures same { result ≡ self.now.rights }
+        ensures small { result < 8 }
+    {
+        (self.bits / RIGHTS_PLACE % 8) as u8
+    }
+
+    /// The digit of the notes.
+    #[inline]
+    fn notes(&self) -> u8
+        ensures same { result ≡ self.now.notes }
+        ensures small { result < 8 }
+    {
+        (self.bits / NOTES_PLACE % 8) as u8
+    }
+
+    /// The digit of the rights of an item.
+    #[inline]
+    fn granted(&self) -> u8
+        ensures same { result ≡ self.now.granted }
         ensures small { result < 16 }
     {
-        self.byte % DIGIT
+        (self.bits / GRANTED_PLACE) as u8
     }
 
-    /// The high digit.
+    /// All numbers.
     #[inline]
-    fn high(&self) -> u8
-        ensures same { result ≡ self.now.1 }
-        ensures small { result < 16 }
+    fn parts(&self) -> Parts
+        ensures same { result ≡ self.now }
+        ensures page { IsPage result.page }
+        ensures rights { result.rights < 8 }
+        ensures notes { result.notes < 8 }
+        ensures granted { result.granted < 16 }
     {
-        self.byte / DIGIT
+        Parts {
+            page: self.page(),
+            rights: self.rights(),
+            notes: self.notes(),
+            granted: self.granted(),
+        }
     }
 
-    /// Lets this be the low digit.
+    /// Lets this be the page.
     #[inline]
-    fn set_low(&mut self, low: u8)
-        requires low { low < 16 }
-        ensures { self.new ≡ (low, self.old.1) }
+    fn set_page(&mut self, page: u32)
+        requires { IsPage page }
+        ensures { self.new ≡ record self.old { page = page } }
     {
-        *self = Digits::of(low, self.high());
+        let mut parts = self.parts();
+        parts.page = page;
+        *self = Word::of(parts);
     }
 
-    /// Lets this be the high digit.
+    /// Lets these be the rights.
     #[inline]
-    fn set_high(&mut self, high: u8)
-        requires high { high < 16 }
-        ensures { self.new ≡ (self.old.0, high) }
+    fn set_rights(&mut self, rights: u8)
+        requires { rights < 8 }
+        ensures { self.new ≡ record self.old { rights = rights } }
     {
-        *self = Digits::of(self.low(), high);
+        let mut parts = self.parts();
+        parts.rights = rights;
+        *self = Word::of(parts);
+    }
+
+    /// Lets these be the notes.
+    #[inline]
+    fn set_notes(&mut self, notes: u8)
+        requires { notes < 8 }
+        ensures { self.new ≡ record self.old { notes = notes } }
+    {
+        let mut parts = self.parts();
+        parts.notes = notes;
+        *self = Word::of(parts);
+    }
+
+    /// Lets these be the rights of an item.
+    #[inline]
+    fn set_granted(&mut self, granted: u8)
+        requires { granted < 16 }
+        ensures { self.new ≡ record self.old { granted = granted } }
+    {
+        let mut parts = self.parts();
+        parts.granted = granted;
+        *self = Word::of(parts);
     }
 }
 
@@ -177,7 +251,7 @@ impl Notes {
     /// The digit of these notes.
     #[inline]
     fn digit(self) -> u8
-        ensures small { result < 16 }
+        ensures small { result < 8 }
         ensures same { notes_shown result ≡ self }
     {
         u8::from(self.wanted) + 2 * u8::from(self.source) + 4 * u8::from(self.closed)
@@ -200,12 +274,8 @@ impl Notes {
 #[derive(Drop)]
 pub(crate) struct Packed {
     space: Halves,
-    /// The lower sixteen bits of the page.
-    near: u16,
-    /// The upper four bits of the page, and the rights of the item that has granted it.
-    far: Digits,
-    /// The rights, and what is noted.
-    notes: Digits,
+    /// The page, the rights, what is noted, and the rights of the item that has granted it.
+    word: Word,
     frame: u32,
     /// None in a blank. What else there is of a node means nothing then.
     depth: Link,
@@ -239,9 +309,12 @@ impl Packed {
     {
         Packed {
             space: Halves::of(place.space),
-            near: (place.page % NEAR) as u16,
-            far: Digits::of((place.page / NEAR) as u8, NO_ITEM),
-            notes: Digits::of(0, 0),
+            word: Word::of(Parts {
+                page: place.page,
+                rights: 0,
+                notes: 0,
+                granted: NO_ITEM,
+            }),
             frame: 0,
             depth: Link::none(),
             parent: Link::none(),
@@ -268,9 +341,12 @@ impl Packed {
         };
         Packed {
             space: Halves::of(place.space),
-            near: (place.page % NEAR) as u16,
-            far: Digits::of((place.page / NEAR) as u8, granted_digit(node.granted)),
-            notes: Digits::of(node.rights.bits(), notes.digit()),
+            word: Word::of(Parts {
+                page: place.page,
+                rights: node.rights.bits(),
+                notes: notes.digit(),
+                granted: granted_digit(node.granted),
+            }),
             frame: node.frame,
             depth: Link::to(node.depth),
             parent: node.parent,
@@ -289,7 +365,7 @@ impl Packed {
     {
         Place {
             space: self.space.number(),
-            page: self.far.low() as u32 * NEAR + self.near as u32,
+            page: self.word.page(),
         }
     }
 
@@ -298,7 +374,7 @@ impl Packed {
     pub(crate) fn is_wanted(&self) -> bool
         ensures { result ≡ self.now.wanted }
     {
-        Notes::of(self.notes.high()).wanted
+        Notes::of(self.word.notes()).wanted
     }
 
     /// The node. None in a blank.
@@ -309,12 +385,12 @@ impl Packed {
         let Some(depth) = self.depth.key() else {
             return None;
         };
-        let notes = Notes::of(self.notes.high());
+        let notes = Notes::of(self.word.notes());
         Some(Node {
             frame: self.frame,
-            rights: Rights::of_bits(self.notes.low()),
+            rights: Rights::of_bits(self.word.rights()),
             source: notes.source,
-            granted: granted_of(self.far.high()),
+            granted: granted_of(self.word.granted()),
             depth,
             seen: self.stamp,
             mark: if notes.closed { self.stamp } else { 0 },
@@ -338,8 +414,12 @@ impl Packed {
             source: node.source,
             closed: false,
         };
-        self.far.set_high(granted_digit(node.granted));
-        self.notes = Digits::of(node.rights.bits(), notes.digit());
+        self.word = Word::of(Parts {
+            page: self.word.page(),
+            rights: node.rights.bits(),
+            notes: notes.digit(),
+            granted: granted_digit(node.granted),
+        });
         self.frame = node.frame;
         self.depth = Link::to(node.depth);
         self.parent = node.parent;
@@ -363,9 +443,9 @@ impl Packed {
     pub(crate) fn set_wanted(&mut self, wanted: bool)
         ensures { self.new ≡ record self.old { wanted = wanted } }
     {
-        let mut notes = Notes::of(self.notes.high());
+        let mut notes = Notes::of(self.word.notes());
         notes.wanted = wanted;
-        self.notes.set_high(notes.digit());
+        self.word.set_notes(notes.digit());
     }
 
     /// Lets the slot be of this page.
@@ -375,8 +455,7 @@ impl Packed {
         ensures { self.new ≡ record self.old { place = place } }
     {
         self.space = Halves::of(place.space);
-        self.near = (place.page % NEAR) as u16;
-        self.far.set_low((place.page / NEAR) as u8);
+        self.word.set_page(place.page);
     }
 
     /// Lets the slot be of this page, with a note that an item of these rights grants it.
@@ -386,8 +465,8 @@ impl Packed {
         ensures { self.new ≡ record self.old { place = place; node = option_map (λ (n : ANode). record n { granted = Some rights }) self.old.node } }
     {
         self.space = Halves::of(place.space);
-        self.near = (place.page % NEAR) as u16;
-        self.far = Digits::of((place.page / NEAR) as u8, granted_digit(Some(rights)));
+        self.word.set_page(place.page);
+        self.word.set_granted(granted_digit(Some(rights)));
     }
 
     /// Lets a node have this next key.
@@ -411,7 +490,7 @@ impl Packed {
     pub(crate) fn lower(&mut self, rights: Rights, doomed: Link)
         ensures { self.new ≡ record self.old { node = option_map (λ (n : ANode). record n { rights = rights; doomed = doomed }) self.old.node } }
     {
-        self.notes.set_low(rights.bits());
+        self.word.set_rights(rights.bits());
         self.doomed = doomed;
     }
 
@@ -420,9 +499,9 @@ impl Packed {
     pub(crate) fn close(&mut self, stamp: u32, end: Link)
         ensures { self.new ≡ record self.old { node = option_map (λ (n : ANode). record n { seen = stamp; mark = stamp; end = end }) self.old.node } }
     {
-        let mut notes = Notes::of(self.notes.high());
+        let mut notes = Notes::of(self.word.notes());
         notes.closed = true;
-        self.notes.set_high(notes.digit());
+        self.word.set_notes(notes.digit());
         self.stamp = stamp;
         self.end = end;
     }
@@ -432,9 +511,9 @@ impl Packed {
     pub(crate) fn see(&mut self, stamp: u32)
         ensures { self.new ≡ record self.old { node = option_map (λ (n : ANode). record n { seen = stamp; mark = 0 }) self.old.node } }
     {
-        let mut notes = Notes::of(self.notes.high());
+        let mut notes = Notes::of(self.word.notes());
         notes.closed = false;
-        self.notes.set_high(notes.digit());
+        self.word.set_notes(notes.digit());
         self.stamp = stamp;
     }
 
@@ -443,9 +522,9 @@ impl Packed {
     pub(crate) fn set_source(&mut self, source: bool)
         ensures { self.new ≡ record self.old { node = option_map (λ (n : ANode). record n { source = source }) self.old.node } }
     {
-        let mut notes = Notes::of(self.notes.high());
+        let mut notes = Notes::of(self.word.notes());
         notes.source = source;
-        self.notes.set_high(notes.digit());
+        self.word.set_notes(notes.digit());
     }
 
     /// Takes the marks of a source and of a grant from a node.
@@ -454,6 +533,6 @@ impl Packed {
         ensures { self.new ≡ record self.old { node = option_map (λ (n : ANode). record n { source = false; granted = None }) self.old.node } }
     {
         self.set_source(false);
-        self.far.set_high(NO_ITEM);
+        self.word.set_granted(NO_ITEM);
     }
 }

@@ -9,9 +9,7 @@ use Rattle.l4_lock.specs.declared.entries.Ended.{Ended}
 use Rattle.l4_lock.specs.declared.entries.Pending.{Pending}
 use Rattle.l4_lock.specs.Books.{SeatState, Book, book, book_at, reply_waits, has_ended, numbers, IsOnce, Settles}
 use Rattle.l4_lock.specs.Inside.Accounts.{BookList, book_list, has_reply, reply_count, replies_in, SettlesAt, IsUnsettled}
-use Rattle.l4_lock.specs.Inside.Entering.{HasBegun}
-use Rattle.l4_lock.specs.Inside.Noting.{reply_pending, first_reply}
-use Rattle.l4_lock.proofs.Books.{waits_in, reply_of_some}
+use Rattle.l4_lock.proofs.Books.{waits_in}
 use Rattle.l4_lock.proofs.Right.{pend}
 use Rattle.l4_lock.proofs.Started.{same_book, get_there, own_at, set_same}
 
@@ -70,10 +68,6 @@ no_replies (x ∷ xs) n none = by_reply (has_reply x) refl (no_replies xs n) whe
 pub none_waits : (xs : List Book) (l : BookList) (view : book_list xs ≡ l) (m : ℕ) → m ≡ replies_in xs → m ≡ 0 → (n : ℕ) → reply_waits l.items n ≡ false
 none_waits xs l view m is none n = subst (λ (k : BookList). reply_waits k.items n ≡ false) view (no_replies xs n (sym is ∙ none))
 
-pub first_waits : (xs ys : List Book) (l : BookList) (view : book_list xs ≡ l) (r : Option ℕ) → IsOnce (numbers l.items) → r ≡ first_reply ys → ys ≡ xs
-    → MatchOption r ((n : ℕ) → reply_waits l.items n ≡ false) (λ n. reply_waits l.items n ≡ true)
-first_waits xs ys l view r once is same = reply_of_some l.items r once (is ∙ ap first_reply (same ∙ ap (λ (k : BookList). k.items) view))
-
 -- the place that was read has this book
 read_there : (xs : List Book) (i : ℕ) (x : Book) → i < length xs → x ≡ get_or xs i x → slice_get xs i ≡ Some x
 read_there xs i x lt read =
@@ -90,17 +84,6 @@ waits_at xs l view i x z n once lt read has again is =
     subst (λ (k : ℕ). reply_waits l.items k ≡ true) number (ap waits_in own ∙ sym has)
 
 -- A CHANGE AT A PLACE
-
--- the reply that was read is the one that is taken
-same_reply : (r q : Reply) → ◌≡◌ {A = Option Reply} (Some r) (Some q) → r ≡ q
-same_reply r q e = cc
-
-no_reply : (reply : Reply) (o : Option Pending) → option_map_or has_ended o false ≡ false → Some reply ≡ reply_pending o → ⊥
-no_reply reply None none found = let k : ◌≡◌ {A = Option Reply} None (Some reply) = sym found in cc
-no_reply reply (Some p) none found = by_end p.ended none found where
-  by_end : (e : Option Ended) → option_map_or (λ _. true) e false ≡ false → Some reply ≡ option_map (λ (f : Ended). f.reply) e → ⊥
-  by_end None none found = let k : ◌≡◌ {A = Option Reply} None (Some reply) = sym found in cc
-  by_end (Some f) none found = false≢true (sym none)
 
 settled_reply : (old new : Book) (before after : SeatState) (own : Call → Call) (reply : Reply) → Settles old new before after own reply → (has_reply old ≡ true) × (has_reply new ≡ false)
 settled_reply old new before after own reply s = (
@@ -144,10 +127,6 @@ module _ (xs : List Book) (l : BookList) (view : book_list xs ≡ l) (i : ℕ) (
       let same : x ≡ b = same_book x b (sym there ∙ at) in
       λ j. slice_set (view j).items i ((is ∙ ap f same) j)
 
-  -- the call of the place goes on
-  pub goes_on : (call : Call) → HasBegun l.items i call → (p : Pending) × (x.pending ≡ Some p) × (p.ended ≡ None) × (p.call ≡ call)
-  goes_on call has = (has.1, ap (λ (b : Book). b.pending) (same_book x has.0 (sym there ∙ has.2)) ∙ has.3, has.4, has.5)
-
   -- a call is begun
   begun_same : (T E : Type 0) (r : Result T E) (y : Book) (call : Call) (start : ℕ) → x.pending ≡ None
       → MatchResult r (λ _. y ≡ record x { pending = Some (pend call start None) }) (λ _. y ≡ x) → has_reply y ≡ has_reply x
@@ -168,12 +147,12 @@ module _ (xs : List Book) (l : BookList) (view : book_list xs ≡ l) (i : ℕ) (
   cancelled_count y n is none cancels = same_count y n is (ap has_reply cancels ∙ sym (none x there))
 
   -- a call that has ended is taken, or none is
-  pub settled_some : (y : Book) (n : ℕ) (before after : SeatState) (own : Call → Call) → n ≡ replies_in xs → (reply : Reply) × Settles x y before after own reply → n ≡ replies_in (slice_set xs i y) + 1
-  settled_some y n before after own is s = let ends = settled_reply x y before after own s.0 s.1 in one_less y n is ends.0 ends.1
+  pub settled_some : (y : Book) (n : ℕ) (before after : SeatState) (own : Call → Call) (reply : Reply) → n ≡ replies_in xs → Settles x y before after own reply → n ≡ replies_in (slice_set xs i y) + 1
+  settled_some y n before after own reply is s = let ends = settled_reply x y before after own reply s in one_less y n is ends.0 ends.1
 
-  pub settled_told : (y : Book) (before after : SeatState) (own : Call → Call) → (reply : Reply) × Settles x y before after own reply → (reply : Reply) × SettlesAt l.items (slice_set xs i y) i before after own reply
-  settled_told y before after own s =
-      (s.0, record { former = x; at = there; settled = y; changed = ap (λ (k : BookList). slice_set k.items i y) view; settles = s.1 })
+  pub settled_told : (y : Book) (before after : SeatState) (own : Call → Call) (reply : Reply) → Settles x y before after own reply → SettlesAt l.items (slice_set xs i y) i before after own reply
+  settled_told y before after own reply s =
+      record { former = x; at = there; settled = y; changed = ap (λ (k : BookList). slice_set k.items i y) view; settles = s }
 
   pub unsettled_told : (y : Book) (before after : SeatState) → (y ≡ x) × (after ≡ before) × (has_reply x ≡ false) → IsUnsettled l.items (slice_set xs i y) i before after
   unsettled_told y before after u = record {
@@ -181,29 +160,3 @@ module _ (xs : List Book) (l : BookList) (view : book_list xs ≡ l) (i : ℕ) (
     seat = u.1;
     none = λ b at. ap has_reply (same_book b x (sym at ∙ there)) ∙ u.2;
   }
-
-  pub reply_told : (ys : List Book) (before after : SeatState) (own : Call → Call) (reply : Reply) (ended : Bool) → Some reply ≡ reply_pending x.pending
-      → (ended ≡ true → (r : Reply) × SettlesAt l.items ys i before after own r) → (ended ≡ false → IsUnsettled l.items ys i before after) → SettlesAt l.items ys i before after own reply
-  reply_told ys before after own reply true found settles same =
-      let t = (settles refl).1 in
-      let s = t.settles in
-      let its : Some reply ≡ Some s.ended.reply =
-      found ∙ ap (λ (b : Book). reply_pending b.pending) (same_book x t.former (sym there ∙ t.at)) ∙ ap reply_pending s.pending_is ∙ ap (option_map (λ (e : Ended). e.reply)) s.ended_is in
-      record {
-        former = t.former;
-        at = t.at;
-        settled = t.settled;
-        changed = t.changed;
-        settles = record {
-          pending = s.pending;
-          pending_is = s.pending_is;
-          ended = s.ended;
-          ended_is = s.ended_is;
-          answers = same_reply reply s.ended.reply its;
-          book_is = s.book_is;
-          number = s.number;
-          waiting = s.waiting;
-          receipts = s.receipts;
-        };
-      }
-  reply_told ys before after own reply false found settles same = absurd (no_reply reply x.pending ((same refl).none x there) found)

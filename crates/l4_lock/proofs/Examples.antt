@@ -5,12 +5,12 @@ use Rattle.l4_ipc.specs.declared.calls.Call.{Call}
 use Rattle.l4_ipc.specs.declared.steps.Answer.{Answer}
 use Rattle.l4_ipc.specs.declared.steps.Step.TheVariants.{Start, Transfer}
 use Rattle.l4_ipc.specs.Machine.{Machine, IsBoot}
-use Rattle.l4_lock.specs.declared.entries.Entry.{Entry}
+use Rattle.l4_record.specs.declared.entries.Entry.{Entry}
 use Rattle.l4_lock.specs.declared.refusals.LockRefusal.TheVariants.{SeatTaken}
-use Rattle.l4_lock.specs.History.{Replays}
-use Rattle.l4_lock.specs.Laws.{IsWholeRun}
+use Rattle.l4_record.specs.History.{Replays}
+use Rattle.l4_record.specs.Laws.{IsWholeRun}
 use Rattle.l4_lock.specs.Shared.{Declines}
-use Rattle.l4_lock.proofs.Laws.{no_events, whole_run}
+use Rattle.l4_record.proofs.Laws.{no_events, whole_run}
 
 -- no entries are legal, and all holds of them that holds of a history
 none_is_whole : (frames : ℕ) (m : Machine) → IsBoot frames m → IsForest m.mappings → IsWholeRun frames [] m

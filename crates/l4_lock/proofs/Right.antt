@@ -15,19 +15,16 @@ use Rattle.l4_ipc.specs.declared.steps.Step.{Step}
 use Rattle.l4_ipc.specs.declared.steps.Step.TheVariants.{Start, Transfer, Expire}
 use Rattle.l4_ipc.specs.Machine.{Machine}
 use Rattle.l4_ipc.specs.Steps.{Steps, IsNext, Waits}
-use Rattle.l4_lock.specs.declared.entries.Entry.{Entry}
+use Rattle.l4_record.specs.declared.entries.Entry.{Entry}
 use Rattle.l4_lock.specs.declared.entries.Receipt.{Receipt}
 use Rattle.l4_lock.specs.declared.entries.Ended.{Ended}
 use Rattle.l4_lock.specs.declared.entries.Pending.{Pending}
-use Rattle.l4_lock.specs.History.{IsSeated, Follows, Replays}
-use Rattle.l4_mapdb.specs.Mappings.{IsForest}
-use Rattle.l4_lock.specs.Inside.Entering.{last_seat}
+use Rattle.l4_record.specs.History.{Replays}
 use Rattle.l4_lock.specs.Receipts.{Proves, StartsCall, Replied}
 use Rattle.l4_lock.specs.Books.{Book, book, pending_count, is_among, unended, plain, receipt_of, one_if, starts_of, IsPending, IsRight, numbers, IsOnce, AreRight}
 use Rattle.l4_lock.specs.Inside.Noting.{reply_in, noted_call, noted}
 use Rattle.l4_ipc.proofs.Waiting.{still_waits, starts_waiting}
 use Rattle.l4_lock.proofs.Replies.{ended_replied}
-use Rattle.l4_lock.proofs.Laws.{events_more}
 
 -- LISTS
 
@@ -54,7 +51,7 @@ take_all es e =
     let n : length es + 1 ≡ length (es ++ e ∷ []) = omega (arith, length-append es (e ∷ [])) in
     ap (λ k. take k (es ++ e ∷ [])) n ∙ take-length (es ++ e ∷ [])
 
-among_contains : (n : ℕ) (xs : List ℕ) → is_among n xs ≡ true → Contains xs n
+pub among_contains : (n : ℕ) (xs : List ℕ) → is_among n xs ≡ true → Contains xs n
 among_contains n [] h = absurd (false≢true h)
 among_contains n (x ∷ xs) h =
     elim (eqb_tells x n) [
@@ -74,22 +71,6 @@ contains_among : (n : ℕ) (xs : List ℕ) → Contains xs n → is_among n xs �
 contains_among n xs h = at_among n xs h.0 h.1 h.2
 
 -- HISTORIES
-
-pub follows_more : (old : Machine) (seat : Option ℕ) (es : List Entry) (m : Machine) (e : Entry) (new : Machine)
-    → Follows old seat es m → IsSeated m (last_seat seat es) e.seat e.step → Steps m e.step (Ok e.answer) new → Follows old seat (es ++ e ∷ []) new
-follows_more old seat [] m e new here seated step =
-    subst (λ (x : Machine). Follows x seat (e ∷ []) new) here (seated, (new, step, refl))
-follows_more old seat (x ∷ xs) m e new h seated step =
-    (h.0, (h.1.0, h.1.1, follows_more h.1.0 (Some x.seat) xs m e new h.1.2 seated step))
-
-abbrev pub replays_more : (frames : ℕ) (es : List Entry) (m : Machine) (e : Entry) (new : Machine)
-    → Replays frames es m → IsSeated m (last_seat None es) e.seat e.step → Steps m e.step (Ok e.answer) new → Replays frames (es ++ e ∷ []) new
-replays_more frames es m e new r seated step =
-    record { boot = r.boot; boots = r.boots; follows = follows_more r.boot None es m e new r.follows seated step }
-
-pub last_is : (seat : Option ℕ) (es : List Entry) (e : Entry) → last_seat seat (es ++ e ∷ []) ≡ Some e.seat
-last_is seat [] e = refl
-last_is seat (x ∷ es) e = last_is (Some x.seat) es e
 
 -- a receipt that is right stays so
 pub proves_longer : (frames : ℕ) (es more : List Entry) (n : ℕ) (receipt : Receipt) → Proves frames es n receipt → Proves frames (es ++ more) n receipt
@@ -213,15 +194,10 @@ module _ (frames : ℕ) (es : List Entry) (m : Machine) (e : Entry) (new : Machi
 
 -- A BOOK AFTER A STEP
 
-none_own : (m : Machine) (n : ℕ) (step : Step) → IsNext m step → ¬ (StartsCall n step)
+pub none_own : (m : Machine) (n : ℕ) (step : Step) → IsNext m step → ¬ (StartsCall n step)
 none_own m n (Start k call) next = absurd next
 none_own m n (Transfer s r) next = λ h. h
 none_own m n (Expire k) next = λ h. h
-
-pub seated : (m : Machine) (seat : ℕ) (step : Step) → IsNext m step → IsSeated m (Some seat) seat step
-seated m seat (Start k call) next = absurd next
-seated m seat (Transfer s r) next = (refl, next)
-seated m seat (Expire k) next = (refl, next)
 
 count_noted : (new : Machine) (ended : List ℕ) (place n : ℕ) (p : Option Pending) → pending_count (option_map (noted_call new ended place n) p) ≡ pending_count p
 count_noted new ended place n None = refl
@@ -269,25 +245,6 @@ plain_noted new ended place (b ∷ bs) = λ i. book b.number (plain_pending new 
 pub numbers_noted : (new : Machine) (ended : List ℕ) (place : ℕ) (books : List Book) → numbers (map (noted new ended place) books) ≡ numbers books
 numbers_noted new ended place [] = refl
 numbers_noted new ended place (b ∷ bs) = ap (λ (l : List ℕ). b.number ∷ l) (numbers_noted new ended place bs)
-
--- ONE MORE STEP THAT COMES NEXT
-
-pub next_right : (frames : ℕ) (es : List Entry) (m : Machine) (e : Entry) (new : Machine) (books : List Book) → AreRight frames es m books → last_seat None es ≡ Some e.seat → IsNext m e.step → Steps m e.step (Ok e.answer) new
-    → IsForest new.mappings → AreRight frames (es ++ e ∷ []) new (map (noted new e.answer.ended.items (length es)) books)
-next_right frames es m e new books r last next step forest =
-    let replays : Replays frames (es ++ e ∷ []) new = replays_more frames es m e new r.replays (subst (λ (o : Option ℕ). IsSeated m o e.seat e.step) (sym last) (seated m e.seat e.step next)) step in
-    let same = numbers_noted new e.answer.ended.items (length es) books in
-    record {
-      replays = replays;
-      events = events_more r.replays.boot es m e new r.events step forest;
-      each = All-map (IsRight frames (es ++ e ∷ []) new) (noted new e.answer.ended.items (length es)) books
-          (All-weaker (IsRight frames es m) (λ b. IsRight frames (es ++ e ∷ []) new (noted new e.answer.ended.items (length es) b)) (λ b h. right_next frames es m e new b h step (none_own m b.number e.step next) replays) books r.each);
-      apart = subst IsOnce (sym same) r.apart;
-      others = λ n other.
-          let old : starts_of n es ≡ 0 = r.others n (ap (is_among n) (sym same) ∙ other) in
-          let none : one_if n e.step ≡ 0 = none_starts n e.step (none_own m n e.step next) in
-          starts_append n es e ∙ omega (arith, old, none);
-    }
 
 -- A START
 

@@ -8,24 +8,22 @@ use Rattle.std.proofs.lemmas.Option.{slice_get-map}
 use Rattle.std.proofs.lemmas.List.{length-append}
 use Rattle.std.proofs.lemmas.List.Elements.{All-weaker, All-push, All-map, All-cons, All-head, All-tail, All-nil, All-set}
 use Rattle.std.proofs.lemmas.List.Quantifiers.{all_pairs_push}
-use Rattle.l4_mapdb.specs.Mappings.{IsForest}
 use Rattle.l4_ipc.specs.declared.calls.Call.{Call}
 use Rattle.l4_ipc.specs.declared.steps.Answer.{Answer}
 use Rattle.l4_ipc.specs.declared.steps.Step.TheVariants.{Start}
 use Rattle.l4_ipc.specs.Machine.{Machine}
-use Rattle.l4_ipc.specs.Steps.{Steps, IsIdle}
-use Rattle.l4_lock.specs.declared.entries.Entry.{Entry}
+use Rattle.l4_ipc.specs.Steps.{Steps, IsNext}
+use Rattle.l4_record.specs.declared.entries.Entry.{Entry}
 use Rattle.l4_lock.specs.declared.entries.Ended.{Ended}
 use Rattle.l4_lock.specs.declared.entries.Pending.{Pending}
-use Rattle.l4_lock.specs.History.{Replays}
-use Rattle.l4_lock.specs.Inside.Entering.{last_seat}
+use Rattle.l4_record.specs.History.{Replays, IsLegal}
 use Rattle.l4_lock.specs.Receipts.{Proves}
 use Rattle.l4_lock.specs.Books.{Book, book, book_at, reply_waits, has_ended, numbers, IsOnce, is_among, unended, plain, pending_count, receipt_of, one_if, starts_of, HasNotEnded, IsPending, IsRight, AreRight}
 use Rattle.l4_lock.specs.Inside.Noting.{noted}
-use Rattle.l4_lock.specs.Locked.{start_entry}
-use Rattle.l4_lock.specs.Inside.Entering.{Went, Begins, IsReady}
-use Rattle.l4_lock.proofs.Right.{pend, starts_append, none_starts, replays_more, last_is, right_next, right_start, numbers_noted, numbers_set, number_among, plain_noted}
-use Rattle.l4_lock.proofs.Laws.{events_more}
+use Rattle.l4_record.specs.Following.{start_entry}
+use Rattle.l4_lock.specs.Inside.Entering.{IsReady}
+use Rattle.l4_lock.proofs.Right.{pend, starts_append, none_starts, none_own, right_next, right_start, numbers_noted, numbers_set, number_among}
+use Rattle.l4_record.proofs.Going.{replays_more}
 
 pub same_book : (x b : Book) → ◌≡◌ {A = Option Book} (Some x) (Some b) → x ≡ b
 same_book x b e = cc
@@ -73,18 +71,28 @@ set_same (x ∷ xs) (suc place) b at = ap (λ (l : List Book). x ∷ l) (set_sam
 
 -- A START
 
-pub started_right : (frames : ℕ) (es : List Entry) (m new : Machine) (books : List Book) (place : ℕ) (b : Book) (call : Call) (answer : Answer) → AreRight frames es m books → slice_get books place ≡ Some b → b.pending ≡ None
-    → Steps m (Start b.number call) (Ok answer) new → IsForest new.mappings
-    → AreRight frames (es ++ start_entry b.number call answer ∷ []) new (map (noted new answer.ended.items (length es)) (slice_set books place (record b { pending = Some (pend call (length es) None) })))
-started_right frames es m new books place b call answer r at none step forest =
+-- what is right of the books, of a legal history
+pub record AreBooks (frames : ℕ) (es : List Entry) (m : Machine) (books : List Book) : Type 0 where
+  pub each : All (IsRight frames es m) books
+  pub apart : IsOnce (numbers books)
+  pub others : (n : ℕ) → is_among n (numbers books) ≡ false → starts_of n es ≡ 0
+
+pub books_of : (frames : ℕ) (es : List Entry) (m : Machine) (books : List Book) → AreRight frames es m books → AreBooks frames es m books
+books_of frames es m books r = record { each = r.each; apart = r.apart; others = r.others }
+
+pub with_books : (frames : ℕ) (es : List Entry) (m : Machine) (books : List Book) → IsLegal frames es m → AreBooks frames es m books → AreRight frames es m books
+with_books frames es m books l b = record { replays = l.replays; events = l.events; each = b.each; apart = b.apart; others = b.others }
+
+pub started_books : (frames : ℕ) (es : List Entry) (m new : Machine) (books : List Book) (place : ℕ) (b : Book) (call : Call) (answer : Answer) → AreBooks frames es m books → Replays frames es m → slice_get books place ≡ Some b → b.pending ≡ None
+    → Steps m (Start b.number call) (Ok answer) new
+    → AreBooks frames (es ++ start_entry b.number call answer ∷ []) new (map (noted new answer.ended.items (length es)) (slice_set books place (record b { pending = Some (pend call (length es) None) })))
+started_books frames es m new books place b call answer r replayed at none step =
     let e : Entry = start_entry b.number call answer in
     let c : Book = record b { pending = Some (pend call (length es) None) } in
-    let replays : Replays frames (es ++ e ∷ []) new = replays_more frames es m e new r.replays refl step in
+    let replays : Replays frames (es ++ e ∷ []) new = replays_more frames es m e new replayed refl step in
     let same : numbers (map (noted new answer.ended.items (length es)) (slice_set books place c)) ≡ numbers books = numbers_noted new answer.ended.items (length es) (slice_set books place c) ∙ numbers_set books place b c at refl in
     let P : Book → Type 0 = λ x. IsRight frames (es ++ e ∷ []) new (noted new answer.ended.items (length es) x) in
     record {
-      replays = replays;
-      events = events_more r.replays.boot es m e new r.events step forest;
       each = All-map (IsRight frames (es ++ e ∷ []) new) (noted new answer.ended.items (length es)) (slice_set books place c)
           (changed_all P books place b c at r.apart
           (right_start frames es m e new b call (read_all (IsRight frames es m) books place b at r.each) none refl step replays)
@@ -94,6 +102,20 @@ started_right frames es m new books place b call answer r at none step forest =
           let old : starts_of n es ≡ 0 = r.others n (ap (is_among n) (sym same) ∙ other) in
           let none' : one_if n e.step ≡ 0 = none_starts n e.step (λ starts. false≢true (sym (ap (is_among n) (sym same) ∙ other) ∙ ap (λ k. is_among k (numbers books)) (sym starts) ∙ number_among books place b at)) in
           starts_append n es e ∙ omega (arith, old, none');
+    }
+
+pub next_books : (frames : ℕ) (es : List Entry) (m : Machine) (e : Entry) (new : Machine) (books : List Book) → AreBooks frames es m books → Replays frames (es ++ e ∷ []) new → IsNext m e.step → Steps m e.step (Ok e.answer) new
+    → AreBooks frames (es ++ e ∷ []) new (map (noted new e.answer.ended.items (length es)) books)
+next_books frames es m e new books r replays next step =
+    let same = numbers_noted new e.answer.ended.items (length es) books in
+    record {
+      each = All-map (IsRight frames (es ++ e ∷ []) new) (noted new e.answer.ended.items (length es)) books
+          (All-weaker (IsRight frames es m) (λ b. IsRight frames (es ++ e ∷ []) new (noted new e.answer.ended.items (length es) b)) (λ b h. right_next frames es m e new b h step (none_own m b.number e.step next) replays) books r.each);
+      apart = subst IsOnce (sym same) r.apart;
+      others = λ n other.
+          let old : starts_of n es ≡ 0 = r.others n (ap (is_among n) (sym same) ∙ other) in
+          let none : one_if n e.step ≡ 0 = none_starts n e.step (none_own m n e.step next) in
+          starts_append n es e ∙ omega (arith, old, none);
     }
 
 -- A REPLY IS TAKEN
@@ -255,59 +277,16 @@ given_right frames es m books n r none =
 
 -- A CALL IS BEGUN
 
-same_pending : (o : Option Pending) (call : Call) (start : ℕ) → option_map unended o ≡ Some (pend call start None) → (p : Pending) × (o ≡ Some p) × (p.call ≡ call) × (p.start ≡ start)
+pub same_pending : (o : Option Pending) (call : Call) (start : ℕ) → option_map unended o ≡ Some (pend call start None) → (p : Pending) × (o ≡ Some p) × (p.call ≡ call) × (p.start ≡ start)
 same_pending None call start is = absurd (let k : ◌≡◌ {A = Option Pending} None (Some (pend call start None)) = is in cc)
 same_pending (Some p) call start is =
     let k : ◌≡◌ {A = Option Pending} (Some (unended p)) (Some (pend call start None)) = is in
     let e : unended p ≡ pend call start None = cc in
     (p, refl, ap (λ (q : Pending). q.call) e, ap (λ (q : Pending). q.start) e)
 
-same_plain : (o : Option Book) (c : Book) → option_map plain o ≡ Some (plain c) → (b : Book) × (o ≡ Some b) × (plain b ≡ plain c)
+pub same_plain : (o : Option Book) (c : Book) → option_map plain o ≡ Some (plain c) → (b : Book) × (o ≡ Some b) × (plain b ≡ plain c)
 same_plain None c is = absurd (let k : ◌≡◌ {A = Option Book} None (Some (plain c)) = is in cc)
 same_plain (Some b) c is = (b, refl, same_book (plain b) (plain c) is)
-
-pub begun : (m started new : Machine) (before after after' : List Entry) (books books' later : List Book) (place : ℕ) (b : Book) (call : Call) (answer : Answer)
-    → slice_get books place ≡ Some b → b.pending ≡ None → Steps m (Start b.number call) (Ok answer) started → IsForest started.mappings
-    → after ≡ before ++ start_entry b.number call answer ∷ []
-    → books' ≡ map (noted started answer.ended.items (length before)) (slice_set books place (record b { pending = Some (pend call (length before) None) }))
-    → Went b.number started new after after' books' later → IsIdle new → Begins b.number call m new before after' books later place
-begun m started new before after after' books books' later place b call answer at none step forest is changed went idle =
-    let c : Book = record b { pending = Some (pend call (length before) None) } in
-    let plainly : map plain later ≡ map plain (slice_set books place c) = went.same ∙ ap (map plain) changed ∙ plain_noted' (slice_set books place c) in
-    let there : option_map plain (slice_get later place) ≡ Some (plain c) =
-    sym (slice_get-map plain later place) ∙ ap (λ (l : List Book). slice_get l place) plainly ∙ slice_get-map plain (slice_set books place c) place ∙ ap (option_map plain) (set_get books place b c at) in
-    let it = same_plain (slice_get later place) c there in
-    let pending = same_pending it.0.pending call (length before) (ap (λ (x : Book). x.pending) it.2) in
-    record {
-      answer = answer;
-      started = started;
-      starts = step;
-      rest = went.rest;
-      goes = went.goes;
-      few = went.few;
-      history = went.longer ∙ ap (λ (l : List Entry). l ++ went.rest) is ∙ append_cons before (start_entry b.number call answer) went.rest;
-      idle = idle;
-      former = b;
-      former_at = at;
-      former_number = refl;
-      same = plainly;
-      receipts = ap (λ (x : Book). x.receipts) it.2;
-      right = λ frames r. went.right frames (ap (last_seat None) is ∙ last_is None before (start_entry b.number call answer))
-          (subst (λ (h : List Entry). AreRight frames h started books') (sym is) (subst (AreRight frames (before ++ start_entry b.number call answer ∷ []) started) (sym changed) (started_right frames before m started books place b call answer r at none step forest)));
-      book = it.0;
-      at = it.1;
-      number = ap (λ (x : Book). x.number) it.2;
-      pending = pending.0;
-      pending_is = pending.1;
-      pending_call = pending.2;
-      pending_start = pending.3;
-    } where
-      plain_noted' : (l : List Book) → map plain (map (noted started answer.ended.items (length before)) l) ≡ map plain l
-      plain_noted' l = plain_noted started answer.ended.items (length before) l
-
-      append_cons : (xs : List Entry) (e : Entry) (ys : List Entry) → (xs ++ e ∷ []) ++ ys ≡ xs ++ e ∷ ys
-      append_cons [] e ys = refl
-      append_cons (x ∷ xs) e ys = ap (λ (l : List Entry). x ∷ l) (append_cons xs e ys)
 
 pub none_at : (o : Option ℕ) (A : Type 0) (B : ℕ → Type 0) → MatchOption o A B → is_some o ≡ false → A
 none_at None A B h e = h

@@ -2,8 +2,9 @@
 use Rattle.std.proofs.Common.{◌≡◌, ◌≢◌, ℕ, ◌+◌, ◌<◌, ◌≤◌, ◌⊎◌, inl, inr, Bool, true, false, List, [], ◌∷◌, ◌++◌, length, Option, Some, None, Err, IfSome, IfNone, MatchOption, IsTrue, slice_get, slice_set, Contains, refl, sym, ap, ◌∙◌, subst, arith}
 use Rattle.std.specs.Option.{option_map, option_map_or, option_and_then}
 use Rattle.std.proofs.lemmas.Bool.{false≢true}
+use Rattle.std.proofs.lemmas.Bool.Decides.{leb_tells}
 use Rattle.std.proofs.lemmas.Option.{slice_get_within}
-use Rattle.std.proofs.lemmas.List.{length-append}
+use Rattle.std.proofs.lemmas.List.Elements.{All-nil}
 use Rattle.atomic_table.specs.Seated.{TableId}
 use Rattle.l4_threads.specs.declared.Reply.{Reply}
 use Rattle.l4_ipc.specs.declared.calls.Call.{Call}
@@ -11,7 +12,7 @@ use Rattle.l4_ipc.specs.declared.steps.Refused.{Refused}
 use Rattle.l4_ipc.specs.declared.steps.Step.TheVariants.{Start}
 use Rattle.l4_ipc.specs.Machine.{Machine}
 use Rattle.l4_ipc.specs.Steps.{Steps}
-use Rattle.l4_lock.specs.declared.entries.Entry.{Entry}
+use Rattle.l4_record.specs.declared.entries.Entry.{Entry}
 use Rattle.l4_lock.specs.declared.entries.Receipt.{Receipt}
 use Rattle.l4_lock.specs.declared.entries.Ended.{Ended}
 use Rattle.l4_lock.specs.declared.entries.Pending.{Pending}
@@ -20,8 +21,9 @@ use Rattle.l4_lock.specs.declared.refusals.Entered.TheVariants.{Done as HasEnded
 use Rattle.l4_lock.specs.declared.refusals.LockRefusal.{LockRefusal}
 use Rattle.l4_lock.specs.declared.refusals.LockRefusal.TheVariants.{NoMemory, Kernel as ByKernel}
 use Rattle.l4_lock.specs.Receipts.{Proves}
-use Rattle.l4_lock.specs.Books.{SeatState, seat_state, PassState, pass_state, seat_of, Book, book_at, reply_waits, has_ended, plain, receipts_at, numbers, IsOnce, receipt_of, HasNotEnded, IsPending, IsRight, AreRight}
-use Rattle.l4_lock.specs.Locked.{Lock, lock, IsKept, Enters, Tells, EndsAtOnce, IsLeft, Takes, Refuses, start_entry}
+use Rattle.l4_record.specs.Recording.{Recording, IsKept as IsRecorded}
+use Rattle.l4_lock.specs.Books.{SeatState, seat_state, Book, book_at, reply_waits, has_ended, plain, receipts_at, numbers, IsOnce, receipt_of, HasNotEnded, IsPending, IsRight, AreRight, starts_of}
+use Rattle.l4_lock.specs.Locked.{Lock, lock, IsKept, Enters, Tells, EndsAtOnce, IsLeft, Takes, Refuses, recording_of}
 use Rattle.l4_lock.specs.Inside.Accounts.{SettlesAt, IsUnsettled}
 use Rattle.l4_lock.specs.Inside.Entering.{Begins, IsAdmitted, WaitsMore}
 use Rattle.l4_lock.proofs.Right.{pend}
@@ -80,32 +82,46 @@ not_taken frames es m books later board published place before after None lt at 
       inr (ap (λ (o : Option Book). option_map_or has_ended (option_and_then (λ (b : Book). b.pending) o) false) (at ∙ there.1) ∙ none.none there.0 there.1),
     )
 
--- the same of whether it has ended
+-- the lock with other books
 abbrev pub settled_in : Lock → List Book → Lock
 settled_in l later = record l { books = later }
 
-pub not_taken_untold : (l : Lock) (later : List Book) (place : ℕ) (before after : SeatState) (ended : Bool) → place < length l.books → book_at l.books before.number ≡ slice_get l.books place
-    → (ended ≡ false → IsUnsettled l.books later place before after) → ended ≡ false
-    → (settled_in l later ≡ l) × (after ≡ before) × ((before.waiting ≡ 0) ⊎ (reply_waits l.books before.number ≡ false))
-not_taken_untold l later place before after ended lt at same is =
-    not_taken l.frames l.history l.kernel l.books later l.board l.published place before after None lt at (same is)
-
 -- ENTER
 
-pub begun_kept : (frames : ℕ) (es es' : List Entry) (m new : Machine) (books later : List Book) (board board' : TableId) (published published' n place : ℕ) (call : Call)
-    → IsKept (lock frames m es books board published) → length es ≤ 999871 → Begins n call m new es es' books later place → published' ≡ length es' → IsKept (lock frames new es' later board' published')
-begun_kept frames es es' m new books later board board' published published' n place call k few b shown = record {
-  right = b.right frames k.right;
-  idle = b.idle;
-  few = (let e = ap (λ (l : List Entry). length l) b.history in let rest = b.few in omega (arith, e, rest, few, length-append es (start_entry n call b.answer ∷ b.rest)));
-  shown = shown;
-}
+-- a lock whose recorder and books are these
+abbrev pub lock_of : Recording → List Book → Lock
+lock_of r books = lock r.frames r.kernel r.history books r.board r.published
+
+pub kept_of : (r : Recording) (books : List Book) → IsRecorded r → AreRight r.frames r.history r.kernel books → IsKept (lock_of r books)
+kept_of r books k right = record { right = right; idle = k.idle; few = k.few; shown = k.shown }
+
+pub begun_kept : (old new : Recording) (books later : List Book) (n place : ℕ) (call : Call) → IsKept (lock_of old books) → Begins n call old new books later place → IsKept (lock_of new later)
+begun_kept old new books later n place call k b = kept_of new later b.kept (b.right k.right)
+
+pub begins_kept : (r : Recording) (books : List Book) → IsRecorded r → r.history ≡ [] → books ≡ [] → IsKept (lock_of r books)
+begins_kept r books k none no_books =
+    kept_of r books k
+    (subst (λ (bs : List Book). AreRight r.frames r.history r.kernel bs) (sym no_books)
+    (record {
+      replays = k.legal.replays;
+      events = k.legal.events;
+      each = All-nil (IsRight r.frames r.history r.kernel);
+      apart = tt;
+      others = λ n other. ap (starts_of n) none;
+    }))
+
+pub has_room : (len : ℕ) (full : Bool) → full ≡ false → (999871 < len → IsTrue full) → len ≤ 999871
+has_room len full is only =
+    elim (leb_tells len 999871) [
+      | inl less ↦ less.1
+      | inr more ↦ absurd (false≢true (sym is ∙ only more.1))
+    ]
 
 -- one book may settle its call; those of other numbers are as they were, but for what is known of the ends of their calls
-others_kept : (es es' : List Entry) (m new : Machine) (books later : List Book) (n place : ℕ) (call : Call) (y : Book) → Begins n call m new es es' books later place → y.number ≡ n
+others_kept : (old new : Recording) (books later : List Book) (n place : ℕ) (call : Call) (y : Book) → Begins n call old new books later place → y.number ≡ n
     → (j : ℕ) → j ≢ n → option_map plain (book_at (slice_set later place y) j) ≡ option_map plain (book_at books j)
-others_kept es es' m new books later n place call y b same j ne =
-    let opened : Book = record b.former { pending = Some (record { call = call; start = length es; ended = None }) } in
+others_kept old new books later n place call y b same j ne =
+    let opened : Book = record b.former { pending = Some (record { call = call; start = length old.history; ended = None }) } in
     ap (option_map plain) (set_other later place b.book y j b.at (same ∙ sym b.number) (λ e. ne (e ∙ b.number)))
     ∙ plain_at later j ∙ ap (λ (l : List Book). book_at l j) b.same ∙ sym (plain_at (slice_set books place opened) j)
     ∙ ap (option_map plain) (set_other books place b.former opened j b.former_at refl (λ e. ne (e ∙ b.former_number)))
@@ -118,23 +134,16 @@ enters : (old mid : Lock) (later : List Book) (n : ℕ) (call : Call) (place : �
 enters old mid later n call place y a changed numbered =
     let b = a.begins in
     record {
-      room = a.room;
-      answer = b.answer;
-      started = b.started;
-      starts = b.starts;
-      rest = b.rest;
-      goes = b.goes;
-      few = (let few = b.few in omega (arith, few));
-      history = b.history;
-      same = a.same;
+      appended = b.appended;
+      recorded = b.recorded;
       others = λ j ne. ap (λ (l : List Book). option_map plain (book_at l j)) changed
-          ∙ others_kept old.history mid.history old.kernel mid.kernel old.books mid.books n place call y b numbered j ne;
+          ∙ others_kept (recording_of old) (recording_of mid) old.books mid.books n place call y b numbered j ne;
     }
 
 -- what was kept of the number
-former_kept : (es es' : List Entry) (m new : Machine) (books later : List Book) (n place : ℕ) (call : Call) → (b : Begins n call m new es es' books later place) → IsOnce (numbers books)
+former_kept : (old new : Recording) (books later : List Book) (n place : ℕ) (call : Call) → (b : Begins n call old new books later place) → IsOnce (numbers books)
     → receipts_at books n ≡ Some b.former.receipts
-former_kept es es' m new books later n place call b once =
+former_kept old new books later n place call b once =
     subst (λ (j : ℕ). receipts_at books j ≡ Some b.former.receipts) b.former_number (ap (option_map (λ (z : Book). z.receipts)) (own_at books place b.former b.former_at once))
 
 same_call : (p q : Pending) → ◌≡◌ {A = Option Pending} (Some p) (Some q) → p ≡ q
@@ -156,7 +165,7 @@ entered_done old mid later before between after call place reply k a more t =
     ap (λ (l : List Book). book_at l before.number) t.changed
     ∙ subst (λ (j : ℕ). book_at (slice_set mid.books place y) j ≡ Some y) numbered (set_own mid.books place x y t.at (ap (λ (z : Book). z.number) s.book_is) k.right.apart) in
     let had : receipts_at old.books before.number ≡ Some b.former.receipts =
-    former_kept old.history mid.history old.kernel mid.kernel old.books mid.books before.number place call b a.apart in (
+    former_kept (recording_of old) (recording_of mid) old.books mid.books before.number place call b a.apart in (
       enters old mid later before.number call place y a t.changed (ap (λ (z : Book). z.number) s.book_is ∙ numbered),
       record {
         kept = ap (option_map (λ (z : Book). z.receipts)) settled ∙ ap (λ (rs : List Receipt). Some rs) (ap (λ (z : Book). z.receipts) s.book_is ∙ ap (λ (z : Book). z.receipts ++ receipt_of s.pending s.ended ∷ []) here ∙ ap (λ (rs : List Receipt). rs ++ receipt_of s.pending s.ended ∷ []) b.receipts)
@@ -194,7 +203,7 @@ entered_left old mid later before between after call place k a more none =
     let settled : book_at later before.number ≡ Some b.book =
     ap (λ (l : List Book). book_at l before.number) none.same ∙ subst (λ (j : ℕ). book_at mid.books j ≡ Some b.book) b.number (own_at mid.books place b.book b.at k.right.apart) in
     let had : receipts_at old.books before.number ≡ Some b.former.receipts =
-    former_kept old.history mid.history old.kernel mid.kernel old.books mid.books before.number place call b a.apart in (
+    former_kept (recording_of old) (recording_of mid) old.books mid.books before.number place call b a.apart in (
       enters old mid later before.number call place b.book a (none.same ∙ sym (set_same mid.books place b.book b.at)) b.number,
       record {
         kept = ap (option_map (λ (z : Book). z.receipts)) settled ∙ ap (λ (rs : List Receipt). Some rs) b.receipts ∙ sym had;
@@ -222,47 +231,3 @@ refuses frames es m books board published n call e waits few there why =
 
 pub some_there : (o : Option Book) (b : Book) → o ≡ Some b → o ≢ None
 some_there o b is none = let k : ◌≡◌ {A = Option Book} None (Some b) = sym none ∙ is in cc
-
--- BY A PASS
-
--- what a seat gains, whatever receipts it has, in the place of the pass
-abbrev GainsAt : List Book → List Book → ℕ → PassState → PassState → Type 0
-GainsAt books later place p q = (rs : List Receipt) → (reply : Reply) × (more : List Receipt) × SettlesAt books later place (seat_of p rs) (seat_of q more) (λ c. c) reply
-
-abbrev GainsNothing : List Book → List Book → ℕ → PassState → PassState → Type 0
-GainsNothing books later place p q = (rs : List Receipt) → IsUnsettled books later place (seat_of p rs) (seat_of q rs)
-
-pub passed_kept : (l : Lock) (later : List Book) (place : ℕ) (p q : PassState) (ended : Bool) → IsKept l → (ended ≡ true → GainsAt l.books later place p q) → (ended ≡ false → GainsNothing l.books later place p q)
-    → IsKept (settled_in l later)
-passed_kept l later place p q true k settles same =
-    let s = settles refl [] in
-    finished l.frames l.history l.kernel l.books later l.board l.published place (seat_of p []) (seat_of q s.1) (λ c. c) (Some s.0) k s.2 tt
-passed_kept l later place p q false k settles same =
-    finished l.frames l.history l.kernel l.books later l.board l.published place (seat_of p []) (seat_of q []) (λ c. c) None k tt (same refl [])
-
-pub passed_taken : (l : Lock) (later : List Book) (place : ℕ) (p q : PassState) (ended : Bool) → IsKept l → book_at l.books p.number ≡ slice_get l.books place → (ended ≡ true → GainsAt l.books later place p q)
-    → ended ≡ true → (rs : List Receipt) → (reply : Reply) × (more : List Receipt) × Takes l (settled_in l later) (seat_of p rs) (seat_of q more) (λ c. c) reply
-passed_taken l later place p q ended k at settles is rs =
-    let s = settles is rs in
-    (s.0, s.1, taken l.frames l.history l.kernel l.books later l.board l.published place (seat_of p rs) (seat_of q s.1) (λ c. c) (Some s.0) k at s.2)
-
-pub passed_untaken : (l : Lock) (later : List Book) (place : ℕ) (p q : PassState) (ended : Bool) → place < length l.books → book_at l.books p.number ≡ slice_get l.books place
-    → (ended ≡ false → GainsNothing l.books later place p q) → ended ≡ false → (settled_in l later ≡ l) × (q ≡ p) × ((p.waiting ≡ 0) ⊎ (reply_waits l.books p.number ≡ false))
-passed_untaken l later place p q ended lt at same is =
-    let n = not_taken_untold l later place (seat_of p []) (seat_of q []) ended lt at (λ e. same e []) is in
-    (n.0, ap (λ (s : SeatState). pass_state s.number s.waiting) n.1, n.2)
-
-pub passed_entered : (old mid : Lock) (later : List Book) (p between q : PassState) (call : Call) (place : ℕ) (ended : Bool) → IsKept mid → IsAdmitted old mid p.number call place → between ≡ record p { waiting = p.waiting + 1 }
-    → (ended ≡ true → GainsAt mid.books later place between q) → (ended ≡ false → GainsNothing mid.books later place between q)
-    → Enters old (settled_in mid later) p.number call × ((rs : List Receipt) → (e : Entered) × (more : List Receipt) × Tells old (settled_in mid later) (seat_of p rs) (seat_of q more) call e)
-passed_entered old mid later p between q call place true k a waits settles same =
-    let done = λ (rs : List Receipt). entered_done old mid later (seat_of p rs) (seat_of between rs) (seat_of q (settles refl rs).1) call place (settles refl rs).0 k a (ap (λ (x : PassState). seat_of x rs) waits) (settles refl rs).2 in
-    ((done []).0, λ rs. (HasEnded (settles refl rs).0, (settles refl rs).1, (done rs).1))
-passed_entered old mid later p between q call place false k a waits settles same =
-    let left = λ (rs : List Receipt). entered_left old mid later (seat_of p rs) (seat_of between rs) (seat_of q rs) call place k a (ap (λ (x : PassState). seat_of x rs) waits) (same refl rs) in
-    ((left []).0, λ rs. (IsWaiting, rs, (left rs).1))
-
-pub pass_back : (before between after : PassState) → between ≡ record before { waiting = before.waiting + 1 } → between ≡ record after { waiting = after.waiting + 1 } → after ≡ before
-pass_back before between after more less =
-    ap (λ (s : SeatState). pass_state s.number s.waiting)
-    (seat_back (seat_of before []) (seat_of between []) (seat_of after []) (ap (λ (x : PassState). seat_of x []) more) (ap (λ (x : PassState). seat_of x []) less))

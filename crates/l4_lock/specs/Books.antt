@@ -8,11 +8,11 @@ use Rattle.l4_ipc.specs.declared.steps.Step.{Step}
 use Rattle.l4_ipc.specs.declared.steps.Step.TheVariants.{Start, Transfer, Expire}
 use Rattle.l4_ipc.specs.Machine.{Machine}
 use Rattle.l4_ipc.specs.Steps.{Waits}
-use Rattle.l4_lock.specs.declared.entries.Entry.{Entry}
+use Rattle.l4_record.specs.declared.entries.Entry.{Entry}
 use Rattle.l4_lock.specs.declared.entries.Receipt.{Receipt}
 use Rattle.l4_lock.specs.declared.entries.Ended.{Ended}
 use Rattle.l4_lock.specs.declared.entries.Pending.{Pending}
-use Rattle.l4_lock.specs.History.{Replays, HasEvents}
+use Rattle.l4_record.specs.History.{Replays, HasEvents}
 use Rattle.l4_lock.specs.Receipts.{Proves, StartsCall}
 
 -- what a seat keeps: its number, how many of its calls were left waiting and not taken yet, and its receipts
@@ -23,18 +23,6 @@ pub record SeatState : Type 0 where
 
 abbrev pub seat_state : ℕ → ℕ → List Receipt → SeatState
 seat_state number waiting receipts = record { number = number; waiting = waiting; receipts = receipts }
-
--- what a pass keeps: its number, and how many of its calls were left waiting and not taken yet
-pub record PassState : Type 0 where
-  pub number : ℕ
-  pub waiting : ℕ
-
-abbrev pub pass_state : ℕ → ℕ → PassState
-pass_state number waiting = record { number = number; waiting = waiting }
-
--- the seat that a pass would be, had it kept these receipts
-abbrev pub seat_of : PassState → List Receipt → SeatState
-seat_of p receipts = seat_state p.number p.waiting receipts
 
 -- the calls that it started: each has its receipt or was left waiting
 abbrev pub starts : SeatState → ℕ

@@ -1,7 +1,7 @@
 -- How the seats that come back agree with the seats that were given. (this profile's own)
 use Rattle.std.specs.Prelude.{◌≡◌, ℕ, ◌<◌, ◌⊎◌, List, length, Option, Some, None, slice_get}
 use Rattle.std.specs.List.{All, AllPairs}
-use Rattle.l4_lock.specs.declared.entries.Entry.{Entry}
+use Rattle.l4_record.specs.declared.entries.Entry.{Entry}
 use Rattle.l4_lock.specs.declared.closing.Mismatch.{Mismatch}
 use Rattle.l4_lock.specs.declared.closing.Mismatch.TheVariants.{Missing, Foreign, Receipt as WrongReceipt}
 use Rattle.l4_lock.specs.Receipts.{Proves}

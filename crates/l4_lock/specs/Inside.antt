@@ -3,5 +3,3 @@ pub mod Closing
 pub mod Entering
 pub mod Noting
 pub mod Packing
-pub mod Pending
-pub mod Following

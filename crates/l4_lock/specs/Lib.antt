@@ -1,6 +1,3 @@
-pub mod Sizes
-pub mod History
-pub mod Laws
 pub mod Receipts
 pub mod Books
 pub mod Locked

@@ -7,20 +7,22 @@ use Rattle.l4_fpage.specs.Pages.{max_frames}
 use Rattle.l4_threads.specs.declared.Reply.{Reply}
 use Rattle.l4_threads.specs.declared.Thread.{Thread}
 use Rattle.l4_ipc.specs.declared.calls.Call.{Call}
-use Rattle.l4_ipc.specs.declared.steps.Answer.{Answer}
 use Rattle.l4_ipc.specs.declared.steps.Refused.TheVariants.{UnknownThread, BadFrames, Lower}
 use Rattle.l4_ipc.specs.declared.steps.Lower.TheVariants.{NoMemory as LowerNoMemory}
 use Rattle.l4_ipc.specs.declared.steps.Step.TheVariants.{Start}
 use Rattle.l4_ipc.specs.Machine.{Machine, machine_code}
 use Rattle.l4_ipc.specs.Steps.{Steps, IsIdle}
-use Rattle.l4_lock.specs.declared.entries.Entry.{Entry}
+use Rattle.l4_record.specs.declared.entries.Entry.{Entry}
 use Rattle.l4_lock.specs.declared.entries.Receipt.{Receipt}
 use Rattle.l4_lock.specs.declared.refusals.Entered.{Entered}
 use Rattle.l4_lock.specs.declared.refusals.Entered.TheVariants.{Done, Waiting}
 use Rattle.l4_lock.specs.declared.refusals.LockRefusal.{LockRefusal}
 use Rattle.l4_lock.specs.declared.refusals.LockRefusal.TheVariants.{ReplyWaiting, HistoryFull, NoMemory, SeatTaken, Kernel as ByKernel}
-use Rattle.l4_lock.specs.Sizes.{max_entries, max_steps, last_start}
-use Rattle.l4_lock.specs.History.{GoesOn}
+use Rattle.l4_record.specs.declared.appended.Appended.{Appended}
+use Rattle.l4_record.specs.declared.refusals.RecordRefusal.{RecordRefusal}
+use Rattle.l4_record.specs.declared.refusals.RecordRefusal.TheVariants.{HistoryFull as IsFull, NoMemory as LacksMemory, Kernel as FromKernel}
+use Rattle.l4_record.specs.Sizes.{max_entries, last_start}
+use Rattle.l4_record.specs.Recording.{Recording, recording, Enters as Recorded}
 use Rattle.l4_lock.specs.Receipts.{Proves}
 use Rattle.l4_lock.specs.Books.{SeatState, Book, book, receipt_of, plain, book_at, receipts_at, pending_at, reply_waits, Settles, AreRight}
 
@@ -52,22 +54,14 @@ pub record IsKept (l : Lock) : Type 0 where
   pub few : length l.history ≤ max_entries
   pub shown : l.published ≡ length l.history
 
--- the entry of a call's start
-abbrev pub start_entry : ℕ → Call → Answer → Entry
-start_entry n call answer = record { seat = n; step = Start n call; answer = answer }
+-- the lock without its books
+abbrev pub recording_of : Lock → Recording
+recording_of l = recording l.frames l.kernel l.history l.board l.published
 
--- The call was entered, for which there was room: the history goes on by its start and by the steps that come next, at most 128, until there
--- is none. What is kept of other numbers stays, but for what is known of the ends of their calls.
+-- The call was entered, as the recorder enters it. What is kept of other numbers stays, but for what is known of the ends of their calls.
 pub record Enters (old new : Lock) (n : ℕ) (call : Call) : Type 0 where
-  pub room : length old.history ≤ last_start
-  pub answer : Answer
-  pub started : Machine
-  pub starts : Steps old.kernel (Start n call) (Ok answer) started
-  pub rest : List Entry
-  pub goes : GoesOn started n rest new.kernel
-  pub few : length rest ≤ max_steps
-  pub history : new.history ≡ old.history ++ start_entry n call answer ∷ rest
-  pub same : (new.frames ≡ old.frames) × (new.board ≡ old.board)
+  pub appended : Appended
+  pub recorded : Recorded (recording_of old) (recording_of new) n call appended
   pub others : (m : ℕ) → m ≢ n → option_map plain (book_at new.books m) ≡ option_map plain (book_at old.books m)
 
 -- the seat gained this receipt, which is right about the history
@@ -93,10 +87,17 @@ pub record IsLeft (old new : Lock) (before after : SeatState) : Type 0 where
   pub not_ended : (k : ℕ) (entry : Entry) → length old.history ≤ k → slice_get new.history k ≡ Some entry → ¬ (Contains entry.answer.ended.items before.number)
   pub kept : receipts_at new.books before.number ≡ receipts_at old.books before.number
 
--- why no locked kernel is made: the number of frames is out of range, or a growth was refused
+-- the lock's refusal that is the recorder's
+abbrev pub refusal_of : RecordRefusal → LockRefusal
+refusal_of IsFull = HistoryFull
+refusal_of LacksMemory = NoMemory
+refusal_of (FromKernel e) = ByKernel e
+
+-- why no locked kernel is made: the number of frames is out of range, or it is within, and a growth was refused
 abbrev pub RefusesBoot : ℕ → LockRefusal → Type 0
 RefusesBoot frames e =
-    (e ≡ NoMemory) ⊎ (e ≡ ByKernel (Lower LowerNoMemory)) ⊎ (((frames ≡ 0) ⊎ (max_frames < frames)) × (e ≡ ByKernel BadFrames))
+    (((frames ≡ 0) ⊎ (max_frames < frames)) × (e ≡ ByKernel BadFrames))
+    ⊎ ((1 ≤ frames) × (frames ≤ max_frames) × ((e ≡ NoMemory) ⊎ (e ≡ ByKernel (Lower LowerNoMemory))))
 
 -- why a call is not entered: the first of these that applies
 abbrev pub Refuses : Lock → ℕ → Call → LockRefusal → Type 0

@@ -42,6 +42,10 @@ refusal_number ReplyWaiting = 3
 refusal_number SeatTaken = 4
 refusal_number (ByKernel e) = 5
 
+-- an accepted call gives the gate's seat just one receipt, of this call with this reply, and changes nothing else of it
+abbrev pub GateAccepts : GateState → Call → Reply → GateState → Type 0
+GateAccepts before call reply after = (after.first ≡ before.first) × IsAnswered before.seat after.seat call reply
+
 -- a gate's fault has the number of a refusal of this call, and leaves the gate as it was
 abbrev pub GateRefuses : GateState → Call → GateFault → GateState → Type 0
 GateRefuses before call fault after =

@@ -1,20 +1,12 @@
 //! The accounts of the seats that were given.
-ghost use Rattle.std.specs.Prelude.{◌≡◌, ◌≢◌, ◌<◌, ℕ, List, Some, None, [], ◌∷◌, ◌++◌, length, IfSome, IfNone, MatchOption, MatchResult, is_some, true, false, slice_get, slice_set};
+ghost use Rattle.std.specs.Prelude.{◌≡◌, ◌≢◌, ◌<◌, ℕ, List, Some, None, [], ◌∷◌, ◌++◌, length, IfSome, IfNone, MatchOption, MatchResult, is_some, false, slice_get, slice_set};
 ghost use Rattle.std.specs.Option.{option_copied};
-ghost use Rattle.l4_threads.specs.declared.Reply.{Reply as AReply};
-ghost use Rattle.l4_lock.specs.Books.{Book, book, book_at, reply_waits, numbers, IsOnce, seat_of};
+ghost use Rattle.l4_lock.specs.Books.{Book, book, book_at, reply_waits, numbers, IsOnce};
 ghost use Rattle.l4_lock.specs.Inside.Accounts.{has_reply, SettlesAt, IsUnsettled};
-ghost use Rattle.l4_lock.specs.Inside.Noting.{noted, own_call, first_reply};
-ghost use Rattle.l4_lock.specs.Inside.Pending.{AreOf};
-ghost use Rattle.l4_lock.specs.Inside.Entering.{HasBegun};
-ghost use Rattle.l4_ipc.specs.declared.calls.Call.{Call as ACall};
-ghost use Rattle.l4_lock.specs.declared.entries.Receipt.{Receipt as AReceipt};
+ghost use Rattle.l4_lock.specs.Inside.Noting.{noted, own_call};
 
-use crate::history::History;
-use crate::passes::Pass;
-use crate::seats::{Account, Seat, settle, settle_kept};
+use crate::seats::{Account, Seat, settle};
 use l4_ipc::{Call, Kernel, Reply};
-use l4_packed::Words;
 use std::alloc::{AllocError, Global};
 use std::marker::Model;
 
@@ -24,9 +16,6 @@ use std::marker::Model;
 pub(crate) struct Accounts {
     items: Vec<Account>,
     replies: usize,
-    /// Where the accounts stand whose calls ended last. They are looked at before all others.
-    last: usize,
-    before: usize,
 }
 
 impl Model for Accounts {
@@ -48,8 +37,6 @@ impl Accounts {
         Accounts {
             items: Vec::new(alloc),
             replies: 0,
-            last: 0,
-            before: 0,
         }
     }
 
@@ -78,34 +65,6 @@ impl Accounts {
             return false;
         }
         reply_waits(self.items.as_slice(), number)
-    }
-
-    /// The number of the account at this place, if there is one whose ended call hasn't been taken.
-    fn reply_at(&self, at: usize) -> Option<u32>
-        requires { IsOnce (numbers self.now.items) }
-        ensures { IfSome result (λ n. reply_waits self.now.items n ≡ true) }
-    {
-        if at < self.items.len() && self.items[at].has_reply() {
-            return Some(self.items[at].number());
-        }
-        None
-    }
-
-    /// The number of an account whose ended call hasn't been taken. None where there is none.
-    pub fn any_reply(&self) -> Option<u32>
-        requires { IsOnce (numbers self.now.items) }
-        ensures { MatchOption result ((n : ℕ) → reply_waits self.now.items n ≡ false) (λ n. reply_waits self.now.items n ≡ true) }
-    {
-        if self.replies == 0 {
-            return None;
-        }
-        if let Some(number) = self.reply_at(self.last) {
-            return Some(number);
-        }
-        if let Some(number) = self.reply_at(self.before) {
-            return Some(number);
-        }
-        first_reply(self.items.as_slice())
     }
 
     /// Appends the account of a number whose seat is given. Where a growth is refused nothing has changed.
@@ -137,14 +96,6 @@ impl Accounts {
         self.items[at].begin(call, start)
     }
 
-    /// The words of the call of the account at this place, which goes on.
-    pub fn call_words(&self, at: usize) -> Words<'_>
-        requires { (call : ACall) × HasBegun self.now.items at call }
-        ensures { (call : ACall) → HasBegun self.now.items at call → AreOf call result }
-    {
-        self.items[at].call_words()
-    }
-
     /// Takes a call back that was begun at this place and has not ended.
     pub fn cancel(&mut self, at: usize)
         requires at { at < length self.old.items }
@@ -154,87 +105,29 @@ impl Accounts {
         self.items[at].cancel();
     }
 
-    /// Where the last call of this number started.
-    pub fn last_start(&self, number: u32) -> usize
-        requires { IsOnce (numbers self.now.items) }
-    {
-        match self.position(number) {
-            Some(at) => self.items[at].last_start(),
-            None => 0,
-        }
-    }
-
-    /// Notes that the call of this place, if one goes on, ended in the entry of that place. The source is the entry that started the call whose
-    /// message is in its reply; nothing rests on it.
-    pub fn end(&mut self, at: usize, kernel: &Kernel, place: usize, source: usize)
+    /// Notes that the call of this place, if one goes on, ended in the entry of that place.
+    pub fn end(&mut self, at: usize, kernel: &Kernel, place: usize)
         requires { at < length self.old.items }
         ensures { (b : Book) → slice_get self.old.items at ≡ Some b
             → self.new.items ≡ slice_set self.old.items at (noted kernel.now (b.number ∷ []) place b) }
     {
-        if self.items[at].end(kernel, place, source) {
+        if self.items[at].end(kernel, place) {
             self.replies += 1;
-            self.before = self.last;
-            self.last = at;
         }
     }
 
-    /// Takes the call of this place, if it has ended: the account and the seat gain its receipt. The seat's has the call that the seat knows of.
-    #[inline(always)]
-    pub fn settle(
-        &mut self,
-        at: usize,
-        seat: &mut Seat,
-        own: Option<&Call>,
-        history: &mut History,
-    ) -> bool
-        requires waiting { seat.old.waiting ≢ 0 }
-        requires at { at < length self.old.items }
-        ensures settles { result ≡ true → (reply : AReply) × SettlesAt self.old.items self.new.items at seat.old seat.new (own_call (option_copied own.entry)) reply }
-        ensures same { result ≡ false → IsUnsettled self.old.items self.new.items at seat.old seat.new }
-        ensures history { history.new ≡ history.old }
-    {
-        if !settle(&mut self.items[at], seat, own, history) {
-            return false;
-        }
-        self.replies -= 1;
-        true
-    }
-
-    /// Takes the call of this place, if it has ended: the account gains its receipt, and so would any seat in the place of the pass.
-    #[inline(always)]
-    pub fn settle_kept(&mut self, at: usize, pass: &mut Pass, history: &mut History) -> bool
-        requires waiting { pass.old.waiting ≢ 0 }
-        requires at { at < length self.old.items }
-        ensures settles { result ≡ true → (receipts : List AReceipt)
-            → (reply : AReply) × (later : List AReceipt) × SettlesAt self.old.items self.new.items at (seat_of pass.old receipts) (seat_of pass.new later) (λ call. call) reply }
-        ensures same { result ≡ false → (receipts : List AReceipt) → IsUnsettled self.old.items self.new.items at (seat_of pass.old receipts) (seat_of pass.new receipts) }
-        ensures history { history.new ≡ history.old }
-    {
-        if !settle_kept(&mut self.items[at], pass, history) {
-            return false;
-        }
-        self.replies -= 1;
-        true
-    }
-
-    /// `settle` with the reply.
-    pub fn finish(
-        &mut self,
-        at: usize,
-        seat: &mut Seat,
-        own: Option<&Call>,
-        history: &mut History,
-    ) -> Option<Reply>
+    /// Takes the call of this place, if it has ended, and answers its reply: the account and the seat gain its receipt. The seat's has the call that
+    /// the seat knows of.
+    pub fn finish(&mut self, at: usize, seat: &mut Seat, own: Option<&Call>) -> Option<Reply>
         requires waiting { seat.old.waiting ≢ 0 }
         requires at { at < length self.old.items }
         ensures some { IfSome result (λ reply. SettlesAt self.old.items self.new.items at seat.old seat.new (own_call (option_copied own.entry)) reply) }
         ensures none { IfNone result (IsUnsettled self.old.items self.new.items at seat.old seat.new) }
-        ensures history { history.new ≡ history.old }
     {
-        let Some(reply) = self.items[at].reply() else {
+        let Some(reply) = settle(&mut self.items[at], seat, own) else {
             return None;
         };
-        self.settle(at, seat, own, history);
+        self.replies -= 1;
         Some(reply)
     }
 }
@@ -276,18 +169,4 @@ fn reply_waits(accounts: &[Account], number: u32) -> bool
         Some(at) => accounts[at].has_reply(),
         None => false,
     }
-}
-
-/// The number of the first account with an ended call that hasn't been taken. It is rare that the account of such a call isn't one of those
-/// whose calls ended last.
-#[cold]
-fn first_reply(accounts: &[Account]) -> Option<u32>
-    ensures { result ≡ first_reply accounts.now }
-{
-    for i in 0..accounts.len() {
-        if accounts[i].has_reply() {
-            return Some(accounts[i].number());
-        }
-    }
-    None
 }

@@ -1,13 +1,23 @@
-//! A copy that takes no memory.
+//! Copies that take no memory.
 ghost use Rattle.std.specs.Prelude.{◌≡◌};
 
-use l4_ipc::Call;
+use l4_ipc::{Call, Reply};
 
 /// The same call.
 pub fn copy_call(call: &Call) -> Call
     ensures { result ≡ call.now }
 {
     let Ok(copy) = call.clone() else {
+        unreachable!()
+    };
+    copy
+}
+
+/// The same reply.
+pub fn copy_reply(reply: &Reply) -> Reply
+    ensures { result ≡ reply.now }
+{
+    let Ok(copy) = reply.clone() else {
         unreachable!()
     };
     copy

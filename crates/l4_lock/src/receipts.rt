@@ -1,14 +1,12 @@
 //! The receipts of a seat as a list.
-ghost use Rattle.std.specs.Prelude.{◌≡◌, ◌≢◌, ◌+◌, ◌<◌, ◌≤◌, ◌++◌, ◌∷◌, ◌^◌, [], drop, nat_eq, length, slice_get, true, false, Some, IsTrue, is_some, OnOk};
-ghost use Rattle.l4_lock.specs.Inside.Packing.{receipt_at};
+ghost use Rattle.std.specs.Prelude.{◌≡◌, ◌≢◌, ◌+◌, ◌<◌, ◌≤◌, ◌++◌, ◌∷◌, ◌^◌, [], drop, nat_eq, length, slice_get, true, false, OnOk};
+ghost use Rattle.l4_lock.specs.Books.{receipt};
 ghost use Rattle.l4_lock.specs.Lists.{ReceiptList, receipt_list};
-ghost use Rattle.l4_lock.specs.declared.entries.Receipt.{Receipt as AReceipt};
 
-use crate::entries::Receipt;
-use crate::history::History;
+use crate::entries::{Ended, Receipt};
 use crate::packed::write_receipt;
 use l4_ipc::{Call, Reply};
-use l4_packed::{ItemsFrom, PackedList, Record, Words};
+use l4_packed::{ItemsFrom, PackedList, Record};
 use std::alloc::{AllocError, Global};
 use std::marker::Model;
 
@@ -77,53 +75,15 @@ impl Receipts {
         self.receipts.reserve(more)
     }
 
-    /// Appends the receipt of these parts, for which there is room.
-    pub(crate) fn push_parts(&mut self, call: &Call, start: usize, end: usize, reply: &Reply)
+    /// Appends the receipt of a call that has ended, for which there is room.
+    pub(crate) fn push(&mut self, call: &Call, start: usize, ended: &Ended)
         requires { length self.old.items < self.old.room }
-        ensures items { self.new.items ≡ self.old.items ++ record { call = call.now; start = start; end = end; reply = reply.now } ∷ [] }
+        ensures items { self.new.items ≡ self.old.items ++ receipt call.now start ended.now ∷ [] }
         ensures room { (length self.new.items ≡ length self.old.items + 1) × (self.new.room ≡ self.old.room) }
     {
         let mut packed = Record::new();
-        write_receipt(&mut packed, call, start, end, reply);
+        write_receipt(&mut packed, call, start, ended.entry, &ended.reply);
         self.receipts.push(&packed.words());
-    }
-
-    /// Appends the receipt of these words, for which there is room.
-    #[inline(always)]
-    pub(crate) fn push_words(&mut self, words: &Words<'_>)
-        requires room { length self.old.items < self.old.room }
-        requires read { IsTrue (is_some (receipt_at words.now)) }
-        ensures items { (receipt : AReceipt) → receipt_at words.now ≡ Some receipt → self.new.items ≡ self.old.items ++ receipt ∷ [] }
-        ensures room { (length self.new.items ≡ length self.old.items + 1) × (self.new.room ≡ self.old.room) }
-    {
-        self.receipts.push(words);
-    }
-
-    /// Notes which entries of the history may have words of the last receipt: the one that started its call, and the one that started the
-    /// call whose message is in its reply. Nothing rests on it, and no receipt changes.
-    pub(crate) fn hint(&mut self, start: usize, source: usize)
-        ensures { self.new ≡ self.old }
-    {
-        self.receipts.hint(start, source);
-    }
-
-    /// Lets memory of both that holds the same receipts have two owners, and store by entries of the history what hints say. No receipt changes.
-    #[inline(always)]
-    pub(crate) fn share(&mut self, other: &mut Receipts, history: &mut History)
-        ensures own { self.new ≡ self.old }
-        ensures other { other.new ≡ other.old }
-        ensures history { history.new ≡ history.old }
-    {
-        history.let_share(&mut self.receipts, &mut other.receipts);
-    }
-
-    /// Stores what is full of their memory by entries of the history, as hints say. No receipt changes.
-    #[inline(always)]
-    pub(crate) fn shorten(&mut self, history: &mut History)
-        ensures own { self.new ≡ self.old }
-        ensures history { history.new ≡ history.old }
-    {
-        history.shorten(&mut self.receipts);
     }
 
     /// Whether these are the same receipts.

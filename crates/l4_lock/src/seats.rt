@@ -1,33 +1,16 @@
 //! Seats, and what the lock keeps of each.
-ghost use Rattle.std.specs.Prelude.{◌≡◌, ◌≢◌, ◌+◌, ◌<◌, ◌≤◌, ℕ, List, Some, None, [], ◌∷◌, ◌++◌, length, MatchResult, IsTrue, is_some, true, false};
+ghost use Rattle.std.specs.Prelude.{◌≡◌, ◌≢◌, ◌+◌, ◌<◌, ◌≤◌, Some, None, [], ◌∷◌, ◌++◌, length, IfSome, IfNone, MatchResult, is_some, true, false};
 ghost use Rattle.std.specs.Option.{option_map_or, option_copied};
-ghost use Rattle.l4_lock.specs.Books.{SeatState, seat_state, seat_of, starts, Book, book, pending_count, has_ended, receipt_of, Settles};
+ghost use Rattle.l4_lock.specs.Books.{SeatState, seat_state, starts, Book, book, pending_count, receipt, has_ended, Settles};
 ghost use Rattle.l4_lock.specs.Inside.Accounts.{has_reply};
-ghost use Rattle.l4_lock.specs.Inside.Noting.{started_by, noted, reply_pending, own_call};
-ghost use Rattle.l4_lock.specs.Inside.Packing.{receipt_at};
-ghost use Rattle.l4_lock.specs.Inside.Pending.{AreOf};
-ghost use Rattle.l4_lock.specs.declared.entries.Pending.{Pending as APending};
-ghost use Rattle.l4_lock.specs.declared.entries.Receipt.{Receipt as AReceipt};
-ghost use Rattle.l4_lock.specs.declared.entries.Ended.{Ended as AnEnd};
+ghost use Rattle.l4_lock.specs.Inside.Noting.{started_by, noted, noted_call, reply_in, own_call};
 
-use crate::entries::Receipt;
-use crate::history::History;
-use crate::passes::Pass;
-use crate::pending::PendingCall;
+use crate::copies::{copy_call, copy_reply};
+use crate::entries::{Ended, Pending};
 use crate::receipts::Receipts;
 use l4_ipc::{Call, Kernel, Reply};
-use l4_packed::{FromWords, Words};
 use std::alloc::{AllocError, Global};
 use std::marker::Model;
-
-/// A receipt of so many bytes or more may be stored by entries of the history.
-const LONG: usize = 64;
-
-/// So may a shorter one with an Ipc of so many bytes or more, and little behind it.
-const LONG_IPC: usize = 10;
-
-/// No more than so many bytes are little: the places of a call, and a reply without a message.
-const LITTLE: usize = 8;
 
 /// The right to enter calls of one thread. It keeps a receipt of each call that has ended.
 #[derive(Drop)]
@@ -109,48 +92,48 @@ impl Seat {
         self.waiting -= 1;
     }
 
-    /// A call that was left waiting has the receipt of these words.
-    fn receive(&mut self, words: &Words<'_>)
-        requires waiting { self.old.waiting ≢ 0 }
-        requires read { IsTrue (is_some (receipt_at words.now)) }
-        ensures receipts { (receipt : AReceipt) → receipt_at words.now ≡ Some receipt → self.new.receipts ≡ self.old.receipts ++ receipt ∷ [] }
+    /// A call that was left waiting has its receipt.
+    fn receive(&mut self, call: &Call, start: usize, ended: &Ended)
+        requires { self.old.waiting ≢ 0 }
+        ensures receipts { self.new.receipts ≡ self.old.receipts ++ receipt call.now start ended.now ∷ [] }
         ensures waiting { (self.old.waiting ≡ self.new.waiting + 1) × (self.new.number ≡ self.old.number) }
     {
         self.waiting -= 1;
-        self.receipts.push_words(words);
+        self.receipts.push(call, start, ended);
     }
+}
 
-    /// The same, where the receipt has the call that the seat's holder knows of.
-    fn receive_own(&mut self, words: Words<'_>, call: &Call)
-        requires waiting { self.old.waiting ≢ 0 }
-        requires read { IsTrue (is_some (receipt_at words)) }
-        ensures receipts { (receipt : AReceipt) → receipt_at words.entry ≡ Some receipt → self.new.receipts ≡ self.old.receipts ++ record receipt { call = call.now } ∷ [] }
-        ensures waiting { (self.old.waiting ≡ self.new.waiting + 1) × (self.new.number ≡ self.old.number) }
-    {
-        let Some(receipt) = Receipt::from_words(words) else {
-            unreachable!()
-        };
-        self.waiting -= 1;
-        self.receipts
-            .push_parts(call, receipt.start, receipt.end, &receipt.reply);
+/// The reply of a thread's last ended call, Gone where the thread is there no longer.
+fn last_reply(kernel: &Kernel, number: u32) -> Reply
+    ensures { result ≡ reply_in kernel.now number }
+{
+    match kernel.reply(number) {
+        Some(reply) => copy_reply(reply),
+        None => Reply::Gone,
     }
+}
 
-    /// Lets memory in which the account has the same receipts have two owners.
-    #[inline(always)]
-    fn share(&mut self, receipts: &mut Receipts, history: &mut History)
-        ensures own { self.new ≡ self.old }
-        ensures account { receipts.new ≡ receipts.old }
-        ensures history { history.new ≡ history.old }
-    {
-        receipts.share(&mut self.receipts, history);
+/// Notes at the number's call, if it goes on, that it ended in the entry of this place. Answers whether it has ended since then.
+fn end_call(pending: &mut Pending, kernel: &Kernel, number: u32, place: usize) -> bool
+    ensures noted { pending.new ≡ noted_call kernel.now (number ∷ []) place number pending.old }
+    ensures more { result ≡ true → (has_ended pending.old ≡ false) × (has_ended pending.new ≡ true) }
+    ensures same { result ≡ false → has_ended pending.new ≡ has_ended pending.old }
+{
+    if pending.ended.is_some() {
+        return false;
     }
+    pending.ended = Some(Ended {
+        entry: place,
+        reply: last_reply(kernel, number),
+    });
+    true
 }
 
 /// What the lock keeps of a number whose seat it gave.
 #[derive(Drop)]
 pub(crate) struct Account {
     number: u32,
-    pending: PendingCall,
+    pending: Option<Pending>,
     receipts: Receipts,
 }
 
@@ -172,7 +155,7 @@ impl Account {
     {
         Account {
             number,
-            pending: PendingCall::none(),
+            pending: None,
             receipts: Receipts::new(alloc),
         }
     }
@@ -213,7 +196,10 @@ impl Account {
     pub fn has_reply(&self) -> bool
         ensures { result ≡ option_map_or has_ended self.now.pending false }
     {
-        self.pending.has_ended()
+        match &self.pending {
+            Some(pending) => pending.ended.is_some(),
+            None => false,
+        }
     }
 
     /// Begins a call, and makes room for its receipt.
@@ -224,7 +210,11 @@ impl Account {
             (λ _. self.new ≡ self.old) }
     {
         self.receipts.reserve(1)?;
-        self.pending.begin(call, start);
+        self.pending = Some(Pending {
+            call: copy_call(call),
+            start,
+            ended: None,
+        });
         Ok(())
     }
 
@@ -232,160 +222,53 @@ impl Account {
     pub fn cancel(&mut self)
         ensures { self.new ≡ record self.old { pending = None } }
     {
-        self.pending.forget();
+        self.pending = None;
     }
 
     /// Notes that its call, if one goes on, ended in the entry of this place. Answers whether there is a reply since then.
-    pub fn end(&mut self, kernel: &Kernel, place: usize, source: usize) -> bool
+    pub fn end(&mut self, kernel: &Kernel, place: usize) -> bool
         ensures noted { self.new ≡ noted kernel.now (self.old.number ∷ []) place self.old }
         ensures more { result ≡ true → (has_reply self.old ≡ false) × (has_reply self.new ≡ true) }
         ensures same { result ≡ false → has_reply self.new ≡ has_reply self.old }
     {
-        if self.pending.has_ended() {
-            return false;
+        match &mut self.pending {
+            Some(pending) => end_call(pending, kernel, self.number, place),
+            None => false,
         }
-        self.pending.end(kernel, place, self.number, source);
-        self.pending.has_ended()
-    }
-
-    /// The place of the entry that started its last call.
-    pub fn last_start(&self) -> usize {
-        self.pending.start()
-    }
-
-    /// The words of its call, which goes on.
-    pub fn call_words(&self) -> Words<'_>
-        requires { (p : APending) × (self.now.pending ≡ Some p) × (p.ended ≡ None) }
-        ensures { (p : APending) → self.now.pending ≡ Some p → AreOf p.call result }
-    {
-        self.pending.call_words()
-    }
-
-    /// The reply of the call that isn't taken yet, if it has ended.
-    pub fn reply(&self) -> Option<Reply>
-        ensures { result ≡ reply_pending self.now.pending }
-    {
-        self.pending.reply()
     }
 }
 
-/// The seat gains the receipt of these words, or one that has the call which the seat's holder knows of.
-fn hand_over(seat: &mut Seat, words: Words<'_>, own: Option<&Call>)
-    requires waiting { seat.old.waiting ≢ 0 }
-    requires read { IsTrue (is_some (receipt_at words)) }
-    ensures receipts { (receipt : AReceipt) → receipt_at words.entry ≡ Some receipt
-        → seat.new.receipts ≡ seat.old.receipts ++ record receipt { call = own_call (option_copied own.entry) receipt.call } ∷ [] }
-    ensures waiting { (seat.old.waiting ≡ seat.new.waiting + 1) × (seat.new.number ≡ seat.old.number) }
+/// The call that the seat knows of, and else the account's.
+fn known<'a>(own: Option<&'a Call>, call: &'a Call) -> &'a Call
+    ensures { result.now ≡ own_call (option_copied own.entry) call.now }
 {
     match own {
-        Some(call) => seat.receive_own(words, call),
-        None => seat.receive(&words),
+        Some(own) => own,
+        None => call,
     }
 }
 
-/// Whether a receipt of so many bytes, of which so many are the words of its Ipc, takes many fewer by entries of the history.
-fn is_worth(size: usize, ipc: usize) -> bool {
-    let rest = size.saturating_sub(ipc);
-    size >= LONG || (ipc >= LONG_IPC && rest <= LITTLE)
-}
-
-/// Notes which entries of the history may have words of the last receipt, whose words these are, where that is worth it.
-#[inline(always)]
-fn hint_long(receipts: &mut Receipts, words: &Words<'_>, pending: &PendingCall)
-    ensures { receipts.new ≡ receipts.old }
-{
-    if is_worth(words.size(), pending.ipc_bytes()) {
-        receipts.hint(pending.start(), pending.source());
-    }
-}
-
-/// The receipts gain that of the call, which has ended, and these are its words.
-#[inline(always)]
-fn gain<'a>(receipts: &mut Receipts, pending: &'a PendingCall) -> Words<'a>
-    requires room { length receipts.old.items < receipts.old.room }
-    requires ended { option_map_or has_ended pending.now false ≡ true }
-    ensures receipt { (p : APending) × (e : AnEnd) × (pending.now ≡ Some p) × (p.ended ≡ Some e) × (receipt_at result ≡ Some (receipt_of p e))
-        × (receipts.new.items ≡ receipts.old.items ++ receipt_of p e ∷ []) }
-    ensures room { (length receipts.new.items ≡ length receipts.old.items + 1) × (receipts.new.room ≡ receipts.old.room) }
-{
-    let words = pending.receipt();
-    receipts.push_words(&words);
-    hint_long(receipts, &words, pending);
-    words
-}
-
-/// Takes the account's call, which has ended: the account and the seat gain its receipt. The seat's has the call that the seat knows of.
-/// Full pieces of receipts that are the same in both then have two owners, and what is long in them is stored by entries of the history.
-#[inline(never)]
-fn settle_ended(account: &mut Account, seat: &mut Seat, own: Option<&Call>, history: &mut History)
-    requires waiting { seat.old.waiting ≢ 0 }
-    requires ended { option_map_or has_ended account.old.pending false ≡ true }
-    ensures settles { (reply : _) × Settles account.old account.new seat.old seat.new (own_call (option_copied own.entry)) reply }
-    ensures history { history.new ≡ history.old }
-{
-    let Account {
-        number: _,
-        pending,
-        receipts,
-    } = account;
-    let words = gain(receipts, pending);
-    hand_over(seat, words, own);
-    seat.share(receipts, history);
-    pending.forget();
-}
-
-/// Takes the account's call, if it has ended, as `settle_ended` does. That is apart, so that nothing more is done for a call that goes on.
-#[inline(always)]
-pub(crate) fn settle(
-    account: &mut Account,
-    seat: &mut Seat,
-    own: Option<&Call>,
-    history: &mut History,
-) -> bool
+/// Takes the account's call, if it has ended, and answers its reply: the account and the seat gain its receipt. The seat's has the call that the
+/// seat knows of.
+pub(crate) fn settle(account: &mut Account, seat: &mut Seat, own: Option<&Call>) -> Option<Reply>
     requires { seat.old.waiting ≢ 0 }
-    ensures history { history.new ≡ history.old }
-    ensures settles { result ≡ true → (reply : _) × Settles account.old account.new seat.old seat.new (own_call (option_copied own.entry)) reply }
-    ensures same { result ≡ false → (account.new ≡ account.old) × (seat.new ≡ seat.old) × (option_map_or has_ended account.old.pending false ≡ false) }
-{
-    if !account.has_reply() {
-        return false;
-    }
-    settle_ended(account, seat, own, history);
-    true
-}
-
-/// Takes the account's call, which has ended: the account gains its receipt, and so would any seat in the place of the pass.
-#[inline(always)]
-fn settle_kept_ended(account: &mut Account, pass: &mut Pass, history: &mut History)
-    requires waiting { pass.old.waiting ≢ 0 }
-    requires ended { option_map_or has_ended account.old.pending false ≡ true }
-    ensures settles { (receipts : List AReceipt)
-        → (reply : _) × (later : List AReceipt) × Settles account.old account.new (seat_of pass.old receipts) (seat_of pass.new later) (λ call. call) reply }
-    ensures history { history.new ≡ history.old }
+    ensures some { IfSome result (λ reply. Settles account.old account.new seat.old seat.new (own_call (option_copied own.entry)) reply) }
+    ensures none { IfNone result ((account.new ≡ account.old) × (seat.new ≡ seat.old) × (option_map_or has_ended account.old.pending false ≡ false)) }
 {
     let Account {
         number: _,
         pending,
         receipts,
     } = account;
-    let _words = gain(receipts, pending);
-    receipts.shorten(history);
-    pass.wait_less();
-    pending.forget();
-}
-
-/// Takes the account's call, if it has ended, as `settle_kept_ended` does.
-#[inline(always)]
-pub(crate) fn settle_kept(account: &mut Account, pass: &mut Pass, history: &mut History) -> bool
-    requires { pass.old.waiting ≢ 0 }
-    ensures history { history.new ≡ history.old }
-    ensures settles { result ≡ true → (receipts : List AReceipt)
-        → (reply : _) × (later : List AReceipt) × Settles account.old account.new (seat_of pass.old receipts) (seat_of pass.new later) (λ call. call) reply }
-    ensures same { result ≡ false → (account.new ≡ account.old) × (pass.new ≡ pass.old) × (option_map_or has_ended account.old.pending false ≡ false) }
-{
-    if !account.has_reply() {
-        return false;
-    }
-    settle_kept_ended(account, pass, history);
-    true
+    let Some(open) = &*pending else {
+        return None;
+    };
+    let Some(ended) = &open.ended else {
+        return None;
+    };
+    receipts.push(&open.call, open.start, ended);
+    seat.receive(known(own, &open.call), open.start, ended);
+    let reply = copy_reply(&ended.reply);
+    *pending = None;
+    Some(reply)
 }

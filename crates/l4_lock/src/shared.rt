@@ -1,7 +1,8 @@
 //! The locked kernel under a lock that threads share.
 ghost use Rattle.std.specs.Prelude.{◌≡◌, ◌⊎◌, ◌+◌, ◌≤◌, ℕ, List, [], ◌∷◌, ◌++◌, drop, length, vec_len, map, IfOk, IfErr, OnErr, MatchResult};
-ghost use Rattle.l4_board.specs.Board.{IsNewWatch};
 ghost use Rattle.std.specs.List.{All};
+ghost use Rattle.l4_fpage.specs.Pages.{max_frames};
+ghost use Rattle.l4_board.specs.Board.{IsNewWatch};
 ghost use Rattle.l4_lock.specs.Books.{seat_state};
 ghost use Rattle.l4_lock.specs.Locked.{IsKept, RefusesBoot};
 ghost use Rattle.l4_lock.specs.declared.refusals.LockRefusal.TheVariants.{SeatTaken, NoMemory as WantOfMemory};
@@ -12,7 +13,7 @@ use crate::locked::Locked;
 use crate::refusals::{Entered, LockRefusal};
 use crate::seats::Seat;
 use l4_board::{Board, Watch};
-use l4_ipc::{Call, Reply};
+use l4_ipc::{Call, PageSize, Reply};
 use l4_pager::{Gate, GateFault};
 use std::alloc::Global;
 use std::marker::Model;
@@ -38,17 +39,20 @@ impl Model for KernelLock {
 }
 
 impl KernelLock {
-    /// A kernel as it boots, with 1 to 4,096 frames, and watches of its board.
+    /// A kernel as it boots, with 1 to 4,096 frames of this size, and watches of its board.
     ///
     /// `Kernel(BadFrames)` (L5) comes for any other number, and else `NoMemory` (L2), or `Kernel` with it, where a growth was refused.
     pub fn new(
         alloc: Global,
         frames: u32,
+        size: PageSize,
         watches: usize,
     ) -> Result<(KernelLock, Vec<Watch>), LockRefusal>
-        ensures { MatchResult result (λ r. (vec_len r.1 ≡ watches) × All (IsNewWatch r.0) r.1.items) (RefusesBoot frames) }
+        ensures { MatchResult result
+            (λ r. (1 ≤ frames) × (frames ≤ max_frames) × (vec_len r.1 ≡ watches) × All (IsNewWatch r.0) r.1.items)
+            (RefusesBoot frames) }
     {
-        match Locked::new(alloc, frames, watches) {
+        match Locked::new(alloc, frames, size, watches) {
             Ok((locked, board, watches)) => Ok((
                 KernelLock {
                     locked: Mutex::new(locked),
@@ -170,9 +174,11 @@ impl<'a, R: Wait> LockGate<'a, R> {
 /// What the gate has done are the receipts that its seat gained.
 impl<'a, R: Wait> Gate for LockGate<'a, R> {
     ghost use Rattle.std.specs.Prelude.{◌≡◌};
-    ghost use Rattle.l4_lock.specs.Shared.{pairs_of, GateRefuses};
+    ghost use Rattle.l4_lock.specs.Shared.{pairs_of, GateAccepts, GateRefuses};
 
     ghost pairs = { λ g. pairs_of g };
+
+    ghost accepts = { λ before call reply after. GateAccepts before call reply after };
 
     ghost refuses = { λ before call fault after. GateRefuses before call fault after };
 

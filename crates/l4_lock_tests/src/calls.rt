@@ -2,7 +2,7 @@
 ghost use Rattle.std.specs.Prelude.{◌≡◌};
 
 use arrayvec::ArrayVec;
-use l4_ipc::{Call, Fpage, MAX_WORDS, Rights, Step, ThreadId, Timeout};
+use l4_ipc::{Call, Fpage, MAX_WORDS, PageSize, Rights, Step, ThreadId, Timeout};
 use l4_lock::{History, KernelLock, Locked, Seat, Unclosed, Watch};
 use std::alloc::Global;
 use std::process::Abort;
@@ -28,7 +28,9 @@ pub fn id(number: u32) -> ThreadId {
 pub fn watched(rt: &impl Abort, alloc: Global) -> (KernelLock, Watch)
     ensures { result.1.board ≡ result.0 }
 {
-    let (lock, mut watches) = KernelLock::new(alloc, FRAMES, 1).expect(rt, "a lock");
+    let (lock, mut watches) = KernelLock::new(alloc, FRAMES, PageSize::Kib4, 1).expect(
+        rt, "a lock",
+    );
     let watch = watches.pop().expect(rt, "a watch");
     (lock, watch)
 }

@@ -1,7 +1,7 @@
 //! Seats that come back, and those that don't.
 
 use crate::calls::{FRAMES, ROOT, closed, create, unclosed};
-use l4_ipc::Reply;
+use l4_ipc::{PageSize, Reply};
 use l4_lock::{KernelLock, Mismatch};
 use l4_pager::Gate;
 
@@ -11,7 +11,7 @@ const THIRD: u32 = 3;
 /// A lock that gave seat 2 is closed without it.
 #[test]
 fn missing(rt: HostRuntime) {
-    let (lock, _) = KernelLock::new(rt.alloc(), FRAMES, 0).expect(&rt, "a lock");
+    let (lock, _) = KernelLock::new(rt.alloc(), FRAMES, PageSize::Kib4, 0).expect(&rt, "a lock");
     let mut root = lock.seat(&rt, ROOT).expect(&rt, "a seat");
     assert!(rt; lock.call(&rt, &mut root, create(THIRD)).is_ok());
     let mut left = unclosed(&rt, lock.unlock(), Vec::new(rt.alloc()));
@@ -25,8 +25,8 @@ fn missing(rt: HostRuntime) {
 /// A lock is closed with a seat that another lock gave.
 #[test]
 fn foreign(rt: HostRuntime) {
-    let (lock, _) = KernelLock::new(rt.alloc(), FRAMES, 0).expect(&rt, "a lock");
-    let (other, _) = KernelLock::new(rt.alloc(), FRAMES, 0).expect(&rt, "a lock");
+    let (lock, _) = KernelLock::new(rt.alloc(), FRAMES, PageSize::Kib4, 0).expect(&rt, "a lock");
+    let (other, _) = KernelLock::new(rt.alloc(), FRAMES, PageSize::Kib4, 0).expect(&rt, "a lock");
     let root = lock.seat(&rt, ROOT).expect(&rt, "a seat");
     let third = other.seat(&rt, THIRD).expect(&rt, "a seat");
     let seats = Vec::from_array(rt.alloc(), [root, third]).expect(&rt, "memory");
@@ -41,8 +41,8 @@ fn foreign(rt: HostRuntime) {
 /// A seat of another lock stands in for the lock's own, which has entered a call.
 #[test]
 fn receipt(rt: HostRuntime) {
-    let (lock, _) = KernelLock::new(rt.alloc(), FRAMES, 0).expect(&rt, "a lock");
-    let (other, _) = KernelLock::new(rt.alloc(), FRAMES, 0).expect(&rt, "a lock");
+    let (lock, _) = KernelLock::new(rt.alloc(), FRAMES, PageSize::Kib4, 0).expect(&rt, "a lock");
+    let (other, _) = KernelLock::new(rt.alloc(), FRAMES, PageSize::Kib4, 0).expect(&rt, "a lock");
     let mut root = lock.seat(&rt, ROOT).expect(&rt, "a seat");
     let stranger = other.seat(&rt, ROOT).expect(&rt, "a seat");
     assert!(rt; lock.call(&rt, &mut root, create(THIRD)).is_ok());
@@ -58,7 +58,7 @@ fn receipt(rt: HostRuntime) {
 /// A gate makes a thread, and hands its seat back.
 #[test]
 fn seat_of_a_gate(rt: HostRuntime) {
-    let (lock, _) = KernelLock::new(rt.alloc(), FRAMES, 0).expect(&rt, "a lock");
+    let (lock, _) = KernelLock::new(rt.alloc(), FRAMES, PageSize::Kib4, 0).expect(&rt, "a lock");
     let root = lock.seat(&rt, ROOT).expect(&rt, "a seat");
     let mut gate = lock.gate(&rt, root);
     assert_eq!(rt; gate.enter(create(THIRD)), Ok(Reply::Controlled));

@@ -1,7 +1,7 @@
 //! A fault waits for its pager, which another thread serves.
 
 use crate::calls::{FRAMES, ROOT, SIGMA0, create, create_for, receive, send, starts_of};
-use l4_ipc::{Call, Kernel, Mapping, Reply, Rights};
+use l4_ipc::{Call, Kernel, Mapping, PageSize, Reply, Rights};
 use l4_lock::{History, KernelLock, Seat};
 use l4_pager::{Entry, Gate, RegionPager, serve};
 use std::alloc::{AllocError, Global};
@@ -64,7 +64,7 @@ fn raise<R: Wait>(rt: &R, lock: &KernelLock, signs: &Signs, seat: Seat) -> Seat 
 
 /// Pages 4 to 7 from pages 100 to 103, read and execute.
 fn regions() -> RegionPager {
-    let mut regions = RegionPager::new();
+    let mut regions = RegionPager::new(PageSize::Kib4);
     let _ = regions.add(Entry {
         first: 4,
         source: 100,
@@ -178,7 +178,7 @@ fn judge(rt: &impl Abort, history: &History, kernel: &Kernel) {
 
 #[test]
 fn fault_waits_for_pager(rt: HostRuntime) {
-    let (lock, _) = KernelLock::new(rt.alloc(), FRAMES, 0).expect(&rt, "a lock");
+    let (lock, _) = KernelLock::new(rt.alloc(), FRAMES, PageSize::Kib4, 0).expect(&rt, "a lock");
     let mut sigma0 = lock.seat(&rt, SIGMA0).expect(&rt, "a seat");
     let mut root = lock.seat(&rt, ROOT).expect(&rt, "a seat");
     let mut pager = lock.seat(&rt, PAGER).expect(&rt, "a seat");

@@ -12,6 +12,8 @@ mod messages;
 #[cfg(test)]
 mod receipts;
 #[cfg(test)]
+mod sigma0;
+#[cfg(test)]
 mod storms;
 #[cfg(test)]
 mod waiting;

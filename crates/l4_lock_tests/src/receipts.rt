@@ -2,7 +2,7 @@
 ghost use Rattle.std.specs.Prelude.{◌≤◌};
 
 use crate::calls::{FRAMES, ROOT, create, receive, send};
-use l4_ipc::{Call, Reply};
+use l4_ipc::{Call, PageSize, Reply};
 use l4_lock::{Locked, Receipt, Seat};
 use std::process::Abort;
 
@@ -67,7 +67,9 @@ fn has_received(receipt: &Receipt, round: u32) -> bool {
 /// Each receipt has its message, in both seats and for the lock that closes with them.
 #[test]
 fn long_messages(rt: HostRuntime) {
-    let (mut locked, _, _) = Locked::new(rt.alloc(), FRAMES, 0).expect(&rt, "a lock");
+    let (mut locked, _, _) = Locked::new(rt.alloc(), FRAMES, PageSize::Kib4, 0).expect(
+        &rt, "a lock",
+    );
     let mut root = locked.seat(ROOT).expect(&rt, "a seat");
     let mut third = locked.seat(THIRD).expect(&rt, "a seat");
     assert!(rt; locked.enter(&mut root, create(THIRD)).is_ok());

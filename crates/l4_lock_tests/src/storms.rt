@@ -1,6 +1,7 @@
 //! Many threads send to one.
 
 use crate::calls::{FRAMES, ROOT, closed, create, receive, send, starts_of};
+use l4_ipc::PageSize;
 use l4_lock::{KernelLock, Seat};
 use std::alloc::{AllocError, Global};
 use std::process::Abort;
@@ -60,7 +61,7 @@ fn start_all<R: Threads + Wait + Abort + Copy + Send + Drop + 'static>(
 
 #[test]
 fn seven_hundred_messages(rt: HostRuntime) {
-    let (lock, _) = KernelLock::new(rt.alloc(), FRAMES, 0).expect(&rt, "a lock");
+    let (lock, _) = KernelLock::new(rt.alloc(), FRAMES, PageSize::Kib4, 0).expect(&rt, "a lock");
     let mut root = lock.seat(&rt, ROOT).expect(&rt, "a seat");
     for number in FIRST..=RECEIVER {
         assert!(rt; lock.call(&rt, &mut root, create(number)).is_ok());

@@ -2,7 +2,7 @@
 ghost use Rattle.std.specs.Prelude.{◌≡◌};
 
 use crate::calls::{FRAMES, ROOT, closed, create, delete, receive, watched};
-use l4_ipc::{Refused, Reply};
+use l4_ipc::{PageSize, Refused, Reply};
 use l4_lock::{Board, Entered, KernelLock, LockRefusal, Locked, Seat, Watch};
 use std::sync::Wait;
 use std::thread::{Threads, join, sleep};
@@ -39,7 +39,9 @@ fn is_refused(entered: Result<Entered, LockRefusal>, refusal: LockRefusal) -> bo
 /// The seat of a thread that is deleted as it waits gets Gone, once, and a new thread with its number starts anew.
 #[test]
 fn gone_once(rt: HostRuntime) {
-    let mut locked = Locked::new(rt.alloc(), FRAMES, 0).expect(&rt, "a lock").0;
+    let mut locked = Locked::new(rt.alloc(), FRAMES, PageSize::Kib4, 0)
+        .expect(&rt, "a lock")
+        .0;
     let mut root = locked.seat(ROOT).expect(&rt, "a seat");
     let mut third = locked.seat(THIRD).expect(&rt, "a seat");
     assert!(rt; ends(locked.enter(&mut root, create(THIRD)), Reply::Controlled));
@@ -126,8 +128,12 @@ fn gone_on_threads(rt: HostRuntime) {
 /// What a lock refuses.
 #[test]
 fn refusals(rt: HostRuntime) {
-    let mut locked = Locked::new(rt.alloc(), FRAMES, 0).expect(&rt, "a lock").0;
-    let mut other = Locked::new(rt.alloc(), FRAMES, 0).expect(&rt, "a lock").0;
+    let mut locked = Locked::new(rt.alloc(), FRAMES, PageSize::Kib4, 0)
+        .expect(&rt, "a lock")
+        .0;
+    let mut other = Locked::new(rt.alloc(), FRAMES, PageSize::Kib4, 0)
+        .expect(&rt, "a lock")
+        .0;
     let mut third = locked.seat(THIRD).expect(&rt, "a seat");
     let mut foreign = other.seat(ROOT).expect(&rt, "a seat");
     assert!(rt; matches!(locked.seat(THIRD), Err(LockRefusal::SeatTaken)));
@@ -135,10 +141,26 @@ fn refusals(rt: HostRuntime) {
     assert!(rt; is_refused(locked.enter(&mut third, receive()), unknown));
     assert!(rt; is_refused(locked.enter(&mut foreign, receive()), unknown));
     assert!(rt; locked.history().is_empty());
-    assert!(rt;
-        matches!(
-            Locked::new(rt.alloc(), 0, 0),
-            Err(LockRefusal::Kernel(Refused::BadFrames))
-        )
-    );
+}
+
+/// How many frames a lock may have.
+#[test]
+fn frames_in_range(rt: HostRuntime) {
+    for frames in [0, 4_097] {
+        assert!(rt;
+            matches!(
+                Locked::new(rt.alloc(), frames, PageSize::Kib4, 0),
+                Err(LockRefusal::Kernel(Refused::BadFrames))
+            )
+        );
+        assert!(rt;
+            matches!(
+                KernelLock::new(rt.alloc(), frames, PageSize::Kib4, 0),
+                Err(LockRefusal::Kernel(Refused::BadFrames))
+            )
+        );
+    }
+    for frames in [1, 4_096] {
+        assert!(rt; KernelLock::new(rt.alloc(), frames, PageSize::Kib4, 0).is_ok());
+    }
 }

@@ -7,6 +7,7 @@ use Rattle.l4_mapdb.specs.declared.Mapping.{Mapping}
 use Rattle.l4_mapdb.specs.Mappings.{Mappings, shown, parent_of, child, further, Descends, IsOrDescends, IsRoot, IsForest, ParentHolds}
 use Rattle.l4_mapdb.proofs.Unique.{same_value, same_rights}
 use Rattle.l4_mapdb.specs.Losing.{IsLeft, LosesRights}
+use Rattle.l4_fpage.specs.Pages.{most_pages}
 
 -- what follows from a decision follows, where it is a contradiction
 pub decide : (P : Type 0) → (P ⊎ ¬ P → ⊥) → ⊥
@@ -36,7 +37,7 @@ pub record LooseParent (Lost : Place → Right → Type 0) (s : Mappings) (q : P
 -- a forest but for rights that are to be lost
 pub record IsLoose (Lost : Place → Right → Type 0) (s : Mappings) : Type 0 where
   pub in_space : (place : Place) (m : Mapping) → shown s place ≡ Some m → IsTrue (set.contains s.spaces place.space)
-  pub page_fits : (place : Place) (m : Mapping) → shown s place ≡ Some m → place.page < 2 ^ 20
+  pub page_fits : (place : Place) (m : Mapping) → shown s place ≡ Some m → place.page < most_pages
   pub parents : (place : Place) (m : Mapping) (parent : Place) → shown s place ≡ Some m → m.parent ≡ Some parent → LooseParent Lost s place m parent
   pub rooted : (place : Place) (m : Mapping) → shown s place ≡ Some m → (root : Place) × IsOrDescends s place root × IsRoot s m.frame root
   pub one_root : (frame : ℕ) (a b : Place) → IsRoot s frame a → IsRoot s frame b → a ≡ b

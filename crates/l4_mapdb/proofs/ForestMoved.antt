@@ -10,6 +10,7 @@ use Rattle.l4_mapdb.proofs.EntriesLemmas.{decided}
 use Rattle.l4_mapdb.proofs.Single.{KnownMoves, one_target, one_grant, one_place}
 use Rattle.l4_mapdb.proofs.ForestKept.{decide, IsLoose, LooseParent, forest_kept}
 use Rattle.l4_mapdb.proofs.Unique.{same_value}
+use Rattle.l4_fpage.specs.Pages.{most_pages}
 
 module _ (Used : PageMove → Type 0) (old mid : Mappings) (known : KnownMoves Used old) (forest : IsForest old)
     (free : ¬ (IsEntangled Used old)) (moved : Moved Used old mid) where
@@ -259,8 +260,8 @@ module _ (Used : PageMove → Type 0) (old mid : Mappings) (known : KnownMoves U
       | inr (inr x) ↦ forest.in_space q x.before x.at
     ]);
     page_fits = λ q m at. elim ((moved.places q m).0 at) [
-      | inl x ↦ subst (λ (y : Place). y.page < 2 ^ 20) x.target (known.page_fits x.move x.used)
-      | inr (inl x) ↦ subst (λ (y : Place). y.page < 2 ^ 20) x.target (known.page_fits x.move x.used)
+      | inl x ↦ subst (λ (y : Place). y.page < most_pages) x.target (known.page_fits x.move x.used)
+      | inr (inl x) ↦ subst (λ (y : Place). y.page < most_pages) x.target (known.page_fits x.move x.used)
       | inr (inr x) ↦ forest.page_fits q x.before x.at
     ];
     parents = λ q m p at up. elim (origin q m at) [

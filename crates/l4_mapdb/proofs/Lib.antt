@@ -30,7 +30,6 @@ pub mod Finished
 pub mod FirstPlaces
 pub mod Gone
 pub mod Handed
-pub mod Handing
 pub mod Grown
 pub mod GrowthSteps
 pub mod ItemWalk

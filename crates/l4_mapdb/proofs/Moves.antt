@@ -12,6 +12,7 @@ use Rattle.l4_mapdb.proofs.RightsLeft.{none_is}
 use Rattle.l4_mapdb.proofs.Unique.{same_value}
 use Rattle.l4_mapdb.specs.declared.sources.UsedMove.{UsedMove}
 use Rattle.l4_mapdb.specs.Inside.Messages.{plain, stand_at, IsMoved, turn, turn_of, IsNextMove, IsNextOfItem}
+use Rattle.l4_fpage.specs.Pages.{most_pages}
 
 -- what stands under a key, with its entry
 pub record StandsAs (s : Entries) (key : ℕ) (place : LinkPlace) (t : Standing) : Type 0 where
@@ -96,7 +97,7 @@ module _ (s : Entries) (from to : ℕ) (items : List ItemMove) where
       let p = used.pages.source_is in
       (omega (arith, first, p), omega (arith, first, size, i, p))
 
-  pub move_page : (m : UsedMove) → Used m → m.page < 1048576
+  pub move_page : (m : UsedMove) → Used m → m.page < most_pages
   move_page m used = let i = used.pages.within in let p = used.pages.source_is in let f = used.by.mv.source.block.inside in omega (arith, i, p, f)
 
   -- what has no right in common with the item isn't moved by it

@@ -11,6 +11,7 @@ use Rattle.l4_mapdb.specs.declared.sources.UsedMove.{UsedMove}
 use Rattle.l4_mapdb.specs.Inside.Messages.{StandAlike, IsMoved, IsWanted, Wants}
 use Rattle.l4_mapdb.proofs.Moves.{entry_of}
 use Rattle.l4_mapdb.proofs.Marking.{by_key, stand_in}
+use Rattle.l4_fpage.specs.Pages.{most_pages}
 
 -- the entry of a key is noted as wanted
 pub wants_found : (place : LinkPlace) (key : ℕ) (old new : Entries) → IsAt old place key → SetsWanted key true old new → (k : ℕ) → Wants (λ p. p ≡ place) (entry_at old k) (entry_at new k)
@@ -83,8 +84,8 @@ pub at_on : (A : LinkPlace → Type 0) (old new : Entries) (place : LinkPlace) (
 at_on A old new place key wants here = still_at A (entry_at old key) (entry_at new key) place (wants key) here
 
 -- the target of a used move lies in its space
-pub target_fits : (s : Entries) (from to : ℕ) (items : List ItemMove) (m : UsedMove) → IsMoved s from to items m → m.target.page < 2 ^ 20
-target_fits s from to items m used = let f : used.by.mv.target.first + 2 ^ used.by.mv.source.log ≤ 2 ^ 20 = rw used.by.mv.same_size used.by.mv.target.block.inside in let p = used.pages.within in let q = used.pages.target_is in omega arith
+pub target_fits : (s : Entries) (from to : ℕ) (items : List ItemMove) (m : UsedMove) → IsMoved s from to items m → m.target.page < most_pages
+target_fits s from to items m used = let f : used.by.mv.target.first + 2 ^ used.by.mv.source.log ≤ most_pages = rw used.by.mv.same_size used.by.mv.target.block.inside in let p = used.pages.within in let q = used.pages.target_is in omega arith
 
 -- and in a space that is there
 pub there_still : (from to : ℕ) (items : List ItemMove) (cur : Entries) (old new : set.FinSet nat_cmp) (m : UsedMove) → IsMoved cur from to items m → new ≡ old → IsTrue (set.contains old to) → IsTrue (set.contains new m.target.space)

@@ -8,6 +8,7 @@ use Rattle.l4_mapdb.specs.declared.Mapping.{Mapping}
 use Rattle.l4_mapdb.specs.Mappings.{Mappings, shown}
 use Rattle.l4_mapdb.specs.Transfer.{PageMove, IsEntangled, IsGone, StandsAt, ParentLater, Becomes}
 use Rattle.l4_mapdb.proofs.EntriesLemmas.{decided}
+use Rattle.l4_fpage.specs.Pages.{most_pages}
 
 -- what is known of each used move
 pub record KnownMoves (Used : PageMove → Type 0) (old : Mappings) : Type 0 where
@@ -15,7 +16,7 @@ pub record KnownMoves (Used : PageMove → Type 0) (old : Mappings) : Type 0 whe
   pub within : (u : PageMove) → Used u → Within u.rights u.shows.rights
   pub some_right : (u : PageMove) → Used u → u.rights ≢ no_rights
   pub in_space : (u : PageMove) → Used u → IsTrue (set.contains old.spaces u.target.space)
-  pub page_fits : (u : PageMove) → Used u → u.target.page < 2 ^ 20
+  pub page_fits : (u : PageMove) → Used u → u.target.page < most_pages
   pub same_source : (u v : PageMove) → Used u → Used v → u.item ≡ v.item → u.source ≡ v.source → u ≡ v
   pub same_target : (u v : PageMove) → Used u → Used v → u.item ≡ v.item → u.target ≡ v.target → u ≡ v
 

@@ -9,6 +9,7 @@ use Rattle.l4_mapdb.specs.Mappings.{Mappings, shown, IsForest}
 use Rattle.l4_mapdb.specs.Transfer.{PageMove, IsUsed, IsEntangled, Delivers}
 use Rattle.l4_mapdb.proofs.Single.{KnownMoves}
 use Rattle.l4_mapdb.proofs.ForestMoved.{transfers_keep}
+use Rattle.l4_fpage.specs.Pages.{most_pages}
 
 first_true : (a b : Bool) → IsTrue (a && b) → IsTrue a
 first_true true b h = refl
@@ -20,7 +21,7 @@ common_within a b Write h = first_true a.w b.w h
 common_within a b Execute h = first_true a.x b.x h
 
 -- the last page of a move's target is a page
-fits : (move : Move) → move.target.first + 2 ^ move.source.log ≤ 2 ^ 20
+fits : (move : Move) → move.target.first + 2 ^ move.source.log ≤ most_pages
 fits move = rw move.same_size move.target.block.inside
 
 module _ (old : Mappings) (sender receiver : ℕ) (items : List ItemMove) where
@@ -72,7 +73,7 @@ module _ (old : Mappings) (sender receiver : ℕ) (items : List ItemMove) where
       one_move u v a b item (λ i. record { space = space i; page = page i }) target
 
   -- the target of a used move lies in its space
-  pub target_fits : (u : PageMove) → Used u → u.target.page < 2 ^ 20
+  pub target_fits : (u : PageMove) → Used u → u.target.page < most_pages
   target_fits u a = let f = fits a.by.mv in let p = a.pages.within in let q = a.pages.target_is in omega arith
 
 module _ (old : Mappings) (sender receiver : ℕ) (items : List ItemMove)

@@ -8,7 +8,7 @@ use Rattle.std.specs.Coded.{Coded, code_by, coded×, coded_ℕ, coded_option}
 use Rattle.std.specs.FinMap as map
 use Rattle.std.specs.FinSet as set
 use Rattle.l4_fpage.specs.Rights.{RightsSet, no_rights, rights_code, Within}
-use Rattle.l4_fpage.specs.Pages.{space_pages}
+use Rattle.l4_fpage.specs.Pages.{most_pages}
 use Rattle.l4_mapdb.specs.declared.Place.{Place}
 use Rattle.l4_mapdb.specs.declared.Mapping.{Mapping}
 
@@ -79,7 +79,7 @@ pub record ParentHolds (s : Mappings) (m : Mapping) (parent : Place) : Type 0 wh
 -- the mappings are trees: one for each frame that is shown
 pub record IsForest (s : Mappings) : Type 0 where
   pub in_space : (place : Place) (m : Mapping) → shown s place ≡ Some m → IsTrue (set.contains s.spaces place.space)
-  pub page_fits : (place : Place) (m : Mapping) → shown s place ≡ Some m → place.page < space_pages
+  pub page_fits : (place : Place) (m : Mapping) → shown s place ≡ Some m → place.page < most_pages
   pub some_right : (place : Place) (m : Mapping) → shown s place ≡ Some m → ¬ (m.rights ≡ no_rights)
   pub parents : (place : Place) (m : Mapping) (parent : Place) → shown s place ≡ Some m → m.parent ≡ Some parent → ParentHolds s m parent
   pub rooted : (place : Place) (m : Mapping) → shown s place ≡ Some m → (root : Place) × IsOrDescends s place root × IsRoot s m.frame root

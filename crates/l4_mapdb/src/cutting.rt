@@ -1,7 +1,7 @@
 //! What descends from granted pages is left with the rights that their items name.
 
 ghost use Rattle.std.specs.Prelude.{◌≡◌, ◌+◌, ◌^◌, ◌≤◌, ◌<◌, ℕ, length};
-ghost use Rattle.l4_fpage.specs.Pages.{space_pages};
+ghost use Rattle.l4_fpage.specs.Pages.{most_pages};
 ghost use Rattle.l4_mapdb.specs.Inside.Cutting.{Capped, IsGrantedAt, IsGrantOf, IsGrantBy, IsGrantBelow};
 
 use crate::ItemMove;
@@ -11,7 +11,7 @@ use l4_links::Links;
 /// The page after a block's last one.
 pub(crate) fn end_of(block: Block) -> u32
     ensures is { result ≡ block.first + 2 ^ block.log }
-    ensures small { result ≤ space_pages }
+    ensures small { result ≤ most_pages }
 {
     block.first + (1 << block.log)
 }

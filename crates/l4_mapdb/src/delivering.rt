@@ -62,8 +62,8 @@ fn deliver_any(links: &mut Links, from: u64, to: u64, items: &[ItemMove]) -> Res
     Ok(())
 }
 
-/// Delivers a message that a short way serves: one that only maps, or one that only grants. Whether it did is given, and else all is as
-/// before.
+/// Delivers a message that a short way serves: one that only maps, or one of a single item that grants. Whether it did is given, and else
+/// all is as before.
 fn deliver_short(links: &mut Links, from: u64, to: u64, items: &[ItemMove]) -> Result<bool, Cause>
     requires clean { IsClean links.old }
     requires there { IsTrue (set.contains links.old.spaces to) }
@@ -85,7 +85,7 @@ fn deliver_short(links: &mut Links, from: u64, to: u64, items: &[ItemMove]) -> R
     deliver_grants(links, from, to, items)
 }
 
-/// Delivers a message. For one that only maps, or only grants, a short way is tried first.
+/// Delivers a message. For one that only maps, or grants by a single item, a short way is tried first.
 pub(crate) fn deliver(
     links: &mut Links,
     from: u64,

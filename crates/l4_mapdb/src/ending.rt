@@ -7,7 +7,7 @@ ghost use Rattle.l4_mapdb.specs.Inside.Kept.{IsClean};
 ghost use Rattle.l4_mapdb.specs.Inside.Cuts.{IsCovered, TakesKeys};
 
 use crate::taking::take_pages;
-use l4_fpage::SPACE_PAGES;
+use l4_fpage::MOST_PAGES;
 use l4_links::Links;
 
 /// Takes all pages of the space away, with all that descends from them.
@@ -18,5 +18,5 @@ pub(crate) fn clear(links: &mut Links, space: u64)
     ensures spaces { links.new.spaces ≡ links.old.spaces }
 {
     links.law_places();
-    take_pages(links, space, 0, SPACE_PAGES, true);
+    take_pages(links, space, 0, MOST_PAGES, true);
 }

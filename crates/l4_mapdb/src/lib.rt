@@ -38,7 +38,7 @@ use std::marker::Model;
 pub struct Place {
     /// The number of the space.
     pub space: u64,
-    /// The page, below 2^20.
+    /// The page, below 2^22.
     pub page: u32,
 }
 

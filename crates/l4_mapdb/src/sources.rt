@@ -1,7 +1,7 @@
 //! The used moves of a message, one after another by item and page.
 
 ghost use Rattle.std.specs.Prelude.{◌≡◌, ◌≢◌, ◌<◌, ◌≤◌, ◌+◌, ◌⊎◌, length, IsTrue, IfSome, MatchOption, OnSome, slice_get, ℕ, Some, None};
-ghost use Rattle.l4_fpage.specs.Pages.{space_pages, InBlock};
+ghost use Rattle.l4_fpage.specs.Pages.{most_pages, InBlock};
 ghost use Rattle.l4_links.specs.Entries.{IsKeyOf};
 ghost use Rattle.l4_mapdb.specs.declared.ItemMove.{ItemMove as AnItemMove};
 ghost use Rattle.l4_mapdb.specs.Inside.Messages.{IsMoved, turn_of, turn_in, turns_left, IsNextMove, IsNextOfItem};
@@ -147,12 +147,12 @@ impl UsedMoves {
         to: u64,
         items: &[ItemMove],
     ) -> Option<UsedMove>
-        requires { self.old.page ≤ space_pages }
+        requires { self.old.page ≤ most_pages }
         ensures gives { MatchOption result
             ((move : UsedMove) → IsMoved links.now.entries from to items.now move → turn_of move < turn_in self.old)
             (IsNextMove links.now.entries from to items.now (turn_in self.old)) }
         ensures passes { IfSome result (λ m. self.new ≡ record { item = m.item; page = m.page + 1 }) }
-        ensures fits { IfSome result (λ m. m.page < space_pages) }
+        ensures fits { IfSome result (λ m. m.page < most_pages) }
         ensures falls { OnSome result (turns_left items.now self.new < turns_left items.now self.old) }
     {
         let mut start = self.page;

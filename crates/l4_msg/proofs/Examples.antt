@@ -4,6 +4,7 @@ use Rattle.std.specs.List.{Any}
 use Rattle.std.proofs.lemmas.List.Elements.{All-nil, All-cons}
 use Rattle.std.proofs.lemmas.List.Kept.{AllPairs-cons}
 use Rattle.l4_fpage.specs.Rights.{all_rights}
+use Rattle.l4_fpage.specs.declared.sizes.PageSize.TheVariants.{Kib4}
 use Rattle.l4_fpage.specs.declared.fpages.Fpage.{Fpage}
 use Rattle.l4_fpage.specs.declared.fpages.Fpage.TheVariants.{Sized}
 use Rattle.l4_msg.specs.Moves.{ItemMoves, RegionMoves, IsMap, complete}
@@ -42,29 +43,29 @@ both_pages = Sized (record { base = 0; log = 13; rights = all_rights; large = li
 abbrev page_by_page : List Item
 page_by_page = Map 0x1000 page_0 ∷ Map 0x2000 page_1 ∷ []
 
-moved_by : (k : ℕ) (item : Item) (source target : ℕ) → k < 2 → slice_index_or page_by_page k item ≡ item → ItemMoves item complete source target → RegionMoves upwards source target
+moved_by : (k : ℕ) (item : Item) (source target : ℕ) → k < 2 → slice_index_or page_by_page k item ≡ item → ItemMoves Kib4 item complete source target → RegionMoves upwards source target
 moved_by zero item source target lt is moves =
-    let m = subst (λ (i : Item). ItemMoves i complete source target) (sym is) moves in
+    let m = subst (λ (i : Item). ItemMoves Kib4 i complete source target) (sym is) moves in
     record { index = 0; within = lit< tt; source_is = omega (arith, m.1.within, m.1.source_is); target_is = omega (arith, m.1.within, m.1.target_is) }
 moved_by (suc zero) item source target lt is moves =
-    let m = subst (λ (i : Item). ItemMoves i complete source target) (sym is) moves in
+    let m = subst (λ (i : Item). ItemMoves Kib4 i complete source target) (sym is) moves in
     record { index = 1; within = lit< tt; source_is = omega (arith, m.1.within, m.1.source_is); target_is = omega (arith, m.1.within, m.1.target_is) }
 moved_by (suc (suc k)) item source target lt is moves = absurd (omega (arith, lt))
 
-mover_of : (index source target : ℕ) → index < 2 → source ≡ index → target ≡ 1 + index → Any (λ item. ItemMoves item complete source target) page_by_page
+mover_of : (index source target : ℕ) → index < 2 → source ≡ index → target ≡ 1 + index → Any (λ item. ItemMoves Kib4 item complete source target) page_by_page
 mover_of zero source target lt s t = (0, Map 0x1000 page_0, lit< tt, refl, (lit≤ tt, record { index = 0; within = lit< tt; source_is = s; target_is = t }))
 mover_of (suc zero) source target lt s t = (1, Map 0x2000 page_1, lit< tt, refl, (lit≤ tt, record { index = 0; within = lit< tt; source_is = s; target_is = t }))
 mover_of (suc (suc k)) source target lt s t = absurd (omega (arith, lt))
 
 -- one item a page moves the region
-pub one_item_a_page : IsRival upwards page_by_page
+pub one_item_a_page : IsRival Kib4 upwards page_by_page
 one_item_a_page = record {
   maps = All-cons IsMap (Map 0x1000 page_0) (Map 0x2000 page_1 ∷ []) tt (All-cons IsMap (Map 0x2000 page_1) [] tt (All-nil IsMap));
   moves = λ source target. (λ any. moved_by any.0 any.1 source target any.2 any.3 any.4, λ m. mover_of m.index source target m.within (omega (arith, m.source_is)) m.target_is);
 }
 
 -- one item for both doesn't: its target is rounded down to page 0
-pub both_in_one : ¬ (IsRival upwards (Map 0x1000 both_pages ∷ []))
+pub both_in_one : ¬ (IsRival Kib4 upwards (Map 0x1000 both_pages ∷ []))
 both_in_one h =
     let m : RegionMoves upwards 0 0 = (h.moves 0 0).0 (0, Map 0x1000 both_pages, lit< tt, refl, (lit≤ tt, record { index = 0; within = lit< tt; source_is = refl; target_is = refl })) in
     omega (arith, m.target_is)

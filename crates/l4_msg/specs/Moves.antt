@@ -4,7 +4,8 @@ use Rattle.l4_fpage.specs.Fpages.{Bytes, bytes_of}
 use Rattle.l4_fpage.specs.declared.fpages.Fpage.{Fpage}
 use Rattle.l4_fpage.specs.declared.fpages.Fpage.TheVariants.{Complete}
 use Rattle.l4_fpage.specs.Rights.{no_rights}
-use Rattle.l4_fpage.specs.Pages.{page_bytes, page_log}
+use Rattle.l4_fpage.specs.Pages.{LiesIn, page_bytes, page_log}
+use Rattle.l4_fpage.specs.declared.sizes.PageSize.{PageSize}
 use Rattle.l4_msg.specs.declared.items.Item.{Item}
 use Rattle.l4_msg.specs.declared.items.Item.TheVariants.{Map, Grant}
 use Rattle.l4_msg.specs.declared.items.Move.{Move}
@@ -35,9 +36,9 @@ pub record Shifts (from to count source target : ℕ) : Type 0 where
   pub source_is : source ≡ from + index
   pub target_is : target ≡ to + index
 
--- the part takes this page to that page; a part of less than a page takes none
-abbrev pub Takes : Part → ℕ → ℕ → Type 0
-Takes p source target = (page_log ≤ p.log) × Shifts (p.from / page_bytes) (p.to / page_bytes) (2 ^ (p.log - page_log)) source target
+-- the part takes this page to that page, where pages have this size; a part of less than a page takes none
+abbrev pub Takes : PageSize → Part → ℕ → ℕ → Type 0
+Takes size p source target = (page_log size ≤ p.log) × Shifts (p.from / page_bytes size) (p.to / page_bytes size) (2 ^ (p.log - page_log size)) source target
 
 -- an item's send base, in bytes
 abbrev pub base_of : Item → ℕ
@@ -58,10 +59,10 @@ abbrev pub is_grant : Item → Bool
 is_grant (Map a f) = false
 is_grant (Grant a f) = true
 
--- the item, received in this window, moves this page to that page
-abbrev pub ItemMoves : Item → Fpage → ℕ → ℕ → Type 0
-ItemMoves item window source target =
-    MatchOption (bytes_of (fpage_of item)) ⊥ (λ f. MatchOption (bytes_of window) ⊥ (λ w. Takes (part_of (base_of item) f w) source target))
+-- the item, received in this window, moves this page to that page, where pages have this size
+abbrev pub ItemMoves : PageSize → Item → Fpage → ℕ → ℕ → Type 0
+ItemMoves size item window source target =
+    MatchOption (bytes_of (fpage_of item)) ⊥ (λ f. MatchOption (bytes_of window) ⊥ (λ w. Takes size (part_of (base_of item) f w) source target))
 
 -- the complete window; the rights of a window mean nothing
 abbrev pub complete : Fpage
@@ -70,6 +71,11 @@ complete = Complete no_rights
 -- the pairs of a region
 abbrev pub RegionMoves : Region → ℕ → ℕ → Type 0
 RegionMoves r source target = Shifts r.source r.target r.count source target
+
+-- all pages of the move lie in a space, where pages have this size
+pub record StaysIn (size : PageSize) (m : Move) : Type 0 where
+  pub source : LiesIn size m.source.first m.source.log
+  pub target : LiesIn size m.target.first m.target.log
 
 -- the pairs of a move, none where there is none
 abbrev pub MovePairs : Option Move → ℕ → ℕ → Type 0

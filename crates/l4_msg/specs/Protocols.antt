@@ -6,6 +6,7 @@ use Rattle.l4_fpage.specs.Fpages.{bytes_of, rights_of}
 use Rattle.l4_fpage.specs.declared.fpages.Fpage.{Fpage}
 use Rattle.l4_fpage.specs.declared.fpages.Fpage.TheVariants.{Nil}
 use Rattle.l4_fpage.specs.Pages.{page_bytes, page_log}
+use Rattle.l4_fpage.specs.declared.sizes.PageSize.{PageSize}
 use Rattle.l4_msg.specs.Words.{WindowReads}
 use Rattle.l4_msg.specs.declared.items.Item.{Item}
 use Rattle.l4_msg.specs.declared.items.Item.TheVariants.{Map}
@@ -51,9 +52,9 @@ one_item item = record { label = 0; untyped = record { items = [] }; items = rec
 abbrev pub nothing : Message
 nothing = one_item (Map 0 Nil)
 
--- the answer is one map item: 2 ^ log pages from `source` on, with these rights, for the bytes from the page `target` on
-pub record GivesPages (source target log : ℕ) (rights : RightsSet) (answer : Message) : Type 0 where
+-- the answer is one map item: 2 ^ log pages of this size from `source` on, with these rights, for the bytes from the page `target` on
+pub record GivesPages (size : PageSize) (source target log : ℕ) (rights : RightsSet) (answer : Message) : Type 0 where
   pub fpage : Fpage
-  pub bytes : bytes_of fpage ≡ Some (record { base = source * page_bytes; log = log + page_log })
+  pub bytes : bytes_of fpage ≡ Some (record { base = source * page_bytes size; log = log + page_log size })
   pub rights_are : rights_of fpage ≡ rights
-  pub is : answer ≡ one_item (Map (target * page_bytes) fpage)
+  pub is : answer ≡ one_item (Map (target * page_bytes size) fpage)

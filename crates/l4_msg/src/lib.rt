@@ -18,4 +18,4 @@ pub use moves::item_moves;
 pub use protocols::{FAULT_LABEL, FrameRequest, PageFault, REQUEST_LABEL, map_answer};
 pub use regions::Region;
 pub use tags::Tag;
-pub use words::{MAX_ITEMS, TOO_MANY};
+pub use words::{MAX_ITEMS, MAX_PLAN_ITEMS, MAX_PLAN_MESSAGES, TOO_MANY};

@@ -10,9 +10,15 @@ use arrayvec::ArrayVec;
 /// The items of a message, at most: two words each, in the registers after the tag.
 pub const MAX_ITEMS: usize = 31;
 
-/// How many pages, no two in one allowed block, show that a region needs more items than a message holds: one more
+/// The messages of a plan, at most (this profile's own).
+pub const MAX_PLAN_MESSAGES: usize = 64;
+
+/// The items of a plan, at most: those of as many full messages (this profile's own).
+pub const MAX_PLAN_ITEMS: usize = MAX_PLAN_MESSAGES * MAX_ITEMS;
+
+/// How many pages, no two in one allowed block, show that a region needs more items than a plan has at most: one more
 /// (this profile's own).
-pub const TOO_MANY: usize = MAX_ITEMS + 1;
+pub const TOO_MANY: usize = MAX_PLAN_ITEMS + 1;
 
 /// The words of those items.
 pub const MAX_TYPED: usize = 2 * MAX_ITEMS;

@@ -12,12 +12,12 @@ IsFrameCount n = (1 ≤ n) × (n ≤ max_frames)
 
 -- the number of frames that the command line of l4 asks for is one that a machine can have
 abbrev pub IsInRange : Options → Type 0
-IsInRange (Run frames) = IsFrameCount frames
-IsInRange (Plan region) = Unit {0}
-IsInRange (Check region) = Unit {0}
+IsInRange (Run frames size) = IsFrameCount frames
+IsInRange (Plan region size) = Unit {0}
+IsInRange (Check region size) = Unit {0}
 IsInRange (Show text) = Unit {0}
 
 -- the same of the command line of l4_steps
 abbrev pub AreStepsInRange : StepOptions → Type 0
-AreStepsInRange (RunSteps frames) = IsFrameCount frames
+AreStepsInRange (RunSteps frames size) = IsFrameCount frames
 AreStepsInRange (ShowText text) = Unit {0}

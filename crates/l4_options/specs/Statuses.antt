@@ -3,7 +3,7 @@ use Rattle.std.specs.Prelude.{ℕ}
 use Rattle.l4_text.specs.declared.faults.RunFault.{RunFault}
 use Rattle.l4_text.specs.declared.faults.RunFault.TheVariants.{Read, Write, Memory}
 use Rattle.l4_options.specs.declared.requests.OptionFault.{OptionFault}
-use Rattle.l4_options.specs.declared.requests.OptionFault.TheVariants.{Memory as NoMemory, Words, Frames, Number, Rights}
+use Rattle.l4_options.specs.declared.requests.OptionFault.TheVariants.{Memory as NoMemory, Words, Frames, Pages, Number, Rights}
 
 -- after a run that stopped: 3 where a stream failed, 4 for want of memory
 abbrev pub run_status : RunFault → ℕ
@@ -16,5 +16,6 @@ abbrev pub option_status : OptionFault → ℕ
 option_status NoMemory = 4
 option_status (Words text) = 2
 option_status (Frames text) = 2
+option_status (Pages text) = 2
 option_status (Number text) = 2
 option_status (Rights text) = 2

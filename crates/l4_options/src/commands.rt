@@ -4,7 +4,7 @@ ghost use Rattle.l4_options.specs.Ranges.{IsInRange};
 
 use crate::help::{ABOUT, CHECK, PLAN, SCRIPT};
 use crate::requests::{OptionFault, Options};
-use crate::values::{frames_of, frames_option, help_text, region_of};
+use crate::values::{frames_of, frames_option, help_text, region_of, size_of, size_option};
 use clap::{Arg, ArgAction, ArgMatches, Command, Error};
 use std::alloc::{AllocError, Global};
 use std::convert::AsStr;
@@ -18,7 +18,7 @@ fn region_word<'a>(alloc: Global, id: &'a str, name: &'a str, help: &'a str) -> 
         .action(ArgAction::Set)
 }
 
-/// A command that takes a region.
+/// A command that takes a region and the size of its pages.
 fn of_region<'a>(
     alloc: Global,
     name: &'a str,
@@ -36,7 +36,8 @@ fn of_region<'a>(
             "rights",
             "RIGHTS",
             "Its rights: r, w and x in turn, or _ for each",
-        ))
+        ))?
+        .arg(size_option(alloc))
 }
 
 /// The commands and options that are known.
@@ -44,7 +45,8 @@ fn known<'a>(alloc: Global) -> Result<Command<'a>, AllocError> {
     let run = Command::new(alloc, "run")
         .about("Answers a script of kernel calls")
         .after_help(SCRIPT)
-        .arg(frames_option(alloc))?;
+        .arg(frames_option(alloc))?
+        .arg(size_option(alloc))?;
     Command::new(alloc, "l4")
         .about(ABOUT)
         .version("0.1.0")
@@ -70,14 +72,18 @@ fn run_options(alloc: Global, matches: &ArgMatches<'_>) -> Result<Options, Optio
     ensures { IfOk result IsInRange }
 {
     match frames_of(alloc, matches) {
-        Ok(frames) => Ok(Options::Run { frames }),
+        Ok(frames) => Ok(Options::Run {
+            frames,
+            size: size_of(alloc, matches)?,
+        }),
         Err(fault) => Err(fault),
     }
 }
 
 /// Reads the words of the command line, the program's name first:
-/// `l4 run [--frames N]`, `l4 plan SOURCE TARGET COUNT RIGHTS`, `l4 check` with the same words, `--help`,
-/// `help` or `--version`. N is 256 where it is left out.
+/// `l4 run [--frames N]`, `l4 plan SOURCE TARGET COUNT RIGHTS`, `l4 check` with the same words, each with
+/// `--page-size BYTES` where that is wanted, `--help`, `help` or `--version`. N is 256 and BYTES 4096 where they
+/// are left out.
 ///
 /// `Memory` comes only where an allocation was refused. Every other fault names the word that is
 /// not understood.
@@ -93,11 +99,17 @@ pub fn options<'a, S: AsStr>(alloc: Global, words: &'a [S]) -> Result<Options, O
     };
     match matches.subcommand() {
         Some(("plan", plan)) => match region_of(alloc, plan) {
-            Ok(region) => Ok(Options::Plan { region }),
+            Ok(region) => Ok(Options::Plan {
+                region,
+                size: size_of(alloc, plan)?,
+            }),
             Err(fault) => Err(fault),
         },
         Some(("check", check)) => match region_of(alloc, check) {
-            Ok(region) => Ok(Options::Check { region }),
+            Ok(region) => Ok(Options::Check {
+                region,
+                size: size_of(alloc, check)?,
+            }),
             Err(fault) => Err(fault),
         },
         Some((_, run)) => run_options(alloc, run),

@@ -7,9 +7,10 @@ on with these rights. A plan is the shortest list of map items that moves just
 the region. Each item has a page with it, and no map item that stays within the
 region could move two of these pages: so no list is shorter.
 
-  tag WORD                   the message tag
+  tag WORD                   the tag of a message, whose items follow, 31 at most
   item WORD WORD page P      a map item, and its page
-  too-long                   every list has more than 31 items: 32 lines page P
+  too-long                   every list has more than 1,984 items: 1,985 lines
+                             page P
   refused CODE               N1, N2 or N3: see l4 --help
 
 Exit status: 0 for a plan, 1 if there is none, 2 if the command line is not
@@ -20,7 +21,7 @@ What 'l4 plan' printed is read on standard input, and judged anew: is it exactly
 the region, and is no list shorter?
 
   proved K                   a plan of K items, and no list of map items is shorter
-  proved too-long            every list has more than 31 items
+  proved too-long            every list has more than 1,984 items
   fault CODE                 what is wrong with the plan, with a number (C1 to C6:
                              see l4 --help)
   line L refused CODE        line L can't be read (S2 to S4)
@@ -46,7 +47,11 @@ are skipped.
                          N sends the COUNT pages from page SOURCE of its space on
                          to the pages from TARGET on of a thread's, with RIGHTS (as
                          r-x) or what its own pages have of them: it sends the map
-                         items that l4 plan prints, as send does
+                         items that l4 plan prints, as send does, where one
+                         message holds them
+  part N TO K SOURCE TARGET COUNT RIGHTS
+                         N sends the message with the number K, from 0, of those
+                         that l4 plan prints for the region
   ipc N TO FROM TIMEOUTS WINDOW WORD..
                          N sends these words, unless TO is nil, and then
                          receives, unless FROM is nil; TIMEOUTS has the send
@@ -133,16 +138,20 @@ print them too:
   P4         the region has no page, a page or source page beyond the space, or no
              right
   N1         the region has no page
-  N2         the region goes beyond the 1048576 pages of a space
+  N2         the region goes beyond the pages of a space: 1048576 of 4096 bytes,
+             or 4194304 of 1024
   N3         the region has no rights
-  N4         no 31 map items, as many as a message holds, move just the region
+  N4         no 1,984 map items, as many as 64 messages hold, move just the
+             region
+  N5 M       the plan has M messages, and not one alone
+  N6 M       the plan has M messages, and none with this number
   C1 ITEM    this item of a plan, from 0, is none of the region's: a grant, other
              rights, or a page that goes elsewhere
   C2 PAGE    no item moves this page
   C3 PLACE   the page at this place, from 0, isn't one of the region's
   C4 PLACE   one map item could move the page at this place, from 0, together
              with an earlier one, so the pages don't show that no list is shorter
-  C5         more than 31 items, or not one page an item; or not 32 pages
+  C5         more than 1,984 items, or not one page an item; or not 1,985 pages
   C6         the region is refused by N1, N2 or N3
   S1         there is no such command
   S2         too few tokens, too many, or one that can't be read

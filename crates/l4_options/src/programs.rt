@@ -52,6 +52,7 @@ pub fn misread(rt: &impl Eprint, fault: &OptionFault) -> u8
         OptionFault::Memory => NO_MEMORY,
         OptionFault::Words(_)
         | OptionFault::Frames(_)
+        | OptionFault::Pages(_)
         | OptionFault::Number(_)
         | OptionFault::Rights(_) => NOT_UNDERSTOOD,
     }

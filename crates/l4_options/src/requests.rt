@@ -1,16 +1,17 @@
 //! What the command lines of the programs ask for, and why one is not understood.
+use l4_fpage::PageSize;
 use l4_msg::Region;
 use thiserror::Error;
 
 /// What the command line of `l4` asks for.
 #[derive(Debug, Drop)]
 pub enum Options {
-    /// To answer a script over a machine with this many frames, 1 to 4,096.
-    Run { frames: u32 },
-    /// To print the shortest plan of this region, or why there is none.
-    Plan { region: Region },
-    /// To check the plan on standard input against this region.
-    Check { region: Region },
+    /// To answer a script over a machine with this many frames, 1 to 4,096, of this size.
+    Run { frames: u32, size: PageSize },
+    /// To print the shortest plan of this region of pages of this size, or why there is none.
+    Plan { region: Region, size: PageSize },
+    /// To check the plan on standard input against this region of pages of this size.
+    Check { region: Region, size: PageSize },
     /// To print this text: the usage, or the version.
     Show(String),
 }
@@ -18,8 +19,8 @@ pub enum Options {
 /// What the command line of `l4_steps` asks for.
 #[derive(Debug, Drop)]
 pub enum StepOptions {
-    /// To answer a list of steps over a machine with this many frames, 1 to 4,096.
-    Run { frames: u32 },
+    /// To answer a list of steps over a machine with this many frames, 1 to 4,096, of this size.
+    Run { frames: u32, size: PageSize },
     /// To print this text: the usage, or the version.
     Show(String),
 }
@@ -36,6 +37,9 @@ pub enum OptionFault {
     /// What stands for the number of frames is none from 1 to 4,096 in decimal digits.
     #[error("error: invalid value '{0}' for '--frames <N>': it is no decimal number from 1 to 4096")]
     Frames(String),
+    /// What stands for the bytes of a page is neither 4,096 nor 1,024 in decimal digits.
+    #[error("error: invalid value '{0}' for '--page-size <BYTES>': it is neither 4096 nor 1024")]
+    Pages(String),
     /// What stands for a page or a count is no number up to 4,294,967,295 in decimal digits.
     #[error("error: invalid value '{0}': it is no decimal number up to 4294967295")]
     Number(String),

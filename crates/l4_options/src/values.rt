@@ -1,11 +1,11 @@
-//! Values on a command line: numbers, rights, regions, and the option `--frames`.
+//! Values on a command line: numbers, rights, regions, and the options `--frames` and `--page-size`.
 ghost use Rattle.std.specs.Prelude.{IfOk, IfSome};
 ghost use Rattle.l4_options.specs.Ranges.{IsFrameCount};
 
 use crate::requests::OptionFault;
 use clap::error::ErrorKind;
 use clap::{Arg, ArgAction, ArgMatches, Error};
-use l4_fpage::Rights;
+use l4_fpage::{PageSize, Rights};
 use l4_ipc::MAX_FRAMES;
 use l4_msg::Region;
 use std::alloc::Global;
@@ -19,6 +19,15 @@ pub(crate) fn frames_option<'a>(alloc: Global) -> Arg<'a> {
         .long("frames")
         .value_name("N")
         .help("The frames of the machine, from 1 to 4096 [default: 256]")
+        .action(ArgAction::Set)
+}
+
+/// The option `--page-size`.
+pub(crate) fn size_option<'a>(alloc: Global) -> Arg<'a> {
+    Arg::new(alloc, "page-size")
+        .long("page-size")
+        .value_name("BYTES")
+        .help("The bytes of a page, 4096 or 1024 [default: 4096]")
         .action(ArgAction::Set)
 }
 
@@ -48,6 +57,15 @@ fn frames_in(text: &[u8]) -> Option<u32>
         Some(value)
     } else {
         None
+    }
+}
+
+/// The bytes of a page: decimal digits, 4,096 or 1,024.
+fn size_in(text: &[u8]) -> Option<PageSize> {
+    match number_in(text)? {
+        4096 => Some(PageSize::Kib4),
+        1024 => Some(PageSize::Kib1),
+        _ => None,
     }
 }
 
@@ -129,6 +147,20 @@ pub(crate) fn frames_of(alloc: Global, matches: &ArgMatches<'_>) -> Result<u32, 
     }
     match String::from_str(alloc, word) {
         Ok(text) => Err(OptionFault::Frames(text)),
+        Err(_) => Err(OptionFault::Memory),
+    }
+}
+
+/// The size of pages that the matches name: 4 KiB where the option is left out.
+pub(crate) fn size_of(alloc: Global, matches: &ArgMatches<'_>) -> Result<PageSize, OptionFault> {
+    let Some(word) = matches.get_str("page-size") else {
+        return Ok(PageSize::Kib4);
+    };
+    if let Some(size) = size_in(word.as_bytes()) {
+        return Ok(size);
+    }
+    match String::from_str(alloc, word) {
+        Ok(text) => Err(OptionFault::Pages(text)),
         Err(_) => Err(OptionFault::Memory),
     }
 }

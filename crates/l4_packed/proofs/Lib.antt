@@ -1,13 +1,9 @@
-pub mod Turned
-pub mod RoundTrip
+pub mod Lengths
 pub mod Small
 pub mod Unpacking
 pub mod Packed
 pub mod Finding
 pub mod Storing
-pub mod Listed
-pub mod Outlining
 pub mod Marks
 pub mod ReadRecords
-pub mod Forms
 pub mod Writing

@@ -1,5 +1,5 @@
 -- Records that can be read are as many items, each where its record stands.
-use Rattle.std.proofs.Common.{◌≡◌, ℕ, zero, suc, ◌+◌, ◌<◌, List, [], ◌∷◌, ◌++◌, length, drop, Option, Some, None, MatchOption, IfSome, refl, sym, ap, subst, ◌∙◌, arith}
+use Rattle.std.proofs.Common.{◌≡◌, ℕ, zero, suc, ◌+◌, ◌<◌, List, [], ◌∷◌, ◌++◌, length, drop, Option, Some, None, MatchOption, refl, sym, ap, subst, ◌∙◌, arith}
 use Rattle.std.specs.Prelude.{slice_get, is_some, IsTrue}
 use Rattle.std.specs.Option.{option_to_list, option_and_then}
 use Rattle.std.proofs.lemmas.Bool.{false≢true}
@@ -47,12 +47,6 @@ module _ {X : Type 0} where
     get_read read records place each ∙ ap (option_and_then read) (sym is),
     ap (λ ws. is_some (read ws)) (sym (get_or_from_slice_get records place words [] (sym is))) ∙ each place [] (slice_get_within records place words (sym is)),
   )
-
-  -- the same of words that may not be lent
-  pub words_lent : (read : List ℕ → Option X) (records : List (List ℕ)) (place : ℕ) (here : Option (List ℕ)) → AreRead read records → IfSome here (λ words. slice_get records place ≡ Some words)
-      → IfSome here (λ words. (slice_get (read_all read records) place ≡ read words) × IsTrue (is_some (read words)))
-  words_lent read records place None each is = is
-  words_lent read records place (Some words) each is = words_read read records place (Some words) each (sym is)
 
   read_more : (read : List ℕ → Option X) (records : List (List ℕ)) (words : List ℕ) → read_all read (records ++ words ∷ []) ≡ read_all read records ++ option_to_list (read words)
   read_more read records words =

@@ -1,9 +1,5 @@
 pub mod Words
-pub mod Ids
-pub mod Tags
-pub mod Codes
-pub mod Reading
+pub mod Distances
 pub mod Records
 pub mod ItemLists
 pub mod Inside
-pub mod Outlines

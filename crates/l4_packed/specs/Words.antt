@@ -1,5 +1,5 @@
 -- Words that are read from the front of a list. (this profile's own)
-use Rattle.std.specs.Prelude.{◌≡◌, ℕ, List, [], ◌∷◌, length, take, drop, Option, Some, None, nat_eq, nat_lt, if◌then◌else◌}
+use Rattle.std.specs.Prelude.{◌≡◌, ℕ, List, [], ◌∷◌, Option, Some, None}
 
 -- what a reader gives, seen by view, is what is read: None where nothing can be read
 abbrev pub Gives : {X Y : Type 0} → (X → Y) → Option X → Option Y → Type 0
@@ -18,36 +18,7 @@ abbrev pub ◌>>=◌ : {A B : Type 0} → Option A → (A → Option B) → Opti
 None >>= f = None
 (Some x) >>= f = f x
 
--- a list behind its length
-abbrev pub counted : List ℕ → List ℕ
-counted words = length words ∷ words
-
 -- the first word, and those after it
 abbrev pub word_at : List ℕ → Option (ℕ × List ℕ)
 word_at [] = None
 word_at (word ∷ rest) = Some (word, rest)
-
--- a list of so many words, and the words after it
-abbrev pub list_at : ℕ → List ℕ → Option (List ℕ × List ℕ)
-list_at count words = if nat_lt (length words) count then None else Some (take count words, drop count words)
-
--- a list of so many words, at most the limit, and the words after it
-unfoldable pub sized_at : ℕ → ℕ → List ℕ → Option (List ℕ × List ℕ)
-sized_at limit count words = if nat_lt limit count then None else list_at count words
-
--- a list behind its length, which is at most the limit, and the words after it
-unfoldable pub counted_at : ℕ → List ℕ → Option (List ℕ × List ℕ)
-counted_at limit words = do
-  count ← word_at words
-  sized_at limit count.0 count.1
-
--- A word that is often 0 is left out where it is. A flag, 1 or 0, says elsewhere whether it is there.
-abbrev pub flag : ℕ → ℕ
-flag word = if nat_eq word 0 then 0 else 1
-
-abbrev pub if_set : ℕ → List ℕ
-if_set word = if nat_eq word 0 then [] else word ∷ []
-
--- the word that a flag stands for, and those after it
-unfoldable pub set_at : ℕ → List ℕ → Option (ℕ × List ℕ)
-set_at flag words = if nat_eq flag 0 then Some (0, words) else word_at words

@@ -1,10 +1,10 @@
 //! Bytes of a record, in a place of their own.
 ghost use Rattle.std.specs.Prelude.{◌≡◌, ◌+◌, ◌*◌, ◌<◌, ◌≤◌, ◌++◌, ◌∷◌, [], length};
 ghost use Rattle.l4_packed.specs.Inside.Bytes.{number_code, numbers_code};
-ghost use Rattle.l4_packed.specs.Tags.{distances};
+ghost use Rattle.l4_packed.specs.Distances.{distances};
 
+use crate::distances::write_distances;
 use crate::numbers::{NUMBER_BYTES, TWO, write_long, write_numbers};
-use crate::tags::write_distances;
 use std::marker::Model;
 
 /// The greatest number of bytes of the words of a record.

@@ -215,16 +215,6 @@ pub(crate) fn write_numbers(cells: &mut [u8], at: usize, numbers: &[u32]) -> usi
     end
 }
 
-/// Appends a number that is not one byte to the bytes of words.
-#[inline(always)]
-fn add_long(out: &mut Bytes, number: u32)
-    requires long { (TWO ≤ number) × (number < 4294967295) }
-    requires room { length out.old.items + NUMBER_BYTES ≤ WORDS_BYTES }
-    ensures { out.new.items ≡ out.old.items ++ number_code number }
-{
-    out.push_long(number);
-}
-
 /// Appends a number to the bytes of words.
 #[tactic(auto, unfolding(crate::specs::Inside::Bytes::number_code))]
 #[inline(always)]
@@ -238,7 +228,7 @@ pub(crate) fn add_number(out: &mut Bytes, number: u32)
     if number == u32::MAX {
         return out.push(GREATEST);
     }
-    add_long(out, number);
+    out.push_long(number);
 }
 
 /// Whether each of these numbers is one byte, which is the number.

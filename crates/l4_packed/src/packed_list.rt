@@ -1,11 +1,11 @@
 //! Lists that are stored packed: each item as the words of a record.
-ghost use Rattle.std.specs.Prelude.{◌≡◌, ◌+◌, ◌<◌, ◌≤◌, ◌++◌, ◌^◌, [], ℕ, List, Option, None, drop, length, nat_eq, slice_get, is_some, IsTrue, IfSome, OnOk, true, false};
+ghost use Rattle.std.specs.Prelude.{◌≡◌, ◌+◌, ◌<◌, ◌≤◌, ◌++◌, ◌^◌, [], ℕ, List, Option, None, drop, length, nat_eq, slice_get, is_some, IsTrue, MatchOption, OnOk, true, false};
 ghost use Rattle.std.specs.Option.{option_to_list};
 ghost use Rattle.l4_packed.specs.ItemLists.{ItemList};
 ghost use Rattle.l4_packed.specs.Inside.ReadRecords.{read_all, AreRead};
 
 use crate::records::Records;
-use crate::words::{RECORD_WORDS, Record, Words};
+use crate::words::{RECORD_WORDS, Words};
 use std::alloc::{AllocError, Global};
 use std::marker::{Model, PhantomData};
 
@@ -62,32 +62,11 @@ impl<T: FromWords> PackedList<T> {
         self.len() == 0
     }
 
-    /// The words of the item at this place, if they are stored as they are. None beyond the end.
+    /// The words of the item at this place, None beyond the end.
     pub fn words(&self, place: usize) -> Option<Words<'_>>
-        ensures { IfSome result (λ words. (slice_get self.now.items place ≡ T.item_at words) × IsTrue (is_some (T.item_at words))) }
+        ensures { MatchOption result (slice_get self.now.items place ≡ None) (λ words. (slice_get self.now.items place ≡ T.item_at words) × IsTrue (is_some (T.item_at words))) }
     {
         self.records.get(place)
-    }
-
-    /// Reads the words of the item at this place in the place of others. False beyond the end.
-    pub fn read(&self, place: usize, out: &mut Record) -> bool
-        ensures some { result ≡ true → (slice_get self.now.items place ≡ T.item_at out.new.items) × IsTrue (is_some (T.item_at out.new.items)) }
-        ensures none { result ≡ false → slice_get self.now.items place ≡ None }
-    {
-        self.records.read(place, out)
-    }
-
-    /// The item at this place, whose words are put together first. None beyond the end.
-    #[cold]
-    #[inline(never)]
-    fn put_together(&self, place: usize) -> Option<T>
-        ensures { result ≡ slice_get self.now.items place }
-    {
-        let mut words = Record::new();
-        if !self.read(place, &mut words) {
-            return None;
-        }
-        T::from_words(words.words())
     }
 
     /// The item at this place, None beyond the end.
@@ -96,7 +75,7 @@ impl<T: FromWords> PackedList<T> {
     {
         match self.words(place) {
             Some(words) => T::from_words(words),
-            None => self.put_together(place),
+            None => None,
         }
     }
 
@@ -140,32 +119,6 @@ impl<T: FromWords> PackedList<T> {
         ensures room { (length self.new.items ≡ length self.old.items + 1) × (self.new.room ≡ self.old.room) }
     {
         self.records.push_parts(head, tail);
-    }
-
-    /// Notes where words of the last item may stand in another list, as `Records::hint` does. No item changes.
-    pub fn hint(&mut self, start: usize, source: usize)
-        ensures { self.new ≡ self.old }
-    {
-        self.records.hint(start, source);
-    }
-
-    /// Lets memory of both lists that holds the same have two owners, and store by items of a third list what hints say. No item changes.
-    #[inline(always)]
-    pub fn share<U: FromWords>(&mut self, other: &mut PackedList<T>, quoted: &mut PackedList<U>)
-        ensures own { self.new ≡ self.old }
-        ensures other { other.new ≡ other.old }
-        ensures quoted { quoted.new ≡ quoted.old }
-    {
-        self.records.share(&mut other.records, &mut quoted.records);
-    }
-
-    /// Stores memory of the list that is full by items of another list, as hints say. No item changes.
-    #[inline(always)]
-    pub fn shorten<U: FromWords>(&mut self, quoted: &mut PackedList<U>)
-        ensures own { self.new ≡ self.old }
-        ensures quoted { quoted.new ≡ quoted.old }
-    {
-        self.records.shorten(&mut quoted.records);
     }
 }
 

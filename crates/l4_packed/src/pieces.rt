@@ -1,12 +1,12 @@
 //! Pieces of memory that hold records. A piece is allocated once, and never moves.
-ghost use Rattle.std.specs.Prelude.{◌≡◌, ◌+◌, ◌≤◌, ◌++◌, ◌∷◌, [], length, slice_get, vec_len, vec_capacity, Some, None, true, false, IfSome, MatchOption};
+ghost use Rattle.std.specs.Prelude.{◌≡◌, ◌≤◌, ◌+◌, ◌++◌, ◌∷◌, [], length, slice_get, vec_len, vec_capacity, true};
 ghost use Rattle.std.specs.List.{list_all};
 ghost use Rattle.l4_packed.specs.Inside.Bytes.{is_small, record_code, records_in};
 ghost use Rattle.l4_packed.specs.Inside.Pieces.{IsPacked, PieceState, mark_before, piece_state};
 
+use crate::offsets::{MOST_OFFSETS, Offsets};
 use crate::packing::{first_frame, put_parts, put_record};
-use crate::words::{RECORD_WORDS, Record, Words};
-use std::alloc::Global;
+use crate::words::{RECORD_WORDS, Words};
 use std::marker::Model;
 
 /// One of the records that the bytes hold.
@@ -28,44 +28,6 @@ fn read_record(bytes: &[u8], count: usize, at: usize) -> Option<Words<'_>>
         return None;
     };
     Some(Words::of(frame))
-}
-
-/// Records of a piece, from one on, that are read in turn. Contracts see them as a list.
-#[derive(Drop)]
-pub(crate) struct Rest<'a> {
-    bytes: &'a [u8],
-    count: usize,
-}
-
-impl<'a> Model for Rest<'a> {
-    ghost use Rattle.std.specs.Prelude.{List, ℕ};
-    ghost use Rattle.l4_packed.specs.Inside.Bytes.{records_in};
-    ghost use Rattle.l4_packed.specs.Inside.Pieces.{IsPacked};
-
-    ghost Value = { List (List ℕ) };
-
-    ghost view = { λ r. records_in r.count r.bytes.now };
-
-    ghost invariant = { λ r. IsPacked r.count r.bytes.now };
-}
-
-impl<'a> Rest<'a> {
-    /// The first of them, and those after it. None where there is none.
-    pub fn next(self) -> Option<(Words<'a>, Rest<'a>)>
-        ensures { MatchOption result (self.entry ≡ []) (λ x. self.entry ≡ x.0 ∷ x.1) }
-    {
-        if self.count == 0 {
-            return None;
-        }
-        let Some((frame, after)) = first_frame(self.bytes) else {
-            return None;
-        };
-        let rest = Rest {
-            bytes: after,
-            count: self.count - 1,
-        };
-        Some((Words::of(frame), rest))
-    }
 }
 
 /// A mark is for each record whose place in its piece is a multiple of this, but for the first.
@@ -95,7 +57,7 @@ pub(crate) struct Piece {
     first: usize,
     count: usize,
     bytes: Vec<u8>,
-    marks: Vec<u16>,
+    marks: Offsets,
 }
 
 impl Model for Piece {
@@ -112,7 +74,7 @@ impl Model for Piece {
 
 impl Piece {
     /// A piece without records over this memory.
-    pub fn new(alloc: Global, first: usize, bytes: Vec<u8>) -> Piece
+    pub fn new(first: usize, bytes: Vec<u8>) -> Piece
         requires { bytes.items ≡ [] }
         ensures { result ≡ piece_state first [] (vec_capacity bytes) }
     {
@@ -120,7 +82,7 @@ impl Piece {
             first,
             count: 0,
             bytes,
-            marks: Vec::new(alloc),
+            marks: Offsets::new(),
         }
     }
 
@@ -138,57 +100,11 @@ impl Piece {
         self.count
     }
 
-    /// How many records stand before it and in it.
-    pub fn end(&self) -> usize {
-        self.first.wrapping_add(self.count)
-    }
-
     /// How many bytes are free.
     pub fn free(&self) -> usize
         ensures { result ≡ self.now.free }
     {
         self.bytes.capacity() - self.bytes.len()
-    }
-
-    /// How many bytes its records take.
-    pub fn bytes(&self) -> usize {
-        self.bytes.len()
-    }
-
-    /// The same records in as much memory as they take, if there is that.
-    pub fn fitted(self, alloc: Global) -> Option<Piece>
-        ensures first { IfSome result (λ p. p.first ≡ self.first) }
-        ensures records { IfSome result (λ p. p.records ≡ self.records) }
-    {
-        let mut bytes = match Vec::with_capacity(alloc, self.bytes.len()) {
-            Ok(bytes) => bytes,
-            Err(_) => return None,
-        };
-        if bytes.extend_from_slice(self.bytes.as_slice()).is_err() {
-            return None;
-        }
-        Some(Piece {
-            first: self.first,
-            count: self.count,
-            bytes,
-            marks: self.marks,
-        })
-    }
-
-    /// Gives memory back that is there for more marks.
-    pub fn fit_marks(&mut self)
-        ensures { self.new ≡ self.old }
-    {
-        self.marks.shrink_to_fit();
-    }
-
-    /// The memory of its records, without them.
-    pub fn into_memory(self) -> Vec<u8>
-        ensures { result.items ≡ [] }
-    {
-        let mut bytes = self.bytes;
-        bytes.clear();
-        bytes
     }
 
     /// Appends a record, for whose bytes there is room.
@@ -228,7 +144,7 @@ impl Piece {
         }
     }
 
-    /// Marks where the next record will stand, if its mark comes next and there is memory for it. A record without a mark is found by
+    /// Marks where the next record will stand, if its mark comes next and there is room for it. A record without a mark is found by
     /// the one before.
     #[cold]
     #[inline(never)]
@@ -236,11 +152,9 @@ impl Piece {
         ensures { self.new ≡ self.old }
     {
         let len = self.bytes.len();
-        if len <= LAST_MARK
-            && self.count == MARK_EACH * (self.marks.len() + 1)
-            && self.marks.reserve(1).is_ok()
-        {
-            self.marks.push_reserved(len as u16);
+        let marked = self.marks.len();
+        if len <= LAST_MARK && marked < MOST_OFFSETS && self.count == MARK_EACH * (marked + 1) {
+            self.marks.push(len as u16);
         }
     }
 
@@ -253,43 +167,5 @@ impl Piece {
         }
         let (from, offset) = mark_before(self.marks.as_slice(), at);
         read_record(&self.bytes[offset..], self.count - from, at - from)
-    }
-
-    /// Its records, to be read in turn.
-    pub fn rest(&self) -> Rest<'_>
-        ensures { result ≡ self.now.records }
-    {
-        Rest {
-            bytes: self.bytes.as_slice(),
-            count: self.count,
-        }
-    }
-
-    /// Reads the record at this place in the place of another. False beyond the records.
-    pub fn read(&self, at: usize, out: &mut Record) -> bool
-        ensures some { result ≡ true → slice_get self.now.records at ≡ Some out.new.items }
-        ensures none { result ≡ false → slice_get self.now.records at ≡ None }
-    {
-        let Some(words) = self.get(at) else {
-            return false;
-        };
-        words.copy_to(out);
-        true
-    }
-
-    /// Whether this is the same as another.
-    pub fn same(&self, other: &Piece) -> bool
-        ensures { result ≡ true → self.now ≡ other.now }
-    {
-        if self.first != other.first {
-            return false;
-        }
-        if self.count != other.count {
-            return false;
-        }
-        if self.free() != other.free() {
-            return false;
-        }
-        self.bytes == other.bytes
     }
 }

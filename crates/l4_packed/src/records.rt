@@ -1,14 +1,12 @@
 //! Records, stored one after another.
-ghost use Rattle.std.specs.Prelude.{◌≡◌, ◌+◌, ◌≤◌, ◌<◌, ◌++◌, ◌∷◌, ◌^◌, [], ℕ, nat_eq, length, slice_get, take, vec_len, vec_capacity, OnOk, Some, None, IfSome, true, false};
+ghost use Rattle.std.specs.Prelude.{◌≡◌, ◌+◌, ◌≤◌, ◌<◌, ◌++◌, ◌∷◌, ◌^◌, [], ℕ, length, slice_get, take, vec_len, vec_capacity, OnOk, Some, None, IfSome, true, false};
 ghost use Rattle.std.specs.List.{All};
 ghost use Rattle.l4_packed.specs.Inside.Pieces.{AreNumbered, IsBlank, IsStore, records_of};
 ghost use Rattle.l4_packed.specs.Records.{RecordList, record_list};
 
-use crate::full_pieces::{FullPiece, share_at, shorten_at};
 use crate::numbers::are_small;
 use crate::packing::{RECORD_BYTES, parts_len, record_len};
 use crate::pieces::{PIECE_BYTES, Piece};
-use crate::short_forms::{Hint, forget_before, quotable_from};
 use crate::words::{RECORD_WORDS, Record, Words};
 use std::alloc::{AllocError, Global};
 use std::marker::Model;
@@ -26,11 +24,8 @@ const MOST_ASKED: usize = MOST_RECORDS / 2;
 /// For so many records that are asked for there is a piece more, so that room isn't made each time.
 const ASKED_EACH: usize = 2 * PIECE_RECORDS;
 
-/// The first full piece that is worth sharing: the one before it is the piece without memory that a store begins with.
-const FIRST_SHARED: usize = 1;
-
 /// Which piece holds the record of this place.
-fn position(pieces: &[FullPiece], place: usize) -> usize
+fn position(pieces: &[Piece], place: usize) -> usize
     requires numbered { AreNumbered pieces.now }
     requires below { place < length (records_of pieces.now) }
     ensures within { result < length pieces.now }
@@ -50,36 +45,20 @@ fn position(pieces: &[FullPiece], place: usize) -> usize
     low
 }
 
-/// The record of this place among those of the pieces, if it can be lent.
-fn find(pieces: &[FullPiece], place: usize) -> Option<Words<'_>>
+/// The record of this place among those of the pieces.
+fn find(pieces: &[Piece], place: usize) -> Option<Words<'_>>
     requires numbered { AreNumbered pieces.now }
     requires below { place < length (records_of pieces.now) }
-    ensures { IfSome result (λ words. slice_get (records_of pieces.now) place ≡ Some words) }
+    ensures { result ≡ slice_get (records_of pieces.now) place }
 {
     let piece = &pieces[position(pieces, place)];
     piece.get(place - piece.first())
 }
 
-/// Reads the record of this place among those of the pieces in the place of another.
-fn read_found(pieces: &[FullPiece], place: usize, out: &mut Record) -> bool
-    requires numbered { AreNumbered pieces.now }
-    requires below { place < length (records_of pieces.now) }
-    ensures some { result ≡ true → slice_get (records_of pieces.now) place ≡ Some out.new.items }
-    ensures none { result ≡ false → slice_get (records_of pieces.now) place ≡ None }
-{
-    let piece = &pieces[position(pieces, place)];
-    piece.read(place - piece.first(), out)
-}
-
 /// Begins another piece, since the current one may have no room for a record.
 #[cold]
 #[inline(never)]
-fn next_piece(
-    alloc: Global,
-    full: &mut Vec<FullPiece>,
-    current: &mut Piece,
-    spare: &mut Vec<Vec<u8>>,
-)
+fn next_piece(full: &mut Vec<Piece>, current: &mut Piece, spare: &mut Vec<Vec<u8>>)
     requires little { current.old.free < RECORD_BYTES }
     requires ready { (room : ℕ) × IsStore full.old.items current.old spare.old.items (vec_capacity full.old) room
         × (length (records_of full.old.items) + length current.old.records < room) }
@@ -91,20 +70,13 @@ fn next_piece(
     let Some(bytes) = spare.pop() else {
         unreachable!()
     };
-    let next = Piece::new(alloc, current.first() + current.count(), bytes);
-    let mut last = mem::replace(current, next);
-    last.fit_marks();
-    full.push_reserved(FullPiece::new(last));
+    let next = Piece::new(current.first() + current.count(), bytes);
+    let last = mem::replace(current, next);
+    full.push_reserved(last);
 }
 
 /// Sees to it that a record of this size fits into the current piece.
-fn make_room(
-    alloc: Global,
-    full: &mut Vec<FullPiece>,
-    current: &mut Piece,
-    spare: &mut Vec<Vec<u8>>,
-    size: usize,
-)
+fn make_room(full: &mut Vec<Piece>, current: &mut Piece, spare: &mut Vec<Vec<u8>>, size: usize)
     requires few { size ≤ RECORD_BYTES }
     requires ready { (room : ℕ) × IsStore full.old.items current.old spare.old.items (vec_capacity full.old) room
         × (length (records_of full.old.items) + length current.old.records < room) }
@@ -116,7 +88,7 @@ fn make_room(
     if current.free() >= size {
         return;
     }
-    next_piece(alloc, full, current, spare);
+    next_piece(full, current, spare);
 }
 
 /// Gets memory for pieces until there is enough for this many.
@@ -135,51 +107,14 @@ fn add_spare(alloc: Global, spare: &mut Vec<Vec<u8>>, wanted: usize) -> Result<(
     Ok(())
 }
 
-/// Where the piece of this place ends, if there is one, and what the hints name for its records stands before a place in the other list. Else
-/// the place that is waited for is noted.
-fn quotable_end(
-    full: &[FullPiece],
-    place: usize,
-    hints: &[Hint],
-    from: usize,
-    awaited: &mut usize,
-) -> Option<usize>
-    ensures { IfSome result (λ _. place < length full.now) }
-{
-    if place >= full.len() {
-        return None;
-    }
-    let end = full[place].end();
-    *awaited = quotable_from(hints, end);
-    if *awaited <= from { Some(end) } else { None }
-}
-
-/// Keeps memory for a further piece, while there is less than for so many. Memory that is used again isn't split by what is smaller.
-fn keep_spare(spare: &mut Vec<Vec<u8>>, bytes: Vec<u8>, most: usize)
-    requires blank { All IsBlank spare.old.items }
-    requires empty { bytes.items ≡ [] }
-    ensures blank { All IsBlank spare.new.items }
-    ensures more { length spare.old.items ≤ length spare.new.items }
-    ensures few { (n : ℕ) → length spare.old.items ≤ n → most ≤ n → length spare.new.items ≤ n }
-{
-    if bytes.capacity() < PIECE_BYTES || spare.len() >= most || spare.reserve(1).is_err() {
-        return;
-    }
-    spare.push_reserved(bytes);
-}
-
-/// Records, lists of at most `RECORD_WORDS` words each, one after another. They are stored in pieces that never move. A full piece
-/// may have several owners: those of the same contents in two lists can be one. Contracts see the records, and for how many there is room.
+/// Records, lists of at most `RECORD_WORDS` words each, one after another. They are stored in pieces that never move. Contracts
+/// see the records, and for how many there is room.
 #[derive(Drop)]
 pub struct Records {
-    full: Vec<FullPiece>,
+    full: Vec<Piece>,
     current: Piece,
     spare: Vec<Vec<u8>>,
     room: usize,
-    shared: usize,
-    /// Nothing is looked at until so many records of the third store stand in full pieces. It is a guess.
-    awaited: usize,
-    hints: Vec<Hint>,
     alloc: Global,
 }
 
@@ -202,12 +137,9 @@ impl Records {
     {
         Records {
             full: Vec::new(alloc),
-            current: Piece::new(alloc, 0, Vec::new(alloc)),
+            current: Piece::new(0, Vec::new(alloc)),
             spare: Vec::new(alloc),
             room: 0,
-            shared: FIRST_SHARED,
-            awaited: 0,
-            hints: Vec::new(alloc),
             alloc,
         }
     }
@@ -219,35 +151,15 @@ impl Records {
         self.current.first() + self.current.count()
     }
 
-    /// Whether there is no record.
-    pub fn is_empty(&self) -> bool
-        ensures { result ≡ nat_eq (length self.now.records) 0 }
-    {
-        self.len() == 0
-    }
-
-    /// The record at this place, if it is stored as it is; what shares memory with another list may be stored by what stands in a third one.
-    /// None beyond the end.
+    /// The record at this place, None beyond the end.
     pub fn get(&self, place: usize) -> Option<Words<'_>>
-        ensures { IfSome result (λ words. slice_get self.now.records place ≡ Some words) }
+        ensures { result ≡ slice_get self.now.records place }
     {
         let first = self.current.first();
         if place < first {
             return find(self.full.as_slice(), place);
         }
         self.current.get(place - first)
-    }
-
-    /// Reads the record at this place in the place of another. False beyond the end.
-    pub fn read(&self, place: usize, out: &mut Record) -> bool
-        ensures some { result ≡ true → slice_get self.now.records place ≡ Some out.new.items }
-        ensures none { result ≡ false → slice_get self.now.records place ≡ None }
-    {
-        let first = self.current.first();
-        if place < first {
-            return read_found(self.full.as_slice(), place, out);
-        }
-        self.current.read(place - first, out)
     }
 
     /// Makes room for more records. What is stored isn't moved. After an `Err` there are the same records, and the same room.
@@ -302,7 +214,6 @@ impl Records {
         ensures room { self.new.room ≡ self.old.room }
     {
         make_room(
-            self.alloc,
             &mut self.full,
             &mut self.current,
             &mut self.spare,
@@ -324,7 +235,6 @@ impl Records {
             return self.push_joined(head, tail);
         }
         make_room(
-            self.alloc,
             &mut self.full,
             &mut self.current,
             &mut self.spare,
@@ -346,101 +256,5 @@ impl Records {
         joined.push_all(head);
         joined.append(tail);
         self.push(&joined.words());
-    }
-
-    /// Notes where words of the last record may stand in another list: those of its call in the entry of this start, and the last ones in
-    /// that source. Nothing rests on it. The records stay as they are.
-    pub fn hint(&mut self, start: usize, source: usize)
-        ensures { self.new ≡ self.old }
-    {
-        let hint = Hint::new(self.len().wrapping_sub(1), start, source);
-        if self.hints.reserve(1).is_ok() {
-            self.hints.push_reserved(hint);
-        }
-    }
-
-    /// Lets the next full piece that wasn't looked at yet be one with that of the same place in another store, if both are the same: it
-    /// then has two owners, and what hints say is stored by records of a third store. The records stay as they are.
-    #[inline(always)]
-    pub fn share(&mut self, other: &mut Records, quoted: &mut Records)
-        ensures own { self.new ≡ self.old }
-        ensures other { other.new ≡ other.old }
-        ensures quoted { quoted.new ≡ quoted.old }
-    {
-        let place = self.shared;
-        let is_full = place < self.full.len() && place < other.full.len();
-        if is_full && self.awaited <= quoted.current.first() {
-            self.share_next(other, quoted);
-        }
-    }
-
-    /// `share` where there is such a piece. It waits until what the hints of the piece name stands in full pieces.
-    #[cold]
-    #[inline(never)]
-    fn share_next(&mut self, other: &mut Records, quoted: &mut Records)
-        ensures own { self.new ≡ self.old }
-        ensures other { other.new ≡ other.old }
-        ensures quoted { quoted.new ≡ quoted.old }
-    {
-        let place = self.shared;
-        let from = quoted.current.first();
-        let hints = self.hints.as_slice();
-        let full = self.full.as_slice();
-        let Some(end) = quotable_end(full, place, hints, from, &mut self.awaited) else {
-            return;
-        };
-        if place >= other.full.len() {
-            return;
-        }
-        self.shared = place + 1;
-        share_at(
-            &mut self.full,
-            &mut other.full,
-            place,
-            self.hints.as_slice(),
-            &mut quoted.full,
-            self.alloc,
-        );
-        forget_before(&mut self.hints, end);
-    }
-
-    /// Stores the next full piece that wasn't looked at yet by records of another store, as hints say. The records stay as they are.
-    #[inline(always)]
-    pub fn shorten(&mut self, quoted: &mut Records)
-        ensures own { self.new ≡ self.old }
-        ensures quoted { quoted.new ≡ quoted.old }
-    {
-        if self.shared < self.full.len() && self.awaited <= quoted.current.first() {
-            self.shorten_next(quoted);
-        }
-    }
-
-    /// `shorten` where there is such a piece. It waits until what the hints of the piece name stands in full pieces.
-    #[cold]
-    #[inline(never)]
-    fn shorten_next(&mut self, quoted: &mut Records)
-        ensures own { self.new ≡ self.old }
-        ensures quoted { quoted.new ≡ quoted.old }
-    {
-        let place = self.shared;
-        let from = quoted.current.first();
-        let hints = self.hints.as_slice();
-        let full = self.full.as_slice();
-        let Some(end) = quotable_end(full, place, hints, from, &mut self.awaited) else {
-            return;
-        };
-        self.shared = place + 1;
-        let memory = shorten_at(
-            &mut self.full,
-            place,
-            self.hints.as_slice(),
-            &mut quoted.full,
-            self.alloc,
-        );
-        forget_before(&mut self.hints, end);
-        if let Some(bytes) = memory {
-            let places = self.full.capacity() - self.full.len();
-            keep_spare(&mut self.spare, bytes, places);
-        }
     }
 }

@@ -1,5 +1,6 @@
 -- A pager's regions, and its answers (this profile's own).
-use Rattle.std.specs.Prelude.{◌≡◌, ℕ, ◌+◌, ◌-◌, ◌/◌, ◌<◌, ◌≤◌, ◌⊎◌, ◌&&◌, Bool, nat_le, nat_lt, codes, List, Option, Some, None, MatchOption, IsTrue, length, slice_get}
+use Rattle.std.specs.Coded.{Coded, code_by, coded×, coded_list}
+use Rattle.std.specs.Prelude.{refl, [], ◌∷◌, ◌++◌, ◌≡◌, ℕ, ◌+◌, ◌-◌, ◌/◌, ◌<◌, ◌≤◌, ◌⊎◌, ◌&&◌, Bool, nat_le, nat_lt, codes, List, Option, Some, None, MatchOption, IsTrue, length, slice_get}
 use Rattle.std.specs.List.{All, Any, AllPairs, find}
 use Rattle.l4_fpage.specs.Rights.{RightsSet, is_none, without}
 use Rattle.l4_fpage.specs.Pages.{page_bytes, space_pages}
@@ -9,14 +10,32 @@ use Rattle.l4_msg.specs.Protocols.{FaultReads, nothing, GivesPages}
 use Rattle.l4_pager.specs.declared.regions.Entry.{Entry}
 use Rattle.l4_pager.specs.declared.regions.PagerRefusal.{PagerRefusal}
 use Rattle.l4_pager.specs.declared.regions.PagerRefusal.TheVariants.{Overlap, NoRegion, Full, BadRegion}
+use Rattle.l4_fpage.specs.declared.sizes.PageSize.{PageSize}
+use Rattle.l4_fpage.specs.Pages.{size_code}
+
+-- a pager's table: the size of its pages, and its entries in the order in which they were added
+pub record Regions : Type 0 where
+  pub size : PageSize
+  pub entries : List Entry
+
+-- a table is stored as the size and the list
+abbrev pub regions_code : Coded Entry → Coded Regions
+regions_code entry = code_by (PageSize × List Entry) (coded× size_code (coded_list entry)) (λ t. (t.size, t.entries)) (λ p. record { size = p.0; entries = p.1 }) (λ _. refl)
+
+-- a table without an entry, and with one more
+abbrev pub no_entries : PageSize → Regions
+no_entries size = record { size = size; entries = [] }
+
+abbrev pub with_entry : Regions → Entry → Regions
+with_entry t e = record t { entries = t.entries ++ e ∷ [] }
 
 -- the entries of a table, at most
 abbrev pub max_regions : ℕ
 max_regions = 64
 
--- the entry has no page, a page or source page beyond the space, or no right
-abbrev pub IsBad : Entry → Type 0
-IsBad e = (e.count ≡ 0) ⊎ ((space_pages < e.first + e.count) ⊎ ((space_pages < e.source + e.count) ⊎ IsTrue (is_none e.rights)))
+-- the entry has no page, a page or source page beyond the space, where pages have this size, or no right
+abbrev pub IsBad : PageSize → Entry → Type 0
+IsBad size e = (e.count ≡ 0) ⊎ ((space_pages size < e.first + e.count) ⊎ ((space_pages size < e.source + e.count) ⊎ IsTrue (is_none e.rights)))
 
 -- the entry is for the page
 abbrev pub is_for : Entry → ℕ → Bool
@@ -27,11 +46,11 @@ abbrev pub Meet : Entry → Entry → Type 0
 Meet a b = (page : ℕ) × IsTrue (is_for a page) × IsTrue (is_for b page)
 
 -- why an entry isn't added, each where no earlier refusal holds
-abbrev pub AddFails : List Entry → Entry → PagerRefusal → Type 0
-AddFails es e BadRegion = IsBad e
-AddFails es e Overlap = (¬ IsBad e) × Any (Meet e) es
-AddFails es e Full = (¬ IsBad e) × All (λ other. ¬ Meet e other) es × (max_regions ≤ length es)
-AddFails es e NoRegion = ⊥
+abbrev pub AddFails : Regions → Entry → PagerRefusal → Type 0
+AddFails t e BadRegion = IsBad t.size e
+AddFails t e Overlap = (¬ IsBad t.size e) × Any (Meet e) t.entries
+AddFails t e Full = (¬ IsBad t.size e) × All (λ other. ¬ Meet e other) t.entries × (max_regions ≤ length t.entries)
+AddFails t e NoRegion = ⊥
 
 -- the code of a refusal, as texts and C have it
 abbrev pub code_of : PagerRefusal → List ℕ
@@ -41,15 +60,15 @@ code_of Full = codes "P3"
 code_of BadRegion = codes "P4"
 
 -- nothing refuses the entry
-pub record CanAdd (es : List Entry) (e : Entry) : Type 0 where
-  pub good : ¬ IsBad e
-  pub apart : All (λ other. ¬ Meet e other) es
-  pub room : length es < max_regions
+pub record CanAdd (t : Regions) (e : Entry) : Type 0 where
+  pub good : ¬ IsBad t.size e
+  pub apart : All (λ other. ¬ Meet e other) t.entries
+  pub room : length t.entries < max_regions
 
 -- what holds of a table: no entry is bad, and no page is one of two
-pub record IsTable (es : List Entry) : Type 0 where
-  pub good : All (λ e. ¬ IsBad e) es
-  pub apart : AllPairs (λ a b. ¬ Meet a b) es
+pub record IsTable (t : Regions) : Type 0 where
+  pub good : All (λ e. ¬ IsBad t.size e) t.entries
+  pub apart : AllPairs (λ a b. ¬ Meet a b) t.entries
 
 -- the entry is for the page, and its rights hold the access
 abbrev pub serves : ℕ → RightsSet → Entry → Bool
@@ -69,13 +88,13 @@ abbrev pub source_of : Entry → ℕ → ℕ
 source_of e page = e.source + (page - e.first)
 
 -- what is answered to a fault: its page, from the entry for it, with the entry's rights; or nothing
-abbrev pub AnswersFault : List Entry → PageFault → Message → Type 0
-AnswersFault es fault answer =
-    MatchOption (entry_for es (fault.address / page_bytes) fault.access) (answer ≡ nothing)
-    (λ e. GivesPages (source_of e (fault.address / page_bytes)) (fault.address / page_bytes) 0 e.rights answer)
+abbrev pub AnswersFault : Regions → PageFault → Message → Type 0
+AnswersFault t fault answer =
+    MatchOption (entry_for t.entries (fault.address / page_bytes t.size) fault.access) (answer ≡ nothing)
+    (λ e. GivesPages t.size (source_of e (fault.address / page_bytes t.size)) (fault.address / page_bytes t.size) 0 e.rights answer)
 
 -- what is answered to a message: a fault message as its fault, and nothing to any other
-abbrev pub Answers : List Entry → Message → Message → Type 0
-Answers es m answer =
-    ((fault : PageFault) × FaultReads m fault × AnswersFault es fault answer)
+abbrev pub Answers : Regions → Message → Message → Type 0
+Answers t m answer =
+    ((fault : PageFault) × FaultReads m fault × AnswersFault t fault answer)
     ⊎ (((fault : PageFault) → ¬ FaultReads m fault) × (answer ≡ nothing))

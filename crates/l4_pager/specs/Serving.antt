@@ -9,7 +9,7 @@ use Rattle.l4_threads.specs.Threads.{nilthread, anythread}
 use Rattle.l4_ipc.specs.declared.calls.Call.{Call}
 use Rattle.l4_ipc.specs.declared.calls.Call.TheVariants.{Ipc}
 use Rattle.l4_pager.specs.declared.regions.Entry.{Entry}
-use Rattle.l4_pager.specs.Regions.{Answers}
+use Rattle.l4_pager.specs.Regions.{Answers, Regions}
 
 -- the call that waits for anybody's message, with a nil window and no timeout
 abbrev pub waiting : Call
@@ -35,7 +35,7 @@ Brings Controlled sender m = ⊥
 Brings Gone sender m = ⊥
 
 -- the call answers the reply's message by the table
-pub record IsAnswer (es : List Entry) (reply : Reply) (call : Call) : Type 0 where
+pub record IsAnswer (es : Regions) (reply : Reply) (call : Call) : Type 0 where
   pub sender : ThreadId
   pub message : Message
   pub brings : Brings reply sender message
@@ -44,23 +44,28 @@ pub record IsAnswer (es : List Entry) (reply : Reply) (call : Call) : Type 0 whe
   pub is : call ≡ sending sender (message_words answer)
 
 -- what is entered after a reply, and whether it is an answer: an answer where the reply brings a message, and else a call that waits
-abbrev pub Follows : List Entry → Reply → Call → Bool → Type 0
+abbrev pub Follows : Regions → Reply → Call → Bool → Type 0
 Follows es reply call true = IsAnswer es reply call
 Follows es reply call false = ((sender : ThreadId) (m : Message) → ¬ Brings reply sender m) × (call ≡ waiting)
 
 -- what is entered after a reply, one call after another, with so many answers
-abbrev pub Turns : List Entry → Reply → List (Call × Reply) → ℕ → Type 0
+abbrev pub Turns : Regions → Reply → List (Call × Reply) → ℕ → Type 0
 Turns es reply [] answers = answers ≡ 0
 Turns es reply (pair ∷ pairs) answers =
     (is_answer : Bool) × (later : ℕ) × Follows es reply pair.0 is_answer × Turns es pair.1 pairs later × (answers ≡ (if is_answer then 1 else 0) + later)
 
 -- all that is entered, with so many answers: first a call that waits
-abbrev pub Serves : List Entry → List (Call × Reply) → ℕ → Type 0
+abbrev pub Serves : Regions → List (Call × Reply) → ℕ → Type 0
 Serves es [] answers = answers ≡ 0
 Serves es (pair ∷ pairs) answers = (pair.0 ≡ waiting) × Turns es pair.1 pairs answers
 
 -- the call is the one that comes after what was entered
-abbrev pub ComesNext : List Entry → List (Call × Reply) → Call → Type 0
+abbrev pub ComesNext : Regions → List (Call × Reply) → Call → Type 0
 ComesNext es [] call = call ≡ waiting
 ComesNext es (pair ∷ []) call = (is_answer : Bool) × Follows es pair.1 call is_answer
 ComesNext es (pair ∷ (next ∷ pairs)) call = ComesNext es (next ∷ pairs) call
+
+-- the gate accepted these calls with these replies, one after another, and did nothing else
+abbrev pub Accepted : {G : Type 0} → (G → Call → Reply → G → Type 0) → G → List (Call × Reply) → G → Type 0
+Accepted accepts before [] after = after ≡ before
+Accepted accepts before (pair ∷ pairs) after = (between : _) × accepts before pair.0 pair.1 between × Accepted accepts between pairs after

@@ -1,9 +1,10 @@
 //! The regions of a pager.
 ghost use Rattle.std.specs.Prelude.{◌≡◌, ◌%◌, ◌/◌, ◌⊎◌, ◌<◌, ◌++◌, ◌∷◌, [], ◌↔◌, List, MatchOption, MatchResult, IfSome, IsTrue, Some, None, true, false, position, slice_get};
 ghost use Rattle.std.specs.List.{All, Any};
+ghost use Rattle.l4_fpage.specs.declared.sizes.PageSize.TheVariants.{Kib1};
 
 use arrayvec::ArrayVec;
-use l4_fpage::{Block, Fpage, PAGE_LOG, Rights, SPACE_LOG};
+use l4_fpage::{Block, Fpage, PageSize, Rights};
 use l4_msg::{Message, PageFault, map_answer};
 use std::marker::Model;
 
@@ -14,9 +15,9 @@ pub const MAX_REGIONS: usize = 64;
 /// gives (this profile's own).
 #[derive(Clone, Copy, PartialEq, Eq, Debug)]
 pub struct Entry {
-    /// The first page, from 0 to 2^20 - 1.
+    /// The first page, below the pages of a space.
     pub first: u32,
-    /// The source page of the first page, from 0 to 2^20 - 1; those of the next pages follow.
+    /// The source page of the first page, below the pages of a space; those of the next pages follow.
     pub source: u32,
     /// How many pages; at least 1.
     pub count: u32,
@@ -57,25 +58,26 @@ impl Entry {
     ghost use Rattle.l4_pager.specs.Regions.{IsBad, is_for, Meet, serves};
 
     /// Whether the entry has no page, a page or source page beyond the space, or no right.
-    pub fn is_bad(&self) -> bool
-        ensures { IsTrue result ↔ IsBad self.now }
+    pub fn is_bad(&self, size: PageSize) -> bool
+        ensures { IsTrue result ↔ IsBad size self.now }
     {
+        let pages = u64::from(size.space_pages());
         if self.count == 0 {
             return true;
         }
-        if u64::from(self.first) + u64::from(self.count) > 1 << SPACE_LOG {
+        if u64::from(self.first) + u64::from(self.count) > pages {
             return true;
         }
-        if u64::from(self.source) + u64::from(self.count) > 1 << SPACE_LOG {
+        if u64::from(self.source) + u64::from(self.count) > pages {
             return true;
         }
         self.rights.is_empty()
     }
 
-    /// Whether a page is one of both entries. Both lie in the space.
+    /// Whether a page is one of both entries. Both lie in the largest space.
     fn meets(&self, other: &Entry) -> bool
-        requires good { ¬ IsBad self.now }
-        requires other { ¬ IsBad other.now }
+        requires good { ¬ IsBad Kib1 self.now }
+        requires other { ¬ IsBad Kib1 other.now }
         ensures { IsTrue result ↔ Meet self.now other.now }
     {
         self.first < other.first + other.count && other.first < self.first + self.count
@@ -93,8 +95,8 @@ ghost use Rattle.l4_pager.specs.Regions.{IsBad, Meet};
 
 /// Whether a page of the entry is one of another. None of them is bad.
 fn meets_one(entries: &[Entry], entry: &Entry) -> bool
-    requires good { All (λ e. ¬ IsBad e) entries.now }
-    requires entry { ¬ IsBad entry.now }
+    requires good { All (λ e. ¬ IsBad Kib1 e) entries.now }
+    requires entry { ¬ IsBad Kib1 entry.now }
     ensures some { result ≡ true → Any (Meet entry.now) entries.now }
     ensures none { result ≡ false → All (λ other. ¬ Meet entry.now other) entries.now }
 {
@@ -141,19 +143,21 @@ fn entry_at(entries: &[Entry], place: usize, page: u32, access: Rights) -> Optio
 /// A pager's table of at most `MAX_REGIONS` regions, no page of which is one of two.
 #[derive(Drop)]
 pub struct RegionPager {
+    size: PageSize,
     entries: ArrayVec<Entry, MAX_REGIONS>,
 }
 
 impl Model for RegionPager {
-    ghost use Rattle.std.specs.Prelude.{List};
-    ghost use Rattle.l4_pager.specs.declared.regions.Entry.{Entry as AnEntry};
-    ghost use Rattle.l4_pager.specs.Regions.{IsTable};
+    ghost use Rattle.l4_pager.specs.contracts.regions.Entry as entry;
+    ghost use Rattle.l4_pager.specs.Regions.{Regions, regions_code, IsTable};
 
-    ghost Value = { List AnEntry };
+    ghost Value = { Regions };
 
-    ghost view = { λ p. p.entries.items };
+    ghost coded = { regions_code entry.the_row.coded };
 
-    ghost invariant = { λ p. IsTable p.entries.items };
+    ghost view = { λ p. record { size = p.size; entries = p.entries.items } };
+
+    ghost invariant = { λ p. IsTable (record { size = p.size; entries = p.entries.items }) };
 }
 
 impl RegionPager {
@@ -162,15 +166,16 @@ impl RegionPager {
     ghost use Rattle.l4_msg.specs.Sizes.{base_unit};
     ghost use Rattle.l4_msg.specs.declared.items.Item.TheVariants.{Map};
     ghost use Rattle.l4_fpage.specs.Pages.{page_bytes};
-    ghost use Rattle.l4_pager.specs.Regions.{AddFails, CanAdd, IsTable, source_of, Answers, AnswersFault};
+    ghost use Rattle.l4_pager.specs.Regions.{no_entries, with_entry, AddFails, CanAdd, IsTable, source_of, Answers, AnswersFault};
     ghost use Rattle.l4_pager.specs.declared.regions.PagerRefusal.{PagerRefusal as ARefusal};
     ghost use Rattle.l4_pager.specs.declared.regions.PagerRefusal.TheVariants.{NoRegion};
 
-    /// A table without an entry.
-    pub fn new() -> RegionPager
-        ensures { result ≡ [] }
+    /// A table without an entry, for pages of this size.
+    pub fn new(size: PageSize) -> RegionPager
+        ensures { result ≡ no_entries size }
     {
         RegionPager {
+            size,
             entries: ArrayVec::new(),
         }
     }
@@ -186,10 +191,10 @@ impl RegionPager {
     /// changes nothing.
     pub fn add(&mut self, entry: Entry) -> Result<(), PagerRefusal>
         ensures { MatchResult result
-            (λ _. CanAdd self.old entry × (self.new ≡ self.old ++ entry ∷ []))
+            (λ _. CanAdd self.old entry × (self.new ≡ with_entry self.old entry))
             (λ refusal. AddFails self.old entry refusal × (self.new ≡ self.old)) }
     {
-        if entry.is_bad() {
+        if entry.is_bad(self.size) {
             return Err(PagerRefusal::BadRegion);
         }
         if meets_one(self.entries.as_slice(), &entry) {
@@ -206,8 +211,8 @@ impl RegionPager {
     /// access without a right is held by every entry.
     pub fn find(&self, page: u32, access: Rights) -> Result<u32, PagerRefusal>
         ensures { MatchResult result
-            (λ source. MatchOption (entry_for self.now page access) ⊥ (λ e. source ≡ source_of e page))
-            (λ refusal. (entry_for self.now page access ≡ None) × (refusal ≡ NoRegion)) }
+            (λ source. MatchOption (entry_for self.now.entries page access) ⊥ (λ e. source ≡ source_of e page))
+            (λ refusal. (entry_for self.now.entries page access ≡ None) × (refusal ≡ NoRegion)) }
     {
         match entry_for(self.entries.as_slice(), page, access) {
             Some((_, entry)) => Ok(entry.source + (page - entry.first)),
@@ -217,7 +222,7 @@ impl RegionPager {
 
     /// The entry for a page whose rights hold the access, and its place. The entry at the guess is looked at first, and then the next one.
     fn entry_near(&self, page: u32, access: Rights, guess: usize) -> Option<(usize, Entry)>
-        ensures { IsPlaced self.now page access result }
+        ensures { IsPlaced self.now.entries page access result }
     {
         let entries = self.entries.as_slice();
         if let Some(entry) = entry_at(entries, guess, page, access) {
@@ -236,10 +241,10 @@ impl RegionPager {
     pub fn answer_fault_near(&self, fault: &PageFault, guess: usize) -> (u32, Fpage, usize)
         ensures answers { AnswersFault self.now fault.now (one_item (Map result.0 result.1)) }
         ensures whole { result.0 % base_unit ≡ 0 }
-        ensures place { MatchOption (entry_for self.now (fault.now.address / page_bytes) fault.now.access) (result.2 ≡ guess) (λ entry. slice_get self.now result.2 ≡ Some entry) }
+        ensures place { MatchOption (entry_for self.now.entries (fault.now.address / page_bytes self.now.size) fault.now.access) (result.2 ≡ guess) (λ entry. slice_get self.now.entries result.2 ≡ Some entry) }
     {
         self.law_table();
-        let page = fault.address >> PAGE_LOG;
+        let page = self.size.page_of(fault.address);
         let Some((place, entry)) = self.entry_near(page, fault.access, guess) else {
             return (0, Fpage::Nil, guess);
         };
@@ -247,8 +252,8 @@ impl RegionPager {
             first: entry.source + (page - entry.first),
             log: 0,
         };
-        let fpage = Fpage::of_block(source, entry.rights);
-        (page << PAGE_LOG, fpage, place)
+        let fpage = Fpage::of_block(source, self.size, entry.rights);
+        (self.size.address_of(page), fpage, place)
     }
 
     /// The answer to a fault, as `answer` says: the send base and the fpage of its one map item.
@@ -260,7 +265,7 @@ impl RegionPager {
         (base, fpage)
     }
 
-    /// The answer to a message: to a fault's one map item, its send base the fault's page and its fpage the source page of 4 KiB with
+    /// The answer to a message: to a fault's one map item, its send base the fault's page and its fpage the source page with
     /// the entry's rights; a nil map item where `find` refuses the page, and to any other message.
     pub fn answer(&self, message: &Message) -> Message
         ensures answers { Answers self.now message.now result }

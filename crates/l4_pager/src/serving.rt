@@ -10,7 +10,7 @@ ghost use Rattle.l4_msg.specs.Protocols.{one_item};
 ghost use Rattle.l4_msg.specs.Sizes.{base_unit, max_words};
 ghost use Rattle.l4_msg.specs.declared.items.Item.TheVariants.{Map};
 ghost use Rattle.l4_pager.specs.declared.serving.GateFault.{GateFault as AFault};
-ghost use Rattle.l4_pager.specs.Serving.{Brings, Follows, Serves, ComesNext, waiting, sending};
+ghost use Rattle.l4_pager.specs.Serving.{Brings, Follows, Serves, ComesNext, Accepted, waiting, sending};
 
 use crate::regions::RegionPager;
 use arrayvec::ArrayVec;
@@ -43,13 +43,16 @@ pub trait Gate {
     /// The calls that were entered, with their replies.
     ghost pairs: { Self → List (ACall × AReply) };
 
+    /// That the gate accepts a call with this reply, and how it is left.
+    ghost accepts: { Self → ACall → AReply → Self → Type 0 };
+
     /// That the gate refuses a call with this fault, and how it is left.
     ghost refuses: { Self → ACall → AFault → Self → Type 0 };
 
     /// Enters a call and takes its reply. After a `GateFault` nothing was entered: room for the pair is made before all else.
     fn enter(&mut self, call: Call) -> Result<Reply, GateFault>
         ensures { MatchResult result
-            (λ reply. pairs self.new ≡ pairs self.old ++ (call, reply) ∷ [])
+            (λ reply. (pairs self.new ≡ pairs self.old ++ (call, reply) ∷ []) × accepts self.old call reply self.new)
             (λ fault. (pairs self.new ≡ pairs self.old) × refuses self.old call fault self.new) };
 }
 
@@ -181,10 +184,10 @@ fn next_call(regions: &RegionPager, reply: &Reply) -> (Call, bool)
 /// Serves a pager through a gate: first receives from anybody with a nil window, and then, turn by turn, answers the message that the
 /// last reply brought and waits again, or only waits again where it brought none, which counts as a turn too. A reply brings a message
 /// where it is one of an Ipc that did not fail, and its tag and words are a message. The result is the number of answers that were
-/// entered in `turns` turns, or the gate's first fault, at which it stops.
+/// entered in `turns` turns, where the gate accepted each call, or the gate's first fault, at which it stops.
 pub fn serve<G: Gate>(gate: &mut G, regions: &RegionPager, turns: u32) -> Result<u32, GateFault>
-    ensures ok { IfOk result (λ answers. (entered : List (ACall × AReply)) × (G.pairs gate.new ≡ G.pairs gate.old ++ entered) × (length entered ≡ 1 + turns) × Serves regions.now entered answers) }
-    ensures err { IfErr result (λ fault. (before : G) × (call : ACall) × G.refuses before call fault gate.new × ((entered : List (ACall × AReply)) × (answers : ℕ) × (G.pairs gate.new ≡ G.pairs gate.old ++ entered) × (length entered ≤ turns) × Serves regions.now entered answers × ComesNext regions.now entered call)) }
+    ensures ok { IfOk result (λ answers. (entered : List (ACall × AReply)) × (G.pairs gate.new ≡ G.pairs gate.old ++ entered) × (length entered ≡ 1 + turns) × Serves regions.now entered answers × Accepted G.accepts gate.old entered gate.new) }
+    ensures err { IfErr result (λ fault. (before : G) × (call : ACall) × G.refuses before call fault gate.new × ((entered : List (ACall × AReply)) × (answers : ℕ) × (G.pairs gate.new ≡ G.pairs gate.old ++ entered) × (length entered ≤ turns) × Serves regions.now entered answers × ComesNext regions.now entered call × Accepted G.accepts gate.old entered before)) }
 {
     let mut reply = match gate.enter(wait()) {
         Ok(reply) => reply,

@@ -2,7 +2,7 @@ ghost use Rattle.std.specs.Prelude.{◌≡◌};
 
 use crate::{Entry, Gate, GateFault, PagerRefusal, RegionPager, serve};
 use arrayvec::ArrayVec;
-use l4_fpage::{Fpage, Rights};
+use l4_fpage::{Fpage, PageSize, Rights};
 use l4_ipc::{Call, IpcCall, IpcReply, Reply};
 use l4_msg::{MAX_WORDS, Message, PageFault, map_answer};
 use l4_threads::ThreadId;
@@ -38,7 +38,7 @@ fn read_fault(address: u32) -> PageFault {
 
 /// The table of one region.
 fn one_region() -> RegionPager {
-    let mut regions = RegionPager::new();
+    let mut regions = RegionPager::new(PageSize::Kib4);
     let _ = regions.add(entry(REGION.0, REGION.1, REGION.2, REGION.3));
     regions
 }
@@ -71,7 +71,7 @@ fn entries_and_refusals(rt: HostRuntime) {
 
 #[test]
 fn a_table_of_64(rt: HostRuntime) {
-    let mut regions = RegionPager::new();
+    let mut regions = RegionPager::new(PageSize::Kib4);
     for page in 0..64u32 {
         assert_eq!(rt; regions.add(entry(page, 0, 1, 7)), Ok(()));
     }
@@ -94,6 +94,22 @@ fn answers(rt: HostRuntime) {
     if let Ok(request) = Message::read(&[0xffa0_0002, 0x50c0, 0]) {
         assert_eq!(rt; regions.answer(&request), map_answer(0, Fpage::Nil));
     }
+}
+
+#[test]
+fn answers_by_small_pages(rt: HostRuntime) {
+    let mut regions = RegionPager::new(PageSize::Kib1);
+    assert_eq!(rt; regions.add(entry(20, 100, 4, 5)), Ok(()));
+    assert_eq!(rt; regions.add(entry(0x10_0000, 0, 1, 5)), Ok(()));
+    assert_eq!(rt;
+        regions.add(entry(0x40_0000, 0, 1, 5)),
+        Err(PagerRefusal::BadRegion)
+    );
+    let answer = regions.answer(&read_fault(0x5678).message());
+    assert_eq!(rt;
+        answer.write().as_slice(),
+        [0x80, 0x5408, 0x1_94a5].as_slice()
+    );
 }
 
 /// The fpage of a word.
@@ -174,6 +190,8 @@ impl Gate for Replies {
     ghost use Rattle.std.specs.Prelude.{◌≡◌, ◌⊎◌};
 
     ghost pairs = { λ g. g.done.items };
+
+    ghost accepts = { λ before call reply after. after.replies.items ≡ before.replies.items };
 
     ghost refuses = { λ before call fault after. (fault.code ≡ 1) ⊎ (fault.code ≡ 2) };
 

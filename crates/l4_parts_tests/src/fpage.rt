@@ -1,4 +1,4 @@
-use l4_fpage::{Block, Fpage, Rights};
+use l4_fpage::{Block, Fpage, PageSize, Rights};
 
 /// The base, the log and the bits of the rights of a word that is read as a sized fpage.
 fn sized(word: u32) -> Option<(u32, u8, u8)> {
@@ -13,9 +13,9 @@ fn rewritten(word: u32) -> Option<u32> {
     Some(Fpage::read(word).ok()?.word())
 }
 
-/// The block of a word's fpage.
-fn pages(word: u32) -> Option<(u32, u8)> {
-    let block = Fpage::read(word).ok()?.pages()?;
+/// The block of a word's fpage, of pages of this size.
+fn pages(word: u32, size: PageSize) -> Option<(u32, u8)> {
+    let block = Fpage::read(word).ok()?.pages(size)?;
     Some((block.first, block.log))
 }
 
@@ -35,16 +35,20 @@ fn words_of_fpages(rt: HostRuntime) {
 
 #[test]
 fn pages_of_fpages(rt: HostRuntime) {
-    for (word, block) in [
-        (0xb7, None),
-        (0x0, None),
-        (0x100c7, Some((16, 0))),
-        (0x40e7, Some((4, 2))),
-        (0x80f7, Some((8, 3))),
-        (0x17, Some((0, 20))),
-        (0x80001b7, Some((32768, 15))),
+    for (word, large, small) in [
+        (0xb7, None, Some((0, 1))),
+        (0x0, None, None),
+        (0x54a7, None, Some((21, 0))),
+        (0x100c7, Some((16, 0)), Some((64, 2))),
+        (0x40e7, Some((4, 2)), Some((16, 4))),
+        (0x80f7, Some((8, 3)), Some((32, 5))),
+        (0x17, Some((0, 20)), Some((0, 22))),
+        (0x80001b7, Some((32768, 15)), Some((131072, 17))),
     ] {
-        assert_eq!(rt; pages(word), block);
+        assert_eq!(rt;
+            [pages(word, PageSize::Kib4), pages(word, PageSize::Kib1)],
+            [large, small]
+        );
     }
 }
 
@@ -75,9 +79,10 @@ fn blocks(rt: HostRuntime) {
         (0u32, 20u8, true),
         (4, 2, true),
         (6, 2, false),
-        (1048575, 0, true),
-        (1048576, 0, false),
-        (0, 21, false),
+        (0, 22, true),
+        (4194303, 0, true),
+        (4194304, 0, false),
+        (0, 23, false),
     ] {
         assert_eq!(rt; Block::new(first, log).is_some(), is_block, "{first} {log}");
     }
@@ -86,8 +91,9 @@ fn blocks(rt: HostRuntime) {
         (4, 7, 4, 2),
         (7, 8, 0, 4),
         (0, 1048575, 0, 20),
+        (0, 4194303, 0, 22),
     ] {
-        let block = Block::join(a % 1048576, b % 1048576);
+        let block = Block::join(a % 4194304, b % 4194304);
         assert_eq!(rt; (block.first, block.log), (first, log));
         assert!(rt; block.contains(a));
     }
@@ -113,9 +119,32 @@ fn common_pages_of_blocks(rt: HostRuntime) {
     );
 }
 
-/// The word of the block's fpage with all rights.
-fn word_of(block: Option<Block>) -> Option<u32> {
-    Some(Fpage::of_block(block?, Rights::all()).word())
+/// The word of the fpage of the block's pages of this size with all rights, where a space has these pages.
+fn word_of(block: Option<Block>, size: PageSize) -> Option<u32> {
+    let block = block?;
+    if !block.lies_in(size) {
+        return None;
+    }
+    Some(Fpage::of_block(block, size, Rights::all()).word())
+}
+
+#[test]
+fn words_of_blocks(rt: HostRuntime) {
+    for (first, log, large, small) in [
+        (16, 0, Some(0x100c7), Some(0x40a7)),
+        (0, 20, Some(0x17), Some(0x1e7)),
+        (0, 22, None, Some(0x17)),
+        (0x10_0000, 0, None, Some(0x4000_00a7)),
+    ] {
+        let block = Block::new(first, log);
+        assert_eq!(rt;
+            [
+                word_of(block, PageSize::Kib4),
+                word_of(block, PageSize::Kib1)
+            ],
+            [large, small]
+        );
+    }
 }
 
 #[test]
@@ -136,5 +165,4 @@ fn sets_of_rights(rt: HostRuntime) {
     assert!(rt; read_write.intersection(execute).is_empty());
     assert!(rt; Rights::all().contains(execute));
     assert!(rt; !execute.contains(read_write));
-    assert_eq!(rt; word_of(Block::new(16, 0)), Some(0x100c7));
 }

@@ -287,7 +287,7 @@ fn grants_a_page(rt: HostRuntime) {
 fn finds_pages(rt: HostRuntime) {
     let mut links = Links::new(rt.alloc());
     let key = blank(&mut links, 3).expect(&rt, "memory");
-    let far = root(&mut links, 1_048_575).expect(&rt, "memory");
+    let far = root(&mut links, 4_194_303).expect(&rt, "memory");
     links.law_places();
     links.law_trees();
     assert!(rt; links.bound() >= 2);
@@ -295,7 +295,7 @@ fn finds_pages(rt: HostRuntime) {
         [
             links.find(place(3)),
             links.find(place(4)),
-            links.find(place(1_048_575))
+            links.find(place(4_194_303))
         ],
         [Some(key), None, Some(far)]
     );
@@ -305,12 +305,12 @@ fn finds_pages(rt: HostRuntime) {
             links.next_key(0, 4),
             links.next_key(1, 0)
         ],
-        [Some(3), Some(1_048_575), None]
+        [Some(3), Some(4_194_303), None]
     );
     assert_eq!(rt;
         [
             links.next_key_in(0, 0, 4),
-            links.next_key_in(0, 4, 1_048_575)
+            links.next_key_in(0, 4, 4_194_303)
         ],
         [Some((3, key)), None]
     );

@@ -1,4 +1,4 @@
-use l4_fpage::{Fpage, Rights};
+use l4_fpage::{Fpage, PageSize, Rights};
 use l4_msg::{
     Acceptor, FrameRequest, Item, ItemFault, Message, MsgFault, PageFault, Tag, item_moves,
     map_answer,
@@ -11,11 +11,16 @@ fn counted(words: &[u32]) -> Result<(u16, usize, usize), MsgFault> {
     Ok((message.label, message.untyped.len(), message.items.len()))
 }
 
-/// The first pages and the log of an item's move in a window.
-fn moved(first: u32, second: u32, window: u32) -> Option<(u32, u32, u8)> {
+/// The first pages and the log of an item's move in a window, by pages of this size.
+fn moved_in(size: PageSize, first: u32, second: u32, window: u32) -> Option<(u32, u32, u8)> {
     let item = Item::read(first, second).ok()?;
-    let pages = item_moves(&item, &Acceptor::read(window).ok()?)?;
+    let pages = item_moves(&item, &Acceptor::read(window).ok()?, size)?;
     Some((pages.source.first, pages.target.first, pages.source.log))
+}
+
+/// The same by pages of 4 KiB.
+fn moved(first: u32, second: u32, window: u32) -> Option<(u32, u32, u8)> {
+    moved_in(PageSize::Kib4, first, second, window)
 }
 
 #[test]
@@ -215,6 +220,21 @@ fn moves_of_items(rt: HostRuntime) {
     ] {
         assert_eq!(rt; moved(first, second, window), pages);
     }
+}
+
+#[test]
+fn moves_of_small_pages(rt: HostRuntime) {
+    // pages 16 to 19 of 1 KiB to pages 48 and so on; 1 KiB from 0xb000 in 8 KiB to the 1 KiB at 0x20000; all pages; 2 KiB into 1 KiB
+    for (first, second, window, pages) in [
+        (0xc009, 0x40c7, 0x10, Some((16, 48, 2))),
+        (0xb008, 0x80f7, 0x200a0, Some((44, 128, 0))),
+        (0x8, 0x17, 0x10, Some((0, 0, 22))),
+        (0x408, 0xb7, 0x200a0, Some((1, 128, 0))),
+        (0x8, 0x100a7, 0, None),
+    ] {
+        assert_eq!(rt; moved_in(PageSize::Kib1, first, second, window), pages);
+    }
+    assert!(rt; moved(0xb008, 0x80f7, 0x200a0).is_none());
 }
 
 #[test]

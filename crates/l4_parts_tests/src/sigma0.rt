@@ -1,4 +1,4 @@
-use l4_fpage::{Fpage, Rights};
+use l4_fpage::{Fpage, PageSize, Rights};
 use l4_msg::{Message, PageFault, map_answer};
 use l4_sigma0::Sigma0;
 
@@ -9,7 +9,7 @@ fn fpage(word: u32) -> Fpage {
 
 #[test]
 fn a_frame_is_given_to_one_space(rt: HostRuntime) {
-    let mut sigma0 = Sigma0::new(256);
+    let mut sigma0 = Sigma0::new(256, PageSize::Kib4);
     // a request for page 5, and a read fault at 0x5678
     let request = [0xffa0_0002, 0x50c7, 0];
     let fault = [0xffe4_0002, 0x5678, 0];
@@ -28,7 +28,7 @@ fn a_frame_is_given_to_one_space(rt: HostRuntime) {
 
 #[test]
 fn all_frames_of_an_fpage_or_none(rt: HostRuntime) {
-    let mut sigma0 = Sigma0::new(8);
+    let mut sigma0 = Sigma0::new(8, PageSize::Kib4);
     let fault = PageFault {
         address: 0x7fff,
         ip: 0,
@@ -56,6 +56,31 @@ fn all_frames_of_an_fpage_or_none(rt: HostRuntime) {
     ] {
         if let Ok(message) = Message::read(&words) {
             assert_eq!(rt; sigma0.answer(1, &message), map_answer(0, Fpage::Nil));
+        }
+    }
+}
+
+#[test]
+fn small_frames_are_given(rt: HostRuntime) {
+    let mut sigma0 = Sigma0::new(256, PageSize::Kib1);
+    // a read fault at 0x5678, in page 21; requests for 1 KiB and for 4 KiB from 0x5400 and 0x5000 on, and for pages that aren't there
+    for (space, words, answer) in [
+        (
+            2,
+            [0xffe4_0002, 0x5678, 0],
+            map_answer(0x5400, fpage(0x54a7)),
+        ),
+        (3, [0xffa0_0002, 0x54a7, 0], map_answer(0, Fpage::Nil)),
+        (3, [0xffa0_0002, 0x50c7, 0], map_answer(0, Fpage::Nil)),
+        (
+            2,
+            [0xffa0_0002, 0x50c7, 0],
+            map_answer(0x5000, fpage(0x50c7)),
+        ),
+        (2, [0xffa0_0002, 0x4_00a7, 0], map_answer(0, Fpage::Nil)),
+    ] {
+        if let Ok(message) = Message::read(&words) {
+            assert_eq!(rt; sigma0.answer(space, &message), answer);
         }
     }
 }

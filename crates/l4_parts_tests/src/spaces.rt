@@ -20,12 +20,12 @@ fn fill(spaces: &mut Spaces, space: u64, pages: &[u32]) -> Result<(), NoMemory>
 fn fills_a_space(rt: HostRuntime) -> Result<(), Fail> {
     let mut spaces = Spaces::new(rt.alloc());
     spaces.add(4)?;
-    let pages = [8, 2, 8, 1_048_575, 0];
+    let pages = [8, 2, 8, 4_194_303, 0];
     fill(&mut spaces, 4, pages.as_slice())?;
     for page in pages {
         assert_eq!(rt; spaces.get(4, page), Some(1), "page {page}");
     }
-    assert_eq!(rt; spaces.next_present(4, 9), Some(1_048_575));
+    assert_eq!(rt; spaces.next_present(4, 9), Some(4_194_303));
     Ok(())
 }
 
@@ -122,18 +122,18 @@ fn claims_absent_pages(rt: HostRuntime) -> Result<(), Fail> {
     spaces.add(7)?;
     let first = spaces.claim(7, 5, 50)?;
     let again = spaces.claim(7, 5, 51)?;
-    let in_a_second_table = spaces.claim(7, 2000, 20)?;
+    let in_a_second_table = spaces.claim(7, 3000, 20)?;
     assert_eq!(rt; [first, again, in_a_second_table], [true, false, true]);
     assert_eq!(rt;
         [
             spaces.get(7, 5),
             spaces.get(7, 4),
-            spaces.get(7, 2000),
-            spaces.get(7, 2001)
+            spaces.get(7, 3000),
+            spaces.get(7, 3001)
         ],
         [Some(50), None, Some(20), None]
     );
-    assert_eq!(rt; spaces.next_present(7, 6), Some(2000));
+    assert_eq!(rt; spaces.next_present(7, 6), Some(3000));
     Ok(())
 }
 
@@ -173,9 +173,9 @@ fn keeps_long_keys(rt: HostRuntime) -> Result<(), Fail> {
 #[test]
 fn gives_the_next_table(rt: HostRuntime) -> Result<(), Fail> {
     let mut spaces = Spaces::new(rt.alloc());
-    put(&mut spaces, 7, 2003, 9)?;
-    let (start, row) = spaces.next_table(7, 4, 4096).expect(&rt, "a table");
-    assert_eq!(rt; (start, row.len(), row.at(979)), (1024, 1024, Some(9)));
-    assert!(rt; spaces.next_table(7, 4, 1024).is_none());
+    put(&mut spaces, 7, 3027, 9)?;
+    let (start, row) = spaces.next_table(7, 4, 8192).expect(&rt, "a table");
+    assert_eq!(rt; (start, row.len(), row.at(979)), (2048, 2048, Some(9)));
+    assert!(rt; spaces.next_table(7, 4, 2048).is_none());
     Ok(())
 }

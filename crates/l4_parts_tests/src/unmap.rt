@@ -1,4 +1,4 @@
-use l4_fpage::{Block, Rights};
+use l4_fpage::{Block, PageSize, Rights};
 use l4_mapdb::{Forest, ItemMove, Mapping, NoMemory, Place};
 use l4_msg::Move;
 use l4_unmap::{UnmapFault, unmap};
@@ -41,7 +41,7 @@ fn takes_what_two_fpages_name(rt: HostRuntime) {
 
     // to write page 254 and 255, to read page 255 alone, and a word that isn't counted
     let words = [0xf_e0d2, 0xf_f0c4, 0x20];
-    assert_eq!(rt; unmap(&mut forest, 0, 1, &words), Ok(()));
+    assert_eq!(rt; unmap(&mut forest, 0, PageSize::Kib4, 1, &words), Ok(()));
     assert_eq!(rt;
         [forest.at(2, 6), forest.at(2, 7), forest.at(0, 255)],
         [
@@ -52,7 +52,7 @@ fn takes_what_two_fpages_name(rt: HostRuntime) {
     );
 
     // all rights of the complete fpage, by the child, which loses nothing of its own
-    assert_eq!(rt; unmap(&mut forest, 2, 0, &[0x17]), Ok(()));
+    assert_eq!(rt; unmap(&mut forest, 2, PageSize::Kib4, 0, &[0x17]), Ok(()));
     assert_eq!(rt; forest.at(2, 6), child(254, Rights::of_bits(5)));
 }
 
@@ -61,7 +61,10 @@ fn takes_own_pages_too(rt: HostRuntime) {
     let mut forest = mapped(rt.alloc()).expect(&rt, "memory");
 
     // the nil fpage, and all rights of the pages from 128 on
-    assert_eq!(rt; unmap(&mut forest, 0, 0x41, &[7, 0x8_0137]), Ok(()));
+    assert_eq!(rt;
+        unmap(&mut forest, 0, PageSize::Kib4, 0x41, &[7, 0x8_0137]),
+        Ok(())
+    );
     assert_eq!(rt;
         [
             forest.next_present(0, 127),
@@ -69,6 +72,21 @@ fn takes_own_pages_too(rt: HostRuntime) {
             forest.next_present(2, 0)
         ],
         [Some(127), None, None]
+    );
+}
+
+#[test]
+fn takes_small_pages(rt: HostRuntime) {
+    let mut forest = mapped(rt.alloc()).expect(&rt, "memory");
+
+    // to write the page of 1 KiB at 0x3fc00, which is 255
+    assert_eq!(rt;
+        unmap(&mut forest, 0, PageSize::Kib1, 0, &[0x3_fca2]),
+        Ok(())
+    );
+    assert_eq!(rt;
+        [forest.at(2, 6), forest.at(2, 7)],
+        [child(254, Rights::all()), child(255, Rights::of_bits(5))]
     );
 }
 
@@ -81,7 +99,7 @@ fn refusals(rt: HostRuntime) {
         (0x41, UnmapFault::BadFpage(1)),
     ];
     for (control, fault) in cases {
-        let result = unmap(&mut forest, 0, control, &[0x17, 0x21]);
+        let result = unmap(&mut forest, 0, PageSize::Kib4, control, &[0x17, 0x21]);
         assert_eq!(rt; result, Err(fault), "at {control}");
     }
     assert_eq!(rt; forest.at(2, 7), child(255, Rights::of_bits(7)));

@@ -3,7 +3,7 @@ use Rattle.std.proofs.Common.{◌≡◌, ℕ, ◌+◌, ◌-◌, ◌*◌, ◌%◌
 use Rattle.std.proofs.lemmas.Bool.{cases_lt}
 use Rattle.std.proofs.lemmas.List.{get_or_push, length_push}
 use Rattle.std.proofs.lemmas.Nat.{pow_pos}
-use Rattle.std.proofs.lemmas.List.Elements.{All-push}
+use Rattle.std.proofs.lemmas.List.Elements.{All-nil, All-push}
 use Rattle.std.proofs.lemmas.List.Quantifiers.{all_pairs_push, Any-push}
 use Rattle.std.proofs.Math.ListN.{get_or-append}
 use Rattle.std.specs.List.{All, AllPairs, AllZip, Any}
@@ -12,10 +12,12 @@ use Rattle.l4_msg.specs.Moves.{Shifts, ItemMoves, IsMap, base_of, fpage_of, comp
 use Rattle.l4_msg.specs.declared.items.Item.{Item}
 use Rattle.l4_msg.specs.declared.regions.Region.{Region}
 use Rattle.l4_plan.proofs.Greedy.{NoneCrosses, none_crosses_step, apart_from_crosses}
-use Rattle.l4_plan.proofs.Steps.{item_moves_is}
-use Rattle.l4_msg.specs.Regions.{IsAllowed, IsCertificate, IsPlan, ShareBlock, StartsAt}
+use Rattle.l4_fpage.proofs.PageSizes.{whole_units}
+use Rattle.l4_fpage.specs.Pages.{page_log, page_bytes}
+use Rattle.l4_fpage.specs.declared.sizes.PageSize.{PageSize}
+use Rattle.l4_msg.proofs.Covered.{item_moves_is}
+use Rattle.l4_msg.specs.Regions.{IsAllowed, IsPlan, ShareBlock, StartsAt, InSpace, moved}
 use Rattle.l4_plan.specs.Largest.{IsLargest, AreStarts}
-use Rattle.l4_plan.specs.Plan.{BeginsAt}
 
 -- largest allowed blocks begin at these pages, one after another, from a to b
 abbrev pub Walk : Region → ℕ → List ℕ → ℕ → Type 0
@@ -33,34 +35,35 @@ pub starts_of_walk : (r : Region) (a : ℕ) (ps : List ℕ) (b : ℕ) → Walk r
 starts_of_walk r a [] b w = tt
 starts_of_walk r a (p ∷ ps) b w = (w.0, λ log best. subst (λ (k : ℕ). AreStarts r (p + 2 ^ k) ps) (one_largest r p w.1.0 log w.1.1 best) (starts_of_walk r (p + 2 ^ w.1.0) ps b w.1.2))
 
-pub starts_with_end : (r : Region) (a : ℕ) (ps : List ℕ) (b : ℕ) → Walk r a ps b → AreStarts r a (ps ++ b ∷ [])
-starts_with_end r a [] b w = (sym w, λ log best. tt)
-starts_with_end r a (p ∷ ps) b w = (w.0, λ log best. subst (λ (k : ℕ). AreStarts r (p + 2 ^ k) (ps ++ b ∷ [])) (one_largest r p w.1.0 log w.1.1 best) (starts_with_end r (p + 2 ^ w.1.0) ps b w.1.2))
-
--- a walk that goes on has a page
-pub some_pages : (r : Region) (a : ℕ) (ps : List ℕ) (b : ℕ) → Walk r a ps b → a < b → 0 < length ps
-some_pages r a [] b w lt = absurd (omega (arith, w, lt))
-some_pages r a (p ∷ ps) b w lt = omega arith
-
-pub begin_there : (r : Region) (ps : List ℕ) (items : List Item) → AllZip (StartsAt r) ps items → AllZip BeginsAt ps items
-begin_there r [] [] h = tt
-begin_there r [] (i ∷ is) h = absurd h
-begin_there r (p ∷ ps) [] h = absurd h
-begin_there r (p ∷ ps) (i ∷ is) h = ((h.0.log, h.0.bytes), begin_there r ps is h.1)
-
 -- the items move the pages below this one, and their first pages are a certificate with it
-pub record Progress (r : Region) (page : ℕ) (items : List Item) (pages : List ℕ) : Type 0 where
+pub record Progress (size : PageSize) (r : Region) (page : ℕ) (items : List Item) (pages : List ℕ) : Type 0 where
   pub from : r.source ≤ page
   pub to : page ≤ r.source + r.count
   pub crosses : NoneCrosses r page
   pub walk : Walk r r.source pages page
-  pub starts : AllZip (StartsAt r) pages items
+  pub starts : AllZip (StartsAt size r) pages items
   pub maps : All IsMap items
   pub whole : All (λ item. base_of item % 1024 ≡ 0) items
-  pub moves : (s t : ℕ) → Any (λ item. ItemMoves item complete s t) items ↔ Shifts r.source r.target (page - r.source) s t
+  pub moves : (s t : ℕ) → Any (λ item. ItemMoves size item complete s t) items ↔ Shifts r.source r.target (page - r.source) s t
   pub inside : All (λ p. (r.source ≤ p) × (p < page)) pages
   pub rising : AllPairs ◌<◌ pages
   pub apart : AllPairs (λ p q. ShareBlock r p q → ⊥) pages
+
+-- at the region's first page
+pub progress_none : (size : PageSize) (r : Region) → Progress size r r.source [] []
+progress_none size r = record {
+  from = omega arith;
+  to = omega arith;
+  crosses = record { ends = λ first log a below. absurd (omega (arith, a.from)) };
+  walk = refl;
+  starts = tt;
+  maps = All-nil IsMap;
+  whole = All-nil (λ item. base_of item % 1024 ≡ 0);
+  moves = λ s t. (λ any. absurd (omega (arith, any.2)), λ h. absurd (omega (arith, h.within)));
+  inside = All-nil (λ p. (r.source ≤ p) × (p < r.source));
+  rising = λ i j d lt in_j. absurd (omega (arith, in_j));
+  apart = λ i j d lt in_j. absurd (omega (arith, in_j));
+}
 
 -- the last element or one before it
 any_push : {X : Type 0} (P : X → Type 0) (xs : List X) (y : X) → Any P (xs ++ y ∷ []) ↔ (Any P xs ⊎ P y)
@@ -85,16 +88,10 @@ zip_push R (a ∷ xs) [] x y h r = absurd h
 zip_push R (a ∷ xs) (b ∷ ys) x y h r = (h.0, zip_push R xs ys x y h.1 r)
 
 -- the page that was reached joins the certificate
-pub pages_push : (r : Region) (page : ℕ) (items : List Item) (pages : List ℕ) → Progress r page items pages → AllPairs (λ p q. ShareBlock r p q → ⊥) (pages ++ page ∷ [])
-pages_push r page items pages h =
+pages_push : (size : PageSize) → (r : Region) (page : ℕ) (items : List Item) (pages : List ℕ) → Progress size r page items pages → AllPairs (λ p q. ShareBlock r p q → ⊥) (pages ++ page ∷ [])
+pages_push size r page items pages h =
     all_pairs_push (λ p q. ShareBlock r p q → ⊥) pages page h.apart
     (λ k d in_k. let i = h.inside k d in_k in apart_from_crosses r (get_or pages k d) page i.1 h.crosses)
-
-pub certificate_push : (r : Region) (page : ℕ) (items : List Item) (pages : List ℕ) → Progress r page items pages → page < r.source + r.count → IsCertificate r (pages ++ page ∷ [])
-certificate_push r page items pages h below = record {
-  inside = All-push (λ p. (r.source ≤ p) × (p < r.source + r.count)) pages page (λ k d in_k. let i = h.inside k d in_k in (i.0, omega (arith, i.1, h.to))) (h.from, below);
-  apart = pages_push r page items pages h;
-}
 
 shifts_more : (a b page n s t : ℕ) → a ≤ page → (Shifts a b (page - a) s t ⊎ Shifts page (b + (page - a)) n s t) ↔ Shifts a b (page + n - a) s t
 shifts_more a b page n s t from = (
@@ -114,32 +111,32 @@ either f g = (λ c. elim c [ inl a ↦ inl (f.0 a) | inr x ↦ inr (g.0 x) ], λ
 chain : {A B C : Type 0} → A ↔ B → B ↔ C → A ↔ C
 chain f g = (λ a. g.0 (f.0 a), λ c. f.1 (g.1 c))
 
-moves_push : (r : Region) (page log : ℕ) (items : List Item) (item : Item) (pages : List ℕ) → Progress r page items pages → IsAllowed r page log → StartsAt r page item → bytes_of (fpage_of item) ≡ Some (record { base = page * 4096; log = log + 12 }) → (s t : ℕ) → Any (λ i. ItemMoves i complete s t) (items ++ item ∷ []) ↔ Shifts r.source r.target (page + 2 ^ log - r.source) s t
-moves_push r page log items item pages h a starts bytes s t =
-    chain (any_push (λ i. ItemMoves i complete s t) items item)
-    (chain (either (h.moves s t) (item_moves_is r page log item a starts.base bytes s t)) (shifts_more r.source r.target page (2 ^ log) s t h.from))
+moves_push : (size : PageSize) → (r : Region) (page log : ℕ) (items : List Item) (item : Item) (pages : List ℕ) → InSpace size r → Progress size r page items pages → IsAllowed r page log → StartsAt size r page item → bytes_of (fpage_of item) ≡ Some (record { base = page * page_bytes size; log = log + page_log size }) → (s t : ℕ) → Any (λ i. ItemMoves size i complete s t) (items ++ item ∷ []) ↔ Shifts r.source r.target (page + 2 ^ log - r.source) s t
+moves_push size r page log items item pages space h a starts bytes s t =
+    chain (any_push (λ i. ItemMoves size i complete s t) items item)
+    (chain (either (h.moves s t) (item_moves_is size r page log item space a starts.base bytes s t)) (shifts_more r.source r.target page (2 ^ log) s t h.from))
 
 -- one item more
-pub progress_step : (r : Region) (page log : ℕ) (items : List Item) (item : Item) (pages : List ℕ) → Progress r page items pages → IsLargest r page log → StartsAt r page item → bytes_of (fpage_of item) ≡ Some (record { base = page * 4096; log = log + 12 }) → Progress r (page + 2 ^ log) (items ++ item ∷ []) (pages ++ page ∷ [])
-progress_step r page log items item pages h best starts bytes = record {
+pub progress_step : (size : PageSize) → (r : Region) (page log : ℕ) (items : List Item) (item : Item) (pages : List ℕ) → InSpace size r → Progress size r page items pages → IsLargest r page log → StartsAt size r page item → bytes_of (fpage_of item) ≡ Some (record { base = page * page_bytes size; log = log + page_log size }) → Progress size r (page + 2 ^ log) (items ++ item ∷ []) (pages ++ page ∷ [])
+progress_step size r page log items item pages space h best starts bytes = record {
   from = omega (arith, h.from);
   to = omega (arith, best.allowed.to);
   crosses = none_crosses_step r page log best h.crosses;
   walk = walk_push r r.source pages page log h.walk best;
-  starts = zip_push (StartsAt r) pages items page item h.starts starts;
+  starts = zip_push (StartsAt size r) pages items page item h.starts starts;
   maps = All-push IsMap items item h.maps starts.map;
-  whole = All-push (λ i. base_of i % 1024 ≡ 0) items item h.whole (rw starts.base (omega arith));
-  moves = moves_push r page log items item pages h best.allowed starts bytes;
+  whole = All-push (λ i. base_of i % 1024 ≡ 0) items item h.whole (rw starts.base (whole_units size (moved r page)));
+  moves = moves_push size r page log items item pages space h best.allowed starts bytes;
   inside = All-push (λ p. (r.source ≤ p) × (p < page + 2 ^ log)) pages page (λ k d in_k. let i = h.inside k d in_k in (i.0, omega (arith, i.1))) (h.from, omega (arith, pow_pos log));
   rising = all_pairs_push ◌<◌ pages page h.rising (λ k d in_k. (h.inside k d in_k).1);
-  apart = pages_push r page items pages h;
+  apart = pages_push size r page items pages h;
 }
 
-pub progress_end : (r : Region) (page : ℕ) (items : List Item) (pages : List ℕ) → Progress r page items pages → r.source + r.count ≤ page → IsPlan r items pages
-progress_end r page items pages h done =
+pub progress_end : (size : PageSize) → (r : Region) (page : ℕ) (items : List Item) (pages : List ℕ) → Progress size r page items pages → r.source + r.count ≤ page → IsPlan size r items pages
+progress_end size r page items pages h done =
     let e : page - r.source ≡ r.count = omega (arith, h.to) in
     record {
-      rival = record { maps = h.maps; moves = λ s t. subst (λ (n : ℕ). Any (λ item. ItemMoves item complete s t) items ↔ Shifts r.source r.target n s t) e (h.moves s t) };
+      rival = record { maps = h.maps; moves = λ s t. subst (λ (n : ℕ). Any (λ item. ItemMoves size item complete s t) items ↔ Shifts r.source r.target n s t) e (h.moves s t) };
       starts = h.starts;
       rising = h.rising;
       certificate = record { inside = λ k d in_k. let i = h.inside k d in_k in (i.0, omega (arith, i.1, h.to)); apart = h.apart };

@@ -1,4 +1,6 @@
+pub mod Inside
 pub mod Largest
 pub mod Plan
 pub mod Refusals
 pub mod Shortest
+pub mod Split

@@ -1,91 +1,177 @@
-ghost use Rattle.std.specs.Prelude.{◌≡◌, ◌<◌, ◌≤◌, [], length};
-ghost use Rattle.std.specs.List.{AllPairs};
+ghost use Rattle.std.specs.Prelude.{◌≡◌, ℕ, ◌<◌, ◌≤◌, ◌↔◌, IfOk, IfErr, IsOk, length};
+ghost use Rattle.l4_fpage.specs.declared.sizes.PageSize.{PageSize as APageSize};
 ghost use Rattle.l4_msg.specs.Messages.{CanBeWritten};
-ghost use Rattle.l4_msg.specs.Regions.{max_plan_items};
+ghost use Rattle.l4_msg.specs.Regions.{AreWholeInParts, NeedsMessages, messages_of, part_of_list, max_plan_items, max_plan_messages};
+ghost use Rattle.l4_msg.specs.declared.regions.Region.{Region as ARegion};
+ghost use Rattle.l4_plan.specs.Inside.{IsAll};
+ghost use Rattle.l4_plan.specs.Plan.{Sends};
+ghost use Rattle.l4_plan.specs.Shortest.{IsShortest};
 
+use crate::pages::Pages;
+use crate::splitting::{items_from, pass, starts_of};
 use arrayvec::ArrayVec;
-use l4_msg::{Item, MAX_ITEMS, Message, TOO_MANY};
+use l4_fpage::PageSize;
+use l4_msg::{MAX_ITEMS, MAX_PLAN_MESSAGES, Message, Region};
 use std::marker::Model;
 
-/// Map items that together move exactly a region, 1 to 31 of them, in rising order of source. With each goes its
+/// Map items that together move exactly a region, 1 to 1,984 of them, in rising order of source. With each goes its
 /// first source page; no allowed block holds two of these pages, so no list of map items that moves the region is
-/// shorter (this profile's own).
+/// shorter (this profile's own). It takes no memory: the region, the size of its pages and the number of its items say all of it, and each item is
+/// made when it is asked for.
 #[derive(Debug, Drop)]
 pub struct Plan {
-    pub(crate) items: ArrayVec<Item, MAX_ITEMS>,
-    pub(crate) pages: ArrayVec<u32, TOO_MANY>,
+    pub(crate) region: Region,
+    pub(crate) size: PageSize,
+    pub(crate) items: u32,
 }
 
-/// Why a region has no plan. The refusals are tested in this order (this profile's own).
-#[derive(PartialEq, Eq, Debug, Drop)]
+/// Why a region has no plan, or a plan no such message. The first four are tested in this order (this profile's own).
+#[derive(Debug, Drop)]
 pub enum PlanRefusal {
     /// N1: the region has no page.
     Empty,
-    /// N2: a source or target page lies beyond the space of 2^20 pages.
+    /// N2: a source or target page lies beyond the space, which has 2^20 pages of 4 KiB or 2^22 of 1 KiB.
     OutOfSpace,
     /// N3: the region has no rights.
     NoRights,
-    /// N4: each list of map items that moves exactly the region has more than 31 items, as these 32 source pages
-    /// show, of which no allowed block holds two. They are the first pages of the first 32 items that a plan of
+    /// N4: each list of map items that moves exactly the region has more than 1,984 items, as these 1,985 source pages
+    /// show, of which no allowed block holds two. They are the first pages of the first 1,985 items that a plan of
     /// any length would have.
-    TooLong(ArrayVec<u32, TOO_MANY>),
+    TooLong(Pages),
+    /// N5: the plan has so many messages, and not one alone.
+    Several(u32),
+    /// N6: the plan has so many messages, and none with this number.
+    NoPart(u32),
 }
 
 impl Model for Plan {
-    ghost use Rattle.l4_plan.specs.Plan.{Listing, FitsMessage};
+    ghost use Rattle.l4_plan.specs.Plan.{Listing};
+    ghost use Rattle.l4_plan.specs.Inside.{IsAll, listing};
 
     ghost Value = { Listing };
 
-    ghost view = { λ plan. record { items = plan.items.items; pages = plan.pages.items } };
+    ghost view = { λ plan. listing plan.size plan.region plan.items };
 
-    ghost invariant = { λ plan. FitsMessage plan.items.items plan.pages.items };
+    ghost invariant = { λ plan. IsAll plan.size plan.region plan.items };
 }
 
 impl Plan {
-    ghost use Rattle.l4_plan.specs.Plan.{FitsMessage};
+    /// The plan of the region, which has so many items.
+    pub(crate) fn of(region: &Region, size: PageSize, items: u32) -> Plan
+        requires { IsAll size region.now items }
+        ensures { IsShortest size region.now result }
+    {
+        Plan {
+            region: *region,
+            size,
+            items,
+        }
+    }
 
     /// What holds of a plan at all times. It does nothing.
     pub fn law_kept(&self)
-        ensures { FitsMessage self.now.items self.now.pages }
+        ensures { (size : APageSize) × (r : ARegion) × IsShortest size r self.now }
     {
         let _ = &self.items;
     }
 
-    /// The items, 1 to 31 of them, in rising order of source.
-    pub fn items(&self) -> &[Item]
-        ensures value { result.now ≡ self.now.items }
-        ensures some { 0 < length result.now }
-        ensures few { length result.now ≤ max_plan_items }
+    /// How many items there are, 1 to 1,984.
+    pub fn len(&self) -> usize
+        ensures value { result ≡ length self.now.items }
+        ensures some { 0 < result }
+        ensures few { result ≤ max_plan_items }
     {
-        self.items.as_slice()
+        self.items as usize
     }
 
     /// The first source page of each item, in the items' order, as page numbers.
-    pub fn pages(&self) -> &[u32]
-        ensures value { result.now ≡ self.now.pages }
-        ensures one_each { length result.now ≡ length self.now.items }
-        ensures rising { AllPairs ◌<◌ result.now }
+    pub fn pages(&self) -> Pages
+        ensures value { result ≡ self.now.pages }
+        ensures one_each { length result ≡ length self.now.items }
     {
-        self.pages.as_slice()
+        Pages {
+            region: self.region,
+            page: self.region.source,
+            left: self.items,
+        }
     }
 
-    /// The message that sends the items: label 0, no untyped words.
-    pub fn message(&self) -> Message
-        ensures label { result.label ≡ 0 }
-        ensures untyped { result.untyped.items ≡ [] }
-        ensures items { result.items.items ≡ self.now.items }
+    /// How many messages send the items, 1 to 64: all but the last have 31 items.
+    pub fn messages(&self) -> u32
+        ensures value { result ≡ messages_of (length self.now.items) }
+        ensures some { 0 < result }
+        ensures few { result ≤ max_plan_messages }
+
+        // No fewer messages move the region.
+        ensures fewest { (size : APageSize) (r : ARegion) → IsShortest size r self.now → NeedsMessages size r result }
+
+        // Each page of the region is moved by just one of them.
+        ensures whole { (size : APageSize) (r : ARegion) → IsShortest size r self.now → AreWholeInParts r self.now.pages result }
+    {
+        self.items.div_ceil(MAX_ITEMS as u32)
+    }
+
+    /// The message with this number, from 0: it sends the next 31 items, or those that are left, with label 0 and no untyped words. `NoPart`
+    /// comes where there is none.
+    pub fn message(&self, number: u32) -> Result<Message, PlanRefusal>
+        ensures sends { IfOk result (Sends (part_of_list self.now.items number)) }
 
         // Its words fit into the message registers, and its send bases are multiples of 1 KiB.
+        ensures writable { IfOk result CanBeWritten }
+        ensures there { IsOk result ↔ (number < messages_of (length self.now.items)) }
+        ensures none { IfErr result (λ e. e ≡ PlanRefusal.NoPart (messages_of (length self.now.items))) }
+    {
+        let messages = self.messages();
+        if number >= messages {
+            return Err(PlanRefusal::NoPart(messages));
+        }
+        Ok(self.part(number))
+    }
+
+    /// The first source page of each item of the message with this number, from 0; none where there is no such message.
+    pub fn pages_of(&self, number: u32) -> ArrayVec<u32, MAX_ITEMS>
+        ensures { result.items ≡ part_of_list self.now.pages number }
+    {
+        let all = self.items;
+        if number >= MAX_PLAN_MESSAGES as u32 {
+            return ArrayVec::new();
+        }
+        let before = number * MAX_ITEMS as u32;
+        if before >= all {
+            return ArrayVec::new();
+        }
+        let first = pass(&self.region, before).page;
+        starts_of(&self.region, first, (all - before).min(MAX_ITEMS as u32))
+    }
+
+    /// The message that sends all items, where one message does. `Several` comes where there are more.
+    pub fn only(&self) -> Result<Message, PlanRefusal>
+        ensures sends { IfOk result (Sends self.now.items) }
+        ensures writable { IfOk result CanBeWritten }
+        ensures one { IsOk result ↔ (messages_of (length self.now.items) ≡ 1) }
+        ensures several { IfErr result (λ e. e ≡ PlanRefusal.Several (messages_of (length self.now.items))) }
+    {
+        let messages = self.messages();
+        if messages > 1 {
+            return Err(PlanRefusal::Several(messages));
+        }
+        Ok(self.part(0))
+    }
+
+    /// The message with this number, from 0, which is there.
+    fn part(&self, number: u32) -> Message
+        requires { number < messages_of (length self.now.items) }
+        ensures sends { Sends (part_of_list self.now.items number) result }
         ensures writable { CanBeWritten result }
     {
-        let mut items = ArrayVec::new();
-        for item in self.items.iter() {
-            items.push(*item);
-        }
+        let all = self.items;
+        let before = number * MAX_ITEMS as u32;
+        let first = pass(&self.region, before).page;
+        let blocks = (all - before).min(MAX_ITEMS as u32);
         Message {
             label: 0,
             untyped: ArrayVec::new(),
-            items,
+            items: items_from(&self.region, self.size, first, blocks),
         }
     }
 }

@@ -13,6 +13,7 @@ use Rattle.l4_plan_check.specs.Inside.Pages.{HasNoGap}
 use Rattle.l4_plan_check.specs.Faults.{Holds, LongHolds}
 use Rattle.l4_plan_check.specs.declared.faults.Fault.{Fault as AFault}
 use Rattle.l4_plan_check.proofs.Claims.{Passed, none_of, long_none_of, rank_below}
+use Rattle.l4_fpage.specs.declared.sizes.PageSize.{PageSize}
 
 right_parts : {A B : Type 0} (R : A → B → Type 0) (Q : B → Type 0) → ((x : A) (y : B) → R x y → Q y) → (xs : List A) (ys : List B) → AllZip R xs ys → AllByRecursion Q ys
 right_parts R Q f [] [] h = tt
@@ -24,9 +25,9 @@ record Fits (r : Region) (item : Item) : Type 0 where
   map : IsMap item
   rights : rights_of (fpage_of item) ≡ r.rights
 
-good_items : (r : Region) (items : List Item) (pages : List ℕ) → IsPlan r items pages → All (IsGoodItem r) items
-good_items r items pages p k d lt =
-    let fits : All (Fits r) items = All-from_recursion (Fits r) items (right_parts (StartsAt r) (Fits r) (λ x y s. record { map = s.map; rights = s.rights }) pages items p.starts) in
+good_items : (size : PageSize) → (r : Region) (items : List Item) (pages : List ℕ) → IsPlan size r items pages → All (IsGoodItem size r) items
+good_items size r items pages p k d lt =
+    let fits : All (Fits r) items = All-from_recursion (Fits r) items (right_parts (StartsAt size r) (Fits r) (λ x y s. record { map = s.map; rights = s.rights }) pages items p.starts) in
     let f = fits k d lt in
     record {
       map = f.map;
@@ -34,8 +35,8 @@ good_items r items pages p k d lt =
       moves = λ s t m. (p.rival.moves s t).0 (k, get_or items k d, lt, get_or_default items k (get_or items k d) d lt, m);
     }
 
-no_gap : (r : Region) (items : List Item) (pages : List ℕ) → IsPlan r items pages → HasNoGap r items
-no_gap r items pages p page from below =
+no_gap : (size : PageSize) → (r : Region) (items : List Item) (pages : List ℕ) → IsPlan size r items pages → HasNoGap size r items
+no_gap size r items pages p page from below =
     let pair : RegionMoves r page (moved r page) = record { index = page - r.source; within = omega arith; source_is = omega arith; target_is = refl } in
     (moved r page, (p.rival.moves page (moved r page)).1 pair)
 
@@ -45,18 +46,18 @@ inside_of r pages c k lt = let i = c.inside k 0 lt in record { from = i.0; below
 no_pair : (r : Region) (pages : List ℕ) → IsCertificate r pages → (i : ℕ) → i < length pages → HasPair r pages i → ⊥
 no_pair r pages c i lt (j, less, share) = c.apart j i 0 less lt share
 
-pub plan_has_none : (r : Region) (items : List Item) (pages : List ℕ) → IsSound r → IsPlan r items pages → length pages ≡ length items → length items ≤ 31 → (fault : AFault) → Holds r items pages fault → ⊥
-plan_has_none r items pages sound p same few fault =
-    let passed : Passed r items pages 6 = record {
+pub plan_has_none : (size : PageSize) → (r : Region) (items : List Item) (pages : List ℕ) → IsSound size r → IsPlan size r items pages → length pages ≡ length items → length items ≤ 1984 → (fault : AFault) → Holds size r items pages fault → ⊥
+plan_has_none size r items pages sound p same few fault =
+    let passed : Passed size r items pages 6 = record {
       region = λ _. sound;
-      good = λ _. good_items r items pages p;
-      gap = λ _. no_gap r items pages p;
+      good = λ _. good_items size r items pages p;
+      gap = λ _. no_gap size r items pages p;
       few = λ _. few;
       count = λ _. same;
       inside = λ _. inside_of r pages p.certificate;
       pair = λ _. no_pair r pages p.certificate;
     } in
-    none_of r items pages 6 passed fault (rank_below fault)
+    none_of size r items pages 6 passed fault (rank_below fault)
 
-pub long_has_none : (r : Region) (pages : List ℕ) → IsSound r → IsCertificate r pages → length pages ≡ 32 → (fault : AFault) → LongHolds r pages fault → ⊥
-long_has_none r pages sound c many = long_none_of r pages sound many (inside_of r pages c) (no_pair r pages c)
+pub long_has_none : (size : PageSize) → (r : Region) (pages : List ℕ) → IsSound size r → IsCertificate r pages → length pages ≡ 1985 → (fault : AFault) → LongHolds size r pages fault → ⊥
+long_has_none size r pages sound c many = long_none_of size r pages sound many (inside_of r pages c) (no_pair r pages c)

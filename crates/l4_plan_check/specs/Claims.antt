@@ -6,29 +6,30 @@ use Rattle.l4_msg.specs.Moves.{ItemMoves, RegionMoves, IsMap, fpage_of, complete
 use Rattle.l4_msg.specs.Regions.{ShareBlock}
 use Rattle.l4_msg.specs.declared.items.Item.{Item}
 use Rattle.l4_msg.specs.declared.regions.Region.{Region}
+use Rattle.l4_fpage.specs.declared.sizes.PageSize.{PageSize}
 
 -- a map item with the region's rights, all of whose moves in a complete window are the region's
-pub record IsGoodItem (r : Region) (item : Item) : Type 0 where
+pub record IsGoodItem (size : PageSize) (r : Region) (item : Item) : Type 0 where
   pub map : IsMap item
   pub rights : rights_of (fpage_of item) ≡ r.rights
-  pub moves : (source target : ℕ) → ItemMoves item complete source target → RegionMoves r source target
+  pub moves : (source target : ℕ) → ItemMoves size item complete source target → RegionMoves r source target
 
 -- the item at i is the first that is not good
-pub record IsFirstBad (r : Region) (items : List Item) (i : ℕ) : Type 0 where
+pub record IsFirstBad (size : PageSize) (r : Region) (items : List Item) (i : ℕ) : Type 0 where
   pub place : i < length items
-  pub before : AllWithin (IsGoodItem r) items 0 i
-  pub bad : HoldsAt (λ item. IsGoodItem r item → ⊥) items i
+  pub before : AllWithin (IsGoodItem size r) items 0 i
+  pub bad : HoldsAt (λ item. IsGoodItem size r item → ⊥) items i
 
 -- some item moves the page, wherever to
-abbrev pub IsMoved : List Item → ℕ → Type 0
-IsMoved items page = (target : ℕ) × Any (λ item. ItemMoves item complete page target) items
+abbrev pub IsMoved : PageSize → List Item → ℕ → Type 0
+IsMoved size items page = (target : ℕ) × Any (λ item. ItemMoves size item complete page target) items
 
 -- the least source page that no item moves
-pub record IsLeastGap (r : Region) (items : List Item) (page : ℕ) : Type 0 where
+pub record IsLeastGap (size : PageSize) (r : Region) (items : List Item) (page : ℕ) : Type 0 where
   pub from : r.source ≤ page
   pub below : page < r.source + r.count
-  pub before : (p : ℕ) → r.source ≤ p → p < page → IsMoved items p
-  pub gap : IsMoved items page → ⊥
+  pub before : (p : ℕ) → r.source ≤ p → p < page → IsMoved size items p
+  pub gap : IsMoved size items page → ⊥
 
 -- the page is a source page of the region
 pub record IsInside (r : Region) (page : ℕ) : Type 0 where

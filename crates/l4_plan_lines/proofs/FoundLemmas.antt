@@ -1,5 +1,5 @@
 -- What is found in lines, one after another.
-use Rattle.std.proofs.Common.{◌≡◌, ℕ, ◌+◌, ◌<◌, ◌≤◌, ap, ◌∙◌, sym, refl, arith, subst, nat_lt, Bool, true, false, List, [], ◌∷◌, ◌++◌, length, length-take, take, Option, Some, None, Ok, MatchOption, append_assoc, inr}
+use Rattle.std.proofs.Common.{◌≡◌, ℕ, ◌+◌, ◌<◌, ◌≤◌, ap, ◌∙◌, sym, refl, arith, subst, nat_lt, Bool, true, false, List, [], ◌∷◌, ◌++◌, length, length-take, take, Option, Some, None, Ok, MatchOption, append_assoc, inl, inr}
 use Rattle.std.proofs.lemmas.Bool.{false≢true}
 use Rattle.std.proofs.lemmas.Bool.Decides.{nat_tests}
 use Rattle.std.proofs.lemmas.List.{append-nil, take_all}
@@ -13,8 +13,8 @@ use Rattle.l4_text.specs.contracts.lines.Ending.{the_type}
 use Rattle.l4_text.specs.declared.lines.Ending.{Ending}
 use Rattle.l4_text.specs.declared.lines.Ending.TheVariants.{Whole, Long, Cut}
 use Rattle.l4_plan_lines.specs.Lines.{ended}
-use Rattle.l4_plan_lines.specs.Claims.{IsClaim, IsBeginning}
-use Rattle.l4_plan_lines.specs.Inside.Claims.{SaysMore, SaysAll}
+use Rattle.l4_plan_lines.specs.Claims.{IsClaimOf, IsBeginning, IsSecondTag}
+use Rattle.l4_plan_lines.specs.Inside.Claims.{SaysMore, SaysAll, IsSecond, IsSingle}
 use Rattle.l4_plan_lines.specs.Inputs.{IsLine, IsWrongWhole, IsFirstWrong}
 use Rattle.l4_plan_lines.specs.Answers.{IsAnswer, answer_line, is_proved, Answered}
 use Rattle.l4_plan_lines.specs.Inside.Inputs.{Reflects, Stops, EndsSo, TakesOne, HasEnded, HasRead}
@@ -24,6 +24,7 @@ use Rattle.l4_plan_lines.specs.declared.found.Found.{Found}
 use Rattle.l4_plan_lines.specs.declared.found.WrongLine.{WrongLine}
 use Rattle.l4_plan_lines.specs.declared.found.LineFault.{LineFault}
 use Rattle.l4_plan_lines.specs.declared.found.LineFault.TheVariants.{BadTokens, LineTooLong, CutLine}
+use Rattle.l4_fpage.specs.declared.sizes.PageSize.{PageSize}
 
 -- ---- a line more
 
@@ -41,44 +42,55 @@ line_stays lines number line l = record {
 stays_wrong : (lines : List (List ℕ)) (number : ℕ) (fault : LineFault) (line : List ℕ) → IsWrongWhole lines number fault → IsWrongWhole (lines ++ line ∷ []) number fault
 stays_wrong lines number CutLine line w = w
 stays_wrong lines number LineTooLong line w = (line_stays lines number line w.0, w.1)
-stays_wrong lines number BadTokens line w = (line_stays lines number line w.0, w.1, w.2)
+stays_wrong lines number BadTokens line w = elim w [
+  | inl x ↦ inl (record { at = line_stays lines number line x.at; short = x.short; bad = x.bad; single = x.single })
+  | inr x ↦ inr (record {
+    before = x.before;
+    line = x.line;
+    after = x.after ++ line ∷ [];
+    split = ap (λ (t : List (List ℕ)). t ++ line ∷ []) x.split ∙ append_assoc x.before (x.line ∷ x.after) (line ∷ []);
+    place = x.place;
+    good = x.good;
+    second = x.second;
+  })
+]
 
 whole_first : (lines : List (List ℕ)) (rest : List ℕ) (number : ℕ) (fault : LineFault) → IsWrongWhole lines number fault → IsFirstWrong lines rest number fault
 whole_first lines rest number CutLine w = absurd w
 whole_first lines rest number LineTooLong w = w
-whole_first lines rest number BadTokens w = inr w
+whole_first lines rest number BadTokens w = inr (inr w)
 
 old_wrong : (s : Found) (lines : List (List ℕ)) (w : WrongLine) → s.wrong ≡ Some w → Reflects s lines → IsWrongWhole lines w.number w.fault
 old_wrong s lines w is h =
-    subst (λ (x : Option WrongLine). MatchOption x (IsClaim lines s.claim.head s.claim.items.items s.claim.pages.items) (λ v. IsWrongWhole lines v.number v.fault)) is h
+    subst (λ (x : Option WrongLine). MatchOption x (IsClaimOf lines s.claim) (λ v. IsWrongWhole lines v.number v.fault)) is h
 
 -- a line after a wrong one
 pub after_wrong : (ending : Ending) (s : Found) (lines : List (List ℕ)) (bytes : List ℕ) (w : WrongLine) → s.wrong ≡ Some w → Reflects s lines → TakesOne ending s lines bytes
 after_wrong Whole s lines bytes w is h =
-    subst (λ (x : Option WrongLine). MatchOption x (IsClaim (lines ++ bytes ∷ []) s.claim.head s.claim.items.items s.claim.pages.items) (λ v. IsWrongWhole (lines ++ bytes ∷ []) v.number v.fault))
+    subst (λ (x : Option WrongLine). MatchOption x (IsClaimOf (lines ++ bytes ∷ []) s.claim) (λ v. IsWrongWhole (lines ++ bytes ∷ []) v.number v.fault))
     (sym is) (stays_wrong lines w.number w.fault bytes (old_wrong s lines w is h))
 after_wrong Long s lines bytes w is h =
-    subst (λ (x : Option WrongLine). MatchOption x (IsClaim (lines ++ bytes ∷ []) s.claim.head s.claim.items.items s.claim.pages.items) (λ v. IsWrongWhole (lines ++ bytes ∷ []) v.number v.fault))
+    subst (λ (x : Option WrongLine). MatchOption x (IsClaimOf (lines ++ bytes ∷ []) s.claim) (λ v. IsWrongWhole (lines ++ bytes ∷ []) v.number v.fault))
     (sym is) (stays_wrong lines w.number w.fault bytes (old_wrong s lines w is h))
 after_wrong Cut s lines bytes w is h =
-    subst (λ (x : Option WrongLine). MatchOption x (IsClaim lines s.claim.head s.claim.items.items s.claim.pages.items × (bytes ≡ [])) (λ v. IsFirstWrong lines bytes v.number v.fault))
+    subst (λ (x : Option WrongLine). MatchOption x (IsClaimOf lines s.claim × (bytes ≡ [])) (λ v. IsFirstWrong lines bytes v.number v.fault))
     (sym is) (whole_first lines bytes w.number w.fault (old_wrong s lines w is h))
 
-claim_so_far : (s : Found) (lines : List (List ℕ)) → s.wrong ≡ None → Reflects s lines → IsClaim lines s.claim.head s.claim.items.items s.claim.pages.items
+claim_so_far : (s : Found) (lines : List (List ℕ)) → s.wrong ≡ None → Reflects s lines → IsClaimOf lines s.claim
 claim_so_far s lines is h =
-    subst (λ (x : Option WrongLine). MatchOption x (IsClaim lines s.claim.head s.claim.items.items s.claim.pages.items) (λ v. IsWrongWhole lines v.number v.fault)) is h
+    subst (λ (x : Option WrongLine). MatchOption x (IsClaimOf lines s.claim) (λ v. IsWrongWhole lines v.number v.fault)) is h
 
 -- the number of the next line
 abbrev Counts : Found → ℕ → Type 0
-Counts s number = (lines : List (List ℕ)) → IsClaim lines s.claim.head s.claim.items.items s.claim.pages.items → number ≡ length lines + 1
+Counts s number = (lines : List (List ℕ)) → IsClaimOf lines s.claim → number ≡ length lines + 1
 
 -- the next line is the one that the input cuts
 next_cut : (s t : Found) (lines : List (List ℕ)) (bytes : List ℕ) (number : ℕ) → s.wrong ≡ None → Counts s number → t.wrong ≡ Some (record { number = number; fault = CutLine })
     → 0 < length bytes → Reflects s lines → Stops t lines bytes
 next_cut s t lines bytes number is place wrong some h =
     let c = claim_so_far s lines is h in
-    let first : IsFirstWrong lines bytes number CutLine = ((s.claim.head, s.claim.items.items, s.claim.pages.items, c), some, place lines c) in
-    subst (λ (x : Option WrongLine). MatchOption x (IsClaim lines t.claim.head t.claim.items.items t.claim.pages.items × (bytes ≡ [])) (λ v. IsFirstWrong lines bytes v.number v.fault))
+    let first : IsFirstWrong lines bytes number CutLine = ((s.claim.head, s.claim.tags.items, s.claim.items.items, s.claim.pages.items, c), some, place lines c) in
+    subst (λ (x : Option WrongLine). MatchOption x (IsClaimOf lines t.claim × (bytes ≡ [])) (λ v. IsFirstWrong lines bytes v.number v.fault))
     (sym wrong) first
 
 -- the next line is too long
@@ -86,28 +98,46 @@ next_long : (s t : Found) (lines : List (List ℕ)) (bytes : List ℕ) (number :
     → 4096 < length bytes → Reflects s lines → Reflects t (lines ++ bytes ∷ [])
 next_long s t lines bytes number is place wrong many h =
     let c = claim_so_far s lines is h in
-    let l : IsLine (lines ++ bytes ∷ []) number = record { before = lines; line = bytes; after = []; split = refl; place = place lines c; good = (s.claim.head, s.claim.items.items, s.claim.pages.items, c) } in
-    subst (λ (x : Option WrongLine). MatchOption x (IsClaim (lines ++ bytes ∷ []) t.claim.head t.claim.items.items t.claim.pages.items) (λ v. IsWrongWhole (lines ++ bytes ∷ []) v.number v.fault))
+    let l : IsLine (lines ++ bytes ∷ []) number = record { before = lines; line = bytes; after = []; split = refl; place = place lines c; good = (s.claim.head, s.claim.tags.items, s.claim.items.items, s.claim.pages.items, c) } in
+    subst (λ (x : Option WrongLine). MatchOption x (IsClaimOf (lines ++ bytes ∷ []) t.claim) (λ v. IsWrongWhole (lines ++ bytes ∷ []) v.number v.fault))
     (sym wrong) (l, many)
 
 -- the next line may not stand there
-next_bad : (s t : Found) (lines : List (List ℕ)) (line bytes : List ℕ) (number : ℕ) → s.wrong ≡ None → Counts s number → SaysAll s.claim line → t.wrong ≡ Some (record { number = number; fault = BadTokens })
-    → (length bytes ≤ 4096) × (line ≡ bytes) → Reflects s lines → Reflects t (lines ++ bytes ∷ [])
-next_bad s t lines line bytes number is place all wrong kept h =
+next_bad : (s t : Found) (lines : List (List ℕ)) (line bytes : List ℕ) (number : ℕ) → s.wrong ≡ None → Counts s number → SaysAll s.claim line → IsSingle s.claim line
+    → t.wrong ≡ Some (record { number = number; fault = BadTokens }) → (length bytes ≤ 4096) × (line ≡ bytes) → Reflects s lines → Reflects t (lines ++ bytes ∷ [])
+next_bad s t lines line bytes number is place all single wrong kept h =
     let c = claim_so_far s lines is h in
-    let l : IsLine (lines ++ bytes ∷ []) number = record { before = lines; line = bytes; after = []; split = refl; place = place lines c; good = (s.claim.head, s.claim.items.items, s.claim.pages.items, c) } in
+    let l : IsLine (lines ++ bytes ∷ []) number = record { before = lines; line = bytes; after = []; split = refl; place = place lines c; good = (s.claim.head, s.claim.tags.items, s.claim.items.items, s.claim.pages.items, c) } in
     let none : IsBeginning (lines ++ bytes ∷ []) → ⊥ = subst (λ (x : List ℕ). IsBeginning (lines ++ x ∷ []) → ⊥) kept.1 (all lines c) in
-    subst (λ (x : Option WrongLine). MatchOption x (IsClaim (lines ++ bytes ∷ []) t.claim.head t.claim.items.items t.claim.pages.items) (λ v. IsWrongWhole (lines ++ bytes ∷ []) v.number v.fault))
-    (sym wrong) (l, kept.0, none)
+    let one : IsSecondTag lines bytes → ⊥ = subst (λ (x : List ℕ). IsSecondTag lines x → ⊥) kept.1 (single lines c) in
+    let w : IsWrongWhole (lines ++ bytes ∷ []) number BadTokens = inl (record { at = l; short = kept.0; bad = none; single = one }) in
+    subst (λ (x : Option WrongLine). MatchOption x (IsClaimOf (lines ++ bytes ∷ []) t.claim) (λ v. IsWrongWhole (lines ++ bytes ∷ []) v.number v.fault)) (sym wrong) w
+
+-- the next line is a second tag line, so the one before it is wrong
+next_empty : (s t : Found) (lines : List (List ℕ)) (line bytes : List ℕ) (number : ℕ) → s.wrong ≡ None → ((ls : List (List ℕ)) → IsClaimOf ls s.claim → number ≡ length ls) → IsSecond s.claim line
+    → t.wrong ≡ Some (record { number = number; fault = BadTokens }) → (length bytes ≤ 4096) × (line ≡ bytes) → Reflects s lines → Reflects t (lines ++ bytes ∷ [])
+next_empty s t lines line bytes number is place second wrong kept h =
+    let c = claim_so_far s lines is h in
+    let two : IsSecondTag lines bytes = subst (λ (x : List ℕ). IsSecondTag lines x) kept.1 (second lines c) in
+    let w : IsWrongWhole (lines ++ bytes ∷ []) number BadTokens = inr (record {
+      before = lines;
+      line = bytes;
+      after = [];
+      split = refl;
+      place = place lines c;
+      good = (s.claim.head, s.claim.tags.items, s.claim.items.items, s.claim.pages.items, c);
+      second = two;
+    }) in
+    subst (λ (x : Option WrongLine). MatchOption x (IsClaimOf (lines ++ bytes ∷ []) t.claim) (λ v. IsWrongWhole (lines ++ bytes ∷ []) v.number v.fault)) (sym wrong) w
 
 -- the next line says more
 next_good : (s t : Found) (lines : List (List ℕ)) (line bytes : List ℕ) → s.wrong ≡ None → SaysMore s.claim t.claim line → t.wrong ≡ None
     → (length bytes ≤ 4096) × (line ≡ bytes) → Reflects s lines → Reflects t (lines ++ bytes ∷ [])
 next_good s t lines line bytes is more right kept h =
     let c = claim_so_far s lines is h in
-    let now : IsClaim (lines ++ bytes ∷ []) t.claim.head t.claim.items.items t.claim.pages.items =
-    subst (λ (x : List ℕ). IsClaim (lines ++ x ∷ []) t.claim.head t.claim.items.items t.claim.pages.items) kept.1 (more lines c) in
-    subst (λ (x : Option WrongLine). MatchOption x (IsClaim (lines ++ bytes ∷ []) t.claim.head t.claim.items.items t.claim.pages.items) (λ v. IsWrongWhole (lines ++ bytes ∷ []) v.number v.fault))
+    let now : IsClaimOf (lines ++ bytes ∷ []) t.claim =
+    subst (λ (x : List ℕ). IsClaimOf (lines ++ x ∷ []) t.claim) kept.1 (more lines c) in
+    subst (λ (x : Option WrongLine). MatchOption x (IsClaimOf (lines ++ bytes ∷ []) t.claim) (λ v. IsWrongWhole (lines ++ bytes ∷ []) v.number v.fault))
     (sym right) now
 
 -- the same, of a line that ended in some way
@@ -122,10 +152,16 @@ pub long_taken : (ending : Ending) (line : List ℕ) (s t : Found) (lines : List
 long_taken ending line s t lines bytes number end is place wrong ends h =
     subst (λ (e : Ending). TakesOne e t lines bytes) (sym end) (next_long s t lines bytes number is place wrong (subst (λ (e : Ending). EndsSo e line bytes) end ends) h)
 
-pub bad_taken : (ending : Ending) (line : List ℕ) (s t : Found) (lines : List (List ℕ)) (bytes : List ℕ) (number : ℕ) → ending ≡ Whole → s.wrong ≡ None → Counts s number → SaysAll s.claim line
+pub bad_taken : (ending : Ending) (line : List ℕ) (s t : Found) (lines : List (List ℕ)) (bytes : List ℕ) (number : ℕ) → ending ≡ Whole → s.wrong ≡ None → Counts s number → SaysAll s.claim line → IsSingle s.claim line
     → t.wrong ≡ Some (record { number = number; fault = BadTokens }) → EndsSo ending line bytes → Reflects s lines → TakesOne ending t lines bytes
-bad_taken ending line s t lines bytes number end is place all wrong ends h =
-    subst (λ (e : Ending). TakesOne e t lines bytes) (sym end) (next_bad s t lines line bytes number is place all wrong (subst (λ (e : Ending). EndsSo e line bytes) end ends) h)
+bad_taken ending line s t lines bytes number end is place all single wrong ends h =
+    subst (λ (e : Ending). TakesOne e t lines bytes) (sym end) (next_bad s t lines line bytes number is place all single wrong (subst (λ (e : Ending). EndsSo e line bytes) end ends) h)
+
+pub empty_taken : (ending : Ending) (line : List ℕ) (s t : Found) (lines : List (List ℕ)) (bytes : List ℕ) (number : ℕ) → ending ≡ Whole → s.wrong ≡ None
+    → ((ls : List (List ℕ)) → IsClaimOf ls s.claim → number ≡ length ls) → IsSecond s.claim line
+    → t.wrong ≡ Some (record { number = number; fault = BadTokens }) → EndsSo ending line bytes → Reflects s lines → TakesOne ending t lines bytes
+empty_taken ending line s t lines bytes number end is place second wrong ends h =
+    subst (λ (e : Ending). TakesOne e t lines bytes) (sym end) (next_empty s t lines line bytes number is place second wrong (subst (λ (e : Ending). EndsSo e line bytes) end ends) h)
 
 pub good_taken : (ending : Ending) (line : List ℕ) (s t : Found) (lines : List (List ℕ)) (bytes : List ℕ) → ending ≡ Whole → s.wrong ≡ None → SaysMore s.claim t.claim line
     → t.wrong ≡ None → EndsSo ending line bytes → Reflects s lines → TakesOne ending t lines bytes
@@ -195,7 +231,7 @@ ends_here old mid new now after kept s r a gives is =
     let g = subst (λ (o : Option Ending). GivesLine mid new now after kept (Ok o)) is gives in
     let l = g.0 in
     let none : l.bytes ≡ [] = nothing_kept l.bytes (sym (ap (λ k. k.0) l.kept_is) ∙ g.2) in
-    all_read old mid new now after kept s s a l g.1 (stop_state (IsClaim a.lines s.claim.head s.claim.items.items s.claim.pages.items) a.lines l.bytes s.wrong a.state none)
+    all_read old mid new now after kept s s a l g.1 (stop_state (IsClaimOf a.lines s.claim) a.lines l.bytes s.wrong a.state none)
 
 -- after a line: the lines so far, or with a cut line all that there are
 abbrev pub AfterLine : Ending → Option (List ℕ) → Option (List ℕ) → List ℕ × ℕ → Found → Type 0
@@ -244,9 +280,9 @@ pub same_bytes : (ending : Ending) (bytes kept : List ℕ) (s t : Found) → byt
 same_bytes ending bytes kept s t is h = subst (λ (b : List ℕ). Takes ending b s t) is h
 
 -- the answer to what was read
-pub answered : (r : Region) (old new : Option (List ℕ)) (s : Found) (answer : Answer) (proved : Bool) (text : List ℕ) → HasRead old new s
-    → ((input : List ℕ) → HasEnded s input → IsAnswer r input answer) → proved ≡ is_proved answer → text ≡ ended (answer_line answer) → Answered r old new proved text
-answered r old new s answer proved text read is flag spelled = record {
+pub answered : (size : PageSize) → (r : Region) (old new : Option (List ℕ)) (s : Found) (answer : Answer) (proved : Bool) (text : List ℕ) → HasRead old new s
+    → ((input : List ℕ) → HasEnded s input → IsAnswer size r input answer) → proved ≡ is_proved answer → text ≡ ended (answer_line answer) → Answered size r old new proved text
+answered size r old new s answer proved text read is flag spelled = record {
   input = read.bytes;
   read = read.read;
   end = read.end;

@@ -7,4 +7,5 @@ pub mod SameClaims
 pub mod SameInputs
 pub mod SameLines
 pub mod SamePlans
+pub mod TagLemmas
 pub mod TextSteps

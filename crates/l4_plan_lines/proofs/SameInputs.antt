@@ -4,9 +4,10 @@ use Rattle.std.proofs.lemmas.Bool.{false≢true}
 use Rattle.std.specs.List.{All, flat_map}
 use Rattle.l4_text.proofs.LineSteps.{newline_inside}
 use Rattle.l4_text.specs.Lines.{NoNewline}
-use Rattle.l4_plan_lines.proofs.SameClaims.{begins_before, lines_short}
-use Rattle.l4_plan_lines.specs.Claims.{IsBeginning}
-use Rattle.l4_plan_lines.specs.Inputs.{Splits, IsLine, IsWrongWhole, IsFirstWrong, IsRefused}
+use Rattle.l4_plan_lines.proofs.ClaimLemmas.{second_tag}
+use Rattle.l4_plan_lines.proofs.SameClaims.{begins_before, lines_short, tag_short}
+use Rattle.l4_plan_lines.specs.Claims.{IsBeginning, EndsInTag, IsSecondTag}
+use Rattle.l4_plan_lines.specs.Inputs.{Splits, IsWrongWhole, IsFirstWrong, IsRefused}
 use Rattle.l4_plan_lines.specs.Lines.{ended}
 use Rattle.l4_plan_lines.specs.declared.found.LineFault.{LineFault}
 use Rattle.l4_plan_lines.specs.declared.found.LineFault.TheVariants.{BadTokens, LineTooLong, CutLine}
@@ -83,17 +84,39 @@ FaultOf CutLine n = ⊥
 FaultOf LineTooLong n = 4096 < n
 FaultOf BadTokens n = n ≤ 4096
 
+-- a line behind these is the wrong one, or it shows that the one before it is
+Names : List (List ℕ) → List ℕ → ℕ → LineFault → Type 0
+Names before line number fault = ((IsSecondTag before line → ⊥) × (number ≡ length before + 1) × FaultOf fault (length line)) ⊎ (IsSecondTag before line × (number ≡ length before) × (fault ≡ BadTokens))
+
 -- after this line the lines are no claim any more
 record WrongAt (lines : List (List ℕ)) (number : ℕ) (fault : LineFault) : Type 0 where
-  at : IsLine lines number
-  bad : IsBeginning (at.before ++ at.line ∷ []) → ⊥
-  kind : FaultOf fault (length at.line)
+  before : List (List ℕ)
+  line : List ℕ
+  after : List (List ℕ)
+  split : lines ≡ before ++ line ∷ after
+  good : IsBeginning before
+  bad : IsBeginning (before ++ line ∷ []) → ⊥
+  names : Names before line number fault
+
+long_single : (before : List (List ℕ)) (line : List ℕ) → 4096 < length line → IsSecondTag before line → ⊥
+long_single before line many s = omega (arith, many, tag_short line s.1.0 s.1.1)
 
 wrong_at : (lines : List (List ℕ)) (number : ℕ) (fault : LineFault) → IsWrongWhole lines number fault → WrongAt lines number fault
-unfolding FaultOf
+unfolding FaultOf Names
 wrong_at lines number CutLine w = absurd w
-wrong_at lines number LineTooLong w = record { at = w.0; bad = λ b. omega (arith, lines_short w.0.before w.0.line [] b, w.1); kind = w.1 }
-wrong_at lines number BadTokens w = record { at = w.0; bad = w.2; kind = w.1 }
+wrong_at lines number LineTooLong w = record {
+  before = w.0.before;
+  line = w.0.line;
+  after = w.0.after;
+  split = w.0.split;
+  good = w.0.good;
+  bad = λ b. omega (arith, lines_short w.0.before w.0.line [] b, w.1);
+  names = inl (long_single w.0.before w.0.line w.1, w.0.place, w.1);
+}
+wrong_at lines number BadTokens w = elim w [
+  | inl x ↦ record { before = x.at.before; line = x.at.line; after = x.at.after; split = x.at.split; good = x.at.good; bad = x.bad; names = inl (x.single, x.at.place, x.short) }
+  | inr x ↦ record { before = x.before; line = x.line; after = x.after; split = x.split; good = x.good; bad = second_tag x.before x.line x.second.1.0 x.second.0 x.second.1.1; names = inr (x.second, x.place, refl) }
+]
 
 same_kind : (f g : LineFault) (m n : ℕ) → m ≡ n → FaultOf f m → FaultOf g n → f ≡ g
 unfolding FaultOf
@@ -109,22 +132,36 @@ record SameWrong (m n : ℕ) (f g : LineFault) : Type 0 where
   number : m ≡ n
   fault : f ≡ g
 
+names_one : (before : List (List ℕ)) (line : List ℕ) (m n : ℕ) (f g : LineFault) → Names before line m f → Names before line n g → SameWrong m n f g
+unfolding Names
+names_one before line m n f g a b =
+    elim a [
+      | inl x ↦ elim b [
+        | inl y ↦ record { number = x.1 ∙ sym y.1; fault = same_kind f g (length line) (length line) refl x.2 y.2 }
+        | inr y ↦ absurd (x.0 y.0)
+      ]
+      | inr x ↦ elim b [
+        | inl y ↦ absurd (y.0 x.0)
+        | inr y ↦ record { number = x.1 ∙ sym y.1; fault = x.2 ∙ sym y.2 }
+      ]
+    ]
+
 -- a claim does not go on past a wrong line
 past_wrong : (before : List (List ℕ)) (line : List ℕ) (mid : List (List ℕ)) → (IsBeginning (before ++ line ∷ []) → ⊥) → IsBeginning (before ++ line ∷ mid) → ⊥
 past_wrong before line mid bad b = bad (begins_before (before ++ line ∷ []) mid (subst IsBeginning (sym (append_assoc before (line ∷ []) mid)) b))
 
 two_wrong : (lines : List (List ℕ)) (m n : ℕ) (f g : LineFault) → WrongAt lines m f → WrongAt lines n g → SameWrong m n f g
 two_wrong lines m n f g a b =
-    elim (places a.at.before b.at.before a.at.line b.at.line a.at.after b.at.after (sym a.at.split ∙ b.at.split)) [
-      | inl p ↦ absurd (past_wrong a.at.before a.at.line p.0 a.bad (subst IsBeginning p.1 b.at.good))
+    elim (places a.before b.before a.line b.line a.after b.after (sym a.split ∙ b.split)) [
+      | inl p ↦ absurd (past_wrong a.before a.line p.0 a.bad (subst IsBeginning p.1 b.good))
       | inr q ↦ elim q [
-        | inl s ↦ record { number = a.at.place ∙ ap (λ (l : List (List ℕ)). length l + 1) s.before ∙ sym b.at.place; fault = same_kind f g (length a.at.line) (length b.at.line) (ap length s.line) a.kind b.kind }
-        | inr p ↦ absurd (past_wrong b.at.before b.at.line p.0 b.bad (subst IsBeginning p.1 a.at.good))
+        | inl s ↦ names_one b.before b.line m n f g (subst (λ (x : List ℕ). Names b.before x m f) s.line (subst (λ (x : List (List ℕ)). Names x a.line m f) s.before a.names)) b.names
+        | inr p ↦ absurd (past_wrong b.before b.line p.0 b.bad (subst IsBeginning p.1 a.good))
       ]
     ]
 
 not_begun : (lines : List (List ℕ)) (n : ℕ) (f : LineFault) → WrongAt lines n f → IsBeginning lines → ⊥
-not_begun lines n f a b = past_wrong a.at.before a.at.line a.at.after a.bad (subst IsBeginning a.at.split b)
+not_begun lines n f a b = past_wrong a.before a.line a.after a.bad (subst IsBeginning a.split b)
 
 not_empty : (b : List (List ℕ)) (x : List ℕ) (a : List (List ℕ)) → b ++ x ∷ a ≡ [] → ⊥
 not_empty [] x a e = cc
@@ -142,38 +179,91 @@ record EmptyAt (lines : List (List ℕ)) (rest : List ℕ) (number : ℕ) (fault
   place : number ≡ 1
   kind : fault ≡ BadTokens
 
-first_kinds : (lines : List (List ℕ)) (rest : List ℕ) (n : ℕ) (f : LineFault) → IsFirstWrong lines rest n f → CutAt lines rest n f ⊎ (EmptyAt lines rest n f ⊎ WrongAt lines n f)
+record BareAt (lines : List (List ℕ)) (rest : List ℕ) (number : ℕ) (fault : LineFault) : Type 0 where
+  begun : IsBeginning lines
+  last : EndsInTag lines
+  no_rest : rest ≡ []
+  place : number ≡ length lines
+  kind : fault ≡ BadTokens
+
+abbrev Kinds : List (List ℕ) → List ℕ → ℕ → LineFault → Type 0
+Kinds lines rest n f = CutAt lines rest n f ⊎ (EmptyAt lines rest n f ⊎ (BareAt lines rest n f ⊎ WrongAt lines n f))
+
+first_kinds : (lines : List (List ℕ)) (rest : List ℕ) (n : ℕ) (f : LineFault) → IsFirstWrong lines rest n f → Kinds lines rest n f
 first_kinds lines rest n CutLine w = inl (record { begun = w.0; some = w.1; place = w.2; kind = refl })
-first_kinds lines rest n LineTooLong w = inr (inr (wrong_at lines n LineTooLong w))
+first_kinds lines rest n LineTooLong w = inr (inr (inr (wrong_at lines n LineTooLong w)))
 first_kinds lines rest n BadTokens w = elim w [
   | inl e ↦ inr (inl (record { no_lines = e.0; no_rest = e.1; place = e.2; kind = refl }))
-  | inr v ↦ inr (inr (wrong_at lines n BadTokens v))
+  | inr v ↦ elim v [
+    | inl e ↦ inr (inr (inl (record { begun = e.good; last = e.last; no_rest = e.whole; place = e.place; kind = refl })))
+    | inr x ↦ inr (inr (inr (wrong_at lines n BadTokens x)))
+  ]
 ]
 
 no_line_wrong : (lines : List (List ℕ)) (n : ℕ) (f : LineFault) → WrongAt lines n f → lines ≡ [] → ⊥
-no_line_wrong lines n f a e = not_empty a.at.before a.at.line a.at.after (sym a.at.split ∙ e)
+no_line_wrong lines n f a e = not_empty a.before a.line a.after (sym a.split ∙ e)
+
+no_line_bare : (lines : List (List ℕ)) → EndsInTag lines → lines ≡ [] → ⊥
+no_line_bare lines a e = not_empty a.before a.line [] (sym a.split ∙ e)
+
+cut_and : (lines : List (List ℕ)) (rest : List ℕ) (m n : ℕ) (f g : LineFault) → CutAt lines rest m f → Kinds lines rest n g → SameWrong m n f g
+cut_and lines rest m n f g x k = elim k [
+  | inl y ↦ record { number = x.place ∙ sym y.place; fault = x.kind ∙ sym y.kind }
+  | inr z ↦ elim z [
+    | inl y ↦ absurd (omega (arith, x.some, ap length y.no_rest))
+    | inr v ↦ elim v [
+      | inl y ↦ absurd (omega (arith, x.some, ap length y.no_rest))
+      | inr y ↦ absurd (not_begun lines n g y x.begun)
+    ]
+  ]
+]
+
+empty_and : (lines : List (List ℕ)) (rest : List ℕ) (m n : ℕ) (f g : LineFault) → EmptyAt lines rest m f → Kinds lines rest n g → SameWrong m n f g
+empty_and lines rest m n f g x k = elim k [
+  | inl y ↦ absurd (omega (arith, y.some, ap length x.no_rest))
+  | inr z ↦ elim z [
+    | inl y ↦ record { number = x.place ∙ sym y.place; fault = x.kind ∙ sym y.kind }
+    | inr v ↦ elim v [
+      | inl y ↦ absurd (no_line_bare lines y.last x.no_lines)
+      | inr y ↦ absurd (no_line_wrong lines n g y x.no_lines)
+    ]
+  ]
+]
+
+bare_and : (lines : List (List ℕ)) (rest : List ℕ) (m n : ℕ) (f g : LineFault) → BareAt lines rest m f → Kinds lines rest n g → SameWrong m n f g
+bare_and lines rest m n f g x k = elim k [
+  | inl y ↦ absurd (omega (arith, y.some, ap length x.no_rest))
+  | inr z ↦ elim z [
+    | inl y ↦ absurd (no_line_bare lines x.last y.no_lines)
+    | inr v ↦ elim v [
+      | inl y ↦ record { number = x.place ∙ sym y.place; fault = x.kind ∙ sym y.kind }
+      | inr y ↦ absurd (not_begun lines n g y x.begun)
+    ]
+  ]
+]
+
+wrong_and : (lines : List (List ℕ)) (rest : List ℕ) (m n : ℕ) (f g : LineFault) → WrongAt lines m f → Kinds lines rest n g → SameWrong m n f g
+wrong_and lines rest m n f g x k = elim k [
+  | inl y ↦ absurd (not_begun lines m f x y.begun)
+  | inr z ↦ elim z [
+    | inl y ↦ absurd (no_line_wrong lines m f x y.no_lines)
+    | inr v ↦ elim v [
+      | inl y ↦ absurd (not_begun lines m f x y.begun)
+      | inr y ↦ two_wrong lines m n f g x y
+    ]
+  ]
+]
 
 two_first : (lines : List (List ℕ)) (rest : List ℕ) (m n : ℕ) (f g : LineFault) → IsFirstWrong lines rest m f → IsFirstWrong lines rest n g → SameWrong m n f g
 two_first lines rest m n f g a b =
+    let k = first_kinds lines rest n g b in
     elim (first_kinds lines rest m f a) [
-      | inl x ↦ elim (first_kinds lines rest n g b) [
-        | inl y ↦ record { number = x.place ∙ sym y.place; fault = x.kind ∙ sym y.kind }
-        | inr z ↦ absurd (elim z [ inl y ↦ omega (arith, x.some, ap length y.no_rest) | inr y ↦ not_begun lines n g y x.begun ])
-      ]
-      | inr v ↦ elim v [
-        | inl x ↦ elim (first_kinds lines rest n g b) [
-          | inl y ↦ absurd (omega (arith, y.some, ap length x.no_rest))
-          | inr z ↦ elim z [
-            | inl y ↦ record { number = x.place ∙ sym y.place; fault = x.kind ∙ sym y.kind }
-            | inr y ↦ absurd (no_line_wrong lines n g y x.no_lines)
-          ]
-        ]
-        | inr x ↦ elim (first_kinds lines rest n g b) [
-          | inl y ↦ absurd (not_begun lines m f x y.begun)
-          | inr z ↦ elim z [
-            | inl y ↦ absurd (no_line_wrong lines m f x y.no_lines)
-            | inr y ↦ two_wrong lines m n f g x y
-          ]
+      | inl x ↦ cut_and lines rest m n f g x k
+      | inr z ↦ elim z [
+        | inl x ↦ empty_and lines rest m n f g x k
+        | inr v ↦ elim v [
+          | inl x ↦ bare_and lines rest m n f g x k
+          | inr x ↦ wrong_and lines rest m n f g x k
         ]
       ]
     ]
@@ -185,13 +275,16 @@ one_refused input v w a b =
     let m = two_first b.lines b.rest v.number w.number v.fault w.fault first b.first in
     λ i. record { number = m.number i; fault = m.fault i }
 
--- lines that are a claim have no first wrong one
-pub none_wrong : (lines : List (List ℕ)) (n : ℕ) (f : LineFault) → 0 < length lines → IsBeginning lines → IsFirstWrong lines [] n f → ⊥
-none_wrong lines n f some begun w =
+-- lines that are a claim in which each message has an item have no first wrong one
+pub none_wrong : (lines : List (List ℕ)) (n : ℕ) (f : LineFault) → 0 < length lines → IsBeginning lines → (EndsInTag lines → ⊥) → IsFirstWrong lines [] n f → ⊥
+none_wrong lines n f some begun filled w =
     elim (first_kinds lines [] n f w) [
       | inl x ↦ omega (arith, x.some)
-      | inr v ↦ elim v [
+      | inr z ↦ elim z [
         | inl x ↦ omega (arith, some, ap length x.no_lines)
-        | inr x ↦ not_begun lines n f x begun
+        | inr v ↦ elim v [
+          | inl x ↦ filled x.last
+          | inr x ↦ not_begun lines n f x begun
+        ]
       ]
     ]

@@ -1,5 +1,5 @@
 -- A line spells one thing.
-use Rattle.std.proofs.Common.{◌≡◌, ℕ, ◌^◌, ◌<◌, sym, ap, ◌∙◌, subst, arith, List, get_or, take, drop, Option, Some, None}
+use Rattle.std.proofs.Common.{◌≡◌, ℕ, ◌^◌, ◌<◌, sym, ap, ◌∙◌, subst, arith, List, take, drop, Option, Some, None}
 use Rattle.std.proofs.lemmas.Fmt.{decimal_injective}
 use Rattle.std.specs.Fmt.{decimal}
 use Rattle.l4_fpage.proofs.Same.{reads_same}
@@ -8,7 +8,7 @@ use Rattle.l4_msg.specs.Words.{ItemReads}
 use Rattle.l4_msg.specs.declared.items.Item.{Item}
 use Rattle.l4_msg.specs.declared.items.Item.TheVariants.{Map, Grant}
 use Rattle.l4_plan_lines.specs.Claims.{IsTagLine, IsPageLine, IsItemLine}
-use Rattle.l4_plan_lines.specs.Lines.{item_line, long_line}
+use Rattle.l4_plan_lines.specs.Lines.{item_line}
 use Rattle.l4_text.proofs.Spelled.{word_back}
 use Rattle.l4_text.specs.Numbers.{word_of}
 use Rattle.l4_text.specs.Texts.{word_text}
@@ -29,11 +29,6 @@ number_same a b p q e = decimal_injective a b (omega arith) (omega arith) e
 
 pub page_same : (line : List ℕ) (a b : ℕ) → IsPageLine line a → IsPageLine line b → a ≡ b
 page_same line a b x y = number_same a b x.0 y.0 (ap (λ (l : List ℕ). drop 5 l) (sym x.1 ∙ y.1))
-
-pub tag_not_long : (line : List ℕ) (tag : ℕ) → IsTagLine line tag → line ≡ long_line → ⊥
-tag_not_long line tag t l =
-    let e : ◌≡◌ {A = ℕ} 97 111 = ap (λ (x : List ℕ). get_or x 1 0) (sym t.1 ∙ l) in
-    omega (arith, e)
 
 words_read : (a b : ℕ) (x y : Item) → IsMap x → IsMap y → ItemReads a b x → ItemReads a b y → x ≡ y
 words_read a b (Map c f) (Map d g) m n h k =

@@ -1,20 +1,19 @@
 -- One line more of a text.
-use Rattle.std.proofs.Common.{refl, zero, suc, Bool, Option, ◌≡◌, ℕ, ◌+◌, ◌-◌, ◌*◌, ◌^◌, ◌<◌, ◌≤◌, ap, ◌∙◌, sym, arith, List, [], ◌∷◌, ◌++◌, length, get_or, take, drop, append_assoc, add-one, drop-cons, length-drop}
-use Rattle.std.proofs.lemmas.List.{take_rest, append-nil}
+use Rattle.std.proofs.Common.{refl, Bool, Option, ◌≡◌, ℕ, ◌+◌, ◌-◌, ◌*◌, ◌^◌, ◌<◌, ◌≤◌, ap, ◌∙◌, sym, arith, List, [], ◌∷◌, ◌++◌, length, get_or, take, drop, append_assoc, add-one, drop-cons, length-drop}
+use Rattle.std.proofs.lemmas.List.{take_rest, append-nil, length-take}
+use Rattle.l4_msg.specs.Messages.{message_words}
+use Rattle.l4_msg.specs.Regions.{part_of_list}
+use Rattle.l4_msg.specs.Words.{items_words}
+use Rattle.l4_msg.specs.declared.items.Item.{Item}
+use Rattle.l4_msg.specs.declared.messages.Message.{Message}
+use Rattle.l4_plan.specs.Plan.{Sends}
 use Rattle.l4_text.specs.Streams.{Tells}
 use Rattle.l4_text.proofs.Telling.{tells_more, tells_is}
 use Rattle.std.proofs.lemmas.Fmt.{length-decimal-le}
 use Rattle.std.specs.Fmt.{decimal}
 use Rattle.std.specs.List.{flat_map}
 use Rattle.l4_plan_lines.specs.Lines.{ended, tag_line, item_line, page_line}
-use Rattle.l4_msg.specs.Regions.{IsSound, IsCertificate, NeedsMoreThan}
-use Rattle.l4_msg.specs.declared.regions.Region.{Region}
-use Rattle.l4_plan.specs.Largest.{AreStarts}
-use Rattle.l4_plan.specs.Refusals.{IfTooLong}
-use Rattle.l4_plan.specs.declared.plans.PlanRefusal.{PlanRefusal}
-use Rattle.l4_plan.specs.declared.plans.PlanRefusal.TheVariants.{Empty, OutOfSpace, NoRights, TooLong}
-use Rattle.l4_plan.specs.Shortest.{IsTooLong}
-use Rattle.l4_plan_lines.specs.Plans.{item_texts, message_text}
+use Rattle.l4_plan_lines.specs.Plans.{item_texts, message_text, sending_words}
 
 ten_digits : (n : ℕ) → n < 2 ^ 32 → length (decimal n) ≤ 10
 ten_digits n small = length-decimal-le 10 n (omega arith) (omega arith) (omega arith)
@@ -42,22 +41,11 @@ item_step text (x ∷ y ∷ ws) pages i whole two lt told =
 pub rest_length : (rest : List ℕ) → 2 ≤ length rest → length (take (length rest - 2) (drop 2 rest)) + 2 ≡ length rest
 rest_length rest two = rw (take_rest rest 2) (omega (arith, length-drop 2 rest))
 
--- a line more of a page
-pub page_step : (text pages : List ℕ) (i : ℕ) (whole : List ℕ) → i < length pages → text ++ flat_map (λ page. ended (page_line page)) (drop i pages) ≡ whole
-    → (text ++ ended (page_line (get_or pages i 0))) ++ flat_map (λ page. ended (page_line page)) (drop (i + 1) pages) ≡ whole
-page_step text pages i whole lt told =
-    let line = page_line (get_or pages i 0) in
-    append_assoc text (line ++ 10 ∷ []) (flat_map (λ page. ended (page_line page)) (drop (i + 1) pages))
-    ∙ ap (λ (t : List ℕ). text ++ flat_map (λ page. ended (page_line page)) t) (sym (next pages i lt)) ∙ told
-
 -- ---- lines told
 
 -- the text that was told, and what it makes with what is still to come
 abbrev pub ToldSoFar : Option (List ℕ) → Option (List ℕ) → List ℕ × Bool → List ℕ × Bool → List ℕ → List ℕ → Type 0
 ToldSoFar old new before after more whole = (text : List ℕ) × Tells old new before after text × (text ++ more ≡ whole)
-
-pub told_first : (old new : Option (List ℕ)) (before after : List ℕ × Bool) (text more : List ℕ) → Tells old new before after text → ToldSoFar old new before after more (text ++ more)
-told_first old new before after text more h = (text, h, refl)
 
 pub told_head : (old new : Option (List ℕ)) (before after : List ℕ × Bool) (words pages line : List ℕ) → 1 ≤ length words → line ≡ tag_line (get_or words 0 0) → Tells old new before after (ended line)
     → ToldSoFar old new before after (item_texts (take (length words - 1) (drop 1 words)) pages) (message_text words pages)
@@ -82,35 +70,29 @@ told_item old mid new before s after line rest pages i whole two lt h is told = 
   item_step h.0 rest pages i whole two lt h.2,
 )
 
-pub told_page : (old mid new : Option (List ℕ)) (before s after : List ℕ × Bool) (line pages : List ℕ) (i : ℕ) (whole : List ℕ) → i < length pages
-    → ToldSoFar old mid before s (flat_map (λ page. ended (page_line page)) (drop i pages)) whole → line ≡ page_line (get_or pages i 0) → Tells mid new s after (ended line)
-    → ToldSoFar old new before after (flat_map (λ page. ended (page_line page)) (drop (i + 1) pages)) whole
-told_page old mid new before s after line pages i whole lt h is told = (
-  h.0 ++ ended (page_line (get_or pages i 0)),
-  tells_more old mid new before s after h.0 _ h.1 (tells_is mid new s after (ended line) _ (ap ended is) told),
-  page_step h.0 pages i whole lt h.2,
-)
-
-drop_none : (i : ℕ) → ◌≡◌ {A = List ℕ} (drop i []) []
-drop_none zero = refl
-drop_none (suc i) = refl
-
--- no page is left
-pub pages_end : (pages : List ℕ) (i : ℕ) → length pages ≤ i → drop i pages ≡ []
-pages_end [] i le = drop_none i
-pages_end (x ∷ xs) zero le = absurd (omega arith)
-pages_end (x ∷ xs) (suc i) le = pages_end xs i (omega arith)
-
 pub items_end : (rest pages : List ℕ) (i : ℕ) → length rest + 2 * i ≡ 2 * length pages → length pages ≤ i → item_texts rest (drop i pages) ≡ []
 items_end [] pages i left le = refl
 items_end (x ∷ rest) pages i left le = absurd (omega (arith, left, le))
 
--- ---- why there is no plan
+-- ---- a page from those that are left
 
--- what is said of a plan that is too long
-pub long_of : (r : Region) (e : PlanRefusal) → IfTooLong e (λ pages. IsSound r × (length pages ≡ 32) × IsCertificate r pages) → IfTooLong e (AreStarts r r.source) → IfTooLong e (λ _. NeedsMoreThan r 31)
-    → IfTooLong e (IsTooLong r)
-long_of r Empty a b c = tt
-long_of r OutOfSpace a b c = tt
-long_of r NoRights a b c = tt
-long_of r (TooLong pages) a b c = record { sound = a.0; many = a.1; certificate = a.2; starts = b; none = c }
+pub told_next : (old mid new : Option (List ℕ)) (before s after : List ℕ × Bool) (line left others : List ℕ) (page : ℕ) (whole : List ℕ) → left ≡ page ∷ others
+    → ToldSoFar old mid before s (flat_map (λ page. ended (page_line page)) left) whole → line ≡ page_line page → Tells mid new s after (ended line)
+    → ToldSoFar old new before after (flat_map (λ page. ended (page_line page)) others) whole
+told_next old mid new before s after line left others page whole e h is told = (
+  h.0 ++ ended (page_line page),
+  tells_more old mid new before s after h.0 _ h.1 (tells_is mid new s after (ended line) _ (ap ended is) told),
+  append_assoc h.0 (ended (page_line page)) (flat_map (λ p. ended (page_line p)) others) ∙ ap (λ (t : List ℕ). h.0 ++ flat_map (λ p. ended (page_line p)) t) (sym e) ∙ h.2,
+)
+
+-- ---- the message of a part
+
+-- the words of the message that sends these items
+pub sending_is : (items : List Item) (m : Message) → Sends items m → message_words m ≡ sending_words items
+sending_is items m s =
+    let words : items_words m.items.items ≡ items_words items = ap items_words s.items_are in
+    let first : m.label * 65536 + length (items_words m.items.items) * 64 + length m.untyped.items ≡ length (items_words items) * 64 = omega (arith, s.label, ap length words, ap length s.untyped) in
+    λ i. first i ∷ (s.untyped i ++ words i)
+
+pub part_lengths : {X Y : Type 0} (xs : List X) (ys : List Y) (k : ℕ) → length xs ≡ length ys → length (part_of_list xs k) ≡ length (part_of_list ys k)
+part_lengths xs ys k e = omega (arith, e, length-take 31 (drop (31 * k) xs), length-take 31 (drop (31 * k) ys), length-drop (31 * k) xs, length-drop (31 * k) ys)

@@ -1,9 +1,11 @@
 -- What is answered to an input about a region, and how that is spelled (own).
-use Rattle.std.specs.Prelude.{◌≡◌, ℕ, ◌*◌, ◌≤◌, ◌⊎◌, Bool, true, false, List, ◌++◌, length, Option, Some, codes}
+use Rattle.std.specs.Prelude.{◌≡◌, ℕ, ◌+◌, ◌*◌, ◌<◌, ◌⊎◌, Bool, true, false, List, ◌++◌, length, get_or, Option, Some, codes}
 use Rattle.std.specs.Io.KnownBytes.{Consumes, IsAtEnd}
 use Rattle.l4_plan_lines.specs.Lines.{ended}
 use Rattle.std.specs.Fmt.{decimal}
-use Rattle.l4_msg.specs.Regions.{max_plan_items}
+use Rattle.l4_msg.specs.Regions.{part_of_list}
+use Rattle.l4_msg.specs.Sizes.{max_items}
+use Rattle.l4_msg.specs.declared.items.Item.{Item}
 use Rattle.l4_msg.specs.declared.regions.Region.{Region}
 use Rattle.l4_plan_check.specs.declared.faults.Fault.{Fault}
 use Rattle.l4_plan_check.specs.declared.faults.Fault.TheVariants.{Region as InRegion, Item as InItem, Gap, Count, Page, Pair}
@@ -16,45 +18,53 @@ use Rattle.l4_plan_lines.specs.declared.claims.Head.TheVariants.{Plan, TooLong}
 use Rattle.l4_plan_lines.specs.declared.found.WrongLine.{WrongLine}
 use Rattle.l4_plan_lines.specs.declared.found.LineFault.{LineFault}
 use Rattle.l4_plan_lines.specs.declared.found.LineFault.TheVariants.{BadTokens, LineTooLong, CutLine}
+use Rattle.l4_fpage.specs.declared.sizes.PageSize.{PageSize}
 
--- a message with so many map items, label 0 and no untyped words has this tag; of more items than a message holds
--- any tag passes (L4 X.2 manual, IPC: message tag)
-abbrev pub IsTagOf : ℕ → ℕ → Type 0
-IsTagOf tag items = items ≤ max_plan_items → tag ≡ 128 * items
+-- the message with this number, from 0, has the tag of its items: label 0, no untyped words, two words an item (L4 X.2
+-- manual, IPC: message tag)
+abbrev pub IsRightTag : List ℕ → List Item → ℕ → Type 0
+IsRightTag tags items k = get_or tags k 0 ≡ 128 * length (part_of_list items k)
 
--- the input claims that these items are a plan, in a message with the right tag
+abbrev pub AreRightTags : List ℕ → List Item → Type 0
+AreRightTags tags items = (k : ℕ) → k < length tags → IsRightTag tags items k
+
+pub record IsFirstWrongTag (tags : List ℕ) (items : List Item) (k : ℕ) : Type 0 where
+  pub inside : k < length tags
+  pub other : IsRightTag tags items k → ⊥
+  pub before : (j : ℕ) → j < k → IsRightTag tags items j
+
+-- the input claims that these items are a plan, in messages with the right tags
 pub record ClaimsPlan (input : List ℕ) (claim : Claim) : Type 0 where
   pub whole : IsWhole input claim
-  pub tag : ℕ
-  pub head : claim.head ≡ Some (Plan tag)
-  pub fits : IsTagOf tag (length claim.items.items)
+  pub head : claim.head ≡ Some Plan
+  pub fits : AreRightTags claim.tags.items claim.items.items
 
 -- the input claims that each plan is too long
 pub record ClaimsTooLong (input : List ℕ) (claim : Claim) : Type 0 where
   pub whole : IsWhole input claim
   pub head : claim.head ≡ Some TooLong
 
--- no other line is wrong, but the tag is not that of the items
+-- no other line is wrong, but a tag is not that of its items, and this is the first one's line
 pub record HasWrongTag (input : List ℕ) (wrong : WrongLine) : Type 0 where
   pub claim : Claim
   pub whole : IsWhole input claim
-  pub tag : ℕ
-  pub head : claim.head ≡ Some (Plan tag)
-  pub other : IsTagOf tag (length claim.items.items) → ⊥
-  pub first : wrong.number ≡ 1
+  pub head : claim.head ≡ Some Plan
+  pub place : ℕ
+  pub first : IsFirstWrongTag claim.tags.items claim.items.items place
+  pub number : wrong.number ≡ (max_items + 1) * place + 1
   pub fault : wrong.fault ≡ BadTokens
 
 -- the one answer to an input
-abbrev pub IsAnswer : Region → List ℕ → Answer → Type 0
-IsAnswer r input (Refused wrong) = IsRefused input wrong ⊎ HasWrongTag input wrong
-IsAnswer r input (Faulty fault) =
-    ((claim : Claim) × ClaimsPlan input claim × IsFirstFault r claim.items.items claim.pages.items fault)
-    ⊎ ((claim : Claim) × ClaimsTooLong input claim × IsFirstLongFault r claim.pages.items fault)
-IsAnswer r input (ProvedPlan items) =
+abbrev pub IsAnswer : PageSize → Region → List ℕ → Answer → Type 0
+IsAnswer size r input (Refused wrong) = IsRefused input wrong ⊎ HasWrongTag input wrong
+IsAnswer size r input (Faulty fault) =
+    ((claim : Claim) × ClaimsPlan input claim × IsFirstFault size r claim.items.items claim.pages.items fault)
+    ⊎ ((claim : Claim) × ClaimsTooLong input claim × IsFirstLongFault size r claim.pages.items fault)
+IsAnswer size r input (ProvedPlan items) =
     (claim : Claim) × ClaimsPlan input claim × (items ≡ length claim.items.items)
-    × ((fault : Fault) → Holds r claim.items.items claim.pages.items fault → ⊥)
-IsAnswer r input ProvedTooLong =
-    (claim : Claim) × ClaimsTooLong input claim × ((fault : Fault) → LongHolds r claim.pages.items fault → ⊥)
+    × ((fault : Fault) → Holds size r claim.items.items claim.pages.items fault → ⊥)
+IsAnswer size r input ProvedTooLong =
+    (claim : Claim) × ClaimsTooLong input claim × ((fault : Fault) → LongHolds size r claim.pages.items fault → ⊥)
 
 -- ---- how an answer is spelled, without its newline
 
@@ -88,11 +98,11 @@ is_proved (ProvedPlan items) = true
 is_proved ProvedTooLong = true
 
 -- the reader gave an input to its end, and this is the text of the answer to it
-pub record Answered (r : Region) (before after : Option (List ℕ)) (proved : Bool) (text : List ℕ) : Type 0 where
+pub record Answered (size : PageSize) (r : Region) (before after : Option (List ℕ)) (proved : Bool) (text : List ℕ) : Type 0 where
   pub input : List ℕ
   pub read : Consumes before after input
   pub end : IsAtEnd after
   pub answer : Answer
-  pub answered : IsAnswer r input answer
+  pub answered : IsAnswer size r input answer
   pub flag : proved ≡ is_proved answer
   pub spelled : text ≡ ended (answer_line answer)

@@ -1,10 +1,12 @@
 -- What lines claim of a region: that items are its plan, or that each plan is too long (own).
-use Rattle.std.specs.Prelude.{◌≡◌, ℕ, ◌^◌, ◌<◌, ◌≤◌, List, [], ◌∷◌, length, Option, Some, None}
+use Rattle.std.specs.Prelude.{◌≡◌, ℕ, zero, suc, ◌^◌, ◌<◌, ◌≤◌, List, [], ◌∷◌, ◌++◌, length, Option, Some, None}
 use Rattle.std.specs.List.{AllZip}
 use Rattle.l4_msg.specs.Moves.{IsMap}
+use Rattle.l4_msg.specs.Sizes.{max_items}
 use Rattle.l4_msg.specs.Words.{ItemReads}
 use Rattle.l4_msg.specs.declared.items.Item.{Item}
 use Rattle.l4_plan_lines.specs.Lines.{tag_line, page_line, item_line, long_line}
+use Rattle.l4_plan_lines.specs.declared.claims.Claim.{Claim}
 use Rattle.l4_plan_lines.specs.declared.claims.Head.{Head}
 use Rattle.l4_plan_lines.specs.declared.claims.Head.TheVariants.{Plan, TooLong}
 
@@ -25,24 +27,41 @@ pub record IsItemLine (line : List ℕ) (item : Item) (page : ℕ) : Type 0 wher
   pub map : IsMap item
   pub reads : ItemReads first second item
 
--- line by line, an item and its page
-abbrev pub AreItemLines : List (List ℕ) → List Item → List ℕ → Type 0
-AreItemLines [] [] [] = Unit {0}
-AreItemLines (line ∷ lines) (item ∷ items) (page ∷ pages) = IsItemLine line item page × AreItemLines lines items pages
-AreItemLines lines items pages = ⊥
+-- Messages of a plan, line by line, where so many items may still come before the next tag line is due: a tag line gives its
+-- tag and is followed by up to 31 items; any other line gives an item and its page.
+abbrev pub AreGroups : List (List ℕ) → ℕ → List ℕ → List Item → List ℕ → Type 0
+AreGroups [] left [] [] [] = Unit {0}
+AreGroups (line ∷ lines) zero (tag ∷ tags) items pages = IsTagLine line tag × AreGroups lines max_items tags items pages
+AreGroups (line ∷ lines) (suc left) tags (item ∷ items) (page ∷ pages) = IsItemLine line item page × AreGroups lines left tags items pages
+AreGroups lines left tags items pages = ⊥
 
 -- the items or pages of a claim, at most
 abbrev pub claim_lines : ℕ
-claim_lines = 64
+claim_lines = 2048
 
--- the first line says which of the two is claimed, and each line after it adds an item or a page
-abbrev pub IsClaim : List (List ℕ) → Option Head → List Item → List ℕ → Type 0
-IsClaim [] None items pages = (items ≡ []) × (pages ≡ [])
-IsClaim [] (Some head) items pages = ⊥
-IsClaim (line ∷ lines) None items pages = ⊥
-IsClaim (line ∷ lines) (Some (Plan tag)) items pages = IsTagLine line tag × AreItemLines lines items pages × (length pages ≤ claim_lines)
-IsClaim (line ∷ lines) (Some TooLong) items pages = (line ≡ long_line) × (items ≡ []) × AllZip IsPageLine lines pages × (length pages ≤ claim_lines)
+-- The first line says which of the two is claimed. Those of a plan are its messages; each line after `too-long` adds a page.
+abbrev pub IsClaim : List (List ℕ) → Option Head → List ℕ → List Item → List ℕ → Type 0
+IsClaim [] None tags items pages = (tags ≡ []) × (items ≡ []) × (pages ≡ [])
+IsClaim [] (Some head) tags items pages = ⊥
+IsClaim (line ∷ lines) None tags items pages = ⊥
+IsClaim (line ∷ lines) (Some Plan) tags items pages = AreGroups (line ∷ lines) 0 tags items pages × (length pages ≤ claim_lines)
+IsClaim (line ∷ lines) (Some TooLong) tags items pages = (line ≡ long_line) × (tags ≡ []) × (items ≡ []) × AllZip IsPageLine lines pages × (length pages ≤ claim_lines)
+
+abbrev pub IsClaimOf : List (List ℕ) → Claim → Type 0
+IsClaimOf lines claim = IsClaim lines claim.head claim.tags.items claim.items.items claim.pages.items
 
 -- the lines are a claim, whole or so far
 abbrev pub IsBeginning : List (List ℕ) → Type 0
-IsBeginning lines = (head : Option Head) × (items : List Item) × (pages : List ℕ) × IsClaim lines head items pages
+IsBeginning lines = (head : Option Head) × (tags : List ℕ) × (items : List Item) × (pages : List ℕ) × IsClaim lines head tags items pages
+
+-- the last line is a tag line, so its message has no item
+pub record EndsInTag (lines : List (List ℕ)) : Type 0 where
+  pub before : List (List ℕ)
+  pub line : List ℕ
+  pub tag : ℕ
+  pub split : lines ≡ before ++ line ∷ []
+  pub is_tag : IsTagLine line tag
+
+-- a tag line right behind a tag line
+abbrev pub IsSecondTag : List (List ℕ) → List ℕ → Type 0
+IsSecondTag before line = EndsInTag before × ((tag : ℕ) × IsTagLine line tag)

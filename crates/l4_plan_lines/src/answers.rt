@@ -1,12 +1,13 @@
-ghost use Rattle.std.specs.Prelude.{◌≡◌, ◌+◌, ◌≤◌, ◌<◌, ◌^◌, ◌↔◌, ◌++◌, ℕ, List, length, IsTrue, Some, codes};
+ghost use Rattle.std.specs.Prelude.{◌≡◌, ◌+◌, ◌≤◌, ◌<◌, ◌^◌, ◌++◌, ℕ, List, length, Some, IfSome, MatchOption, codes};
 ghost use Rattle.std.specs.Fmt.{decimal};
 ghost use Rattle.l4_plan_lines.specs.Lines.{ended};
 ghost use Rattle.l4_plan_lines.specs.Inside.Inputs.{HasEnded};
 ghost use Rattle.l4_plan_lines.specs.Inputs.{IsWhole};
-ghost use Rattle.l4_plan_lines.specs.Answers.{IsAnswer, IsTagOf, answer_line, wrong_line, wrong_code, fault_line, is_proved};
+ghost use Rattle.l4_plan_lines.specs.Answers.{IsAnswer, AreRightTags, IsFirstWrongTag, answer_line, wrong_line, wrong_code, fault_line, is_proved};
 
 use crate::claims::{Claim, Head};
 use crate::found::{Found, LineFault, WrongLine};
+use l4_fpage::PageSize;
 use l4_msg::{MAX_ITEMS, Region};
 use l4_plan_check::{Fault, check, check_too_long};
 use l4_text::Text;
@@ -24,36 +25,45 @@ pub enum Answer {
     ProvedTooLong,
 }
 
-/// Whether the tag is that of a message with so many map items, label 0 and no untyped words. Of more items than a
-/// message holds any tag passes.
-fn is_tag_of(tag: u32, items: usize) -> bool
-    ensures { IsTrue result ↔ IsTagOf tag items }
+/// The number, from 0, of the first message whose tag is not that of its items: label 0, no untyped words, and two words
+/// an item.
+fn first_wrong_tag(claim: &Claim) -> Option<usize>
+    ensures first { MatchOption result (AreRightTags claim.now.tags.items claim.now.items.items) (λ k. IsFirstWrongTag claim.now.tags.items claim.now.items.items k) }
+    ensures few { IfSome result (λ k. k ≤ 66) }
 {
-    if items > MAX_ITEMS {
-        return true;
+    let count = claim.tags.len();
+    for k in 0..count {
+        let items = claim
+            .items
+            .len()
+            .saturating_sub(MAX_ITEMS * k)
+            .min(MAX_ITEMS);
+        if claim.tags[k] as usize != 128 * items {
+            return Some(k);
+        }
     }
-    tag == items as u32 * 128
+    None
 }
 
 /// The answer to a claim about a region.
-fn answer_claim(region: &Region, head: Head, claim: &Claim) -> Answer
+fn answer_claim(region: &Region, size: PageSize, head: Head, claim: &Claim) -> Answer
     requires { claim.now.head ≡ Some head }
-    ensures { (input : List ℕ) → IsWhole input claim.now → IsAnswer region.now input result }
+    ensures { (input : List ℕ) → IsWhole input claim.now → IsAnswer size region.now input result }
 {
     match head {
-        Head::Plan(tag) => {
-            if !is_tag_of(tag, claim.items.len()) {
+        Head::Plan => {
+            if let Some(k) = first_wrong_tag(claim) {
                 return Answer::Refused(WrongLine {
-                    number: 1,
+                    number: 32 * k as u32 + 1,
                     fault: LineFault::BadTokens,
                 });
             }
-            match check(region, claim.items.as_slice(), claim.pages.as_slice()) {
+            match check(region, size, claim.items.as_slice(), claim.pages.as_slice()) {
                 Ok(_) => Answer::ProvedPlan(claim.items.len()),
                 Err(fault) => Answer::Faulty(fault),
             }
         }
-        Head::TooLong => match check_too_long(region, claim.pages.as_slice()) {
+        Head::TooLong => match check_too_long(region, size, claim.pages.as_slice()) {
             Ok(_) => Answer::ProvedTooLong,
             Err(fault) => Answer::Faulty(fault),
         },
@@ -61,11 +71,11 @@ fn answer_claim(region: &Region, head: Head, claim: &Claim) -> Answer
 }
 
 /// The answer to an input about a region.
-pub fn answer_input(region: &Region, found: Found) -> Answer
-    ensures { (text : List ℕ) → HasEnded found text → IsAnswer region.now text result }
+pub fn answer_input(region: &Region, size: PageSize, found: &Found) -> Answer
+    ensures { (text : List ℕ) → HasEnded found.now text → IsAnswer size region.now text result }
 {
     match found.finish() {
-        Ok((head, claim)) => answer_claim(region, head, &claim),
+        Ok(head) => answer_claim(region, size, head, &found.claim),
         Err(wrong) => Answer::Refused(wrong),
     }
 }

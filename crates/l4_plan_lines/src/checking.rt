@@ -6,6 +6,7 @@ ghost use Rattle.l4_text.specs.Streams.{WentOut};
 
 use crate::answers::{answer_input, answer_text};
 use crate::found::Found;
+use l4_fpage::PageSize;
 use l4_msg::Region;
 use l4_text::{Ending, Line, Output, RunFault, Source, next_line};
 use std::io::{Read, Write};
@@ -39,15 +40,16 @@ fn read_lines<R: Read>(reader: &mut R) -> Result<Found, RunFault>
 /// of up to 4,096 bytes, and then nothing was written; `Write` where a write fails or takes no byte. It takes no memory.
 pub fn check_lines<R: Read, W: Write>(
     region: &Region,
+    size: PageSize,
     reader: &mut R,
     writer: &mut W,
 ) -> Result<bool, RunFault>
     ensures ok { IfOk result (λ proved. (text : List ℕ)
-        × Answered region.now (R.remaining reader.old) (R.remaining reader.new) proved text
+        × Answered size region.now (R.remaining reader.old) (R.remaining reader.new) proved text
         × Appends (W.contents writer.old) (W.contents writer.new) text) }
     ensures read { result ≡ Err RunFault.Read → Keeps (W.contents writer.old) (W.contents writer.new) }
     ensures write { result ≡ Err RunFault.Write → (proved : Bool) × (text : List ℕ)
-        × Answered region.now (R.remaining reader.old) (R.remaining reader.new) proved text
+        × Answered size region.now (R.remaining reader.old) (R.remaining reader.new) proved text
         × WentOut (W.contents writer.old) (W.contents writer.new) text }
     ensures memory { result ≡ Err RunFault.Memory → ⊥ }
 {
@@ -55,7 +57,7 @@ pub fn check_lines<R: Read, W: Write>(
         Ok(found) => found,
         Err(unread) => return Err(unread),
     };
-    let answer = answer_input(region, found);
+    let answer = answer_input(region, size, &found);
     let mut out = Output::new();
     out.put(writer, &answer_text(answer));
     match out.finish(writer) {

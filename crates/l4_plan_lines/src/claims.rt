@@ -2,16 +2,19 @@ ghost use Rattle.std.specs.Prelude.{◌≡◌, ◌≤◌, List, ℕ, length, [],
 
 use crate::reading::{item_of_line, page_of_line, tag_of_line};
 use arrayvec::ArrayVec;
-use l4_msg::Item;
+use l4_msg::{Item, MAX_ITEMS};
 
 /// The most item or page lines of a claim.
-pub const CLAIM_LINES: usize = 64;
+pub const CLAIM_LINES: usize = 2048;
 
-/// The first line of a claim.
+/// The most tag lines of a claim.
+pub const CLAIM_TAGS: usize = 67;
+
+/// What the first line of a claim says.
 #[derive(Clone, Copy, PartialEq, Eq, Debug)]
 pub enum Head {
-    /// A plan, whose message has this tag.
-    Plan(u32),
+    /// That the items are a plan. It is the tag line of the first message.
+    Plan,
     /// That each plan is too long.
     TooLong,
 }
@@ -20,20 +23,23 @@ pub enum Head {
 #[derive(Drop)]
 pub struct Claim {
     pub head: Option<Head>,
+    /// The tags, message by message.
+    pub tags: ArrayVec<u32, CLAIM_TAGS>,
     pub items: ArrayVec<Item, CLAIM_LINES>,
     pub pages: ArrayVec<u32, CLAIM_LINES>,
 }
 
 impl Claim {
-    ghost use Rattle.l4_plan_lines.specs.Claims.{IsClaim};
-    ghost use Rattle.l4_plan_lines.specs.Inside.Claims.{SaysMore, SaysAll};
+    ghost use Rattle.l4_plan_lines.specs.Claims.{IsClaimOf};
+    ghost use Rattle.l4_plan_lines.specs.Inside.Claims.{SaysMore, SaysAll, HasEmptyGroup, HasItems, IsSecond, IsSingle, AwaitsTag, AwaitsItem};
 
     /// What no line says.
     pub fn new() -> Claim
-        ensures { IsClaim [] result.head result.items.items result.pages.items }
+        ensures { IsClaimOf [] result }
     {
         Claim {
             head: None,
+            tags: ArrayVec::new(),
             items: ArrayVec::new(),
             pages: ArrayVec::new(),
         }
@@ -41,13 +47,47 @@ impl Claim {
 
     /// How many lines say it.
     pub fn lines(&self) -> u32
-        ensures few { result ≤ 65 }
-        ensures count { (lines : List (List ℕ)) → IsClaim lines self.now.head self.now.items.items self.now.pages.items → result ≡ length lines }
+        ensures few { result ≤ 2115 }
+        ensures count { (lines : List (List ℕ)) → IsClaimOf lines self.now → result ≡ length lines }
     {
-        match self.head {
-            None => 0,
-            Some(_) => 1 + self.pages.len() as u32,
+        let Some(head) = self.head else {
+            return 0;
+        };
+        match head {
+            Head::Plan => self.tags.len() as u32 + self.items.len() as u32,
+            Head::TooLong => 1 + self.pages.len() as u32,
         }
+    }
+
+    /// Whether the last line is a tag line, so that its message has no item.
+    pub fn has_empty_group(&self) -> bool
+        ensures { MatchBool result (HasEmptyGroup self.now) (HasItems self.now) }
+    {
+        let Some(head) = self.head else {
+            return false;
+        };
+        match head {
+            Head::Plan => {
+                if self.items.len() + MAX_ITEMS == MAX_ITEMS * self.tags.len() {
+                    return true;
+                }
+                false
+            }
+            Head::TooLong => false,
+        }
+    }
+
+    /// Whether this is a tag line right behind a tag line.
+    pub fn is_second_tag(&self, line: &[u8]) -> bool
+        ensures { MatchBool result (IsSecond self.now line.now) (IsSingle self.now line.now) }
+    {
+        if self.has_empty_group() {
+            return match tag_of_line(line) {
+                Some(_) => true,
+                None => false,
+            };
+        }
+        false
     }
 
     /// Adds what a line says, if the line may stand here.
@@ -56,7 +96,7 @@ impl Claim {
     {
         match self.head {
             None => self.add_head(line),
-            Some(Head::Plan(_)) => self.add_item(line),
+            Some(Head::Plan) => self.add_row(line),
             Some(Head::TooLong) => self.add_page(line),
         }
     }
@@ -66,22 +106,46 @@ impl Claim {
         requires { self.old.head ≡ None }
         ensures { MatchBool result (SaysMore self.old self.new line.now) (SaysAll self.old line.now) }
     {
-        if line == b"too-long".as_slice() {
+        let long = b"too-long".as_slice();
+        if line == long {
             self.head = Some(Head::TooLong);
             return true;
         }
+        self.add_tag(line)
+    }
+
+    /// Adds the line of a tag or an item.
+    fn add_row(&mut self, line: &[u8]) -> bool
+        requires { self.old.head ≡ Some Head.Plan }
+        ensures { MatchBool result (SaysMore self.old self.new line.now) (SaysAll self.old line.now) }
+    {
+        if self.items.len() == MAX_ITEMS * self.tags.len() {
+            return self.add_tag(line);
+        }
+        self.add_item(line)
+    }
+
+    /// Adds the line of a tag, where one is due.
+    fn add_tag(&mut self, line: &[u8]) -> bool
+        requires { AwaitsTag self.old line.now }
+        ensures { MatchBool result (SaysMore self.old self.new line.now) (SaysAll self.old line.now) }
+    {
+        if self.tags.is_full() {
+            return false;
+        }
         match tag_of_line(line) {
             Some(tag) => {
-                self.head = Some(Head::Plan(tag));
+                self.head = Some(Head::Plan);
+                self.tags.push(tag);
                 true
             }
             None => false,
         }
     }
 
-    /// Adds the line of an item.
+    /// Adds the line of an item, where one is due.
     fn add_item(&mut self, line: &[u8]) -> bool
-        requires { (tag : ℕ) × (self.old.head ≡ Some (Head.Plan tag)) }
+        requires { AwaitsItem self.old }
         ensures { MatchBool result (SaysMore self.old self.new line.now) (SaysAll self.old line.now) }
     {
         if self.items.is_full() {

@@ -56,7 +56,8 @@ impl Found {
         requires { self.old.wrong ≡ None }
         ensures { (lines : List (List ℕ)) (bytes : List ℕ) → EndsSo ending line.now bytes → Reflects self.old lines → TakesOne ending self.new lines bytes }
     {
-        let number = self.claim.lines() + 1;
+        let before = self.claim.lines();
+        let number = before + 1;
         match ending {
             Ending::Cut => {
                 self.wrong = Some(WrongLine {
@@ -71,7 +72,15 @@ impl Found {
                 });
             }
             Ending::Whole => {
+                let second = self.claim.is_second_tag(line);
                 if self.claim.add(line) {
+                    return;
+                }
+                if second {
+                    self.wrong = Some(WrongLine {
+                        number: before,
+                        fault: LineFault::BadTokens,
+                    });
                     return;
                 }
                 self.wrong = Some(WrongLine {
@@ -82,17 +91,23 @@ impl Found {
         }
     }
 
-    /// The claim of the whole input with its head, or the first wrong line.
-    pub fn finish(self) -> Result<(Head, Claim), WrongLine>
-        ensures ok { IfOk result (λ found. (input : List ℕ) → HasEnded self input → IsWhole input found.1) }
-        ensures head { IfOk result (λ found. found.1.head ≡ Some found.0) }
-        ensures err { IfErr result (λ wrong. (input : List ℕ) → HasEnded self input → IsRefused input wrong) }
+    /// The head of the claim of the whole input, or the first wrong line.
+    pub fn finish(&self) -> Result<Head, WrongLine>
+        ensures ok { IfOk result (λ _. (input : List ℕ) → HasEnded self.now input → IsWhole input self.now.claim) }
+        ensures head { IfOk result (λ head. self.now.claim.head ≡ Some head) }
+        ensures err { IfErr result (λ wrong. (input : List ℕ) → HasEnded self.now input → IsRefused input wrong) }
     {
         if let Some(wrong) = self.wrong {
             return Err(wrong);
         }
+        if self.claim.has_empty_group() {
+            return Err(WrongLine {
+                number: self.claim.lines(),
+                fault: LineFault::BadTokens,
+            });
+        }
         match self.claim.head {
-            Some(head) => Ok((head, self.claim)),
+            Some(head) => Ok(head),
             None => Err(WrongLine {
                 number: 1,
                 fault: LineFault::BadTokens,

@@ -1,4 +1,5 @@
 ghost use Rattle.std.specs.Prelude.{◌≡◌, ℕ, Bool, List};
+ghost use Rattle.l4_fpage.specs.declared.sizes.PageSize.{PageSize as APageSize};
 ghost use Rattle.l4_msg.specs.declared.regions.Region.{Region as ARegion};
 ghost use Rattle.l4_plan_lines.specs.Answers.{IsAnswer};
 ghost use Rattle.l4_plan_lines.specs.Plans.{IsPlanText};
@@ -6,10 +7,10 @@ ghost use Rattle.l4_plan_lines.specs.declared.answers.Answer.{Answer as AnAnswer
 
 /// What is written of the plan of a region is one text, and it is either a plan or a refusal.
 pub fn plan_text_is_unique()
-    ensures { (r : ARegion) (a b : Bool) (s t : List ℕ) → IsPlanText r a s → IsPlanText r b t → (a ≡ b) × (s ≡ t) }
+    ensures { (size : APageSize) (r : ARegion) (a b : Bool) (s t : List ℕ) → IsPlanText size r a s → IsPlanText size r b t → (a ≡ b) × (s ≡ t) }
 {}
 
 /// There is one answer to an input about a region: one first wrong line, or one first fault of one claim, or one proof.
 pub fn answer_is_unique()
-    ensures { (r : ARegion) (input : List ℕ) (a b : AnAnswer) → IsAnswer r input a → IsAnswer r input b → a ≡ b }
+    ensures { (size : APageSize) (r : ARegion) (input : List ℕ) (a b : AnAnswer) → IsAnswer size r input a → IsAnswer size r input b → a ≡ b }
 {}

@@ -11,6 +11,7 @@ kernel_texts =
     (codes "B1", codes "the handle is empty")
     ∷ (codes "B2", codes "the handle isn't empty")
     ∷ (codes "B3", codes "there is no such kind of call")
+    ∷ (codes "B4", codes "a page has 4,096 or 1,024 bytes")
     ∷ (codes "K1", codes "nobody waits so: the transfer or expiry can't be done now")
     ∷ (codes "K2", codes "there is no thread of this number")
     ∷ (codes "K3", codes "the thread's last call goes on")
@@ -43,13 +44,15 @@ control_texts =
     ∷ (codes "U2", codes "an Unmap has fewer words than its control word says")
     ∷ []
 
--- why there is no plan of a region: the codes, each with a line that says what it means
+-- why there is no plan of a region, or no such message of a plan: the codes, each with a line that says what it means
 abbrev pub plan_texts : List (List ℕ × List ℕ)
 plan_texts =
     (codes "N1", codes "the region has no page")
-    ∷ (codes "N2", codes "the region goes beyond the 1,048,576 pages of a space")
+    ∷ (codes "N2", codes "the region goes beyond the pages of a space: 1,048,576, or 4,194,304 of 1,024 bytes")
     ∷ (codes "N3", codes "the region has no rights")
-    ∷ (codes "N4", codes "no 31 map items, as many as a message holds, move just the region")
+    ∷ (codes "N4", codes "no 1,984 map items, as many as 64 messages hold, move just the region")
+    ∷ (codes "N5", codes "the plan has more messages than one")
+    ∷ (codes "N6", codes "the plan has no message with this number")
     ∷ []
 
 -- why a plan isn't one: the codes, each with a line that says what it means
@@ -59,7 +62,7 @@ check_texts =
     ∷ (codes "C2", codes "no item moves the page")
     ∷ (codes "C3", codes "the page at this place of the list isn't one of the region's")
     ∷ (codes "C4", codes "one map item could move the page at this place together with an earlier one, so the pages don't show that no list is shorter")
-    ∷ (codes "C5", codes "more than 31 items, or not one page an item; or not 32 pages")
+    ∷ (codes "C5", codes "more than 1,984 items, or not one page an item; or not 1,985 pages")
     ∷ (codes "C6", codes "the region is refused by N1, N2 or N3")
     ∷ []
 

@@ -19,13 +19,14 @@ fn meaning(code: &'static [u8], line: &'static [u8]) -> Text
 }
 
 /// What the library and the kernel refuse.
-fn kernel_texts() -> [Text; 8]
+fn kernel_texts() -> [Text; 9]
     ensures { map bytes_of result ≡ kernel_texts }
 {
     [
         meaning(b"B1", b"the handle is empty"),
         meaning(b"B2", b"the handle isn't empty"),
         meaning(b"B3", b"there is no such kind of call"),
+        meaning(b"B4", b"a page has 4,096 or 1,024 bytes"),
         meaning(
             b"K1",
             b"nobody waits so: the transfer or expiry can't be done now",
@@ -86,21 +87,23 @@ fn control_texts() -> [Text; 8]
     ]
 }
 
-/// Why there is no plan of a region.
-fn plan_texts() -> [Text; 4]
+/// Why there is no plan of a region, or no such message of a plan.
+fn plan_texts() -> [Text; 6]
     ensures { map bytes_of result ≡ plan_texts }
 {
     [
         meaning(b"N1", b"the region has no page"),
         meaning(
             b"N2",
-            b"the region goes beyond the 1,048,576 pages of a space",
+            b"the region goes beyond the pages of a space: 1,048,576, or 4,194,304 of 1,024 bytes",
         ),
         meaning(b"N3", b"the region has no rights"),
         meaning(
             b"N4",
-            b"no 31 map items, as many as a message holds, move just the region",
+            b"no 1,984 map items, as many as 64 messages hold, move just the region",
         ),
+        meaning(b"N5", b"the plan has more messages than one"),
+        meaning(b"N6", b"the plan has no message with this number"),
     ]
 }
 
@@ -124,7 +127,7 @@ fn check_texts() -> [Text; 6]
         ),
         meaning(
             b"C5",
-            b"more than 31 items, or not one page an item; or not 32 pages",
+            b"more than 1,984 items, or not one page an item; or not 1,985 pages",
         ),
         meaning(b"C6", b"the region is refused by N1, N2 or N3"),
     ]

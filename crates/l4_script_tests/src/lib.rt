@@ -8,7 +8,7 @@ mod packed;
 #[cfg(test)]
 mod plan_lines;
 #[cfg(test)]
-mod seats;
+mod recorder;
 #[cfg(test)]
 mod servers;
 #[cfg(test)]

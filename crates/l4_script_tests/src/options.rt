@@ -1,4 +1,4 @@
-use l4_fpage::Rights;
+use l4_fpage::{PageSize, Rights};
 use l4_msg::Region;
 use l4_options::{OptionFault, Options, StepOptions, options, step_options};
 use std::test::Fail;
@@ -7,12 +7,13 @@ use std::test::Fail;
 fn reads_frames(rt: HostRuntime) -> Result<(), Fail> {
     for (word, frames) in [("1", 1), ("4096", 4096), ("007", 7)] {
         let words = ["l4", "run", "--frames", word];
-        let Ok(Options::Run { frames: got }) = options(rt.alloc(), words.as_slice()) else {
+        let Ok(Options::Run { frames: got, .. }) = options(rt.alloc(), words.as_slice()) else {
             return Err("not understood".into());
         };
         assert_eq!(rt; got, frames);
         let words = ["l4_steps", "--frames", word];
-        let Ok(StepOptions::Run { frames: got }) = step_options(rt.alloc(), words.as_slice()) else {
+        let Ok(StepOptions::Run { frames: got, .. }) = step_options(rt.alloc(), words.as_slice())
+        else {
             return Err("not understood".into());
         };
         assert_eq!(rt; got, frames);
@@ -21,7 +22,10 @@ fn reads_frames(rt: HostRuntime) -> Result<(), Fail> {
     assert!(rt;
         matches!(
             options(rt.alloc(), words.as_slice()),
-            Ok(Options::Run { frames: 256 })
+            Ok(Options::Run {
+                frames: 256,
+                size: PageSize::Kib4
+            })
         )
     );
     for word in ["0", "4097", "+5", "0x10", ""] {
@@ -37,10 +41,70 @@ fn reads_frames(rt: HostRuntime) -> Result<(), Fail> {
     Ok(())
 }
 
-/// A plan of just this region is asked.
+#[test]
+fn reads_page_sizes(rt: HostRuntime) -> Result<(), Fail> {
+    for (word, size) in [
+        ("4096", PageSize::Kib4),
+        ("1024", PageSize::Kib1),
+        ("01024", PageSize::Kib1),
+    ] {
+        let words = ["l4", "run", "--frames=5", "--page-size", word];
+        let Ok(
+            Options::Run {
+                frames: 5,
+                size: got,
+            },
+        ) = options(rt.alloc(), words.as_slice())
+        else {
+            return Err("not understood".into());
+        };
+        assert!(rt; got == size);
+        let words = ["l4_steps", "--page-size", word];
+        let Ok(
+            StepOptions::Run {
+                frames: 256,
+                size: got,
+            },
+        ) = step_options(rt.alloc(), words.as_slice())
+        else {
+            return Err("not understood".into());
+        };
+        assert!(rt; got == size);
+        let words = ["l4", "plan", "16", "32", "1", "rwx", "--page-size", word];
+        let Ok(Options::Plan { size: got, .. }) = options(rt.alloc(), words.as_slice()) else {
+            return Err("not understood".into());
+        };
+        assert!(rt; got == size);
+        let words = ["l4", "check", "--page-size", word, "16", "32", "1", "rwx"];
+        let Ok(Options::Check { size: got, .. }) = options(rt.alloc(), words.as_slice()) else {
+            return Err("not understood".into());
+        };
+        assert!(rt; got == size);
+    }
+    for word in ["2048", "4", "0x400", "+1024", "1k", ""] {
+        let words = ["l4", "run", "--page-size", word];
+        assert!(rt;
+            matches!(
+                options(rt.alloc(), words.as_slice()),
+                Err(OptionFault::Pages(_))
+            ),
+            "{word}"
+        );
+    }
+    let words = ["l4", "run", "--page-size", "1024", "--page-size", "1024"];
+    assert!(rt;
+        matches!(
+            options(rt.alloc(), words.as_slice()),
+            Err(OptionFault::Words(_))
+        )
+    );
+    Ok(())
+}
+
+/// A plan of just this region of large pages is asked.
 fn is_planned(asked: &Options, owed: &Region) -> bool {
     match asked {
-        Options::Plan { region } => region == owed,
+        Options::Plan { region, size } => region == owed && *size == PageSize::Kib4,
         _ => false,
     }
 }

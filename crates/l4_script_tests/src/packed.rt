@@ -1,15 +1,15 @@
 ghost use Rattle.std.specs.Prelude.{◌≡◌, length, Some, true};
 
 use arrayvec::ArrayVec;
+use l4_codes::{
+    push_next, push_own_start, put_answer, put_reply, put_span, put_step, read_answer, read_reply,
+    read_span, read_step,
+};
 use l4_ipc::{
     Answer, Call, Control, Create, FaultCall, IpcCall, IpcReply, MAX_WORDS, NextStep, Outcome,
     Reply, Rights, SetPager, Step, ThreadId, UnmapCall,
 };
-use l4_packed::{
-    FromWords, PackedList, Record, Records, StepOutline, Words, push_next, push_own_start,
-    put_answer, put_reply, put_span, put_step, read_answer, read_outline, read_reply, read_span,
-    read_step, read_word,
-};
+use l4_packed::{FromWords, PackedList, Record, Records, Words, read_word};
 use std::alloc::AllocError;
 use std::process::Abort;
 use std::test::Fail;
@@ -131,14 +131,6 @@ fn replies_are_read_back(rt: HostRuntime) {
     check_reply(&rt, &Reply::Gone);
 }
 
-#[test]
-fn a_step_is_outlined(rt: HostRuntime) {
-    let mut out = Record::new();
-    put_step(&mut out, &Step::Transfer(1, 0xffff_ffff));
-    let read = read_outline(out.words());
-    assert!(rt; matches!(read, Some(StepOutline::Transfer(1, 0xffff_ffff))));
-}
-
 /// Whether two places are read as they were written.
 fn is_read_back(start: usize, end: usize) -> bool {
     let mut out = Record::new();
@@ -187,7 +179,7 @@ fn is_that(words: Option<Words<'_>>, number: u32) -> bool {
 #[test]
 fn records_are_read_back(rt: HostRuntime) -> Result<(), Fail> {
     let mut records = Records::new(rt.alloc());
-    assert!(rt; records.is_empty());
+    assert!(rt; records.len() == 0);
     for i in 0..MANY {
         records.reserve(1)?;
         records.push(&some_record(i).words());

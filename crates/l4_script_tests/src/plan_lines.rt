@@ -1,4 +1,4 @@
-use l4_fpage::Rights;
+use l4_fpage::{PageSize, Rights};
 use l4_msg::Region;
 use l4_plan_lines::{RunFault, check_lines, plan_lines};
 use l4_text::{Drip, Sip};
@@ -17,7 +17,7 @@ fn region(source: u32, target: u32, count: u32) -> Region {
 /// Whether these lines are written for the plan of a region.
 fn is_planned(rt: &HostRuntime, region: &Region, lines: &[u8], plan: bool) -> Result<bool, Fail> {
     let mut out = Vec::new(rt.alloc());
-    let answered = plan_lines(region, &mut out);
+    let answered = plan_lines(region, PageSize::Kib4, &mut out);
     Ok(answered == Ok(plan) && out.as_slice() == lines)
 }
 
@@ -26,7 +26,7 @@ fn is_answered(rt: &HostRuntime, region: &Region, lines: &[u8], line: &[u8]) -> 
     let mut out = Vec::new(rt.alloc());
     let mut reader = lines;
     let proved = line.starts_with(b"proved");
-    let answered = check_lines(region, &mut reader, &mut out);
+    let answered = check_lines(region, PageSize::Kib4, &mut reader, &mut out);
     Ok(answered == Ok(proved) && out.as_slice() == line)
 }
 
@@ -45,6 +45,20 @@ fn plans(rt: HostRuntime) -> Result<(), Fail> {
         ..region(0, 0, 1)
     };
     assert!(rt; is_planned(&rt, &none, b"refused N3\n", false)?);
+    Ok(())
+}
+
+/// Plans by pages of 1 KiB: of one page, and of a whole space.
+#[test]
+fn plans_small_pages(rt: HostRuntime) -> Result<(), Fail> {
+    let mut out = Vec::new(rt.alloc());
+    let one = plan_lines(&region(16, 32, 1), PageSize::Kib1, &mut out);
+    let whole = plan_lines(&region(0, 0, 4_194_304), PageSize::Kib1, &mut out);
+    let beyond = plan_lines(&region(4_194_303, 0, 2), PageSize::Kib1, &mut out);
+    assert!(rt; [one, whole, beyond] == [Ok(true), Ok(true), Ok(false)]);
+    let lines: &[u8] =
+        b"tag 00000080\nitem 00008008 000040a7 page 16\ntag 00000080\nitem 00000008 00000017 page 0\nrefused N2\n";
+    assert!(rt; out.as_slice() == lines);
     Ok(())
 }
 
@@ -107,33 +121,38 @@ fn refuses_a_long_line(rt: HostRuntime) -> Result<(), Fail> {
     Ok(())
 }
 
+/// Source and target lie a page apart, so each page takes an item of its own.
 #[test]
 fn a_long_plan_is_written_and_proved(rt: HostRuntime) -> Result<(), Fail> {
-    for count in [31, 32] {
+    let answers: [(u32, &[u8]); 4] = [
+        (31, b"proved 31\n"),
+        (32, b"proved 32\n"),
+        (1_984, b"proved 1984\n"),
+        (1_985, b"proved too-long\n"),
+    ];
+    for (count, answer) in answers {
         let whole = region(0, 1, count);
         let mut out = Vec::new(rt.alloc());
-        assert_eq!(rt; plan_lines(&whole, &mut out), Ok(count == 31));
-        let answer = if count == 31 {
-            b"proved 31\n".as_slice()
-        } else {
-            b"proved too-long\n".as_slice()
-        };
+        assert_eq!(rt;
+            plan_lines(&whole, PageSize::Kib4, &mut out),
+            Ok(count < 1_985)
+        );
         assert!(rt; is_answered(&rt, &whole, out.as_slice(), answer)?);
     }
     Ok(())
 }
 
 #[test]
-fn refuses_the_first_line_past_64(rt: HostRuntime) -> Result<(), Fail> {
+fn refuses_the_first_page_past_2048(rt: HostRuntime) -> Result<(), Fail> {
     let whole = region(0, 1, 32);
     let mut lines = Vec::new(rt.alloc());
     lines.extend_from_slice(b"too-long\n")?;
-    for _ in 0..64 {
+    for _ in 0..2_048 {
         lines.extend_from_slice(b"page 7\n")?;
     }
     assert!(rt; is_answered(&rt, &whole, lines.as_slice(), b"fault C5\n")?);
     lines.extend_from_slice(b"page 7\nx")?;
-    assert!(rt; is_answered(&rt, &whole, lines.as_slice(), b"line 66 refused S2\n")?);
+    assert!(rt; is_answered(&rt, &whole, lines.as_slice(), b"line 2050 refused S2\n")?);
     Ok(())
 }
 
@@ -154,21 +173,21 @@ fn faults_of_reader_and_writer(rt: HostRuntime) -> Result<(), Fail> {
         calls: 0,
     };
     assert_eq!(rt;
-        check_lines(&whole, &mut broken, &mut out),
+        check_lines(&whole, PageSize::Kib4, &mut broken, &mut out),
         Err(RunFault::Read)
     );
     assert!(rt; out.is_empty());
     assert_eq!(rt;
-        plan_lines(&whole, &mut taking(&rt, 40)),
+        plan_lines(&whole, PageSize::Kib4, &mut taking(&rt, 40)),
         Err(RunFault::Write)
     );
     assert_eq!(rt;
-        plan_lines(&region(0, 0, 0), &mut taking(&rt, 11)),
+        plan_lines(&region(0, 0, 0), PageSize::Kib4, &mut taking(&rt, 11)),
         Ok(false)
     );
     let mut reader = b"".as_slice();
     assert_eq!(rt;
-        check_lines(&whole, &mut reader, &mut taking(&rt, 3)),
+        check_lines(&whole, PageSize::Kib4, &mut reader, &mut taking(&rt, 3)),
         Err(RunFault::Write)
     );
     Ok(())

@@ -1,5 +1,5 @@
-use l4_fpage::{Fpage, Rights};
-use l4_ipc::{Call, Kernel, ThreadId};
+use l4_fpage::{Fpage, PageSize, Rights};
+use l4_ipc::{Answer, ArrayVec, Call, Kernel, Outcome, ThreadId};
 use l4_pager::{Entry, PagerRefusal, wait};
 use l4_servers::{RegionRefusal, Servers};
 use std::alloc::Global;
@@ -17,7 +17,7 @@ fn region() -> Entry {
 
 #[test]
 fn adds_regions(rt: HostRuntime) -> Result<(), Fail> {
-    let mut servers = Servers::new(rt.alloc(), 256);
+    let mut servers = Servers::new(rt.alloc(), 256, PageSize::Kib4);
     assert!(rt; servers.add_region(4, region()).is_ok());
     assert_eq!(rt;
         servers.add_region(4, region()),
@@ -31,7 +31,7 @@ fn adds_regions(rt: HostRuntime) -> Result<(), Fail> {
 
 #[test]
 fn serves_threads(rt: HostRuntime) -> Result<(), Fail> {
-    let mut servers = Servers::new(rt.alloc(), 256);
+    let mut servers = Servers::new(rt.alloc(), 256, PageSize::Kib4);
     assert!(rt; servers.serve(4) == Ok(true));
     assert!(rt; servers.serve(4) == Ok(false));
     servers.take_back(4);
@@ -44,9 +44,13 @@ fn three_threads(alloc: Global) -> Option<Kernel> {
     let third = ThreadId(3 * 0x4000 + 1);
     let create = Call::create(third, third, ThreadId::nil());
     let unmap = Call::unmap(false, &[Fpage::Nil])?;
-    let mut kernel = Kernel::boot(alloc, 256).ok()?;
+    let mut kernel = Kernel::boot(alloc, 256, PageSize::Kib4).ok()?;
+    let mut answer = Answer {
+        outcome: Outcome::Started,
+        ended: ArrayVec::new(),
+    };
     for (number, call) in [(2, &create), (1, &unmap), (3, &unmap)] {
-        let Ok(true) = kernel.enter(number, call) else {
+        let Ok(()) = kernel.start(number, call, &mut answer) else {
             return None;
         };
     }
@@ -57,7 +61,7 @@ fn three_threads(alloc: Global) -> Option<Kernel> {
 #[test]
 fn serves_by_rising_number(rt: HostRuntime) {
     let kernel = three_threads(rt.alloc()).expect(&rt, "a kernel");
-    let mut servers = Servers::new(rt.alloc(), 256);
+    let mut servers = Servers::new(rt.alloc(), 256, PageSize::Kib4);
     assert_eq!(rt; servers.first_ready(&kernel), None);
     assert_eq!(rt;
         [
@@ -86,7 +90,7 @@ fn serves_by_rising_number(rt: HostRuntime) {
 #[test]
 fn receives_after_no_message(rt: HostRuntime) {
     let kernel = three_threads(rt.alloc()).expect(&rt, "a kernel");
-    let mut servers = Servers::new(rt.alloc(), 256);
+    let mut servers = Servers::new(rt.alloc(), 256, PageSize::Kib4);
     let mut call = Call::delete(ThreadId::nil());
     servers.act_into(&kernel, 3, &mut call);
     assert!(rt; call == wait());

@@ -20,8 +20,9 @@ use Rattle.l4_servers.specs.Servers.{Servers, servers, is_served}
 use Rattle.l4_servers.specs.Acting.{NoneReady, IsFirstReady}
 use Rattle.l4_servers.proofs.Kept.{equal}
 use Rattle.l4_servers.proofs.Numbers.{Numbers, has, served_by, held}
+use Rattle.l4_pager.specs.Regions.{Regions}
 
-served_is : (s : Servers) (o : Owners) (tables : fin.FinMap nat_cmp (List Entry)) (ks : Numbers) (n : ℕ) → servers o tables (served_by ks) ≡ s → is_served s n ≡ has n ks
+served_is : (s : Servers) (o : Owners) (tables : fin.FinMap nat_cmp Regions) (ks : Numbers) (n : ℕ) → servers o tables (served_by ks) ≡ s → is_served s n ≡ has n ks
 served_is s o tables ks n view = ap (λ (x : Servers). is_served x n) (sym view) ∙ held ks n
 
 -- the numbers that are left rise, are served, and whoever is ready is one of them
@@ -30,7 +31,7 @@ pub record Looking (t : Threads) (s : Servers) (rest : Numbers) : Type 0 where
   pub within : (q : ℕ) → has q rest ≡ true → is_served s q ≡ true
   pub among : (q : ℕ) → is_served s q ≡ true → IsSome (reply_of t q) → has q rest ≡ true
 
-pub looking_first : (t : Threads) (s : Servers) (o : Owners) (tables : fin.FinMap nat_cmp (List Entry)) (ks : Numbers) (served : set.FinSet nat_cmp) → servers o tables served ≡ s → served_by ks ≡ served
+pub looking_first : (t : Threads) (s : Servers) (o : Owners) (tables : fin.FinMap nat_cmp Regions) (ks : Numbers) (served : set.FinSet nat_cmp) → servers o tables served ≡ s → served_by ks ≡ served
     → IsStrictlySortedBy nat_cmp ks → Looking t s ks
 looking_first t s o tables ks served view is sorted =
     let seen : servers o tables (served_by ks) ≡ s = ap (servers o tables) is ∙ view in

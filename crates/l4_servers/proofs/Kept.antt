@@ -14,6 +14,7 @@ use Rattle.std.proofs.lemmas.Bool.{false≢true}
 use Rattle.l4_sigma0.specs.Owners.{Owners}
 use Rattle.l4_pager.specs.declared.regions.Entry.{Entry}
 use Rattle.l4_servers.specs.Servers.{Servers, servers, regions_of, HasNoTable, is_served, with_region, with_served, without}
+use Rattle.l4_pager.specs.Regions.{Regions, no_entries, with_entry}
 
 -- KEYS
 
@@ -31,22 +32,22 @@ equal a b e = nat_cmp-IsAntisymmetric a b (is_equal (nat_cmp a b) e)
 -- TABLES
 
 abbrev pub Tables : Type 0
-Tables = List (ℕ × List Entry)
+Tables = List (ℕ × Regions)
 
-abbrev pub at : ℕ → Tables → Option (List Entry)
+abbrev pub at : ℕ → Tables → Option Regions
 at n es = lookup (is_at (nat_cmp n)) es
 
-abbrev pub seen : Tables → fin.FinMap nat_cmp (List Entry)
+abbrev pub seen : Tables → fin.FinMap nat_cmp Regions
 seen es = fin.from_entries es
 
 found : (es : Tables) (q : ℕ) → fin.find nat_cmp q es ≡ at q es
 found [] q = refl
-found (e ∷ es) q = ap (λ (o : Option (List Entry)). cond (is_at (nat_cmp q) e.0) (Some e.1) o) (found es q)
+found (e ∷ es) q = ap (λ (o : Option Regions). cond (is_at (nat_cmp q) e.0) (Some e.1) o) (found es q)
 
 got : (es : Tables) (q : ℕ) → fin.get (seen es) q ≡ at q es
 got es q = fin.get-from_entries nat_cmp_total es q ∙ found es q
 
-put : (es new : Tables) (n : ℕ) (v : List Entry) → ((q : ℕ) → at q new ≡ cond (is_at (nat_cmp n) q) (Some v) (at q es)) → seen new ≡ fin.insert (seen es) n v
+put : (es new : Tables) (n : ℕ) (v : Regions) → ((q : ℕ) → at q new ≡ cond (is_at (nat_cmp n) q) (Some v) (at q es)) → seen new ≡ fin.insert (seen es) n v
 put es new n v h = fin.same_map nat_cmp_total nat_cmp-IsAntisymmetric _ _ (λ q.
     got new q ∙ h q ∙ ap (λ b. cond b (Some v) (at q es)) (same_key n q)
     ∙ ap (cond (eq_by_cmp nat_cmp q n) (Some v)) (sym (got es q)) ∙ sym (fin.get-insert nat_cmp_total (seen es) n v q))
@@ -57,21 +58,21 @@ taken es new n h = fin.same_map nat_cmp_total nat_cmp-IsAntisymmetric _ _ (λ q.
     ∙ ap (cond (eq_by_cmp nat_cmp q n) None) (sym (got es q)) ∙ sym (fin.get-remove nat_cmp_total (seen es) n q))
 
 -- the regions of a thread with a table, and of one without
-pub has_regions : (s : Servers) (o : Owners) (es : Tables) (served : set.FinSet nat_cmp) (n : ℕ) (v : List Entry) → servers o (seen es) served ≡ s → Some v ≡ at n es → v ≡ regions_of s n
-has_regions s o es served n v view h = ap (λ (t : Option (List Entry)). unwrap_or t []) (h ∙ sym (got es n)) ∙ ap (λ (x : Servers). regions_of x n) view
+pub has_regions : (s : Servers) (o : Owners) (es : Tables) (served : set.FinSet nat_cmp) (n : ℕ) (v : Regions) → servers o (seen es) served ≡ s → Some v ≡ at n es → v ≡ regions_of s n
+has_regions s o es served n v view h = ap (λ (t : Option Regions). unwrap_or t (no_entries o.size)) (h ∙ sym (got es n)) ∙ ap (λ (x : Servers). regions_of x n) view
 
-pub no_regions : (s : Servers) (o : Owners) (es : Tables) (served : set.FinSet nat_cmp) (n : ℕ) → servers o (seen es) served ≡ s → None ≡ at n es → [] ≡ regions_of s n
-no_regions s o es served n view h = ap (λ (t : Option (List Entry)). unwrap_or t []) (h ∙ sym (got es n)) ∙ ap (λ (x : Servers). regions_of x n) view
+pub no_regions : (s : Servers) (o : Owners) (es : Tables) (served : set.FinSet nat_cmp) (n : ℕ) → servers o (seen es) served ≡ s → None ≡ at n es → no_entries o.size ≡ regions_of s n
+no_regions s o es served n view h = ap (λ (t : Option Regions). unwrap_or t (no_entries o.size)) (h ∙ sym (got es n)) ∙ ap (λ (x : Servers). regions_of x n) view
 
 pub no_table : (s : Servers) (o : Owners) (es : Tables) (served : set.FinSet nat_cmp) (n : ℕ) → servers o (seen es) served ≡ s → None ≡ at n es → HasNoTable s n
 no_table s o es served n view h = sym (ap (λ (x : Servers). fin.get x.tables n) view) ∙ got es n ∙ sym h
 
 -- a table with one region more
-pub region_added : (s : Servers) (o : Owners) (es mid new : Tables) (served : set.FinSet nat_cmp) (n : ℕ) (entry : Entry) (old v : List Entry) → servers o (seen es) served ≡ s
-    → old ≡ regions_of s n → v ≡ old ++ entry ∷ [] → mid ≡ es → ((q : ℕ) → at q new ≡ cond (is_at (nat_cmp n) q) (Some v) (at q mid)) → servers o (seen new) served ≡ with_region s n entry
+pub region_added : (s : Servers) (o : Owners) (es mid new : Tables) (served : set.FinSet nat_cmp) (n : ℕ) (entry : Entry) (old v : Regions) → servers o (seen es) served ≡ s
+    → old ≡ regions_of s n → v ≡ with_entry old entry → mid ≡ es → ((q : ℕ) → at q new ≡ cond (is_at (nat_cmp n) q) (Some v) (at q mid)) → servers o (seen new) served ≡ with_region s n entry
 region_added s o es mid new served n entry old v view is more same h =
-    ap (λ (t : fin.FinMap nat_cmp (List Entry)). servers o t served) (put es new n v (λ q. h q ∙ ap (λ (x : Tables). cond (is_at (nat_cmp n) q) (Some v) (at q x)) same) ∙ ap (fin.insert (seen es) n) (more ∙ ap (λ (x : List Entry). x ++ entry ∷ []) is))
-    ∙ ap (λ (x : Servers). servers x.owners (fin.insert x.tables n (regions_of s n ++ entry ∷ [])) x.served) view
+    ap (λ (t : fin.FinMap nat_cmp Regions). servers o t served) (put es new n v (λ q. h q ∙ ap (λ (x : Tables). cond (is_at (nat_cmp n) q) (Some v) (at q x)) same) ∙ ap (fin.insert (seen es) n) (more ∙ ap (λ (x : Regions). with_entry x entry) is))
+    ∙ ap (λ (x : Servers). servers x.owners (fin.insert x.tables n (with_entry (regions_of s n) entry)) x.served) view
 
 -- the tables as they were
 pub same_tables : (s : Servers) (o : Owners) (es new : Tables) (served : set.FinSet nat_cmp) → servers o (seen es) served ≡ s → new ≡ es → servers o (seen new) served ≡ s
@@ -82,20 +83,20 @@ same_tables s o es new served view e = ap (λ (x : Tables). servers o (seen x) s
 abbrev pub Served : Type 0
 Served = set.FinSet nat_cmp
 
-pub is_in : (s : Servers) (o : Owners) (tables : fin.FinMap nat_cmp (List Entry)) (served : Served) (n : ℕ) → servers o tables served ≡ s → is_served s n ≡ set.contains served n
+pub is_in : (s : Servers) (o : Owners) (tables : fin.FinMap nat_cmp Regions) (served : Served) (n : ℕ) → servers o tables served ≡ s → is_served s n ≡ set.contains served n
 is_in s o tables served n view = ap (λ (x : Servers). is_served x n) (sym view)
 
-pub serves : (s : Servers) (o : Owners) (tables : fin.FinMap nat_cmp (List Entry)) (served new : Served) (n : ℕ) → servers o tables served ≡ s → new ≡ set.insert served n
+pub serves : (s : Servers) (o : Owners) (tables : fin.FinMap nat_cmp Regions) (served new : Served) (n : ℕ) → servers o tables served ≡ s → new ≡ set.insert served n
     → servers o tables new ≡ with_served s n
 serves s o tables served new n view is = ap (servers o tables) is ∙ ap (λ (x : Servers). servers x.owners x.tables (set.insert x.served n)) view
 
-pub same_served : (s : Servers) (o : Owners) (tables : fin.FinMap nat_cmp (List Entry)) (served new : Served) → servers o tables served ≡ s → new ≡ served → servers o tables new ≡ s
+pub same_served : (s : Servers) (o : Owners) (tables : fin.FinMap nat_cmp Regions) (served new : Served) → servers o tables served ≡ s → new ≡ served → servers o tables new ≡ s
 same_served s o tables served new view e = ap (servers o tables) e ∙ view
 
 pub forgets : (s : Servers) (o : Owners) (es new : Tables) (served later : Served) (n : ℕ) → servers o (seen es) served ≡ s
     → ((q : ℕ) → at q new ≡ cond (is_at (nat_cmp n) q) None (at q es)) → later ≡ set.remove served n → servers o (seen new) later ≡ without s n
 forgets s o es new served later n view h is =
-    ap (λ (t : fin.FinMap nat_cmp (List Entry)). servers o t later) (taken es new n h) ∙ ap (servers o (fin.remove (seen es) n)) is
+    ap (λ (t : fin.FinMap nat_cmp Regions). servers o t later) (taken es new n h) ∙ ap (servers o (fin.remove (seen es) n)) is
     ∙ ap (λ (x : Servers). servers x.owners (fin.remove x.tables n) (set.remove x.served n)) view
 
 -- whom a set does not have is put in and taken out again
@@ -108,7 +109,7 @@ set_as_before s n h = set.same_set nat_cmp_total nat_cmp-IsAntisymmetric _ _ (λ
     set.contains-remove nat_cmp_total (set.insert s n) n q ∙ ap (λ b. not (eq_by_cmp nat_cmp q n) && b) (set.contains-insert nat_cmp_total s n q)
     ∙ put_and_taken (eq_by_cmp nat_cmp q n) (set.contains s q) (λ e. ap (set.contains s) (equal q n e) ∙ h))
 
-pub takes_back : (s before : Servers) (o : Owners) (tables : fin.FinMap nat_cmp (List Entry)) (served new : Served) (n : ℕ) → servers o tables served ≡ s
+pub takes_back : (s before : Servers) (o : Owners) (tables : fin.FinMap nat_cmp Regions) (served new : Served) (n : ℕ) → servers o tables served ≡ s
     → new ≡ set.remove served n → is_served before n ≡ false → s ≡ with_served before n → servers o tables new ≡ before
 takes_back s before o tables served new n view gone none is =
     ap (servers o tables) gone

@@ -7,38 +7,39 @@ use Rattle.std.specs.FinMap as fin
 use Rattle.std.specs.FinSet as set
 use Rattle.l4_sigma0.specs.Owners.{Owners, owners_code}
 use Rattle.l4_pager.specs.declared.regions.Entry.{Entry}
-use Rattle.l4_pager.specs.Regions.{AddFails, CanAdd}
+use Rattle.l4_pager.specs.Regions.{AddFails, CanAdd, Regions, no_entries, with_entry, regions_code}
 use Rattle.l4_servers.specs.declared.servers.RegionRefusal.{RegionRefusal}
 use Rattle.l4_servers.specs.declared.servers.RegionRefusal.TheVariants.{Pager, NoMemory}
+use Rattle.l4_fpage.specs.declared.sizes.PageSize.{PageSize}
 
 -- sigma0's table of owners, the region tables by the numbers of their threads, and the numbers of the threads that are served
 pub record Servers : Type 0 where
   pub owners : Owners
-  pub tables : fin.FinMap nat_cmp (List Entry)
+  pub tables : fin.FinMap nat_cmp Regions
   pub served : set.FinSet nat_cmp
 
-abbrev pub servers : Owners → fin.FinMap nat_cmp (List Entry) → set.FinSet nat_cmp → Servers
+abbrev pub servers : Owners → fin.FinMap nat_cmp Regions → set.FinSet nat_cmp → Servers
 servers owners tables served = record { owners = owners; tables = tables; served = served }
 
 abbrev pub servers_code : Coded Entry → Coded Servers
 servers_code entry =
-    code_by (Owners × (fin.FinMap nat_cmp (List Entry) × set.FinSet nat_cmp)) (coded× owners_code (coded× (fin.code coded_ℕ (coded_list entry)) (set.code coded_ℕ)))
+    code_by (Owners × (fin.FinMap nat_cmp Regions × set.FinSet nat_cmp)) (coded× owners_code (coded× (fin.code coded_ℕ (regions_code entry)) (set.code coded_ℕ)))
     (λ s. (s.owners, (s.tables, s.served))) (λ p. servers p.0 p.1.0 p.1.1) (λ _. refl)
 
 -- at the start no frame has an owner, no thread has a table, and nobody is served
-abbrev pub no_servers : ℕ → Servers
-no_servers frames = servers (record { frames = frames; owner = fin.empty }) fin.empty set.empty
+abbrev pub no_servers : PageSize → ℕ → Servers
+no_servers size frames = servers (record { size = size; frames = frames; owner = fin.empty }) fin.empty set.empty
 
 -- the thread's regions; a thread without a table has none
-abbrev pub regions_of : Servers → ℕ → List Entry
-regions_of s thread = unwrap_or (fin.get s.tables thread) []
+abbrev pub regions_of : Servers → ℕ → Regions
+regions_of s thread = unwrap_or (fin.get s.tables thread) (no_entries s.owners.size)
 
 abbrev pub is_served : Servers → ℕ → Bool
 is_served s thread = set.contains s.served thread
 
 -- one more region in the thread's table
 abbrev pub with_region : Servers → ℕ → Entry → Servers
-with_region s thread entry = servers s.owners (fin.insert s.tables thread (regions_of s thread ++ entry ∷ [])) s.served
+with_region s thread entry = servers s.owners (fin.insert s.tables thread (with_entry (regions_of s thread) entry)) s.served
 
 -- the thread is served too
 abbrev pub with_served : Servers → ℕ → Servers

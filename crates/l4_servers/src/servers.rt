@@ -3,7 +3,7 @@ ghost use Rattle.std.specs.Prelude.{◌≡◌, ◌%◌, not, IfOk, OnErr, MatchO
 ghost use Rattle.l4_msg.specs.Messages.{CanBeWritten};
 
 use crate::served::ServedThreads;
-use l4_fpage::Fpage;
+use l4_fpage::{Fpage, PageSize};
 use l4_ipc::{Call, Kernel, NoMemory, Reply};
 use l4_msg::Message;
 use l4_pager::{
@@ -82,12 +82,12 @@ impl Servers {
     ghost use Rattle.l4_pager.specs.Briefs.{brief_message};
 
     /// No frame has an owner, no thread has a table, and nobody is served. `frames` is at most 4,096.
-    pub fn new(alloc: Global, frames: u32) -> Servers
+    pub fn new(alloc: Global, frames: u32, size: PageSize) -> Servers
         requires { frames ≤ max_frames }
-        ensures { result ≡ no_servers frames }
+        ensures { result ≡ no_servers size frames }
     {
         Servers {
-            owners: Sigma0::new(frames),
+            owners: Sigma0::new(frames, size),
             tables: BTreeMap::new(alloc),
             served: ServedThreads::new(alloc),
             guess: 0,
@@ -107,7 +107,7 @@ impl Servers {
             };
             return Err(RegionRefusal::Pager(refusal));
         }
-        let mut table = RegionPager::new();
+        let mut table = RegionPager::new(self.owners.page_size());
         if let Err(refusal) = table.add(entry) {
             return Err(RegionRefusal::Pager(refusal));
         }
@@ -164,7 +164,7 @@ impl Servers {
     {
         match self.tables.get(&thread) {
             Some(table) => table.answer(message),
-            None => RegionPager::new().answer(message),
+            None => RegionPager::new(self.owners.page_size()).answer(message),
         }
     }
 

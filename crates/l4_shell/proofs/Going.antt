@@ -1,97 +1,44 @@
 -- The entries of calls and the acts of served threads, told one after another.
-use Rattle.std.proofs.Common.{◌≡◌, ℕ, zero, suc, ◌+◌, ◌<◌, ◌≤◌, Bool, true, false, ◌||◌, length, length-append, map, drop, slice_get, Contains, arith, List, [], ◌∷◌, ◌++◌, Option, Some, None, Ok, inl, inr, sym, ap, subst, ◌∙◌, refl, nat_eq}
+use Rattle.std.proofs.Common.{◌≡◌, ℕ, suc, ◌+◌, ◌<◌, ◌≤◌, Bool, true, false, ◌||◌, length, length-append, map, Contains, arith, List, [], ◌∷◌, ◌++◌, Option, Some, None, Ok, inl, inr, sym, ap, subst, ◌∙◌, refl, nat_eq}
 use Rattle.std.specs.Prelude.{MatchOption}
 use Rattle.std.specs.Option.{is_some}
 use Rattle.std.proofs.lemmas.Bool.{false≢true}
-use Rattle.std.proofs.lemmas.List.{append-nil}
+use Rattle.std.proofs.lemmas.List.{append-nil, length-map}
 use Rattle.std.proofs.lemmas.List.Folds.{list_any-append}
 use Rattle.std.proofs.lemmas.Grind.{flat_map-append}
-use Rattle.std.proofs.Math.Seq.{drop-append_seam}
-use mathlib.Core.List.{append_assoc}
 use Rattle.l4_ipc.specs.declared.steps.Step.TheVariants.{Start}
 use Rattle.l4_answers.specs.Refusals.{refused_text}
 use Rattle.l4_answers.specs.Replies.{reply_text}
 use Rattle.l4_ipc.specs.declared.calls.Call.{Call}
+use Rattle.l4_fpage.specs.declared.sizes.PageSize.{PageSize}
 use Rattle.l4_ipc.specs.Machine.{Machine}
 use Rattle.l4_ipc.specs.Reading.{reply_of}
 use Rattle.l4_text.specs.Streams.{Tells}
 use Rattle.l4_ipc.specs.Steps.{Steps}
 use Rattle.l4_ipc.specs.Following.{Done}
-use Rattle.l4_lock.specs.declared.entries.Entry.{Entry}
-use Rattle.l4_lock.specs.declared.refusals.LockRefusal.{LockRefusal}
-use Rattle.l4_lock.specs.Locked.{start_entry}
-use Rattle.l4_seats.specs.Seated.{Seated, IsNew, entry_of, AllLast, Enters as EntersCall, Refuses as RefusesCall, with_number}
+use Rattle.l4_ipc.specs.Following.{AreNext}
+use Rattle.l4_ipc.specs.NextSteps.{step_of, answer_of}
+use Rattle.l4_ipc.specs.declared.steps.NextStep.{NextStep}
+use Rattle.l4_record.specs.declared.appended.Appended.{Appended}
+use Rattle.l4_record.specs.declared.entries.Entry.{Entry}
+use Rattle.l4_record.specs.declared.refusals.RecordRefusal.{RecordRefusal}
+use Rattle.l4_record.specs.Following.{ComeNext, start_entry, next_entry}
+use Rattle.l4_shell.specs.Seated.{Seated, is_among, IsNew, Refuses as RefusesCall, with_number}
+use Rattle.l4_shell.specs.Inside.Entering.{Enters as EntersCall, Entered}
 use Rattle.l4_servers.specs.Servers.{Servers}
 use Rattle.l4_threads.specs.declared.Reply.{Reply}
 use Rattle.l4_threads.specs.Threads.{Threads}
 use Rattle.l4_servers.specs.Acting.{NoneReady, IsFirstReady, Follows as FollowsReply, ActsNext}
-use Rattle.l4_shell.specs.Refusals.{lock_refusal, lacks_memory}
-use Rattle.l4_shell.specs.Sessions.{Session, session, gone_on, done_text, step_line, step_text, ended_text, is_among, ended_in, waiting_text, Act, act_text, ended_by, IsAct, AreActs, GoesOn, Follows, Refuses, Enters, Creates}
+use Rattle.l4_shell.specs.Refusals.{call_refusal, lacks_memory}
+use Rattle.l4_shell.specs.Sessions.{Session, session, gone_on, done_text, step_line, step_text, ended_text, ended_in, waiting_text, Act, act_text, ended_by, IsAct, AreActs, GoesOn, Follows, Refuses, Enters, Creates}
 use Rattle.l4_shell.specs.Requests.{root}
 use Rattle.l4_shell.specs.Inside.Scripts.{HasFirstSeats}
-use Rattle.l4_shell.specs.Inside.Telling.{entry_text, ended_at, TellsEntries, TellsCall, TellsNothing, TellsRefusal, TellsActs}
+use Rattle.l4_shell.specs.Inside.Telling.{next_text, ended_later, TellsAppended, TellsCall, TellsRefusal, TellsActs}
 use Rattle.l4_shell.specs.Texts.{refused_act_text}
 use Rattle.std.specs.List.{flat_map}
 use Rattle.l4_text.proofs.Telling.{tells_none, tells_more, tells_is}
 
--- ENTRIES
-
-drop_one : (xs : List Entry) (k : ℕ) (x : Entry) → slice_get xs k ≡ Some x → drop k xs ≡ x ∷ drop (k + 1) xs
-drop_one [] k x at = absurd (let e : ◌≡◌ {A = Option Entry} None (Some x) = at in cc)
-drop_one (y ∷ xs) zero x at = (let e : y ≡ x = cc in ap (λ (z : Entry). z ∷ xs) e)
-drop_one (y ∷ xs) (suc k) x at = (let e : suc (k + 1) ≡ suc k + 1 = omega arith in drop_one xs k x at ∙ ap (λ (j : ℕ). x ∷ drop j (y ∷ xs)) e)
-
-drop_all : (xs : List Entry) (k : ℕ) → length xs ≤ k → drop k xs ≡ []
-drop_all [] zero le = refl
-drop_all [] (suc k) le = refl
-drop_all (x ∷ xs) zero le = absurd (omega (arith, le))
-drop_all (x ∷ xs) (suc k) le = drop_all xs k (omega (arith, le))
-
-pub there : (xs : List Entry) (k : ℕ) → k < length xs → slice_get xs k ≡ None → ⊥
-there [] k lt none = absurd (omega (arith, lt))
-there (x ∷ xs) zero lt none = (let e : ◌≡◌ {A = Option Entry} (Some x) None = none in cc)
-there (x ∷ xs) (suc k) lt none = there xs k (omega (arith, lt)) none
-
--- so far the entries before this place were told
-pub record Telling (m : Machine) (entries : List Entry) (first thread place : ℕ) (has : Bool) (written now : Option (List ℕ)) (before after : List ℕ × Bool) : Type 0 where
-  pub text : List ℕ
-  pub tells : Tells written now before after text
-  pub text_is : flat_map (entry_text m) (drop first entries) ≡ text ++ flat_map (entry_text m) (drop place entries)
-  pub has_is : is_among thread (ended_at (drop first entries)) ≡ (has || is_among thread (ended_at (drop place entries)))
-
-pub telling_none : (m : Machine) (entries : List Entry) (first thread : ℕ) (written : Option (List ℕ)) (before : List ℕ × Bool) → Telling m entries first thread first false written written before before
-telling_none m entries first thread written before = record { text = []; tells = tells_none written before; text_is = refl; has_is = refl }
-
-pub telling_more : (m : Machine) (entries : List Entry) (first thread place : ℕ) (has has' : Bool) (written a b : Option (List ℕ)) (before s t : List ℕ × Bool) (read : Machine) (entry : Entry)
-    → Telling m entries first thread place has written a before s → slice_get entries place ≡ Some entry → read ≡ m → Tells a b s t (entry_text read entry) → has' ≡ is_among thread entry.answer.ended.items
-    → Telling m entries first thread (place + 1) (has || has') written b before t
-telling_more m entries first thread place has has' written a b before s t read entry g at same_machine told has_is =
-    let tells : Tells a b s t (entry_text m entry) = subst (λ (x : Machine). Tells a b s t (entry_text x entry)) same_machine told in
-    let front : drop place entries ≡ entry ∷ drop (place + 1) entries = drop_one entries place entry at in
-    let rest : List Entry = drop (place + 1) entries in
-    record {
-      text = g.text ++ entry_text m entry;
-      tells = tells_more written a b before s t _ _ g.tells tells;
-      text_is = g.text_is ∙ ap (λ (l : List Entry). g.text ++ flat_map (entry_text m) l) front ∙ sym (append_assoc g.text (entry_text m entry) (flat_map (entry_text m) rest));
-      has_is = g.has_is ∙ ap (λ (l : List Entry). has || is_among thread (ended_at l)) front
-          ∙ ap (λ v. has || v) (list_any-append (λ n. nat_eq n thread) entry.answer.ended.items (ended_at rest) ∙ ap (λ v. v || is_among thread (ended_at rest)) (sym has_is))
-          ∙ either has has' (is_among thread (ended_at rest));
-    } where
-      either : (x y z : Bool) → (x || (y || z)) ≡ ((x || y) || z)
-      either true y z = refl
-      either false y z = refl
-
-pub telling_done : (m : Machine) (entries : List Entry) (first thread place : ℕ) (has : Bool) (written a : Option (List ℕ)) (before s : List ℕ × Bool)
-    → Telling m entries first thread place has written a before s → length entries ≤ place → TellsEntries m (drop first entries) thread has written a before s
-telling_done m entries first thread place has written a before s g all =
-    let none : drop place entries ≡ [] = drop_all entries place all in
-    record {
-      ended_is = sym (g.has_is ∙ ap (λ (l : List Entry). has || is_among thread (ended_at l)) none ∙ same has);
-      tells = tells_is written a before s _ _ (sym (g.text_is ∙ ap (λ (l : List Entry). g.text ++ flat_map (entry_text m) l) none ∙ append-nil g.text)) g.tells;
-    } where
-      same : (x : Bool) → (x || false) ≡ x
-      same true = refl
-      same false = refl
+-- WHAT A CALL APPENDED
 
 -- what ended in a step is told at the end as it was right after it
 told_later : (now after : Machine) (ended : List ℕ) → ((k : ℕ) → Contains ended k → reply_of now.threads k ≡ reply_of after.threads k) → ended_text now ended ≡ ended_text after ended
@@ -99,41 +46,56 @@ told_later now after [] lasts = refl
 told_later now after (n ∷ ended) lasts =
     (λ i. reply_text n (lasts n (0, omega arith, refl) i) ++ told_later now after ended (λ k c. lasts k (suc c.0, (let lt = c.1 in omega (arith, lt)), c.2)) i)
 
-steps_later : (now : Machine) (n : ℕ) (steps : List Done) → AllLast now steps → flat_map (entry_text now) (map (entry_of n) steps) ≡ flat_map done_text steps
-steps_later now n [] last = refl
-steps_later now n (done ∷ steps) last =
-    λ i. (step_line done.step done.answer.outcome ++ told_later now done.after done.answer.ended.items last.0 i) ++ steps_later now n steps last.1 i
+-- the steps that came next, each with the machine right after it
+record Walked (m : Machine) (steps : List NextStep) (new : Machine) : Type 0 where
+  pub done : List Done
+  pub next : AreNext m done new
+  pub number : length done ≡ length steps
+  pub texts : flat_map (next_text new) steps ≡ flat_map done_text done
+  pub ended : ended_later steps ≡ ended_in done
 
-ended_later : (n : ℕ) (steps : List Done) → ended_at (map (entry_of n) steps) ≡ ended_in steps
-ended_later n [] = refl
-ended_later n (done ∷ steps) = ap (λ l. done.answer.ended.items ++ l) (ended_later n steps)
-
--- the entries that a call appended
-pub calls_on : (old new : Seated) (caller : ℕ) (call : Call) (thread first : ℕ) (ended : Bool) (written a : Option (List ℕ)) (before t : List ℕ × Bool) → EntersCall old new caller call
-    → first ≡ length old.history → TellsEntries new.machine (drop first new.history) thread ended written a before t → TellsCall old caller call thread ended new written a before t
-calls_on old new caller call thread first ended written a before t e at told =
-    let start : Entry = start_entry caller call e.answer in
-    let rest : List Entry = map (entry_of caller) e.steps in
-    let are : drop first new.history ≡ start ∷ rest = ap (λ k. drop k new.history) at ∙ ap (drop (length old.history)) e.history ∙ drop-append_seam old.history (start ∷ rest) in
+walked : (m : Machine) (steps : List NextStep) (new : Machine) → ComeNext m steps new → Walked m steps new
+walked m [] new g = record { done = []; next = g; number = refl; texts = refl; ended = refl }
+walked m (s ∷ steps) new g =
+    let w : Walked g.1.0 steps new = walked g.1.0 steps new g.1.3 in
     record {
-      enters = e;
-      ended_is = told.ended_is ∙ ap (λ (l : List Entry). is_among thread (ended_at l)) are ∙ ap (λ l. is_among thread (e.answer.ended.items ++ l)) (ended_later caller e.steps);
+      done = record { step = step_of s; answer = answer_of s; after = g.1.0 } ∷ w.done;
+      next = (g.0, g.1.1, w.next);
+      number = ap suc w.number;
+      texts = λ i. (step_line (step_of s) (answer_of s).outcome ++ told_later new g.1.0 (answer_of s).ended.items g.1.2 i) ++ w.texts i;
+      ended = ap (λ (l : List ℕ). (answer_of s).ended.items ++ l) w.ended;
+    }
+
+pub calls_on : (old new : Seated) (caller : ℕ) (call : Call) (appended : Appended) (read : Machine) (thread : ℕ) (ended : Bool) (written a : Option (List ℕ)) (before t : List ℕ × Bool) → EntersCall old new caller call appended
+    → read ≡ new.machine → TellsAppended read appended thread ended written a before t → TellsCall old caller call thread ended new written a before t
+calls_on old new caller call appended read thread ended written a before t e same told =
+    let w : Walked e.started appended.next.items new.machine = walked e.started appended.next.items new.machine e.next in
+    let all : length new.history ≡ length old.history + 1 + length w.done =
+    (let l = ap (λ (es : List Entry). length es) e.history in let n = w.number in
+    omega (arith, l, n, length-append old.history (start_entry caller call appended.start ∷ map (next_entry caller) appended.next.items), length-map appended.next.items (next_entry caller))) in
+    record {
+      enters = record {
+        can = e.can;
+        answer = appended.start;
+        started = e.started;
+        starts = e.starts;
+        steps = w.done;
+        next = w.next;
+        idle = e.idle;
+        entries = all;
+        same = e.same;
+      };
+      ended_is = told.ended_is ∙ ap (λ (l : List ℕ). is_among thread (appended.start.ended.items ++ l)) w.ended;
       tells = tells_is written a before t _ _
-          (ap (flat_map (entry_text new.machine)) are
-          ∙ (λ i. (step_line (Start caller call) e.answer.outcome ++ told_later new.machine e.started e.answer.ended.items e.start_lasts i) ++ steps_later new.machine caller e.steps e.steps_last i))
+          (ap (λ (m : Machine). ended_text m appended.start.ended.items ++ flat_map (next_text m) appended.next.items) same
+          ∙ (λ i. told_later new.machine e.started appended.start.ended.items e.lasts i ++ w.texts i))
           told.tells;
     }
 
-length_map : (n : ℕ) (steps : List Done) → length (map (entry_of n) steps) ≡ length steps
-length_map n [] = refl
-length_map n (done ∷ steps) = ap suc (length_map n steps)
-
 -- the session once a call was entered
-pub went : (old new : Seated) (sv later : Servers) (caller : ℕ) (call : Call) → (e : EntersCall old new caller call) → session new later ≡ gone_on (session old sv) later (length e.steps) new.machine
+pub went : (old new : Seated) (sv later : Servers) (caller : ℕ) (call : Call) → (e : Entered old new caller call) → session new later ≡ gone_on (session old sv) later (length e.steps) new.machine
 went old new sv later caller call e =
-    let all : length new.history ≡ length old.history + 1 + length e.steps =
-    (let l = ap (λ (es : List Entry). length es) e.history in omega (arith, l, length-append old.history (start_entry caller call e.answer ∷ map (entry_of caller) e.steps), length_map caller e.steps)) in
-    λ i. record { machine = new.machine; servers = later; entries = all i; numbers = e.same.0 i; seen = e.same.1 i }
+    λ i. record { machine = new.machine; servers = later; entries = e.entries i; numbers = e.same.0 i; seen = e.same.1 i }
 
 -- ACTS
 
@@ -218,12 +180,11 @@ acting_spent old thread count m has written a before s all g = record {
 }
 
 -- an act was refused
-pub acting_refused : (old : Session) (thread count : ℕ) (m new : Seated) (sv later : Servers) (has : Bool) (written a b c : Option (List ℕ)) (before s t u : List ℕ × Bool) (server : ℕ) (call : Call)
-    (refusal : LockRefusal) (text : List ℕ) → count < 256 → Acting old thread count (session m sv) has written a before s → ActsNext m.machine.threads sv server call later
-    → TellsNothing m server call refusal new a b s t → text ≡ refused_act_text server (lock_refusal refusal) → Tells b c t u text
-    → TellsActs old thread has (session new later) written c before u
-acting_refused old thread count m new sv later has written a b c before s t u server call refusal text lt g acts refused is tells =
-    let here : Tells a c s u text = subst (λ (x : List ℕ × Bool). Tells a c x u text) refused.3 (subst (λ (x : Option (List ℕ)). Tells x c t u text) refused.2 tells) in
+pub acting_refused : (old : Session) (thread count : ℕ) (m new : Seated) (sv later : Servers) (has : Bool) (written a b : Option (List ℕ)) (before s t : List ℕ × Bool) (server : ℕ) (call : Call)
+    (refusal : RecordRefusal) (text : List ℕ) → count < 256 → Acting old thread count (session m sv) has written a before s → ActsNext m.machine.threads sv server call later
+    → RefusesCall m.machine (length m.history) m.numbers server call refusal × (new ≡ m) → text ≡ refused_act_text server (call_refusal refusal) → Tells a b s t text
+    → TellsActs old thread has (session new later) written b before t
+acting_refused old thread count m new sv later has written a b before s t server call refusal text lt g acts refused is tells =
     record {
       acts = g.acts;
       between = session m sv;
@@ -241,7 +202,7 @@ acting_refused old thread count m new sv later has written a b c before s t u se
         text_is = is;
       }));
       ended_is = g.has_is;
-      tells = tells_more written a c before s u _ _ g.tells here;
+      tells = tells_more written a b before s t _ _ g.tells tells;
     }
 
 -- ONE CALL
@@ -300,7 +261,7 @@ pub refuses_on : (old new : Seated) (sv later : Servers) (line thread : ℕ) (ca
     → call ≡ asked → later ≡ sv → TellsRefusal old line thread call new written b before t
     → (text : List ℕ) × Refuses (session old sv) line thread asked text (session new later) × Tells written b before t text
 refuses_on old new sv later line thread call asked written b before t is same r = (
-  refused_text line (lock_refusal r.refusal),
+  refused_text line (call_refusal r.refusal),
   record {
     refusal = r.refusal;
     refused = subst (λ (c : Call). RefusesCall old.machine (length old.history) old.numbers thread c r.refusal) is r.refused;
@@ -310,14 +271,11 @@ refuses_on old new sv later line thread call asked written b before t is same r 
   r.tells,
 )
 
-pub refusal_told : (old new : Seated) (line thread : ℕ) (call : Call) (refusal : LockRefusal) (text : List ℕ) (written a b : Option (List ℕ)) (before s t : List ℕ × Bool) → TellsNothing old thread call refusal new written a before s
-    → text ≡ refused_text line (lock_refusal refusal) → Tells a b s t text → TellsRefusal old line thread call new written b before t
-refusal_told old new line thread call refusal text written a b before s t nothing is tells = record {
-  refusal = refusal;
-  refused = nothing.0;
-  same = nothing.1;
-  tells = tells_is written b before t _ _ is (subst (λ (x : List ℕ × Bool). Tells written b x t text) nothing.3 (subst (λ (x : Option (List ℕ)). Tells x b s t text) nothing.2 tells));
-}
+pub refusal_told : (old new : Seated) (line thread : ℕ) (call : Call) (refusal : RecordRefusal) (text : List ℕ) (written b : Option (List ℕ)) (before t : List ℕ × Bool)
+    → RefusesCall old.machine (length old.history) old.numbers thread call refusal × (new ≡ old) → text ≡ refused_text line (call_refusal refusal) → Tells written b before t text
+    → TellsRefusal old line thread call new written b before t
+refusal_told old new line thread call refusal text written b before t refused is tells =
+    record { refusal = refusal; refused = refused.0; same = refused.1; tells = tells_is written b before t _ _ is tells }
 
 -- SEATS
 
@@ -333,10 +291,10 @@ pub creates_not : (old between : Seated) (sv : Servers) (line number : ℕ) (cal
     → (text : List ℕ) × Creates (session old sv) line number call text (session between sv) × Tells written b before t text
 creates_not old between sv line number call text written b before t lacks is tells = (text, inr (lacks.1, (is, ap (λ (k : Seated). session k sv) lacks.0)), tells)
 
-pub first_seats : (frames : ℕ) (k k' last : Seated) → IsNew frames k → k' ≡ record k { numbers = with_number k.numbers 1 } → last ≡ record k' { numbers = with_number k'.numbers 2 } → HasFirstSeats frames last
-first_seats frames k k' last new one two =
-    subst (λ (x : Seated). HasFirstSeats frames x) (sym two)
-    (subst (λ (x : Seated). HasFirstSeats frames (record x { numbers = with_number x.numbers 2 })) (sym one) (new.0, new.1, ap (λ (l : List ℕ). with_number (with_number l 1) 2) new.2, new.3))
+pub first_seats : (frames : ℕ) (size : PageSize) (k k' last : Seated) → IsNew frames size k → k' ≡ record k { numbers = with_number k.numbers 1 } → last ≡ record k' { numbers = with_number k'.numbers 2 } → HasFirstSeats frames size last
+first_seats frames size k k' last new one two =
+    subst (λ (x : Seated). HasFirstSeats frames size x) (sym two)
+    (subst (λ (x : Seated). HasFirstSeats frames size (record x { numbers = with_number x.numbers 2 })) (sym one) (new.0, new.1, ap (λ (l : List ℕ). with_number (with_number l 1) 2) new.2, new.3, new.4))
 
 or_false : (b : Bool) → (b || false) ≡ b
 or_false true = refl

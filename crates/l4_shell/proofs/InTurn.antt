@@ -8,11 +8,9 @@ use Rattle.l4_fpage.specs.Rights.{RightsSet}
 use Rattle.std.specs.Str.{bytes_eq}
 use Rattle.l4_text.specs.Numbers.{number_of, decimal_of, hex_of, below}
 use Rattle.l4_text.specs.Tokens.{tokens_of, FirstNumber}
-use Rattle.l4_shell.specs.Commands.{◌>>=◌, thread_of, nil_or_thread_of, partner_of, words_of, three_of, receive_asked, send_asked, ipc_asked, fault_asked, rights_of, command_of}
+use Rattle.l4_shell.specs.Commands.{Command, Receive, Send, Ipc, Fault, ◌>>=◌, thread_of, nil_or_thread_of, partner_of, words_of, three_of, receive_asked, send_asked, ipc_asked, fault_asked, rights_of, command_of}
 use Rattle.l4_shell.specs.declared.partners.Partner.{Partner}
 use Rattle.l4_shell.specs.declared.partners.Partner.TheVariants.{Nil, Any, Thread}
-use Rattle.l4_shell.specs.declared.commands.Command.{Command}
-use Rattle.l4_shell.specs.declared.commands.Command.TheVariants.{Receive, Send, Ipc, Fault}
 use Rattle.l4_shell.specs.declared.commands.ScriptFault.TheVariants.{BadTokens}
 use Rattle.l4_shell.specs.Inside.InTurn.{first_by, at_end, last_rights_of, receive_in_turn, send_in_turn, ipc_in_turn, fault_in_turn}
 

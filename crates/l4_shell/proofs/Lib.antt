@@ -4,6 +4,7 @@ pub mod Listing
 pub mod Scripting
 pub mod Delegating
 pub mod Served
-pub mod Outlined
+pub mod Seating
 pub mod InTurn
 pub mod StraightLines
+pub mod SizesKept

@@ -1,5 +1,5 @@
 -- The present pages of a space, listed one after another.
-use Rattle.std.proofs.Common.{◌≡◌, ℕ, Bool, true, false, nat_lt, min, Some, ◌+◌, ◌<◌, ◌≤◌, List, [], ◌∷◌, ◌++◌, length, get_or, Contains, Option, sym, ap, subst, ◌∙◌, refl, arith, inl, inr, ◌⊎◌, ◌↔◌, length-append, ◌^◌}
+use Rattle.std.proofs.Common.{◌≡◌, ℕ, Bool, true, false, nat_lt, min, Some, ◌+◌, ◌<◌, ◌≤◌, List, [], ◌∷◌, ◌++◌, length, get_or, Contains, Option, sym, ap, subst, ◌∙◌, refl, arith, inl, inr, ◌⊎◌, ◌↔◌, length-append}
 use Rattle.std.proofs.lemmas.List.{append-nil, get_or_default}
 use Rattle.std.proofs.lemmas.List.Quantifiers.{all_pairs_push}
 use Rattle.std.proofs.lemmas.List.Elements.{Contains-push, Contains-push_cases, Contains-append_left}
@@ -8,6 +8,8 @@ use Rattle.std.proofs.lemmas.Grind.{flat_map-append}
 use Rattle.std.specs.List.{flat_map, AllPairs}
 use Rattle.l4_mapdb.specs.Mappings.{IsPresent}
 use Rattle.l4_mapdb.specs.Places.{NonePresentFrom, IsNextPresent}
+use Rattle.l4_fpage.specs.Pages.{space_pages}
+use Rattle.l4_fpage.specs.declared.sizes.PageSize.{PageSize}
 use Rattle.l4_ipc.specs.Machine.{Machine}
 use Rattle.l4_answers.specs.Pages.{shown_text}
 use Rattle.l4_text.specs.Streams.{Tells}
@@ -97,7 +99,7 @@ listed_beyond m space first end «from» shown written a before s page l next be
 
 -- all of them were listed, and then their number
 pub lists_pages : (m : Machine) (space first count end shown : ℕ) (written a b : Option (List ℕ)) (before s t : List ℕ × Bool)
-    → ((page : ℕ) → (page < end) ↔ ((page < first + count) × (page < 2 ^ 20)))
+    → ((page : ℕ) → (page < end) ↔ ((page < first + count) × (page < space_pages m.size)))
     → ListsBelow m space first end shown written a before s → Tells a b s t (shown_text shown)
     → (text : List ℕ) × ListsPages m space first count text × Tells written b before t text
 lists_pages m space first count end shown written a b before s t end_is l tells = (
@@ -123,8 +125,13 @@ shows_pages m line thread first count space written b before t is l =
     (l.0, subst (λ (o : Option ℕ). MatchOption o (l.0 ≡ refused_text line (kernel_refusal UnknownThread)) (λ s. ListsPages m s first count l.0)) is l.1, l.2)
 
 -- the end of the pages that a line names
-pub end_of : (first count sum end : ℕ) → sum ≡ min (first + count) 4294967295 → end ≡ min sum 1048576 → (page : ℕ) → (page < end) ↔ ((page < first + count) × (page < 2 ^ 20))
-end_of first count sum end a b page = (λ lt. (omega (arith, a, b), omega (arith, a, b)), λ h. let c = h.0 in let d = h.1 in omega (arith, a, b))
+end_below : (first count sum end pages : ℕ) → pages ≤ 4294967295 → sum ≡ min (first + count) 4294967295 → end ≡ min sum pages → (page : ℕ) → (page < end) ↔ ((page < first + count) × (page < pages))
+end_below first count sum end pages few a b page = (λ lt. (omega (arith, a, b), omega (arith, a, b)), λ h. let c = h.0 in let d = h.1 in omega (arith, a, b, few))
+
+pub end_of : (m : Machine) (size : PageSize) (first count sum end pages : ℕ) → pages ≤ 4194304 → size ≡ m.size → pages ≡ space_pages size → sum ≡ min (first + count) 4294967295 → end ≡ min sum pages
+    → (page : ℕ) → (page < end) ↔ ((page < first + count) × (page < space_pages m.size))
+end_of m size first count sum end pages few sized is a b =
+    subst (λ (p : ℕ). (page : ℕ) → (page < end) ↔ ((page < first + count) × (page < p))) (is ∙ ap space_pages sized) (end_below first count sum end pages (omega (arith, few)) a b)
 
 -- the parent of a page was told, and nothing else was done
 pub carries_parent : (m : Session) (read : Machine) (line thread page : ℕ) (request : Request) (written b : Option (List ℕ)) (before t : List ℕ × Bool) → request ≡ TellParent thread page → read ≡ m.machine

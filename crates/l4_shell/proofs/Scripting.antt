@@ -8,6 +8,7 @@ use Rattle.std.proofs.lemmas.Bool.Decides.{nat_tests}
 use mathlib.Core.List.{append_assoc}
 use denote.Enum.Bare.{sameb}
 use Rattle.std.proofs.lemmas.Bool.{false≢true}
+use Rattle.l4_fpage.specs.declared.sizes.PageSize.{PageSize}
 use Rattle.l4_ipc.specs.Machine.{IsBoot}
 use Rattle.l4_servers.specs.Servers.{Servers, no_servers}
 use Rattle.l4_text.specs.Lines.{NoNewline, kept_of, TakesLine, TakesRest, GivesLine, left_of}
@@ -15,7 +16,7 @@ use Rattle.l4_shell.specs.Lines.{ScriptLine, in_front, lines_of}
 use Rattle.l4_shell.specs.Requests.{asked_at, asked_of}
 use Rattle.l4_text.specs.Streams.{WentOut, HasTold, Tells}
 use Rattle.l4_shell.specs.Sessions.{Session, session, first_session, AnswersLine, AnswersLines}
-use Rattle.l4_seats.specs.Seated.{Seated}
+use Rattle.l4_shell.specs.Seated.{Seated}
 use Rattle.l4_shell.specs.Scripts.{Runs}
 use Rattle.l4_shell.specs.Inside.Scripts.{HasFirstSeats, TellsBeginning, TellsAll, TellsWhole, TellsScript}
 use Rattle.l4_text.specs.declared.lines.Ending.{Ending}
@@ -306,8 +307,10 @@ answered_on Cut m next old new after number written out before t a cut = absurd 
 -- THE RUN
 
 -- the session at the start
-pub first_is : (frames : ℕ) (kernel : Seated) (sv : Servers) → HasFirstSeats frames kernel → sv ≡ no_servers frames → session kernel sv ≡ first_session frames kernel.machine
-first_is frames kernel sv has none = λ i. record { machine = kernel.machine; servers = none i; entries = length (has.1 i); numbers = has.2 i; seen = has.3 i }
+pub first_is : (frames : ℕ) (size : PageSize) (kernel : Seated) (sv : Servers) → HasFirstSeats frames size kernel → sv ≡ no_servers size frames → session kernel sv ≡ first_session frames kernel.machine
+first_is frames size kernel sv has none =
+    let same : sv ≡ no_servers kernel.machine.size frames = none ∙ ap (λ (z : PageSize). no_servers z frames) (sym has.4) in
+    λ i. record { machine = kernel.machine; servers = same i; entries = length (has.1 i); numbers = has.2 i; seen = has.3 i }
 
 -- nobody was served at the start
 from_none : (frames : ℕ) (m : Seated) (sv : Servers) (lines : List ScriptLine) (text : List ℕ) (last : Session) → session m sv ≡ first_session frames m.machine
@@ -315,10 +318,10 @@ from_none : (frames : ℕ) (m : Seated) (sv : Servers) (lines : List ScriptLine)
 from_none frames m sv lines text last none answers = subst (λ (x : Session). AnswersLines x 1 lines text last) none answers
 
 -- all that was told went out
-pub runs_on : (frames : ℕ) (m : Seated) (sv : Servers) (old new written out now : Option (List ℕ)) (before after : List ℕ × Bool) (result : Result ℕ RunFault) → IsBoot frames m.machine → session m sv ≡ first_session frames m.machine → before ≡ ([], false)
+pub runs_on : (frames : ℕ) (size : PageSize) (m : Seated) (sv : Servers) (old new written out now : Option (List ℕ)) (before after : List ℕ × Bool) (result : Result ℕ RunFault) → IsBoot frames m.machine → m.machine.size ≡ size → session m sv ≡ first_session frames m.machine → before ≡ ([], false)
     → TellsScript (session m sv) old new written out before after result
-    → ((start : Option (List ℕ)) (told : List ℕ) → HasTold start out after.0 after.1 told → Appends start now told) → Runs frames old new written now result
-runs_on frames m sv old new written out now before after (Ok count) boots none is t sent =
+    → ((start : Option (List ℕ)) (told : List ℕ) → HasTold start out after.0 after.1 told → Appends start now told) → Runs frames size old new written now result
+runs_on frames size m sv old new written out now before after (Ok count) boots sized none is t sent =
     let told = t.some.told in
     record {
       read = t.some.read;
@@ -326,19 +329,19 @@ runs_on frames m sv old new written out now before after (Ok count) boots none i
       end = t.end;
       lines = t.number;
       text = told.text;
-      is_text = record { boot = m.machine; boots = boots; last = told.last; answers = subst (λ (ls : List ScriptLine). AnswersLines (first_session frames m.machine) 1 ls told.text told.last) t.all (from_none frames m sv _ _ _ none told.answers) };
+      is_text = record { boot = m.machine; boots = boots; sized = sized; last = told.last; answers = subst (λ (ls : List ScriptLine). AnswersLines (first_session frames m.machine) 1 ls told.text told.last) t.all (from_none frames m sv _ _ _ none told.answers) };
       out = sent written told.text (told.tells written [] (nothing_told written before is));
     }
-runs_on frames m sv old new written out now before after (Err Read) boots none is t sent =
+runs_on frames size m sv old new written out now before after (Err Read) boots sized none is t sent =
     let told = t.some.told in
     record {
       read = t.some.read;
       «from» = t.some.from;
       text = told.text;
-      is_text = record { boot = m.machine; boots = boots; last = told.last; answers = subst (λ (ls : List ScriptLine). AnswersLines (first_session frames m.machine) 1 ls told.text told.last) t.whole (from_none frames m sv _ _ _ none told.answers) };
+      is_text = record { boot = m.machine; boots = boots; sized = sized; last = told.last; answers = subst (λ (ls : List ScriptLine). AnswersLines (first_session frames m.machine) 1 ls told.text told.last) t.whole (from_none frames m sv _ _ _ none told.answers) };
       out = sent written told.text (told.tells written [] (nothing_told written before is));
     }
-runs_on frames m sv old new written out now before after (Err Write) boots none is t sent =
+runs_on frames size m sv old new written out now before after (Err Write) boots sized none is t sent =
     let told = t.told in
     record {
       read = t.read;
@@ -348,10 +351,10 @@ runs_on frames m sv old new written out now before after (Err Write) boots none 
       parts = t.parts;
       sure = t.sure;
       text = told.text;
-      is_text = record { boot = m.machine; boots = boots; last = told.last; answers = from_none frames m sv _ _ _ none told.answers };
+      is_text = record { boot = m.machine; boots = boots; sized = sized; last = told.last; answers = from_none frames m sv _ _ _ none told.answers };
       out = record { front = told.text; rest = []; whole = sym (append-nil told.text); out = sent written told.text (told.tells written [] (nothing_told written before is)) };
     }
-runs_on frames m sv old new written out now before after (Err Memory) boots none is t sent = absurd t
+runs_on frames size m sv old new written out now before after (Err Memory) boots sized none is t sent = absurd t
 
 -- the lines that were answered, whatever then came
 some_told : (m : Session) (old new written out : Option (List ℕ)) (before after : List ℕ × Bool) (result : Result ℕ RunFault) → TellsScript m old new written out before after result
@@ -362,10 +365,10 @@ some_told m old new written out before after (Err Write) t = t
 some_told m old new written out before after (Err Memory) t = absurd t
 
 -- a write failed
-pub runs_not : (frames : ℕ) (m : Seated) (sv : Servers) (old new written out now : Option (List ℕ)) (before after : List ℕ × Bool) (result : Result ℕ RunFault) → IsBoot frames m.machine → session m sv ≡ first_session frames m.machine → before ≡ ([], false)
+pub runs_not : (frames : ℕ) (size : PageSize) (m : Seated) (sv : Servers) (old new written out now : Option (List ℕ)) (before after : List ℕ × Bool) (result : Result ℕ RunFault) → IsBoot frames m.machine → m.machine.size ≡ size → session m sv ≡ first_session frames m.machine → before ≡ ([], false)
     → TellsScript (session m sv) old new written out before after result
-    → ((start : Option (List ℕ)) (told : List ℕ) → HasTold start out after.0 after.1 told → WentOut start now told) → Runs frames old new written now (Err Write)
-runs_not frames m sv old new written out now before after result boots none is tells sent =
+    → ((start : Option (List ℕ)) (told : List ℕ) → HasTold start out after.0 after.1 told → WentOut start now told) → Runs frames size old new written now (Err Write)
+runs_not frames size m sv old new written out now before after result boots sized none is tells sent =
     let t = some_told (session m sv) old new written out before after result tells in
     let told = t.told in
     record {
@@ -376,7 +379,7 @@ runs_not frames m sv old new written out now before after result boots none is t
       parts = t.parts;
       sure = t.sure;
       text = told.text;
-      is_text = record { boot = m.machine; boots = boots; last = told.last; answers = from_none frames m sv _ _ _ none told.answers };
+      is_text = record { boot = m.machine; boots = boots; sized = sized; last = told.last; answers = from_none frames m sv _ _ _ none told.answers };
       out = sent written told.text (told.tells written [] (nothing_told written before is));
     }
 

@@ -5,15 +5,48 @@ use Rattle.l4_fpage.specs.Rights.{RightsSet}
 use Rattle.l4_msg.specs.Sizes.{max_words}
 use Rattle.l4_threads.specs.Sizes.{numbers}
 use Rattle.l4_msg.specs.declared.regions.Region.{Region as Delegated}
+use Rattle.l4_ipc.specs.declared.calls.FaultCall.{FaultCall}
+use Rattle.l4_pager.specs.declared.regions.Entry.{Entry}
 use Rattle.l4_shell.specs.declared.partners.Partner.{Partner}
 use Rattle.l4_shell.specs.declared.partners.Partner.TheVariants.{Nil, Any, Thread as One}
 use Rattle.l4_shell.specs.declared.partners.NewSpace.{NewSpace}
 use Rattle.l4_shell.specs.declared.partners.NewSpace.TheVariants.{New, Of}
-use Rattle.l4_shell.specs.declared.commands.Command.{Command}
-use Rattle.l4_shell.specs.declared.commands.Command.TheVariants.{Thread, SetPager, Delete, Receive, Send, Ipc, Fault, Delegate, Unmap, Show, Parent, Region, Serve, Steps}
 use Rattle.l4_shell.specs.declared.commands.ScriptFault.{ScriptFault}
 use Rattle.l4_shell.specs.declared.commands.ScriptFault.TheVariants.{UnknownCommand, BadTokens}
 use Rattle.l4_text.specs.Numbers.{below, number_of}
+
+-- what a line asks for; threads go by their numbers, below 2^18, and words come with the tag first
+pub data Command : Type 0 where
+  -- root creates a thread of this number, in this space and with this pager
+  Thread : ℕ → NewSpace → Partner → Command
+  -- root changes a thread's pager
+  SetPager : ℕ → Partner → Command
+  -- root deletes a thread
+  Delete : ℕ → Command
+  -- a thread receives from a partner, with this window
+  Receive : ℕ → Partner → ℕ → Command
+  -- a thread sends a partner these words
+  Send : ℕ → Partner → List ℕ → Command
+  -- a thread sends a partner these words, and then receives from another with these timeouts and this window
+  Ipc : ℕ → Partner → Partner → ℕ → ℕ → List ℕ → Command
+  -- a thread raises a page fault
+  Fault : ℕ → FaultCall → Command
+  -- a thread sends a partner the only message of the region's plan
+  Delegate : ℕ → Partner → Delegated → Command
+  -- a thread sends a partner the message with this number, from 0, of the region's plan
+  Part : ℕ → Partner → ℕ → Delegated → Command
+  -- a thread revokes rights: the control word, and the message registers
+  Unmap : ℕ → ℕ → List ℕ → Command
+  -- the present pages of a thread's space, from a first on among so many
+  Show : ℕ → ℕ → ℕ → Command
+  -- the parent of a page of a thread's space
+  Parent : ℕ → ℕ → Command
+  -- a thread's table gets a region
+  Region : ℕ → Entry → Command
+  -- a thread is served
+  Serve : ℕ → Command
+  -- how many entries the history has
+  Steps : Command
 
 infixl 10 ◌>>=◌
 abbrev pub ◌>>=◌ : {A B : Type 0} → Option A → (A → Option B) → Option B
@@ -162,6 +195,18 @@ delegate_asked (number ∷ to ∷ tokens) = do
   region ← region_of tokens
   Some (Delegate n partner region)
 
+-- N TO K SOURCE TARGET COUNT RIGHTS
+abbrev pub part_asked : List (List ℕ) → Option Command
+part_asked [] = None
+part_asked (number ∷ []) = None
+part_asked (number ∷ to ∷ []) = None
+part_asked (number ∷ to ∷ message ∷ tokens) = do
+  n ← thread_of number
+  partner ← partner_of to
+  k ← number_of message
+  region ← region_of tokens
+  Some (Part n partner k region)
+
 -- N TO FROM TIMEOUTS WINDOW WORD..
 abbrev pub ipc_asked : List (List ℕ) → Option Command
 ipc_asked [] = None
@@ -244,7 +289,8 @@ command_of (name ∷ tokens) =
     else (if is_word (codes "send") name then ok_or (send_asked tokens) BadTokens
     else (if is_word (codes "ipc") name then ok_or (ipc_asked tokens) BadTokens
     else (if is_word (codes "delegate") name then ok_or (delegate_asked tokens) BadTokens
+    else (if is_word (codes "part") name then ok_or (part_asked tokens) BadTokens
     else (if is_word (codes "unmap") name then ok_or (unmap_asked tokens) BadTokens
     else (if is_word (codes "show") name then ok_or (show_asked tokens) BadTokens
     else (if is_word (codes "parent") name then ok_or (parent_asked tokens) BadTokens
-    else pager_command_of name tokens)))))))))
+    else pager_command_of name tokens))))))))))

@@ -1,4 +1,6 @@
+pub mod Asking
 pub mod Exchanges
 pub mod InTurn
 pub mod Scripts
 pub mod Telling
+pub mod Entering

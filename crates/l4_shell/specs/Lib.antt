@@ -4,6 +4,8 @@ pub mod Lines
 pub mod Refusals
 pub mod Requests
 pub mod Scripts
+pub mod Seated
 pub mod Sessions
+pub mod Sizes
 pub mod Texts
 pub mod Inside

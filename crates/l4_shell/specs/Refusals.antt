@@ -1,14 +1,14 @@
 -- The codes of what a script's line is refused for before it reaches the kernel (this profile's own).
 use Rattle.std.specs.Prelude.{codes}
-use Rattle.l4_answers.specs.Refusals.{Refusal, plainly, kernel_refusal}
-use Rattle.l4_lock.specs.declared.refusals.LockRefusal.{LockRefusal}
-use Rattle.l4_lock.specs.declared.refusals.LockRefusal.TheVariants.{HistoryFull, NoMemory as WantOfMemory, ReplyWaiting, SeatTaken, Kernel as ByKernel}
+use Rattle.l4_answers.specs.Refusals.{Refusal, plainly, at_place, kernel_refusal}
+use Rattle.l4_record.specs.declared.refusals.RecordRefusal.{RecordRefusal}
+use Rattle.l4_record.specs.declared.refusals.RecordRefusal.TheVariants.{HistoryFull, NoMemory as WantOfMemory, Kernel as ByKernel}
 use Rattle.l4_pager.specs.declared.regions.PagerRefusal.{PagerRefusal}
 use Rattle.l4_pager.specs.Regions.{code_of}
 use Rattle.l4_servers.specs.declared.servers.RegionRefusal.{RegionRefusal}
 use Rattle.l4_servers.specs.declared.servers.RegionRefusal.TheVariants.{Pager, NoMemory}
 use Rattle.l4_plan.specs.declared.plans.PlanRefusal.{PlanRefusal}
-use Rattle.l4_plan.specs.declared.plans.PlanRefusal.TheVariants.{Empty, OutOfSpace, NoRights, TooLong}
+use Rattle.l4_plan.specs.declared.plans.PlanRefusal.TheVariants.{Empty, OutOfSpace, NoRights, TooLong, Several, NoPart}
 use Rattle.l4_shell.specs.declared.commands.ScriptFault.{ScriptFault}
 use Rattle.l4_shell.specs.declared.commands.ScriptFault.TheVariants.{UnknownCommand, BadTokens, LineTooLong, CutLine}
 
@@ -19,24 +19,25 @@ script_refusal BadTokens = plainly (codes "S2")
 script_refusal LineTooLong = plainly (codes "S3")
 script_refusal CutLine = plainly (codes "S4")
 
--- the code of a delegation without a plan; of one that is too long no pages are told
+-- the code of a delegation without a plan, or without such a message; of a plan that is too long no pages are told, and of others how many
+-- messages they have
 abbrev pub plan_refusal : PlanRefusal → Refusal
 plan_refusal Empty = plainly (codes "N1")
 plan_refusal OutOfSpace = plainly (codes "N2")
 plan_refusal NoRights = plainly (codes "N3")
 plan_refusal (TooLong pages) = plainly (codes "N4")
+plan_refusal (Several messages) = at_place (codes "N5") messages
+plan_refusal (NoPart messages) = at_place (codes "N6") messages
 
 -- want of memory
 abbrev pub lacks_memory : Refusal
 lacks_memory = plainly (codes "NoMemory")
 
--- the code of what the locked kernel refuses; of the kernel's own refusals the innermost one
-abbrev pub lock_refusal : LockRefusal → Refusal
-lock_refusal HistoryFull = plainly (codes "L1")
-lock_refusal WantOfMemory = lacks_memory
-lock_refusal ReplyWaiting = plainly (codes "L3")
-lock_refusal SeatTaken = plainly (codes "L4")
-lock_refusal (ByKernel refusal) = kernel_refusal refusal
+-- the code of a call that is not entered; of the kernel's own refusals the innermost one
+abbrev pub call_refusal : RecordRefusal → Refusal
+call_refusal HistoryFull = plainly (codes "L1")
+call_refusal WantOfMemory = lacks_memory
+call_refusal (ByKernel refusal) = kernel_refusal refusal
 
 -- the code of what a pager's table refuses
 abbrev pub pager_refusal : PagerRefusal → Refusal

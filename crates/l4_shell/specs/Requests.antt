@@ -10,8 +10,7 @@ use Rattle.l4_shell.specs.declared.partners.Partner.{Partner}
 use Rattle.l4_shell.specs.declared.partners.Partner.TheVariants.{Nil, Any, Thread as One}
 use Rattle.l4_shell.specs.declared.partners.NewSpace.{NewSpace}
 use Rattle.l4_shell.specs.declared.partners.NewSpace.TheVariants.{New, Of}
-use Rattle.l4_shell.specs.declared.commands.Command.{Command}
-use Rattle.l4_shell.specs.declared.commands.Command.TheVariants.{Thread, SetPager, Delete, Receive, Send, Ipc, Fault, Delegate, Unmap, Show, Parent, Region, Serve, Steps}
+use Rattle.l4_shell.specs.declared.delegations.Which.TheVariants.{Only, Message}
 use Rattle.l4_shell.specs.declared.requests.Request.{Request}
 use Rattle.l4_shell.specs.declared.requests.Request.TheVariants.{Enter, CreateThread, EndThread, SendPlan, ListPages, TellParent, AddRegion, ServeThread, TellSteps}
 use Rattle.l4_shell.specs.declared.commands.ScriptFault.{ScriptFault}
@@ -21,7 +20,7 @@ use Rattle.l4_text.specs.declared.lines.Ending.{Ending}
 use Rattle.l4_text.specs.declared.lines.Ending.TheVariants.{Whole, Long, Cut}
 use Rattle.l4_shell.specs.Lines.{ScriptLine}
 use Rattle.l4_text.specs.Tokens.{tokens_of}
-use Rattle.l4_shell.specs.Commands.{command_of}
+use Rattle.l4_shell.specs.Commands.{Command, Thread, SetPager, Delete, Receive, Send, Ipc, Fault, Delegate, Part, Unmap, Show, Parent, Region, Serve, Steps, command_of}
 
 -- THE CALLS
 
@@ -82,7 +81,8 @@ request_of (Receive number partner window) = Enter number (receive_call partner 
 request_of (Send number partner words) = Enter number (send_call partner words)
 request_of (Ipc number to «from» timeouts window words) = Enter number (ipc_call to «from» timeouts window words)
 request_of (Fault number fault) = Enter number (Faults fault)
-request_of (Delegate number partner region) = SendPlan number partner region
+request_of (Delegate number partner region) = SendPlan number partner Only region
+request_of (Part number partner message region) = SendPlan number partner (Message message) region
 request_of (Unmap number control words) = Enter number (unmap_call control words)
 request_of (Show number first count) = ListPages number first count
 request_of (Parent number page) = TellParent number page

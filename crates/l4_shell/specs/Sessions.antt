@@ -1,8 +1,9 @@
 -- What is told of a line's call and of the steps that follow it, and what a script's lines are answered (this profile's own).
-use Rattle.std.specs.Prelude.{◌≡◌, ℕ, ◌+◌, ◌<◌, ◌≤◌, ◌⊎◌, ◌↔◌, Bool, false, nat_eq, List, [], ◌∷◌, ◌++◌, length, Contains, Option, Some, None, Result, Ok, Err, MatchOption, if◌then◌else◌}
+use Rattle.std.specs.Prelude.{◌≡◌, ℕ, ◌+◌, ◌<◌, ◌≤◌, ◌⊎◌, ◌↔◌, Bool, false, List, [], ◌∷◌, ◌++◌, length, Contains, Option, Some, None, Result, Ok, Err, MatchOption, if◌then◌else◌}
 use Rattle.std.specs.Option.{option_map_or}
-use Rattle.std.specs.List.{flat_map, list_any, AllPairs}
+use Rattle.std.specs.List.{flat_map, AllPairs}
 use Rattle.l4_fpage.specs.Pages.{space_pages}
+use Rattle.l4_fpage.specs.declared.sizes.PageSize.{PageSize}
 use Rattle.l4_mapdb.specs.Mappings.{shown, IsPresent}
 use Rattle.l4_mapdb.specs.declared.Place.{Place}
 use Rattle.l4_threads.specs.Threads.{space_of}
@@ -16,21 +17,22 @@ use Rattle.l4_ipc.specs.Machine.{Machine, IsBoot}
 use Rattle.l4_ipc.specs.Reading.{reply_of}
 use Rattle.l4_ipc.specs.Steps.{Steps, IsIdle}
 use Rattle.l4_ipc.specs.Following.{Done, AreNext}
-use Rattle.l4_lock.specs.declared.refusals.LockRefusal.{LockRefusal}
-use Rattle.l4_seats.specs.Seated.{Seated, with_number, CanEnter, MayEnter, Refuses as RefusesCall}
-use Rattle.l4_shell.specs.declared.commands.Command.{Command}
+use Rattle.l4_record.specs.declared.refusals.RecordRefusal.{RecordRefusal}
+use Rattle.l4_shell.specs.Seated.{Seated, is_among, with_number, CanEnter, MayEnter, Refuses as RefusesCall}
+use Rattle.l4_shell.specs.Commands.{Command}
 use Rattle.l4_shell.specs.declared.commands.ScriptFault.{ScriptFault}
 use Rattle.l4_shell.specs.declared.requests.Request.{Request}
 use Rattle.l4_shell.specs.declared.requests.Request.TheVariants.{Enter, CreateThread, EndThread, SendPlan, ListPages, TellParent, AddRegion, ServeThread, TellSteps}
 use Rattle.l4_answers.specs.Replies.{transfer_text, expire_text, reply_text, waits_text}
 use Rattle.l4_answers.specs.Pages.{page_text, shown_text, parent_text}
 use Rattle.l4_answers.specs.Refusals.{kernel_refusal, refused_text}
-use Rattle.l4_shell.specs.Refusals.{script_refusal, plan_refusal, lacks_memory, lock_refusal, region_refusal}
+use Rattle.l4_shell.specs.Refusals.{script_refusal, plan_refusal, lacks_memory, call_refusal, region_refusal}
 use Rattle.l4_shell.specs.Lines.{ScriptLine}
 use Rattle.l4_text.specs.Streams.{Tells}
 use Rattle.l4_shell.specs.Requests.{request_of, asked_of, root, send_call, delete_call}
 use Rattle.l4_shell.specs.Texts.{region_text, steps_text, refused_act_text}
 use Rattle.l4_shell.specs.Delegations.{ArePlanWords, HasNoPlan}
+use Rattle.l4_shell.specs.declared.delegations.Which.{Which}
 use Rattle.l4_shell.specs.declared.partners.Partner.{Partner}
 use Rattle.l4_msg.specs.declared.regions.Region.{Region}
 use Rattle.l4_plan.specs.declared.plans.PlanRefusal.{PlanRefusal}
@@ -60,10 +62,6 @@ step_text step answer new = step_line step answer.outcome ++ ended_text new answ
 abbrev pub done_text : Done → List ℕ
 done_text done = step_text done.step done.answer done.after
 
--- the thread is one of these
-abbrev pub is_among : ℕ → List ℕ → Bool
-is_among thread numbers = list_any (λ n. nat_eq n thread) numbers
-
 -- the threads whose calls ended in these steps
 abbrev pub ended_in : List Done → List ℕ
 ended_in steps = flat_map (λ done. done.answer.ended.items) steps
@@ -88,9 +86,9 @@ abbrev pub session : Seated → Servers → Session
 session kernel servers =
     record { machine = kernel.machine; servers = servers; entries = length kernel.history; numbers = kernel.numbers; seen = kernel.seen }
 
--- at the start sigma0 and root have their seats
+-- at the start sigma0 and root have their seats, and the servers go by the size of the pages of the machine
 abbrev pub first_session : ℕ → Machine → Session
-first_session frames boot = record { machine = boot; servers = no_servers frames; entries = 0; numbers = 1 ∷ 2 ∷ []; seen = 0 }
+first_session frames boot = record { machine = boot; servers = no_servers boot.size frames; entries = 0; numbers = 1 ∷ 2 ∷ []; seen = 0 }
 
 -- once a call was entered and so many steps followed its start
 abbrev pub gone_on : Session → Servers → ℕ → Machine → Session
@@ -146,10 +144,10 @@ pub record RefusesAct (old : Session) (count : ℕ) (text : List ℕ) (new : Ses
   pub thread : ℕ
   pub call : Call
   pub acts : ActsNext old.machine.threads old.servers thread call new.servers
-  pub refusal : LockRefusal
+  pub refusal : RecordRefusal
   pub refused : RefusesCall old.machine old.entries old.numbers thread call refusal
   pub same : new ≡ record old { servers = new.servers }
-  pub text_is : text ≡ refused_act_text thread (lock_refusal refusal)
+  pub text_is : text ≡ refused_act_text thread (call_refusal refusal)
 
 -- why no served thread acts further on a line that has had so many acts
 abbrev pub StopsActing : Session → ℕ → List ℕ → Session → Type 0
@@ -185,10 +183,10 @@ pub record Follows (old : Session) (thread : ℕ) (call : Call) (servers : Serve
 
 -- the call of this line was refused, and the text is its refusal
 pub record Refuses (old : Session) (line thread : ℕ) (call : Call) (text : List ℕ) (new : Session) : Type 0 where
-  pub refusal : LockRefusal
+  pub refusal : RecordRefusal
   pub refused : RefusesCall old.machine old.entries old.numbers thread call refusal
   pub same : new ≡ old
-  pub text_is : text ≡ refused_text line (lock_refusal refusal)
+  pub text_is : text ≡ refused_text line (call_refusal refusal)
 
 abbrev pub Enters : Session → ℕ → ℕ → Call → List ℕ → Session → Type 0
 Enters old line thread call text new = Follows old thread call old.servers text new ⊎ Refuses old line thread call text new
@@ -239,16 +237,18 @@ AddsRegion old line thread entry text new =
 
 -- DELEGATIONS
 
--- the message of the region's shortest plan is sent
-abbrev pub SendsPlan : Session → ℕ → ℕ → Partner → Region → List ℕ → Session → Type 0
-SendsPlan old line thread to r text new = (words : List ℕ) × ArePlanWords r words × Enters old line thread (send_call to words) text new
+-- the only message of the region's shortest plan is sent, or the one with this number
+abbrev pub SendsPlan : Session → ℕ → ℕ → Partner → Which → Region → List ℕ → Session → Type 0
+SendsPlan old line thread to which r text new =
+    (words : List ℕ) × ArePlanWords old.machine.size r which words × Enters old line thread (send_call to words) text new
 
--- the region has no plan, and the text is the refusal; whether the call would be refused is not looked at
-abbrev pub RefusesPlan : Session → ℕ → Region → List ℕ → Session → Type 0
-RefusesPlan old line r text new = (refusal : PlanRefusal) × HasNoPlan r refusal × (text ≡ refused_text line (plan_refusal refusal)) × (new ≡ old)
+-- the region has no plan, or the plan no such message, and the text is the refusal; whether the call would be refused is not looked at
+abbrev pub RefusesPlan : Session → ℕ → Which → Region → List ℕ → Session → Type 0
+RefusesPlan old line which r text new =
+    (refusal : PlanRefusal) × HasNoPlan old.machine.size r which refusal × (text ≡ refused_text line (plan_refusal refusal)) × (new ≡ old)
 
-abbrev pub Delegates : Session → ℕ → ℕ → Partner → Region → List ℕ → Session → Type 0
-Delegates old line thread to r text new = SendsPlan old line thread to r text new ⊎ RefusesPlan old line r text new
+abbrev pub Delegates : Session → ℕ → ℕ → Partner → Which → Region → List ℕ → Session → Type 0
+Delegates old line thread to which r text new = SendsPlan old line thread to which r text new ⊎ RefusesPlan old line which r text new
 
 -- PAGES
 
@@ -263,7 +263,7 @@ place_text m space page = option_map_or (page_text page) (shown m.mappings (plac
 pub record ArePages (m : Machine) (space first count : ℕ) (pages : List ℕ) : Type 0 where
   pub rising : AllPairs (λ a b. a < b) pages
   pub each : (page : ℕ) → Contains pages page
-      ↔ ((first ≤ page) × (page < first + count) × (page < space_pages) × IsPresent m.mappings (place_in space page))
+      ↔ ((first ≤ page) × (page < first + count) × (page < space_pages m.size) × IsPresent m.mappings (place_in space page))
 
 -- the present pages of the space from the first on and below an end were told, and there are so many
 pub record ListsBelow (m : Machine) (space first end shown : ℕ) (written now : Option (List ℕ)) (before after : List ℕ × Bool) : Type 0 where
@@ -303,7 +303,7 @@ abbrev pub CarriesOut : Session → ℕ → Request → List ℕ → Session →
 CarriesOut old line (Enter thread call) text new = Enters old line thread call text new
 CarriesOut old line (CreateThread number call) text new = Creates old line number call text new
 CarriesOut old line (EndThread thread) text new = Deletes old line thread text new
-CarriesOut old line (SendPlan thread to region) text new = Delegates old line thread to region text new
+CarriesOut old line (SendPlan thread to which region) text new = Delegates old line thread to which region text new
 CarriesOut old line (ListPages thread first count) text new = Shows old.machine line thread first count text × (new ≡ old)
 CarriesOut old line (TellParent thread page) text new = (text ≡ parent_answer old.machine line thread page) × (new ≡ old)
 CarriesOut old line (AddRegion thread entry) text new = AddsRegion old line thread entry text new
@@ -323,9 +323,10 @@ AnswersLines old number (line ∷ lines) text new =
     (first : List ℕ) × (rest : List ℕ) × (between : Session) × AnswersLine old number (asked_of line) first between
     × AnswersLines between (number + 1) lines rest new × (text ≡ first ++ rest)
 
--- the answers to a script's lines, over a machine with so many frames as it boots, and without servers
-pub record IsScriptText (frames : ℕ) (lines : List ScriptLine) (text : List ℕ) : Type 0 where
+-- the answers to a script's lines, over a machine with so many frames of this size as it boots, and without servers
+pub record IsScriptText (frames : ℕ) (size : PageSize) (lines : List ScriptLine) (text : List ℕ) : Type 0 where
   pub boot : Machine
   pub boots : IsBoot frames boot
+  pub sized : boot.size ≡ size
   pub last : Session
   pub answers : AnswersLines (first_session frames boot) 1 lines text last

@@ -1,29 +1,73 @@
 //! What a delegation sends.
 ghost use Rattle.std.specs.Prelude.{◌≡◌, IfOk, IfErr};
-ghost use Rattle.l4_plan_lines.specs.Plans.{plan_words as words_of_plan};
-ghost use Rattle.l4_shell.specs.Delegations.{ArePlanWords, HasNoPlan};
+ghost use Rattle.l4_shell.specs.Delegations.{PlanSends, PlanLacks, ArePlanWords, HasNoPlan};
 
 use arrayvec::ArrayVec;
+use l4_fpage::PageSize;
 use l4_msg::{MAX_WORDS, Region};
 use l4_plan::{Plan, PlanRefusal, plan};
 
-/// The words of a plan's message.
-fn message_words(plan: &Plan) -> ArrayVec<u32, MAX_WORDS>
-    ensures { result.items ≡ words_of_plan plan.now }
-{
-    plan.message().write()
+/// Which message of a plan is sent.
+#[derive(Clone, Copy, Drop)]
+pub(crate) enum Which {
+    /// The one that it has.
+    Only,
+    /// The one with this number, from 0.
+    Message(u32),
 }
 
-/// The words of the message of the region's shortest plan, or why there is none.
-pub(crate) fn plan_words(region: &Region) -> Result<ArrayVec<u32, MAX_WORDS>, PlanRefusal>
-    ensures ok { IfOk result (λ words. ArePlanWords region.now words.items) }
-    ensures err { IfErr result (HasNoPlan region.now) }
+/// The words of the only message of a plan, or how many it has.
+fn only_words(plan: &Plan) -> Result<ArrayVec<u32, MAX_WORDS>, PlanRefusal>
+    ensures ok { IfOk result (λ words. PlanSends Which.Only plan.now words.items) }
+    ensures err { IfErr result (PlanLacks Which.Only plan.now) }
 {
-    match plan(region) {
-        Ok(plan) => Ok(message_words(&plan)),
+    match plan.only() {
+        Ok(message) => Ok(message.write()),
+        Err(refusal) => Err(refusal),
+    }
+}
+
+/// The words of the message with this number of a plan, or how many it has.
+fn part_words(plan: &Plan, number: u32) -> Result<ArrayVec<u32, MAX_WORDS>, PlanRefusal>
+    ensures ok { IfOk result (λ words. PlanSends (Which.Message number) plan.now words.items) }
+    ensures err { IfErr result (PlanLacks (Which.Message number) plan.now) }
+{
+    match plan.message(number) {
+        Ok(message) => Ok(message.write()),
+        Err(refusal) => Err(refusal),
+    }
+}
+
+/// The words of this message of a plan, or how many messages it has.
+fn message_words(plan: &Plan, which: Which) -> Result<ArrayVec<u32, MAX_WORDS>, PlanRefusal>
+    ensures ok { IfOk result (λ words. PlanSends which plan.now words.items) }
+    ensures err { IfErr result (PlanLacks which plan.now) }
+{
+    match which {
+        Which::Only => only_words(plan),
+        Which::Message(number) => part_words(plan, number),
+    }
+}
+
+/// The words of this message of the shortest plan of a region of pages of this size, or why there is none.
+pub(crate) fn plan_words(
+    region: &Region,
+    size: PageSize,
+    which: Which,
+) -> Result<ArrayVec<u32, MAX_WORDS>, PlanRefusal>
+    ensures ok { IfOk result (λ words. ArePlanWords size region.now which words.items) }
+    ensures err { IfErr result (HasNoPlan size region.now which) }
+{
+    match plan(region, size) {
+        Ok(plan) => match message_words(&plan, which) {
+            Ok(words) => Ok(words),
+            Err(refusal) => Err(refusal),
+        },
         Err(PlanRefusal::Empty) => Err(PlanRefusal::Empty),
         Err(PlanRefusal::OutOfSpace) => Err(PlanRefusal::OutOfSpace),
         Err(PlanRefusal::NoRights) => Err(PlanRefusal::NoRights),
         Err(PlanRefusal::TooLong(pages)) => Err(PlanRefusal::TooLong(pages)),
+        Err(PlanRefusal::Several(messages)) => Err(PlanRefusal::Several(messages)),
+        Err(PlanRefusal::NoPart(messages)) => Err(PlanRefusal::NoPart(messages)),
     }
 }

@@ -1,12 +1,12 @@
 //! The codes of what a script's line is refused for before it reaches the kernel.
 ghost use Rattle.std.specs.Prelude.{◌≡◌};
-ghost use Rattle.l4_shell.specs.Refusals.{script_refusal, plan_refusal, lacks_memory, lock_refusal, pager_refusal, region_refusal};
+ghost use Rattle.l4_shell.specs.Refusals.{script_refusal, plan_refusal, lacks_memory, call_refusal, pager_refusal, region_refusal};
 
 use crate::commands::ScriptFault;
 use l4_answers::{Code, refused_code};
-use l4_lock::LockRefusal;
 use l4_pager::PagerRefusal;
 use l4_plan::PlanRefusal;
+use l4_record::RecordRefusal;
 use l4_servers::RegionRefusal;
 
 /// The code of a line that can't be read.
@@ -21,7 +21,7 @@ pub(crate) fn script_code(fault: ScriptFault) -> Code
     }
 }
 
-/// The code of a region without a plan.
+/// The code of a region without a plan, or of a plan without such a message.
 pub(crate) fn plan_code(refusal: &PlanRefusal) -> Code
     ensures { result ≡ plan_refusal refusal.now }
 {
@@ -30,6 +30,8 @@ pub(crate) fn plan_code(refusal: &PlanRefusal) -> Code
         PlanRefusal::OutOfSpace => Code::plain(b"N2"),
         PlanRefusal::NoRights => Code::plain(b"N3"),
         PlanRefusal::TooLong(_) => Code::plain(b"N4"),
+        PlanRefusal::Several(messages) => Code::numbered(b"N5", *messages),
+        PlanRefusal::NoPart(messages) => Code::numbered(b"N6", *messages),
     }
 }
 
@@ -40,16 +42,14 @@ pub(crate) fn memory_code() -> Code
     Code::plain(b"NoMemory")
 }
 
-/// The code of what the locked kernel refuses, of the kernel's own refusals the innermost one.
-pub(crate) fn lock_code(refusal: LockRefusal) -> Code
-    ensures { result ≡ lock_refusal refusal }
+/// The code of a call that is not entered, of the kernel's own refusals the innermost one.
+pub(crate) fn call_code(refusal: RecordRefusal) -> Code
+    ensures { result ≡ call_refusal refusal }
 {
     match refusal {
-        LockRefusal::HistoryFull => Code::plain(b"L1"),
-        LockRefusal::NoMemory => memory_code(),
-        LockRefusal::ReplyWaiting => Code::plain(b"L3"),
-        LockRefusal::SeatTaken => Code::plain(b"L4"),
-        LockRefusal::Kernel(refused) => refused_code(refused),
+        RecordRefusal::HistoryFull => Code::plain(b"L1"),
+        RecordRefusal::NoMemory => memory_code(),
+        RecordRefusal::Kernel(refused) => refused_code(refused),
     }
 }
 

@@ -1,15 +1,16 @@
-//! What a command comes to: a call that a thread enters, or pages that are told.
+//! What a line comes to: a call that a thread enters, or pages that are told.
 ghost use Rattle.std.specs.Prelude.{◌≡◌, true};
 ghost use Rattle.l4_ipc.specs.declared.calls.Call.TheVariants.{Ipc as Exchanges, Fault as Faults};
 ghost use Rattle.l4_pager.specs.Serving.{waiting};
 ghost use Rattle.l4_shell.specs.Inside.Exchanges.{is_ipc};
-ghost use Rattle.l4_shell.specs.Requests.{script_id, partner_id, space_id, create_call, set_pager_call, delete_call, receive_call, send_call, ipc_call, unmap_call, request_of};
+ghost use Rattle.l4_shell.specs.Requests.{script_id, partner_id, space_id, create_call, set_pager_call, delete_call, receive_call, send_call, ipc_call, unmap_call};
 
-use crate::commands::{Command, Words};
+use crate::delegations::Which;
 use crate::partners::{NewSpace, Partner};
+use arrayvec::ArrayVec;
 use l4_fpage::Rights;
 use l4_ipc::{Call, Control, Create, FaultCall, IpcCall, SetPager, UnmapCall};
-use l4_msg::Region;
+use l4_msg::{MAX_WORDS, Region};
 use l4_pager::{Entry, wait};
 use l4_threads::ThreadId;
 use std::marker::Model;
@@ -50,7 +51,7 @@ impl<'a> Model for LentCall<'a> {
     ghost view = { λ c. c.call.now };
 }
 
-/// What a command comes to. Threads go by their numbers.
+/// What a line asks for. Threads go by their numbers, below 2^18.
 #[derive(Drop)]
 pub(crate) enum Request<'a> {
     /// The thread enters the call.
@@ -59,8 +60,8 @@ pub(crate) enum Request<'a> {
     CreateThread(u32, LentCall<'a>),
     /// Root deletes the thread.
     EndThread(u32),
-    /// The thread sends the message of the region's plan.
-    SendPlan(u32, Partner, Region),
+    /// The thread sends a message of the region's plan.
+    SendPlan(u32, Partner, Which, Region),
     /// The present pages of the thread's space are listed, among so many from a first on.
     ListPages(u32, u32, u32),
     /// The parent of a page of the thread's space is told.
@@ -102,7 +103,12 @@ fn id_of_space(number: u32, space: NewSpace) -> ThreadId
 }
 
 /// Makes root's call that creates a thread.
-fn put_create(call: &mut Call, number: u32, space: NewSpace, pager: Partner) -> LentCall<'_>
+pub(crate) fn put_create(
+    call: &mut Call,
+    number: u32,
+    space: NewSpace,
+    pager: Partner,
+) -> LentCall<'_>
     ensures { result ≡ create_call number space pager }
 {
     *call = Call::Control(Control::Create(Create {
@@ -114,7 +120,7 @@ fn put_create(call: &mut Call, number: u32, space: NewSpace, pager: Partner) -> 
 }
 
 /// Makes root's call that changes a thread's pager.
-fn put_pager(call: &mut Call, number: u32, pager: Partner) -> LentCall<'_>
+pub(crate) fn put_pager(call: &mut Call, number: u32, pager: Partner) -> LentCall<'_>
     ensures { result ≡ set_pager_call number pager }
 {
     *call = Call::Control(Control::SetPager(SetPager {
@@ -174,115 +180,27 @@ pub(crate) fn make_fault(call: &mut Call, fault: FaultCall)
     }
 }
 
-/// Makes an Ipc of these parts.
-fn put_ipc<'a>(
-    call: &'a mut Call,
-    to: Partner,
-    from: Partner,
-    timeouts: u32,
-    window: u32,
-    words: Words<'_>,
-) -> LentCall<'a>
-    ensures { result ≡ ipc_call to «from» timeouts window words.entry }
+/// A send phase alone, without timeout.
+pub(crate) fn send_call(to: Partner, words: ArrayVec<u32, MAX_WORDS>) -> Call
+    ensures { result ≡ send_call to words.items }
 {
-    if let Call::Ipc(ipc) = call {
-        words.write_to(&mut ipc.words);
-        set_parts(ipc, to, from, timeouts, window);
-    } else {
-        *call = Call::Ipc(IpcCall {
-            to: id_of_partner(to),
-            from: id_of_partner(from),
-            timeouts,
-            acceptor: window,
-            words: words.registers(),
-        });
-    }
-    LentCall { call }
-}
-
-/// Makes a receive phase alone, without timeout.
-fn put_receive(call: &mut Call, from: Partner, window: u32) -> LentCall<'_>
-    ensures { result ≡ receive_call «from» window }
-{
-    make_receive(call, from, window);
-    LentCall { call }
-}
-
-/// Makes a send phase alone, without timeout.
-pub(crate) fn put_send<'a>(call: &'a mut Call, to: Partner, words: Words<'_>) -> LentCall<'a>
-    ensures { result ≡ send_call to words.entry }
-{
-    put_ipc(call, to, Partner::Nil, 0, 0, words)
+    Call::Ipc(IpcCall {
+        to: id_of_partner(to),
+        from: ThreadId(0),
+        timeouts: 0,
+        acceptor: 0,
+        words,
+    })
 }
 
 /// Makes an Unmap of these parts.
-fn put_unmap<'a>(call: &'a mut Call, control: u32, words: Words<'_>) -> LentCall<'a>
-    ensures { result ≡ unmap_call control words.entry }
+pub(crate) fn put_unmap(
+    call: &mut Call,
+    control: u32,
+    words: ArrayVec<u32, MAX_WORDS>,
+) -> LentCall<'_>
+    ensures { result ≡ unmap_call control words.items }
 {
-    *call = Call::Unmap(UnmapCall {
-        control,
-        words: words.registers(),
-    });
+    *call = Call::Unmap(UnmapCall { control, words });
     LentCall { call }
-}
-
-/// Makes a page fault.
-fn put_fault(call: &mut Call, fault: FaultCall) -> LentCall<'_>
-    ensures { result ≡ Faults «fault» }
-{
-    make_fault(call, fault);
-    LentCall { call }
-}
-
-/// What a command comes to. Where that is a call, it is made in a place.
-pub(crate) fn request_of<'a>(command: Command<'_>, places: &'a mut CallPlaces) -> Request<'a>
-    ensures { result ≡ request_of command.entry }
-{
-    match command {
-        Command::Thread {
-            number,
-            space,
-            pager,
-        } => Request::CreateThread(number, put_create(&mut places.ipc, number, space, pager)),
-        Command::SetPager { number, pager } => Request::Enter(
-            ROOT,
-            put_pager(&mut places.ipc, number, pager),
-        ),
-        Command::Delete { number } => Request::EndThread(number),
-        Command::Receive {
-            number,
-            from,
-            window,
-        } => Request::Enter(number, put_receive(&mut places.ipc, from, window)),
-        Command::Send { number, to, words } => Request::Enter(
-            number,
-            put_send(&mut places.ipc, to, words),
-        ),
-        Command::Fault(number, fault) => Request::Enter(
-            number,
-            put_fault(&mut places.fault, fault),
-        ),
-        Command::Delegate { number, to, region } => Request::SendPlan(number, to, region),
-        Command::Ipc {
-            number,
-            to,
-            from,
-            timeouts,
-            window,
-            words,
-        } => Request::Enter(
-            number,
-            put_ipc(&mut places.ipc, to, from, timeouts, window, words),
-        ),
-        Command::Unmap {
-            number,
-            control,
-            words,
-        } => Request::Enter(number, put_unmap(&mut places.ipc, control, words)),
-        Command::Show(number, first, count) => Request::ListPages(number, first, count),
-        Command::Parent { number, page } => Request::TellParent(number, page),
-        Command::Region(number, entry) => Request::AddRegion(number, entry),
-        Command::Serve(number) => Request::ServeThread(number),
-        Command::Steps => Request::TellSteps,
-    }
 }

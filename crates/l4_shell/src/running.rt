@@ -5,12 +5,12 @@ ghost use Rattle.l4_shell.specs.Scripts.{Runs};
 ghost use Rattle.l4_shell.specs.Inside.Scripts.{TellsScript, HasFirstSeats};
 ghost use Rattle.l4_shell.specs.Sessions.{session};
 
-use crate::answering::answer_line;
+use crate::answering::Script;
 use crate::requests::ROOT;
-use crate::session::Places;
-use l4_seats::SeatedKernel;
+use crate::seated::SeatedKernel;
+use l4_ipc::PageSize;
 use l4_servers::Servers;
-use l4_text::{Ending, LineReader, Output, RunFault};
+use l4_text::{Ending, LineReader, RunFault};
 use std::alloc::Global;
 use std::io::{Read, Write};
 
@@ -18,10 +18,10 @@ use std::io::{Read, Write};
 const SIGMA0: u32 = 1;
 
 /// A kernel as it boots, in which sigma0 and root have their seats.
-fn booted(alloc: Global, frames: u32) -> Option<SeatedKernel>
-    ensures { IfSome result (HasFirstSeats frames) }
+fn booted(alloc: Global, frames: u32, size: PageSize) -> Option<SeatedKernel>
+    ensures { IfSome result (HasFirstSeats frames size) }
 {
-    let Ok(mut kernel) = SeatedKernel::new(alloc, frames) else {
+    let Ok(mut kernel) = SeatedKernel::new(alloc, frames, size) else {
         return None;
     };
     if kernel.give(SIGMA0).is_err() {
@@ -33,52 +33,42 @@ fn booted(alloc: Global, frames: u32) -> Option<SeatedKernel>
     Some(kernel)
 }
 
-/// Answers line after line, to the end of the script. Answers their number. It stands apart, so that what each line uses lies close together and
-/// not among the places through which the kernel came.
-#[inline(never)]
-fn answer_all<R: Read, W: Write>(
-    kernel: &mut SeatedKernel,
-    servers: &mut Servers,
-    reader: &mut R,
-    out: &mut Output,
-    writer: &mut W,
-) -> Result<u64, RunFault>
-    ensures { TellsScript (session kernel.old servers.old) (R.remaining reader.old) (R.remaining reader.new)
-        (W.contents writer.old) (W.contents writer.new) out.old out.new result }
-{
-    let mut lines = LineReader::new();
-    let mut places = Places::new();
-    for number in 1..u64::MAX {
-        out.send_before_line(&lines, writer);
-        if out.has_failed() {
-            return Err(RunFault::Write);
+impl Script {
+    /// Answers line after line, to the end of the script. Answers their number.
+    #[inline(never)]
+    fn answer_all<R: Read, W: Write>(
+        &mut self,
+        reader: &mut R,
+        writer: &mut W,
+    ) -> Result<u64, RunFault>
+        ensures { TellsScript (session self.old.session.kernel self.old.session.servers) (R.remaining reader.old) (R.remaining reader.new)
+            (W.contents writer.old) (W.contents writer.new) self.old.session.out self.new.session.out result }
+    {
+        let mut lines = LineReader::new();
+        for number in 1..u64::MAX {
+            self.session.out.send_before_line(&lines, writer);
+            if self.session.out.has_failed() {
+                return Err(RunFault::Write);
+            }
+            let next = match lines.next(reader) {
+                Ok(next) => next,
+                Err(_) => return Err(RunFault::Read),
+            };
+            let Some(ending) = next else {
+                return Ok(number - 1);
+            };
+            self.answer_line(number, ending, lines.line(), writer);
+            if ending == Ending::Cut {
+                return Ok(number);
+            }
         }
-        let next = match lines.next(reader) {
-            Ok(next) => next,
-            Err(_) => return Err(RunFault::Read),
-        };
-        let Some(ending) = next else {
-            return Ok(number - 1);
-        };
-        answer_line(
-            kernel,
-            servers,
-            (number, ending),
-            lines.line(),
-            &mut places,
-            out,
-            writer,
-        );
-        if ending == Ending::Cut {
-            return Ok(number);
-        }
+        Err(RunFault::Read)
     }
-    Err(RunFault::Read)
 }
 
 /// Answers the script that the reader gives, line by line, over a kernel of its own with this many
-/// frames, 1 to 4,096. Answers the number of lines: empty ones, comments and refused ones too, and a
-/// last one that no newline ends. A line's answers go out before the read that asks for the next.
+/// frames, 1 to 4,096, of this size. Answers the number of lines: empty ones, comments and refused ones
+/// too, and a last one that no newline ends. A line's answers go out before the read that asks for the next.
 ///
 /// A read asks for 4,096 bytes, and there are at most 16,777,216 reads: where the script has not
 /// ended by then, that is `Read`. An error of any kind is a fault, and so is a write that takes no
@@ -88,6 +78,7 @@ fn answer_all<R: Read, W: Write>(
 pub fn run<R: Read, W: Write>(
     alloc: Global,
     frames: u32,
+    size: PageSize,
     reader: &mut R,
     writer: &mut W,
 ) -> Result<u64, RunFault>
@@ -97,16 +88,15 @@ pub fn run<R: Read, W: Write>(
     // What goes out is the script text of what was read: to its end, of the whole lines before a
     // read that failed, or a beginning of it where a write failed. Want of memory comes before all
     // else.
-    ensures { Runs frames (R.remaining reader.old) (R.remaining reader.new)
+    ensures { Runs frames size (R.remaining reader.old) (R.remaining reader.new)
         (W.contents writer.old) (W.contents writer.new) result }
 {
-    let Some(mut kernel) = booted(alloc, frames) else {
+    let Some(kernel) = booted(alloc, frames, size) else {
         return Err(RunFault::Memory);
     };
-    let mut servers = Servers::new(alloc, frames);
-    let mut out = Output::new();
-    let answered = answer_all(&mut kernel, &mut servers, reader, &mut out, writer);
-    match out.finish(writer) {
+    let mut script = Script::new(kernel, Servers::new(alloc, frames, size));
+    let answered = script.answer_all(reader, writer);
+    match script.session.out.finish(writer) {
         Ok(()) => answered,
         Err(_) => Err(RunFault::Write),
     }

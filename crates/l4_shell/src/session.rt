@@ -1,57 +1,37 @@
-//! Script lines over a kernel.
-ghost use Rattle.std.specs.Prelude.{◌≡◌, ◌⊎◌, ◌∷◌, ℕ, List, false, MatchOption, codes, bytes_eq};
-ghost use Rattle.l4_text.specs.Tokens.{tokens_of};
-ghost use Rattle.l4_shell.specs.Commands.{command_of};
+//! A script's kernel and its servers, and how what a line asks for is carried out on them.
+ghost use Rattle.std.specs.Prelude.{◌≡◌, ◌⊎◌, ℕ, List, [], false, MatchOption};
 ghost use Rattle.l4_text.specs.Streams.{Tells};
 ghost use Rattle.l4_answers.specs.Refusals.{refused_text};
-ghost use Rattle.l4_shell.specs.Requests.{is_comment, some_command};
-ghost use Rattle.l4_shell.specs.Sessions.{session, Enters, Creates, Deletes, ServesThread, AddsRegion, place_text, ListsBelow, Shows, parent_answer, Delegates, TellsCount, CarriesOut, AnswersLine, Refuses, LacksRoom};
+ghost use Rattle.l4_shell.specs.Sessions.{session, Enters, Creates, Deletes, ServesThread, AddsRegion, place_text, ListsBelow, Shows, parent_answer, Delegates, TellsCount, CarriesOut, Refuses, LacksRoom};
 ghost use Rattle.l4_shell.specs.Inside.Telling.{TellsCall, TellsRefusal};
 ghost use Rattle.l4_pager.specs.Serving.{waiting};
 ghost use Rattle.l4_servers.specs.Servers.{Servers as AllServers, is_served};
 
-use crate::commands::{Words, other_command};
-use crate::delegations::plan_words;
+use crate::delegations::{Which, plan_words};
 use crate::partners::Partner;
-use crate::refusals::{lock_code, memory_code, plan_code, region_code, script_code};
-use crate::requests::{CallPlaces, LentCall, ROOT, Request, delete_call, put_send, request_of};
-use crate::serving::{enter_call, follow};
+use crate::refusals::{call_code, memory_code, plan_code, region_code};
+use crate::requests::{ROOT, Request, delete_call, send_call};
+use crate::seated::SeatedKernel;
+use crate::serving::tell_appended;
 use crate::texts::{region_text, steps_text};
-use arrayvec::ArrayVec;
 use l4_answers::{Code, add_refused, parent_text, put_page, refused_code, shown_text};
-use l4_ipc::{Call, Kernel, Refused, SPACE_PAGES};
-use l4_msg::{MAX_WORDS, Region};
+use l4_ipc::{Call, Kernel, Refused};
+use l4_msg::Region;
 use l4_pager::{Entry, wait};
-use l4_seats::SeatedKernel;
+use l4_record::Appended;
 use l4_servers::Servers;
 use l4_text::{Output, Text};
 use std::io::Write;
 
-/// The places of a line's words, of its call, and of the calls that served threads enter on it. Lines use them in turn.
+/// What a script's lines are carried out on: the kernel, who is served, the place of the calls that served threads enter, that of what a call
+/// appended to the history, and what was told. Lines use the places in turn.
 #[derive(Drop)]
-pub(crate) struct Places {
-    registers: ArrayVec<u32, MAX_WORDS>,
-    pub(crate) calls: CallPlaces,
+pub(crate) struct Session {
+    pub(crate) kernel: SeatedKernel,
+    pub(crate) servers: Servers,
     pub(crate) act: Call,
-}
-
-impl Places {
-    pub(crate) fn new() -> Places
-        ensures { result.act ≡ waiting }
-    {
-        Places {
-            registers: ArrayVec::new(),
-            calls: CallPlaces::new(),
-            act: wait(),
-        }
-    }
-}
-
-/// Whether a line's first byte is `#`.
-pub(crate) fn is_comment(line: &[u8]) -> bool
-    ensures { result ≡ is_comment line.now }
-{
-    !line.is_empty() && line[0] == b'#'
+    pub(crate) appended: Appended,
+    pub(crate) out: Output,
 }
 
 /// Tells why a line is refused.
@@ -62,188 +42,6 @@ pub(crate) fn refuse<W: Write>(line: u64, code: &Code, out: &mut Output, writer:
     let mut text = Text::new();
     add_refused(&mut text, line, code);
     out.put(writer, &text);
-}
-
-/// Enters a call, and tells its start and the steps that follow it. Answers whether it has ended. Where it is refused, tells why; None then.
-#[inline(always)]
-fn start<W: Write>(
-    kernel: &mut SeatedKernel,
-    line: u64,
-    thread: u32,
-    call: LentCall<'_>,
-    out: &mut Output,
-    writer: &mut W,
-) -> Option<bool>
-    ensures { MatchOption result
-        (TellsRefusal kernel.old line thread call.entry kernel.new (W.contents writer.old) (W.contents writer.new) out.old out.new)
-        (λ ended. TellsCall kernel.old thread call.entry thread ended kernel.new (W.contents writer.old) (W.contents writer.new) out.old out.new) }
-{
-    match enter_call(kernel, (thread, call), thread, out, writer) {
-        Ok(ended) => Some(ended),
-        Err(refusal) => {
-            refuse(line, &lock_code(refusal), out, writer);
-            None
-        }
-    }
-}
-
-/// Enters a call, and does what follows.
-pub(crate) fn enter<W: Write>(
-    kernel: &mut SeatedKernel,
-    servers: &mut Servers,
-    line: u64,
-    entry: (u32, LentCall<'_>),
-    act: &mut Call,
-    out: &mut Output,
-    writer: &mut W,
-)
-    ensures { (text : List ℕ) × Enters (session kernel.old servers.old) line entry.entry.0 entry.entry.1 text (session kernel.new servers.new)
-        × Tells (W.contents writer.old) (W.contents writer.new) out.old out.new text }
-{
-    let (thread, call) = entry;
-    let Some(ended) = start(kernel, line, thread, call, out, writer) else {
-        return;
-    };
-    follow(kernel, servers, thread, ended, act, out, writer);
-}
-
-/// Root creates a thread, whose number has its seat from then on.
-#[inline(never)]
-fn create_thread<W: Write>(
-    kernel: &mut SeatedKernel,
-    servers: &mut Servers,
-    line: u64,
-    creation: (u32, LentCall<'_>),
-    act: &mut Call,
-    out: &mut Output,
-    writer: &mut W,
-)
-    ensures { (text : List ℕ) × Creates (session kernel.old servers.old) line creation.entry.0 creation.entry.1 text (session kernel.new servers.new)
-        × Tells (W.contents writer.old) (W.contents writer.new) out.old out.new text }
-{
-    let (number, call) = creation;
-    let Ok(()) = kernel.give(number) else {
-        return refuse(line, &memory_code(), out, writer);
-    };
-    enter(kernel, servers, line, (ROOT, call), act, out, writer);
-}
-
-/// Root deletes a thread, which is served no longer and has no table.
-#[inline(never)]
-fn end_thread<W: Write>(
-    kernel: &mut SeatedKernel,
-    servers: &mut Servers,
-    line: u64,
-    thread: u32,
-    act: &mut Call,
-    out: &mut Output,
-    writer: &mut W,
-)
-    ensures { (text : List ℕ) × Deletes (session kernel.old servers.old) line thread text (session kernel.new servers.new)
-        × Tells (W.contents writer.old) (W.contents writer.new) out.old out.new text }
-{
-    let call = delete_call(thread);
-    let Some(ended) = start(kernel, line, ROOT, LentCall { call: &call }, out, writer) else {
-        return;
-    };
-    servers.forget(thread);
-    follow(kernel, servers, ROOT, ended, act, out, writer);
-}
-
-/// Refuses to serve a thread for which there is no memory: by whatever its call is refused for, and last for want of memory.
-#[inline(never)]
-fn refuse_to_serve<W: Write>(
-    kernel: &mut SeatedKernel,
-    line: u64,
-    thread: u32,
-    out: &mut Output,
-    writer: &mut W,
-)
-    ensures { (s : AllServers) → is_served s thread ≡ false → (text : List ℕ)
-        × (Refuses (session kernel.old s) line thread waiting text (session kernel.new s) ⊎ LacksRoom (session kernel.old s) line thread text (session kernel.new s))
-        × Tells (W.contents writer.old) (W.contents writer.new) out.old out.new text }
-{
-    if kernel.may_enter(thread) {
-        return refuse(line, &memory_code(), out, writer);
-    }
-    let call = wait();
-    let _ = start(kernel, line, thread, LentCall { call: &call }, out, writer);
-}
-
-/// A thread waits for anybody's message, and is served from then on.
-#[inline(never)]
-fn serve_thread<W: Write>(
-    kernel: &mut SeatedKernel,
-    servers: &mut Servers,
-    line: u64,
-    thread: u32,
-    act: &mut Call,
-    out: &mut Output,
-    writer: &mut W,
-)
-    ensures { (text : List ℕ) × ServesThread (session kernel.old servers.old) line thread text (session kernel.new servers.new)
-        × Tells (W.contents writer.old) (W.contents writer.new) out.old out.new text }
-{
-    let Ok(begins) = servers.serve(thread) else {
-        return refuse_to_serve(kernel, line, thread, out, writer);
-    };
-    let call = wait();
-    let Some(ended) = start(kernel, line, thread, LentCall { call: &call }, out, writer) else {
-        if begins {
-            return servers.take_back(thread);
-        }
-        return;
-    };
-    follow(kernel, servers, thread, ended, act, out, writer);
-}
-
-/// Adds a region to a thread's table.
-#[inline(never)]
-fn add_region<W: Write>(
-    kernel: &SeatedKernel,
-    servers: &mut Servers,
-    line: u64,
-    region: (u32, Entry),
-    out: &mut Output,
-    writer: &mut W,
-)
-    ensures { (text : List ℕ) × AddsRegion (session kernel.now servers.old) line region.0 region.1 text (session kernel.now servers.new)
-        × Tells (W.contents writer.old) (W.contents writer.new) out.old out.new text }
-{
-    let (thread, entry) = region;
-    let Some(_) = kernel.kernel().space_of(thread) else {
-        let code = refused_code(Refused::UnknownThread);
-        return refuse(line, &code, out, writer);
-    };
-    match servers.add_region(thread, entry) {
-        Ok(()) => out.put(writer, &region_text()),
-        Err(refusal) => refuse(line, &region_code(refusal), out, writer),
-    }
-}
-
-/// Sends the message of a region's plan. Where there is none, tells why and does nothing.
-#[inline(never)]
-fn delegate<W: Write>(
-    kernel: &mut SeatedKernel,
-    servers: &mut Servers,
-    line: u64,
-    delegation: (u32, Partner, Region),
-    act: &mut Call,
-    out: &mut Output,
-    writer: &mut W,
-)
-    ensures { (text : List ℕ) × Delegates (session kernel.old servers.old) line delegation.0 delegation.1 delegation.2 text (session kernel.new servers.new)
-        × Tells (W.contents writer.old) (W.contents writer.new) out.old out.new text }
-{
-    let (thread, to, region) = delegation;
-    match plan_words(&region) {
-        Ok(words) => {
-            let mut place = wait();
-            let call = put_send(&mut place, to, Words::of(&words));
-            enter(kernel, servers, line, (thread, call), act, out, writer)
-        }
-        Err(refusal) => refuse(line, &plan_code(&refusal), out, writer),
-    }
 }
 
 /// Tells what a page shows, if it is present.
@@ -302,7 +100,8 @@ fn show<W: Write>(
         return refuse(line, &code, out, writer);
     };
     let (first, count) = pages;
-    let end = first.saturating_add(count).min(SPACE_PAGES);
+    let most = kernel.page_size().space_pages();
+    let end = first.saturating_add(count).min(most);
     let shown = list_pages(kernel, space, first, end, out, writer);
     out.put(writer, &shown_text(shown));
 }
@@ -337,92 +136,196 @@ fn tell_count<W: Write>(kernel: &mut SeatedKernel, out: &mut Output, writer: &mu
     out.put(writer, &steps_text(count));
 }
 
-/// Carries out what a line asks for.
-fn carry_out<W: Write>(
-    kernel: &mut SeatedKernel,
-    servers: &mut Servers,
-    line: u64,
-    request: Request<'_>,
-    act: &mut Call,
-    out: &mut Output,
-    writer: &mut W,
-)
-    ensures { (text : List ℕ) × CarriesOut (session kernel.old servers.old) line request.entry text (session kernel.new servers.new)
-        × Tells (W.contents writer.old) (W.contents writer.new) out.old out.new text }
-{
-    match request {
-        Request::Enter(thread, call) => enter(
+impl Session {
+    /// A session in which nothing was told.
+    pub(crate) fn new(kernel: SeatedKernel, servers: Servers) -> Session
+        ensures { (result.kernel ≡ kernel) × (result.servers ≡ servers) × (result.out ≡ ([], false)) }
+    {
+        Session {
             kernel,
             servers,
-            line,
-            (thread, call),
-            act,
-            out,
-            writer,
-        ),
-        Request::CreateThread(number, call) => {
-            create_thread(kernel, servers, line, (number, call), act, out, writer)
+            act: wait(),
+            appended: Appended::new(),
+            out: Output::new(),
         }
-        Request::EndThread(thread) => end_thread(kernel, servers, line, thread, act, out, writer),
-        Request::SendPlan(thread, to, region) => {
-            delegate(
-                kernel,
-                servers,
-                line,
-                (thread, to, region),
-                act,
-                out,
-                writer,
-            )
-        }
-        Request::ListPages(thread, first, count) => {
-            show(kernel.kernel(), line, thread, (first, count), out, writer)
-        }
-        Request::TellParent(thread, page) => {
-            tell_parent(kernel.kernel(), line, thread, page, out, writer)
-        }
-        Request::AddRegion(thread, entry) => {
-            add_region(kernel, servers, line, (thread, entry), out, writer)
-        }
-        Request::ServeThread(thread) => serve_thread(
-            kernel, servers, line, thread, act, out, writer,
-        ),
-        Request::TellSteps => tell_count(kernel, out, writer),
     }
-}
 
-/// Answers a line of another first token than `recv`, `send`, `ipc` and `fault`.
-#[inline(never)]
-pub(crate) fn answer_other<W: Write>(
-    kernel: &mut SeatedKernel,
-    servers: &mut Servers,
-    number: u64,
-    name: &[u8],
-    rest: &[u8],
-    places: &mut Places,
-    out: &mut Output,
-    writer: &mut W,
-)
-    requires recv { bytes_eq name.now (codes "recv") ≡ false }
-    requires send { bytes_eq name.now (codes "send") ≡ false }
-    requires ipc { bytes_eq name.now (codes "ipc") ≡ false }
-    requires fault { bytes_eq name.now (codes "fault") ≡ false }
-    ensures { (text : List ℕ) × AnswersLine (session kernel.old servers.old) number (some_command (command_of (name.now ∷ tokens_of rest.now))) text (session kernel.new servers.new)
-        × Tells (W.contents writer.old) (W.contents writer.new) out.old out.new text }
-{
-    match other_command(name, rest, &mut places.registers) {
-        Ok(command) => {
-            let request = request_of(command, &mut places.calls);
-            carry_out(
-                kernel,
-                servers,
-                number,
-                request,
-                &mut places.act,
-                out,
-                writer,
-            )
+    /// Enters a call, and tells its start and the steps that follow it. Answers whether it has ended. Where it is refused, tells why; None then.
+    fn enter_and_tell<W: Write>(
+        &mut self,
+        line: u64,
+        thread: u32,
+        call: &Call,
+        writer: &mut W,
+    ) -> Option<bool>
+        ensures told { MatchOption result
+            (TellsRefusal self.old.kernel line thread call.now self.new.kernel (W.contents writer.old) (W.contents writer.new) self.old.out self.new.out)
+            (λ ended. TellsCall self.old.kernel thread call.now thread ended self.new.kernel (W.contents writer.old) (W.contents writer.new) self.old.out self.new.out) }
+        ensures servers { self.new.servers ≡ self.old.servers }
+    {
+        let entered = self
+            .kernel
+            .enter_if_seated(thread, call, &mut self.appended);
+        match entered {
+            Ok(()) => {
+                let kernel = self.kernel.kernel();
+                Some(tell_appended(kernel, &self.appended, thread, &mut self.out, writer))
+            }
+            Err(refusal) => {
+                refuse(line, &call_code(refusal), &mut self.out, writer);
+                None
+            }
         }
-        Err(fault) => refuse(number, &script_code(fault), out, writer),
+    }
+
+    /// Enters a call and tells it, and does what follows.
+    pub(crate) fn enter_and_follow<W: Write>(
+        &mut self,
+        line: u64,
+        thread: u32,
+        call: &Call,
+        writer: &mut W,
+    )
+        ensures { (text : List ℕ) × Enters (session self.old.kernel self.old.servers) line thread call.now text (session self.new.kernel self.new.servers)
+            × Tells (W.contents writer.old) (W.contents writer.new) self.old.out self.new.out text }
+    {
+        let Some(ended) = self.enter_and_tell(line, thread, call, writer) else {
+            return;
+        };
+        self.follow(thread, ended, writer);
+    }
+
+    /// Root creates a thread, whose number has its seat from then on.
+    #[inline(never)]
+    fn create_thread<W: Write>(&mut self, line: u64, number: u32, call: &Call, writer: &mut W)
+        ensures { (text : List ℕ) × Creates (session self.old.kernel self.old.servers) line number call.now text (session self.new.kernel self.new.servers)
+            × Tells (W.contents writer.old) (W.contents writer.new) self.old.out self.new.out text }
+    {
+        let Ok(()) = self.kernel.give(number) else {
+            return refuse(line, &memory_code(), &mut self.out, writer);
+        };
+        self.enter_and_follow(line, ROOT, call, writer);
+    }
+
+    /// Root deletes a thread, which is served no longer and has no table.
+    #[inline(never)]
+    fn end_thread<W: Write>(&mut self, line: u64, thread: u32, writer: &mut W)
+        ensures { (text : List ℕ) × Deletes (session self.old.kernel self.old.servers) line thread text (session self.new.kernel self.new.servers)
+            × Tells (W.contents writer.old) (W.contents writer.new) self.old.out self.new.out text }
+    {
+        let call = delete_call(thread);
+        let Some(ended) = self.enter_and_tell(line, ROOT, &call, writer) else {
+            return;
+        };
+        self.servers.forget(thread);
+        self.follow(ROOT, ended, writer);
+    }
+
+    /// Refuses to serve a thread for which there is no memory: by whatever its call is refused for, and last for want of memory.
+    #[inline(never)]
+    fn refuse_to_serve<W: Write>(&mut self, line: u64, thread: u32, writer: &mut W)
+        ensures told { (s : AllServers) → is_served s thread ≡ false → (text : List ℕ)
+            × (Refuses (session self.old.kernel s) line thread waiting text (session self.new.kernel s) ⊎ LacksRoom (session self.old.kernel s) line thread text (session self.new.kernel s))
+            × Tells (W.contents writer.old) (W.contents writer.new) self.old.out self.new.out text }
+        ensures servers { self.new.servers ≡ self.old.servers }
+    {
+        if self.kernel.may_enter(thread) {
+            return refuse(line, &memory_code(), &mut self.out, writer);
+        }
+        let call = wait();
+        let _ = self.enter_and_tell(line, thread, &call, writer);
+    }
+
+    /// A thread waits for anybody's message, and is served from then on.
+    #[inline(never)]
+    fn serve_thread<W: Write>(&mut self, line: u64, thread: u32, writer: &mut W)
+        ensures { (text : List ℕ) × ServesThread (session self.old.kernel self.old.servers) line thread text (session self.new.kernel self.new.servers)
+            × Tells (W.contents writer.old) (W.contents writer.new) self.old.out self.new.out text }
+    {
+        let Ok(begins) = self.servers.serve(thread) else {
+            return self.refuse_to_serve(line, thread, writer);
+        };
+        let call = wait();
+        let Some(ended) = self.enter_and_tell(line, thread, &call, writer) else {
+            if begins {
+                return self.servers.take_back(thread);
+            }
+            return;
+        };
+        self.follow(thread, ended, writer);
+    }
+
+    /// Adds a region to a thread's table.
+    #[inline(never)]
+    fn add_region<W: Write>(&mut self, line: u64, thread: u32, entry: Entry, writer: &mut W)
+        ensures { (text : List ℕ) × AddsRegion (session self.old.kernel self.old.servers) line thread entry text (session self.new.kernel self.new.servers)
+            × Tells (W.contents writer.old) (W.contents writer.new) self.old.out self.new.out text }
+    {
+        let Some(_) = self.kernel.kernel().space_of(thread) else {
+            let code = refused_code(Refused::UnknownThread);
+            return refuse(line, &code, &mut self.out, writer);
+        };
+        match self.servers.add_region(thread, entry) {
+            Ok(()) => self.out.put(writer, &region_text()),
+            Err(refusal) => refuse(line, &region_code(refusal), &mut self.out, writer),
+        }
+    }
+
+    /// Sends a message of a region's plan. Where there is none, tells why and does nothing.
+    #[inline(never)]
+    fn delegate<W: Write>(
+        &mut self,
+        line: u64,
+        thread: u32,
+        to: Partner,
+        which: Which,
+        region: Region,
+        writer: &mut W,
+    )
+        ensures { (text : List ℕ) × Delegates (session self.old.kernel self.old.servers) line thread to which region text (session self.new.kernel self.new.servers)
+            × Tells (W.contents writer.old) (W.contents writer.new) self.old.out self.new.out text }
+    {
+        let size = self.kernel.kernel().page_size();
+        match plan_words(&region, size, which) {
+            Ok(words) => {
+                let call = send_call(to, words);
+                self.enter_and_follow(line, thread, &call, writer)
+            }
+            Err(refusal) => refuse(line, &plan_code(&refusal), &mut self.out, writer),
+        }
+    }
+
+    /// Carries out what a line asks for.
+    pub(crate) fn carry_out<W: Write>(&mut self, line: u64, request: Request<'_>, writer: &mut W)
+        ensures { (text : List ℕ) × CarriesOut (session self.old.kernel self.old.servers) line request.entry text (session self.new.kernel self.new.servers)
+            × Tells (W.contents writer.old) (W.contents writer.new) self.old.out self.new.out text }
+    {
+        let out = &mut self.out;
+        match request {
+            Request::Enter(thread, call) => self.enter_and_follow(line, thread, call.call, writer),
+            Request::CreateThread(number, call) => {
+                self.create_thread(line, number, call.call, writer)
+            }
+            Request::EndThread(thread) => self.end_thread(line, thread, writer),
+            Request::SendPlan(thread, to, which, region) => {
+                self.delegate(line, thread, to, which, region, writer)
+            }
+            Request::ListPages(thread, first, count) => {
+                show(
+                    self.kernel.kernel(),
+                    line,
+                    thread,
+                    (first, count),
+                    out,
+                    writer,
+                )
+            }
+            Request::TellParent(thread, page) => {
+                tell_parent(self.kernel.kernel(), line, thread, page, out, writer)
+            }
+            Request::AddRegion(thread, entry) => self.add_region(line, thread, entry, writer),
+            Request::ServeThread(thread) => self.serve_thread(line, thread, writer),
+            Request::TellSteps => tell_count(&mut self.kernel, out, writer),
+        }
     }
 }

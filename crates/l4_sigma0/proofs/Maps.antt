@@ -5,7 +5,7 @@ use Rattle.std.specs.Cmp.{unsigned_tied, nat_cmp_total}
 use Rattle.std.specs.FinMap as fin
 use Rattle.std.proofs.lemmas.Bool.Decides.{eqb_tells}
 use Rattle.l4_fpage.specs.Rights.{all_rights}
-use Rattle.l4_fpage.specs.Pages.{InBlock}
+use Rattle.l4_fpage.specs.Pages.{InBlock, page_log, page_bytes}
 use Rattle.l4_fpage.specs.Fpages.{bytes_of, rights_of}
 use Rattle.l4_fpage.specs.declared.fpages.Fpage.{Fpage}
 use Rattle.l4_msg.specs.declared.items.Item.TheVariants.{Map}
@@ -13,6 +13,7 @@ use Rattle.l4_msg.specs.declared.messages.Message.{Message}
 use Rattle.l4_msg.specs.Protocols.{nothing, one_item, GivesPages}
 use Rattle.l4_sigma0.specs.Owners.{Owners, owner_of, is_in, Wants, MayHave, MayHaveAll, Gives, Answers}
 use Rattle.l4_sigma0.specs.Inside.Tables.{entries_from, map_of, owner_in, AreFree, IsFilled}
+use Rattle.l4_fpage.specs.declared.sizes.PageSize.{PageSize}
 
 differ : (a b : ℕ) → a ≢ b → (a == b) ≡ false
 differ a b ne = elim (eqb_tells a b) [ inl h ↦ absurd (ne h.1) | inr h ↦ h.0 ]
@@ -38,13 +39,13 @@ stands (Some o ∷ rest) n (suc k) q e =
 pub owner_is : (owners : List (Option ℕ)) (frame : ℕ) → fin.get (map_of owners) frame ≡ owner_in owners frame
 owner_is owners frame = fin.get-from_entries nat_cmp_total (entries_from 0 owners) frame ∙ stands owners 0 frame frame (omega arith)
 
-abbrev pub table : ℕ → List (Option ℕ) → Owners
-table frames owners = record { frames = frames; owner = map_of owners }
+abbrev pub table : PageSize → ℕ → List (Option ℕ) → Owners
+table size frames owners = record { size = size; frames = frames; owner = map_of owners }
 
-pub unwanted : (t : Owners) (space : ℕ) (m answer : Message) → ((first log : ℕ) → Wants m first log → ⊥) → answer ≡ nothing → Answers t space m answer t
+pub unwanted : (t : Owners) (space : ℕ) (m answer : Message) → ((first log : ℕ) → Wants t.size m first log → ⊥) → answer ≡ nothing → Answers t space m answer t
 unwanted t space m answer none e = inr ((λ first log w all. none first log w), e, refl)
 
-refused : (t : Owners) (space : ℕ) (m answer : Message) (first log : ℕ) → ((f l : ℕ) → Wants m f l → (first ≡ f) × (log ≡ l)) → (MayHaveAll t space first log → ⊥) → answer ≡ nothing → Answers t space m answer t
+refused : (t : Owners) (space : ℕ) (m answer : Message) (first log : ℕ) → ((f l : ℕ) → Wants t.size m f l → (first ≡ f) × (log ≡ l)) → (MayHaveAll t space first log → ⊥) → answer ≡ nothing → Answers t space m answer t
 refused t space m answer first log only not e =
     inr (
       (λ f l w all. let same : (first ≡ f) × (log ≡ l) = only f l w in
@@ -53,18 +54,18 @@ refused t space m answer first log only not e =
       refl,
     )
 
-pub beyond : (t : Owners) (space : ℕ) (m answer : Message) (first log end : ℕ) → end ≡ first + 2 ^ log → 0 < 2 ^ log → t.frames < end → ((f l : ℕ) → Wants m f l → (first ≡ f) × (log ≡ l)) → answer ≡ nothing → Answers t space m answer t
+pub beyond : (t : Owners) (space : ℕ) (m answer : Message) (first log end : ℕ) → end ≡ first + 2 ^ log → 0 < 2 ^ log → t.frames < end → ((f l : ℕ) → Wants t.size m f l → (first ≡ f) × (log ≡ l)) → answer ≡ nothing → Answers t space m answer t
 beyond t space m answer first log end is positive past only =
     refused t space m answer first log only
     (λ all. let last : MayHave t space (end - 1) = all (end - 1) (record { «from» = omega arith; below = omega arith }) in absurd (omega (arith, last.0)))
 
-pub taken : (frames : ℕ) (owners : List (Option ℕ)) (space : ℕ) (m answer : Message) (first log end : ℕ) → end ≡ first + 2 ^ log → (AreFree owners space first end → ⊥) → ((f l : ℕ) → Wants m f l → (first ≡ f) × (log ≡ l)) → answer ≡ nothing → Answers (table frames owners) space m answer (table frames owners)
-taken frames owners space m answer first log end is not only =
-    refused (table frames owners) space m answer first log only
+pub taken : (size : PageSize) (frames : ℕ) (owners : List (Option ℕ)) (space : ℕ) (m answer : Message) (first log end : ℕ) → end ≡ first + 2 ^ log → (AreFree owners space first end → ⊥) → ((f l : ℕ) → Wants size m f l → (first ≡ f) × (log ≡ l)) → answer ≡ nothing → Answers (table size frames owners) space m answer (table size frames owners)
+taken size frames owners space m answer first log end is not only =
+    refused (table size frames owners) space m answer first log only
     (λ all. not (λ frame from below. subst (λ (o : Option ℕ). MatchOption o (Unit {0}) (λ owner. owner ≡ space)) (owner_is owners frame) (all frame (record { «from» = from; below = omega arith })).1))
 
-pub given : (frames : ℕ) (old new : List (Option ℕ)) (space : ℕ) (m answer : Message) (first log end base : ℕ) (fpage : Fpage) → end ≡ first + 2 ^ log → base ≡ first * 4096 → end ≤ frames → Wants m first log → AreFree old space first end → IsFilled old space first end new → bytes_of fpage ≡ Some (record { base = first * 4096; log = log + 12 }) → rights_of fpage ≡ all_rights → answer ≡ one_item (Map base fpage) → Answers (table frames old) space m answer (table frames new)
-given frames old new space m answer first log end base fpage is at within wants free filled bytes rights e =
+pub given : (size : PageSize) (frames : ℕ) (old new : List (Option ℕ)) (space : ℕ) (m answer : Message) (first log end base : ℕ) (fpage : Fpage) → end ≡ first + 2 ^ log → base ≡ first * page_bytes size → end ≤ frames → Wants size m first log → AreFree old space first end → IsFilled old space first end new → bytes_of fpage ≡ Some (record { base = first * page_bytes size; log = log + page_log size }) → rights_of fpage ≡ all_rights → answer ≡ one_item (Map base fpage) → Answers (table size frames old) space m answer (table size frames new)
+given size frames old new space m answer first log end base fpage is at within wants free filled bytes rights e =
     inl (
       first,
       log,
@@ -72,6 +73,7 @@ given frames old new space m answer first log end base fpage is at within wants 
       (λ frame h. (omega (arith, h.below), subst (λ (o : Option ℕ). MatchOption o (Unit {0}) (λ owner. owner ≡ space)) (sym (owner_is old frame)) (free frame h.«from» (omega (arith, h.below))))),
       record { fpage = fpage; bytes = bytes; rights_are = rights; is = e ∙ ap (λ (b : ℕ). one_item (Map b fpage)) at },
       record {
+        size = refl;
         frames = refl;
         owner = λ frame. owner_is new frame ∙ filled.owner frame
             ∙ ap (λ (k : ℕ). if nat_le first frame && nat_lt frame k then Some space else owner_in old frame) is

@@ -8,34 +8,45 @@ use Rattle.l4_fpage.specs.Rights.{all_rights}
 use Rattle.l4_fpage.specs.Pages.{InBlock, page_bytes, page_log}
 use Rattle.l4_fpage.specs.declared.fpages.Fpage.{Fpage}
 use Rattle.l4_msg.specs.declared.messages.Message.{Message}
+use Rattle.l4_msg.specs.declared.protocols.FrameRequest.{FrameRequest}
 use Rattle.l4_msg.specs.declared.protocols.PageFault.{PageFault}
 use Rattle.l4_msg.specs.Protocols.{FaultReads, RequestReads, nothing, GivesPages}
+use Rattle.l4_fpage.specs.declared.sizes.PageSize.{PageSize}
+use Rattle.l4_fpage.specs.Pages.{size_code}
 
--- the number of frames, and the spaces that own some of them, by frame
+-- the size of pages and frames, the number of frames, and the spaces that own some of them, by frame
 pub record Owners : Type 0 where
+  pub size : PageSize
   pub frames : ℕ
   pub owner : fin.FinMap nat_cmp ℕ
 
--- a table of owners is stored as the number and the map
+-- a table of owners is stored as the size, the number and the map
 abbrev pub owners_code : Coded Owners
 owners_code =
-    code_by (ℕ × fin.FinMap nat_cmp ℕ) (coded× coded_ℕ (fin.code coded_ℕ coded_ℕ))
-    (λ t. (t.frames, t.owner)) (λ p. record { frames = p.0; owner = p.1 }) (λ _. refl)
+    code_by (PageSize × (ℕ × fin.FinMap nat_cmp ℕ)) (coded× size_code (coded× coded_ℕ (fin.code coded_ℕ coded_ℕ)))
+    (λ t. (t.size, (t.frames, t.owner))) (λ p. record { size = p.0; frames = p.1.0; owner = p.1.1 }) (λ _. refl)
 
 -- the space that owns the frame, if one does
 abbrev pub owner_of : Owners → ℕ → Option ℕ
 owner_of t frame = fin.get t.owner frame
 
--- the fpage's whole pages are 2 ^ log pages from the first on
-abbrev pub NamesPages : Fpage → ℕ → ℕ → Type 0
-NamesPages fpage first log = MatchOption (bytes_of fpage) ⊥ (λ b. (page_log ≤ b.log) × (first ≡ b.base / page_bytes) × (log ≡ b.log - page_log))
+-- the fpage's whole pages are 2 ^ log pages of this size from the first on
+abbrev pub NamesPages : PageSize → Fpage → ℕ → ℕ → Type 0
+NamesPages size fpage first log = MatchOption (bytes_of fpage) ⊥ (λ b. (page_log size ≤ b.log) × (first ≡ b.base / page_bytes size) × (log ≡ b.log - page_log size))
 
 -- The message asks for 2 ^ log frames from the first on: a fault for its page, a request without attributes for the pages of its
 -- fpage. The frame of a page is the one of its number.
-abbrev pub Wants : Message → ℕ → ℕ → Type 0
-Wants m first log =
-    ((fault : PageFault) × FaultReads m fault × (first ≡ fault.address / page_bytes) × (log ≡ 0))
-    ⊎ ((fpage : Fpage) × RequestReads m (record { fpage = fpage; attributes = 0 }) × NamesPages fpage first log)
+abbrev pub Wants : PageSize → Message → ℕ → ℕ → Type 0
+Wants size m first log =
+    ((fault : PageFault) × FaultReads m fault × (first ≡ fault.address / page_bytes size) × (log ≡ 0))
+    ⊎ ((fpage : Fpage) × RequestReads m (record { fpage = fpage; attributes = 0 }) × NamesPages size fpage first log)
+
+-- The message asks for what the request does: it is read as one of the same bytes and attributes. The rights of a request's fpage mean nothing.
+pub record AsksFor (m : Message) (request : FrameRequest) : Type 0 where
+  pub read : FrameRequest
+  pub reads : RequestReads m read
+  pub bytes : bytes_of read.fpage ≡ bytes_of request.fpage
+  pub attributes : read.attributes ≡ request.attributes
 
 -- there is such a frame, and it is free or the space's
 abbrev pub MayHave : Owners → ℕ → ℕ → Type 0
@@ -51,6 +62,7 @@ is_in first log frame = nat_le first frame && nat_lt frame (first + 2 ^ log)
 
 -- these frames are the space's, and the others are whose they were
 pub record Gives (old : Owners) (space first log : ℕ) (new : Owners) : Type 0 where
+  pub size : new.size ≡ old.size
   pub frames : new.frames ≡ old.frames
   pub owner : (frame : ℕ) → owner_of new frame ≡ (if is_in first log frame then Some space else owner_of old frame)
 
@@ -58,5 +70,5 @@ pub record Gives (old : Owners) (space first log : ℕ) (new : Owners) : Type 0 
 -- of them; and else it gives nothing, and no frame gets an owner.
 abbrev pub Answers : Owners → ℕ → Message → Message → Owners → Type 0
 Answers old space m answer new =
-    ((first : ℕ) × (log : ℕ) × Wants m first log × MayHaveAll old space first log × GivesPages first first log all_rights answer × Gives old space first log new)
-    ⊎ (((first log : ℕ) → Wants m first log → ¬ MayHaveAll old space first log) × (answer ≡ nothing) × (new ≡ old))
+    ((first : ℕ) × (log : ℕ) × Wants old.size m first log × MayHaveAll old space first log × GivesPages old.size first first log all_rights answer × Gives old space first log new)
+    ⊎ (((first log : ℕ) → Wants old.size m first log → ¬ MayHaveAll old space first log) × (answer ≡ nothing) × (new ≡ old))

@@ -1,7 +1,7 @@
 //! The owners of frames.
 ghost use Rattle.std.specs.Prelude.{◌≡◌, ℕ, ◌+◌, ◌%◌, ◌^◌, ◌<◌, ◌≤◌, ◌↔◌, MatchOption, IsTrue, length};
 
-use l4_fpage::{Block, Fpage, PAGE_LOG, Rights};
+use l4_fpage::{Block, Fpage, PageSize, Rights};
 use l4_msg::{FrameRequest, Message, PageFault, map_answer};
 use std::marker::Model;
 
@@ -12,6 +12,7 @@ pub const MAX_FRAMES: usize = l4_fpage::MAX_FRAMES as usize;
 /// protocol; what is granted is this profile's own).
 #[derive(Drop)]
 pub struct Sigma0 {
+    size: PageSize,
     frames: u32,
     owners: [Option<u64>; MAX_FRAMES],
 }
@@ -26,7 +27,7 @@ impl Model for Sigma0 {
 
     ghost coded = { owners_code };
 
-    ghost view = { λ s. record { frames = s.frames; owner = map_of s.owners } };
+    ghost view = { λ s. record { size = s.size; frames = s.frames; owner = map_of s.owners } };
 
     ghost invariant = { λ s. s.frames ≤ max_frames };
 }
@@ -34,14 +35,14 @@ impl Model for Sigma0 {
 ghost use Rattle.l4_sigma0.specs.Owners.{NamesPages};
 
 /// The frames that a request asks for. None where it asks for attributes, and where its fpage names no whole page.
-fn frames_of(request: &FrameRequest) -> Option<Block>
-    ensures { MatchOption result ((first log : ℕ) → request.now.attributes ≡ 0 → ¬ NamesPages request.now.fpage first log)
-        (λ block. (request.now.attributes ≡ 0) × NamesPages request.now.fpage block.first block.log) }
+fn frames_of(request: &FrameRequest, size: PageSize) -> Option<Block>
+    ensures { MatchOption result ((first log : ℕ) → request.now.attributes ≡ 0 → ¬ NamesPages size request.now.fpage first log)
+        (λ block. (request.now.attributes ≡ 0) × NamesPages size request.now.fpage block.first block.log) }
 {
     if request.attributes != 0 {
         return None;
     }
-    request.fpage.pages()
+    request.fpage.pages(size)
 }
 
 ghost use Rattle.l4_sigma0.specs.Inside.Tables.{AreFree, IsFilled};
@@ -77,26 +78,34 @@ impl Sigma0 {
     ghost use Rattle.l4_msg.specs.Messages.{CanBeWritten};
     ghost use Rattle.l4_fpage.specs.Pages.{max_frames};
     ghost use Rattle.l4_msg.specs.Sizes.{base_unit};
-    ghost use Rattle.l4_msg.specs.Protocols.{FaultReads, RequestReads, one_item};
+    ghost use Rattle.l4_msg.specs.Protocols.{FaultReads, one_item};
     ghost use Rattle.l4_msg.specs.declared.items.Item.TheVariants.{Map};
     ghost use Rattle.l4_msg.specs.declared.messages.Message.{Message as AMessage};
-    ghost use Rattle.l4_sigma0.specs.Owners.{Answers, Wants};
+    ghost use Rattle.l4_sigma0.specs.Owners.{Answers, AsksFor, Wants};
 
-    /// The table of the frames 0 to `frames` - 1, of which none has an owner. `frames` is at most `MAX_FRAMES`.
-    pub fn new(frames: u32) -> Sigma0
+    /// The table of the frames 0 to `frames` - 1 of this size, of which none has an owner. `frames` is at most `MAX_FRAMES`.
+    pub fn new(frames: u32, size: PageSize) -> Sigma0
         requires { frames ≤ max_frames }
-        ensures { result ≡ record { frames = frames; owner = fin.empty } }
+        ensures { result ≡ record { size = size; frames = frames; owner = fin.empty } }
     {
         Sigma0 {
+            size,
             frames,
             owners: [None; MAX_FRAMES],
         }
     }
 
+    /// The size of the pages and frames.
+    pub fn page_size(&self) -> PageSize
+        ensures { result ≡ self.now.size }
+    {
+        self.size
+    }
+
     /// Gives these frames to a space, where there are all of these, and each is free or the space's, and else none. The result is the
     /// send base and the fpage of the one map item of the answer.
     fn give(&mut self, from_space: u64, block: Block) -> (u32, Fpage)
-        ensures answers { (m : AMessage) → Wants m block.first block.log → ((first log : ℕ) → Wants m first log → (block.first ≡ first) × (block.log ≡ log))
+        ensures answers { (m : AMessage) → Wants self.old.size m block.first block.log → ((first log : ℕ) → Wants self.old.size m first log → (block.first ≡ first) × (block.log ≡ log))
             → Answers self.old from_space m (one_item (Map result.0 result.1)) self.new }
         ensures whole { result.0 % base_unit ≡ 0 }
     {
@@ -114,8 +123,8 @@ impl Sigma0 {
             end as usize,
         );
         (
-            block.first << PAGE_LOG,
-            Fpage::of_block(block, Rights::all()),
+            self.size.address_of(block.first),
+            Fpage::of_block(block, self.size, Rights::all()),
         )
     }
 
@@ -124,21 +133,23 @@ impl Sigma0 {
         ensures answers { (m : AMessage) → FaultReads m fault.now → Answers self.old from_space m (one_item (Map result.0 result.1)) self.new }
         ensures whole { result.0 % base_unit ≡ 0 }
     {
+        let page = self.size.page_of(fault.address);
         self.give(
             from_space,
             Block {
-                first: fault.address >> PAGE_LOG,
+                first: page,
                 log: 0,
             },
         )
     }
 
-    /// The answer to a request from a space, as `answer` says: the send base and the fpage of its one map item.
+    /// The answer to a request from a space, as `answer` says: the send base and the fpage of its one map item. The rights of the request's
+    /// fpage mean nothing.
     pub fn answer_request(&mut self, from_space: u64, request: &FrameRequest) -> (u32, Fpage)
-        ensures answers { (m : AMessage) → RequestReads m request.now → Answers self.old from_space m (one_item (Map result.0 result.1)) self.new }
+        ensures answers { (m : AMessage) → AsksFor m request.now → Answers self.old from_space m (one_item (Map result.0 result.1)) self.new }
         ensures whole { result.0 % base_unit ≡ 0 }
     {
-        let Some(block) = frames_of(request) else {
+        let Some(block) = frames_of(request, self.size) else {
             return (0, Fpage::Nil);
         };
         self.give(from_space, block)

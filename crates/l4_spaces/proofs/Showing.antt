@@ -270,9 +270,9 @@ pub table_in : (ss : Live) (s : Tables) (k page end : ℕ) (ts : Rows) (high : �
     → IsTableIn s k page end (high * table_pages) keys
 table_in ss s k page end ts high keys view is full h at = record {
   shows = λ low lt.
-      let a : (high * 1024 + low) / 1024 ≡ high = omega (arith, lt) in
-      let b : (high * 1024 + low) % 1024 ≡ low = omega (arith, lt) in
-      found_in ss s k (high * 1024 + low) ts view is ∙ (λ i. slice_index_or (row ts (a i)) (b i) None) ∙ ap (λ (z : List (Option ℕ)). slice_index_or z low None) at;
+      let a : (high * table_pages + low) / table_pages ≡ high = omega (arith, lt) in
+      let b : (high * table_pages + low) % table_pages ≡ low = omega (arith, lt) in
+      found_in ss s k (high * table_pages + low) ts view is ∙ (λ i. slice_index_or (row ts (a i)) (b i) None) ∙ ap (λ (z : List (Option ℕ)). slice_index_or z low None) at;
   whole = ap length (sym at) ∙ h.whole;
   fits = omega (arith, h.within, full);
   from = omega (arith, h.from);

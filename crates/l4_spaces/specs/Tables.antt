@@ -7,12 +7,13 @@ use Rattle.std.specs.Coded.{Coded, code_by, coded×, coded_ℕ}
 use Rattle.std.specs.FinMap as map
 use Rattle.std.specs.FinSet as set
 
--- how many pages a table has, and how many tables a space
+-- how many pages a table has, and how many tables a space: enough for pages of 1,024 bytes. Of a space with pages of 4,096 bytes the first 512
+-- tables have the pages.
 abbrev pub table_pages : ℕ
-table_pages = 1024
+table_pages = 2048
 
 abbrev pub space_tables : ℕ
-space_tables = 1024
+space_tables = 2048
 
 abbrev pub space_pages : ℕ
 space_pages = space_tables * table_pages

@@ -9,10 +9,10 @@ use crate::row::Row;
 use std::alloc::{AllocError, Global};
 
 /// How many pages a table has.
-pub(crate) const TABLE_PAGES: u32 = 1024;
+pub(crate) const TABLE_PAGES: u32 = 2048;
 
 /// How many tables a space has.
-pub(crate) const SPACE_TABLES: usize = 1024;
+pub(crate) const SPACE_TABLES: usize = 2048;
 
 /// How many pages a space has.
 pub(crate) const SPACE_PAGES: u32 = SPACE_TABLES as u32 * TABLE_PAGES;

@@ -1,6 +1,6 @@
 //! Lists of steps from a reader to a writer.
 use crate::session::answer_line;
-use l4_ipc::Kernel;
+use l4_ipc::{Kernel, PageSize};
 use l4_text::{Ending, LineReader, Output, RunFault};
 use std::alloc::Global;
 use std::io::{Read, Write};
@@ -50,18 +50,19 @@ fn answer_all<R: Read, W: Write>(
     Err(Fault::Stopped(RunFault::Read))
 }
 
-/// Answers the list that the reader gives, line by line, over a kernel of its own with this many frames, 1 to 4,096; with any other
-/// number there is no kernel, and that is want of memory. A line's answers go out before the read that asks for the next.
+/// Answers the list that the reader gives, line by line, over a kernel of its own with this many frames, 1 to 4,096, of this size; with any
+/// other number there is no kernel, and that is want of memory. A line's answers go out before the read that asks for the next.
 ///
 /// A read asks for 4,096 bytes, and there are at most 16,777,216 reads. An error of any kind is a fault, and so is a write that takes no
 /// byte. What was answered goes out after a fault too.
 pub fn run<R: Read, W: Write>(
     alloc: Global,
     frames: u32,
+    size: PageSize,
     reader: &mut R,
     writer: &mut W,
 ) -> Result<(), Fault> {
-    let Ok(mut kernel) = Kernel::boot(alloc, frames) else {
+    let Ok(mut kernel) = Kernel::boot(alloc, frames, size) else {
         return Err(Fault::Stopped(RunFault::Memory));
     };
     let mut out = Output::new();

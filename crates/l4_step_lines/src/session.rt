@@ -6,7 +6,7 @@ use crate::answers::{
 use crate::requests::{Request, read_request};
 use crate::running::Fault;
 use l4_answers::shown_text;
-use l4_ipc::{Kernel, SPACE_PAGES, Step};
+use l4_ipc::{Kernel, MOST_PAGES, Step};
 use l4_text::{Output, next_token};
 use l4_threads::Reply;
 use std::io::Write;
@@ -29,7 +29,7 @@ fn do_step<W: Write>(kernel: &mut Kernel, step: &Step, out: &mut Output, writer:
 fn list_pages<W: Write>(kernel: &Kernel, space: u64, out: &mut Output, writer: &mut W) {
     let mut from = 0u32;
     let mut shown = 0u32;
-    for turn in 0..SPACE_PAGES {
+    for turn in 0..MOST_PAGES {
         let Some(page) = kernel.next_page(space, from) else {
             break;
         };

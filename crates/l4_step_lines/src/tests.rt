@@ -1,7 +1,7 @@
 use crate::answers::{enabled_text, ended_text, outcome_text, page_text};
 use crate::{Fault, run};
 use arrayvec::ArrayVec;
-use l4_fpage::Rights;
+use l4_fpage::{PageSize, Rights};
 use l4_ipc::{Outcome, Step};
 use l4_mapdb::{Mapping, Place};
 use l4_text::{Drip, RunFault};
@@ -23,7 +23,7 @@ fn a_failing_read_loses_no_answer(rt: HostRuntime) -> Result<(), Fail> {
     for (calls, lines) in [(0, 0), (7, 0), (8, 1), (15, 1), (16, 2), (24, 3)] {
         let mut reader = Drip { bytes: LIST, calls };
         let mut written = Vec::new(rt.alloc());
-        let result = run(rt.alloc(), 256, &mut reader, &mut written);
+        let result = run(rt.alloc(), 256, PageSize::Kib4, &mut reader, &mut written);
         assert!(rt;
             matches!(result, Err(Fault::Stopped(RunFault::Read))),
             "at {calls}"

@@ -4,6 +4,7 @@
 //! 4 for want of memory at the start.
 #![tactic(auto)]
 
+use l4_fpage::PageSize;
 use l4_options::{
     NOT_UNDERSTOOD, StepOptions, command_words, misread, show, status_of, step_options, stopped,
 };
@@ -12,8 +13,14 @@ use std::io;
 use std::process::ExitCode;
 
 /// Answers the list of steps on standard input.
-fn answer_list<R: AllocGlobal + Input + Print + Eprint>(rt: &R, frames: u32) -> u8 {
-    match run(rt.alloc(), frames, &mut rt.reader(), &mut io::writer(rt)) {
+fn answer_list<R: AllocGlobal + Input + Print + Eprint>(rt: &R, frames: u32, size: PageSize) -> u8 {
+    match run(
+        rt.alloc(),
+        frames,
+        size,
+        &mut rt.reader(),
+        &mut io::writer(rt),
+    ) {
         Ok(()) => 0,
         Err(Fault::Stopped(fault)) => stopped(rt, fault),
         Err(fault) => {
@@ -26,7 +33,7 @@ fn answer_list<R: AllocGlobal + Input + Print + Eprint>(rt: &R, frames: u32) -> 
 /// Does what these words ask for.
 fn obey<R: AllocGlobal + Input + Print + Eprint>(rt: &R, words: &[String]) -> u8 {
     match step_options(rt.alloc(), words) {
-        Ok(StepOptions::Run { frames }) => answer_list(rt, frames),
+        Ok(StepOptions::Run { frames, size }) => answer_list(rt, frames, size),
         Ok(StepOptions::Show(text)) => show(rt, text.as_str()),
         Err(fault) => misread(rt, &fault),
     }

@@ -6,7 +6,7 @@ mod parties;
 mod printing;
 
 use l4_lock::{KernelLock, Seat};
-use parties::{CLIENT, PAGER, ROOT, Runs, SIGMA0, create, run_all};
+use parties::{CLIENT, PAGER, ROOT, Runs, SIGMA0, SIZE, create, run_all};
 use printing::{print_client, print_receipts};
 use std::alloc::Global;
 use std::io;
@@ -73,7 +73,7 @@ fn listed(alloc: Global, seats: Seats) -> Result<Vec<Seat>, Stop> {
 
 /// Runs the threads, and prints what each has to show.
 fn tell<R: AllocGlobal + Print + Clock + Threads + Wait + Sync>(rt: &R) -> Result<(), Stop> {
-    let Ok((lock, _)) = KernelLock::new(rt.alloc(), FRAMES, 0) else {
+    let Ok((lock, _)) = KernelLock::new(rt.alloc(), FRAMES, SIZE, 0) else {
         return Err(Stop::NoMemory);
     };
     let Seats { root, runs } = begin(rt, &lock)?;

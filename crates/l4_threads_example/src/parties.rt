@@ -1,6 +1,6 @@
 //! What each thread does.
 
-use l4_ipc::{ArrayVec, Block, Call, Fpage, MAX_WORDS, Rights, ThreadId, Timeout};
+use l4_ipc::{ArrayVec, Block, Call, Fpage, MAX_WORDS, PageSize, Rights, ThreadId, Timeout};
 use l4_lock::{KernelLock, Seat};
 use l4_msg::map_answer;
 use l4_pager::{Entry, Gate, RegionPager, serve};
@@ -41,6 +41,9 @@ const LOOKS: u32 = 10_000;
 
 /// The bytes of a page.
 const PAGE_BYTES: u32 = 4096;
+
+/// The size of the machine's pages and frames.
+pub const SIZE: PageSize = PageSize::Kib4;
 
 /// The seats of the threads that run at the same time.
 #[derive(Drop)]
@@ -84,10 +87,13 @@ fn watch(rt: &impl Clock, lock: &KernelLock, entries: u64) -> u64 {
 /// Sigma0 maps the pager's pages, once the pager waits for them.
 fn hand_out<R: Wait + Clock>(rt: &R, lock: &KernelLock, mut seat: Seat) -> Seat {
     watch(rt, lock, PAGER_WAITS);
-    if let Some(block) = Block::new(PAGER_PAGE, PAGER_LOG) {
+    let Some(block) = Block::new(PAGER_PAGE, PAGER_LOG) else {
+        return seat;
+    };
+    if block.lies_in(SIZE) {
         let pages = map_answer(
             PAGER_PAGE * PAGE_BYTES,
-            Fpage::of_block(block, Rights::all()),
+            Fpage::of_block(block, SIZE, Rights::all()),
         );
         let _ = lock.call(
             rt,
@@ -100,7 +106,7 @@ fn hand_out<R: Wait + Clock>(rt: &R, lock: &KernelLock, mut seat: Seat) -> Seat 
 
 /// Pages of the client and the pager's pages that stand for them, to be read and executed.
 fn regions() -> RegionPager {
-    let mut regions = RegionPager::new();
+    let mut regions = RegionPager::new(SIZE);
     let _ = regions.add(Entry {
         first: FIRST_PAGE,
         source: PAGER_PAGE,

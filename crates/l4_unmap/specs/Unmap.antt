@@ -9,6 +9,7 @@ use Rattle.l4_mapdb.specs.Mappings.{Mappings, Descends}
 use Rattle.l4_mapdb.specs.Losing.{LosesRights}
 use Rattle.l4_unmap.specs.declared.UnmapFault.{UnmapFault}
 use Rattle.l4_unmap.specs.declared.UnmapFault.TheVariants.{BadFpage, TooFew}
+use Rattle.l4_fpage.specs.declared.sizes.PageSize.{PageSize}
 
 -- how many registers hold fpages: one more than bits 5 to 0 of the control word
 abbrev pub fpage_count : ℕ → ℕ
@@ -30,13 +31,13 @@ UnmapFails control words TooFew = length words < fpage_count control
 UnmapFails control words (BadFpage i) =
     (fpage_count control ≤ length words) × (i < fpage_count control) × IsMalformed (slice_index words i) × ((k : ℕ) → k < i → ¬ (IsMalformed (slice_index words k)))
 
--- an fpage names the right, and a page of the caller from which the place descends, or with f the place itself
-abbrev pub LosesTo : Mappings → ℕ → Bool → List Fpage → Place → Right → Type 0
-LosesTo old caller own fpages place right =
+-- where pages have this size: an fpage names the right, and a page of the caller from which the place descends, or with f the place itself
+abbrev pub LosesTo : PageSize → Mappings → ℕ → Bool → List Fpage → Place → Right → Type 0
+LosesTo size old caller own fpages place right =
     (fpage : Fpage) × Contains fpages fpage × IsTrue (has (rights_of fpage) right)
-    × ((page : ℕ) × HoldsPage fpage page
+    × ((page : ℕ) × HoldsPage size fpage page
     × ((IsTrue own × (place ≡ record { space = caller; page = page })) ⊎ Descends old place (record { space = caller; page = page })))
 
 -- the effect of an Unmap of these fpages by a thread of the caller's space; all is read before anything is changed
-abbrev pub Unmaps : ℕ → Bool → List Fpage → Mappings → Mappings → Type 0
-Unmaps caller own fpages old new = LosesRights (LosesTo old caller own fpages) old new
+abbrev pub Unmaps : PageSize → ℕ → Bool → List Fpage → Mappings → Mappings → Type 0
+Unmaps size caller own fpages old new = LosesRights (LosesTo size old caller own fpages) old new

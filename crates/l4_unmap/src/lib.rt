@@ -6,7 +6,7 @@ ghost use Rattle.l4_mapdb.specs.Mappings.{IsForest};
 ghost use Rattle.l4_fpage.specs.Fpages.{ReadsAs};
 ghost use Rattle.l4_unmap.specs.Unmap.{fpage_count, with_own, UnmapReads, UnmapFails, Unmaps};
 
-use l4_fpage::Fpage;
+use l4_fpage::{Fpage, PageSize};
 use l4_mapdb::Forest;
 
 /// Why an Unmap is refused.
@@ -18,14 +18,20 @@ pub enum UnmapFault {
     TooFew,
 }
 
-/// Takes away what an Unmap by a thread of the space asks for (L4 X.2 manual, Unmap). Bits 5 to 0 of the control word are k: the
-/// registers 0 to k hold fpages, and further ones mean nothing. All that descends from an fpage's pages in the space loses the rights
+/// Takes away what an Unmap by a thread of the space asks for (L4 X.2 manual, Unmap), where pages have this size. Bits 5 to 0 of the
+/// control word are k: the registers 0 to k hold fpages, and further ones mean nothing. All that descends from an fpage's pages in the space loses the rights
 /// that the fpage names, and with bit 6 of the control word (f) these pages do too. A place goes with its last right.
 ///
 /// `TooFew` comes where there are not so many registers, and else `BadFpage` with the first that holds no fpage. After either, every
 /// mapping is as before. It takes no memory.
-pub fn unmap(forest: &mut Forest, space: u64, control: u32, words: &[u32]) -> Result<(), UnmapFault>
-    ensures ok { OnOk result ((fpages : List Fpage) × UnmapReads control words.now fpages × Unmaps space (with_own control) fpages forest.old forest.new) }
+pub fn unmap(
+    forest: &mut Forest,
+    space: u64,
+    size: PageSize,
+    control: u32,
+    words: &[u32],
+) -> Result<(), UnmapFault>
+    ensures ok { OnOk result ((fpages : List Fpage) × UnmapReads control words.now fpages × Unmaps size space (with_own control) fpages forest.old forest.new) }
     ensures err { OnErr result (forest.new ≡ forest.old) }
     ensures fault { IfErr result (UnmapFails control words.now) }
     ensures only { (fpages : List Fpage) → UnmapReads control words.now fpages → IsOk result }
@@ -34,7 +40,7 @@ pub fn unmap(forest: &mut Forest, space: u64, control: u32, words: &[u32]) -> Re
     match test_words(control, words) {
         Ok(()) => {
             forest.law_forest();
-            unmap_words(forest, space, control, words);
+            unmap_words(forest, space, size, control, words);
             Ok(())
         }
         Err(fault) => Err(fault),
@@ -74,26 +80,26 @@ fn test_words(control: u32, words: &[u32]) -> Result<(), UnmapFault>
 }
 
 /// Takes away what the registers' fpages name.
-fn unmap_words(forest: &mut Forest, space: u64, control: u32, words: &[u32])
+fn unmap_words(forest: &mut Forest, space: u64, size: PageSize, control: u32, words: &[u32])
     requires forest { IsForest forest.old }
     requires read { (fpages : List Fpage) × UnmapReads control words.now fpages }
-    ensures { (fpages : List Fpage) → UnmapReads control words.now fpages → Unmaps space (with_own control) fpages forest.old forest.new }
+    ensures { (fpages : List Fpage) → UnmapReads control words.now fpages → Unmaps size space (with_own control) fpages forest.old forest.new }
 {
     let own = means_own(control);
     for i in 0..register_count(control) {
-        unmap_word(forest, space, own, words[i]);
+        unmap_word(forest, space, size, own, words[i]);
     }
 }
 
 /// Takes away what the fpage of the word names.
-fn unmap_word(forest: &mut Forest, space: u64, own: bool, word: u32)
+fn unmap_word(forest: &mut Forest, space: u64, size: PageSize, own: bool, word: u32)
     requires { IsForest forest.old }
-    ensures { (fpage : Fpage) → ReadsAs word fpage → Unmaps space own (fpage ∷ []) forest.old forest.new }
+    ensures { (fpage : Fpage) → ReadsAs word fpage → Unmaps size space own (fpage ∷ []) forest.old forest.new }
 {
     let Ok(fpage) = Fpage::read(word) else {
         return;
     };
-    if let Some(block) = fpage.pages() {
+    if let Some(block) = fpage.pages(size) {
         forest.revoke_block(space, block, fpage.rights(), own);
     }
 }

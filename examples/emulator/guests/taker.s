@@ -1,4 +1,4 @@
-# Takes three pages from the giver, reads and writes there, and again after the giver has taken them back.
+# Takes three pages from the giver, reads and writes there, and again after the giver has taken them back; then it reads what it was loaded with.
         .intel_syntax noprefix
         .include "calls.inc"
         .globl _start
@@ -25,6 +25,16 @@ _start:
         mov     ebx, [TAKEN]
         call    print
         mov     ebx, [TAKEN + PAGE]
+        call    print
+
+# The numbers that the loader has put in front of its pages, together.
+        xor     ebx, ebx
+        mov     esi, LOADED
+sum:
+        add     ebx, [esi]
+        add     esi, PAGE
+        cmp     esi, LOADED + LOADED_PAGES * PAGE
+        jb      sum
         call    print
 
 # Nobody gives the right to write here any more.

@@ -3,20 +3,22 @@ use Rattle.std.specs.Prelude.{◌≡◌, ◌↔◌, ◌⊎◌, ℕ, Some}
 use Rattle.l4_fpage.specs.Rights.{no_rights}
 use Rattle.l4_fpage.specs.Fpages.{rights_of}
 use Rattle.l4_fpage.specs.declared.fpages.Fpage.{Fpage}
-use Rattle.l4_msg.specs.Moves.{ItemMoves, MovePairs, fpage_of, is_grant}
+use Rattle.l4_msg.specs.Moves.{ItemMoves, MovePairs, StaysIn, fpage_of, is_grant}
 use Rattle.l4_msg.specs.declared.items.Item.{Item}
 use Rattle.l4_mapdb.specs.declared.Cause.{Cause}
 use Rattle.l4_mapdb.specs.declared.Cause.TheVariants.{Entangled as IsEntangled, NoMemory as WantOfMemory}
 use Rattle.l4_mapdb.specs.declared.ItemMove.{ItemMove}
 use Rattle.l4_ipc.specs.declared.steps.Outcome.{Outcome}
 use Rattle.l4_ipc.specs.declared.steps.Outcome.TheVariants.{Entangled, NoMemory}
+use Rattle.l4_fpage.specs.declared.sizes.PageSize.{PageSize}
 
--- what the item moves in this window, by blocks of pages; where it moves no page there is no right, so that no move is used
-pub record IsListed (window : Fpage) (item : Item) (listed : ItemMove) : Type 0 where
+-- what the item moves in this window, by blocks of pages of a space; where it moves no page there is no right, so that no move is used
+pub record IsListed (size : PageSize) (window : Fpage) (item : Item) (listed : ItemMove) : Type 0 where
   pub grant : listed.grant ≡ is_grant item
+  pub inside : StaysIn size listed.mv
   pub moves :
-      (((source target : ℕ) → MovePairs (Some listed.mv) source target ↔ ItemMoves item window source target) × (listed.rights ≡ rights_of (fpage_of item)))
-      ⊎ (((source target : ℕ) → ¬ (ItemMoves item window source target)) × (listed.rights ≡ no_rights))
+      (((source target : ℕ) → MovePairs (Some listed.mv) source target ↔ ItemMoves size item window source target) × (listed.rights ≡ rights_of (fpage_of item)))
+      ⊎ (((source target : ℕ) → ¬ (ItemMoves size item window source target)) × (listed.rights ≡ no_rights))
 
 -- the outcome where nothing was delivered
 abbrev pub outcome_of : Cause → Outcome

@@ -5,17 +5,18 @@ use Rattle.l4_fpage.specs.Rights.{RightsSet, set_of_bits}
 use Rattle.l4_links.specs.declared.nodes.Node.{Node}
 use Rattle.l4_links.specs.declared.nodes.Slot.{Slot}
 use Rattle.l4_links.specs.declared.packed.Notes.{Notes}
+use Rattle.l4_links.specs.declared.packed.Parts.{Parts}
 use Rattle.l4_links.specs.declared.packed.Halves.TheInside as halves
-use Rattle.l4_links.specs.declared.packed.Digits.TheInside as digits
+use Rattle.l4_links.specs.declared.packed.Word.TheInside as words
 use Rattle.l4_links.specs.declared.packed.Packed.TheInside as packed
 
 -- the number of two halves
 abbrev pub number_shown : halves.Inside → ℕ
 number_shown a = a.high * 2 ^ 32 + a.low
 
--- the two digits of a byte, the low one first
-abbrev pub digits_shown : digits.Inside → ℕ × ℕ
-digits_shown a = (a.byte % 16, a.byte / 16)
+-- the numbers of four bytes: the page in the low 22 bits, the rights in three, the notes in three, the rights of an item in the last four
+abbrev pub parts_shown : words.Inside → Parts
+parts_shown a = record { page = a.bits % 2 ^ 22; rights = a.bits / 2 ^ 22 % 8; notes = a.bits / 2 ^ 25 % 8; granted = a.bits / 2 ^ 28 }
 
 -- the rights of an item, of which there are none where the digit is above those of all rights
 abbrev pub rights_shown : ℕ → Option RightsSet
@@ -29,12 +30,12 @@ notes_shown digit = record { wanted = digit % 2 == 1; source = digit / 2 % 2 == 
 abbrev pub node_shown : packed.Inside → ℕ → Node
 node_shown a depth = record {
   frame = a.frame;
-  rights = set_of_bits a.notes.0;
-  source = (notes_shown a.notes.1).source;
-  granted = rights_shown a.far.1;
+  rights = set_of_bits a.word.rights;
+  source = (notes_shown a.word.notes).source;
+  granted = rights_shown a.word.granted;
   depth = depth;
   seen = a.stamp;
-  mark = if (notes_shown a.notes.1).closed then a.stamp else 0;
+  mark = if (notes_shown a.word.notes).closed then a.stamp else 0;
   end = a.end;
   parent = a.parent;
   prev = a.prev;
@@ -44,7 +45,7 @@ node_shown a depth = record {
 
 abbrev pub slot_shown : packed.Inside → Slot
 slot_shown a = record {
-  place = record { space = a.space; page = a.far.0 * 2 ^ 16 + a.near };
-  wanted = (notes_shown a.notes.1).wanted;
+  place = record { space = a.space; page = a.word.page };
+  wanted = (notes_shown a.word.notes).wanted;
   node = option_map (node_shown a) a.depth;
 }

@@ -1,9 +1,11 @@
 -- How a book is noted after each step. (this profile's own)
-use Rattle.std.specs.Prelude.{ℕ, ◌+◌, if◌then◌else◌, List, [], ◌∷◌, length, Option, Some, None, false}
-use Rattle.std.specs.Option.{option_map, option_map_or, option_and_then}
+use Rattle.std.specs.Prelude.{ℕ, ◌+◌, if◌then◌else◌, List, [], ◌∷◌, length, map, Option, Some, None, false}
+use Rattle.std.specs.Option.{option_map, option_map_or}
 use Rattle.l4_threads.specs.declared.Reply.{Reply}
 use Rattle.l4_threads.specs.declared.Reply.TheVariants.{Gone}
 use Rattle.l4_ipc.specs.declared.calls.Call.{Call}
+use Rattle.l4_ipc.specs.declared.steps.NextStep.{NextStep}
+use Rattle.l4_ipc.specs.NextSteps.{answer_of}
 use Rattle.l4_ipc.specs.Machine.{Machine}
 use Rattle.l4_ipc.specs.Reading.{reply_of}
 use Rattle.l4_lock.specs.declared.entries.Pending.{Pending}
@@ -26,15 +28,11 @@ noted_call m ended place number o =
 abbrev pub noted : Machine → List ℕ → ℕ → Book → Book
 noted m ended place b = record b { pending = option_map (noted_call m ended place b.number) b.pending }
 
--- the reply of a call that isn't taken yet, if it has ended
-abbrev pub reply_pending : Option Pending → Option Reply
-reply_pending o = option_and_then (λ (p : Pending). option_map (λ e. e.reply) p.ended) o
-
 -- the call that a seat knows of, and else the one that the lock kept
 abbrev pub own_call : Option Call → Call → Call
 own_call own call = option_map_or (λ c. c) own call
 
--- the number of the first book with an ended call that isn't taken yet
-abbrev pub first_reply : List Book → Option ℕ
-first_reply [] = None
-first_reply (b ∷ bs) = if option_map_or has_ended b.pending false then Some b.number else first_reply bs
+-- the books once the steps that came next are noted, whose entries stand from this place on
+abbrev pub noted_steps : Machine → ℕ → List NextStep → List Book → List Book
+noted_steps m place [] books = books
+noted_steps m place (next ∷ steps) books = noted_steps m (place + 1) steps (map (noted m (answer_of next).ended.items place) books)

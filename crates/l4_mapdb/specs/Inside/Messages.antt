@@ -1,6 +1,6 @@
 -- What a message moves, by keys, and what is done to pages before they are moved. (this profile's own)
 use Rattle.std.specs.Prelude.{◌≡◌, ◌≢◌, ◌⊎◌, ◌<◌, ◌≤◌, ◌+◌, ◌-◌, ◌*◌, ◌^◌, ℕ, Bool, List, Option, Some, None, true, false, length, slice_get, option_and_then, option_map}
-use Rattle.l4_fpage.specs.Pages.{space_pages}
+use Rattle.l4_fpage.specs.Pages.{most_pages}
 use Rattle.l4_fpage.specs.Rights.{common, no_rights}
 use Rattle.l4_msg.specs.Moves.{MovePairs}
 use Rattle.l4_links.specs.declared.Place.{Place as LinkPlace}
@@ -41,7 +41,7 @@ pub record IsMoved (s : Entries) (from to : ℕ) (items : List ItemMove) (move :
 
 -- where a page of an item stands in the order of items and of their pages
 abbrev pub turn : ℕ → ℕ → ℕ
-turn item page = item * space_pages + page
+turn item page = item * most_pages + page
 
 abbrev pub turn_of : UsedMove → ℕ
 turn_of move = turn move.item move.page
@@ -52,7 +52,7 @@ turn_in moves = turn moves.item moves.page
 
 -- how many turns are left of such a walk
 abbrev pub turns_left : List ItemMove → UsedMoves → ℕ
-turns_left items moves = length items * space_pages - turn_in moves
+turns_left items moves = length items * most_pages - turn_in moves
 
 -- the used move is the first one from this turn on
 pub record IsNextMove (s : Entries) (from to : ℕ) (items : List ItemMove) (start : ℕ) (move : UsedMove) : Type 0 where

@@ -38,6 +38,16 @@ pub record IsMark (records : List (List ℕ)) (bytes : List ℕ) (number offset 
 pub record AreMarks (marks : List ℕ) (records : List (List ℕ)) (bytes : List ℕ) : Type 0 where
   pub right : (k : ℕ) → k < length marks → IsMark records bytes (8 * (k + 1)) (slice_index_or marks k 0)
 
+-- what is seen of the offsets of a piece, and how many there are at most
+pub record OffsetList : Type 0 where
+  pub items : List ℕ
+
+abbrev pub offset_list : List ℕ → OffsetList
+offset_list items = record { items = items }
+
+abbrev pub most_offsets : ℕ
+most_offsets = 256
+
 -- the last mark at or before a place: the record's number, and the bytes before it
 abbrev pub mark_if : Bool → ℕ → ℕ → ℕ × ℕ
 mark_if true number offset = (0, 0)

@@ -4,18 +4,18 @@ use Rattle.std.specs.Io.KnownBytes.{Consumes, IsAtEnd}
 use Rattle.l4_text.specs.Sizes.{line_bytes}
 use Rattle.l4_text.specs.declared.lines.Ending.{Ending}
 use Rattle.l4_text.specs.declared.lines.Ending.TheVariants.{Whole, Long, Cut}
-use Rattle.l4_plan_lines.specs.Claims.{IsClaim}
+use Rattle.l4_plan_lines.specs.Claims.{IsClaimOf}
 use Rattle.l4_plan_lines.specs.declared.found.Found.{Found}
 use Rattle.l4_plan_lines.specs.Inputs.{Splits, IsWrongWhole, IsFirstWrong}
 
 -- these whole lines are the claim so far, or the first wrong one of them is known
 abbrev pub Reflects : Found → List (List ℕ) → Type 0
-Reflects s lines = MatchOption s.wrong (IsClaim lines s.claim.head s.claim.items.items s.claim.pages.items) (λ w. IsWrongWhole lines w.number w.fault)
+Reflects s lines = MatchOption s.wrong (IsClaimOf lines s.claim) (λ w. IsWrongWhole lines w.number w.fault)
 
 -- the input ends with these lines and this rest: they are the claim, or the first wrong line is known
 abbrev pub Stops : Found → List (List ℕ) → List ℕ → Type 0
 Stops s lines rest =
-    MatchOption s.wrong (IsClaim lines s.claim.head s.claim.items.items s.claim.pages.items × (rest ≡ [])) (λ w. IsFirstWrong lines rest w.number w.fault)
+    MatchOption s.wrong (IsClaimOf lines s.claim × (rest ≡ [])) (λ w. IsFirstWrong lines rest w.number w.fault)
 
 -- the bytes of a line that ended like this, of which these are kept
 abbrev pub EndsSo : Ending → List ℕ → List ℕ → Type 0

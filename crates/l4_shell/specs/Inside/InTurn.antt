@@ -2,9 +2,7 @@
 use Rattle.std.specs.Prelude.{ℕ, List, [], ◌∷◌, Option, Some, None}
 use Rattle.l4_fpage.specs.Rights.{RightsSet}
 use Rattle.l4_text.specs.Numbers.{number_of}
-use Rattle.l4_shell.specs.Commands.{◌>>=◌, thread_of, partner_of, rights_of, words_of}
-use Rattle.l4_shell.specs.declared.commands.Command.{Command}
-use Rattle.l4_shell.specs.declared.commands.Command.TheVariants.{Receive, Send, Ipc, Fault}
+use Rattle.l4_shell.specs.Commands.{Command, Receive, Send, Ipc, Fault, ◌>>=◌, thread_of, partner_of, rights_of, words_of}
 
 -- what the first token spells, and the tokens after it
 abbrev pub first_by : {A : Type 0} → (List ℕ → Option A) → List (List ℕ) → Option (A × List (List ℕ))

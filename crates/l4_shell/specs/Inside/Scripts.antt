@@ -4,8 +4,9 @@ use Rattle.std.specs.List.{All}
 use Rattle.std.specs.Io.KnownBytes.{Consumes, IsAtEnd}
 use Rattle.l4_shell.specs.Lines.{ScriptLine, lines_of}
 use Rattle.l4_text.specs.Streams.{Tells}
+use Rattle.l4_fpage.specs.declared.sizes.PageSize.{PageSize}
 use Rattle.l4_ipc.specs.Machine.{IsBoot}
-use Rattle.l4_seats.specs.Seated.{Seated}
+use Rattle.l4_shell.specs.Seated.{Seated}
 use Rattle.l4_shell.specs.Sessions.{Session, AnswersLines}
 use Rattle.l4_text.specs.declared.faults.RunFault.{RunFault}
 use Rattle.l4_text.specs.declared.faults.RunFault.TheVariants.{Read, Write, Memory}
@@ -46,6 +47,7 @@ TellsScript m old new written now before after (Err Read) = TellsWhole m old new
 TellsScript m old new written now before after (Err Write) = TellsBeginning m old new written now before after
 TellsScript m old new written now before after (Err Memory) = ⊥
 
--- a kernel as it boots, in which sigma0 and root have their seats
-abbrev pub HasFirstSeats : ℕ → Seated → Type 0
-HasFirstSeats frames kernel = IsBoot frames kernel.machine × (kernel.history ≡ []) × (kernel.numbers ≡ 1 ∷ 2 ∷ []) × (kernel.seen ≡ 0)
+-- a kernel as it boots with pages of this size, in which sigma0 and root have their seats
+abbrev pub HasFirstSeats : ℕ → PageSize → Seated → Type 0
+HasFirstSeats frames size kernel =
+    IsBoot frames kernel.machine × (kernel.history ≡ []) × (kernel.numbers ≡ 1 ∷ 2 ∷ []) × (kernel.seen ≡ 0) × (kernel.machine.size ≡ size)

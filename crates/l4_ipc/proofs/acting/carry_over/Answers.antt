@@ -1,4 +1,4 @@
-use Rattle.std.proofs.Common.{◌≡◌, ℕ, Bool, List, ◌∷◌, [], ◌++◌, drop, slice_index, ap, ◌∙◌, subst}
+use Rattle.std.proofs.Common.{◌≡◌, ℕ, Bool, List, ◌∷◌, [], ◌++◌, drop, slice_index, ap, ◌∙◌, refl, subst}
 use Rattle.l4_msg.specs.declared.items.Item.{Item}
 use Rattle.l4_threads.specs.Threads.{message_of, end_call}
 use Rattle.l4_threads.specs.declared.Reply.{Reply}
@@ -17,8 +17,8 @@ enter-ends-requires c =
     can_enter_after c.args.threads.now c.end_receiver.new.threads c.args.sender c.args.receiver c.in-Some.meeting.from.now c.in-Some.meeting.to.now c.in-Some.meeting.sends.now c.in-Some.meeting.takes.now
     meets c.is_done-done.result _ (next_of c.sender_turn-turn.result) (c.end_receiver.ensures c.in-Some.meeting.sends.now sends) c.sender_turn-turn.ensures
 
-pub returns : goal.returns
-returns c =
+pub returns-clause-step : goal.returns-clause-step
+returns-clause-step c =
     let t = c.args.threads.now in
     let giver = c.in-Some.meeting.from.now in
     let sends = c.in-Some.meeting.sends.now in
@@ -37,7 +37,8 @@ returns c =
       sends,
       takes,
       meets,
-      subst (λ (items : List Item). Moves c.args.forest.now giver.space c.in-Some.meeting.to.now.space items takes.window c.deliver-outcome.result c.deliver-outcome.new.forest) c.as_slice-items.ensures.value c.deliver-outcome.ensures,
+      subst (λ (items : List Item). Moves c.args.size c.args.forest.now giver.space c.in-Some.meeting.to.now.space items takes.window c.deliver-outcome.result c.deliver-outcome.new.forest) c.as_slice-items.ensures.value c.deliver-outcome.ensures.moves,
       ap (λ (l : List ℕ). l ++ c.args.receiver ∷ []) (c.enter-ends.ensures.ended ∙ ap (ended_by c.args.sender) next),
       c.enter-ends.ensures.threads ∙ (λ i. enters ((ended ∙ ap (λ (r : Reply). end_call t c.args.receiver r) reply) i) c.args.sender (next i)),
+      refl,
     )

@@ -1,5 +1,5 @@
 use Rattle.std.proofs.Common.{◌≡◌, ◌++◌, ap, ◌∙◌, List, ℕ, append_assoc}
-use Rattle.l4_packed.specs.Codes.{call_code, span_code, reply_code}
+use Rattle.l4_codes.specs.Codes.{call_code, span_code, reply_code}
 use Rattle.l4_lock.specs.declared.entries.Receipt.{Receipt}
 use Rattle.l4_lock.specs.Inside.Packing.{receipt_code, receipt_at}
 use Rattle.l4_lock.proofs.Packing.{receipt_again}

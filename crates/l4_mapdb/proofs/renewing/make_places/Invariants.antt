@@ -3,11 +3,12 @@ use Rattle.l4_mapdb.specs.Inside.Messages.{turn_in, turns_left}
 use Rattle.l4_mapdb.specs.Inside.Growing.{Earlier}
 use Rattle.l4_mapdb.specs.Inside.Renewing.{Spaced}
 use Rattle.l4_mapdb.proofs.renewing.make_places.Given as goal
+use Rattle.l4_fpage.specs.Pages.{most_pages}
 
 -- the targets of the used moves before this turn have keys
 abbrev pub invariant-loop-used : goal.invariant-loop-used
 invariant-loop-used l = record {
-  fits : l.moves.page ≤ 1048576;
+  fits : l.moves.page ≤ most_pages;
   spaces : l.links.spaces ≡ l.fn.links.spaces;
   spaced : Spaced l.fn.links l.from l.to l.items (Earlier (turn_in l.moves)) l.links;
 }

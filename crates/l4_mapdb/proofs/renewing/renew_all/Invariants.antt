@@ -4,11 +4,12 @@ use Rattle.l4_mapdb.specs.Inside.Messages.{IsMoved, turn_in, turns_left}
 use Rattle.l4_mapdb.specs.Inside.Growing.{IsGround, Earlier}
 use Rattle.l4_mapdb.specs.Inside.Renewing.{Spaced, Renewed}
 use Rattle.l4_mapdb.proofs.renewing.renew_all.Given as goal
+use Rattle.l4_fpage.specs.Pages.{most_pages}
 
 -- the used moves before this turn have their children
 abbrev pub invariant-loop-used : goal.invariant-loop-used
 invariant-loop-used l = record {
-  fits : l.moves.page ≤ 1048576;
+  fits : l.moves.page ≤ most_pages;
   spaces : l.links.spaces ≡ l.fn.links.spaces;
   renewed : (start : Linked) → IsGround start l.from l.to → Spaced start l.from l.to l.items (IsMoved start.entries l.from l.to l.items) l.fn.links
       → Renewed start l.from l.to l.items (Earlier (turn_in l.moves)) l.links;

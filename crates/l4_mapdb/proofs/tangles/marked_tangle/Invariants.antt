@@ -4,11 +4,12 @@ use Rattle.l4_mapdb.specs.declared.sources.UsedMove.{UsedMove}
 use Rattle.l4_mapdb.specs.Inside.Messages.{IsMoved, turn_in, turns_left, turn_of}
 use Rattle.l4_mapdb.specs.Inside.Tangles.{Tangles}
 use Rattle.l4_mapdb.proofs.tangles.marked_tangle.Given as goal
+use Rattle.l4_fpage.specs.Pages.{most_pages}
 
 -- no used move before this turn tangles, and nothing has changed
 abbrev pub invariant-loop-used : goal.invariant-loop-used
 invariant-loop-used l = record {
-  fits : l.moves.page ≤ 1048576;
+  fits : l.moves.page ≤ most_pages;
   same : (key : ℕ) → entry_at l.links.entries key ≡ entry_at l.fn.links.entries key;
   none : (move : UsedMove) → IsMoved l.fn.links.entries l.from l.to l.items move → turn_of move < turn_in l.moves → ¬ (Tangles (IsMoved l.fn.links.entries l.from l.to l.items) l.fn.links.entries move);
   spaces : l.links.spaces ≡ l.fn.links.spaces;

@@ -11,7 +11,7 @@ loop-i-preserved c k d from below =
       | inl lt ↦ c.loop-i.invariant k d from lt
       | inr ge ↦
           let e : c.loop-i.i ≡ k = omega arith in
-          let good : IsGoodItem c.args.region.now c.index-items-i.result = c.is_good.ensures.0 c.if-not-is_good.false in
+          let good : IsGoodItem c.args.size c.args.region.now c.index-items-i.result = c.is_good.ensures.0 c.if-not-is_good.false in
           let same : c.index-items-i.result ≡ get_or items c.loop-i.i d = c.index-items-i.is ∙ get_or_default items c.loop-i.i c.index-items-i.result d (omega arith) in
-          rw (← e) (subst (IsGoodItem c.args.region.now) same good)
+          rw (← e) (subst (IsGoodItem c.args.size c.args.region.now) same good)
     ]

@@ -7,7 +7,7 @@ use Rattle.l4_plan_lines.proofs.checking.check_lines.Goals as goal
 pub returns-in-Ok-finish-clause-ok : goal.returns-in-Ok-finish-clause-ok
 returns-in-Ok-finish-clause-ok g c = (
   c.answer_text.result,
-  answered _ _ _ _ _ _ _ c.in-Ok.ensures.ok c.answer_input-answer.ensures c.is_proved.ensures c.answer_text.ensures,
+  answered _ _ _ _ _ _ _ _ c.in-Ok.ensures.ok c.answer_input-answer.ensures c.is_proved.ensures c.answer_text.ensures,
   all_out _ _ _ _ _ _ c.new-out.ensures c.put.ensures c.in-Ok-finish.ensures.ok,
 )
 
@@ -15,6 +15,6 @@ pub returns-in-Err-finish-clause-write : goal.returns-in-Err-finish-clause-write
 returns-in-Err-finish-clause-write g c e = (
   is_proved c.answer_input-answer.result,
   c.answer_text.result,
-  answered _ _ _ _ _ _ _ c.in-Ok.ensures.ok c.answer_input-answer.ensures refl c.answer_text.ensures,
+  answered _ _ _ _ _ _ _ _ c.in-Ok.ensures.ok c.answer_input-answer.ensures refl c.answer_text.ensures,
   some_out _ _ _ _ _ _ c.new-out.ensures c.put.ensures c.in-Err-finish.ensures.err.1,
 )

@@ -1,40 +1,26 @@
-use Rattle.std.proofs.Common.{codes, rules, refl, inl, inr, ap, subst, Err}
-use Rattle.l4_msg.specs.Regions.{IsSound}
-use Rattle.l4_text.proofs.Telling.{tells_is}
-use Rattle.l4_plan.specs.Refusals.{IfTooLong}
+use Rattle.std.proofs.Common.{codes, refl, inl, inr, subst, Err}
+use Rattle.l4_plan.specs.Refusals.{IfTooLong, IsOfRegion}
 use Rattle.l4_plan.specs.declared.plans.PlanRefusal.{PlanRefusal}
-use Rattle.l4_plan_lines.proofs.TextSteps.{long_of}
 use Rattle.l4_plan_lines.specs.Lines.{ended}
 use Rattle.l4_plan.specs.Shortest.{IsTooLong}
 use Rattle.l4_plan_lines.specs.Plans.{plan_text, too_long_text}
 use Rattle.l4_plan_lines.proofs.planning.tell_plan.Goals as goal
 
 pub returns-in-Ok : goal.returns-in-Ok
-returns-in-Ok g c =
-    let sound : IsSound c.args.region.now = search rules in (
-      plan_text c.in-Ok.plan,
-      (
-        c.in-Ok.plan,
-        record {
-          sound = sound;
-          plan = c.in-Ok.ensures.planned;
-          one_each = c.in-Ok.ensures.one_each;
-          few = c.in-Ok.ensures.few;
-          starts = c.in-Ok.ensures.largest;
-          shortest = c.in-Ok.ensures.shortest;
-        },
-        refl,
-      ),
-      c.tell_items.ensures,
-    )
+returns-in-Ok g c = (plan_text c.in-Ok.plan, (c.in-Ok.plan, c.in-Ok.ensures.shortest, refl), c.tell_items.ensures)
 
 pub returns-in-Err-TooLong : goal.returns-in-Err-TooLong
 returns-in-Err-TooLong g c =
     let r = c.args.region.now in
-    let pages = c.in-Err-TooLong.pages.items in
-    let all = long_of c.args.region.now c.in-Err-TooLong.field-0 c.in-Err-TooLong.ensures.too_long c.in-Err-TooLong.ensures.first_32 c.in-Err-TooLong.ensures.none_short in
-    let long : IsTooLong r pages = subst (λ (x : PlanRefusal). IfTooLong x (IsTooLong c.args.region.now)) c.in-Err-TooLong.field-0-is all in
-    (too_long_text pages, inr (inr (inr (pages, long, refl))), tells_is _ _ _ _ _ _ (ap too_long_text c.as_slice.ensures.value) c.tell_pages.ensures)
+    let pages = c.in-Err-TooLong.pages in
+    let long : IsTooLong c.args.size r pages = subst (λ (x : PlanRefusal). IfTooLong x (IsTooLong c.args.size r)) c.in-Err-TooLong.field-0-is c.in-Err-TooLong.ensures.too_long in
+    (too_long_text pages, inr (inr (inr (pages, long, refl))), c.tell_pages.ensures)
+
+pub returns-in-Err-Several : goal.returns-in-Err-Several
+returns-in-Err-Several g c = absurd (subst IsOfRegion c.in-Err-Several.field-0-is c.in-Err-Several.ensures.others)
+
+pub returns-in-Err-NoPart : goal.returns-in-Err-NoPart
+returns-in-Err-NoPart g c = absurd (subst IsOfRegion c.in-Err-NoPart.field-0-is c.in-Err-NoPart.ensures.others)
 
 pub returns-in-Err-Empty : goal.returns-in-Err-Empty
 returns-in-Err-Empty g c =

@@ -1,8 +1,8 @@
 use Rattle.std.proofs.Common.{sym}
-use Rattle.l4_lock.proofs.Openings.{ok_part}
+use Rattle.l4_shell.proofs.Seating.{ok_part}
 use Rattle.l4_shell.proofs.Going.{first_seats}
 use Rattle.l4_shell.proofs.running.booted.Goals as goal
 
 pub returns : goal.returns
 returns c =
-    first_seats _ _ _ _ c.in-Ok.ensures (ok_part _ _ _ c.give.ensures (sym c.if-is_err.ensures.value)) (ok_part _ _ _ c.give-2.ensures (sym c.if-is_err-2.ensures.value))
+    first_seats _ _ _ _ _ c.in-Ok.ensures (ok_part _ _ _ c.give.ensures (sym c.if-is_err.ensures.value)) (ok_part _ _ _ c.give-2.ensures (sym c.if-is_err-2.ensures.value))

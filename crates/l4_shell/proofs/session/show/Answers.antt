@@ -7,7 +7,7 @@ use Rattle.l4_shell.proofs.session.show.Goals as goal
 
 pub returns : goal.returns
 returns g c =
-    shows_pages _ _ _ _ _ _ _ _ _ _ c.in-Some.ensures (lists_pages _ _ _ _ _ _ _ _ _ _ _ _ (end_of _ _ _ _ c.saturating_add.ensures c.min-end.ensures) c.list_pages-shown.ensures
+    shows_pages _ _ _ _ _ _ _ _ _ _ c.in-Some.ensures (lists_pages _ _ _ _ _ _ _ _ _ _ _ _ (end_of c.args.kernel.now _ _ _ _ _ _ c.space_pages-most.ensures.small c.page_size.ensures c.space_pages-most.ensures.value c.saturating_add.ensures c.min-end.ensures) c.list_pages-shown.ensures
     (tells_is _ _ _ _ _ _ c.shown_text.ensures c.put.ensures))
 
 pub returns-in_default : goal.returns-in_default

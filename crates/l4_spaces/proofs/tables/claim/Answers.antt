@@ -1,3 +1,4 @@
+use Rattle.l4_spaces.specs.Tables.{table_pages}
 use Rattle.std.proofs.Common.{◌≡◌, ◌∙◌, ◌/◌, ℕ, List, Option, Vec, OnErr, slice_set, ap, subst}
 use Rattle.std.specs.declared.alloc.Global.{Global}
 use Rattle.std.proofs.lemmas.List.{set-get_or}
@@ -10,8 +11,8 @@ as_it_was : (c : goal.After-claim_more) → c.if-high-len.tables.items ≡ c.arg
 as_it_was c = elim c.if-high-len.branch [
   | then-high-len+else-low-len w ↦
       ap (λ (v : Vec (List (Option ℕ)) Global). v.items) w.tables-is
-      ∙ ap (slice_set c.args.tables.now.items (c.args.page / 1024)) w.index_mut-row.ensures.value
-      ∙ set-get_or c.args.tables.now.items (c.args.page / 1024) w.index_mut-row.result.now
+      ∙ ap (slice_set c.args.tables.now.items (c.args.page / table_pages)) w.index_mut-row.ensures.value
+      ∙ set-get_or c.args.tables.now.items (c.args.page / table_pages) w.index_mut-row.result.now
   | else-high-len w ↦ ap (λ (v : Vec (List (Option ℕ)) Global). v.items) w.tables-is
 ]
 

@@ -9,4 +9,4 @@ invariant_of-result c =
     let k = c.args.log in
     let e : (1 * 2 ^ k) % 2 ^ 32 ≡ 2 ^ k = one_shl k 32 (omega arith) in
     let a : n % 2 ^ k ≡ 0 = rw e at c.if-first-size-eq0.true in
-    record { block = record { small = c.if-log-le-SPACE_LOG.true; aligned = a; inside = aligned_step k n (2 ^ 20) a (pow_aligned k 20 c.if-log-le-SPACE_LOG.true) (omega arith) } }
+    record { block = record { small = c.if-log-le-MOST_SPACE_LOG.true; aligned = a; inside = aligned_step k n (2 ^ 22) a (pow_aligned k 22 c.if-log-le-MOST_SPACE_LOG.true) (omega arith) } }

@@ -10,7 +10,7 @@ read_record-requires c =
     let count = c.self.inside.count in
     let bytes = c.self.inside.bytes.items in
     let mark = c.mark_before-from.result in
-    let is = mark_is count c.args.at bytes c.self.inside.marks.items mark c.self.invariant.0 c.self.invariant.1 (c.mark_before-from.ensures.mark ∙ ap (λ (marks : List ℕ). mark_before marks c.args.at) c.as_slice.ensures.value) in
+    let is = mark_is count c.args.at bytes c.self.inside.marks.items mark c.self.invariant.0 c.self.invariant.1 (c.mark_before-from.ensures.mark ∙ ap (λ (marks : List ℕ). mark_before marks c.args.at) c.as_slice.ensures) in
     subst (λ (part : List ℕ). IsPacked (count - mark.0) part) (sym (part_is c.deref.result.now bytes mark.1 c.deref.ensures.value)) (packed_from count bytes mark.0 mark.1 c.self.invariant.0 is)
 
 pub returns : goal.returns
@@ -18,7 +18,7 @@ returns c =
     let count = c.self.inside.count in
     let bytes = c.self.inside.bytes.items in
     let mark = c.mark_before-from.result in
-    let is = mark_is count c.args.at bytes c.self.inside.marks.items mark c.self.invariant.0 c.self.invariant.1 (c.mark_before-from.ensures.mark ∙ ap (λ (marks : List ℕ). mark_before marks c.args.at) c.as_slice.ensures.value) in
+    let is = mark_is count c.args.at bytes c.self.inside.marks.items mark c.self.invariant.0 c.self.invariant.1 (c.mark_before-from.ensures.mark ∙ ap (λ (marks : List ℕ). mark_before marks c.args.at) c.as_slice.ensures) in
     let lt : c.args.at < length (records_in count bytes) = omega (arith, c.if-at-self.false, c.self.invariant.0.counted) in
     c.read_record.ensures
     ∙ ap (λ (part : List ℕ). slice_get (records_in (count - mark.0) part) (c.args.at - mark.0)) (part_is c.deref.result.now bytes mark.1 c.deref.ensures.value)

@@ -6,7 +6,7 @@ use Rattle.l4_packed.proofs.Marks.{no_marks}
 use Rattle.l4_packed.proofs.pieces.Piece.new.Goals as goal
 
 pub invariant_of-result : goal.invariant_of-result
-invariant_of-result c = (packed_none c.args.bytes.items c.requires, no_marks _ _ _ c.new.ensures.items)
+invariant_of-result c = (packed_none c.args.bytes.items c.requires, no_marks _ _ _ c.new.ensures)
 
 pub returns : goal.returns
 unfolding records_in

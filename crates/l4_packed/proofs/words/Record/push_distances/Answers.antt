@@ -1,9 +1,9 @@
 use Rattle.std.proofs.Common.{◌≤◌, ◌+◌, ◌++◌, length, sym, ap, subst, ◌∙◌, arith}
 use Rattle.l4_packed.specs.Inside.Bytes.{words_in}
 use Rattle.l4_packed.specs.Inside.Pieces.{AreWords}
-use Rattle.l4_packed.specs.Tags.{distances}
+use Rattle.l4_packed.specs.Distances.{distances}
 use Rattle.l4_packed.specs.Words.{WordList}
-use Rattle.l4_packed.proofs.Turned.{distances_length}
+use Rattle.l4_packed.proofs.Lengths.{distances_length}
 use Rattle.l4_packed.proofs.Unpacking.{few_bytes_each, words_append, are_words_append}
 use Rattle.l4_packed.proofs.words.Record.push_distances.Goals as goal
 

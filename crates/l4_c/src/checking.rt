@@ -1,0 +1,167 @@
+//! Checks of plans.
+ghost use Rattle.std.specs.Prelude.{◌≡◌, ◌%◌, ◌≤◌, length, IfOk, IfErr, codes};
+ghost use Rattle.l4_fpage.specs.declared.sizes.PageSize.TheVariants.{Kib4};
+ghost use Rattle.l4_msg.specs.Words.{ItemsRead, FirstFails};
+ghost use Rattle.l4_refusals.specs.Texts.{spelled};
+ghost use Rattle.l4_c.specs.InBytes.{InBytes};
+ghost use Rattle.l4_c.specs.Planned.{region_of};
+ghost use Rattle.l4_c.specs.Checked.{told_place, ItemsFail, max_plan_words, verdict_of, fault_verdict, TellsCheck, TellsLongCheck};
+
+use crate::numbers::{NO_SUCH_SIZE, message_detail, message_number};
+use crate::regions::{RegionGiven, region_of};
+use crate::sizes::size_of;
+use arrayvec::ArrayVec;
+use l4_fpage::Fpage;
+use l4_ipc::PageSize;
+use l4_msg::{Item, ItemFault, MAX_PLAN_ITEMS, MsgFault};
+use l4_plan_check::{Fault, Proved, check, check_too_long};
+
+/// Why a claim about a region doesn't hold.
+#[repr(C)]
+#[derive(Clone, Copy)]
+pub struct Verdict {
+    pub refusal: u32,
+    pub detail: u32,
+}
+
+/// A place from 0.
+fn place(at: usize) -> u32
+    ensures { result ≡ told_place at }
+{
+    if at <= 0xffff_ffff {
+        at as u32
+    } else {
+        0xffff_ffff
+    }
+}
+
+/// A refusal of a claim, or none.
+fn verdict_of(refusal: u32, detail: u32) -> Verdict
+    ensures { result ≡ verdict_of refusal detail }
+{
+    Verdict { refusal, detail }
+}
+
+/// A fault of a plan.
+fn fault_told(fault: Fault) -> Verdict
+    ensures { result ≡ fault_verdict fault }
+{
+    match fault {
+        Fault::Region => verdict_of(0x4336, 0),
+        Fault::Item(i) => verdict_of(0x4331, place(i)),
+        Fault::Gap(page) => verdict_of(0x4332, page),
+        Fault::Count => verdict_of(0x4335, 0),
+        Fault::Page(i) => verdict_of(0x4333, place(i)),
+        Fault::Pair(i) => verdict_of(0x4334, place(i)),
+    }
+}
+
+/// The items of these words, two words an item, or the first that fails, by its place from 0.
+fn items_of(words: &[u32]) -> Result<ArrayVec<Item, MAX_PLAN_ITEMS>, (u32, ItemFault)>
+    requires even { length words.now % 2 ≡ 0 }
+    requires few { length words.now ≤ max_plan_words }
+    ensures ok { IfOk result (λ items. ItemsRead words.now items.items) }
+    ensures err { IfErr result (λ e. FirstFails words.now e.0 e.1) }
+{
+    let mut items = ArrayVec::new();
+    for i in 0..words.len() / 2 {
+        // The loop's proof needs the type of an item's part here.
+        let _fpage = Fpage::Nil;
+        match Item::read(words[2 * i], words[2 * i + 1]) {
+            Ok(item) => items.push(item),
+            Err(fault) => return Err((i as u32, fault)),
+        }
+    }
+    Ok(items)
+}
+
+/// The items of these words, or why they are none of a plan.
+fn plan_items(words: &[u32]) -> Result<ArrayVec<Item, MAX_PLAN_ITEMS>, MsgFault>
+    ensures ok { IfOk result (λ items. ItemsRead words.now items.items) }
+    ensures err { IfErr result (ItemsFail words.now) }
+{
+    if words.len() > 2 * MAX_PLAN_ITEMS {
+        return Err(MsgFault::TooManyWords);
+    }
+    if words.len() % 2 != 0 {
+        return Err(MsgFault::OddTyped);
+    }
+    match items_of(words) {
+        Ok(items) => Ok(items),
+        Err((i, ItemFault::Bad)) => Err(MsgFault::BadItem(i)),
+        Err((i, ItemFault::Unsupported)) => Err(MsgFault::Unsupported(i)),
+    }
+}
+
+/// Checks a plan of a region of pages of this size: two words an item, message after message without their tags.
+fn judged(given: &RegionGiven, size: PageSize, words: &[u32], pages: &[u32]) -> Verdict
+    ensures { TellsCheck size (region_of given.now) words.now pages.now result }
+{
+    let items = match plan_items(words) {
+        Ok(items) => items,
+        Err(fault) => {
+            return verdict_of(message_number(fault), message_detail(fault));
+        }
+    };
+    match check(&region_of(given), size, items.as_slice(), pages) {
+        Ok(Proved) => verdict_of(0, 0),
+        Err(fault) => fault_told(fault),
+    }
+}
+
+/// Checks a plan of a region of pages of 4,096 bytes.
+#[unsafe(no_mangle)]
+pub extern "C" fn l4_check_plan(given: &RegionGiven, words: &[u32], pages: &[u32]) -> Verdict
+    ensures { TellsCheck Kib4 (region_of given.now) words.now pages.now result }
+{
+    judged(given, PageSize::Kib4, words, pages)
+}
+
+/// Checks a plan of a region of pages of so many bytes.
+#[unsafe(no_mangle)]
+pub extern "C" fn l4_check_plan_sized(
+    given: &RegionGiven,
+    words: &[u32],
+    pages: &[u32],
+    page_bytes: u32,
+) -> Verdict
+    ensures { InBytes page_bytes (λ size. TellsCheck size (region_of given.now) words.now pages.now result) (result ≡ verdict_of (spelled (codes "B4")) 0) }
+{
+    match size_of(page_bytes) {
+        Some(size) => judged(given, size, words, pages),
+        None => verdict_of(NO_SUCH_SIZE, 0),
+    }
+}
+
+/// Checks that each list of map items of pages of this size is too long.
+fn judged_too_long(given: &RegionGiven, size: PageSize, pages: &[u32]) -> Verdict
+    ensures { TellsLongCheck size (region_of given.now) pages.now result }
+{
+    match check_too_long(&region_of(given), size, pages) {
+        Ok(Proved) => verdict_of(0, 0),
+        Err(fault) => fault_told(fault),
+    }
+}
+
+/// Checks that each list of map items of pages of 4,096 bytes is too long.
+#[unsafe(no_mangle)]
+pub extern "C" fn l4_check_too_long(given: &RegionGiven, pages: &[u32]) -> Verdict
+    ensures { TellsLongCheck Kib4 (region_of given.now) pages.now result }
+{
+    judged_too_long(given, PageSize::Kib4, pages)
+}
+
+/// Checks that each list of map items of pages of so many bytes is too long.
+#[unsafe(no_mangle)]
+pub extern "C" fn l4_check_too_long_sized(
+    given: &RegionGiven,
+    pages: &[u32],
+    page_bytes: u32,
+) -> Verdict
+    ensures { InBytes page_bytes (λ size. TellsLongCheck size (region_of given.now) pages.now result) (result ≡ verdict_of (spelled (codes "B4")) 0) }
+{
+    match size_of(page_bytes) {
+        Some(size) => judged_too_long(given, size, pages),
+        None => verdict_of(NO_SUCH_SIZE, 0),
+    }
+}

@@ -1,0 +1,29 @@
+//! Sizes of pages as C gives them.
+ghost use Rattle.std.specs.Prelude.{◌≡◌, MatchOption};
+ghost use Rattle.l4_fpage.specs.Pages.{page_bytes};
+ghost use Rattle.l4_c.specs.InBytes.{IsNoSize};
+
+use l4_ipc::PageSize;
+
+/// The size of pages of so many bytes, where there are some.
+pub fn size_of(bytes: u32) -> Option<PageSize>
+    ensures { MatchOption result (IsNoSize bytes) (λ size. bytes ≡ page_bytes size) }
+{
+    if bytes == 4096 {
+        return Some(PageSize::Kib4);
+    }
+    if bytes == 1024 {
+        return Some(PageSize::Kib1);
+    }
+    None
+}
+
+/// The bytes of a page of this size.
+pub fn bytes_of(size: PageSize) -> u32
+    ensures { result ≡ page_bytes size }
+{
+    match size {
+        PageSize::Kib4 => 4096,
+        PageSize::Kib1 => 1024,
+    }
+}

@@ -1,0 +1,5 @@
+pub mod Fields
+pub mod Ids
+pub mod Tags
+pub mod Codes
+pub mod Reading

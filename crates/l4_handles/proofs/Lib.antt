@@ -1,0 +1,4 @@
+pub mod Forms
+pub mod Handles
+pub mod Holding
+pub mod Values

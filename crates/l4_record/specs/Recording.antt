@@ -1,0 +1,71 @@
+-- The recorder as one value, and what its calls do. (this profile's own)
+use Rattle.std.specs.Prelude.{◌≡◌, ℕ, ◌<◌, ◌≤◌, ◌⊎◌, List, ◌∷◌, ◌++◌, length, map, Ok, Err, refl}
+use Rattle.std.specs.Coded.{Coded, code_by, coded×, coded_ℕ, coded_list}
+use Rattle.atomic_table.specs.Seated.{TableId, table_id_coded}
+use Rattle.l4_fpage.specs.Pages.{max_frames}
+use Rattle.l4_threads.specs.declared.Thread.{Thread}
+use Rattle.l4_ipc.specs.declared.calls.Call.{Call}
+use Rattle.l4_ipc.specs.declared.steps.Refused.TheVariants.{BadFrames, Lower}
+use Rattle.l4_ipc.specs.declared.steps.Lower.TheVariants.{NoMemory as LowerNoMemory}
+use Rattle.l4_ipc.specs.declared.steps.Step.TheVariants.{Start}
+use Rattle.l4_ipc.specs.Machine.{Machine, machine_code}
+use Rattle.l4_ipc.specs.Steps.{Steps, IsIdle}
+use Rattle.l4_record.specs.declared.appended.Appended.{Appended}
+use Rattle.l4_record.specs.declared.entries.Entry.{Entry}
+use Rattle.l4_record.specs.declared.refusals.RecordRefusal.{RecordRefusal}
+use Rattle.l4_record.specs.declared.refusals.RecordRefusal.TheVariants.{HistoryFull, NoMemory, Kernel as ByKernel}
+use Rattle.l4_record.specs.Sizes.{max_entries, max_steps, last_start}
+use Rattle.l4_record.specs.History.{IsLegal}
+use Rattle.l4_record.specs.Following.{start_entry, next_entry, Lasts, ComeNext}
+
+-- what a contract sees of the recorder
+pub record Recording : Type 0 where
+  pub frames : ℕ
+  pub kernel : Machine
+  pub history : List Entry
+  pub board : TableId
+  pub published : ℕ
+
+abbrev pub recording : ℕ → Machine → List Entry → TableId → ℕ → Recording
+recording frames kernel history board published =
+    record { frames = frames; kernel = kernel; history = history; board = board; published = published }
+
+abbrev pub recording_code : Coded Thread → Coded Entry → Coded Recording
+recording_code thread entry =
+    code_by (ℕ × (Machine × (List Entry × (TableId × ℕ))))
+    (coded× coded_ℕ (coded× (machine_code thread) (coded× (coded_list entry) (coded× table_id_coded coded_ℕ))))
+    (λ r. (r.frames, (r.kernel, (r.history, (r.board, r.published)))))
+    (λ p. recording p.0 p.1.0 p.1.1.0 p.1.1.1.0 p.1.1.1.1) (λ _. refl)
+
+-- The history is legal, the kernel is its replay from boot, the mappings were a forest at all times, no step is enabled, and the publisher has
+-- shown the length of the history.
+pub record IsKept (r : Recording) : Type 0 where
+  pub legal : IsLegal r.frames r.history r.kernel
+  pub idle : IsIdle r.kernel
+  pub few : length r.history ≤ max_entries
+  pub shown : r.published ≡ length r.history
+
+-- The call was entered, for which there was room: the history goes on by its start and by the steps that come next, at most 128, until there
+-- is none. The replies of all calls that ended in them can still be read.
+pub record Enters (old new : Recording) (n : ℕ) (call : Call) (appended : Appended) : Type 0 where
+  pub room : length old.history ≤ last_start
+  pub started : Machine
+  pub starts : Steps old.kernel (Start n call) (Ok appended.start) started
+  pub lasts : Lasts new.kernel started appended.start
+  pub next : ComeNext started appended.next.items new.kernel
+  pub few : length appended.next.items ≤ max_steps
+  pub idle : IsIdle new.kernel
+  pub history : new.history ≡ old.history ++ start_entry n call appended.start ∷ map (next_entry n) appended.next.items
+  pub same : (new.frames ≡ old.frames) × (new.board ≡ old.board)
+
+-- why no recorder is made: the number of frames is out of range, or it is within, and a growth was refused
+abbrev pub RefusesBoot : ℕ → RecordRefusal → Type 0
+RefusesBoot frames e =
+    (((frames ≡ 0) ⊎ (max_frames < frames)) × (e ≡ ByKernel BadFrames))
+    ⊎ ((1 ≤ frames) × (frames ≤ max_frames) × ((e ≡ NoMemory) ⊎ (e ≡ ByKernel (Lower LowerNoMemory))))
+
+-- why a call is not entered: the first of these that applies
+abbrev pub Refuses : Recording → ℕ → Call → RecordRefusal → Type 0
+Refuses r n call HistoryFull = last_start < length r.history
+Refuses r n call NoMemory = length r.history ≤ last_start
+Refuses r n call (ByKernel e) = (length r.history ≤ last_start) × Steps r.kernel (Start n call) (Err e) r.kernel

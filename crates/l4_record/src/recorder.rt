@@ -1,0 +1,171 @@
+//! The recorder.
+ghost use Rattle.std.specs.Prelude.{◌≡◌, ◌<◌, ◌≤◌, ◌↔◌, [], IsTrue, IfOk, IfErr, MatchResult, length, vec_len};
+ghost use Rattle.std.specs.List.{All};
+ghost use Rattle.l4_fpage.specs.Pages.{max_frames};
+ghost use Rattle.l4_board.specs.Board.{IsNewWatch};
+ghost use Rattle.l4_ipc.specs.Machine.{IsBoot};
+ghost use Rattle.l4_record.specs.Laws.{IsWholeRun};
+ghost use Rattle.l4_record.specs.Recording.{IsKept, RefusesBoot, Enters, Refuses};
+ghost use Rattle.l4_record.specs.Sizes.{last_start};
+
+use crate::appended::Appended;
+use crate::history::History;
+use crate::refusals::RecordRefusal;
+use crate::steps::begin;
+use l4_board::{Board, Publisher, Watch};
+use l4_ipc::{Call, Kernel, PageSize};
+use std::alloc::Global;
+use std::marker::Model;
+
+/// The greatest number of entries of a history.
+pub const MAX_ENTRIES: usize = 1_000_000;
+
+/// The greatest number of steps that follow the start of a call.
+pub const MAX_STEPS: usize = 128;
+
+/// The entries of a call: its start and the steps that follow it.
+const CALL_ENTRIES: usize = MAX_STEPS + 1;
+
+/// The greatest number of entries with which another call is entered.
+const LAST_START: usize = MAX_ENTRIES - CALL_ENTRIES;
+
+/// A kernel with the history of its steps, which is legal and leads from boot to where the kernel is. No step is enabled. Its board shows how
+/// many entries there are.
+#[derive(Drop)]
+pub struct Recorder {
+    frames: u32,
+    kernel: Kernel,
+    history: History,
+    publisher: Publisher,
+}
+
+impl Model for Recorder {
+    ghost use Rattle.l4_threads.specs.contracts.Thread as thread;
+    ghost use Rattle.l4_record.specs.contracts.entries.Entry as entry;
+    ghost use Rattle.l4_record.specs.Recording.{Recording, recording, recording_code, IsKept};
+
+    ghost Value = { Recording };
+
+    ghost coded = { recording_code thread.the_row.coded entry.the_row.coded };
+
+    ghost view = { λ a. recording a.frames a.kernel a.history.entries a.publisher.board a.publisher.shown };
+
+    ghost invariant = { λ a. IsKept (recording a.frames a.kernel a.history.entries a.publisher.board a.publisher.shown) };
+}
+
+impl Recorder {
+    /// A kernel as it boots, with 1 to 4,096 frames of this size and an empty history, its board, whose word is 0, and watches of it.
+    ///
+    /// `Kernel(BadFrames)` comes for any other number, and else `NoMemory`, or `Kernel` with it, where a growth was refused.
+    pub fn new(
+        alloc: Global,
+        frames: u32,
+        size: PageSize,
+        watches: usize,
+    ) -> Result<(Recorder, Board, Vec<Watch>), RecordRefusal>
+        ensures { MatchResult result
+            (λ r. (r.0.frames ≡ frames) × (r.0.kernel.size ≡ size) × IsBoot frames r.0.kernel × (r.0.history ≡ []) × (r.1 ≡ r.0.board)
+            × (vec_len r.2 ≡ watches) × All (IsNewWatch r.0.board) r.2.items × (1 ≤ frames) × (frames ≤ max_frames))
+            (RefusesBoot frames) }
+    {
+        let kernel = match Kernel::boot(alloc, frames, size) {
+            Ok(kernel) => kernel,
+            Err(refused) => return Err(RecordRefusal::Kernel(refused)),
+        };
+        kernel.law_forest();
+        let Ok(publisher) = Publisher::new(alloc) else {
+            return Err(RecordRefusal::NoMemory);
+        };
+        let Ok(board) = publisher.board() else {
+            return Err(RecordRefusal::NoMemory);
+        };
+        let Ok(watches) = board.watches(alloc, watches) else {
+            return Err(RecordRefusal::NoMemory);
+        };
+        let recorder = Recorder {
+            frames,
+            kernel,
+            history: History::new(alloc),
+            publisher,
+        };
+        Ok((recorder, board, watches))
+    }
+
+    /// The kernel.
+    pub fn kernel(&self) -> &Kernel
+        ensures { result.now ≡ self.now.kernel }
+    {
+        &self.kernel
+    }
+
+    /// The history.
+    pub fn history(&self) -> &History
+        ensures { result.now.entries ≡ self.now.history }
+    {
+        &self.history
+    }
+
+    /// Whether the history has no room for another call.
+    pub fn is_full(&self) -> bool
+        ensures { IsTrue result ↔ (last_start < length self.now.history) }
+    {
+        self.history.len() > LAST_START
+    }
+
+    /// What holds of the recorder at all times. It does nothing.
+    pub fn law_kept(&self)
+        ensures { IsKept self.now }
+    {
+        let _ = &self.frames;
+    }
+
+    /// What holds of the whole history: it is one run of the machine from boot, each page that is present has its provenance in it, a flush
+    /// ends what came through its pages, and each delegation that was delivered has its whole effect. It does nothing.
+    pub fn law_history(&self)
+        ensures { IsWholeRun self.now.frames self.now.history self.now.kernel }
+    {
+        let _ = &self.frames;
+    }
+
+    /// Enters a call of this thread: its start is appended to the history, and then the steps that come next until there is none, at most
+    /// 128. What was appended is told in the place that is lent.
+    ///
+    /// Refusals in this order: `HistoryFull`, `NoMemory`, `Kernel`. After any of them nothing has changed.
+    pub fn enter(
+        &mut self,
+        number: u32,
+        call: &Call,
+        appended: &mut Appended,
+    ) -> Result<(), RecordRefusal>
+        ensures ok { IfOk result (λ _. Enters self.old self.new number call.now appended.new) }
+        ensures err { IfErr result (λ e. Refuses self.old number call.now e × (self.new ≡ self.old)) }
+    {
+        if self.history.len() > LAST_START {
+            return Err(RecordRefusal::HistoryFull);
+        }
+        if self.history.reserve(CALL_ENTRIES).is_err() {
+            return Err(RecordRefusal::NoMemory);
+        }
+        let begun = begin(&mut self.kernel, &mut self.history, number, call, appended);
+        if let Err(refused) = begun {
+            return Err(RecordRefusal::Kernel(refused));
+        }
+        self.publisher.publish(self.history.len() as u64);
+        Ok(())
+    }
+
+    /// The history and the kernel, with what holds of the whole history.
+    #[inline(never)]
+    pub fn into_parts(self) -> (History, Kernel)
+        ensures same { (result.0.entries ≡ self.history) × (result.1 ≡ self.kernel) }
+        ensures history { IsWholeRun self.frames result.0.entries result.1 }
+    {
+        let Recorder {
+            frames: _,
+            kernel,
+            history,
+            publisher: _,
+        } = self;
+        (history, kernel)
+    }
+}

@@ -1,0 +1,50 @@
+//! Steps of the kernel with their entries.
+ghost use Rattle.std.specs.Prelude.{◌≡◌, ◌+◌, ◌≤◌, ◌<◌, Ok, Err, IfOk, IfErr, OnErr, length};
+ghost use Rattle.l4_ipc.specs.Steps.{Steps, IsIdle};
+ghost use Rattle.l4_ipc.specs.declared.steps.Step.TheVariants.{Start};
+ghost use Rattle.l4_threads.specs.Sizes.{max_threads};
+ghost use Rattle.l4_record.specs.Sizes.{max_steps};
+ghost use Rattle.l4_record.specs.Inside.Entering.{Went, Begins};
+
+use crate::appended::{Appended, NextSteps};
+use crate::history::History;
+use l4_ipc::{Call, Kernel, Refused};
+
+/// Does the steps that come next, until there is none, and tells them in the place of others.
+fn follow(kernel: &mut Kernel, history: &mut History, number: u32, next: &mut NextSteps)
+    requires { length history.old.entries + max_threads ≤ history.old.room }
+    ensures went { Went number kernel.old kernel.new history.old.entries history.new.entries next.new.items }
+    ensures idle { IsIdle kernel.new }
+{
+    kernel.law_consistent();
+    next.clear();
+    while let Some(step) = kernel.next() {
+        kernel.law_forest();
+        history.push_next(number, step);
+        next.push(step);
+    }
+}
+
+/// Does the step that starts a call and those that come next, until there is none. After a refusal nothing has changed.
+pub fn begin(
+    kernel: &mut Kernel,
+    history: &mut History,
+    number: u32,
+    call: &Call,
+    appended: &mut Appended,
+) -> Result<(), Refused>
+    requires { length history.old.entries + max_steps + 1 ≤ history.old.room }
+    ensures ok { IfOk result (λ _. Begins number call.now kernel.old kernel.new history.old.entries history.new.entries appended.new) }
+    ensures err { IfErr result (λ e. Steps kernel.old (Start number call.now) (Err e) kernel.old) }
+    ensures same { OnErr result ((kernel.new ≡ kernel.old) × (history.new.entries ≡ history.old.entries)) }
+{
+    match kernel.start(number, call, &mut appended.start) {
+        Ok(()) => {
+            kernel.law_forest();
+            history.push_start(number, call, &appended.start);
+            follow(kernel, history, number, &mut appended.next);
+            Ok(())
+        }
+        Err(refused) => Err(refused),
+    }
+}

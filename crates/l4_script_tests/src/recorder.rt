@@ -1,0 +1,139 @@
+//! Calls of several threads over a recorder.
+
+use l4_ipc::{
+    ArrayVec, Call, Fpage, IpcReply, MAX_WORDS, NextStep, Outcome, PageSize, Refused, Reply,
+    Rights, ThreadId, Timeout,
+};
+use l4_record::{Appended, RecordRefusal, Recorder};
+use std::alloc::Global;
+use std::process::Abort;
+
+const FRAMES: u32 = 16;
+
+/// The number of root, which may make and end threads.
+const ROOT: u32 = 2;
+
+const ROOT_ID: ThreadId = ThreadId(0x8001);
+
+/// A thread that root makes.
+const THIRD: u32 = 3;
+
+const THIRD_ID: ThreadId = ThreadId(3 * 0x4000 + 1);
+
+/// A number that names no thread.
+const NOBODY: u32 = 4;
+
+/// A message of one word, with a label: its tag, then the word.
+const MESSAGE: [u32; 2] = [0x0005_0001, 0x2a];
+
+/// Makes the third thread in a space of its own.
+fn create() -> Call {
+    Call::create(THIRD_ID, THIRD_ID, ThreadId::nil())
+}
+
+/// Sends the message to the third thread. It waits for as long as it takes.
+fn send() -> Call {
+    let mut words: ArrayVec<u32, MAX_WORDS> = ArrayVec::new();
+    let _ = words.try_extend_from_slice(&MESSAGE);
+    Call::send(THIRD_ID, words, Timeout::Never)
+}
+
+/// Receives anybody's message with a complete window. It waits for as long as it takes.
+fn receive() -> Call {
+    Call::receive(
+        ThreadId::any(),
+        Fpage::Complete(Rights::all()),
+        Timeout::Never,
+    )
+}
+
+/// Whether this is the message, as root sent it.
+fn is_message(reply: Option<&Reply>) -> bool {
+    match reply {
+        Some(
+            Reply::Ipc(
+                IpcReply {
+                    tag,
+                    error,
+                    from,
+                    words,
+                },
+            ),
+        ) => {
+            *tag == MESSAGE[0]
+                && *error == 0
+                && *from == ROOT_ID
+                && words.as_slice() == &MESSAGE[1..]
+        }
+        _ => false,
+    }
+}
+
+/// A recorder, and a place for what is appended.
+fn recorder(rt: &impl Abort, alloc: Global) -> (Recorder, Appended) {
+    let (recorder, _, _) = Recorder::new(alloc, FRAMES, PageSize::Kib4, 0).expect(rt, "a recorder");
+    (recorder, Appended::new())
+}
+
+/// Root makes the third thread, which waits for a message.
+fn make_third(rt: &impl Abort, recorder: &mut Recorder, appended: &mut Appended) {
+    assert!(rt; recorder.enter(ROOT, &create(), appended).is_ok());
+    assert!(rt; recorder.enter(THIRD, &receive(), appended).is_ok());
+}
+
+/// A thread that was left waiting gets a message, and enters another call: nobody but the kernel keeps its reply.
+#[test]
+fn message(rt: HostRuntime) {
+    let (mut recorder, mut appended) = recorder(&rt, rt.alloc());
+    make_third(&rt, &mut recorder, &mut appended);
+    assert!(rt; recorder.kernel().reply(THIRD).is_none());
+    assert!(rt; recorder.enter(ROOT, &send(), &mut appended).is_ok());
+    assert!(rt; is_message(recorder.kernel().reply(THIRD)));
+    assert!(rt; recorder.enter(THIRD, &receive(), &mut appended).is_ok());
+    assert_eq!(rt; recorder.history().len(), 5);
+}
+
+/// What a call appended is told: whose calls ended in its start, and the steps that came next.
+#[test]
+fn appended(rt: HostRuntime) {
+    let (mut recorder, mut told) = recorder(&rt, rt.alloc());
+    assert!(rt; recorder.enter(ROOT, &create(), &mut told).is_ok());
+    assert!(rt;
+        told.start.ended.as_slice() == [ROOT].as_slice() && told.next.as_slice().is_empty()
+    );
+    assert!(rt; recorder.enter(THIRD, &receive(), &mut told).is_ok());
+    assert!(rt; told.start.ended.is_empty() && told.next.as_slice().is_empty());
+    assert!(rt; recorder.enter(ROOT, &send(), &mut told).is_ok());
+    assert!(rt; told.start.ended.is_empty());
+    let transfer = NextStep::Transfer(ROOT, THIRD, Outcome::Done, true);
+    assert!(rt; told.next.as_slice() == [transfer].as_slice());
+    assert!(rt; recorder.enter(THIRD, &receive(), &mut told).is_ok());
+    assert!(rt;
+        recorder
+            .enter(ROOT, &Call::delete(THIRD_ID), &mut told)
+            .is_ok()
+    );
+    assert!(rt; told.start.ended.as_slice() == [ROOT, THIRD].as_slice());
+}
+
+/// A call of a number that names no thread is refused, and one of a thread that waits.
+#[test]
+fn refused(rt: HostRuntime) {
+    let (mut recorder, mut appended) = recorder(&rt, rt.alloc());
+    make_third(&rt, &mut recorder, &mut appended);
+    let unknown = Err(RecordRefusal::Kernel(Refused::UnknownThread));
+    assert_eq!(rt; recorder.enter(NOBODY, &receive(), &mut appended), unknown);
+    let busy = Err(RecordRefusal::Kernel(Refused::Busy));
+    assert_eq!(rt; recorder.enter(THIRD, &receive(), &mut appended), busy);
+    assert_eq!(rt; recorder.history().len(), 2);
+}
+
+/// No recorder has no frames.
+#[test]
+fn no_frames(rt: HostRuntime) {
+    let refusal = match Recorder::new(rt.alloc(), 0, PageSize::Kib4, 0) {
+        Ok(_) => None,
+        Err(refusal) => Some(refusal),
+    };
+    assert_eq!(rt; refusal, Some(RecordRefusal::Kernel(Refused::BadFrames)));
+}

@@ -1,0 +1,186 @@
+-- No line changes the size of pages that a script goes by.
+use Rattle.std.proofs.Common.{◌≡◌, ℕ, ◌+◌, Bool, true, false, cond, List, [], ◌∷◌, length, Option, Some, None, Result, Ok, Err, inl, inr, ◌⊎◌, refl, sym, ap, subst, ◌∙◌}
+use Rattle.std.specs.Prelude.{MatchOption}
+use Rattle.std.specs.Option.{unwrap_or}
+use Rattle.std.specs.Ordering.{nat_cmp, eq_by_cmp}
+use Rattle.std.specs.Cmp.{nat_cmp_total}
+use Rattle.std.specs.FinMap as fin
+use Rattle.l4_fpage.specs.declared.sizes.PageSize.{PageSize}
+use Rattle.l4_msg.specs.declared.messages.Message.{Message}
+use Rattle.l4_threads.specs.Threads.{Threads, space_of}
+use Rattle.l4_threads.specs.declared.ThreadId.{ThreadId}
+use Rattle.l4_ipc.specs.declared.calls.Call.{Call}
+use Rattle.l4_ipc.specs.declared.steps.Step.TheVariants.{Start}
+use Rattle.l4_ipc.specs.Machine.{Machine}
+use Rattle.l4_ipc.specs.Following.{Done, AreNext}
+use Rattle.l4_ipc.proofs.SizeStays.{size_stays}
+use Rattle.l4_pager.specs.Regions.{Regions, no_entries, with_entry}
+use Rattle.l4_pager.specs.Serving.{waiting}
+use Rattle.l4_pager.specs.declared.regions.Entry.{Entry}
+use Rattle.l4_servers.specs.Servers.{Servers, servers, regions_of, with_region, with_served, without}
+use Rattle.l4_servers.specs.Acting.{Answers, ActsNext}
+use Rattle.l4_shell.specs.Commands.{Command}
+use Rattle.l4_shell.specs.declared.commands.ScriptFault.{ScriptFault}
+use Rattle.l4_shell.specs.declared.requests.Request.{Request}
+use Rattle.l4_shell.specs.declared.requests.Request.TheVariants.{Enter, CreateThread, EndThread, SendPlan, ListPages, TellParent, AddRegion, ServeThread, TellSteps}
+use Rattle.l4_shell.specs.Lines.{ScriptLine}
+use Rattle.l4_shell.specs.Requests.{request_of, asked_of, root, delete_call}
+use Rattle.l4_shell.specs.Seated.{with_number}
+use Rattle.l4_shell.specs.Sessions.{Session, first_session, gone_on, Act, IsAct, AreActs, StopsActing, Follows, Enters, RegionAdded, RegionRefused, CarriesOut, AnswersLine, AnswersLines}
+use Rattle.l4_shell.specs.Sizes.{GoBy, HasSize}
+
+-- STEPS
+
+steps_size : (m : Machine) (steps : List Done) (new : Machine) → AreNext m steps new → new.size ≡ m.size
+steps_size m [] new are = ap (λ (x : Machine). x.size) are
+steps_size m (done ∷ rest) new are = steps_size done.after rest new are.2 ∙ size_stays m done.step (Ok done.answer) done.after are.1
+
+-- SERVERS
+
+-- a table that is in its place, or none
+either_size : (b : Bool) (first second : Option Regions) (z size : PageSize) → (unwrap_or first (no_entries z)).size ≡ size → (unwrap_or second (no_entries z)).size ≡ size
+    → (unwrap_or (cond b first second) (no_entries z)).size ≡ size
+either_size true first second z size a b = a
+either_size false first second z size a b = b
+
+with_owners : (size : PageSize) (old new : Servers) → new.owners.size ≡ old.owners.size → new.tables ≡ old.tables → GoBy size old → GoBy size new
+with_owners size old new same tables h = record {
+  owners = same ∙ h.owners;
+  regions = λ n. (λ i. (unwrap_or (fin.get (tables i) n) (no_entries (same i))).size) ∙ h.regions n;
+}
+
+region_goes : (size : PageSize) (s : Servers) (thread : ℕ) (entry : Entry) → GoBy size s → GoBy size (with_region s thread entry)
+region_goes size s thread entry h =
+    let put : Regions = with_entry (regions_of s thread) entry in
+    record {
+      owners = h.owners;
+      regions = λ n. ap (λ (o : Option Regions). (unwrap_or o (no_entries s.owners.size)).size) (fin.get-insert nat_cmp_total s.tables thread put n)
+          ∙ either_size (eq_by_cmp nat_cmp n thread) (Some put) (fin.get s.tables n) s.owners.size size (h.regions thread) (h.regions n);
+    }
+
+without_goes : (size : PageSize) (s : Servers) (thread : ℕ) → GoBy size s → GoBy size (without s thread)
+without_goes size s thread h = record {
+  owners = h.owners;
+  regions = λ n. ap (λ (o : Option Regions). (unwrap_or o (no_entries s.owners.size)).size) (fin.get-remove nat_cmp_total s.tables thread n)
+      ∙ either_size (eq_by_cmp nat_cmp n thread) None (fin.get s.tables n) s.owners.size size h.owners (h.regions n);
+}
+
+served_goes : (size : PageSize) (s : Servers) (thread : ℕ) → GoBy size s → GoBy size (with_served s thread)
+served_goes size s thread h = record { owners = h.owners; regions = h.regions }
+
+answers_go : (size : PageSize) (t : Threads) (old : Servers) (thread : ℕ) (sender : ThreadId) (m answer : Message) (new : Servers) → Answers t old thread sender m answer new → GoBy size old → GoBy size new
+answers_go size t old thread sender m answer new a h = elim a [
+  | inl by ↦
+      let x = by.1 in
+      let same : x.0.size ≡ old.owners.size = elim x.1 [
+        | inl gives ↦ gives.5.size
+        | inr not ↦ λ i. (not.2 i).size
+      ] in
+      subst (GoBy size) (sym x.2) (with_owners size old (servers x.0 old.tables old.served) same refl h)
+  | inr by ↦ let x = by.1 in subst (GoBy size) (sym x.1) h
+]
+
+acts_go : (size : PageSize) (t : Threads) (old : Servers) (thread : ℕ) (call : Call) (new : Servers) → ActsNext t old thread call new → GoBy size old → GoBy size new
+acts_go size t old thread call new a h = elim a.follows [
+  | inl is ↦ answers_go size t old thread is.sender is.message is.answer new is.answers h
+  | inr waits ↦ subst (GoBy size) (sym waits.2) h
+]
+
+-- CALLS
+
+same_size : (size : PageSize) (old new : Session) → new ≡ old → HasSize size old → HasSize size new
+same_size size old new is h = subst (HasSize size) (sym is) h
+
+act_size : (size : PageSize) (old : Session) (act : Act) → IsAct old act → HasSize size old → HasSize size (gone_on old act.servers (length act.steps) act.after)
+act_size size old act is h = record {
+  machine = steps_size act.started act.steps act.after is.next ∙ size_stays old.machine (Start act.thread act.call) (Ok act.answer) act.started is.starts ∙ h.machine;
+  servers = acts_go size old.machine.threads old.servers act.thread act.call act.servers is.acts h.servers;
+}
+
+are_acts_size : (size : PageSize) (old : Session) (acts : List Act) (new : Session) → AreActs old acts new → HasSize size old → HasSize size new
+are_acts_size size old [] new are h = same_size size old new are h
+are_acts_size size old (act ∷ acts) new are h =
+    are_acts_size size (gone_on old act.servers (length act.steps) act.after) acts new are.1 (act_size size old act are.0 h)
+
+stops_size : (size : PageSize) (old : Session) (count : ℕ) (text : List ℕ) (new : Session) → StopsActing old count text new → HasSize size old → HasSize size new
+stops_size size old count text new stops h = elim stops [
+  | inl quiet ↦ same_size size old new quiet.2 h
+  | inr rest ↦ elim rest [
+    | inl spent ↦ same_size size old new spent.2 h
+    | inr r ↦ record {
+      machine = ap (λ (s : Session). s.machine.size) r.same ∙ h.machine;
+      servers = acts_go size old.machine.threads old.servers r.thread r.call new.servers r.acts h.servers;
+    }
+  ]
+]
+
+follows_size : (size : PageSize) (old : Session) (thread : ℕ) (call : Call) (sv : Servers) (text : List ℕ) (new : Session) → Follows old thread call sv text new → HasSize size old → GoBy size sv → HasSize size new
+follows_size size old thread call sv text new f h go =
+    let g = f.goes_on in
+    stops_size size g.between (length g.acts) g.last new g.stops
+    (are_acts_size size (gone_on old sv (length f.steps) f.settled) g.acts g.between g.are
+    (record {
+      machine = steps_size f.started f.steps f.settled f.next ∙ size_stays old.machine (Start thread call) (Ok f.answer) f.started f.starts ∙ h.machine;
+      servers = go;
+    }))
+
+enters_size : (size : PageSize) (old : Session) (line thread : ℕ) (call : Call) (text : List ℕ) (new : Session) → Enters old line thread call text new → HasSize size old → HasSize size new
+enters_size size old line thread call text new e h = elim e [
+  | inl f ↦ follows_size size old thread call old.servers text new f h h.servers
+  | inr r ↦ same_size size old new r.same h
+]
+
+adds_size : (size : PageSize) (old : Session) (line thread : ℕ) (entry : Entry) (space : Option ℕ) (text refused : List ℕ) (new : Session)
+    → MatchOption space ((text ≡ refused) × (new ≡ old)) (λ _. RegionAdded old thread entry text new ⊎ RegionRefused old line thread entry text new) → HasSize size old → HasSize size new
+adds_size size old line thread entry None text refused new a h = same_size size old new a.1 h
+adds_size size old line thread entry (Some space) text refused new a h = elim a [
+  | inl added ↦ subst (HasSize size) (sym added.2) (record { machine = h.machine; servers = region_goes size old.servers thread entry h.servers })
+  | inr not ↦ same_size size old new not.3 h
+]
+
+-- LINES
+
+carries_size : (size : PageSize) (old : Session) (line : ℕ) (request : Request) (text : List ℕ) (new : Session) → CarriesOut old line request text new → HasSize size old → HasSize size new
+carries_size size old line (Enter thread call) text new c h = enters_size size old line thread call text new c h
+carries_size size old line (CreateThread number call) text new c h = elim c [
+  | inl e ↦ enters_size size (record old { numbers = with_number old.numbers number }) line root call text new e (record { machine = h.machine; servers = h.servers })
+  | inr lacks ↦ same_size size old new lacks.1.1 h
+]
+carries_size size old line (EndThread thread) text new c h = elim c [
+  | inl f ↦ follows_size size old root (delete_call thread) (without old.servers thread) text new f h (without_goes size old.servers thread h.servers)
+  | inr r ↦ same_size size old new r.same h
+]
+carries_size size old line (SendPlan thread to which region) text new c h = elim c [
+  | inl sends ↦ enters_size size old line thread _ text new sends.2 h
+  | inr none ↦ same_size size old new none.3 h
+]
+carries_size size old line (ListPages thread first count) text new c h = same_size size old new c.1 h
+carries_size size old line (TellParent thread page) text new c h = same_size size old new c.1 h
+carries_size size old line (AddRegion thread entry) text new c h = adds_size size old line thread entry (space_of old.machine.threads thread) text _ new c h
+carries_size size old line (ServeThread thread) text new c h = elim c [
+  | inl f ↦ follows_size size old thread waiting (with_served old.servers thread) text new f h (served_goes size old.servers thread h.servers)
+  | inr not ↦ elim not [
+    | inl r ↦ same_size size old new r.same h
+    | inr lacks ↦ same_size size old new lacks.lacks.1 h
+  ]
+]
+carries_size size old line TellSteps text new c h = subst (HasSize size) (sym c.3) (record { machine = h.machine; servers = h.servers })
+
+line_size : (size : PageSize) (old : Session) (line : ℕ) (asked : Result (Option Command) ScriptFault) (text : List ℕ) (new : Session) → AnswersLine old line asked text new → HasSize size old → HasSize size new
+line_size size old line (Ok None) text new a h = same_size size old new a.1 h
+line_size size old line (Ok (Some command)) text new a h = carries_size size old line (request_of command) text new a h
+line_size size old line (Err fault) text new a h = same_size size old new a.1 h
+
+pub lines_sized : (size : PageSize) (old : Session) (number : ℕ) (lines : List ScriptLine) (text : List ℕ) (new : Session) → AnswersLines old number lines text new → HasSize size old → HasSize size new
+lines_sized size old number [] text new a h = same_size size old new a.1 h
+lines_sized size old number (line ∷ lines) text new a h =
+    lines_sized size a.2 (number + 1) lines a.1 new a.4 (line_size size old number (asked_of line) a.0 a.2 a.3 h)
+
+pub first_sized : (frames : ℕ) (boot : Machine) → HasSize boot.size (first_session frames boot)
+first_sized frames boot = record {
+  machine = refl;
+  servers = record {
+    owners = refl;
+    regions = λ n. ap (λ (o : Option Regions). (unwrap_or o (no_entries boot.size)).size) (fin.get-empty {X = Regions} nat_cmp n);
+  };
+}

@@ -1,0 +1,134 @@
+//! The kernel of a script: one that is recorded, and the numbers whose threads may enter calls.
+ghost use Rattle.std.specs.Prelude.{◌≡◌, ◌≤◌, ◌↔◌, false, IsTrue, IfOk, IfErr, MatchResult, length};
+ghost use Rattle.l4_record.specs.Recording.{RefusesBoot};
+ghost use Rattle.l4_shell.specs.Seated.{is_among, IsNew, with_number, MayEnter, Refuses};
+ghost use Rattle.l4_shell.specs.Inside.Entering.{Enters};
+
+use l4_ipc::{Call, Kernel, NoMemory, PageSize, Refused};
+use l4_record::{Appended, Board, RecordRefusal, Recorder, Watch};
+use std::alloc::Global;
+use std::marker::Model;
+
+/// A recorded kernel, the numbers that have their seats, and a watch of its board. Who has no seat enters no call.
+#[derive(Drop)]
+pub(crate) struct SeatedKernel {
+    recorder: Recorder,
+    numbers: Vec<u32>,
+    board: Board,
+    watch: Watch,
+}
+
+impl Model for SeatedKernel {
+    ghost use Rattle.std.specs.Prelude.{◌≡◌};
+    ghost use Rattle.l4_threads.specs.contracts.Thread as thread;
+    ghost use Rattle.l4_record.specs.contracts.entries.Entry as entry;
+    ghost use Rattle.l4_shell.specs.Seated.{Seated, seated, seated_code};
+
+    ghost Value = { Seated };
+
+    ghost coded = { seated_code thread.the_row.coded entry.the_row.coded };
+
+    ghost view = { λ a. seated a.recorder.kernel a.recorder.history a.numbers.items a.watch.seen };
+
+    ghost invariant = { λ a. a.watch.board ≡ a.board };
+}
+
+impl SeatedKernel {
+    /// A kernel as it boots, with 1 to 4,096 frames of this size, an empty history and no seats.
+    pub fn new(alloc: Global, frames: u32, size: PageSize) -> Result<SeatedKernel, RecordRefusal>
+        ensures { MatchResult result (IsNew frames size) (RefusesBoot frames) }
+    {
+        let (recorder, board, mut watches) = match Recorder::new(alloc, frames, size, 1) {
+            Ok(parts) => parts,
+            Err(refusal) => return Err(refusal),
+        };
+        let Some(watch) = watches.pop() else {
+            unreachable!()
+        };
+        Ok(SeatedKernel {
+            recorder,
+            numbers: Vec::new(alloc),
+            board,
+            watch,
+        })
+    }
+
+    /// The kernel.
+    pub fn kernel(&self) -> &Kernel
+        ensures { result.now ≡ self.now.machine }
+    {
+        self.recorder.kernel()
+    }
+
+    /// Whether the number has its seat.
+    fn has_seat(&self, number: u32) -> bool
+        ensures { result ≡ is_among number self.now.numbers }
+    {
+        self.numbers.as_slice().contains(&number)
+    }
+
+    /// The number has its seat from then on. `NoMemory` comes where a growth was refused, and then nothing has changed; never for a
+    /// number that has its seat.
+    pub fn give(&mut self, number: u32) -> Result<(), NoMemory>
+        ensures { MatchResult result
+            (λ _. self.new ≡ record self.old { numbers = with_number self.old.numbers number })
+            (λ _. (self.new ≡ self.old) × (is_among number self.old.numbers ≡ false)) }
+    {
+        if self.has_seat(number) {
+            return Ok(());
+        }
+        if self.numbers.reserve(1).is_err() {
+            return Err(NoMemory);
+        }
+        self.numbers.push_reserved(number);
+        Ok(())
+    }
+
+    /// Whether a call of the number's thread may be entered now: the number has its seat, the history has room for the call, and the thread
+    /// runs.
+    pub fn may_enter(&self, number: u32) -> bool
+        ensures { IsTrue result ↔ MayEnter self.now.machine (length self.now.history) self.now.numbers number }
+    {
+        if !self.has_seat(number) {
+            return false;
+        }
+        if self.recorder.is_full() {
+            return false;
+        }
+        self.recorder.kernel().runs(number)
+    }
+
+    /// Enters a call of the number's thread, if that has its seat: its start and then the steps that come next, until there is none. What was
+    /// appended is told in the place that is lent.
+    ///
+    /// Refusals in this order: `Kernel(UnknownThread)` for a number that has no seat, `HistoryFull`, `NoMemory`, `Kernel`. After any of them
+    /// nothing has changed.
+    pub fn enter_if_seated(
+        &mut self,
+        number: u32,
+        call: &Call,
+        appended: &mut Appended,
+    ) -> Result<(), RecordRefusal>
+        ensures ok { IfOk result (λ _. Enters self.old self.new number call.now appended.new) }
+        ensures err { IfErr result (λ e. Refuses self.old.machine (length self.old.history) self.old.numbers number call.now e × (self.new ≡ self.old)) }
+    {
+        if !self.has_seat(number) {
+            return Err(RecordRefusal::Kernel(Refused::UnknownThread));
+        }
+        self.recorder.enter(number, call, appended)
+    }
+
+    /// What the board shows: the length of the history. It is not below what was shown before.
+    pub fn steps(&mut self) -> u64
+        ensures rises { self.old.seen ≤ result }
+        ensures seen { self.new ≡ record self.old { seen = result } }
+    {
+        let SeatedKernel {
+            recorder: _,
+            numbers: _,
+            board,
+            watch,
+        } = self;
+        board.look(watch)
+    }
+}
