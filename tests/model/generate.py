@@ -408,8 +408,8 @@ class ScriptMaker(Maker):
         if random.random() < 0.01:
             return random.choice(["", "  ", "# a comment", "frob 1", "show 1 0", "send 1", "recv 1 any 0x20", "parent 1 4294967296", "thread 0 new nil"])
         number = self.running()
-        kinds = ["send", "recv", "ipc", "unmap", "fault", "thread", "setpager", "delete", "delegate", "region", "serve", "show", "parent"]
-        kind = random.choices(kinds, [22, 14, 14, 8, 8, 6, 2, 3, 6, 3, 3, 2, 2])[0]
+        kinds = ["send", "recv", "ipc", "unmap", "fault", "thread", "setpager", "delete", "delegate", "part", "region", "serve", "show", "parent"]
+        kind = random.choices(kinds, [22, 14, 14, 8, 8, 6, 2, 3, 6, 3, 3, 3, 2, 2])[0]
         return getattr(self, "any_" + kind)(number)
 
     def freeing_line(self):
@@ -471,9 +471,16 @@ class ScriptMaker(Maker):
         return f"delete {self.thread()}"
 
     def any_delegate(self, number):
-        count = self.random.choice([0, 1, 2, 3, 5, 8, 13, 30, 40, 64, 4096, self.pages])
-        to = self.who(self.partner_to_send(number))
-        return f"delegate {number} {to} {self.page_of(number)} {self.page()} {count} {self.rights_text()}"
+        return f"delegate {number} {self.who(self.partner_to_send(number))} {self.delegated(number)}"
+
+    def any_part(self, number):
+        part = self.random.choice([0, 0, 1, 2, 63, 64, 0xFFFFFFFF])
+        return f"part {number} {self.who(self.partner_to_send(number))} {part} {self.delegated(number)}"
+
+    def delegated(self, number):
+        """The tokens of a region of the thread's pages."""
+        count = self.random.choice([0, 1, 2, 3, 5, 8, 13, 30, 40, 64, 1984, 1985, 1986, 4096, self.pages])
+        return f"{self.page_of(number)} {self.page()} {count} {self.rights_text()}"
 
     def any_region(self, _):
         count = self.random.choice([0, 1, 1, 2, 4, self.pages]) if self.random.random() < 0.3 else self.random.randint(1, 3)

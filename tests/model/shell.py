@@ -10,7 +10,8 @@ NIL_ITEM = (0x80, 8, 0)
 ONE_ITEM = 0x80
 RECEIVE_AT_ONCE = 0x04000000
 REGIONS = 64
-PLAN_ITEMS = 31
+MESSAGE_ITEMS = 31
+PLAN_ITEMS = 64 * MESSAGE_ITEMS
 ACTS = 256
 LONGEST_LINE = 4096
 NO_SPACE = (1 << 64) - 1
@@ -66,8 +67,8 @@ def region_answer(regions, words, page_log):
     return NIL_ITEM
 
 
-def plan_words(source, target, count, rights, page_log):
-    """The message that moves just a region by the fewest map items: again and again the largest block that may move."""
+def plan_messages(source, target, count, rights, page_log):
+    """The messages that move just a region by the fewest map items: again and again the largest block that may move."""
     if count == 0:
         raise Refused("N1")
     pages = 1 << (SPACE_LOG - page_log)
@@ -87,6 +88,11 @@ def plan_words(source, target, count, rights, page_log):
             raise Refused("N4")
     if count == pages:
         items = [(0, write_fpage(0, 1, rights))]
+    return [message_words(items[first : first + MESSAGE_ITEMS]) for first in range(0, len(items), MESSAGE_ITEMS)]
+
+
+def message_words(items):
+    """The words of a message with these map items."""
     words = [2 * len(items) << 6]
     for k, (base, fpage) in enumerate(items):
         words += [base | 8 | (k + 1 < len(items)), fpage]
@@ -238,10 +244,23 @@ class Shell:
 
     def do_delegate(self, tokens):
         number, to = tokens.thread(), tokens.who()
+        messages = self.planned(tokens)
+        if len(messages) > 1:
+            raise Refused("N5", len(messages))
+        self.enter(number, ("ipc", to, NIL_THREAD, 0, 0, messages[0]))
+
+    def do_part(self, tokens):
+        number, to, part = tokens.thread(), tokens.who(), tokens.number()
+        messages = self.planned(tokens)
+        if part >= len(messages):
+            raise Refused("N6", len(messages))
+        self.enter(number, ("ipc", to, NIL_THREAD, 0, 0, messages[part]))
+
+    def planned(self, tokens):
+        """The messages of the plan of the region that the line's last tokens name."""
         source, target, count, rights = tokens.number(), tokens.number(), tokens.number(), tokens.rights()
         tokens.end()
-        words = plan_words(source, target, count, rights, self.machine.page_log)
-        self.enter(number, ("ipc", to, NIL_THREAD, 0, 0, words))
+        return plan_messages(source, target, count, rights, self.machine.page_log)
 
     def do_serve(self, tokens):
         number = tokens.thread()
