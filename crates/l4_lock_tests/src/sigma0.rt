@@ -14,10 +14,10 @@ use std::thread::{Threads, join};
 const ROOT_SPACE: u64 = 1;
 
 /// The pages that root asks for, the second one twice.
-const PAGES: [u32; 3] = [5, 9, 9];
+const PAGES: [u16; 3] = [5, 9, 9];
 
 /// A page beyond the frames.
-const BEYOND: u32 = FRAMES;
+const BEYOND: u16 = FRAMES as u16;
 
 /// How many requests there are: of the pages, and of one beyond the frames.
 const REQUESTS: u32 = 4;
@@ -54,9 +54,9 @@ fn play<R: Wait>(rt: &R, lock: &KernelLock, seat: Seat) -> (Seat, u32) {
 }
 
 /// Asks sigma0 for the frame of a page, and receives its answer with a complete window.
-fn request(page: u32) -> Call {
+fn request(page: u16) -> Call {
     let mut registers: ArrayVec<u32, MAX_WORDS> = ArrayVec::new();
-    let _ = registers.try_extend_from_slice(&[0xffa0_0002, page * 4096 + 0xc0, 0]);
+    let _ = registers.try_extend_from_slice(&[0xffa0_0002, u32::from(page) * 4096 + 0xc0, 0]);
     Call::call(
         id(SIGMA0),
         registers,
@@ -79,11 +79,12 @@ fn ask<R: Wait>(rt: &R, lock: &KernelLock, root: &mut Seat) -> Result<(), LockRe
 /// Judges what root's space shows.
 fn judge(rt: &impl Abort, kernel: &Kernel) {
     for page in PAGES {
-        let mapping = kernel.mapping(ROOT_SPACE, page).expect(rt, "a page");
-        assert_eq!(rt; mapping.frame, page);
+        let number = u32::from(page);
+        let mapping = kernel.mapping(ROOT_SPACE, number).expect(rt, "a page");
+        assert_eq!(rt; mapping.frame, number);
         assert_eq!(rt; mapping.rights, Rights::all());
     }
-    assert!(rt; kernel.mapping(ROOT_SPACE, BEYOND).is_none());
+    assert!(rt; kernel.mapping(ROOT_SPACE, u32::from(BEYOND)).is_none());
     assert!(rt; kernel.mapping(ROOT_SPACE, 0).is_none());
 }
 
