@@ -19,6 +19,7 @@ pub mod Views
 pub mod Stacking
 pub mod Burying
 pub mod Capping
+pub mod OwnChild
 pub mod Adding
 pub mod Naming
 pub mod Moving

@@ -1,12 +1,12 @@
 -- Walks that begin with a stamp of their own: what stands stays, and where the stamps have run out no node keeps one.
-use Rattle.std.proofs.Common.{◌≡◌, ◌≢◌, ◌⊎◌, ℕ, ◌+◌, ◌<◌, ◌≤◌, length, Option, Some, None, refl, sym, ap, ◌∙◌, subst, arith, inl, inr}
+use Rattle.std.proofs.Common.{◌≡◌, ◌≢◌, ℕ, ◌+◌, ◌<◌, ◌≤◌, length, Option, Some, None, refl, sym, ap, ◌∙◌, subst, arith, inl, inr}
 use Rattle.std.proofs.lemmas.Bool.{cases_eq}
 use Rattle.std.specs.Option.{option_map}
 use Rattle.l4_fpage.specs.Rights.{RightsSet}
 use Rattle.l4_links.specs.declared.nodes.Node.{Node}
 use Rattle.l4_links.specs.Leads.{Leads}
 use Rattle.l4_links.specs.Inside.Trees.{Limb, parent_at}
-use Rattle.l4_links.specs.Inside.Nodes.{Slots, node_at, limbs, values, marks, Marks, capped_worth, AreUnmarked, IsSame, CapsBelow, NoneMet, Meets, Sees}
+use Rattle.l4_links.specs.Inside.Nodes.{Slots, node_at, limbs, marks, Marks, capped_worth, AreUnmarked, IsSame, CapsBelow, NoneMet, Meets, Sees}
 use Rattle.l4_links.proofs.Writes.{marks_of}
 use Rattle.l4_links.proofs.Cutting.{node_within}
 use Rattle.l4_links.proofs.Walking.{node_from_limb}

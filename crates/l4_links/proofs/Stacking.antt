@@ -6,7 +6,7 @@ use Rattle.l4_fpage.specs.Rights.{RightsSet, common, no_rights, is_none}
 use Rattle.l4_links.specs.declared.Standing.{Standing}
 use Rattle.l4_links.specs.declared.nodes.Node.{Node}
 use Rattle.l4_links.specs.Inside.Orders.{IsIn, first_of}
-use Rattle.l4_links.specs.Inside.Nodes.{Slots, node_at, values, Worth, Doom, dooms, Writes, Caps, Lowers, Closes, Comes, Prunes, Clears}
+use Rattle.l4_links.specs.Inside.Nodes.{Slots, node_at, values, Worth, Doom, dooms, Writes, Caps, SetsRights, Closes, Comes, Prunes, Clears}
 use Rattle.l4_links.specs.Inside.Stacks.{IsStacked, IsStack, HasStack}
 use Rattle.l4_links.specs.Inside.Keeping.{standing_of, entries_of}
 use Rattle.l4_links.specs.Entries.{standing_at, HaveRights}
@@ -19,9 +19,9 @@ use Rattle.l4_links.proofs.Seen.{standing_is}
 abbrev pub HasRight : Slots → ℕ → Type 0
 HasRight slots key = (d : Doom) → dooms slots key ≡ Some d → d.rights ≢ no_rights
 
--- a node that is lowered is written so
-pub lowered : (key : ℕ) (rights : RightsSet) (doomed : Option ℕ) (old new : Slots) (n : Node) → node_at old key ≡ Some n → Lowers key rights doomed old new → Writes key (Some (record n { rights = rights; doomed = doomed })) old new
-lowered key rights doomed old new n at w = record {
+-- a node that gets rights is written so
+pub rights_written : (key : ℕ) (rights : RightsSet) (doomed : Option ℕ) (old new : Slots) (n : Node) → node_at old key ≡ Some n → SetsRights key rights doomed old new → Writes key (Some (record n { rights = rights; doomed = doomed })) old new
+rights_written key rights doomed old new n at w = record {
   here = λ _. w.here ∙ ap (option_map {T = Node} (λ m. record m { rights = rights; doomed = doomed })) at;
   others = w.others;
   spots_same = w.spots_same;
@@ -165,7 +165,7 @@ some_worth slots k w is some = right_of_value slots k (λ v at none. some (ap (�
     same : (w v : Worth) → ◌≡◌ {A = Option Worth} (Some w) (Some v) → w ≡ v
     same w v e = let z : ◌≡◌ {A = Option Worth} (Some w) (Some v) = e in cc
 
-right_at : (slots : Slots) (k : ℕ) (n : Node) → node_at slots k ≡ Some n → n.rights ≢ no_rights → HasRight slots k
+pub right_at : (slots : Slots) (k : ℕ) (n : Node) → node_at slots k ≡ Some n → n.rights ≢ no_rights → HasRight slots k
 right_at slots k n at some d is none = some (ap (λ (z : Doom). z.rights) (same_doom (sym (doom_at slots k n at) ∙ is)) ∙ none)
 
 -- the cap of a node without rights

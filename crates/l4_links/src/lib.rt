@@ -27,7 +27,8 @@ pub use l4_spaces::NoMemory;
 use l4_spaces::Spaces;
 use names::{remove, take_over};
 use nodes::{
-    cap_at, make_room, node_of, set_plain, set_source, set_wanted, standing_of, vacant_key_fits,
+    cap_at, make_room, node_of, set_plain, set_rights, set_source, set_wanted, standing_of,
+    vacant_key_fits,
 };
 use packed::Packed;
 use slab::Slab;
@@ -101,7 +102,7 @@ impl Model for Links {
 }
 
 impl Links {
-    ghost use Rattle.l4_links.specs.Entries.{entry_at, standing_at, IsStanding, IsBlank, IsAt, IsSource, HaveRights, HavePlaces, AreTrees, NoKeyFrom, IsNextKey, NoKeyIn, IsNextKeyIn, IsKeyOf, NoParentIn, IsNextParentIn, Descends, AddsBlank, Stands, Sprouts, AddsChild, Clears, CutsBelow, Buries, CapsBelow, CapsTree, SetsSource, SetsPlain, SetsWanted, TakesOver, MovesPages, Hinders, LacksPlace};
+    ghost use Rattle.l4_links.specs.Entries.{entry_at, standing_at, parent_of, IsStanding, IsBlank, IsAt, IsSource, HaveRights, HavePlaces, AreTrees, NoKeyFrom, IsNextKey, NoKeyIn, IsNextKeyIn, IsKeyOf, NoParentIn, IsNextParentIn, Descends, AddsBlank, Stands, Sprouts, AddsChild, Clears, CutsBelow, Buries, CapsBelow, CapsTree, SetsSource, SetsPlain, SetsWanted, TakesOver, MovesPages, Hinders, LacksPlace};
     ghost use Rattle.l4_links.specs.declared.Standing.{Standing as AStanding};
 
     /// No page, and no space.
@@ -264,6 +265,36 @@ impl Links {
         };
         lists::link_under(&mut self.nodes, parent, key, above, rights);
         self.stamp = fresh(self.stamp);
+    }
+
+    /// Lets a child of the parent that nothing descends from have those of these rights that the parent has, of which there is one, and
+    /// leaves it where it stands. Whether the key is of a child of the parent is given, and nothing changes where it isn't.
+    pub fn renew_child(&mut self, parent: usize, key: usize, rights: Rights) -> bool
+        requires leaf { (low : ℕ) → ¬ (Descends self.old.entries low key) }
+        requires plain { (child : AStanding) → standing_at self.old.entries key ≡ Some child → (child.source ≡ false) × (child.granted ≡ None) }
+        requires rights { HaveRights self.old.entries }
+        requires some { (above : AStanding) → standing_at self.old.entries parent ≡ Some above → common above.rights rights ≢ no_rights }
+        ensures sprouts { result ≡ true → Sprouts parent key rights self.old.entries self.new.entries }
+        ensures left { result ≡ false → self.new ≡ self.old }
+        ensures other { result ≡ false → parent_of self.old.entries key ≢ Some parent }
+        ensures spaces { self.new.spaces ≡ self.old.spaces }
+    {
+        let Some(node) = node_of(&self.nodes, key) else {
+            return false;
+        };
+        let Some(own) = node.parent.key() else {
+            return false;
+        };
+        if own != parent {
+            return false;
+        }
+        let Some(above) = node_of(&self.nodes, parent) else {
+            unreachable!()
+        };
+        let left = above.rights.intersection(rights);
+        set_rights(&mut self.nodes, key, left, node.doomed);
+        self.stamp = fresh(self.stamp);
+        true
     }
 
     /// Adds a child of the parent for a page, if the page has no key, and gives the child's key. It shows the parent's frame, and has

@@ -7,7 +7,7 @@ ghost use Rattle.l4_spaces.specs.Tables.{IsPage};
 ghost use Rattle.l4_links.specs.Inside.Keys.{IsKey, no_key};
 ghost use Rattle.l4_links.specs.Inside.Stacks.{HasStack};
 ghost use Rattle.l4_links.specs.Inside.Keeping.{standing_of};
-ghost use Rattle.l4_links.specs.Inside.Nodes.{node_at, slot_at, spots, AreKeys, wanted_in, Writes, SetsWanted, SetsPlace, Gives, SetsNext, SetsPrev, Caps, Lowers, Closes, Sees, SetsSource, SetsPlain};
+ghost use Rattle.l4_links.specs.Inside.Nodes.{node_at, slot_at, spots, AreKeys, wanted_in, Writes, SetsWanted, SetsPlace, Gives, SetsNext, SetsPrev, Caps, SetsRights, Closes, Sees, SetsSource, SetsPlain};
 ghost use Rattle.l4_links.specs.declared.nodes.Slot.{Slot as ASlot};
 ghost use Rattle.l4_links.specs.declared.nodes.Node.{Node as ANode};
 
@@ -192,11 +192,11 @@ pub(crate) fn set_prev(nodes: &mut Slab<Packed>, at: Link, prev: Link)
 }
 
 /// Lets the node have these rights, and this key after it on the stack of nodes without rights.
-fn lower(nodes: &mut Slab<Packed>, key: usize, rights: Rights, doomed: Link)
-    ensures { Lowers key rights doomed nodes.old.slots nodes.new.slots }
+pub(crate) fn set_rights(nodes: &mut Slab<Packed>, key: usize, rights: Rights, doomed: Link)
+    ensures { SetsRights key rights doomed nodes.old.slots nodes.new.slots }
 {
     if let Some(slot) = nodes.get_mut(key) {
-        slot.lower(rights, doomed);
+        slot.set_rights(rights, doomed);
     }
 }
 
@@ -216,10 +216,10 @@ pub(crate) fn cap_at(nodes: &mut Slab<Packed>, key: usize, cap: Rights, doomed: 
     }
     let rights = node.rights.intersection(cap);
     if rights.is_empty() {
-        lower(nodes, key, rights, doomed);
+        set_rights(nodes, key, rights, doomed);
         return Link::to(key);
     }
-    lower(nodes, key, rights, node.doomed);
+    set_rights(nodes, key, rights, node.doomed);
     doomed
 }
 

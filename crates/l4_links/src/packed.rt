@@ -487,7 +487,7 @@ impl Packed {
 
     /// Lets a node have these rights, and this key after it on the stack of nodes without rights.
     #[inline]
-    pub(crate) fn lower(&mut self, rights: Rights, doomed: Link)
+    pub(crate) fn set_rights(&mut self, rights: Rights, doomed: Link)
         ensures { self.new ≡ record self.old { node = option_map (λ (n : ANode). record n { rights = rights; doomed = doomed }) self.old.node } }
     {
         self.word.set_rights(rights.bits());

@@ -100,6 +100,23 @@ module _ (start : Linked) (from to : ℕ) (items : List ItemMove) (ground : IsGr
           ]
         ]
 
+    -- nothing that stands is marked
+    unmarked : (key : ℕ) (t : Standing) → standing_at now.entries key ≡ Some t → (t.source ≡ false) × (t.granted ≡ None)
+    unmarked key t stands =
+        let f = found_of now.entries key t stands in
+        elim (renewed.only key f.entry f.at) [
+          | inl was ↦
+              let p = ground.clean key f.entry was.0 in
+              let same : t ≡ p.standing = same_value (sym f.stands ∙ p.stands) in
+              (ap (λ (x : Standing). x.source) same ∙ p.no_source, ap (λ (x : Standing). x.granted) same ∙ p.not_granted)
+          | inr new ↦ elim new [
+            | inl n ↦
+                let same : t ≡ record { frame = n.1.standing.frame; rights = common n.1.standing.rights n.1.by.rights; source = false; granted = None; parent = Some n.0.source } = same_value (sym f.stands ∙ ap (λ (e : Entry). e.stands) n.3) in
+                (ap (λ (x : Standing). x.source) same, ap (λ (x : Standing). x.granted) same)
+            | inr b ↦ absurd (let k : ◌≡◌ {A = Option Standing} None (Some t) = ap (λ (e : Entry). e.stands) (sym b.2) ∙ f.stands in cc)
+          ]
+        ]
+
     module _ (u : UsedMove) (here : Used u) (later : ¬ (Done u)) (others_done : (m : UsedMove) → Used m → Done m → turn_of m ≡ turn_of u → ⊥) (key : ℕ) (at : IsAt now.entries u.target key) where
       -- what stood under the key of a target was at the target
       stood_there : (e : Entry) → entry_at start.entries key ≡ Some e → IsAt start.entries u.target key
@@ -157,6 +174,7 @@ module _ (start : Linked) (from to : ℕ) (items : List ItemMove) (ground : IsGr
             at = o.1;
             place_is = o.2;
             unwanted = unwanted o.0 o.1;
+            unmarked = unmarked key;
             leaf = none_below;
             above = t.0;
             stands = t.1;

@@ -64,7 +64,7 @@ fn make_places(links: &mut Links, from: u64, to: u64, items: &[ItemMove]) -> Res
     Ok(())
 }
 
-/// Lets a child of the used move's source take the place of what is at its target.
+/// Lets a child of the used move's source take the place of what is at its target. Where that is one already, it only gets its rights.
 fn renew(links: &mut Links, used: UsedMove, rights: Rights)
     requires ready { CanRenew used.source used.target rights links.old.entries }
     requires once { (a b : ℕ) → IsAt links.old.entries used.target a → IsAt links.old.entries used.target b → a ≡ b }
@@ -75,6 +75,9 @@ fn renew(links: &mut Links, used: UsedMove, rights: Rights)
     let Some(key) = links.find(used.target) else {
         unreachable!()
     };
+    if links.renew_child(used.source, key, rights) {
+        return;
+    }
     links.clear(key);
     links.stand_under(used.source, key, rights);
 }

@@ -344,6 +344,51 @@ fn adds_a_child_at_once(rt: HostRuntime) {
     assert_eq!(rt; links.find(place(12)), Some(next));
 }
 
+/// Lets a child of the parent have what the parent has of these rights, if the call may be made.
+fn renew(links: &mut Links, parent: usize, key: usize, rights: Rights) -> bool {
+    let Some(above) = links.standing(parent) else {
+        return false;
+    };
+    if above.rights.intersection(rights).is_empty() {
+        return false;
+    }
+    let Some(below) = links.standing(key) else {
+        return false;
+    };
+    if below.source {
+        return false;
+    }
+    if let Some(_) = below.granted {
+        return false;
+    }
+    if !links.is_leaf(key) {
+        return false;
+    }
+    if !have_rights(links) {
+        return false;
+    }
+    links.renew_child(parent, key, rights)
+}
+
+#[test]
+fn renews_a_child_in_place(rt: HostRuntime) {
+    let mut links = Links::new(rt.alloc());
+    let [top, left, right, low] = nephew(&mut links).expect(&rt, "memory");
+    assert!(rt; renew(&mut links, top, right, Rights::of_bits(5)));
+    assert!(rt; stand_so(&links, &[(left, 7, Some(top)), (right, 5, Some(top))]));
+    // rights come back too, and a cap finds them
+    links.cap_below(top, Rights::of_bits(5));
+    assert!(rt; renew(&mut links, left, low, Rights::of_bits(7)));
+    assert!(rt; renew(&mut links, top, right, Rights::of_bits(6)));
+    assert!(rt; stand_so(&links, &[(low, 5, Some(left)), (right, 6, Some(top))]));
+    links.cap_below(top, Rights::of_bits(5));
+    assert!(rt; stand_so(&links, &[(low, 5, Some(left)), (right, 4, Some(top))]));
+    // another page's child, and one that something descends from, stay as they are
+    assert!(rt; !renew(&mut links, top, low, Rights::all()));
+    assert!(rt; !renew(&mut links, top, left, Rights::all()));
+    assert!(rt; stand_so(&links, &[(low, 5, Some(left)), (left, 5, Some(top))]));
+}
+
 #[test]
 fn takes_a_blank_and_its_space(rt: HostRuntime) -> Result<(), Fail> {
     let mut links = Links::new(rt.alloc());

@@ -254,7 +254,7 @@ pub record Caps (key : ℕ) (cap : RightsSet) (old new : Slots) : Type 0 where
   pub spots_same : (other : ℕ) → spots new other ≡ spots old other
 
 -- the node has these rights and this link of the stack
-pub record Lowers (key : ℕ) (rights : RightsSet) (doomed : Option ℕ) (old new : Slots) : Type 0 where
+pub record SetsRights (key : ℕ) (rights : RightsSet) (doomed : Option ℕ) (old new : Slots) : Type 0 where
   pub here : node_at new key ≡ option_map {T = Node} (λ n. record n { rights = rights; doomed = doomed }) (node_at old key)
   pub others : (other : ℕ) → other ≢ key → node_at new other ≡ node_at old other
   pub spots_same : (other : ℕ) → spots new other ≡ spots old other

@@ -32,6 +32,7 @@ pub record CanRenew (parent : ℕ) (place : LinkPlace) (rights : RightsSet) (s :
   pub at : entry_at s key ≡ Some entry
   pub place_is : entry.place ≡ place
   pub unwanted : entry.wanted ≡ false
+  pub unmarked : (t : Standing) → standing_at s key ≡ Some t → (t.source ≡ false) × (t.granted ≡ None)
   pub leaf : IsLeaf s key
   pub above : Standing
   pub stands : standing_at s parent ≡ Some above

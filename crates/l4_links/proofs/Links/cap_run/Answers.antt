@@ -1,4 +1,4 @@
-use Rattle.std.proofs.Common.{◌≡◌, ℕ, sym, subst, ◌∙◌, refl}
+use Rattle.std.proofs.Common.{ℕ, sym, subst, ◌∙◌, refl}
 use Rattle.l4_links.specs.Entries.{Linked, CapsBelow, CapsTree}
 use Rattle.l4_links.specs.Inside.Keeping.{entries_of, BeginsWalk, IsSound}
 use Rattle.l4_fpage.specs.Rights.{bits_of}

@@ -1,5 +1,5 @@
-use Rattle.std.proofs.Common.{ℕ, ◌≤◌, length, subst, arith}
-use Rattle.l4_links.proofs.Renewing.{UnmarkedSoFar, unmarked_first, unmarked_more, unmarked_all}
+use Rattle.std.proofs.Common.{arith}
+use Rattle.l4_links.proofs.Renewing.{unmarked_first, unmarked_more, unmarked_all}
 use Rattle.l4_links.proofs.stamps.unmark_all.Goals as goal
 
 pub loop-key-init : goal.loop-key-init
