@@ -47,6 +47,7 @@ pub mod Presence
 pub mod Restored
 pub mod RoomMade
 pub mod RenewSteps
+pub mod Held
 pub mod Rooming
 pub mod SameRights
 pub mod Sourced

@@ -1,14 +1,14 @@
 //! A message that maps pages to places of another space which others may show, but from which nothing descends: each child takes the place
 //! of what is there. Keys for all targets come first, so that nothing is refused any more once something has changed.
 
-ghost use Rattle.std.specs.Prelude.{◌≡◌, ◌≢◌, ℕ, length, IsTrue, OnOk, OnErr, IfErr, true};
+ghost use Rattle.std.specs.Prelude.{◌≡◌, ◌≢◌, ℕ, length, IsTrue, OnOk, OnErr, IfOk, IfErr, true};
 ghost use Rattle.std.specs.FinSet as set;
 ghost use Rattle.l4_spaces.specs.Tables.{IsPage};
 ghost use Rattle.l4_links.specs.Entries.{Linked, entry_at, IsAt, HaveRights};
 ghost use Rattle.l4_mapdb.specs.Inside.Messages.{IsMoved};
 ghost use Rattle.l4_mapdb.specs.Inside.Tangles.{AreApart};
 ghost use Rattle.l4_mapdb.specs.Inside.Growing.{IsGround, Mapped, Stops};
-ghost use Rattle.l4_mapdb.specs.Inside.Renewing.{IsMade, CanRenew, RenewsAt, Spaced, IsBarred, Renewed};
+ghost use Rattle.l4_mapdb.specs.Inside.Renewing.{IsMade, HasChild, IsHeld, Holds, CanRenew, RenewsAt, Spaced, IsBarred, Renewed};
 
 use crate::ItemMove;
 use crate::growing::Stop;
@@ -17,11 +17,32 @@ use crate::unmarking::unmark;
 use l4_fpage::Rights;
 use l4_links::Links;
 
-/// Gives the target of a used move a key if it has none, and else tests that nothing descends from what is there.
-fn make_place(links: &mut Links, used: UsedMove) -> Result<(), Stop>
+/// Whether what stands under the key is a child of the source with what that has of these rights.
+fn is_child(links: &Links, source: usize, key: usize, rights: Rights) -> bool
+    ensures { result ≡ true → HasChild source key rights links.now.entries }
+{
+    let Some(child) = links.standing(key) else {
+        return false;
+    };
+    let Some(parent) = child.parent else {
+        return false;
+    };
+    if parent != source {
+        return false;
+    }
+    let Some(above) = links.standing(source) else {
+        return false;
+    };
+    child.rights == above.rights.intersection(rights)
+}
+
+/// Gives the target of a used move a key if it has none, and else tests that nothing descends from what is there. Whether that is what the
+/// move brings is given.
+fn make_place(links: &mut Links, used: UsedMove, rights: Rights) -> Result<bool, Stop>
     requires there { IsTrue (set.contains links.old.spaces used.target.space) }
     requires fits { IsPage used.target.page }
     ensures made { OnOk result (IsMade used.target links.old links.new) }
+    ensures has { IfOk result (λ has. has ≡ true → IsHeld used.source used.target rights links.old links.new) }
     ensures err { OnErr result (links.new ≡ links.old) }
     ensures stop { IfErr result (λ stop. stop.used ≡ used) }
     ensures lacks { IfErr result (λ stop. stop.refused ≡ true → (key : ℕ) → ¬ (IsAt links.old.entries used.target key)) }
@@ -29,7 +50,7 @@ fn make_place(links: &mut Links, used: UsedMove) -> Result<(), Stop>
 {
     if let Some(key) = links.find(used.target) {
         if links.is_leaf(key) {
-            return Ok(());
+            return Ok(is_child(links, used.source, key, rights));
         }
         return Err(Stop {
             used,
@@ -37,7 +58,7 @@ fn make_place(links: &mut Links, used: UsedMove) -> Result<(), Stop>
         });
     }
     match links.add_blank(used.target) {
-        Ok(_) => Ok(()),
+        Ok(_) => Ok(false),
         Err(_) => Err(Stop {
             used,
             refused: true,
@@ -45,23 +66,26 @@ fn make_place(links: &mut Links, used: UsedMove) -> Result<(), Stop>
     }
 }
 
-/// Gives the target of each used move a key if it has none, up to the first one that something descends from.
-fn make_places(links: &mut Links, from: u64, to: u64, items: &[ItemMove]) -> Result<(), Stop>
+/// Gives the target of each used move a key if it has none, up to the first one that something descends from. Whether each target shows
+/// what its move brings already is given.
+fn make_places(links: &mut Links, from: u64, to: u64, items: &[ItemMove]) -> Result<bool, Stop>
     requires ground { IsGround links.old from to }
     requires there { IsTrue (set.contains links.old.spaces to) }
+    ensures all { IfOk result (λ all. all ≡ true → Holds links.old from to items.now (IsMoved links.old.entries from to items.now) × (links.new ≡ links.old)) }
     ensures ok { OnOk result (Spaced links.old from to items.now (IsMoved links.old.entries from to items.now) links.new) }
     ensures err { IfErr result (IsBarred links.old from to items.now links.new) }
     ensures spaces { links.new.spaces ≡ links.old.spaces }
 {
+    let mut all = true;
     let mut moves = UsedMoves::new();
     while let Some(used) = moves.next(links, from, to, items) {
         links.law_places();
-        match make_place(links, used) {
-            Ok(()) => {}
+        match make_place(links, used, items[used.item].rights) {
+            Ok(has) => all = all & has,
             Err(stop) => return Err(stop),
         }
     }
-    Ok(())
+    Ok(all)
 }
 
 /// Lets a child of the used move's source take the place of what is at its target. Where that is one already, it only gets its rights.
@@ -99,7 +123,8 @@ fn renew_all(links: &mut Links, from: u64, to: u64, items: &[ItemMove])
 }
 
 /// Lets children of the sources of all used moves take the places of what is at their targets, if nothing descends from that. Where
-/// something does, or memory is refused, all is as before, and that move is given. The items fill no page twice.
+/// something does, or memory is refused, all is as before, and that move is given. The items fill no page twice. Where the targets show
+/// already what the message brings, nothing is left to do.
 pub(crate) fn take_places(
     links: &mut Links,
     from: u64,
@@ -114,11 +139,17 @@ pub(crate) fn take_places(
     ensures stop { IfErr result (Stops links.old from to items.now) }
     ensures spaces { links.new.spaces ≡ links.old.spaces }
 {
-    let Err(stop) = make_places(links, from, to, items) else {
-        renew_all(links, from, to, items);
-        links.law_places();
-        return Ok(());
+    let all = match make_places(links, from, to, items) {
+        Ok(all) => all,
+        Err(stop) => {
+            unmark(links, from, to, items);
+            return Err(stop);
+        }
     };
-    unmark(links, from, to, items);
-    Err(stop)
+    if all {
+        return Ok(());
+    }
+    renew_all(links, from, to, items);
+    links.law_places();
+    Ok(())
 }

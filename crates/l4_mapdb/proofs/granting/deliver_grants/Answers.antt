@@ -1,5 +1,5 @@
-use Rattle.std.proofs.Common.{◌≡◌, ℕ, sym, ap, subst}
-use Rattle.l4_links.specs.Entries.{Linked, entry_at, IsAt}
+use Rattle.std.proofs.Common.{ℕ, sym, subst}
+use Rattle.l4_links.specs.Entries.{Linked, IsAt}
 use Rattle.l4_mapdb.specs.declared.sources.UsedMove.{UsedMove}
 use Rattle.l4_mapdb.specs.Inside.Messages.{IsMoved, LacksKey}
 use Rattle.l4_mapdb.specs.Inside.Growing.{IsGround}
