@@ -7,7 +7,7 @@ use Rattle.l4_links.specs.Inside.Trees.{Limb, parent_at}
 use Rattle.l4_links.specs.Inside.Orders.{position}
 use Rattle.l4_links.specs.Inside.Nodes.{Slots, node_at, limbs, place_of, IsForest, Ends, Prunes}
 use Rattle.l4_links.specs.Inside.Keeping.{standing_of, entries_of}
-use Rattle.l4_links.specs.Entries.{IsStanding, Descends, CutsBelow}
+use Rattle.l4_links.specs.Entries.{IsStanding, Descends}
 use Rattle.l4_links.proofs.Linking.{parted}
 use Rattle.l4_links.proofs.Neighbours.{in_list, stands_in, next_live}
 use Rattle.l4_links.proofs.Runs.{one_limb, descendants}
@@ -100,10 +100,3 @@ view_leaf slots key (there, leaf) = (λ none. there (no_standing (node_at slots 
 -- what a contract sees of a node that is no leaf
 pub view_no_leaf : (slots : Slots) (key : ℕ) → (node_at slots key ≢ None → (low : ℕ) × Leads (parent_at (limbs slots)) low key) → IsStanding (entries_of slots) key → (low : ℕ) × Descends (entries_of slots) low key
 view_no_leaf slots key other stands = let l = other (λ none. stands (standing_is slots key ∙ ap (option_map standing_of) none)) in (l.0, descends_of slots l.1)
-
--- nothing is cut off below a leaf
-pub leaf_cuts : (slots : Slots) (key : ℕ) → (node_at slots key ≢ None) × ((low : ℕ) → ¬ (Leads (parent_at (limbs slots)) low key)) → CutsBelow key (entries_of slots) (entries_of slots)
-leaf_cuts slots key leaf = record {
-  gone = λ low d. absurd ((view_leaf slots key leaf).1 low d);
-  kept = λ low out. refl;
-}

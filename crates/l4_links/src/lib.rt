@@ -373,9 +373,6 @@ impl Links {
         ensures cuts { CutsBelow key self.old.entries self.new.entries }
         ensures spaces { self.new.spaces ≡ self.old.spaces }
     {
-        if walks::is_leaf(&self.nodes, key) {
-            return;
-        }
         let Some(_) = node_of(&self.nodes, key) else {
             return;
         };

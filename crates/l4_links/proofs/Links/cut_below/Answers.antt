@@ -3,15 +3,8 @@ use Rattle.l4_links.specs.Entries.{Linked, CutsBelow, HaveRights}
 use Rattle.l4_links.specs.Inside.Keeping.{entries_of}
 use Rattle.l4_links.proofs.Kept.{sound_pruned}
 use Rattle.l4_links.proofs.Views.{view_cuts, cuts_none}
-use Rattle.l4_links.proofs.Leaves.{leaf_cuts}
 use Rattle.l4_links.proofs.Stacking.{stack_pruned}
 use Rattle.l4_links.proofs.Links.cut_below.Goals as goal
-
--- where nothing descends from the key nothing is cut
-pub returns-then-is_leaf-clause-cuts : goal.returns-then-is_leaf-clause-cuts
-returns-then-is_leaf-clause-cuts c =
-    subst (λ (s : Linked). CutsBelow c.args.key s.entries s.entries) c.self.view_is
-    (leaf_cuts c.self.inside.nodes.slots c.args.key (c.is_leaf.ensures.yes c.if-is_leaf.true))
 
 pub returns-in_default-clause-cuts : goal.returns-in_default-clause-cuts
 returns-in_default-clause-cuts c =
