@@ -1,18 +1,10 @@
 -- Fields of a value as words: a list behind its length, and a word that is left out where it is 0. (this profile's own)
-use Rattle.std.specs.Prelude.{ℕ, List, [], ◌∷◌, length, take, drop, Option, Some, None, nat_eq, nat_lt, if◌then◌else◌}
-use Rattle.l4_packed.specs.Words.{◌>>=◌, word_at}
-
--- a list behind its length
-abbrev pub counted : List ℕ → List ℕ
-counted words = length words ∷ words
-
--- a list of so many words, and the words after it
-abbrev pub list_at : ℕ → List ℕ → Option (List ℕ × List ℕ)
-list_at count words = if nat_lt (length words) count then None else Some (take count words, drop count words)
+use Rattle.std.specs.Prelude.{ℕ, List, [], ◌∷◌, ◌++◌, Option, Some, None, nat_eq, nat_lt, if◌then◌else◌}
+use Rattle.l4_packed.specs.Words.{◌>>=◌, word_at, words_at}
 
 -- a list of so many words, at most the limit, and the words after it
 unfoldable pub sized_at : ℕ → ℕ → List ℕ → Option (List ℕ × List ℕ)
-sized_at limit count words = if nat_lt limit count then None else list_at count words
+sized_at limit count words = if nat_lt limit count then None else words_at count words
 
 -- a list behind its length, which is at most the limit, and the words after it
 unfoldable pub counted_at : ℕ → List ℕ → Option (List ℕ × List ℕ)

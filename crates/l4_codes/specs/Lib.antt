@@ -1,5 +1,5 @@
 pub mod Fields
-pub mod Ids
-pub mod Tags
+pub mod Sends
+pub mod Heads
 pub mod Codes
 pub mod Reading

@@ -1,5 +1,5 @@
 -- Reading calls, steps, answers and replies from the front of a list of words: the value and the words after it. (this profile's own)
-use Rattle.std.specs.Prelude.{ℕ, zero, suc, ◌+◌, ◌*◌, ◌-◌, ◌/◌, ◌%◌, ◌^◌, List, Option, Some, None, nat_eq, nat_lt, if◌then◌else◌}
+use Rattle.std.specs.Prelude.{ℕ, zero, suc, ◌+◌, ◌*◌, ◌-◌, ◌/◌, ◌%◌, ◌^◌, Bool, true, false, List, Option, Some, None, nat_eq, nat_lt, if◌then◌else◌}
 use Rattle.l4_fpage.specs.Rights.{set_of_bits}
 use Rattle.l4_msg.specs.Sizes.{max_words}
 use Rattle.l4_threads.specs.declared.Reply.{Reply}
@@ -18,8 +18,7 @@ use Rattle.l4_ipc.specs.declared.steps.NextStep.{NextStep}
 use Rattle.l4_ipc.specs.declared.steps.NextStep.TheVariants.{Transfer as Transferred, Expire as Expires}
 use Rattle.l4_packed.specs.Words.{◌>>=◌, word_at}
 use Rattle.l4_codes.specs.Fields.{set_at, sized_at, counted_at}
-use Rattle.l4_codes.specs.Ids.{named_at}
-use Rattle.l4_codes.specs.Tags.{tag_at, items_of, message_of}
+use Rattle.l4_codes.specs.Sends.{to_of, from_at, message_at}
 use Rattle.l4_codes.specs.Codes.{far}
 use Rattle.l4_threads.specs.Sizes.{max_threads}
 
@@ -46,12 +45,12 @@ control_at words = do
 -- an Ipc behind its first word, which has these flags
 abbrev pub ipc_at : ℕ → List ℕ → Option (IpcCall × List ℕ)
 ipc_at flags words = do
-  to ← named_at (flags % 2) words
-  partner ← named_at (flags / 2 % 2) to.1
-  timeouts ← set_at (flags / 4 % 2) partner.1
-  acceptor ← set_at (flags / 8 % 2) timeouts.1
-  message ← sized_at max_words (flags / 16) acceptor.1
-  Some (record { to = record { 0 = to.0 }; «from» = record { 0 = partner.0 }; timeouts = timeouts.0; acceptor = acceptor.0; words = record { items = message_of message.0 } }, message.1)
+  to ← set_at (flags % 4) words
+  partner ← from_at (flags / 4 % 4) to.1
+  timeouts ← set_at (flags / 16 % 2) partner.1
+  acceptor ← set_at (flags / 32 % 2) timeouts.1
+  message ← message_at (flags % 4) to.0 (flags / 64) acceptor.1
+  Some (record { to = record { 0 = to_of (flags % 4) to.0 }; «from» = record { 0 = partner.0 }; timeouts = timeouts.0; acceptor = acceptor.0; words = record { items = message.0 } }, message.1)
 
 -- any other call behind its first word
 abbrev pub call_of : ℕ → List ℕ → Option (Call × List ℕ)
@@ -74,10 +73,14 @@ sent_at flags words = do
   call ← ipc_at flags words
   Some (Ipc call.0, call.1)
 
+-- a call behind its first word
+unfoldable pub call_behind : ℕ → List ℕ → Option (Call × List ℕ)
+call_behind head words = if nat_lt head 3 then call_of head words else sent_at (head - 3) words
+
 unfoldable pub call_at : List ℕ → Option (Call × List ℕ)
 call_at words = do
   head ← word_at words
-  if nat_lt head.0 3 then call_of head.0 head.1 else sent_at (head.0 - 3) head.1
+  call_behind head.0 head.1
 
 abbrev pub step_of : ℕ → List ℕ → Option (Step × List ℕ)
 step_of zero words = do
@@ -114,17 +117,26 @@ answer_at words = do
   ended ← sized_at max_threads (head.0 / 6) head.1
   Some (record { outcome = outcome; ended = record { items = ended.0 } }, ended.1)
 
--- a transfer behind its form less four
-abbrev pub transfer_at : ℕ → List ℕ → Option NextStep
-transfer_at form words = do
-  outcome ← outcome_of (form % 6)
+-- the threads of a transfer: the receiver behind the sender, or the receiver alone, where the sender has this seat
+unfoldable pub threads_at : Bool → ℕ → List ℕ → Option (ℕ × ℕ)
+threads_at false seat words = do
+  receiver ← word_at words
+  Some (seat, receiver.0)
+threads_at true seat words = do
   sender ← word_at words
   receiver ← word_at sender.1
-  Some (Transferred sender.0 receiver.0 outcome (nat_lt 5 form))
+  Some (sender.0, receiver.0)
 
--- a step that came next, behind its form less three
-unfoldable pub next_at : ℕ → List ℕ → Option NextStep
-next_at form words = if nat_eq form 0 then (word_at words >>= (λ number. Some (Expires number.0))) else transfer_at (form - 1) words
+-- a transfer behind its form less one
+abbrev pub transfer_at : ℕ → ℕ → List ℕ → Option NextStep
+transfer_at form seat words = do
+  outcome ← outcome_of (form % 6)
+  threads ← threads_at (nat_lt 11 form) seat words
+  Some (Transferred threads.0 threads.1 outcome (nat_eq (form / 6 % 2) 1))
+
+-- a step that came next, behind its form
+unfoldable pub next_at : ℕ → ℕ → List ℕ → Option NextStep
+next_at form seat words = if nat_eq form 0 then (word_at words >>= (λ number. Some (Expires number.0))) else transfer_at (form - 1) seat words
 
 -- any other reply behind its first word
 abbrev pub reply_of : ℕ → List ℕ → Option (Reply × List ℕ)
@@ -141,11 +153,11 @@ reply_of (suc (suc (suc (suc (suc (suc variant)))))) words = None
 -- an Ipc's reply behind its first word, which has these flags
 abbrev pub received_at : ℕ → List ℕ → Option (Reply × List ℕ)
 received_at flags words = do
-  tag ← tag_at (flags / 8) (flags % 2) words
+  tag ← set_at (flags % 2) words
   error ← set_at (flags / 2 % 2) tag.1
-  sender ← named_at (flags / 4 % 2) error.1
+  sender ← set_at (flags / 4 % 2) error.1
   message ← sized_at max_words (flags / 8) sender.1
-  Some (ByIpc (record { tag = tag.0; error = error.0; «from» = record { 0 = sender.0 }; words = record { items = items_of tag.0 message.0 } }), message.1)
+  Some (ByIpc (record { tag = tag.0; error = error.0; «from» = record { 0 = sender.0 }; words = record { items = message.0 } }), message.1)
 
 unfoldable pub reply_at : List ℕ → Option (Reply × List ℕ)
 reply_at words = do

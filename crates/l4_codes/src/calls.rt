@@ -2,12 +2,13 @@
 ghost use Rattle.std.specs.Prelude.{◌≡◌, ◌+◌, ◌*◌, ◌<◌, ◌≤◌, ◌++◌, ◌∷◌, [], length, ℕ, List, Some};
 ghost use Rattle.l4_ipc.specs.declared.calls.Call.{Call as ACall};
 ghost use Rattle.l4_ipc.specs.declared.calls.Call.TheVariants.{Ipc as AnIpc};
-ghost use Rattle.l4_codes.specs.Codes.{control_code, ipc_flags, call_code, CallFits};
-ghost use Rattle.l4_codes.specs.Reading.{control_at, ipc_at, call_of, sent_at, call_at};
+ghost use Rattle.l4_codes.specs.Codes.{control_code, ipc_flags, call_head, call_front, call_body, call_code, CallFits};
+ghost use Rattle.l4_codes.specs.Reading.{control_at, ipc_at, call_of, sent_at, call_behind, call_at};
 
-use crate::fields::{flag, put_counted, put_set, read_counted, read_set, read_sized};
-use crate::ids::{put_id, read_id};
-use crate::tags::{message_of, put_message};
+use crate::fields::{flag, put_set, read_counted, read_set};
+use crate::sends::{
+    body_of, from_kind, joins, put_from, put_to, read_from, read_message, to_kind, to_of,
+};
 use l4_ipc::{
     Call, Control, Create, FaultCall, IpcCall, MAX_WORDS, Rights, SetPager, ThreadId, UnmapCall,
 };
@@ -16,17 +17,107 @@ use l4_packed::{RECORD_WORDS, Record, Words, read_word};
 /// The greatest number of words of a call.
 pub const CALL_WORDS: usize = MAX_WORDS + 5;
 
+/// The greatest number of words of a call behind the first, but for those of the list at the end.
+pub(crate) const FRONT_WORDS: usize = 4;
+
+/// The first word of a call is below this.
+pub(crate) const HEADS: u32 = 6144;
+
 /// The first word of an Ipc whose flags are all 0. A smaller one is that of another call.
 const IPC: u32 = 3;
 
-/// What each word of an Ipc's message counts in its first word. Below that are four flags.
-const FLAGS: u32 = 16;
+/// What each word at the end of an Ipc counts in its first word. Below that are the flags.
+const FLAGS: u32 = 64;
 
 /// The greatest number of words of the control of a thread.
 const CONTROL_WORDS: usize = 4;
 
 /// The bits of a set of rights are below this.
 const RIGHTS: u32 = 8;
+
+/// The first word of an Ipc.
+#[inline(always)]
+fn ipc_flags(call: &IpcCall) -> u32
+    ensures flags { result ≡ ipc_flags call.now }
+    ensures few { result + IPC < HEADS }
+{
+    let words = call.words.as_slice();
+    let joined = joins(call.to.0, words);
+    let count = body_of(joined, words).len() as u32;
+    let threads = to_kind(joined, call.to.0) + 4 * from_kind(call.from.0);
+    threads + 16 * flag(call.timeouts) + 32 * flag(call.acceptor) + FLAGS * count
+}
+
+/// The first word of a call.
+#[inline(always)]
+pub(crate) fn call_head(call: &Call) -> u32
+    ensures head { result ≡ call_head call.now }
+    ensures few { result < HEADS }
+{
+    match call {
+        Call::Ipc(call) => IPC + ipc_flags(call),
+        Call::Fault(_) => 0,
+        Call::Unmap(_) => 1,
+        Call::Control(_) => 2,
+    }
+}
+
+/// Appends the words of an Ipc behind the first, but for those at the end.
+#[inline(always)]
+fn put_ipc_front(out: &mut Record, call: &IpcCall)
+    requires { length out.old.items + FRONT_WORDS ≤ RECORD_WORDS }
+    ensures items { out.new.items ≡ out.old.items ++ call_front (AnIpc call.now) }
+    ensures short { length (call_front (AnIpc call.now)) ≤ FRONT_WORDS }
+{
+    let words = call.words.as_slice();
+    put_to(out, joins(call.to.0, words), call.to.0, words);
+    put_from(out, call.from.0);
+    put_set(out, call.timeouts);
+    put_set(out, call.acceptor);
+}
+
+/// Appends the words of a call behind the first, but for those of the list at the end.
+#[inline(always)]
+pub(crate) fn put_front(out: &mut Record, call: &Call)
+    requires { length out.old.items + FRONT_WORDS ≤ RECORD_WORDS }
+    ensures items { out.new.items ≡ out.old.items ++ call_front call.now }
+    ensures short { length (call_front call.now) ≤ FRONT_WORDS }
+{
+    match call {
+        Call::Ipc(call) => put_ipc_front(out, call),
+        Call::Fault(fault) => {
+            out.push_all(&[fault.address, fault.ip, u32::from(fault.access.bits())]);
+        }
+        Call::Unmap(unmap) => out.push_all(&[unmap.control, unmap.words.len() as u32]),
+        Call::Control(control) => put_control(out, control),
+    }
+}
+
+/// The words at the end of an Ipc.
+#[inline(always)]
+fn ipc_body(call: &IpcCall) -> &[u32]
+    ensures body { result.now ≡ call_body (AnIpc call.now) }
+    ensures few { length result.now ≤ MAX_WORDS }
+    ensures fits { CallFits (AnIpc call.now) }
+{
+    let words = call.words.as_slice();
+    body_of(joins(call.to.0, words), words)
+}
+
+/// The list at the end of a call.
+#[inline(always)]
+pub(crate) fn call_body(call: &Call) -> &[u32]
+    ensures body { result.now ≡ call_body call.now }
+    ensures few { length result.now ≤ MAX_WORDS }
+    ensures fits { CallFits call.now }
+{
+    match call {
+        Call::Ipc(call) => ipc_body(call),
+        Call::Fault(_) => &[],
+        Call::Unmap(unmap) => unmap.words.as_slice(),
+        Call::Control(_) => &[],
+    }
+}
 
 /// Appends a call.
 pub fn put_call(out: &mut Record, call: &Call)
@@ -35,49 +126,9 @@ pub fn put_call(out: &mut Record, call: &Call)
     ensures fits { CallFits call.now }
     ensures short { length (call_code call.now) ≤ CALL_WORDS }
 {
-    match call {
-        Call::Ipc(call) => put_ipc(out, call),
-        Call::Fault(fault) => {
-            out.push(0);
-            out.push(fault.address);
-            out.push(fault.ip);
-            out.push(u32::from(fault.access.bits()));
-        }
-        Call::Unmap(unmap) => {
-            out.push(1);
-            out.push(unmap.control);
-            put_counted(out, unmap.words.as_slice());
-        }
-        Call::Control(control) => {
-            out.push(2);
-            put_control(out, control);
-        }
-    }
-}
-
-/// Which words of an Ipc are there, and how many its message has.
-fn ipc_flags(call: &IpcCall) -> u32
-    ensures flags { result ≡ ipc_flags call.now }
-    ensures few { result < FLAGS * (MAX_WORDS + 1) }
-{
-    let partners = flag(call.to.0) + 2 * flag(call.from.0);
-    let rest = 4 * flag(call.timeouts) + 8 * flag(call.acceptor);
-    partners + rest + FLAGS * call.words.len() as u32
-}
-
-/// Appends an Ipc.
-fn put_ipc(out: &mut Record, call: &IpcCall)
-    requires { length out.old.items + CALL_WORDS ≤ RECORD_WORDS }
-    ensures items { out.new.items ≡ out.old.items ++ call_code (AnIpc call.now) }
-    ensures fits { CallFits (AnIpc call.now) }
-    ensures short { length (call_code (AnIpc call.now)) ≤ CALL_WORDS }
-{
-    out.push(IPC + ipc_flags(call));
-    put_id(out, call.to.0);
-    put_id(out, call.from.0);
-    put_set(out, call.timeouts);
-    put_set(out, call.acceptor);
-    put_message(out, call.words.as_slice());
+    out.push(call_head(call));
+    put_front(out, call);
+    out.push_all(call_body(call));
 }
 
 /// Appends the control of a thread.
@@ -144,17 +195,17 @@ fn next_control(words: Words<'_>) -> Option<(Control, Words<'_>)>
 fn next_ipc(flags: u32, words: Words<'_>) -> Option<(IpcCall, Words<'_>)>
     ensures { result ≡ ipc_at flags words.entry }
 {
-    let (to, rest) = read_id(words, flags % 2)?;
-    let (from, rest) = read_id(rest, flags / 2 % 2)?;
-    let (timeouts, rest) = read_set(rest, flags / 4 % 2)?;
-    let (acceptor, rest) = read_set(rest, flags / 8 % 2)?;
-    let (words, rest) = read_sized(rest, (flags / FLAGS) as usize)?;
+    let (to, rest) = read_set(words, flags % 4)?;
+    let (from, rest) = read_from(rest, flags / 4 % 4)?;
+    let (timeouts, rest) = read_set(rest, flags / 16 % 2)?;
+    let (acceptor, rest) = read_set(rest, flags / 32 % 2)?;
+    let (words, rest) = read_message(flags % 4, to, rest, (flags / FLAGS) as usize)?;
     let call = IpcCall {
-        to: ThreadId(to),
+        to: ThreadId(to_of(flags % 4, to)),
         from: ThreadId(from),
         timeouts,
         acceptor,
-        words: message_of(words),
+        words,
     };
     Some((call, rest))
 }
@@ -199,16 +250,24 @@ fn next_other(head: u32, words: Words<'_>) -> Option<(Call, Words<'_>)>
     }
 }
 
+/// A call behind its first word, and the words after it.
+#[tactic(auto, unfolding(crate::specs::Reading::call_behind))]
+pub fn read_call_behind(head: u32, words: Words<'_>) -> Option<(Call, Words<'_>)>
+    ensures { result ≡ call_behind head words.entry }
+{
+    if head < IPC {
+        return next_other(head, words);
+    }
+    next_sent(head - IPC, words)
+}
+
 /// A call, and the words after it.
 #[tactic(auto, unfolding(crate::specs::Reading::call_at))]
 fn next_call(words: Words<'_>) -> Option<(Call, Words<'_>)>
     ensures { result ≡ call_at words.entry }
 {
     let (head, rest) = read_word(words)?;
-    if head < IPC {
-        return next_other(head, rest);
-    }
-    next_sent(head - IPC, rest)
+    read_call_behind(head, rest)
 }
 
 /// A call, and the words after it. Of words that `put_call` wrote it is the call that was written, whatever follows them.

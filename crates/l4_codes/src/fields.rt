@@ -1,20 +1,10 @@
 //! Fields of a value as words: a list behind its length, and a word that is left out where it is 0.
 ghost use Rattle.std.specs.Prelude.{◌≡◌, ◌+◌, ◌<◌, ◌≤◌, ◌++◌, length};
 ghost use Rattle.l4_packed.specs.Words.{Gives};
-ghost use Rattle.l4_codes.specs.Fields.{counted, flag, if_set, set_at, list_at, sized_at, counted_at};
+ghost use Rattle.l4_codes.specs.Fields.{flag, if_set, set_at, sized_at, counted_at};
 
 use arrayvec::ArrayVec;
-use l4_packed::{RECORD_WORDS, Record, Words, read_word};
-
-/// Appends a list behind its length.
-#[inline(always)]
-pub(crate) fn put_counted(out: &mut Record, words: &[u32])
-    requires { length out.old.items + 1 + length words.now ≤ RECORD_WORDS }
-    ensures { out.new.items ≡ out.old.items ++ counted words.now }
-{
-    out.push(words.len() as u32);
-    out.push_each(words);
-}
+use l4_packed::{RECORD_WORDS, Record, Words, read_word, read_words};
 
 /// Whether a word is there, 1 or 0, where one that is 0 is left out.
 #[inline(always)]
@@ -71,25 +61,8 @@ pub(crate) fn read_sized<const LIMIT: usize>(
     if count > LIMIT {
         return None;
     }
-    read_list(words, count)
-}
-
-/// A list of so many words, for which its type has room, and the words after it.
-fn read_list<const LIMIT: usize>(
-    words: Words<'_>,
-    count: usize,
-) -> Option<(ArrayVec<u32, LIMIT>, Words<'_>)>
-    requires { count ≤ LIMIT }
-    ensures { Gives (λ x. (x.0.items, x.1)) result (list_at count words.entry) }
-{
+    let (front, rest) = read_words(words, count)?;
     let mut list = ArrayVec::new();
-    let mut rest = words;
-    for _ in 0..count {
-        let Some((word, after)) = read_word(rest) else {
-            return None;
-        };
-        list.push(word);
-        rest = after;
-    }
+    let _ = list.try_extend_from_slice(front);
     Some((list, rest))
 }

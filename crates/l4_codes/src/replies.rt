@@ -6,8 +6,6 @@ ghost use Rattle.l4_threads.specs.declared.Reply.{Reply as AReply};
 ghost use Rattle.l4_threads.specs.declared.Reply.TheVariants.{Ipc as ByIpc};
 
 use crate::fields::{flag, put_set, read_set, read_sized};
-use crate::ids::{put_id, read_id};
-use crate::tags::{items_of, put_items, put_tag, read_tag};
 use l4_ipc::{IpcReply, MAX_WORDS, Reply, ThreadId};
 use l4_packed::{RECORD_WORDS, Record, Words, read_word};
 
@@ -59,26 +57,25 @@ fn put_ipc_reply(out: &mut Record, reply: &IpcReply)
     ensures short { length (reply_code (ByIpc reply.now)) ≤ REPLY_WORDS }
 {
     out.push(IPC + reply_flags(reply));
-    put_tag(out, reply.words.len(), reply.tag);
+    put_set(out, reply.tag);
     put_set(out, reply.error);
-    put_id(out, reply.from.0);
-    put_items(out, reply.tag, reply.words.as_slice());
+    put_set(out, reply.from.0);
+    out.push_all(reply.words.as_slice());
 }
 
 /// An Ipc's reply behind its first word, which has these flags, and the words after it.
 fn next_received(flags: u32, words: Words<'_>) -> Option<(Reply, Words<'_>)>
     ensures { result ≡ received_at flags words.entry }
 {
-    let count = (flags / FLAGS) as usize;
-    let (tag, rest) = read_tag(words, count, flags % 2)?;
+    let (tag, rest) = read_set(words, flags % 2)?;
     let (error, rest) = read_set(rest, flags / 2 % 2)?;
-    let (from, rest) = read_id(rest, flags / 4 % 2)?;
-    let (words, rest) = read_sized(rest, count)?;
+    let (from, rest) = read_set(rest, flags / 4 % 2)?;
+    let (words, rest) = read_sized(rest, (flags / FLAGS) as usize)?;
     let reply = IpcReply {
         tag,
         error,
         from: ThreadId(from),
-        words: items_of(tag, words),
+        words,
     };
     Some((Reply::Ipc(reply), rest))
 }

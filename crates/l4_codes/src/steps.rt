@@ -1,14 +1,15 @@
 //! Steps and their answers as words.
-ghost use Rattle.std.specs.Prelude.{◌≡◌, ◌+◌, ◌*◌, ◌<◌, ◌≤◌, ◌++◌, ◌∷◌, [], length, ℕ, List, Some, is_some, IsTrue};
+ghost use Rattle.std.specs.Prelude.{◌≡◌, ◌+◌, ◌*◌, ◌<◌, ◌≤◌, ◌++◌, ◌∷◌, [], length, ℕ, List, Some, is_some, IsTrue, nat_eq, not};
 ghost use Rattle.std.specs.Option.{option_to_list};
 ghost use Rattle.l4_ipc.specs.declared.steps.Answer.{Answer as AnAnswer};
 ghost use Rattle.l4_ipc.specs.declared.steps.Step.{Step as AStep};
 ghost use Rattle.l4_ipc.specs.declared.steps.Step.TheVariants.{Start};
-ghost use Rattle.l4_codes.specs.Codes.{step_code, outcome_code, answer_code, own_start_code, next_code, StepFits, AnswerFits};
-ghost use Rattle.l4_codes.specs.Reading.{step_at, outcome_of, answer_at, transfer_at, next_at};
+ghost use Rattle.l4_codes.specs.Codes.{step_code, outcome_code, answer_code, own_start_code, next_field, next_threads, next_code, CallFits, StepFits, AnswerFits};
+ghost use Rattle.l4_codes.specs.Reading.{step_at, outcome_of, answer_at, threads_at, transfer_at, next_at};
 
-use crate::calls::{CALL_WORDS, put_call, read_call};
+use crate::calls::{CALL_WORDS, HEADS, call_body, call_head, put_call, put_front, read_call};
 use crate::fields::read_sized;
+use crate::heads::{head_word, put_head};
 use l4_ipc::{Answer, Call, MAX_THREADS, NextStep, Outcome, Step};
 use l4_packed::{FromWords, PackedList, RECORD_WORDS, Record, Words, read_word};
 
@@ -77,75 +78,165 @@ pub fn put_answer(out: &mut Record, answer: &Answer)
     ensures short { length (answer_code answer.now) ≤ ANSWER_WORDS }
 {
     out.push(outcome_word(answer.outcome) + OUTCOMES * answer.ended.len() as u32);
-    out.push_each(answer.ended.as_slice());
+    out.push_all(answer.ended.as_slice());
 }
 
-/// The form of an entry which is that of any answer and step.
-pub const ANY_FORM: u32 = 2;
+/// The field of an entry of the start of a call, in which that call alone ended, is not below this. It is the call's first word above that.
+pub const ENDED_FIELD: u32 = 8192;
 
-/// The form of an entry of a step that came next is not below this. Of an Expire it is this.
-pub const NEXT_FORM: u32 = 3;
+/// The field of an entry of a step that came next is not below this. Of an Expire it is this.
+pub const NEXT_FIELD: u32 = HEADS;
 
-/// The form of a transfer less that of an Expire, whose outcome has the number 0.
+/// The field of an entry of any answer and step.
+pub const ANY_FIELD: u32 = ENDED_FIELD - 1;
+
+/// The form of a transfer to this one's own receiver, whose outcome has the number 0.
 const TRANSFER: u32 = 1;
 
-/// Appends the item of the start of a call, whose words are these, by this thread, in which its call ended alone, or none did.
+/// What the form of a transfer has more where the sender's call ended too.
+const BOTH_END: u32 = OUTCOMES;
+
+/// What the form of a transfer has more where both of its threads are told.
+const BOTH_TOLD: u32 = 2 * OUTCOMES;
+
+/// Appends the item of the start of a call by this thread, in which its call ended alone, or none did. What the lent record held is taken
+/// away.
 #[inline(always)]
 pub fn push_own_start<T: FromWords>(
     list: &mut PackedList<T>,
+    lent: &mut Record,
     thread: u32,
-    call: &Words<'_>,
+    call: &Call,
     ended: bool,
 )
     requires room { length list.old.items < list.old.room }
-    requires few { length call.now ≤ CALL_WORDS }
-    requires read { IsTrue (is_some (T.item_at (own_start_code ended thread call.now))) }
+    requires read { CallFits call.now → IsTrue (is_some (T.item_at (own_start_code ended thread call.now))) }
     ensures items { list.new.items ≡ list.old.items ++ option_to_list (T.item_at (own_start_code ended thread call.now)) }
     ensures room { (length list.new.items ≡ length list.old.items + 1) × (list.new.room ≡ list.old.room) }
+    ensures fits { CallFits call.now }
 {
-    let form = if ended { 1 } else { 0 };
-    list.push_parts(&[thread, form], call);
+    let more = if ended { ENDED_FIELD } else { 0 };
+    lent.clear();
+    put_head(lent, call_head(call) + more, thread);
+    put_front(lent, call);
+    list.push_parts(lent.words().as_slice(), &Words::of(call_body(call)));
 }
 
-/// Appends the item of a number and a step that came next.
+/// The field of a step that came next, of this seat.
 #[inline(always)]
-pub fn push_next<T: FromWords>(list: &mut PackedList<T>, number: u32, next: NextStep)
+fn next_field(seat: u32, next: NextStep) -> u32
+    ensures field { result ≡ next_field seat next }
+    ensures few { result < ANY_FIELD }
+{
+    match next {
+        NextStep::Transfer(sender, _, outcome, ends) => {
+            let both_end = if ends { BOTH_END } else { 0 };
+            let both_told = if sender == seat { 0 } else { BOTH_TOLD };
+            NEXT_FIELD + TRANSFER + outcome_word(outcome) + both_end + both_told
+        }
+        NextStep::Expire(_) => NEXT_FIELD,
+    }
+}
+
+/// Appends the item of a step that came next, whose first word is this one.
+#[inline(always)]
+fn push_threads<T: FromWords>(list: &mut PackedList<T>, word: u32, seat: u32, next: NextStep)
     requires room { length list.old.items < list.old.room }
-    requires read { IsTrue (is_some (T.item_at (number ∷ next_code next))) }
-    ensures items { list.new.items ≡ list.old.items ++ option_to_list (T.item_at (number ∷ next_code next)) }
+    requires read { IsTrue (is_some (T.item_at (word ∷ next_threads seat next))) }
+    ensures items { list.new.items ≡ list.old.items ++ option_to_list (T.item_at (word ∷ next_threads seat next)) }
     ensures room { (length list.new.items ≡ length list.old.items + 1) × (list.new.room ≡ list.old.room) }
 {
     let none = Words::none();
     match next {
-        NextStep::Transfer(sender, receiver, outcome, ends) => {
-            let both = if ends { OUTCOMES } else { 0 };
-            let form = NEXT_FORM + TRANSFER + (outcome_word(outcome) + both);
-            list.push_parts(&[number, form, sender, receiver], &none);
+        NextStep::Transfer(sender, receiver, _, _) => {
+            if sender == seat {
+                list.push_parts(&[word, receiver], &none);
+            } else {
+                list.push_parts(&[word, sender, receiver], &none);
+            }
         }
-        NextStep::Expire(waiter) => list.push_parts(&[number, NEXT_FORM, waiter], &none),
+        NextStep::Expire(waiter) => list.push_parts(&[word, waiter], &none),
     }
 }
 
-/// A transfer whose form is so far above the first one.
-fn read_transfer(form: u32, words: Words<'_>) -> Option<NextStep>
-    ensures { result ≡ transfer_at form words.entry }
+/// Appends the threads of a step that came next.
+fn put_threads(out: &mut Record, seat: u32, next: NextStep)
+    requires { length out.old.items + 2 ≤ RECORD_WORDS }
+    ensures items { out.new.items ≡ out.old.items ++ next_threads seat next }
 {
-    let outcome = outcome_of(form % OUTCOMES)?;
-    let (sender, rest) = read_word(words)?;
-    let (receiver, _) = read_word(rest)?;
-    Some(NextStep::Transfer(sender, receiver, outcome, 5 < form))
+    match next {
+        NextStep::Transfer(sender, receiver, _, _) => {
+            if sender != seat {
+                out.push(sender);
+            }
+            out.push(receiver);
+        }
+        NextStep::Expire(waiter) => out.push(waiter),
+    }
 }
 
-/// A step that came next, whose form is so far above `NEXT_FORM`.
+/// `push_next` where the seat and the field are words of their own.
+#[cold]
+#[inline(never)]
+fn push_far_next<T: FromWords>(list: &mut PackedList<T>, seat: u32, next: NextStep)
+    requires room { length list.old.items < list.old.room }
+    requires read { IsTrue (is_some (T.item_at (next_code seat next))) }
+    ensures items { list.new.items ≡ list.old.items ++ option_to_list (T.item_at (next_code seat next)) }
+    ensures room { (length list.new.items ≡ length list.old.items + 1) × (list.new.room ≡ list.old.room) }
+{
+    let mut out = Record::new();
+    put_head(&mut out, next_field(seat, next), seat);
+    put_threads(&mut out, seat, next);
+    list.push(&out.words());
+}
+
+/// Appends the item of a seat and a step that came next.
+#[inline(always)]
+pub fn push_next<T: FromWords>(list: &mut PackedList<T>, seat: u32, next: NextStep)
+    requires room { length list.old.items < list.old.room }
+    requires read { IsTrue (is_some (T.item_at (next_code seat next))) }
+    ensures items { list.new.items ≡ list.old.items ++ option_to_list (T.item_at (next_code seat next)) }
+    ensures room { (length list.new.items ≡ length list.old.items + 1) × (list.new.room ≡ list.old.room) }
+{
+    match head_word(next_field(seat, next), seat) {
+        Some(word) => push_threads(list, word, seat, next),
+        None => push_far_next(list, seat, next),
+    }
+}
+
+/// The threads of a transfer: both, or the receiver alone, where the sender has this seat.
+#[tactic(auto, unfolding(crate::specs::Reading::threads_at))]
+fn read_threads(both: bool, seat: u32, words: Words<'_>) -> Option<(u32, u32)>
+    ensures { result ≡ threads_at both seat words.entry }
+{
+    let (first, rest) = read_word(words)?;
+    if !both {
+        return Some((seat, first));
+    }
+    let (receiver, _) = read_word(rest)?;
+    Some((first, receiver))
+}
+
+/// A transfer whose form is so far above the first one.
+fn read_transfer(form: u32, seat: u32, words: Words<'_>) -> Option<NextStep>
+    ensures { result ≡ transfer_at form seat words.entry }
+{
+    let outcome = outcome_of(form % OUTCOMES)?;
+    let (sender, receiver) = read_threads(BOTH_TOLD <= form, seat, words)?;
+    let ends = form / OUTCOMES % 2 == 1;
+    Some(NextStep::Transfer(sender, receiver, outcome, ends))
+}
+
+/// A step that came next, of this seat, whose field is so far above `NEXT_FIELD`.
 #[tactic(auto, unfolding(crate::specs::Reading::next_at))]
-pub fn read_next(form: u32, words: Words<'_>) -> Option<NextStep>
-    ensures { result ≡ next_at form words.entry }
+pub fn read_next(form: u32, seat: u32, words: Words<'_>) -> Option<NextStep>
+    ensures { result ≡ next_at form seat words.entry }
 {
     if form == 0 {
         let (waiter, _) = read_word(words)?;
         return Some(NextStep::Expire(waiter));
     }
-    read_transfer(form - TRANSFER, words)
+    read_transfer(form - TRANSFER, seat, words)
 }
 
 /// A step, and the words after it.

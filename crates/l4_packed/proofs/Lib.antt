@@ -1,9 +1,5 @@
-pub mod Lengths
-pub mod Small
-pub mod Unpacking
-pub mod Packed
+pub mod Cutting
+pub mod Marks
 pub mod Finding
 pub mod Storing
-pub mod Marks
 pub mod ReadRecords
-pub mod Writing

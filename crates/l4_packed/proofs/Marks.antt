@@ -1,119 +1,53 @@
--- Marks: a piece from a marked record on, and one record more.
-use Rattle.std.proofs.Common.{◌≡◌, ◌≢◌, ℕ, ◌+◌, ◌-◌, ◌*◌, ◌/◌, ◌<◌, ◌≤◌, ◌==◌, inl, inr, Bool, true, false, List, [], ◌∷◌, ◌++◌, length, take, drop, min, get_or, All, Some, refl, sym, ap, subst, ◌∙◌, arith}
-use Rattle.std.specs.Prelude.{slice_get}
-use Rattle.std.proofs.lemmas.Bool.{false≢true}
-use Rattle.std.proofs.lemmas.Bool.Decides.{eqb_tells, leb_tells}
-use Rattle.std.proofs.lemmas.List.{append-nil, length_push, length-append, length-drop, get_or-drop, get_or_push, get_or_append_left, take_rest, drop-append-le}
-use Rattle.std.proofs.lemmas.List.Concat.{flat_map-append}
-use Rattle.std.proofs.lemmas.Option.{slice_get-get_or}
-use Rattle.std.proofs.Math.Seq.{drop-length}
-use Rattle.l4_packed.specs.Inside.Bytes.{record_code, records_code, records_in}
-use Rattle.l4_packed.specs.Inside.Pieces.{IsPacked, IsMark, AreMarks, mark_if, mark_at, mark_before, record_words}
-use Rattle.l4_packed.proofs.Unpacking.{records_again}
+-- Marks: one record more, and one mark more.
+use Rattle.std.proofs.Common.{◌≡◌, ℕ, ◌+◌, ◌-◌, ◌*◌, ◌<◌, ◌≤◌, inl, inr, List, [], ◌∷◌, ◌++◌, length, take, drop, get_or, sym, ap, subst, ◌∙◌, arith}
+use Rattle.std.specs.List.{sum}
+use Rattle.std.proofs.lemmas.Bool.Decides.{leb_tells}
+use Rattle.std.proofs.lemmas.List.{length_push, get_or_push, get_or_append_left, take-append-le, take_all}
+use Rattle.l4_packed.specs.Inside.Pieces.{IsMark, AreMarks}
+use Rattle.l4_packed.proofs.Cutting.{sum_from}
 
-pub first_mark : (count : ℕ) (bytes : List ℕ) → IsPacked count bytes → IsMark (records_in count bytes) bytes 0 0
-first_mark count bytes packed = record { number_within = omega arith; offset_within = omega arith; rest = packed.whole }
-
-by_number : (records : List (List ℕ)) (bytes : List ℕ) (number offset : ℕ) (none : Bool) → (number == 0) ≡ none → IsMark records bytes 0 0 → (0 < number → IsMark records bytes (8 * number) offset)
-    → IsMark records bytes (mark_if none number offset).0 (mark_if none number offset).1
-by_number records bytes number offset true is first later = first
-by_number records bytes number offset false is first later =
-    elim (eqb_tells number 0) [
-      | inl same ↦ absurd (false≢true (sym is ∙ same.0))
-      | inr other ↦ later (let n : number ≢ 0 = other.1 in omega (arith, n))
-    ]
-
-marked : (records : List (List ℕ)) (bytes marks : List ℕ) (number : ℕ) → number ≤ length marks → IsMark records bytes 0 0 → AreMarks marks records bytes
-    → IsMark records bytes (mark_at marks number).0 (mark_at marks number).1
-marked records bytes marks number le first are =
-    by_number records bytes number (get_or marks (number - 1) 0) (number == 0) refl first (λ some.
-    let place : number - 1 + 1 ≡ number = omega (arith, some) in
-    subst (λ (n : ℕ). IsMark records bytes (8 * n) (get_or marks (number - 1) 0)) place (are.right (number - 1) (omega (arith, le, some))))
-
--- the records from a mark on
-pub records_from : (count : ℕ) (bytes : List ℕ) (number offset : ℕ) → IsPacked count bytes → IsMark (records_in count bytes) bytes number offset
-    → records_in (count - number) (drop offset bytes) ≡ drop number (records_in count bytes)
-records_from count bytes number offset packed mark =
-    let records = records_in count bytes in
-    let left = drop number records in
-    let size : count - number ≡ length left = omega (arith, length-drop number records, packed.counted) in
-    ap (λ k. records_in k (drop offset bytes)) size ∙ ap (records_in (length left)) (mark.rest ∙ sym (append-nil (records_code left))) ∙ records_again left []
-
-pub packed_from : (count : ℕ) (bytes : List ℕ) (number offset : ℕ) → IsPacked count bytes → IsMark (records_in count bytes) bytes number offset → IsPacked (count - number) (drop offset bytes)
-packed_from count bytes number offset packed mark =
-    let records = records_in count bytes in
-    let same = records_from count bytes number offset packed mark in
-    record {
-      whole = mark.rest ∙ ap records_code (sym same);
-      counted = ap length same ∙ omega (arith, length-drop number records, packed.counted);
-      short = subst (λ (rs : List (List ℕ)). All (λ words. length words ≤ record_words) rs) (sym same)
-          (λ k d lt. subst (λ (words : List ℕ). length words ≤ record_words) (sym (get_or-drop number records k d)) (packed.short (number + k) d (omega (arith, lt, length-drop number records))));
-    }
-
-pub get_from : (records : List (List ℕ)) (number at : ℕ) → number ≤ at → at < length records → slice_get (drop number records) (at - number) ≡ slice_get records at
-get_from records number at le lt =
-    let within : at - number < length (drop number records) = omega (arith, length-drop number records, le, lt) in
-    let place : number + (at - number) ≡ at = omega (arith, le) in
-    slice_get-get_or (drop number records) (at - number) [] within
-    ∙ ap (λ (words : List ℕ). Some words) (get_or-drop number records (at - number) [] ∙ ap (λ k. get_or records k []) place)
-    ∙ sym (slice_get-get_or records at [] lt)
+pub no_marks : (marks lengths : List ℕ) → marks ≡ [] → AreMarks marks lengths
+no_marks marks lengths none = record { right = λ k lt. absurd (omega (arith, lt, ap length none)) }
 
 -- one record more
-mark_more : (records : List (List ℕ)) (bytes words : List ℕ) (number offset : ℕ) → IsMark records bytes number offset → IsMark (records ++ words ∷ []) (bytes ++ record_code words) number offset
-mark_more records bytes words number offset mark =
-    record {
-      number_within = omega (arith, mark.number_within, length_push records words);
-      offset_within = omega (arith, mark.offset_within, length-append bytes (record_code words));
-      rest =
-          drop-append-le offset bytes (record_code words) mark.offset_within
-          ∙ ap (λ (t : List ℕ). t ++ record_code words) mark.rest
-          ∙ ap (λ (t : List ℕ). records_code (drop number records) ++ t) (sym (append-nil (record_code words)))
-          ∙ sym (flat_map-append record_code (drop number records) (words ∷ []))
-          ∙ ap records_code (sym (drop-append-le number records (words ∷ []) mark.number_within));
-    }
+pub marks_more : (marks lengths : List ℕ) (n : ℕ) → AreMarks marks lengths → AreMarks marks (lengths ++ n ∷ [])
+marks_more marks lengths n are = record {
+  right = λ k lt.
+      let mark = are.right k lt in
+      record {
+        within = omega (arith, mark.within, length_push lengths n);
+        before = mark.before ∙ ap sum (sym (take-append-le (64 * (k + 1)) lengths (n ∷ []) mark.within));
+      };
+}
 
-pub marks_more : (marks : List ℕ) (records : List (List ℕ)) (bytes words : List ℕ) → AreMarks marks records bytes → AreMarks marks (records ++ words ∷ []) (bytes ++ record_code words)
-marks_more marks records bytes words are = record { right = λ k lt. mark_more records bytes words (8 * (k + 1)) (get_or marks k 0) (are.right k lt) }
-
--- a mark where the next record will stand
-last_mark : (records : List (List ℕ)) (bytes : List ℕ) (number : ℕ) → number ≡ length records → IsMark records bytes number (length bytes)
-last_mark records bytes number all =
-    record {
-      number_within = omega (arith, all);
-      offset_within = omega arith;
-      rest = drop-length bytes ∙ sym (ap (λ k. records_code (drop k records)) all ∙ ap records_code (drop-length records));
-    }
-
-pub no_marks : (marks : List ℕ) (records : List (List ℕ)) (bytes : List ℕ) → marks ≡ [] → AreMarks marks records bytes
-no_marks marks records bytes none = record { right = λ k lt. absurd (omega (arith, lt, ap length none)) }
-
--- one mark more
-pub mark_added : (marks new : List ℕ) (records : List (List ℕ)) (bytes : List ℕ) → new ≡ marks ++ length bytes ∷ [] → 8 * (length marks + 1) ≡ length records → AreMarks marks records bytes → AreMarks new records bytes
-mark_added marks new records bytes is next are =
-    subst (λ (l : List ℕ). AreMarks l records bytes) (sym is)
+-- one mark more, where the next record will stand
+pub mark_added : (marks new lengths : List ℕ) (offset : ℕ) → new ≡ marks ++ offset ∷ [] → length lengths ≡ 64 * (length marks + 1) → sum lengths ≡ offset → AreMarks marks lengths → AreMarks new lengths
+mark_added marks new lengths offset is next all are =
+    subst (λ (l : List ℕ). AreMarks l lengths) (sym is)
     record {
       right = λ k lt.
           elim (leb_tells (length marks) k) [
             | inl last ↦
-                let place : length marks ≡ k = omega (arith, lt, length_push marks (length bytes), last.1) in
-                subst (λ (o : ℕ). IsMark records bytes (8 * (k + 1)) o) (sym (get_or_push marks (length bytes) 0 k place)) (last_mark records bytes (8 * (k + 1)) (omega (arith, next, place)))
+                let place : length marks ≡ k = omega (arith, lt, length_push marks offset, last.1) in
+                let whole : 64 * (k + 1) ≡ length lengths = omega (arith, next, place) in
+                subst (λ (o : ℕ). IsMark lengths (64 * (k + 1)) o) (sym (get_or_push marks offset 0 k place)) (record {
+                  within = omega (arith, whole);
+                  before = sym all ∙ ap sum (sym (take_all (64 * (k + 1)) lengths (omega (arith, whole))));
+                })
             | inr before ↦
                 let within : k < length marks = omega (arith, before.1) in
-                subst (λ (o : ℕ). IsMark records bytes (8 * (k + 1)) o) (sym (get_or_append_left marks (length bytes ∷ []) 0 k within)) (are.right k within)
+                subst (λ (o : ℕ). IsMark lengths (64 * (k + 1)) o) (sym (get_or_append_left marks (offset ∷ []) 0 k within)) (are.right k within)
           ];
     }
 
-pub marks_within : (marks : List ℕ) (records : List (List ℕ)) (bytes : List ℕ) → AreMarks marks records bytes → 8 * length marks ≤ length records
-marks_within [] records bytes are = omega arith
-marks_within (mark ∷ marks) records bytes are = omega (arith, (are.right (length marks) (omega arith)).number_within)
+pub marks_within : (marks lengths : List ℕ) → AreMarks marks lengths → 64 * length marks ≤ length lengths
+marks_within [] lengths are = omega arith
+marks_within (mark ∷ marks) lengths are = omega (arith, (are.right (length marks) (omega arith)).within)
 
--- what a piece is read from: the mark before a place
-pub mark_is : (count at : ℕ) (bytes marks : List ℕ) (mark : ℕ × ℕ) → IsPacked count bytes → AreMarks marks (records_in count bytes) bytes → mark ≡ mark_before marks at → IsMark (records_in count bytes) bytes mark.0 mark.1
-mark_is count at bytes marks mark packed are is =
-    let number = min (at / 8) (length marks) in
-    let records = records_in count bytes in
-    let le : number ≤ length marks = omega arith in
-    subst (λ (m : ℕ × ℕ). IsMark records bytes m.0 m.1) (sym is) (marked records bytes marks number le (first_mark count bytes packed) are)
-
-pub part_is : (part bytes : List ℕ) (offset : ℕ) → part ≡ bytes → take (length part - offset) (drop offset part) ≡ drop offset bytes
-part_is part bytes offset is = take_rest part offset ∙ ap (drop offset) is
+-- the words before a place: those before the last mark, and those behind it
+pub start_is : (marks lengths : List ℕ) (number at mark rest : ℕ) → AreMarks marks lengths → 1 ≤ number → number ≤ length marks → 64 * number ≤ at
+    → mark ≡ get_or marks (number - 1) 0 → rest ≡ sum (take (at - 64 * number) (drop (64 * number) lengths)) → mark + rest ≡ sum (take at lengths)
+start_is marks lengths number at mark rest are some within le here behind =
+    let place : number - 1 + 1 ≡ number = omega (arith, some) in
+    let told : get_or marks (number - 1) 0 ≡ sum (take (64 * number) lengths) = (are.right (number - 1) (omega (arith, some, within))).before ∙ ap (λ k. sum (take (64 * k) lengths)) place in
+    omega (arith, here, behind, told, sum_from lengths (64 * number) at le)

@@ -1,3 +1,2 @@
-pub mod Bytes
 pub mod Pieces
 pub mod ReadRecords

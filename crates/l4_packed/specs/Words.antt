@@ -1,5 +1,6 @@
 -- Words that are read from the front of a list. (this profile's own)
-use Rattle.std.specs.Prelude.{◌≡◌, ℕ, List, [], ◌∷◌, Option, Some, None}
+use Rattle.std.specs.Prelude.{◌≡◌, ℕ, List, [], ◌∷◌, length, take, drop, Option, Some, None, nat_lt, if◌then◌else◌}
+use Rattle.std.specs.Borrow.{Bor}
 
 -- what a reader gives, seen by view, is what is read: None where nothing can be read
 abbrev pub Gives : {X Y : Type 0} → (X → Y) → Option X → Option Y → Type 0
@@ -22,3 +23,11 @@ None >>= f = None
 abbrev pub word_at : List ℕ → Option (ℕ × List ℕ)
 word_at [] = None
 word_at (word ∷ rest) = Some (word, rest)
+
+-- so many words, and those after them
+abbrev pub words_at : ℕ → List ℕ → Option (List ℕ × List ℕ)
+words_at count words = if nat_lt (length words) count then None else Some (take count words, drop count words)
+
+-- a reader lends words, and gives those after them
+abbrev pub Lends : Option (Bor (List ℕ) × List ℕ) → Option (List ℕ × List ℕ) → Type 0
+Lends result read = Gives (λ x. (x.0.now, x.1)) result read

@@ -1,12 +1,12 @@
-//! Numbers of bytes before some records of a piece, in a place of their own.
+//! Numbers of words before some records of a piece, in a place of their own.
 ghost use Rattle.std.specs.Prelude.{◌≡◌, ◌<◌, ◌++◌, ◌∷◌, [], length};
 
 use std::marker::Model;
 
 /// The greatest number of offsets of a piece.
-pub(crate) const MOST_OFFSETS: usize = 256;
+pub(crate) const MOST_OFFSETS: usize = 128;
 
-/// How many bytes stand before some records of a piece, one after another. No memory is taken for one more.
+/// How many words stand before some records of a piece, one after another. No memory is taken for one more.
 #[derive(Drop)]
 pub(crate) struct Offsets {
     cells: [u16; MOST_OFFSETS],

@@ -1,89 +1,118 @@
 //! Pieces of memory that hold records. A piece is allocated once, and never moves.
-ghost use Rattle.std.specs.Prelude.{◌≡◌, ◌≤◌, ◌+◌, ◌++◌, ◌∷◌, [], length, slice_get, vec_len, vec_capacity, true};
-ghost use Rattle.std.specs.List.{list_all};
-ghost use Rattle.l4_packed.specs.Inside.Bytes.{is_small, record_code, records_in};
-ghost use Rattle.l4_packed.specs.Inside.Pieces.{IsPacked, PieceState, mark_before, piece_state};
+ghost use Rattle.std.specs.Prelude.{◌≡◌, ◌≤◌, ◌<◌, ◌+◌, ◌++◌, ◌∷◌, ◌^◌, [], length, nat_lt, slice_get, take, vec_len, vec_capacity, IfOk};
+ghost use Rattle.std.specs.List.{sum};
+ghost use Rattle.l4_packed.specs.Inside.Pieces.{AreMarks, IsBlank, PieceState, fits, piece_state};
 
 use crate::offsets::{MOST_OFFSETS, Offsets};
-use crate::packing::{first_frame, put_parts, put_record};
 use crate::words::{RECORD_WORDS, Words};
+use std::alloc::{AllocError, Global};
 use std::marker::Model;
 
-/// One of the records that the bytes hold.
-fn read_record(bytes: &[u8], count: usize, at: usize) -> Option<Words<'_>>
-    requires { IsPacked count bytes.now }
-    ensures { result ≡ slice_get (records_in count bytes.now) at }
-{
-    if at >= count {
-        return None;
-    }
-    let mut rest = bytes;
-    for _ in 0..at {
-        let Some((_, after)) = first_frame(rest) else {
-            return None;
-        };
-        rest = after;
-    }
-    let Some((frame, _)) = first_frame(rest) else {
-        return None;
-    };
-    Some(Words::of(frame))
-}
+/// The words of a piece that takes records: a call and the steps that come next have room in one piece.
+pub(crate) const PIECE_WORDS: usize = 20_480;
+
+/// How many records a piece takes at most.
+const PIECE_LENGTHS: usize = 8192;
 
 /// A mark is for each record whose place in its piece is a multiple of this, but for the first.
-const MARK_EACH: usize = 8;
+const MARK_EACH: usize = 64;
 
-/// The greatest number of bytes before a marked record.
+/// The greatest number of words before a marked record.
 const LAST_MARK: usize = 0xffff;
 
-/// A record at or before this place, and how many bytes stand before it.
-fn mark_before(marks: &[u16], at: usize) -> (usize, usize)
-    ensures mark { result ≡ mark_before marks.now at }
-    ensures before { result.0 ≤ at }
+/// The words of records of these lengths.
+fn total(lengths: &[u8]) -> usize
+    requires { sum lengths.now < 2 ^ 63 }
+    ensures { result ≡ sum lengths.now }
+{
+    let mut all = 0;
+    for length in lengths {
+        all += usize::from(*length);
+    }
+    all
+}
+
+/// How many words stand before the record at this place: the last mark tells those before its record.
+fn start_of(lengths: &[u8], marks: &[u16], at: usize) -> usize
+    requires few { sum lengths.now < 2 ^ 63 }
+    requires marked { AreMarks marks.now lengths.now }
+    requires within { at ≤ length lengths.now }
+    ensures { result ≡ sum (take at lengths.now) }
 {
     let number = (at / MARK_EACH).min(marks.len());
     if number == 0 {
-        return (0, 0);
+        return total(&lengths[..at]);
     }
-    (MARK_EACH * number, marks[number - 1] as usize)
+    usize::from(marks[number - 1]) + total(&lengths[MARK_EACH * number..at])
 }
 
-/// The bytes of a piece that takes records.
-pub(crate) const PIECE_BYTES: usize = 8192;
+/// Appends words, for which there is room. Where their number is known as the program is built, each is one store.
+#[inline(always)]
+fn put_few(out: &mut Vec<u32>, words: &[u32])
+    requires { vec_len out.old + length words.now ≤ vec_capacity out.old }
+    ensures items { out.new.items ≡ out.old.items ++ words.now }
+    ensures len { vec_len out.new ≡ vec_len out.old + length words.now }
+    ensures capacity { vec_capacity out.new ≡ vec_capacity out.old }
+{
+    for word in words {
+        out.push_reserved(*word);
+    }
+}
 
-/// A piece: how many records stand before it, how many it holds, their bytes, and how many bytes stand before some of them.
+/// A piece: how many records stand before it, the words of its records, how many each has, and how many words stand before some of them.
 #[derive(Drop)]
 pub(crate) struct Piece {
     first: usize,
-    count: usize,
-    bytes: Vec<u8>,
+    words: Vec<u32>,
+    lengths: Vec<u8>,
     marks: Offsets,
 }
 
 impl Model for Piece {
-    ghost use Rattle.std.specs.Prelude.{◌-◌, vec_len, vec_capacity};
-    ghost use Rattle.l4_packed.specs.Inside.Bytes.{records_in};
-    ghost use Rattle.l4_packed.specs.Inside.Pieces.{AreMarks, IsPacked, PieceState, piece_state};
+    ghost use Rattle.l4_packed.specs.Inside.Pieces.{AreMarks, ArePacked, PieceState, cut, fits, piece_state};
 
     ghost Value = { PieceState };
 
-    ghost view = { λ p. piece_state p.first (records_in p.count p.bytes.items) (vec_capacity p.bytes - vec_len p.bytes) };
+    ghost view = { λ p. piece_state p.first (cut p.lengths.items p.words.items) (fits p.words p.lengths) };
 
-    ghost invariant = { λ p. IsPacked p.count p.bytes.items × AreMarks p.marks.items (records_in p.count p.bytes.items) p.bytes.items };
+    ghost invariant = { λ p. ArePacked p.lengths.items p.words.items × AreMarks p.marks.items p.lengths.items };
 }
 
 impl Piece {
     /// A piece without records over this memory.
-    pub fn new(first: usize, bytes: Vec<u8>) -> Piece
-        requires { bytes.items ≡ [] }
-        ensures { result ≡ piece_state first [] (vec_capacity bytes) }
+    fn over(words: Vec<u32>, lengths: Vec<u8>) -> Piece
+        requires { (words.items ≡ []) × (lengths.items ≡ []) }
+        ensures { result ≡ piece_state 0 [] (fits words lengths) }
     {
         Piece {
-            first,
-            count: 0,
-            bytes,
+            first: 0,
+            words,
+            lengths,
             marks: Offsets::new(),
         }
+    }
+
+    /// A piece that has no memory.
+    pub fn none(alloc: Global) -> Piece
+        ensures { (result.first ≡ 0) × (result.records ≡ []) }
+    {
+        Piece::over(Vec::new(alloc), Vec::new(alloc))
+    }
+
+    /// A piece without records. `AllocError` where memory is refused.
+    pub fn new(alloc: Global) -> Result<Piece, AllocError>
+        ensures { IfOk result IsBlank }
+    {
+        let words = Vec::with_capacity(alloc, PIECE_WORDS)?;
+        let lengths = Vec::with_capacity(alloc, PIECE_LENGTHS)?;
+        Ok(Piece::over(words, lengths))
+    }
+
+    /// Notes how many records stand before it.
+    pub fn begin(&mut self, first: usize)
+        ensures { self.new ≡ piece_state first self.old.records self.old.free }
+    {
+        self.first = first;
     }
 
     /// How many records stand before it.
@@ -97,41 +126,40 @@ impl Piece {
     pub fn count(&self) -> usize
         ensures { result ≡ length self.now.records }
     {
-        self.count
+        self.lengths.len()
     }
 
-    /// How many bytes are free.
+    /// For how many more records it has room, whatever their words.
     pub fn free(&self) -> usize
-        ensures { result ≡ self.now.free }
+        ensures free { result ≡ self.now.free }
+        ensures few { result < 2 ^ 60 }
     {
-        self.bytes.capacity() - self.bytes.len()
+        let words = (self.words.capacity() - self.words.len()) / RECORD_WORDS;
+        words.min(self.lengths.capacity() - self.lengths.len())
     }
 
-    /// Appends a record, for whose bytes there is room.
+    /// Whether it has room for another record, whatever its words.
     #[inline(always)]
-    pub fn push(&mut self, words: &Words<'_>)
-        requires { length (record_code words.now) ≤ self.old.free }
-        ensures records { (self.new.first ≡ self.old.first) × (self.new.records ≡ self.old.records ++ words.now ∷ []) }
-        ensures free { self.old.free ≤ self.new.free + length (record_code words.now) }
+    pub fn has_room(&self) -> bool
+        ensures { result ≡ nat_lt 0 self.now.free }
     {
-        self.mark();
-        put_record(&mut self.bytes, words);
-        self.count += 1;
+        self.words.capacity() - self.words.len() >= RECORD_WORDS
+            && self.lengths.len() < self.lengths.capacity()
     }
 
-    /// Appends the record of which the first words are one byte each, for whose bytes there is room.
+    /// Appends the record of a few words and of those after them, for which there is room.
     #[inline(always)]
-    pub fn push_parts(&mut self, head: &[u32], tail: &Words<'_>)
-        requires small { list_all is_small head.now ≡ true }
+    pub fn push(&mut self, head: &[u32], tail: &Words<'_>)
+        requires room { 0 < self.old.free }
         requires few { length head.now + length tail.now ≤ RECORD_WORDS }
-        requires room { length (record_code (head.now ++ tail.now)) ≤ self.old.free }
         ensures records { (self.new.first ≡ self.old.first) × (self.new.records ≡ self.old.records ++ (head.now ++ tail.now) ∷ []) }
-        ensures free { self.old.free ≤ self.new.free + length (record_code (head.now ++ tail.now)) }
+        ensures free { self.old.free ≤ self.new.free + 1 }
     {
         self.mark();
-        let count = self.count + 1;
-        put_parts(&mut self.bytes, head, tail);
-        self.count = count;
+        let tail = tail.as_slice();
+        put_few(&mut self.words, head);
+        let _ = self.words.extend_from_slice(tail);
+        self.lengths.push_reserved((head.len() + tail.len()) as u8);
     }
 
     /// Marks where the next record will stand, if it is one of those that have a mark.
@@ -139,7 +167,7 @@ impl Piece {
     fn mark(&mut self)
         ensures { self.new ≡ self.old }
     {
-        if self.count % MARK_EACH == 0 {
+        if self.lengths.len() % MARK_EACH == 0 {
             self.put_mark();
         }
     }
@@ -151,9 +179,12 @@ impl Piece {
     fn put_mark(&mut self)
         ensures { self.new ≡ self.old }
     {
-        let len = self.bytes.len();
+        let len = self.words.len();
         let marked = self.marks.len();
-        if len <= LAST_MARK && marked < MOST_OFFSETS && self.count == MARK_EACH * (marked + 1) {
+        if len <= LAST_MARK
+            && marked < MOST_OFFSETS
+            && self.lengths.len() == MARK_EACH * (marked + 1)
+        {
             self.marks.push(len as u16);
         }
     }
@@ -162,10 +193,12 @@ impl Piece {
     pub fn get(&self, at: usize) -> Option<Words<'_>>
         ensures { result ≡ slice_get self.now.records at }
     {
-        if at >= self.count {
+        let lengths = self.lengths.as_slice();
+        if at >= lengths.len() {
             return None;
         }
-        let (from, offset) = mark_before(self.marks.as_slice(), at);
-        read_record(&self.bytes[offset..], self.count - from, at - from)
+        let start = start_of(lengths, self.marks.as_slice(), at);
+        let end = start + usize::from(lengths[at]);
+        Some(Words::of(&self.words[start..end]))
     }
 }

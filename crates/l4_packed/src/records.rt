@@ -4,16 +4,14 @@ ghost use Rattle.std.specs.List.{All};
 ghost use Rattle.l4_packed.specs.Inside.Pieces.{AreNumbered, IsBlank, IsStore, records_of};
 ghost use Rattle.l4_packed.specs.Records.{RecordList, record_list};
 
-use crate::numbers::are_small;
-use crate::packing::{RECORD_BYTES, parts_len, record_len};
-use crate::pieces::{PIECE_BYTES, Piece};
-use crate::words::{RECORD_WORDS, Record, Words};
+use crate::pieces::{PIECE_WORDS, Piece};
+use crate::words::{RECORD_WORDS, Words};
 use std::alloc::{AllocError, Global};
 use std::marker::Model;
 use std::mem;
 
 /// How many records of the greatest length a piece holds.
-const PIECE_RECORDS: usize = PIECE_BYTES / RECORD_BYTES;
+const PIECE_RECORDS: usize = PIECE_WORDS / RECORD_WORDS;
 
 /// There are fewer records than this.
 const MOST_RECORDS: usize = 0x4000_0000_0000_0000;
@@ -55,44 +53,43 @@ fn find(pieces: &[Piece], place: usize) -> Option<Words<'_>>
     piece.get(place - piece.first())
 }
 
-/// Begins another piece, since the current one may have no room for a record.
+/// Begins another piece, since the current one has no room for another record.
 #[cold]
 #[inline(never)]
-fn next_piece(full: &mut Vec<Piece>, current: &mut Piece, spare: &mut Vec<Vec<u8>>)
-    requires little { current.old.free < RECORD_BYTES }
+fn next_piece(full: &mut Vec<Piece>, current: &mut Piece, spare: &mut Vec<Piece>)
+    requires little { current.old.free ≡ 0 }
     requires ready { (room : ℕ) × IsStore full.old.items current.old spare.old.items (vec_capacity full.old) room
         × (length (records_of full.old.items) + length current.old.records < room) }
     ensures records { records_of full.new.items ++ current.new.records ≡ records_of full.old.items ++ current.old.records }
-    ensures free { RECORD_BYTES ≤ current.new.free }
+    ensures free { 0 < current.new.free }
     ensures kept { (room : ℕ) → IsStore full.old.items current.old spare.old.items (vec_capacity full.old) room
         → IsStore full.new.items current.new spare.new.items (vec_capacity full.new) room }
 {
-    let Some(bytes) = spare.pop() else {
+    let Some(mut next) = spare.pop() else {
         unreachable!()
     };
-    let next = Piece::new(current.first() + current.count(), bytes);
+    next.begin(current.first() + current.count());
     let last = mem::replace(current, next);
     full.push_reserved(last);
 }
 
-/// Sees to it that a record of this size fits into the current piece.
-fn make_room(full: &mut Vec<Piece>, current: &mut Piece, spare: &mut Vec<Vec<u8>>, size: usize)
-    requires few { size ≤ RECORD_BYTES }
+/// Sees to it that any record fits into the current piece.
+#[inline(always)]
+fn make_room(full: &mut Vec<Piece>, current: &mut Piece, spare: &mut Vec<Piece>)
     requires ready { (room : ℕ) × IsStore full.old.items current.old spare.old.items (vec_capacity full.old) room
         × (length (records_of full.old.items) + length current.old.records < room) }
     ensures records { records_of full.new.items ++ current.new.records ≡ records_of full.old.items ++ current.old.records }
-    ensures free { size ≤ current.new.free }
+    ensures free { 0 < current.new.free }
     ensures kept { (room : ℕ) → IsStore full.old.items current.old spare.old.items (vec_capacity full.old) room
         → IsStore full.new.items current.new spare.new.items (vec_capacity full.new) room }
 {
-    if current.free() >= size {
-        return;
+    if !current.has_room() {
+        next_piece(full, current, spare);
     }
-    next_piece(full, current, spare);
 }
 
 /// Gets memory for pieces until there is enough for this many.
-fn add_spare(alloc: Global, spare: &mut Vec<Vec<u8>>, wanted: usize) -> Result<(), AllocError>
+fn add_spare(alloc: Global, spare: &mut Vec<Piece>, wanted: usize) -> Result<(), AllocError>
     requires { All IsBlank spare.old.items }
     ensures blank { All IsBlank spare.new.items }
     ensures more { length spare.old.items ≤ length spare.new.items }
@@ -101,8 +98,8 @@ fn add_spare(alloc: Global, spare: &mut Vec<Vec<u8>>, wanted: usize) -> Result<(
 {
     spare.reserve(wanted)?;
     while spare.len() < wanted {
-        let bytes = Vec::with_capacity(alloc, PIECE_BYTES)?;
-        spare.push_reserved(bytes);
+        let piece = Piece::new(alloc)?;
+        spare.push_reserved(piece);
     }
     Ok(())
 }
@@ -113,7 +110,7 @@ fn add_spare(alloc: Global, spare: &mut Vec<Vec<u8>>, wanted: usize) -> Result<(
 pub struct Records {
     full: Vec<Piece>,
     current: Piece,
-    spare: Vec<Vec<u8>>,
+    spare: Vec<Piece>,
     room: usize,
     alloc: Global,
 }
@@ -137,7 +134,7 @@ impl Records {
     {
         Records {
             full: Vec::new(alloc),
-            current: Piece::new(0, Vec::new(alloc)),
+            current: Piece::none(alloc),
             spare: Vec::new(alloc),
             room: 0,
             alloc,
@@ -190,7 +187,7 @@ impl Records {
         if more >= MOST_ASKED || len >= MOST_ASKED - more {
             return Err(AllocError);
         }
-        let here = self.current.free() / RECORD_BYTES;
+        let here = self.current.free();
         if more < here {
             self.room = len + here;
             return Ok(());
@@ -213,13 +210,8 @@ impl Records {
         ensures records { self.new.records ≡ self.old.records ++ words.now ∷ [] }
         ensures room { self.new.room ≡ self.old.room }
     {
-        make_room(
-            &mut self.full,
-            &mut self.current,
-            &mut self.spare,
-            record_len(words),
-        );
-        self.current.push(words);
+        let _few = words.as_slice();
+        self.push_parts(&[], words);
     }
 
     /// Appends the record of a few words and of those after them, for which there is room. It costs less than to put it together before,
@@ -231,30 +223,7 @@ impl Records {
         ensures records { self.new.records ≡ self.old.records ++ (head.now ++ tail.now) ∷ [] }
         ensures room { self.new.room ≡ self.old.room }
     {
-        if !are_small(head) {
-            return self.push_joined(head, tail);
-        }
-        make_room(
-            &mut self.full,
-            &mut self.current,
-            &mut self.spare,
-            parts_len(head, tail),
-        );
-        self.current.push_parts(head, tail);
-    }
-
-    /// `push_parts` where one of the first words takes several bytes.
-    #[cold]
-    #[inline(never)]
-    fn push_joined(&mut self, head: &[u32], tail: &Words<'_>)
-        requires room { length self.old.records < self.old.room }
-        requires few { length head.now + length tail.now ≤ RECORD_WORDS }
-        ensures records { self.new.records ≡ self.old.records ++ (head.now ++ tail.now) ∷ [] }
-        ensures room { self.new.room ≡ self.old.room }
-    {
-        let mut joined = Record::new();
-        joined.push_all(head);
-        joined.append(tail);
-        self.push(&joined.words());
+        make_room(&mut self.full, &mut self.current, &mut self.spare);
+        self.current.push(head, tail);
     }
 }

@@ -1,33 +1,30 @@
 //! Words, one after another.
 ghost use Rattle.std.specs.Prelude.{◌≡◌, ◌+◌, ◌<◌, ◌≤◌, ◌++◌, ◌∷◌, [], length};
-ghost use Rattle.l4_packed.specs.Inside.Bytes.{numbers_code, words_in};
-ghost use Rattle.l4_packed.specs.Inside.Pieces.{AreWords};
-ghost use Rattle.l4_packed.specs.Distances.{distances};
-ghost use Rattle.l4_packed.specs.Words.{word_at};
+ghost use Rattle.l4_packed.specs.Words.{Lends, word_at, words_at};
 
-use crate::bytes::{Bytes, WORDS_BYTES};
-use crate::numbers::{add_number, add_numbers, read_number};
 use std::marker::Model;
 
 /// The greatest number of words of a record: of two lists of 64 words, and of the numbers beside them.
 pub const RECORD_WORDS: usize = 144;
 
-/// The words of one value, or of several that are stored together, as bytes.
+/// The words of one value, or of several that are stored together, in a place of their own. Those that are taken away are not written over
+/// before others take their place: a list of the library writes blanks.
 #[derive(Drop)]
 pub struct Record {
-    bytes: Bytes,
+    cells: [u32; RECORD_WORDS],
+    len: usize,
 }
 
 impl Model for Record {
-    ghost use Rattle.l4_packed.specs.Inside.Bytes.{words_in};
-    ghost use Rattle.l4_packed.specs.Inside.Pieces.{AreWords};
+    ghost use Rattle.std.specs.Prelude.{◌≡◌, ◌≤◌, length, take};
+    ghost use Rattle.l4_packed.specs.Inside.Pieces.{record_words};
     ghost use Rattle.l4_packed.specs.Words.{WordList, word_list};
 
     ghost Value = { WordList };
 
-    ghost view = { λ r. word_list (words_in r.bytes.items) };
+    ghost view = { λ r. word_list (take r.len r.cells) };
 
-    ghost invariant = { λ r. AreWords r.bytes.items };
+    ghost invariant = { λ r. (r.len ≤ record_words) × (length r.cells ≡ record_words) };
 }
 
 impl Record {
@@ -36,86 +33,66 @@ impl Record {
         ensures { result.items ≡ [] }
     {
         Record {
-            bytes: Bytes::new(),
+            cells: [0; RECORD_WORDS],
+            len: 0,
         }
     }
 
     /// Takes all words away.
+    #[inline(always)]
     pub fn clear(&mut self)
         ensures { self.new.items ≡ [] }
     {
-        self.bytes.clear();
+        self.len = 0;
     }
 
     /// Appends a word.
+    #[inline(always)]
     pub fn push(&mut self, word: u32)
         requires { length self.old.items < RECORD_WORDS }
         ensures items { self.new.items ≡ self.old.items ++ word ∷ [] }
     {
-        add_number(&mut self.bytes, word);
+        self.cells[self.len] = word;
+        self.len += 1;
     }
 
-    /// Appends a few words. It costs less than to append one after another, where their number is known as the program is built.
+    /// Appends words.
     #[inline(always)]
     pub fn push_all(&mut self, words: &[u32])
         requires { length self.old.items + length words.now ≤ RECORD_WORDS }
         ensures items { self.new.items ≡ self.old.items ++ words.now }
     {
-        add_numbers(&mut self.bytes, words);
-    }
-
-    /// Appends words, however many.
-    #[inline(always)]
-    pub fn push_each(&mut self, words: &[u32])
-        requires { length self.old.items + length words.now ≤ RECORD_WORDS }
-        ensures items { self.new.items ≡ self.old.items ++ words.now }
-    {
-        self.bytes.push_numbers(words);
-    }
-
-    /// Appends the words behind this one, each by how far it is from that two before it.
-    #[inline(always)]
-    pub fn push_distances(&mut self, first: u32, words: &[u32])
-        requires { length self.old.items + length words.now ≤ RECORD_WORDS }
-        ensures items { self.new.items ≡ self.old.items ++ distances first first words.now }
-    {
-        self.bytes.push_distances(first, words);
-    }
-
-    /// Appends words.
-    pub fn append(&mut self, words: &Words<'_>)
-        requires { length self.old.items + length words.now ≤ RECORD_WORDS }
-        ensures items { self.new.items ≡ self.old.items ++ words.now }
-    {
-        self.bytes.extend(words.bytes());
+        let end = self.len + words.len();
+        self.cells[self.len..end].copy_from_slice(words);
+        self.len = end;
     }
 
     /// The words, to be read.
+    #[inline(always)]
     pub fn words(&self) -> Words<'_>
         ensures { result ≡ self.now.items }
     {
         Words {
-            bytes: self.bytes.as_slice(),
+            words: &self.cells[..self.len],
         }
     }
 }
 
-/// Words that are left to be read. Contracts see them as a list.
+/// Words that are left to be read, no more than a record holds. Contracts see them as a list.
 #[derive(Drop)]
 pub struct Words<'a> {
-    bytes: &'a [u8],
+    words: &'a [u32],
 }
 
 impl<'a> Model for Words<'a> {
-    ghost use Rattle.std.specs.Prelude.{List, ℕ};
-    ghost use Rattle.l4_packed.specs.Inside.Bytes.{words_in};
-    ghost use Rattle.l4_packed.specs.Inside.Pieces.{AreWords};
+    ghost use Rattle.std.specs.Prelude.{List, ℕ, ◌≤◌, length};
+    ghost use Rattle.l4_packed.specs.Inside.Pieces.{record_words};
 
     ghost Value = { List ℕ };
 
-    ghost view = { λ w. words_in w.bytes.now };
+    ghost view = { λ w. w.words.now };
 
-    ghost invariant = { λ w. AreWords w.bytes.now };
+    ghost invariant = { λ w. length w.words.now ≤ record_words };
 }
 
 impl<'a> Words<'a> {
@@ -124,32 +101,47 @@ impl<'a> Words<'a> {
     pub fn none() -> Words<'a>
         ensures { result ≡ [] }
     {
-        Words { bytes: &[] }
+        Words { words: &[] }
     }
 
-    /// The words that these bytes hold.
-    pub(crate) fn of(bytes: &'a [u8]) -> Words<'a>
-        requires { AreWords bytes.now }
-        ensures { result ≡ words_in bytes.now }
+    /// These words.
+    #[inline(always)]
+    pub fn of(words: &'a [u32]) -> Words<'a>
+        requires { length words.now ≤ RECORD_WORDS }
+        ensures { result ≡ words.now }
     {
-        Words { bytes }
+        Words { words }
     }
 
-    /// The bytes of the words.
-    pub(crate) fn bytes(&self) -> &[u8]
-        ensures bytes { result.now ≡ numbers_code self.now }
-        ensures few { (length self.now ≤ RECORD_WORDS) × (length result.now ≤ WORDS_BYTES) }
+    /// The words as they lie.
+    #[inline(always)]
+    pub fn as_slice(&self) -> &[u32]
+        ensures words { result.now ≡ self.now }
+        ensures few { length result.now ≤ RECORD_WORDS }
     {
-        self.bytes
+        self.words
     }
 }
 
 /// The first word, and those after it. None where there is none.
+#[inline(always)]
 pub fn read_word(words: Words<'_>) -> Option<(u32, Words<'_>)>
     ensures { result ≡ word_at words.entry }
 {
-    match read_number(words.bytes) {
-        Some((word, rest)) => Some((word, Words { bytes: rest })),
-        None => None,
+    match words.words {
+        [word, rest @ ..] => Some((*word, Words { words: rest })),
+        [] => None,
     }
+}
+
+/// So many words as they lie, and those after them. None where there are fewer.
+#[inline(always)]
+pub fn read_words(words: Words<'_>, count: usize) -> Option<(&[u32], Words<'_>)>
+    ensures { Lends result (words_at count words.entry) }
+{
+    if words.words.len() < count {
+        return None;
+    }
+    let (front, rest) = words.words.split_at(count);
+    Some((front, Words { words: rest }))
 }

@@ -7,7 +7,7 @@ ghost use Rattle.l4_record.specs.Following.{start_entry, next_entry};
 
 use crate::entries::Entry;
 use crate::packed::write_start;
-use l4_codes::{push_next, push_own_start, put_call};
+use l4_codes::{push_next, push_own_start};
 use l4_ipc::{Answer, Call, NextStep, Outcome};
 use l4_packed::{FromWords, ItemsFrom, PackedList, Record};
 use std::alloc::{AllocError, Global};
@@ -121,9 +121,7 @@ impl History {
         ensures entries { self.new.entries ≡ self.old.entries ++ start_entry number call.now (own_answer ended number) ∷ [] }
         ensures room { (length self.new.entries ≡ length self.old.entries + 1) × (self.new.room ≡ self.old.room) }
     {
-        self.packed.clear();
-        put_call(&mut self.packed, call);
-        push_own_start(&mut self.entries, number, &self.packed.words(), ended);
+        push_own_start(&mut self.entries, &mut self.packed, number, call, ended);
     }
 
     /// The same of any answer.

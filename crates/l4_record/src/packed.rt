@@ -7,26 +7,28 @@ ghost use Rattle.l4_record.specs.Inside.Packing.{own_entry, any_entry, later_ent
 use crate::entries::Entry;
 use arrayvec::ArrayVec;
 use l4_codes::{
-    ANY_FORM, NEXT_FORM, put_answer, put_start, read_answer, read_call, read_next, read_step,
+    ANY_FIELD, ENDED_FIELD, NEXT_FIELD, put_answer, put_head, put_start, read_answer,
+    read_call_behind, read_head, read_next, read_step,
 };
 use l4_ipc::{Answer, Call, NextStep, Outcome, Step};
-use l4_packed::{FromWords, Record, Words, read_word};
+use l4_packed::{FromWords, Record, Words};
 
 /// Writes the entry of the start of a call in the place of what the record holds.
 pub fn write_start(out: &mut Record, number: u32, call: &Call, answer: &Answer)
     ensures { entry_at out.new.items ≡ Some (record { seat = number; step = Start number call.now; answer = answer.now }) }
 {
     out.clear();
-    out.push_all(&[number, ANY_FORM]);
+    put_head(out, ANY_FIELD, number);
     put_answer(out, answer);
     put_start(out, number, call);
 }
 
-/// The entry of the start of a call by the thread of the seat, in which its call ended alone, or none did.
-fn read_own(seat: u32, ended: bool, words: Words<'_>) -> Option<Entry>
-    ensures { result ≡ own_entry ended seat words.entry }
+/// The entry of the start of a call by the thread of the seat, in which its call ended alone, or none did. The first word of the call is told
+/// by the field.
+fn read_own(head: u32, ended: bool, seat: u32, words: Words<'_>) -> Option<Entry>
+    ensures { result ≡ own_entry head ended seat words.entry }
 {
-    let (call, _) = read_call(words)?;
+    let (call, _) = read_call_behind(head, words)?;
     let mut threads = ArrayVec::new();
     if ended {
         threads.push(seat);
@@ -48,25 +50,31 @@ fn read_any(seat: u32, words: Words<'_>) -> Option<Entry>
     Some(Entry { seat, step, answer })
 }
 
-/// The entry of a step that came next, whose form is so far above the first one.
+/// The entry of a step that came next, whose field is so far above the first one.
 fn read_next_entry(form: u32, seat: u32, words: Words<'_>) -> Option<Entry>
     ensures { result ≡ later_entry form seat words.entry }
 {
-    let next = read_next(form, words)?;
+    let next = read_next(form, seat, words)?;
     let step = next.step();
     let answer = next.answer();
     Some(Entry { seat, step, answer })
 }
 
-/// An entry of one of the first forms.
-fn read_formed(form: u32, seat: u32, words: Words<'_>) -> Option<Entry>
-    ensures { result ≡ entry_of form seat words.entry }
+/// The entry of this field and seat.
+#[tactic(auto, unfolding(crate::specs::Inside::Packing::entry_of))]
+fn read_entry(field: u32, seat: u32, words: Words<'_>) -> Option<Entry>
+    ensures { result ≡ entry_of field seat words.entry }
 {
-    match form {
-        0 => read_own(seat, false, words),
-        1 => read_own(seat, true, words),
-        _ => read_any(seat, words),
+    if field < NEXT_FIELD {
+        return read_own(field, false, seat, words);
     }
+    if field < ANY_FIELD {
+        return read_next_entry(field - NEXT_FIELD, seat, words);
+    }
+    if field == ANY_FIELD {
+        return read_any(seat, words);
+    }
+    read_own(field - ENDED_FIELD, true, seat, words)
 }
 
 impl FromWords for Entry {
@@ -74,11 +82,7 @@ impl FromWords for Entry {
 
     #[tactic(auto, unfolding(crate::specs::Inside::Packing::entry_at))]
     fn from_words(words: Words<'_>) -> Option<Entry> {
-        let (seat, rest) = read_word(words)?;
-        let (form, rest) = read_word(rest)?;
-        if form < NEXT_FORM {
-            return read_formed(form, seat, rest);
-        }
-        read_next_entry(form - NEXT_FORM, seat, rest)
+        let (seat, field, rest) = read_head(words)?;
+        read_entry(field, seat, rest)
     }
 }

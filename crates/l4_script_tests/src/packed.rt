@@ -2,14 +2,14 @@ ghost use Rattle.std.specs.Prelude.{◌≡◌, length, Some, true};
 
 use arrayvec::ArrayVec;
 use l4_codes::{
-    push_next, push_own_start, put_answer, put_reply, put_span, put_step, read_answer, read_reply,
-    read_span, read_step,
+    push_next, push_own_start, put_answer, put_head, put_reply, put_span, put_step, read_answer,
+    read_head, read_reply, read_span, read_step,
 };
 use l4_ipc::{
     Answer, Call, Control, Create, FaultCall, IpcCall, IpcReply, MAX_WORDS, NextStep, Outcome,
     Reply, Rights, SetPager, Step, ThreadId, UnmapCall,
 };
-use l4_packed::{FromWords, PackedList, Record, Records, Words, read_word};
+use l4_packed::{FromWords, PackedList, Record, Records, Words, read_word, read_words};
 use std::alloc::AllocError;
 use std::process::Abort;
 use std::test::Fail;
@@ -154,7 +154,7 @@ fn places_are_read_back(rt: HostRuntime) {
 /// More records than a few pieces hold.
 const MANY: u32 = 3000;
 
-/// A record of two words, which take one to five bytes each.
+/// A record of two words.
 fn some_record(number: u32) -> Record {
     let mut out = Record::new();
     out.push(number);
@@ -239,7 +239,6 @@ fn records_are_pushed_in_parts(rt: HostRuntime) -> Result<(), Fail> {
     records.reserve(3)?;
     let tail = two_words();
     records.push_parts(&[7, 0], &tail.words());
-    // a first word that takes several bytes
     records.push_parts(&[0x1_0000, 1], &tail.words());
     records.push_parts(&[5], &Words::none());
     assert!(rt; are_words(records.get(0), &[7, 0, 0xffff_ffff, 9]));
@@ -262,11 +261,29 @@ impl FromWords for Anything {
     }
 }
 
-/// Pushes the start of a call of two words by this thread, for which room is made.
-fn push_start(list: &mut PackedList<Anything>, thread: u32, ended: bool) -> Result<(), AllocError> {
-    let call = two_words();
+/// The call of an Ipc with a message.
+fn ipc(to: u32, from: u32, acceptor: u32, message: &[u32]) -> Call {
+    let mut words = ArrayVec::new();
+    let _ = words.try_extend_from_slice(message);
+    Call::Ipc(IpcCall {
+        to: ThreadId(to),
+        from: ThreadId(from),
+        timeouts: 0,
+        acceptor,
+        words,
+    })
+}
+
+/// Pushes the start of a call by this thread, for which room is made.
+fn push_start(
+    list: &mut PackedList<Anything>,
+    thread: u32,
+    call: &Call,
+    ended: bool,
+) -> Result<(), AllocError> {
+    let mut lent = Record::new();
     list.reserve(1)?;
-    push_own_start(list, thread, &call.words(), ended);
+    push_own_start(list, &mut lent, thread, call, ended);
     Ok(())
 }
 
@@ -281,19 +298,40 @@ fn push_one(
     Ok(())
 }
 
-/// The start of a call by a seat's own thread is the thread's number, 1 where the call ended alone or else 0, and the call.
+/// The start of a call by a seat's own thread begins with the seat above 14 bits, and below it the call's first word, with 8192 more where that
+/// call ended alone. An Ipc's first word is 3, and 64 for each word at its end, 32 for an acceptor, 16 for timeouts, 4 for any sender and 8
+/// for one, 1 for a receiver and 2 for one that stands in a word with the tag's label.
 #[test]
 fn starts_are_pushed(rt: HostRuntime) -> Result<(), Fail> {
     let mut list = PackedList::new(rt.alloc());
-    push_start(&mut list, 3, true)?;
-    push_start(&mut list, 0x1_0003, false)?;
-    assert!(rt; are_words(list.words(0), &[3, 1, 0xffff_ffff, 9]));
-    assert!(rt; are_words(list.words(1), &[0x1_0003, 0, 0xffff_ffff, 9]));
+    // a send of four words under the label 1 to thread 3 of version 1
+    let send = ipc(0xc001, 0, 0, &[0x1_0004, 5, 6, 7, 0xffff_ffff]);
+    push_start(&mut list, 1, &send, false)?;
+    assert!(rt; are_words(list.words(0), &[0x4105, 0x1_0003, 5, 6, 7, 0xffff_ffff]));
+    // a receive from any thread, which ended
+    push_start(&mut list, 3, &ipc(0, 0xffff_ffff, 0, &[]), true)?;
+    assert!(rt; are_words(list.words(1), &[0xe007]));
+    // a receive from thread 2 with an acceptor
+    push_start(&mut list, 3, &ipc(0, 0x8001, 0x10, &[]), false)?;
+    assert!(rt; are_words(list.words(2), &[0xc02b, 0x8001, 0x10]));
     Ok(())
 }
 
-/// A step that came next is a number and a form: 3 for an Expire; for a transfer 4 and the outcome's number, and 6 where the sender's call
-/// ended too. Its threads come after the form.
+/// A tag with a typed item, another version and a number of 2^16 or more leave the receiver and the tag words of their own.
+#[test]
+fn other_sends_are_pushed(rt: HostRuntime) -> Result<(), Fail> {
+    let mut list = PackedList::new(rt.alloc());
+    push_start(&mut list, 1, &ipc(0xc001, 0, 0, &[0x80, 8, 9]), false)?;
+    assert!(rt; are_words(list.words(0), &[0x40c4, 0xc001, 0x80, 8, 9]));
+    push_start(&mut list, 1, &ipc(0xc002, 0, 0, &[0]), false)?;
+    assert!(rt; are_words(list.words(1), &[0x4044, 0xc002, 0]));
+    push_start(&mut list, 1, &ipc(0x4000_0001, 0, 0, &[1, 2]), false)?;
+    assert!(rt; are_words(list.words(2), &[0x4084, 0x4000_0001, 1, 2]));
+    Ok(())
+}
+
+/// A step that came next is 6144 and a form below its seat: 0 for an Expire; for a transfer 1 and the outcome's number, 6 where the sender's
+/// call ended too, and 12 where the sender hasn't the seat. Its threads come behind it, but for a sender that has the seat.
 #[test]
 fn steps_that_came_next_are_pushed(rt: HostRuntime) -> Result<(), Fail> {
     let mut list = PackedList::new(rt.alloc());
@@ -308,8 +346,55 @@ fn steps_that_came_next_are_pushed(rt: HostRuntime) -> Result<(), Fail> {
         NextStep::Transfer(4, 3, Outcome::NoMemory, false),
     )?;
     push_one(&mut list, 2, NextStep::Expire(7))?;
-    assert!(rt; are_words(list.words(0), &[2, 11, 2, 300]));
-    assert!(rt; are_words(list.words(1), &[2, 8, 4, 3]));
-    assert!(rt; are_words(list.words(2), &[2, 3, 7]));
+    assert!(rt; are_words(list.words(0), &[0x9808, 300]));
+    assert!(rt; are_words(list.words(1), &[0x9811, 4, 3]));
+    assert!(rt; are_words(list.words(2), &[0x9800, 7]));
     Ok(())
+}
+
+/// A seat of 2^18 or more and its field are words of their own, behind a word of 14 bits.
+#[test]
+fn great_seats_are_pushed(rt: HostRuntime) -> Result<(), Fail> {
+    let mut list = PackedList::new(rt.alloc());
+    push_one(&mut list, 0x4_0000, NextStep::Expire(7))?;
+    push_start(&mut list, 0x4_0000, &ipc(0, 0xffff_ffff, 0, &[]), false)?;
+    push_one(&mut list, 0x3_ffff, NextStep::Expire(7))?;
+    assert!(rt; are_words(list.words(0), &[0x3fff, 0x4_0000, 0x1800, 7]));
+    assert!(rt; are_words(list.words(1), &[0x3fff, 0x4_0000, 7]));
+    assert!(rt; are_words(list.words(2), &[0xffff_d800, 7]));
+    Ok(())
+}
+
+/// Whether a field and a seat are read as they were written.
+fn is_head(field: u32, seat: u32) -> bool
+    requires { field < 16383 }
+{
+    let mut out = Record::new();
+    put_head(&mut out, field, seat);
+    match read_head(out.words()) {
+        Some((first, second, rest)) => {
+            first == seat && second == field && read_word(rest).is_none()
+        }
+        None => false,
+    }
+}
+
+#[test]
+fn heads_are_read_back(rt: HostRuntime) {
+    assert!(rt; is_head(0, 0));
+    assert!(rt; is_head(0x3ffe, 0x3_ffff));
+    assert!(rt; is_head(0x3ffe, 0x4_0000));
+    assert!(rt; is_head(7, 0xffff_ffff));
+}
+
+/// Words are lent as they lie, where there are so many.
+#[test]
+fn several_words_are_read(rt: HostRuntime) {
+    let words = two_words();
+    assert!(rt; read_words(words.words(), 3).is_none());
+    let read = match read_words(words.words(), 1) {
+        Some((front, rest)) => front == &[0xffff_ffff][..] && are_words(Some(rest), &[9]),
+        None => false,
+    };
+    assert!(rt; read);
 }
