@@ -1,4 +1,4 @@
-ghost use Rattle.std.specs.Prelude.{◌≡◌, length, Some, true};
+ghost use Rattle.std.specs.Prelude.{◌≡◌, ◌<◌, length, Some, true};
 
 use arrayvec::ArrayVec;
 use l4_codes::{
