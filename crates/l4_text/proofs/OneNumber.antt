@@ -1,27 +1,18 @@
 -- The number of a token whose digits were read byte by byte.
-use Rattle.std.proofs.Common.{◌≡◌, ℕ, zero, suc, ◌+◌, ◌-◌, ◌*◌, ◌/◌, ◌%◌, ◌^◌, ◌<◌, ◌≤◌, ◌==◌, ◌&&◌, true, false, not, cond, nat_le, List, [], ◌∷◌, length, get_or, take, drop, filter, Option, Some, None, is_some, option_and_then, sym, ap, ◌∙◌, refl, arith, eqb-true, subst}
-use Rattle.std.proofs.lemmas.Bool.{false≢true, and_parts}
+use Rattle.std.proofs.Common.{◌≡◌, ℕ, zero, suc, ◌+◌, ◌-◌, ◌*◌, ◌/◌, ◌%◌, ◌^◌, ◌<◌, ◌≤◌, ◌==◌, ◌&&◌, true, false, not, cond, nat_le, nat_lt, List, [], ◌∷◌, length, get_or, take, drop, filter, Option, Some, None, is_some, option_and_then, sym, ap, ◌∙◌, refl, arith, eqb-true, subst}
+use Rattle.std.proofs.lemmas.Bool.{false≢true, and_parts, ltb-true}
 use Rattle.std.proofs.lemmas.Bool.Decides.{nat_tests}
-use Rattle.std.proofs.lemmas.List.{take_rest, take_more, length-take-le}
+use Rattle.std.proofs.lemmas.List.{take_rest, length-take-le}
 use Rattle.std.specs.List.{position_or_len}
 use Rattle.l4_text.specs.Numbers.{digit_of, hex_digit_of, value_from, decimal_of, hex_of, is_hex, below, number_of}
 use Rattle.std.specs.List.{slice_split, onto_first}
 use Rattle.l4_text.specs.Tokens.{tokens_of, is_space, has_bytes, FirstNumber}
 use Rattle.l4_text.specs.Inside.Reading.{HasDigits, HasToken, IsPacked, is_no_space}
 use Rattle.l4_text.proofs.Parts.{tokens_cut, tokens_skip, tokens_none}
-use Rattle.l4_text.proofs.Spelled.{value_after, below_all}
+use Rattle.l4_text.proofs.Spelled.{below_all}
 
 not_some : (w : ℕ) → ◌≡◌ {A = Option ℕ} None (Some w) → ⊥
 not_some w h = false≢true (ap is_some h)
-
--- a digit more
-pub value_next : (base : ℕ) (digit : ℕ → Option ℕ) (xs : List ℕ) (i value d other : ℕ) → i < length xs → value_from base digit 0 (take i xs) ≡ Some value
-    → digit (get_or xs i other) ≡ Some d → value_from base digit 0 (take (i + 1) xs) ≡ Some (value * base + d)
-value_next base digit xs i value d other less before here =
-    ap (λ (t : List ℕ). value_from base digit 0 t) (take_more xs i other less)
-    ∙ value_after base 0 digit (take i xs) (get_or xs i other ∷ [])
-    ∙ ap (λ (o : Option ℕ). option_and_then (λ w. value_from base digit w (get_or xs i other ∷ [])) o) before
-    ∙ ap (λ (o : Option ℕ). option_and_then (λ e. Some (value * base + e)) o) here
 
 -- no space stands among digits
 no_space : (base : ℕ) (digit : ℕ → Option ℕ) (v w i : ℕ) (xs : List ℕ) → digit 32 ≡ None → i ≤ length xs → value_from base digit v (take i xs) ≡ Some w
@@ -110,9 +101,60 @@ hex_first (x ∷ y ∷ ys) d e n w two a b has some few =
     subst (λ t. FirstNumber t (Some w) (take (length ys - n) (drop n ys))) (λ i. sym a i ∷ sym b i ∷ ys) cut in
     (omega (arith, own.0), omega (arith, few), own.3, subst (λ t. FirstNumber (x ∷ y ∷ ys) (Some w) t) (sym there) back)
 
+-- a token ends where the first space stands
+ends_at_space : (xs : List ℕ) → position_or_len is_space (drop (position_or_len is_space xs) xs) ≡ 0
+ends_at_space [] = refl
+ends_at_space (x ∷ xs) =
+    elim (x == 32) as (λ b. (x == 32) ≡ b → position_or_len is_space (drop (cond (not b) (1 + position_or_len is_space xs) 0) (x ∷ xs)) ≡ 0) [
+      | true ↦ λ t. ap (λ b. cond (not b) (1 + position_or_len is_space xs) 0) t
+      | false ↦ λ _. let more : 1 + position_or_len is_space xs ≡ suc (position_or_len is_space xs) = omega arith in
+          ap (λ k. position_or_len is_space (drop k (x ∷ xs))) more ∙ ends_at_space xs
+    ] refl
+
+abbrev number_in : Option ℕ → ℕ
+number_in None = 0
+number_in (Some n) = n
+
+below_some : (o : Option ℕ) (w : ℕ) → Some w ≡ below (2 ^ 32) o → (o ≡ Some w) × (w < 2 ^ 32)
+below_some None w h = absurd (not_some w (sym h))
+below_some (Some n) w h =
+    elim (nat_lt n (2 ^ 32)) as (λ b. nat_lt n (2 ^ 32) ≡ b → Some w ≡ cond b (Some n) None → (Some n ≡ Some w) × (w < 2 ^ 32)) [
+      | true ↦ λ t e.
+          let same : w ≡ n = ap number_in e in
+          let less : n < 2 ^ 32 = ltb-true n (2 ^ 32) t in
+          (sym e, omega (arith, same, less))
+      | false ↦ λ _ e. absurd (not_some w (sym e))
+    ] refl h
+
+-- what the digits in front of a space or the end spell
+has_hex : (xs : List ℕ) (n w : ℕ) → n ≤ length xs → position_or_len is_space (drop n xs) ≡ 0 → Some w ≡ below (2 ^ 32) (value_from 16 hex_digit_of 0 (take n xs))
+    → HasDigits 16 hex_digit_of xs n w
+has_hex xs n w le ends is =
+    let some = below_some (value_from 16 hex_digit_of 0 (take n xs)) w is in
+    (le, some.0, ends, some.1)
+
+pub hex_before : (xs : List ℕ) (n w : ℕ) → n ≤ length xs → n ≡ position_or_len is_space xs → Some w ≡ below (2 ^ 32) (value_from 16 hex_digit_of 0 (take n xs))
+    → HasDigits 16 hex_digit_of xs n w
+hex_before xs n w le place is = has_hex xs n w le (ap (λ k. position_or_len is_space (drop k xs)) place ∙ ends_at_space xs) is
+
 space_front : (x : ℕ) (xs : List ℕ) → x ≡ 32 → tokens_of (x ∷ xs) ≡ tokens_of xs
 unfolding tokens_of
 space_front x xs is = ap (λ k. filter has_bytes (cond (k == 32) ([] ∷ slice_split is_space xs) (onto_first k (slice_split is_space xs)))) is
+
+-- a word of eight digits after a space
+pub whole_word_first : (line : List ℕ) (a b c w : ℕ) → 11 ≤ length line → get_or line 0 a ≡ 32 → get_or line 1 b ≡ 48 → get_or line 2 c ≡ 120
+    → position_or_len is_space (take (length line - 11) (drop 11 line)) ≡ 0 → Some w ≡ below (2 ^ 32) (value_from 16 hex_digit_of 0 (take 8 (drop 3 line)))
+    → FirstNumber line (Some w) (take (length line - 11) (drop 11 line))
+whole_word_first [] a b c w long first second third ends is = absurd (omega (arith, long))
+whole_word_first (x ∷ []) a b c w long first second third ends is = absurd (omega (arith, long))
+whole_word_first (x ∷ y ∷ []) a b c w long first second third ends is = absurd (omega (arith, long))
+whole_word_first (x ∷ y ∷ z ∷ ys) a b c w long first second third ends is =
+    let line : List ℕ = x ∷ y ∷ z ∷ ys in
+    let there : take (length line - 11) (drop 8 ys) ≡ take (length ys - 8) (drop 8 ys) = take_rest line 11 ∙ sym (take_rest ys 8) in
+    let has : HasDigits 16 hex_digit_of ys 8 w =
+    has_hex ys 8 w (omega (arith, long)) (ap (λ t. position_or_len is_space t) (sym (take_rest line 11)) ∙ ends) is in
+    let cut : FirstNumber (48 ∷ 120 ∷ ys) (Some w) (take (length ys - 8) (drop 8 ys)) = hex_cut ys 8 w has (omega arith) (omega arith) in
+    (cut.0, space_front x (y ∷ z ∷ ys) first ∙ (λ i. tokens_of (second i ∷ third i ∷ ys)) ∙ cut.1 ∙ ap (λ t. cut.0 ∷ tokens_of t) (sym there), cut.2)
 
 -- the number of the token after a space
 pub packed_after : (line : List ℕ) (a n v : ℕ) → (length line == 0) ≡ false → get_or line 0 a ≡ 32 → HasToken (take (length line - 1) (drop 1 line)) v n

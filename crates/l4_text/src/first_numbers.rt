@@ -1,52 +1,37 @@
-//! The number that a line's first token spells, read in one pass over its bytes.
-ghost use Rattle.std.specs.Prelude.{◌≡◌, ◌<◌, ◌^◌, ◌∷◌, [], Some, MatchOption, IfSome};
-ghost use Rattle.l4_text.specs.Numbers.{digit_of, hex_digit_of};
-ghost use Rattle.l4_text.specs.Tokens.{tokens_of, FirstNumber};
+//! The number that a line's first token spells, read where it stands.
+ghost use Rattle.std.specs.Prelude.{◌≡◌, ◌==◌, ◌<◌, ◌^◌, ◌∷◌, [], Some, MatchOption, IfSome};
+ghost use Rattle.std.specs.List.{position_or_len};
+ghost use Rattle.l4_text.specs.Numbers.{digit_of};
+ghost use Rattle.l4_text.specs.Tokens.{tokens_of, is_space, FirstNumber};
 ghost use Rattle.l4_text.specs.Inside.Reading.{HasDigits, HasToken, IsPacked};
 
-use crate::numbers::{digit, hex_digit, number};
-use crate::tokens::next_token;
+use crate::numbers::{digit, hexadecimal, number};
+use crate::tokens::{next_token, token_len};
 
 /// What stands for a byte beside a number that is packed with a count of bytes.
 const PLACE: u64 = 0x1_0000_0000;
-
-/// The digits of a base up to a space or the end: their number and how many they are. None where another digit follows a
-/// number larger than this. What a digit is says a function that is named, so this is no function.
-macro_rules! leading {
-    ($text:ident, $base:literal, $digit:ident, $most:literal) => {{
-        let mut value = 0u32;
-        let mut count = 0usize;
-        for byte in $text {
-            let Some(next) = $digit(*byte) else {
-                if *byte != b' ' {
-                    return None;
-                }
-                return Some((value, count));
-            };
-            if value > $most {
-                return None;
-            }
-            value = value * $base + u32::from(next);
-            count += 1;
-        }
-        Some((value, count))
-    }};
-}
 
 /// The decimal digits up to a space or the end: their number and how many they are. None where other bytes stand there,
 /// and where the number may be too large.
 fn decimal_digits(text: &[u8]) -> Option<(u32, usize)>
     ensures { IfSome result (λ p. HasDigits 10 digit_of text.now p.1 p.0) }
 {
-    leading!(text, 10, digit, 99_999_999)
-}
-
-/// The hexadecimal digits up to a space or the end: their number and how many they are. None where other bytes stand
-/// there, and where the number may be too large.
-fn hexadecimal_digits(text: &[u8]) -> Option<(u32, usize)>
-    ensures { IfSome result (λ p. HasDigits 16 hex_digit_of text.now p.1 p.0) }
-{
-    leading!(text, 16, hex_digit, 0x0fff_ffff)
+    let mut value = 0u32;
+    let mut count = 0usize;
+    for byte in text {
+        let Some(next) = digit(*byte) else {
+            if *byte != b' ' {
+                return None;
+            }
+            return Some((value, count));
+        };
+        if value > 99_999_999 {
+            return None;
+        }
+        value = value * 10 + u32::from(next);
+        count += 1;
+    }
+    Some((value, count))
 }
 
 /// The number of a decimal token that a text begins with, and how many bytes the token has.
@@ -67,10 +52,12 @@ fn hexadecimal_first(text: &[u8]) -> Option<(u32, usize)>
     if text.len() < 2 || text[0] != b'0' || text[1] != b'x' {
         return None;
     }
-    let (value, count) = hexadecimal_digits(&text[2..])?;
+    let digits = &text[2..];
+    let count = token_len(digits);
     if count == 0 || count > 8 {
         return None;
     }
+    let value = hexadecimal(&digits[..count])?;
     Some((value, count + 2))
 }
 
@@ -138,11 +125,42 @@ pub fn quick_number(line: &[u8]) -> Option<(u32, &[u8])>
     Some(((packed % PLACE) as u32, &line[(packed / PLACE) as usize..]))
 }
 
+/// Whether a token in front of a text ends there: it is empty, or begins with a space.
+#[inline(always)]
+fn ends_token(text: &[u8]) -> bool
+    ensures { result ≡ (position_or_len is_space text.now == 0) }
+{
+    if text.is_empty() {
+        return true;
+    }
+    text[0] == b' '
+}
+
+/// The number of a line's first token, where it is `0x` and eight digits after one space, and what follows the token.
+#[inline(always)]
+fn whole_word(line: &[u8]) -> Option<(u32, &[u8])>
+    ensures { IfSome result (λ p. FirstNumber line.now (Some p.0) p.1.now) }
+{
+    if line.len() < 11 || line[2] != b'x' || line[1] != b'0' || line[0] != b' ' {
+        return None;
+    }
+    let after = &line[11..];
+    if !ends_token(after) {
+        return None;
+    }
+    let value = hexadecimal(&line[3..11])?;
+    Some((value, after))
+}
+
 /// The number that the first token of a line spells, None where it spells none, and what follows the token. None where
 /// there is no token.
+#[inline(always)]
 pub fn next_number(line: &[u8]) -> Option<(Option<u32>, &[u8])>
     ensures { MatchOption result (tokens_of line.now ≡ []) (λ p. FirstNumber line.now p.0 p.1.now) }
 {
+    if let Some((value, after)) = whole_word(line) {
+        return Some((Some(value), after));
+    }
     if line.is_empty() {
         return None;
     }

@@ -1,5 +1,6 @@
-ghost use Rattle.std.specs.Prelude.{◌≡◌, ◌^◌, Some};
-ghost use Rattle.l4_text.specs.Numbers.{digit_of, hex_digit_of, decimal_of, hex_of, below, decimal_number_of, word_of, number_of};
+ghost use Rattle.std.specs.Prelude.{◌≡◌, ◌≤◌, ◌^◌, Some, length};
+ghost use Rattle.l4_text.specs.Numbers.{digit_of, hex_digit_of, value_from, decimal_of, below, decimal_number_of, word_of, number_of};
+ghost use Rattle.l4_text.specs.Inside.Reading.{IsHexDigit};
 
 /// The value of a decimal digit.
 pub(crate) fn digit(byte: u8) -> Option<u8>
@@ -11,70 +12,40 @@ pub(crate) fn digit(byte: u8) -> Option<u8>
     }
 }
 
-/// What stands in the table for a byte that is no digit.
-const NO_DIGIT: u8 = 0xff;
+/// What stands in the table for a byte that is no digit: a bit above those of a word, which stays above them when up to seven digits
+/// follow it.
+const NO_DIGIT: u64 = 0x1_0000_0000;
 
 /// The value of each byte as a hexadecimal digit of either case.
-const HEX_DIGITS: [u8; 256] = [
-    0xff, 0xff, 0xff, 0xff, 0xff, 0xff, 0xff, 0xff, 0xff, 0xff, 0xff, 0xff, 0xff, 0xff, 0xff, 0xff,
-    0xff, 0xff, 0xff, 0xff, 0xff, 0xff, 0xff, 0xff, 0xff, 0xff, 0xff, 0xff, 0xff, 0xff, 0xff, 0xff,
-    0xff, 0xff, 0xff, 0xff, 0xff, 0xff, 0xff, 0xff, 0xff, 0xff, 0xff, 0xff, 0xff, 0xff, 0xff, 0xff,
-    0, 1, 2, 3, 4, 5, 6, 7, 8, 9, 0xff, 0xff, 0xff, 0xff, 0xff, 0xff, 0xff, 10, 11, 12, 13, 14, 15,
-    0xff, 0xff, 0xff, 0xff, 0xff, 0xff, 0xff, 0xff, 0xff, 0xff, 0xff, 0xff, 0xff, 0xff, 0xff, 0xff,
-    0xff, 0xff, 0xff, 0xff, 0xff, 0xff, 0xff, 0xff, 0xff, 0xff, 10, 11, 12, 13, 14, 15, 0xff, 0xff,
-    0xff, 0xff, 0xff, 0xff, 0xff, 0xff, 0xff, 0xff, 0xff, 0xff, 0xff, 0xff, 0xff, 0xff, 0xff, 0xff,
-    0xff, 0xff, 0xff, 0xff, 0xff, 0xff, 0xff, 0xff, 0xff, 0xff, 0xff, 0xff, 0xff, 0xff, 0xff, 0xff,
-    0xff, 0xff, 0xff, 0xff, 0xff, 0xff, 0xff, 0xff, 0xff, 0xff, 0xff, 0xff, 0xff, 0xff, 0xff, 0xff,
-    0xff, 0xff, 0xff, 0xff, 0xff, 0xff, 0xff, 0xff, 0xff, 0xff, 0xff, 0xff, 0xff, 0xff, 0xff, 0xff,
-    0xff, 0xff, 0xff, 0xff, 0xff, 0xff, 0xff, 0xff, 0xff, 0xff, 0xff, 0xff, 0xff, 0xff, 0xff, 0xff,
-    0xff, 0xff, 0xff, 0xff, 0xff, 0xff, 0xff, 0xff, 0xff, 0xff, 0xff, 0xff, 0xff, 0xff, 0xff, 0xff,
-    0xff, 0xff, 0xff, 0xff, 0xff, 0xff, 0xff, 0xff, 0xff, 0xff, 0xff, 0xff, 0xff, 0xff, 0xff, 0xff,
-    0xff, 0xff, 0xff, 0xff, 0xff, 0xff, 0xff, 0xff, 0xff, 0xff, 0xff, 0xff, 0xff, 0xff, 0xff, 0xff,
-    0xff, 0xff, 0xff, 0xff, 0xff, 0xff, 0xff, 0xff, 0xff, 0xff, 0xff, 0xff, 0xff, 0xff, 0xff, 0xff,
-    0xff, 0xff, 0xff, 0xff, 0xff, 0xff, 0xff,
+const HEX_DIGITS: [u64; 256] = [
+    NO_DIGIT, NO_DIGIT, NO_DIGIT, NO_DIGIT, NO_DIGIT, NO_DIGIT, NO_DIGIT, NO_DIGIT, NO_DIGIT,
+    NO_DIGIT, NO_DIGIT, NO_DIGIT, NO_DIGIT, NO_DIGIT, NO_DIGIT, NO_DIGIT, NO_DIGIT, NO_DIGIT,
+    NO_DIGIT, NO_DIGIT, NO_DIGIT, NO_DIGIT, NO_DIGIT, NO_DIGIT, NO_DIGIT, NO_DIGIT, NO_DIGIT,
+    NO_DIGIT, NO_DIGIT, NO_DIGIT, NO_DIGIT, NO_DIGIT, NO_DIGIT, NO_DIGIT, NO_DIGIT, NO_DIGIT,
+    NO_DIGIT, NO_DIGIT, NO_DIGIT, NO_DIGIT, NO_DIGIT, NO_DIGIT, NO_DIGIT, NO_DIGIT, NO_DIGIT,
+    NO_DIGIT, NO_DIGIT, NO_DIGIT, 0, 1, 2, 3, 4, 5, 6, 7, 8, 9, NO_DIGIT, NO_DIGIT, NO_DIGIT,
+    NO_DIGIT, NO_DIGIT, NO_DIGIT, NO_DIGIT, 10, 11, 12, 13, 14, 15, NO_DIGIT, NO_DIGIT, NO_DIGIT,
+    NO_DIGIT, NO_DIGIT, NO_DIGIT, NO_DIGIT, NO_DIGIT, NO_DIGIT, NO_DIGIT, NO_DIGIT, NO_DIGIT,
+    NO_DIGIT, NO_DIGIT, NO_DIGIT, NO_DIGIT, NO_DIGIT, NO_DIGIT, NO_DIGIT, NO_DIGIT, NO_DIGIT,
+    NO_DIGIT, NO_DIGIT, NO_DIGIT, NO_DIGIT, NO_DIGIT, 10, 11, 12, 13, 14, 15, NO_DIGIT, NO_DIGIT,
+    NO_DIGIT, NO_DIGIT, NO_DIGIT, NO_DIGIT, NO_DIGIT, NO_DIGIT, NO_DIGIT, NO_DIGIT, NO_DIGIT,
+    NO_DIGIT, NO_DIGIT, NO_DIGIT, NO_DIGIT, NO_DIGIT, NO_DIGIT, NO_DIGIT, NO_DIGIT, NO_DIGIT,
+    NO_DIGIT, NO_DIGIT, NO_DIGIT, NO_DIGIT, NO_DIGIT, NO_DIGIT, NO_DIGIT, NO_DIGIT, NO_DIGIT,
+    NO_DIGIT, NO_DIGIT, NO_DIGIT, NO_DIGIT, NO_DIGIT, NO_DIGIT, NO_DIGIT, NO_DIGIT, NO_DIGIT,
+    NO_DIGIT, NO_DIGIT, NO_DIGIT, NO_DIGIT, NO_DIGIT, NO_DIGIT, NO_DIGIT, NO_DIGIT, NO_DIGIT,
+    NO_DIGIT, NO_DIGIT, NO_DIGIT, NO_DIGIT, NO_DIGIT, NO_DIGIT, NO_DIGIT, NO_DIGIT, NO_DIGIT,
+    NO_DIGIT, NO_DIGIT, NO_DIGIT, NO_DIGIT, NO_DIGIT, NO_DIGIT, NO_DIGIT, NO_DIGIT, NO_DIGIT,
+    NO_DIGIT, NO_DIGIT, NO_DIGIT, NO_DIGIT, NO_DIGIT, NO_DIGIT, NO_DIGIT, NO_DIGIT, NO_DIGIT,
+    NO_DIGIT, NO_DIGIT, NO_DIGIT, NO_DIGIT, NO_DIGIT, NO_DIGIT, NO_DIGIT, NO_DIGIT, NO_DIGIT,
+    NO_DIGIT, NO_DIGIT, NO_DIGIT, NO_DIGIT, NO_DIGIT, NO_DIGIT, NO_DIGIT, NO_DIGIT, NO_DIGIT,
+    NO_DIGIT, NO_DIGIT, NO_DIGIT, NO_DIGIT, NO_DIGIT, NO_DIGIT, NO_DIGIT, NO_DIGIT, NO_DIGIT,
+    NO_DIGIT, NO_DIGIT, NO_DIGIT, NO_DIGIT, NO_DIGIT, NO_DIGIT, NO_DIGIT, NO_DIGIT, NO_DIGIT,
+    NO_DIGIT, NO_DIGIT, NO_DIGIT, NO_DIGIT, NO_DIGIT, NO_DIGIT, NO_DIGIT, NO_DIGIT, NO_DIGIT,
+    NO_DIGIT, NO_DIGIT, NO_DIGIT, NO_DIGIT, NO_DIGIT, NO_DIGIT, NO_DIGIT, NO_DIGIT, NO_DIGIT,
+    NO_DIGIT, NO_DIGIT, NO_DIGIT, NO_DIGIT, NO_DIGIT, NO_DIGIT, NO_DIGIT, NO_DIGIT, NO_DIGIT,
+    NO_DIGIT, NO_DIGIT, NO_DIGIT, NO_DIGIT, NO_DIGIT, NO_DIGIT, NO_DIGIT, NO_DIGIT, NO_DIGIT,
+    NO_DIGIT, NO_DIGIT, NO_DIGIT, NO_DIGIT, NO_DIGIT, NO_DIGIT, NO_DIGIT,
 ];
-
-/// The value of a hexadecimal digit of either case.
-pub(crate) fn hex_digit(byte: u8) -> Option<u8>
-    ensures { result ≡ hex_digit_of byte }
-{
-    let value = HEX_DIGITS[byte as usize];
-    if value == NO_DIGIT {
-        return None;
-    }
-    Some(value)
-}
-
-/// The number that one to so many digits of a base spell. What a digit is says a function that is named, so this is no function.
-macro_rules! spelled {
-    ($text:ident, $base:literal, $digit:ident, $most:literal) => {{
-        if $text.is_empty() || $text.len() > $most {
-            return None;
-        }
-        let mut value = 0u64;
-        for byte in $text {
-            let next = $digit(*byte)?;
-            value = value * $base + u64::from(next);
-        }
-        Some(value)
-    }};
-}
-
-/// The number that one to ten decimal digits spell, of any size.
-#[tactic(auto, unfolding(crate::specs::Numbers::decimal_of))]
-fn decimal(text: &[u8]) -> Option<u64>
-    ensures { result ≡ decimal_of text.now }
-{
-    spelled!(text, 10, digit, 10)
-}
-
-/// The number that one to eight hexadecimal digits spell.
-#[tactic(auto, unfolding(crate::specs::Numbers::hex_of))]
-fn hexadecimal(text: &[u8]) -> Option<u64>
-    ensures { result ≡ hex_of text.now }
-{
-    spelled!(text, 16, hex_digit, 8)
-}
 
 /// The number, where it is below 2^32.
 fn small(value: u64) -> Option<u32>
@@ -87,6 +58,43 @@ fn small(value: u64) -> Option<u32>
     }
 }
 
+/// The value of a hexadecimal digit of either case, `NO_DIGIT` where the byte is none.
+#[inline(always)]
+fn hex_digit(byte: u8) -> u64
+    ensures { IsHexDigit byte result }
+{
+    HEX_DIGITS[byte as usize]
+}
+
+/// The number that at most eight hexadecimal digits of either case spell. Whether each byte was a digit is asked once, of their sum.
+#[inline(always)]
+pub(crate) fn hexadecimal(digits: &[u8]) -> Option<u32>
+    requires { length digits.now ≤ 8 }
+    ensures { result ≡ below (2 ^ 32) (value_from 16 hex_digit_of 0 digits.now) }
+{
+    let mut value = 0u64;
+    for byte in digits {
+        value = value * 16 + hex_digit(*byte);
+    }
+    small(value)
+}
+
+/// The number that one to ten decimal digits spell, of any size.
+#[tactic(auto, unfolding(crate::specs::Numbers::decimal_of))]
+fn decimal(text: &[u8]) -> Option<u64>
+    ensures { result ≡ decimal_of text.now }
+{
+    if text.is_empty() || text.len() > 10 {
+        return None;
+    }
+    let mut value = 0u64;
+    for byte in text {
+        let next = digit(*byte)?;
+        value = value * 10 + u64::from(next);
+    }
+    Some(value)
+}
+
 /// The number below 2^32 that one to ten decimal digits spell.
 #[tactic(auto, unfolding(crate::specs::Numbers::decimal_number_of))]
 pub fn decimal_number(text: &[u8]) -> Option<u32>
@@ -97,24 +105,24 @@ pub fn decimal_number(text: &[u8]) -> Option<u32>
 }
 
 /// The word that one to eight hexadecimal digits of either case spell.
-#[tactic(auto, unfolding(crate::specs::Numbers::word_of))]
+#[tactic(auto, unfolding(crate::specs::Numbers::word_of, crate::specs::Numbers::hex_of))]
 pub fn word(text: &[u8]) -> Option<u32>
     ensures { result ≡ word_of text.now }
 {
-    let value = hexadecimal(text)?;
-    small(value)
+    if text.is_empty() || text.len() > 8 {
+        return None;
+    }
+    hexadecimal(text)
 }
 
 /// A number: one to ten decimal digits, or `0x` and one to eight hexadecimal digits of either case, below
 /// 2^32.
-#[tactic(auto, unfolding(crate::specs::Numbers::number_of))]
+#[tactic(auto, unfolding(crate::specs::Numbers::number_of, crate::specs::Numbers::word_of, crate::specs::Numbers::decimal_number_of))]
 pub fn number(text: &[u8]) -> Option<u32>
     ensures { result ≡ number_of text.now }
 {
-    let value = if text.len() >= 2 && text[0] == b'0' && text[1] == b'x' {
-        hexadecimal(&text[2..])?
-    } else {
-        decimal(text)?
-    };
-    small(value)
+    if text.len() >= 2 && text[0] == b'0' && text[1] == b'x' {
+        return word(&text[2..]);
+    }
+    decimal_number(text)
 }

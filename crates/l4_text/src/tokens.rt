@@ -26,7 +26,7 @@ pub(crate) fn spaces(line: &[u8]) -> usize
 }
 
 /// How many bytes stand before the first space.
-fn token_len(line: &[u8]) -> usize
+pub(crate) fn token_len(line: &[u8]) -> usize
     ensures value { result ≡ position_or_len is_space line.now }
     ensures within { result ≤ length line.now }
 {

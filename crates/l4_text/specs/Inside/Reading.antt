@@ -1,8 +1,8 @@
 -- How a stream is read, piece by piece (this profile's own).
-use Rattle.std.specs.Prelude.{ℕ, ◌≡◌, ◌≢◌, ◌+◌, ◌-◌, ◌/◌, ◌%◌, ◌==◌, ◌^◌, get_or, ◌<◌, ◌≤◌, Bool, true, false, List, [], length, take, drop, Option, Some, Result, Ok, Err, not, if◌then◌else◌}
+use Rattle.std.specs.Prelude.{ℕ, ◌≡◌, ◌≢◌, ◌+◌, ◌-◌, ◌/◌, ◌%◌, ◌==◌, ◌^◌, get_or, ◌<◌, ◌≤◌, Bool, true, false, List, [], length, take, drop, Option, Some, None, ◌⊎◌, Result, Ok, Err, not, if◌then◌else◌}
 use Rattle.std.specs.Io.KnownBytes.{Consumes, IsAtEnd}
 use Rattle.std.specs.List.{position_or_len}
-use Rattle.l4_text.specs.Numbers.{value_from}
+use Rattle.l4_text.specs.Numbers.{value_from, hex_digit_of}
 use Rattle.l4_text.specs.Tokens.{is_space, FirstNumber}
 use Rattle.l4_text.specs.Sizes.{line_bytes, most_reads}
 use Rattle.l4_text.specs.declared.faults.RunFault.{RunFault}
@@ -37,6 +37,10 @@ pub record Filled (old new : Option (List ℕ)) (before after : List ℕ × ℕ)
   pub more : result ≡ Ok true → Consumes old new after.0 × (0 < length after.0) × (length after.0 ≤ line_bytes) × (after.1 ≡ before.1 + 1) × (after.1 ≤ most_reads)
   pub none : result ≡ Ok false → Consumes old new [] × IsAtEnd new × (after.0 ≡ [])
   pub fault : (e : RunFault) → result ≡ Err e → (e ≡ Read) × Consumes old new [] × (before.0 ≡ [] → after.0 ≡ [])
+
+-- the value of a byte as a hexadecimal digit, or 2^32 where it is none
+abbrev pub IsHexDigit : ℕ → ℕ → Type 0
+IsHexDigit byte value = ((value < 16) × (hex_digit_of byte ≡ Some value)) ⊎ ((value ≡ 2 ^ 32) × (hex_digit_of byte ≡ None))
 
 abbrev pub is_no_space : ℕ → Bool
 is_no_space byte = not (byte == 32)

@@ -1,6 +1,6 @@
 use Rattle.std.proofs.Common.{Some, sym, ap, ◌∙◌, arith}
 use Rattle.l4_text.specs.Numbers.{digit_of}
-use Rattle.l4_text.proofs.OneNumber.{value_next}
+use Rattle.l4_text.proofs.Digits.{value_next}
 use Rattle.l4_text.proofs.first_numbers.decimal_digits.Goals as goal
 
 pub loop-byte-preserved : goal.loop-byte-preserved
