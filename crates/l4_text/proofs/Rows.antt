@@ -5,7 +5,7 @@ use mathlib.Core.List.{append_assoc, append-nil}
 use Rattle.l4_text.specs.Texts.{word_text, words_text}
 
 -- the text of more words follows the text of the first
-words_text-append : (xs ys : List ℕ) → words_text (xs ++ ys) ≡ words_text xs ++ words_text ys
+pub words_text-append : (xs ys : List ℕ) → words_text (xs ++ ys) ≡ words_text xs ++ words_text ys
 words_text-append [] ys = refl
 words_text-append (x ∷ xs) ys = ap (λ t. 32 ∷ (word_text x ++ t)) (words_text-append xs ys) ∙ ap (λ t. 32 ∷ t) (sym (append_assoc (word_text x) (words_text xs) (words_text ys)))
 

@@ -17,6 +17,9 @@ use std::marker::Model;
 /// The most bytes that are held back.
 const MAX_HELD: usize = 16_384;
 
+/// The most words that a text has room for, each after a space.
+const WORDS_IN_TEXT: usize = MAX_TEXT / 9;
+
 /// The bytes that are held back until there are many.
 #[derive(Drop)]
 struct Held {
@@ -267,15 +270,6 @@ impl Output {
         self.push(b'\n');
     }
 
-    /// Tells a word in eight hexadecimal digits of lower case, after a space.
-    fn put_word<W: Write>(&mut self, writer: &mut W, word: u32)
-        ensures { Tells (W.contents writer.old) (W.contents writer.new) self.old self.new (32 ∷ word_text word) }
-    {
-        self.make_room(writer);
-        self.push(b' ');
-        self.add_word(word);
-    }
-
     /// Adds words in eight hexadecimal digits of lower case, each after a space, for which there is room.
     #[inline(always)]
     pub fn add_words(&mut self, row: &[u32])
@@ -289,12 +283,22 @@ impl Output {
         }
     }
 
+    /// Tells words in eight hexadecimal digits of lower case, each after a space, of which a text has room for all.
+    #[inline(always)]
+    fn put_row<W: Write>(&mut self, writer: &mut W, row: &[u32])
+        requires { 9 * length row.now ≤ text_bytes }
+        ensures { Tells (W.contents writer.old) (W.contents writer.new) self.old self.new (words_text row.now) }
+    {
+        self.make_room(writer);
+        self.add_words(row);
+    }
+
     /// Tells words in eight hexadecimal digits of lower case, each after a space.
     pub fn put_words<W: Write>(&mut self, writer: &mut W, words: &[u32])
         ensures { Tells (W.contents writer.old) (W.contents writer.new) self.old self.new (words_text words.now) }
     {
-        for word in words {
-            self.put_word(writer, *word);
+        for row in words.chunks(WORDS_IN_TEXT) {
+            self.put_row(writer, row);
         }
     }
 

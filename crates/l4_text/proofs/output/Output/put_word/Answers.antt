@@ -1,6 +1,0 @@
-use Rattle.l4_text.proofs.Telling.{tells_added, added_more}
-use Rattle.l4_text.proofs.output.Output.put_word.Goals as goal
-
-pub returns : goal.returns
-returns g c =
-    tells_added _ _ _ _ _ _ c.make_room.ensures.told (added_more _ _ _ _ _ c.push.ensures.value c.add_word.ensures.value)
