@@ -1,5 +1,6 @@
 pub mod Digits
 pub mod DigitTable
+pub mod Eight
 pub mod Ended
 pub mod Gone
 pub mod LineSteps

@@ -104,6 +104,15 @@ impl Held {
         self.bytes.extend(bytes);
     }
 
+    /// Holds eight bytes back too.
+    #[inline(always)]
+    fn hold_eight(&mut self, bytes: [u8; 8])
+        requires { length self.old + 8 ≤ held_bytes }
+        ensures { self.new ≡ self.old ++ bytes }
+    {
+        self.bytes.push_eight(bytes);
+    }
+
     /// Writes what is held back. After a write that failed it is dropped.
     fn send<W: Write>(&mut self, writer: &mut W) -> Result<(), RunFault>
         ensures none { self.new ≡ [] }
@@ -251,7 +260,7 @@ impl Output {
         ensures value { self.new ≡ (self.old.0 ++ word_text word, self.old.1) }
         ensures len { length self.new.0 ≡ length self.old.0 + 8 }
     {
-        self.add(&word_digits(word));
+        self.held.hold_eight(word_digits(word));
     }
 
     /// Tells a text.
