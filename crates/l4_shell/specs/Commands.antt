@@ -84,77 +84,6 @@ rights_of token = if length token == 3 then (do
   x ← right_of 120 (slice_index token 2)
   Some (record { r = r; w = w; x = x })) else None
 
--- one token and no more
-abbrev pub one_of : List (List ℕ) → Option (List ℕ)
-one_of [] = None
-one_of (a ∷ []) = Some a
-one_of (a ∷ b ∷ tokens) = None
-
--- two tokens and no more
-abbrev pub two_of : List (List ℕ) → Option (List ℕ × List ℕ)
-two_of [] = None
-two_of (a ∷ []) = None
-two_of (a ∷ b ∷ []) = Some (a, b)
-two_of (a ∷ b ∷ c ∷ tokens) = None
-
--- three tokens and no more
-abbrev pub three_of : List (List ℕ) → Option (List ℕ × (List ℕ × List ℕ))
-three_of [] = None
-three_of (a ∷ []) = None
-three_of (a ∷ b ∷ []) = None
-three_of (a ∷ b ∷ c ∷ []) = Some (a, (b, c))
-three_of (a ∷ b ∷ c ∷ d ∷ tokens) = None
-
--- N SPACE PAGER
-unfoldable pub thread_asked : List (List ℕ) → Option Command
-thread_asked tokens = do
-  three ← three_of tokens
-  number ← thread_of three.0
-  space ← new_space_of three.1.0
-  pager ← nil_or_thread_of three.1.1
-  Some (Thread number space pager)
-
--- N PAGER
-unfoldable pub set_pager_asked : List (List ℕ) → Option Command
-set_pager_asked tokens = do
-  two ← two_of tokens
-  number ← thread_of two.0
-  pager ← nil_or_thread_of two.1
-  Some (SetPager number pager)
-
--- N
-unfoldable pub delete_asked : List (List ℕ) → Option Command
-delete_asked tokens = do
-  token ← one_of tokens
-  number ← thread_of token
-  Some (Delete number)
-
--- N FROM WINDOW
-unfoldable pub receive_asked : List (List ℕ) → Option Command
-receive_asked tokens = do
-  three ← three_of tokens
-  number ← thread_of three.0
-  from ← partner_of three.1.0
-  window ← number_of three.1.1
-  Some (Receive number from window)
-
--- N FIRST COUNT
-unfoldable pub show_asked : List (List ℕ) → Option Command
-show_asked tokens = do
-  three ← three_of tokens
-  number ← thread_of three.0
-  first ← number_of three.1.0
-  count ← number_of three.1.1
-  Some (Show number first count)
-
--- N PAGE
-unfoldable pub parent_asked : List (List ℕ) → Option Command
-parent_asked tokens = do
-  two ← two_of tokens
-  number ← thread_of two.0
-  page ← number_of two.1
-  Some (Parent number page)
-
 -- the numbers that all tokens spell
 abbrev pub numbers_of : List (List ℕ) → Option (List ℕ)
 numbers_of [] = Some []
@@ -164,110 +93,97 @@ numbers_of (token ∷ tokens) = number_of token >>= λ n. numbers_of tokens >>= 
 unfoldable pub words_of : List (List ℕ) → Option (List ℕ)
 words_of tokens = if nat_le (length tokens) max_words then numbers_of tokens else None
 
--- N TO WORD..
-abbrev pub send_asked : List (List ℕ) → Option Command
-send_asked [] = None
-send_asked (number ∷ []) = None
-send_asked (number ∷ to ∷ tokens) = do
-  n ← thread_of number
-  partner ← partner_of to
-  words ← words_of tokens
-  Some (Send n partner words)
+-- TOKENS IN THEIR ORDER
+
+-- what the first token spells, and the tokens after it
+abbrev pub first_by : {A : Type 0} → (List ℕ → Option A) → List (List ℕ) → Option (A × List (List ℕ))
+first_by read [] = None
+first_by read (token ∷ tokens) = read token >>= λ a. Some (a, tokens)
+
+-- one token, and what the tokens after it ask for, given what it spells
+infixr 10 ◌▹◌
+abbrev pub ◌▹◌ : {A B : Type 0} → (List ℕ → Option A) → (A → List (List ℕ) → Option B) → List (List ℕ) → Option B
+(read ▹ asks) tokens = first_by read tokens >>= λ a. asks a.0 a.1
+
+-- no token is left
+abbrev pub no_more : {A : Type 0} → A → List (List ℕ) → Option A
+no_more a [] = Some a
+no_more a (token ∷ tokens) = None
+
+-- what is made of all the tokens that are left
+abbrev pub all_by : {A B : Type 0} → (List (List ℕ) → Option A) → (A → B) → List (List ℕ) → Option B
+all_by read make tokens = read tokens >>= λ a. Some (make a)
+
+-- rights, and no token after them
+abbrev pub last_rights_of : List (List ℕ) → Option RightsSet
+last_rights_of tokens = (rights_of ▹ no_more) tokens
 
 -- SOURCE TARGET COUNT RIGHTS
-abbrev pub region_of : List (List ℕ) → Option Delegated
-region_of [] = None
-region_of (source ∷ tokens) = do
-  three ← three_of tokens
-  s ← number_of source
-  t ← number_of three.0
-  c ← number_of three.1.0
-  rights ← rights_of three.1.1
-  Some (record { source = s; target = t; count = c; rights = rights })
+unfoldable pub region_of : List (List ℕ) → Option Delegated
+region_of tokens = (number_of ▹ λ s. number_of ▹ λ t. number_of ▹ λ c. all_by last_rights_of λ r. record { source = s; target = t; count = c; rights = r }) tokens
 
--- N TO SOURCE TARGET COUNT RIGHTS
-abbrev pub delegate_asked : List (List ℕ) → Option Command
-delegate_asked [] = None
-delegate_asked (number ∷ []) = None
-delegate_asked (number ∷ to ∷ tokens) = do
-  n ← thread_of number
-  partner ← partner_of to
-  region ← region_of tokens
-  Some (Delegate n partner region)
+-- THE COMMANDS
 
--- N TO K SOURCE TARGET COUNT RIGHTS
-abbrev pub part_asked : List (List ℕ) → Option Command
-part_asked [] = None
-part_asked (number ∷ []) = None
-part_asked (number ∷ to ∷ []) = None
-part_asked (number ∷ to ∷ message ∷ tokens) = do
-  n ← thread_of number
-  partner ← partner_of to
-  k ← number_of message
-  region ← region_of tokens
-  Some (Part n partner k region)
+-- N SPACE PAGER
+unfoldable pub thread_asked : List (List ℕ) → Option Command
+thread_asked tokens = (thread_of ▹ λ n. new_space_of ▹ λ space. nil_or_thread_of ▹ λ pager. no_more (Thread n space pager)) tokens
+
+-- N PAGER
+unfoldable pub set_pager_asked : List (List ℕ) → Option Command
+set_pager_asked tokens = (thread_of ▹ λ n. nil_or_thread_of ▹ λ pager. no_more (SetPager n pager)) tokens
+
+-- N
+unfoldable pub delete_asked : List (List ℕ) → Option Command
+delete_asked tokens = (thread_of ▹ λ n. no_more (Delete n)) tokens
+
+-- N FROM WINDOW
+unfoldable pub receive_asked : List (List ℕ) → Option Command
+receive_asked tokens = (thread_of ▹ λ n. partner_of ▹ λ p. number_of ▹ λ window. no_more (Receive n p window)) tokens
+
+-- N TO WORD..
+unfoldable pub send_asked : List (List ℕ) → Option Command
+send_asked tokens = (thread_of ▹ λ n. partner_of ▹ λ to. all_by words_of (Send n to)) tokens
 
 -- N TO FROM TIMEOUTS WINDOW WORD..
-abbrev pub ipc_asked : List (List ℕ) → Option Command
-ipc_asked [] = None
-ipc_asked (number ∷ []) = None
-ipc_asked (number ∷ to ∷ []) = None
-ipc_asked (number ∷ to ∷ «from» ∷ []) = None
-ipc_asked (number ∷ to ∷ «from» ∷ timeouts ∷ []) = None
-ipc_asked (number ∷ to ∷ «from» ∷ timeouts ∷ window ∷ tokens) = do
-  n ← thread_of number
-  receiver ← partner_of to
-  sender ← partner_of «from»
-  t ← number_of timeouts
-  w ← number_of window
-  words ← words_of tokens
-  Some (Ipc n receiver sender t w words)
+unfoldable pub ipc_asked : List (List ℕ) → Option Command
+ipc_asked tokens = (thread_of ▹ λ n. partner_of ▹ λ to. partner_of ▹ λ p. number_of ▹ λ t. number_of ▹ λ window. all_by words_of (Ipc n to p t window)) tokens
+
+-- N TO SOURCE TARGET COUNT RIGHTS
+unfoldable pub delegate_asked : List (List ℕ) → Option Command
+delegate_asked tokens = (thread_of ▹ λ n. partner_of ▹ λ to. all_by region_of (Delegate n to)) tokens
+
+-- N TO K SOURCE TARGET COUNT RIGHTS
+unfoldable pub part_asked : List (List ℕ) → Option Command
+part_asked tokens = (thread_of ▹ λ n. partner_of ▹ λ to. number_of ▹ λ k. all_by region_of (Part n to k)) tokens
 
 -- N CONTROL WORD..
-abbrev pub unmap_asked : List (List ℕ) → Option Command
-unmap_asked [] = None
-unmap_asked (number ∷ []) = None
-unmap_asked (number ∷ control ∷ tokens) = do
-  n ← thread_of number
-  c ← number_of control
-  words ← words_of tokens
-  Some (Unmap n c words)
+unfoldable pub unmap_asked : List (List ℕ) → Option Command
+unmap_asked tokens = (thread_of ▹ λ n. number_of ▹ λ control. all_by words_of (Unmap n control)) tokens
+
+-- N FIRST COUNT
+unfoldable pub show_asked : List (List ℕ) → Option Command
+show_asked tokens = (thread_of ▹ λ n. number_of ▹ λ first. number_of ▹ λ count. no_more (Show n first count)) tokens
+
+-- N PAGE
+unfoldable pub parent_asked : List (List ℕ) → Option Command
+parent_asked tokens = (thread_of ▹ λ n. number_of ▹ λ page. no_more (Parent n page)) tokens
 
 -- N ADDRESS IP RIGHTS
-abbrev pub fault_asked : List (List ℕ) → Option Command
-fault_asked [] = None
-fault_asked (number ∷ tokens) = do
-  three ← three_of tokens
-  n ← thread_of number
-  address ← number_of three.0
-  ip ← number_of three.1.0
-  access ← rights_of three.1.1
-  Some (Fault n (record { address = address; ip = ip; access = access }))
+unfoldable pub fault_asked : List (List ℕ) → Option Command
+fault_asked tokens = (thread_of ▹ λ n. number_of ▹ λ a. number_of ▹ λ ip. all_by last_rights_of λ r. Fault n (record { address = a; ip = ip; access = r })) tokens
 
 -- P FIRST SOURCE COUNT RIGHTS
-abbrev pub region_asked : List (List ℕ) → Option Command
-region_asked [] = None
-region_asked (number ∷ []) = None
-region_asked (number ∷ first ∷ tokens) = do
-  three ← three_of tokens
-  n ← thread_of number
-  f ← number_of first
-  s ← number_of three.0
-  c ← number_of three.1.0
-  rights ← rights_of three.1.1
-  Some (Region n (record { first = f; source = s; count = c; rights = rights }))
+unfoldable pub region_asked : List (List ℕ) → Option Command
+region_asked tokens =
+    (thread_of ▹ λ n. number_of ▹ λ f. number_of ▹ λ s. number_of ▹ λ c. all_by last_rights_of λ r. Region n (record { first = f; source = s; count = c; rights = r })) tokens
 
 -- P
-abbrev pub serve_asked : List (List ℕ) → Option Command
-serve_asked tokens = do
-  token ← one_of tokens
-  number ← thread_of token
-  Some (Serve number)
+unfoldable pub serve_asked : List (List ℕ) → Option Command
+serve_asked tokens = (thread_of ▹ λ n. no_more (Serve n)) tokens
 
--- no more tokens
+-- no tokens
 abbrev pub steps_asked : List (List ℕ) → Option Command
-steps_asked [] = Some Steps
-steps_asked (token ∷ tokens) = None
+steps_asked tokens = no_more Steps tokens
 
 -- the commands of page faults and pagers, and of the history
 abbrev pub pager_command_of : List ℕ → List (List ℕ) → Result Command ScriptFault

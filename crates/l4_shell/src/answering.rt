@@ -10,8 +10,8 @@ ghost use Rattle.l4_shell.specs.Requests.{is_comment, some_command, asked_at, re
 ghost use Rattle.l4_shell.specs.Sessions.{session, AnswersLine};
 
 use crate::commands::{
-    ScriptFault, fault_in_turn, ipc_in_turn, is_fault, is_ipc, is_recv, is_send, other_request,
-    receive_in_turn, send_in_turn,
+    ScriptFault, fault_parts, ipc_parts, is_fault, is_ipc, is_recv, is_send, other_request,
+    receive_parts, send_parts,
 };
 use crate::partners::Partner;
 use crate::refusals::script_code;
@@ -25,25 +25,23 @@ use std::io::Write;
 
 /// Makes the call of a `recv` line in a place. Answers the thread; None where the tokens can't be read, and then what stands in the place means
 /// nothing.
-#[tactic(auto, using(crate::proofs::InTurn::receive_turns))]
 #[inline(always)]
 fn read_receive(line: &[u8], call: &mut Call) -> Option<u32>
     ensures { option_map (λ n. Enter n call.new) result ≡ option_map request_of (receive_asked (tokens_of line.now)) }
 {
-    let (number, from, window) = receive_in_turn(line)?;
+    let (number, from, window) = receive_parts(line)?;
     make_receive(call, from, window);
     Some(number)
 }
 
 /// Makes the call of a `send` line in a place, whose words are read into it, as `read_receive` does.
-#[tactic(auto, using(crate::proofs::InTurn::send_turns))]
 #[inline(always)]
 fn read_send(line: &[u8], call: &mut Call) -> Option<u32>
     ensures { option_map (λ n. Enter n call.new) result ≡ option_map request_of (send_asked (tokens_of line.now)) }
 {
     make_ipc(call);
     if let Call::Ipc(exchange) = call {
-        let (number, to) = send_in_turn(line, &mut exchange.words)?;
+        let (number, to) = send_parts(line, &mut exchange.words)?;
         set_parts(exchange, to, Partner::Nil, 0, 0);
         return Some(number);
     }
@@ -51,14 +49,13 @@ fn read_send(line: &[u8], call: &mut Call) -> Option<u32>
 }
 
 /// Makes the call of an `ipc` line in a place, whose words are read into it, as `read_receive` does.
-#[tactic(auto, using(crate::proofs::InTurn::ipc_turns))]
 #[inline(always)]
 fn read_ipc(line: &[u8], call: &mut Call) -> Option<u32>
     ensures { option_map (λ n. Enter n call.new) result ≡ option_map request_of (ipc_asked (tokens_of line.now)) }
 {
     make_ipc(call);
     if let Call::Ipc(exchange) = call {
-        let (number, to, from, timeouts, window) = ipc_in_turn(line, &mut exchange.words)?;
+        let (number, to, from, timeouts, window) = ipc_parts(line, &mut exchange.words)?;
         set_parts(exchange, to, from, timeouts, window);
         return Some(number);
     }
@@ -66,12 +63,11 @@ fn read_ipc(line: &[u8], call: &mut Call) -> Option<u32>
 }
 
 /// Makes the call of a `fault` line in a place, as `read_receive` does.
-#[tactic(auto, using(crate::proofs::InTurn::fault_turns))]
 #[inline(always)]
 fn read_fault(line: &[u8], call: &mut Call) -> Option<u32>
     ensures { option_map (λ n. Enter n call.new) result ≡ option_map request_of (fault_asked (tokens_of line.now)) }
 {
-    let (number, fault) = fault_in_turn(line)?;
+    let (number, fault) = fault_parts(line)?;
     make_fault(call, fault);
     Some(number)
 }

@@ -1,24 +1,19 @@
 //! What a script line asks for.
 ghost use Rattle.std.specs.Prelude.{◌≡◌, ◌∷◌, false, codes, bytes_eq, option_map};
 ghost use Rattle.l4_text.specs.Tokens.{tokens_of};
-ghost use Rattle.l4_shell.specs.Commands.{Receive, Send, Ipc, Fault, thread_asked, set_pager_asked, delete_asked, show_asked, parent_asked, delegate_asked, part_asked, unmap_asked, region_asked, serve_asked, steps_asked, pager_command_of, words_of, command_of};
+ghost use Rattle.l4_shell.specs.Commands.{Receive, Send, Ipc, Fault, thread_asked, set_pager_asked, delete_asked, receive_asked, send_asked, ipc_asked, fault_asked, show_asked, parent_asked, delegate_asked, part_asked, unmap_asked, region_asked, serve_asked, steps_asked, pager_command_of, words_of, command_of};
 ghost use Rattle.l4_shell.specs.Requests.{request_of};
 ghost use Rattle.l4_shell.specs.Inside.Asking.{requested};
-ghost use Rattle.l4_shell.specs.Inside.InTurn.{receive_in_turn, send_in_turn, ipc_in_turn, fault_in_turn};
 
 use crate::delegations::Which;
-use crate::partners::{
-    Partner, any_or_thread, new_space, next_partner, next_thread, next_word, nil_or_thread,
-    thread_number,
-};
-use crate::regions::{last_rights, region, rights};
+use crate::partners::{Partner, next_pager, next_partner, next_space, next_thread, next_word};
+use crate::regions::{last_rights, region};
 use crate::requests::{ROOT, Request, put_create, put_pager, put_unmap};
-use crate::tokens::{one, three, two};
 use arrayvec::ArrayVec;
 use l4_ipc::{Call, FaultCall};
 use l4_msg::MAX_WORDS;
 use l4_pager::Entry;
-use l4_text::{next_number, next_token, number};
+use l4_text::{next_number, next_token};
 
 /// Why a line can't be read.
 #[derive(Clone, Copy, Debug, PartialEq, Eq)]
@@ -61,11 +56,13 @@ const STEPS: &[u8] = b"steps";
 fn thread<'a>(line: &[u8], call: &'a mut Call) -> Option<Request<'a>>
     ensures { result ≡ option_map request_of (thread_asked (tokens_of line.now)) }
 {
-    let (number, (space, pager)) = three(line)?;
-    let number = thread_number(number)?;
-    let space = new_space(space)?;
-    let pager = nil_or_thread(pager)?;
-    Some(Request::CreateThread(number, put_create(call, number, space, pager)))
+    let (number, rest) = next_thread(line)?;
+    let (space, rest) = next_space(rest)?;
+    let (pager, rest) = next_pager(rest)?;
+    match next_token(rest) {
+        None => Some(Request::CreateThread(number, put_create(call, number, space, pager))),
+        Some(_) => None,
+    }
 }
 
 /// `N PAGER`
@@ -74,10 +71,12 @@ fn thread<'a>(line: &[u8], call: &'a mut Call) -> Option<Request<'a>>
 fn set_pager<'a>(line: &[u8], call: &'a mut Call) -> Option<Request<'a>>
     ensures { result ≡ option_map request_of (set_pager_asked (tokens_of line.now)) }
 {
-    let (number, pager) = two(line)?;
-    let number = thread_number(number)?;
-    let pager = nil_or_thread(pager)?;
-    Some(Request::Enter(ROOT, put_pager(call, number, pager)))
+    let (number, rest) = next_thread(line)?;
+    let (pager, rest) = next_pager(rest)?;
+    match next_token(rest) {
+        None => Some(Request::Enter(ROOT, put_pager(call, number, pager))),
+        Some(_) => None,
+    }
 }
 
 /// `N`
@@ -86,13 +85,17 @@ fn set_pager<'a>(line: &[u8], call: &'a mut Call) -> Option<Request<'a>>
 fn delete(line: &[u8]) -> Option<Request<'static>>
     ensures { result ≡ option_map request_of (delete_asked (tokens_of line.now)) }
 {
-    Some(Request::EndThread(thread_number(one(line)?)?))
+    let (number, rest) = next_thread(line)?;
+    match next_token(rest) {
+        None => Some(Request::EndThread(number)),
+        Some(_) => None,
+    }
 }
 
-/// `N FROM WINDOW`, token by token
-#[tactic(auto, unfolding(crate::specs::Inside::InTurn::receive_in_turn))]
-pub(crate) fn receive_in_turn(line: &[u8]) -> Option<(u32, Partner, u32)>
-    ensures { option_map (λ p. Receive p.0 p.1 p.2) result ≡ receive_in_turn (tokens_of line.now) }
+/// `N FROM WINDOW`
+#[tactic(auto, unfolding(crate::specs::Commands::receive_asked))]
+pub(crate) fn receive_parts(line: &[u8]) -> Option<(u32, Partner, u32)>
+    ensures { option_map (λ p. Receive p.0 p.1 p.2) result ≡ receive_asked (tokens_of line.now) }
 {
     let (number, rest) = next_thread(line)?;
     let (from, rest) = next_partner(rest)?;
@@ -109,8 +112,13 @@ pub(crate) fn receive_in_turn(line: &[u8]) -> Option<(u32, Partner, u32)>
 fn show(line: &[u8]) -> Option<Request<'static>>
     ensures { result ≡ option_map request_of (show_asked (tokens_of line.now)) }
 {
-    let (number_token, (first, count)) = three(line)?;
-    Some(Request::ListPages(thread_number(number_token)?, number(first)?, number(count)?))
+    let (number, rest) = next_thread(line)?;
+    let (first, rest) = next_word(rest)?;
+    let (count, rest) = next_word(rest)?;
+    match next_token(rest) {
+        None => Some(Request::ListPages(number, first, count)),
+        Some(_) => None,
+    }
 }
 
 /// `N PAGE`
@@ -119,8 +127,12 @@ fn show(line: &[u8]) -> Option<Request<'static>>
 fn parent(line: &[u8]) -> Option<Request<'static>>
     ensures { result ≡ option_map request_of (parent_asked (tokens_of line.now)) }
 {
-    let (number_token, page) = two(line)?;
-    Some(Request::TellParent(thread_number(number_token)?, number(page)?))
+    let (number, rest) = next_thread(line)?;
+    let (page, rest) = next_word(rest)?;
+    match next_token(rest) {
+        None => Some(Request::TellParent(number, page)),
+        Some(_) => None,
+    }
 }
 
 /// The numbers to the end of the line, at most as many as there are message registers. They are put into these.
@@ -146,13 +158,13 @@ fn read_words(line: &[u8], words: &mut ArrayVec<u32, MAX_WORDS>) -> Option<()>
     }
 }
 
-/// `N TO WORD..`, token by token
-#[tactic(auto, unfolding(crate::specs::Inside::InTurn::send_in_turn))]
-pub(crate) fn send_in_turn(
+/// `N TO WORD..`
+#[tactic(auto, unfolding(crate::specs::Commands::send_asked))]
+pub(crate) fn send_parts(
     line: &[u8],
     words: &mut ArrayVec<u32, MAX_WORDS>,
 ) -> Option<(u32, Partner)>
-    ensures { option_map (λ p. Send p.0 p.1 words.new.items) result ≡ send_in_turn (tokens_of line.now) }
+    ensures { option_map (λ p. Send p.0 p.1 words.new.items) result ≡ send_asked (tokens_of line.now) }
 {
     let (number, rest) = next_thread(line)?;
     let (to, rest) = next_partner(rest)?;
@@ -161,44 +173,36 @@ pub(crate) fn send_in_turn(
 }
 
 /// `N TO SOURCE TARGET COUNT RIGHTS`
+#[tactic(auto, unfolding(crate::specs::Commands::delegate_asked))]
 #[inline(never)]
 fn delegate(line: &[u8]) -> Option<Request<'static>>
     ensures { result ≡ option_map request_of (delegate_asked (tokens_of line.now)) }
 {
-    let (number_token, rest) = next_token(line)?;
-    let (to, rest) = next_token(rest)?;
-    Some(Request::SendPlan(
-        thread_number(number_token)?,
-        any_or_thread(to)?,
-        Which::Only,
-        region(rest)?,
-    ))
+    let (number, rest) = next_thread(line)?;
+    let (to, rest) = next_partner(rest)?;
+    Some(Request::SendPlan(number, to, Which::Only, region(rest)?))
 }
 
 /// `N TO K SOURCE TARGET COUNT RIGHTS`
+#[tactic(auto, unfolding(crate::specs::Commands::part_asked))]
 #[inline(never)]
 fn part(line: &[u8]) -> Option<Request<'static>>
     ensures { result ≡ option_map request_of (part_asked (tokens_of line.now)) }
 {
-    let (number_token, rest) = next_token(line)?;
-    let (to, rest) = next_token(rest)?;
-    let (message, rest) = next_token(rest)?;
-    Some(Request::SendPlan(
-        thread_number(number_token)?,
-        any_or_thread(to)?,
-        Which::Message(number(message)?),
-        region(rest)?,
-    ))
+    let (number, rest) = next_thread(line)?;
+    let (to, rest) = next_partner(rest)?;
+    let (message, rest) = next_word(rest)?;
+    Some(Request::SendPlan(number, to, Which::Message(message), region(rest)?))
 }
 
-/// `N TO FROM TIMEOUTS WINDOW WORD..`, token by token
-#[tactic(auto, unfolding(crate::specs::Inside::InTurn::ipc_in_turn))]
+/// `N TO FROM TIMEOUTS WINDOW WORD..`
+#[tactic(auto, unfolding(crate::specs::Commands::ipc_asked))]
 #[inline(always)]
-pub(crate) fn ipc_in_turn(
+pub(crate) fn ipc_parts(
     line: &[u8],
     words: &mut ArrayVec<u32, MAX_WORDS>,
 ) -> Option<(u32, Partner, Partner, u32, u32)>
-    ensures { option_map (λ p. Ipc p.0 p.1 p.2 p.3 p.4 words.new.items) result ≡ ipc_in_turn (tokens_of line.now) }
+    ensures { option_map (λ p. Ipc p.0 p.1 p.2 p.3 p.4 words.new.items) result ≡ ipc_asked (tokens_of line.now) }
 {
     let (number, rest) = next_thread(line)?;
     let (to, rest) = next_partner(rest)?;
@@ -210,23 +214,22 @@ pub(crate) fn ipc_in_turn(
 }
 
 /// `N CONTROL WORD..`
+#[tactic(auto, unfolding(crate::specs::Commands::unmap_asked))]
 fn unmap<'a>(line: &[u8], call: &'a mut Call) -> Option<Request<'a>>
     ensures { result ≡ option_map request_of (unmap_asked (tokens_of line.now)) }
 {
-    let (number_token, rest) = next_token(line)?;
-    let (control, rest) = next_token(rest)?;
-    let thread = thread_number(number_token)?;
-    let control = number(control)?;
+    let (number, rest) = next_thread(line)?;
+    let (control, rest) = next_word(rest)?;
     let mut words = ArrayVec::new();
     read_words(rest, &mut words)?;
-    Some(Request::Enter(thread, put_unmap(call, control, words)))
+    Some(Request::Enter(number, put_unmap(call, control, words)))
 }
 
-/// `N ADDRESS IP RIGHTS`, token by token
-#[tactic(auto, unfolding(crate::specs::Inside::InTurn::fault_in_turn))]
+/// `N ADDRESS IP RIGHTS`
+#[tactic(auto, unfolding(crate::specs::Commands::fault_asked))]
 #[inline(always)]
-pub(crate) fn fault_in_turn(line: &[u8]) -> Option<(u32, FaultCall)>
-    ensures { option_map (λ p. Fault p.0 p.1) result ≡ fault_in_turn (tokens_of line.now) }
+pub(crate) fn fault_parts(line: &[u8]) -> Option<(u32, FaultCall)>
+    ensures { option_map (λ p. Fault p.0 p.1) result ≡ fault_asked (tokens_of line.now) }
 {
     let (number, rest) = next_thread(line)?;
     let (address, rest) = next_word(rest)?;
@@ -241,30 +244,36 @@ pub(crate) fn fault_in_turn(line: &[u8]) -> Option<(u32, FaultCall)>
 }
 
 /// `P FIRST SOURCE COUNT RIGHTS`
+#[tactic(auto, unfolding(crate::specs::Commands::region_asked))]
 #[inline(never)]
 fn add_region(line: &[u8]) -> Option<Request<'static>>
     ensures { result ≡ option_map request_of (region_asked (tokens_of line.now)) }
 {
-    let (number_token, rest) = next_token(line)?;
-    let (first, rest) = next_token(rest)?;
-    let (source, (count, access)) = three(rest)?;
-    Some(Request::AddRegion(
-        thread_number(number_token)?,
-        Entry {
-            first: number(first)?,
-            source: number(source)?,
-            count: number(count)?,
-            rights: rights(access)?,
-        },
-    ))
+    let (number, rest) = next_thread(line)?;
+    let (first, rest) = next_word(rest)?;
+    let (source, rest) = next_word(rest)?;
+    let (count, rest) = next_word(rest)?;
+    let rights = last_rights(rest)?;
+    let entry = Entry {
+        first,
+        source,
+        count,
+        rights,
+    };
+    Some(Request::AddRegion(number, entry))
 }
 
 /// `P`
+#[tactic(auto, unfolding(crate::specs::Commands::serve_asked))]
 #[inline(never)]
 fn serve(line: &[u8]) -> Option<Request<'static>>
     ensures { result ≡ option_map request_of (serve_asked (tokens_of line.now)) }
 {
-    Some(Request::ServeThread(thread_number(one(line)?)?))
+    let (number, rest) = next_thread(line)?;
+    match next_token(rest) {
+        None => Some(Request::ServeThread(number)),
+        Some(_) => None,
+    }
 }
 
 /// No tokens

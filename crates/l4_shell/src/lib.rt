@@ -14,7 +14,6 @@ mod seated;
 mod serving;
 mod session;
 mod texts;
-mod tokens;
 
 pub use l4_options::options;
 pub use l4_plan_lines::{check_lines, plan_lines};

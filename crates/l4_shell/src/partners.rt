@@ -2,8 +2,7 @@
 ghost use Rattle.std.specs.Prelude.{◌≡◌, option_map};
 ghost use Rattle.l4_text.specs.Numbers.{number_of};
 ghost use Rattle.l4_text.specs.Tokens.{tokens_of};
-ghost use Rattle.l4_shell.specs.Commands.{thread_of, nil_or_thread_of, partner_of, new_space_of};
-ghost use Rattle.l4_shell.specs.Inside.InTurn.{first_by};
+ghost use Rattle.l4_shell.specs.Commands.{first_by, thread_of, nil_or_thread_of, partner_of, new_space_of};
 
 use l4_text::{next_token, number, quick_number};
 
@@ -32,7 +31,7 @@ const NEW: &[u8] = b"new";
 
 /// A thread's number, below 2^18.
 #[tactic(auto, unfolding(crate::specs::Commands::thread_of))]
-pub(crate) fn thread_number(text: &[u8]) -> Option<u32>
+fn thread_number(text: &[u8]) -> Option<u32>
     ensures { result ≡ thread_of text.now }
 {
     let value = number(text)?;
@@ -41,7 +40,7 @@ pub(crate) fn thread_number(text: &[u8]) -> Option<u32>
 
 /// A thread's number, or the word `nil`.
 #[tactic(auto, unfolding(crate::specs::Commands::nil_or_thread_of))]
-pub(crate) fn nil_or_thread(token: &[u8]) -> Option<Partner>
+fn nil_or_thread(token: &[u8]) -> Option<Partner>
     ensures { result ≡ nil_or_thread_of token.now }
 {
     if token == NIL {
@@ -52,7 +51,7 @@ pub(crate) fn nil_or_thread(token: &[u8]) -> Option<Partner>
 
 /// A thread's number, or one of the words `nil` and `any`.
 #[tactic(auto, unfolding(crate::specs::Commands::partner_of))]
-pub(crate) fn any_or_thread(token: &[u8]) -> Option<Partner>
+fn any_or_thread(token: &[u8]) -> Option<Partner>
     ensures { result ≡ partner_of token.now }
 {
     if token == ANY {
@@ -63,7 +62,7 @@ pub(crate) fn any_or_thread(token: &[u8]) -> Option<Partner>
 
 /// The word `new`, or a thread's number.
 #[tactic(auto, unfolding(crate::specs::Commands::new_space_of))]
-pub(crate) fn new_space(token: &[u8]) -> Option<NewSpace>
+fn new_space(token: &[u8]) -> Option<NewSpace>
     ensures { result ≡ new_space_of token.now }
 {
     if token == NEW {
@@ -112,4 +111,20 @@ pub(crate) fn next_word(line: &[u8]) -> Option<(u32, &[u8])>
     }
     let (token, rest) = next_token(line)?;
     Some((number(token)?, rest))
+}
+
+/// The space of a new thread that a line's first token names, and what follows the token.
+pub(crate) fn next_space(line: &[u8]) -> Option<(NewSpace, &[u8])>
+    ensures { option_map (λ p. (p.0, tokens_of p.1.now)) result ≡ first_by new_space_of (tokens_of line.now) }
+{
+    let (token, rest) = next_token(line)?;
+    Some((new_space(token)?, rest))
+}
+
+/// The pager that a line's first token names, and what follows the token.
+pub(crate) fn next_pager(line: &[u8]) -> Option<(Partner, &[u8])>
+    ensures { option_map (λ p. (p.0, tokens_of p.1.now)) result ≡ first_by nil_or_thread_of (tokens_of line.now) }
+{
+    let (token, rest) = next_token(line)?;
+    Some((nil_or_thread(token)?, rest))
 }

@@ -1,13 +1,12 @@
 //! The regions that tokens name.
 ghost use Rattle.std.specs.Prelude.{◌≡◌};
 ghost use Rattle.l4_text.specs.Tokens.{tokens_of};
-ghost use Rattle.l4_shell.specs.Commands.{right_of, rights_of, region_of};
-ghost use Rattle.l4_shell.specs.Inside.InTurn.{last_rights_of};
+ghost use Rattle.l4_shell.specs.Commands.{right_of, rights_of, last_rights_of, region_of};
 
-use crate::tokens::three;
+use crate::partners::next_word;
 use l4_fpage::Rights;
 use l4_msg::Region;
-use l4_text::{last_three, next_token, number};
+use l4_text::{last_three, next_token};
 
 /// Whether a byte is a right's letter. None where it is neither that nor a dash.
 fn right(letter: u8, byte: u8) -> Option<bool>
@@ -28,7 +27,7 @@ fn rights_with(read: bool, write: bool, execute: bool) -> Rights
 
 /// r, w and x in turn, each of them or a dash in its place.
 #[tactic(auto, unfolding(crate::specs::Commands::rights_of))]
-pub(crate) fn rights(token: &[u8]) -> Option<Rights>
+fn rights(token: &[u8]) -> Option<Rights>
     ensures { result ≡ rights_of token.now }
 {
     if token.len() != 3 {
@@ -57,15 +56,18 @@ pub(crate) fn last_rights(line: &[u8]) -> Option<Rights>
 }
 
 /// `SOURCE TARGET COUNT RIGHTS`
+#[tactic(auto, unfolding(crate::specs::Commands::region_of))]
 pub(crate) fn region(line: &[u8]) -> Option<Region>
     ensures { result ≡ region_of (tokens_of line.now) }
 {
-    let (source, rest) = next_token(line)?;
-    let (target, (count, rights_token)) = three(rest)?;
+    let (source, rest) = next_word(line)?;
+    let (target, rest) = next_word(rest)?;
+    let (count, rest) = next_word(rest)?;
+    let rights = last_rights(rest)?;
     Some(Region {
-        source: number(source)?,
-        target: number(target)?,
-        count: number(count)?,
-        rights: rights(rights_token)?,
+        source,
+        target,
+        count,
+        rights,
     })
 }

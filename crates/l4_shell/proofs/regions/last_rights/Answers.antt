@@ -1,5 +1,5 @@
 use Rattle.std.proofs.Common.{◌∙◌, sym, ap}
-use Rattle.l4_shell.specs.Inside.InTurn.{last_rights_of}
+use Rattle.l4_shell.specs.Commands.{last_rights_of}
 use Rattle.l4_shell.proofs.InTurn.{rights_alone}
 use Rattle.l4_shell.proofs.regions.last_rights.Goals as goal
 
