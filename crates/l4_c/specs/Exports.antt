@@ -2,6 +2,7 @@
 use Rattle.std.specs.Prelude.{◌≡◌, ◌⊎◌, ℕ, ◌<◌, ◌≤◌, List, [], ◌∷◌, length, codes, Option, None, Some, Result, Ok, Err}
 use Rattle.l4_fpage.specs.Pages.{max_frames}
 use Rattle.l4_fpage.specs.declared.sizes.PageSize.{PageSize}
+use Rattle.l4_threads.specs.Sizes.{max_threads}
 use Rattle.l4_ipc.specs.Machine.{Machine, IsBoot}
 use Rattle.l4_ipc.specs.Steps.{Steps, IsNext, IsIdle}
 use Rattle.l4_ipc.specs.declared.calls.Call.{Call}
@@ -59,12 +60,13 @@ noted [] places = places
 noted (done ∷ dones) [] = []
 noted (done ∷ dones) (place ∷ places) = done_result done.step done.answer ∷ noted dones places
 
--- the steps that come next are done until there is none, counted and written down
+-- the steps that come next are done until there is none, at most as many as there may be threads, counted and written down
 pub record Follows (old : Machine) (places : List NextResult) (count : ℕ) (written : List NextResult) (new : Machine) : Type 0 where
   pub dones : List Done
   pub next : AreNext old dones new
   pub idle : IsIdle new
   pub counted : count ≡ length dones
+  pub few : count ≤ max_threads
   pub steps : written ≡ noted dones places
 
 -- The call that is given is started, and then the steps that come next are done until there is none. A refused call changes nothing, and

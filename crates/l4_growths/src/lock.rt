@@ -3,8 +3,9 @@ ghost use Rattle.std.specs.Prelude.{◌≡◌};
 
 use crate::kernel::{create, receive, send};
 use crate::{end_memory, kernel, stop};
-use l4_ipc::{Call, Kernel, PageSize};
-use l4_lock::{Board, History, KernelLock, Locked, Seat, Watch};
+use l4_ipc::{Call, Kernel, PageSize, Refused};
+use l4_lock::{Board, History, KernelLock, LockRefusal, Locked, Seat, Watch};
+use std::alloc::Global;
 use std::io;
 
 const FRAMES: u32 = 8;
@@ -227,14 +228,41 @@ fn refused(rt: &impl Print, told: &str) -> io::Result<bool> {
     Ok(false)
 }
 
-/// Takes a kernel out of a lock that threads may share. Answers whether there was memory for the lock.
+/// Lets a seat of another lock enter a call, which is refused. Answers whether its number was looked for: want of memory comes before.
+fn enter_foreign(rt: &impl Print, locked: &mut Locked, seat: &mut Seat) -> io::Result<bool> {
+    let Err(refusal) = locked.enter(seat, create(3)) else {
+        return Err(stop());
+    };
+    let (told, is_looked_for) = match refusal {
+        LockRefusal::NoMemory => ("refused foreign NoMemory", false),
+        LockRefusal::Kernel(Refused::UnknownThread) => ("done foreign UnknownThread", true),
+        _ => return Err(stop()),
+    };
+    show_parts(rt, told, locked.history(), locked.kernel())?;
+    Ok(is_looked_for)
+}
+
+/// A seat of the root, of a lock of its own.
+fn foreign_seat(alloc: Global) -> Result<Seat, LockRefusal> {
+    let (mut other, _, _) = Locked::new(alloc, FRAMES, PageSize::Kib4, 0)?;
+    other.seat(ROOT)
+}
+
+/// Takes a kernel out of a lock that threads may share, and lets a seat of another lock enter a call. Answers whether there was memory for
+/// the locks.
 fn unlock<R: AllocGlobal + Input + Print>(rt: &R) -> io::Result<bool> {
     let Ok((lock, _watches)) = KernelLock::new(rt.alloc(), FRAMES, PageSize::Kib4, 1) else {
         return refused(rt, "unlock");
     };
+    let Ok(mut seat) = foreign_seat(rt.alloc()) else {
+        return refused(rt, "unlock");
+    };
     end_memory(rt)?;
-    let locked = lock.unlock();
+    let mut locked = lock.unlock();
     show_parts(rt, "done unlock", locked.history(), locked.kernel())?;
+    if !enter_foreign(rt, &mut locked, &mut seat)? && !enter_foreign(rt, &mut locked, &mut seat)? {
+        return Err(stop());
+    }
     Ok(true)
 }
 

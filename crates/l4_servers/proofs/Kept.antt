@@ -13,7 +13,7 @@ use Rattle.std.specs.FinSet as set
 use Rattle.std.proofs.lemmas.Bool.{false≢true}
 use Rattle.l4_sigma0.specs.Owners.{Owners}
 use Rattle.l4_pager.specs.declared.regions.Entry.{Entry}
-use Rattle.l4_servers.specs.Servers.{Servers, servers, regions_of, HasNoTable, is_served, with_region, with_served, without}
+use Rattle.l4_servers.specs.Servers.{Servers, servers, regions_of, HasNoTable, is_served, with_region, with_served, no_longer_served, without}
 use Rattle.l4_pager.specs.Regions.{Regions, no_entries, with_entry}
 
 -- KEYS
@@ -93,10 +93,10 @@ serves s o tables served new n view is = ap (servers o tables) is ∙ ap (λ (x 
 pub same_served : (s : Servers) (o : Owners) (tables : fin.FinMap nat_cmp Regions) (served new : Served) → servers o tables served ≡ s → new ≡ served → servers o tables new ≡ s
 same_served s o tables served new view e = ap (servers o tables) e ∙ view
 
-pub forgets : (s : Servers) (o : Owners) (es new : Tables) (served later : Served) (n : ℕ) → servers o (seen es) served ≡ s
-    → ((q : ℕ) → at q new ≡ cond (is_at (nat_cmp n) q) None (at q es)) → later ≡ set.remove served n → servers o (seen new) later ≡ without s n
-forgets s o es new served later n view h is =
-    ap (λ (t : fin.FinMap nat_cmp Regions). servers o t later) (taken es new n h) ∙ ap (servers o (fin.remove (seen es) n)) is
+pub forgets : (s later : Servers) (o : Owners) (es new : Tables) (served : Served) (n : ℕ) → servers o (seen es) served ≡ s
+    → ((q : ℕ) → at q new ≡ cond (is_at (nat_cmp n) q) None (at q es)) → later ≡ no_longer_served (servers o (seen new) served) n → later ≡ without s n
+forgets s later o es new served n view h is =
+    is ∙ ap (λ (t : fin.FinMap nat_cmp Regions). servers o t (set.remove served n)) (taken es new n h)
     ∙ ap (λ (x : Servers). servers x.owners (fin.remove x.tables n) (set.remove x.served n)) view
 
 -- whom a set does not have is put in and taken out again
@@ -109,9 +109,11 @@ set_as_before s n h = set.same_set nat_cmp_total nat_cmp-IsAntisymmetric _ _ (λ
     set.contains-remove nat_cmp_total (set.insert s n) n q ∙ ap (λ b. not (eq_by_cmp nat_cmp q n) && b) (set.contains-insert nat_cmp_total s n q)
     ∙ put_and_taken (eq_by_cmp nat_cmp q n) (set.contains s q) (λ e. ap (set.contains s) (equal q n e) ∙ h))
 
-pub takes_back : (s before : Servers) (o : Owners) (tables : fin.FinMap nat_cmp Regions) (served new : Served) (n : ℕ) → servers o tables served ≡ s
-    → new ≡ set.remove served n → is_served before n ≡ false → s ≡ with_served before n → servers o tables new ≡ before
-takes_back s before o tables served new n view gone none is =
-    ap (servers o tables) gone
-    ∙ ap (λ (x : Servers). servers x.owners x.tables (set.remove x.served n)) (view ∙ is)
-    ∙ ap (servers before.owners before.tables) (set_as_before before.served n none)
+pub takes_back : (s : Servers) (o : Owners) (tables : fin.FinMap nat_cmp Regions) (served new : Served) (n : ℕ) → servers o tables served ≡ s
+    → new ≡ set.remove served n → servers o tables new ≡ no_longer_served s n
+takes_back s o tables served new n view gone =
+    ap (servers o tables) gone ∙ ap (λ (x : Servers). servers x.owners x.tables (set.remove x.served n)) view
+
+-- who was not served before is so again
+pub as_before : (before : Servers) (n : ℕ) → is_served before n ≡ false → no_longer_served (with_served before n) n ≡ before
+as_before before n none = ap (servers before.owners before.tables) (set_as_before before.served n none)

@@ -45,6 +45,10 @@ with_region s thread entry = servers s.owners (fin.insert s.tables thread (with_
 abbrev pub with_served : Servers → ℕ → Servers
 with_served s thread = servers s.owners s.tables (set.insert s.served thread)
 
+-- the thread is served no longer
+abbrev pub no_longer_served : Servers → ℕ → Servers
+no_longer_served s thread = servers s.owners s.tables (set.remove s.served thread)
+
 -- the thread is served no longer, and has no table
 abbrev pub without : Servers → ℕ → Servers
 without s thread = servers s.owners (fin.remove s.tables thread) (set.remove s.served thread)

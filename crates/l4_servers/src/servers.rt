@@ -68,8 +68,7 @@ ghost use Rattle.l4_servers.specs.Acting.{space_of_sender};
 impl Servers {
     ghost use Rattle.l4_fpage.specs.Pages.{max_frames};
     ghost use Rattle.l4_pager.specs.Regions.{Answers as AnswersByRegion};
-    ghost use Rattle.l4_servers.specs.Servers.{no_servers, regions_of, is_served, with_region, with_served, without, RegionFails};
-    ghost use Rattle.l4_servers.specs.Servers.{Servers as TheServers};
+    ghost use Rattle.l4_servers.specs.Servers.{no_servers, regions_of, is_served, with_region, with_served, no_longer_served, without, RegionFails};
     ghost use Rattle.l4_pager.specs.Regions.{CanAdd};
     ghost use Rattle.std.specs.Prelude.{◌≤◌, false};
     ghost use Rattle.l4_servers.specs.Acting.{NoneReady, IsFirstReady, Answers, Follows};
@@ -130,9 +129,9 @@ impl Servers {
         Ok(begins)
     }
 
-    /// Takes back that a thread is served.
+    /// The thread is served no longer; its table stays. For one that isn't served nothing changes.
     pub fn take_back(&mut self, thread: u32)
-        ensures { (before : TheServers) → is_served before thread ≡ false → self.old ≡ with_served before thread → self.new ≡ before }
+        ensures { self.new ≡ no_longer_served self.old thread }
     {
         self.served.remove(thread);
     }
@@ -142,7 +141,7 @@ impl Servers {
         ensures { self.new ≡ without self.old thread }
     {
         self.tables.remove(&thread);
-        self.served.remove(thread);
+        self.take_back(thread);
     }
 
     /// The served thread that acts next: of the served threads that run the one of the least number. None where no served thread runs.

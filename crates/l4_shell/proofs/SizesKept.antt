@@ -164,7 +164,7 @@ carries_size size old line (ServeThread thread) text new c h = elim c [
     | inr lacks ↦ same_size size old new lacks.lacks.1 h
   ]
 ]
-carries_size size old line TellSteps text new c h = subst (HasSize size) (sym c.3) (record { machine = h.machine; servers = h.servers })
+carries_size size old line TellSteps text new c h = subst (HasSize size) (sym c.4) (record { machine = h.machine; servers = h.servers })
 
 line_size : (size : PageSize) (old : Session) (line : ℕ) (asked : Result (Option Command) ScriptFault) (text : List ℕ) (new : Session) → AnswersLine old line asked text new → HasSize size old → HasSize size new
 line_size size old line (Ok None) text new a h = same_size size old new a.1 h

@@ -1,5 +1,5 @@
 -- What is told of a line's call and of the steps that follow it, and what a script's lines are answered (this profile's own).
-use Rattle.std.specs.Prelude.{◌≡◌, ℕ, ◌+◌, ◌<◌, ◌≤◌, ◌⊎◌, ◌↔◌, Bool, false, List, [], ◌∷◌, ◌++◌, length, Contains, Option, Some, None, Result, Ok, Err, MatchOption, if◌then◌else◌}
+use Rattle.std.specs.Prelude.{◌≡◌, ℕ, ◌+◌, ◌^◌, ◌<◌, ◌≤◌, ◌⊎◌, ◌↔◌, Bool, false, List, [], ◌∷◌, ◌++◌, length, Contains, Option, Some, None, Result, Ok, Err, MatchOption, if◌then◌else◌}
 use Rattle.std.specs.Option.{option_map_or}
 use Rattle.std.specs.List.{flat_map, AllPairs}
 use Rattle.l4_fpage.specs.Pages.{space_pages}
@@ -292,9 +292,9 @@ parent_answer m line thread page =
 -- COUNTS
 
 -- How many entries the history has, as its board shows it: of the number that the board gives at that moment it is known that it is not below the
--- number that it gave before.
+-- number that it gave before, and that a word of 64 bits holds it.
 abbrev pub TellsCount : Session → List ℕ → Session → Type 0
-TellsCount old text new = (count : ℕ) × (old.seen ≤ count) × (text ≡ steps_text count) × (new ≡ record old { seen = count })
+TellsCount old text new = (count : ℕ) × (old.seen ≤ count) × (count < 2 ^ 64) × (text ≡ steps_text count) × (new ≡ record old { seen = count })
 
 -- LINES
 

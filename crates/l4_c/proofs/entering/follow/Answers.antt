@@ -1,4 +1,4 @@
-use Rattle.std.proofs.Common.{sym, subst}
+use Rattle.std.proofs.Common.{arith, sym, subst}
 use Rattle.l4_ipc.proofs.Work.{fewer}
 use Rattle.l4_ipc.specs.Following.{AreNext}
 use Rattle.l4_ipc.specs.Machine.{Machine}
@@ -26,5 +26,6 @@ returns c =
       next = subst (λ (k : Machine). AreNext c.args.kernel.now so_far.dones k) kept so_far.next;
       idle = subst (λ (k : Machine). IsIdle k) kept c.in_default.ensures.0;
       counted = so_far.counted;
+      few = (let few = so_far.few in omega (arith, few));
       steps = so_far.steps;
     }
