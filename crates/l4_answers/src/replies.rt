@@ -174,7 +174,7 @@ fn add_reply_head(out: &mut Output, number: u32, reply: Option<&Reply>)
 }
 
 /// The words of the message that a call brought.
-fn reply_words(reply: Option<&Reply>) -> &[u32]
+pub fn reply_words(reply: Option<&Reply>) -> &[u32]
     ensures { result.now ≡ reply_words (option_copied reply.entry) }
 {
     match reply {

@@ -1,8 +1,14 @@
 //! The texts of answers.
-ghost use Rattle.std.specs.Prelude.{◌≤◌, ◌+◌, length};
+ghost use Rattle.std.specs.Prelude.{◌≡◌, ◌≤◌, ◌+◌, ◌++◌, length, codes, decimal};
+ghost use Rattle.std.specs.Option.{option_copied};
+ghost use Rattle.l4_answers.specs.Refusals.{kernel_refusal};
+ghost use Rattle.l4_answers.specs.Replies.{space, newline, reply_words as words_of};
+ghost use Rattle.l4_text.specs.Texts.{words_text};
+ghost use Rattle.l4_step_lines.specs.Answers.{outcome_name, ipc_name, reply_name, refused_line, ended_line};
+ghost use Rattle.l4_text.specs.Streams.{Tells};
 ghost use Rattle.l4_text.specs.Sizes.{text_bytes};
 
-use l4_answers::{add_code, add_page, add_place, refused_code};
+use l4_answers::{add_code, add_page, add_place, refused_code, reply_words};
 use l4_ipc::{Outcome, Refused, Step};
 use l4_mapdb::Mapping;
 use l4_text::{Output, Text};
@@ -11,7 +17,8 @@ use std::io::Write;
 
 /// What a step did, in a word.
 fn outcome_name(outcome: Outcome) -> &'static [u8]
-    ensures { length result.now ≤ 16 }
+    ensures value { result.now ≡ outcome_name outcome }
+    ensures short { length result.now ≤ 16 }
 {
     match outcome {
         Outcome::Started => b"started",
@@ -23,17 +30,25 @@ fn outcome_name(outcome: Outcome) -> &'static [u8]
     }
 }
 
-/// What a step did.
-pub(crate) fn outcome_text(outcome: Outcome) -> Text {
+/// What a step did, after a mark.
+pub(crate) fn outcome_text(mark: &[u8], outcome: Outcome) -> Text
+    requires { length mark.now ≤ 8 }
+    ensures { result ≡ mark.now ++ outcome_name outcome ++ newline }
+{
     let mut text = Text::new();
+    text.add(mark);
     text.add(outcome_name(outcome));
     text.push(b'\n');
     text
 }
 
-/// `refused CODE`, or `refused CODE I`
-pub(crate) fn refused_text(refused: Refused) -> Text {
+/// `refused CODE`, or `refused CODE I`, after a mark.
+pub(crate) fn refused_text(mark: &[u8], refused: Refused) -> Text
+    requires { length mark.now ≤ 8 }
+    ensures { result ≡ refused_line mark.now (kernel_refusal refused) }
+{
     let mut text = Text::new();
+    text.add(mark);
     text.add(b"refused ");
     add_code(&mut text, &refused_code(refused));
     text.push(b'\n');
@@ -43,7 +58,8 @@ pub(crate) fn refused_text(refused: Refused) -> Text {
 /// Adds `ipc TAG ERROR FROM`, after which the words stand.
 fn add_ipc(text: &mut Text, reply: &IpcReply)
     requires { length text.old + 60 ≤ text_bytes }
-    ensures { length text.new ≤ length text.old + 60 }
+    ensures value { text.new ≡ text.old ++ ipc_name reply.now }
+    ensures len { length text.new ≤ length text.old + 60 }
 {
     text.add(b"ipc ");
     text.add_word(reply.tag);
@@ -56,7 +72,8 @@ fn add_ipc(text: &mut Text, reply: &IpcReply)
 /// Adds `failed CODE`
 fn add_failed(text: &mut Text, code: u32)
     requires { length text.old + 60 ≤ text_bytes }
-    ensures { length text.new ≤ length text.old + 60 }
+    ensures value { text.new ≡ text.old ++ (codes "failed " ++ decimal code) }
+    ensures len { length text.new ≤ length text.old + 60 }
 {
     text.add(b"failed ");
     text.add_number(u64::from(code));
@@ -66,7 +83,8 @@ fn add_failed(text: &mut Text, code: u32)
 fn add_reply(text: &mut Text, reply: Option<&Reply>, word: &[u8])
     requires room { length text.old + 60 ≤ text_bytes }
     requires short { length word.now ≤ 8 }
-    ensures { length text.new ≤ length text.old + 60 }
+    ensures value { text.new ≡ text.old ++ reply_name word.now (option_copied reply.entry) }
+    ensures len { length text.new ≤ length text.old + 60 }
 {
     match reply {
         Some(Reply::Ipc(reply)) => add_ipc(text, reply),
@@ -80,9 +98,13 @@ fn add_reply(text: &mut Text, reply: Option<&Reply>, word: &[u8])
     }
 }
 
-/// How the call of this thread ended, but for the words of its message and the newline. A thread that is gone has no reply.
-pub(crate) fn ended_text(number: u32, reply: Option<&Reply>) -> Text {
+/// How the call of this thread ended, after a mark, but for the words of its message and the newline. A thread that is gone has no reply.
+pub(crate) fn ended_text(mark: &[u8], number: u32, reply: Option<&Reply>) -> Text
+    requires { length mark.now ≤ 8 }
+    ensures { result ≡ mark.now ++ decimal number ++ space ++ reply_name (codes "gone") (option_copied reply.entry) }
+{
     let mut text = Text::new();
+    text.add(mark);
     text.add_number(u64::from(number));
     text.push(b' ');
     add_reply(&mut text, reply, b"gone");
@@ -97,11 +119,28 @@ pub(crate) fn reply_text(reply: Option<&Reply>) -> Text {
 }
 
 /// Tells the words of a reply's message, and the end of the line.
-pub(crate) fn put_rest<W: Write>(reply: Option<&Reply>, out: &mut Output, writer: &mut W) {
-    if let Some(Reply::Ipc(reply)) = reply {
-        out.put_words(writer, reply.words.as_slice());
-    }
+pub(crate) fn put_rest<W: Write>(reply: Option<&Reply>, out: &mut Output, writer: &mut W)
+    ensures { Tells (W.contents writer.old) (W.contents writer.new) out.old out.new
+        (words_text (words_of (option_copied reply.entry)) ++ newline) }
+{
+    out.put_words(writer, reply_words(reply));
     out.end_line(writer);
+}
+
+/// Tells how the call of this thread ended, after a mark.
+pub(crate) fn put_ended<W: Write>(
+    mark: &[u8],
+    number: u32,
+    reply: Option<&Reply>,
+    out: &mut Output,
+    writer: &mut W,
+)
+    requires { length mark.now ≤ 8 }
+    ensures { Tells (W.contents writer.old) (W.contents writer.new) out.old out.new
+        (ended_line mark.now number (option_copied reply.entry)) }
+{
+    out.put(writer, &ended_text(mark, number, reply));
+    put_rest(reply, out, writer);
 }
 
 /// Adds `transfer S R`, `expire N` or `none`

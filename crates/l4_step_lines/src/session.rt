@@ -1,6 +1,13 @@
 //! Lines over a kernel.
+ghost use Rattle.std.specs.Prelude.{◌≡◌, ◌≤◌, length, ℕ, List, Result};
+ghost use Rattle.l4_ipc.specs.declared.steps.Answer.{Answer};
+ghost use Rattle.l4_ipc.specs.declared.steps.Refused.{Refused};
+ghost use Rattle.l4_ipc.specs.Steps.{Steps};
+ghost use Rattle.l4_step_lines.specs.Answers.{ended_lines, answer_lines};
+ghost use Rattle.l4_text.specs.Streams.{Tells};
+
 use crate::answers::{
-    enabled_text, ended_text, outcome_text, page_text, put_rest, refused_text, reply_text,
+    enabled_text, outcome_text, page_text, put_ended, put_rest, refused_text, reply_text,
     space_text,
 };
 use crate::requests::{Request, read_request};
@@ -11,18 +18,42 @@ use l4_text::{Output, next_token};
 use l4_threads::Reply;
 use std::io::Write;
 
-/// Does a step, and tells what it did and how the calls ended that ended in it.
-fn do_step<W: Write>(kernel: &mut Kernel, step: &Step, out: &mut Output, writer: &mut W) {
+/// Tells how the calls of these threads ended, each after a mark.
+fn tell_ended<W: Write>(
+    kernel: &Kernel,
+    numbers: &[u32],
+    mark: &[u8],
+    out: &mut Output,
+    writer: &mut W,
+)
+    requires { length mark.now ≤ 8 }
+    ensures { Tells (W.contents writer.old) (W.contents writer.new) out.old out.new
+        (ended_lines mark.now numbers.now kernel.now) }
+{
+    for number in numbers {
+        put_ended(mark, *number, kernel.reply(*number), out, writer);
+    }
+}
+
+/// Does a step, and tells what it did and how the calls ended that ended in it, or why it is refused: each line after a mark of at most
+/// eight bytes.
+pub fn do_step<W: Write>(
+    kernel: &mut Kernel,
+    step: &Step,
+    mark: &[u8],
+    out: &mut Output,
+    writer: &mut W,
+)
+    requires { length mark.now ≤ 8 }
+    ensures { (answer : Result Answer Refused) × Steps kernel.old step.now answer kernel.new
+        × Tells (W.contents writer.old) (W.contents writer.new) out.old out.new (answer_lines mark.now answer kernel.new) }
+{
     let answer = match kernel.step(step) {
         Ok(answer) => answer,
-        Err(refused) => return out.put(writer, &refused_text(refused)),
+        Err(refused) => return out.put(writer, &refused_text(mark, refused)),
     };
-    out.put(writer, &outcome_text(answer.outcome));
-    for number in answer.ended.as_slice() {
-        let reply = kernel.reply(*number);
-        out.put(writer, &ended_text(*number, reply));
-        put_rest(reply, out, writer);
-    }
+    out.put(writer, &outcome_text(mark, answer.outcome));
+    tell_ended(kernel, answer.ended.as_slice(), mark, out, writer);
 }
 
 /// Lists the present pages of a space.
@@ -52,7 +83,7 @@ fn tell_reply<W: Write>(reply: Option<&Reply>, out: &mut Output, writer: &mut W)
 /// Does or answers what a line asks for.
 fn answer<W: Write>(kernel: &mut Kernel, request: Request, out: &mut Output, writer: &mut W) {
     match request {
-        Request::Do(step) => do_step(kernel, &step, out, writer),
+        Request::Do(step) => do_step(kernel, &step, b"", out, writer),
         Request::Enabled => out.put(writer, &enabled_text(kernel.enabled().as_ref())),
         Request::Reply(thread) => tell_reply(kernel.reply(thread), out, writer),
         Request::Space(thread) => out.put(writer, &space_text(kernel.space_of(thread))),

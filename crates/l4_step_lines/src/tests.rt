@@ -44,7 +44,7 @@ fn spells_every_answer(rt: HostRuntime) -> Result<(), Fail> {
         (Outcome::NoMemory, b"no-memory\n"),
         (Outcome::Expired, b"expired\n"),
     ] {
-        assert!(rt; outcome_text(outcome).as_slice() == text);
+        assert!(rt; outcome_text(b"", outcome).as_slice() == text);
     }
     assert!(rt;
         enabled_text(Some(&Step::Expire(63))).as_slice() == b"enabled expire 63\n".as_slice()
@@ -56,9 +56,9 @@ fn spells_every_answer(rt: HostRuntime) -> Result<(), Fail> {
         (Reply::Unmapped, b"7 unmapped"),
         (Reply::Gone, b"7 gone"),
     ] {
-        assert!(rt; ended_text(7, Some(&reply)).as_slice() == text);
+        assert!(rt; ended_text(b"", 7, Some(&reply)).as_slice() == text);
     }
-    assert!(rt; ended_text(7, None).as_slice() == b"7 gone".as_slice());
+    assert!(rt; ended_text(b"", 7, None).as_slice() == b"7 gone".as_slice());
     let reply = Reply::Ipc(IpcReply {
         tag: 0xfedc_ba98,
         error: 9,
@@ -66,7 +66,8 @@ fn spells_every_answer(rt: HostRuntime) -> Result<(), Fail> {
         words: ArrayVec::new(),
     });
     assert!(rt;
-        ended_text(262_143, Some(&reply)).as_slice() == b"262143 ipc fedcba98 9 01234567".as_slice()
+        ended_text(b"", 262_143, Some(&reply)).as_slice()
+            == b"262143 ipc fedcba98 9 01234567".as_slice()
     );
     Ok(())
 }
