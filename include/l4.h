@@ -1,5 +1,6 @@
 /*
- * An L4 X.2 kernel core in user space, for C99 and C++. Link with the one archive libl4.a (pkg-config --cflags --libs l4).
+ * An L4 X.2 kernel core in user space, for C99 and C++. Link with the one archive libl4.a (pkg-config --cflags --libs l4), or with the
+ * shared library libl4.so.
  *
  * WHAT EACH CALL OWES AND IS OWED
  *

@@ -1,77 +1,83 @@
 #!/usr/bin/env python3
-"""Links the shared object that the package l4 loads from the archive libl4.a, and builds the package for pip.
+"""Puts the shared library that the package l4 loads beside its modules, and builds the package for pip.
 
-The archive is the one of the folder that L4_LIB_DIR names, or else where pkg-config has it.
+The library is libl4.so of the folder that L4_LIB_DIR names, or else where pkg-config has it, as `make install-library` leaves both.
 """
 import argparse
+import ast
 import base64
 import hashlib
 import os
 import re
+import shutil
 import subprocess
 import sys
 import sysconfig
-import tempfile
 import zipfile
 from pathlib import Path
 from typing import Any, Dict, List, Optional
 
 HERE = Path(__file__).resolve().parent
-
-# the names that the shared object shows
-SHOWN = "{ global: l4_*; local: *; };\n"
+GET = "make install-library PREFIX=.. builds it; then set L4_LIB_DIR to PREFIX/lib, or PKG_CONFIG_PATH to PREFIX/lib/pkgconfig"
 
 
 class Unbuilt(Exception):
-    """Why there is no shared object."""
+    """Why there is no shared library, and how to get it."""
 
 
-def run(words: List[str]) -> str:
-    """What the command writes; Unbuilt where it fails."""
+def asked() -> str:
+    """The folder that pkg-config names for the library l4."""
+    program = os.environ.get("PKG_CONFIG", "pkg-config")
     try:
-        done = subprocess.run(words, stdout=subprocess.PIPE, stderr=subprocess.PIPE, text=True)
+        done = subprocess.run([program, "--variable=libdir", "l4"], stdout=subprocess.PIPE, stderr=subprocess.DEVNULL, text=True)
     except OSError as fault:
-        raise Unbuilt(f"{words[0]} could not be run: {fault.strerror}") from fault
+        raise Unbuilt(f"{program} can't be run ({fault.strerror}), and L4_LIB_DIR names no folder. Install pkg-config, or set L4_LIB_DIR. {GET}") from fault
     if done.returncode:
-        raise Unbuilt(f"{words[0]}: {done.stderr.strip()}")
-    return done.stdout
+        raise Unbuilt(f"{program} knows no library l4, and L4_LIB_DIR names no folder. {GET}")
+    return done.stdout.strip()
 
 
-def find_archive() -> Path:
-    """Where the archive is."""
-    folder = os.environ.get("L4_LIB_DIR")
-    if not folder:
-        folder = run([os.environ.get("PKG_CONFIG", "pkg-config"), "--variable=libdir", "l4"]).strip()
-    archive = Path(folder) / "libl4.a"
-    if not archive.is_file():
-        raise Unbuilt(f"{folder} has no libl4.a")
-    return archive
+def find_library() -> Path:
+    """Where the shared library is."""
+    folder = os.environ.get("L4_LIB_DIR") or asked()
+    library = Path(folder) / "libl4.so"
+    if not library.is_file():
+        raise Unbuilt(f"{folder} has no libl4.so. {GET}")
+    return library
 
 
-def link(archive: Path, output: Path) -> None:
-    """Links all of the archive into a shared object."""
-    with tempfile.TemporaryDirectory() as folder:
-        shown = Path(folder) / "shown"
-        shown.write_text(SHOWN)
-        whole = ["-Wl,--whole-archive", str(archive), "-Wl,--no-whole-archive"]
-        run([os.environ.get("CC", "cc"), "-shared", "-o", str(output), f"-Wl,--version-script={shown}", *whole])
-
-
-def project(name: str) -> str:
-    """What pyproject.toml says of the project under this name."""
-    found = re.search(rf'^{name} = "(.*)"$', (HERE / "pyproject.toml").read_text(), re.MULTILINE)
+def project(name: str) -> Any:
+    """What pyproject.toml says of the project under this name: a text, or a list of texts."""
+    found = re.search(rf'^{name} = (".*"|\[[^\]]*\])$', (HERE / "pyproject.toml").read_text(), re.MULTILINE)
     if not found:
         raise Unbuilt(f"pyproject.toml has no {name}")
-    return found.group(1)
+    return ast.literal_eval(found.group(1))
+
+
+def platform_tag(library: bytes) -> str:
+    """The platform that a wheel with this library is for: each Linux of its processor whose glibc has all that the library asks for, where
+    that library is all that it needs (PEP 600), and else this machine's."""
+    own = re.sub("[-.]", "_", sysconfig.get_platform())
+    needed = set(re.findall(rb"\0((?:lib|ld-)[\w.+-]*\.so[.\d]*)(?=\0)", library))
+    versions = [int(minor) for minor in re.findall(rb"\0GLIBC_2\.(\d+)", library)]
+    if own.startswith("linux_") and versions and needed <= {b"libl4.so.0", b"libc.so.6", b"ld-linux-x86-64.so.2", b"ld-linux-aarch64.so.1"}:
+        return f"manylinux_2_{max(5, *versions)}_{own[len('linux_'):]}"
+    return own
 
 
 def package() -> Dict[str, bytes]:
-    """The files of the package, with the shared object."""
-    with tempfile.TemporaryDirectory() as folder:
-        shared = Path(folder) / "libl4.so"
-        link(find_archive(), shared)
-        sources = [*(HERE / "l4").glob("*.py"), HERE / "l4" / "py.typed", shared]
-        return {f"l4/{file.name}": file.read_bytes() for file in sorted(sources)}
+    """The files of the package, with the shared library."""
+    sources = [file for file in sorted((HERE / "l4").rglob("*")) if file.suffix in (".py", ".typed", ".html", ".css", ".js")]
+    files = {str(file.relative_to(HERE)): file.read_bytes() for file in sources}
+    return {**files, "l4/libl4.so": find_library().read_bytes()}
+
+
+def metadata() -> str:
+    """What the wheel says of the package."""
+    fields = [("Metadata-Version", "2.1"), ("Name", project("name")), ("Version", project("version")), ("Summary", project("description"))]
+    fields += [("Requires-Python", project("requires-python")), ("Keywords", ",".join(project("keywords")))]
+    fields += [*(("Classifier", name) for name in project("classifiers")), ("Description-Content-Type", "text/markdown")]
+    return "".join(f"{field}: {value}\n" for field, value in fields) + "\n" + (HERE / project("readme")).read_text()
 
 
 def digest(data: bytes) -> str:
@@ -79,15 +85,11 @@ def digest(data: bytes) -> str:
 
 
 def build_wheel(wheel_directory: str, config_settings: Any = None, metadata_directory: Any = None) -> str:
-    """Writes the package with the shared object as a wheel, as pip asks for it (PEP 517), and gives the file's name."""
-    name = f"{project('name')}-{project('version')}"
-    tag = "py3-none-" + re.sub("[-.]", "_", sysconfig.get_platform())
-    metadata = {"Metadata-Version": "2.1", "Name": project("name"), "Version": project("version")}
-    metadata.update({"Summary": project("description"), "Requires-Python": project("requires-python")})
-    wheel = {"Wheel-Version": "1.0", "Generator": "l4", "Root-Is-Purelib": "false", "Tag": tag}
-    files = package()
-    for file, fields in (("METADATA", metadata), ("WHEEL", wheel)):
-        files[f"{name}.dist-info/{file}"] = "".join(f"{field}: {value}\n" for field, value in fields.items()).encode()
+    """Writes the package with the shared library as a wheel, as pip asks for it (PEP 517), and gives the file's name."""
+    name, files = f"{project('name')}-{project('version')}", package()
+    tag = f"py3-none-{platform_tag(files['l4/libl4.so'])}"
+    files[f"{name}.dist-info/METADATA"] = metadata().encode()
+    files[f"{name}.dist-info/WHEEL"] = f"Wheel-Version: 1.0\nGenerator: l4\nRoot-Is-Purelib: false\nTag: {tag}\n".encode()
     record = [f"{file},sha256={digest(data)},{len(data)}\n" for file, data in files.items()]
     files[f"{name}.dist-info/RECORD"] = "".join([*record, f"{name}.dist-info/RECORD,,\n"]).encode()
     with zipfile.ZipFile(Path(wheel_directory) / f"{name}-{tag}.whl", "w", zipfile.ZIP_DEFLATED) as out:
@@ -97,13 +99,12 @@ def build_wheel(wheel_directory: str, config_settings: Any = None, metadata_dire
 
 
 def main(words: Optional[List[str]] = None) -> int:
-    parser = argparse.ArgumentParser(description="Links libl4.so from libl4.a.")
-    parser.add_argument("--archive", type=Path, help="the archive, if it is not to be looked for")
-    parser.add_argument("--output", type=Path, default=HERE / "l4" / "libl4.so", help="the shared object [default: %(default)s]")
+    parser = argparse.ArgumentParser(description="Puts libl4.so beside the modules of the package.")
+    parser.add_argument("--output", type=Path, default=HERE / "l4" / "libl4.so", help="where it is put [default: %(default)s]")
     options = parser.parse_args(words)
     try:
-        link(options.archive or find_archive(), options.output)
-    except Unbuilt as why:
+        shutil.copyfile(find_library(), options.output)
+    except (Unbuilt, OSError) as why:
         print(f"error: {why}", file=sys.stderr)
         return 1
     return 0

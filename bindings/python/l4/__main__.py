@@ -35,9 +35,9 @@ def run(options: argparse.Namespace) -> None:
             if options.command == "steps":
                 print(line)
         if options.command == "tree":
-            sys.stdout.write(draw.frame(kernel, options.frame))
+            sys.stdout.write(str(draw.frame(kernel, options.frame)))
         if options.command == "space":
-            sys.stdout.write(draw.space(kernel, options.space))
+            sys.stdout.write(str(draw.space(kernel, options.space)))
 
 
 def main(words: Optional[List[str]] = None) -> int:

@@ -1,4 +1,4 @@
-"""The functions of the C header, over the shared object libl4.so.
+"""The functions of the C header, over the shared library libl4.so.
 
 The structs, constants and functions are laid out by hand; tests/bindings compares them with what a C compiler reads in include/l4.h.
 """
@@ -252,12 +252,12 @@ FUNCTIONS: Dict[str, Tuple[Any, List[Any]]] = {
 
 
 def load() -> ctypes.CDLL:
-    """The shared object that L4_LIBRARY names, or else the one beside this file."""
+    """The shared library that L4_LIBRARY names, or else the one beside this file."""
     file = os.environ.get("L4_LIBRARY") or str(Path(__file__).resolve().parent / "libl4.so")
     try:
         shared = ctypes.CDLL(file)
     except OSError as fault:
-        raise ImportError(f"{file} can't be loaded: {fault}. build.py links it, and L4_LIBRARY names another") from fault
+        raise ImportError(f"{file} can't be loaded: {fault}. build.py puts it there, and L4_LIBRARY names another") from fault
     for name, (result, parameters) in FUNCTIONS.items():
         function = getattr(shared, name)
         function.restype = result
@@ -295,9 +295,19 @@ if hasattr(os, "register_at_fork"):
 
 def number(value: int, what: str, bits: int = 32) -> int:
     """The value, which the library takes as it is: ctypes would cut off what is above these bits."""
-    value = operator.index(value)
+    try:
+        value = operator.index(value)
+    except TypeError:
+        raise TypeError(f"{what} is a number: {value!r}") from None
     if not 0 <= value < 1 << bits:
         raise ValueError(f"{what} has {bits} bits: {value}")
+    return value
+
+
+def of_type(value: Any, kind: type, what: str) -> Any:
+    """The value; TypeError where it isn't of this type."""
+    if not isinstance(value, kind):
+        raise TypeError(f"{what} is a {kind.__name__}: {value!r}")
     return value
 
 

@@ -1,39 +1,149 @@
-"""Mappings as DOT text, which Graphviz draws: a node for each mapping, with its space, page and rights, and an edge from parent to child."""
+"""Drawings of mappings: trees as DOT text, which Graphviz draws, or as SVG, which notebooks show, and tables as HTML."""
 from __future__ import annotations
 
-from typing import Dict, Iterable, List
+from dataclasses import dataclass
+from typing import Dict, List, Tuple
 
+from ._shown import table
 from .kernel import Kernel, Mapping, Place
+
+#: The greatest number of mappings that are drawn as SVG, or stand in a table.
+MOST_SHOWN = 256
+
+# of a box in SVG, and of the room between two
+_WIDTH, _HEIGHT, _GAP, _DROP = 104, 66, 12, 30
+
+
+@dataclass(frozen=True)
+class Tree:
+    """Mappings, each below the one that it was mapped from.
+
+    `str` gives it as DOT text. A notebook shows it as SVG; of more than 256 mappings that has the first.
+    """
+
+    name: str
+    mappings: Tuple[Mapping, ...]
+    #: Mappings of other spaces, which are drawn with dashed lines.
+    beside: Tuple[Mapping, ...] = ()
+
+    def __str__(self) -> str:
+        nodes = [*(_node(mapping, ", style=dashed") for mapping in self.beside), *map(_node, self.mappings)]
+        edges = [f"    {_name(mapping.parent)} -> {_name(mapping.place)};" for mapping in self.mappings if mapping.parent]
+        return "\n".join([f"digraph {self.name} {{", "    node [shape=box];", *nodes, *edges, "}"]) + "\n"
+
+    def svg(self) -> str:
+        """The tree as SVG. Each box has the attributes `data-space` and `data-page`."""
+        everything, aside = (*self.beside, *self.mappings), {mapping.place for mapping in self.beside}
+        shown = {mapping.place: mapping for mapping in everything[:MOST_SHOWN]}
+        spots = _spots(shown)
+        edges = [_edge(spots[it.parent], spots[place]) for place, it in shown.items() if it.parent in spots]
+        boxes = [_box(it, spots[place], place in aside) for place, it in shown.items()]
+        left = len(everything) - len(shown)
+        width = max((column for column, _ in spots.values()), default=0) + 1
+        height = (max((row for _, row in spots.values()), default=0) + 1) * (_HEIGHT + _DROP)
+        more = [f'<text x="4" y="{height + 12}">and {left:,} more</text>'] if left else []
+        size = f'width="{int(width * (_WIDTH + _GAP))}" height="{height + 20}"'
+        return f'<svg xmlns="http://www.w3.org/2000/svg" {size} font-family="sans-serif" font-size="12">{"".join(edges + boxes + more)}</svg>'
+
+    def _repr_svg_(self) -> str:
+        return self.svg()
+
+
+@dataclass(frozen=True)
+class Table:
+    """The mappings of a space, which a notebook shows as a table; of more than 256 it has the first."""
+
+    space: int
+    mappings: Tuple[Mapping, ...]
+
+    def _repr_html_(self) -> str:
+        shown = self.mappings[:MOST_SHOWN]
+        rows: List[Tuple[object, ...]] = [(it.place.page, it.frame, it.rights, _parent_text(it)) for it in shown]
+        if len(shown) < len(self.mappings):
+            rows.append((f"and {len(self.mappings) - len(shown):,} more", "", "", ""))
+        return table(f"space {self.space}", ("page", "frame", "rights", "parent"), rows)
+
+
+def _parent_text(mapping: Mapping) -> str:
+    return f"space {mapping.parent.space} page {mapping.parent.page}" if mapping.parent else "none"
 
 
 def _name(place: Place) -> str:
     return f'"{place.space}:{place.page}"'
 
 
+def _lines(mapping: Mapping) -> List[str]:
+    """What stands in the box of a mapping."""
+    place = mapping.place
+    return [f"space {place.space}", f"page {place.page}", f"frame {mapping.frame}", str(mapping.rights)]
+
+
 def _node(mapping: Mapping, mark: str = "") -> str:
     """The node of a mapping."""
-    space, page = mapping.place.space, mapping.place.page
-    label = f"space {space}\\npage {page}\\nframe {mapping.frame}\\n{mapping.rights}"
+    label = "\\n".join(_lines(mapping))
     return f'    {_name(mapping.place)} [label="{label}"{mark}];'
 
 
-def _graph(name: str, nodes: Iterable[str], mappings: Iterable[Mapping]) -> str:
-    """The graph of these nodes, with an edge to each mapping from its parent."""
-    edges = [f"    {_name(mapping.parent)} -> {_name(mapping.place)};" for mapping in mappings if mapping.parent]
-    lines: List[str] = [f"digraph {name} {{", "    node [shape=box];", *nodes, *edges, "}"]
-    return "\n".join(lines) + "\n"
+def _spots(shown: Dict[Place, Mapping]) -> Dict[Place, Tuple[float, int]]:
+    """The column and row of each mapping: leaves side by side, and each parent above the middle of its children."""
+    children: Dict[Place, List[Place]] = {place: [] for place in shown}
+    for place, mapping in shown.items():
+        if mapping.parent in children:
+            children[mapping.parent].append(place)
+    rows = {place: 0 for place, mapping in shown.items() if mapping.parent not in shown}
+    order = list(reversed(rows))
+    walked: List[Place] = []
+    while order:
+        place = order.pop()
+        walked.append(place)
+        rows.update((child, rows[place] + 1) for child in children[place])
+        order += reversed(children[place])
+    columns: Dict[Place, float] = {}
+    leaves = [place for place in walked if not children[place]]
+    columns.update((place, float(column)) for column, place in enumerate(leaves))
+    for place in reversed(walked):
+        if children[place]:
+            columns[place] = (columns[children[place][0]] + columns[children[place][-1]]) / 2
+    return {place: (columns[place], rows[place]) for place in walked}
 
 
-def frame(kernel: Kernel, number: int) -> str:
-    """The mapping tree of a frame: sigma0's page, and what was mapped from it in all spaces."""
+def _corner(spot: Tuple[float, int]) -> Tuple[int, int]:
+    """The left upper corner of the box at this column and row."""
+    return int(spot[0] * (_WIDTH + _GAP)) + 2, spot[1] * (_HEIGHT + _DROP) + 2
+
+
+def _edge(parent: Tuple[float, int], child: Tuple[float, int]) -> str:
+    (x1, y1), (x2, y2) = _corner(parent), _corner(child)
+    return f'<line x1="{x1 + _WIDTH // 2}" y1="{y1 + _HEIGHT}" x2="{x2 + _WIDTH // 2}" y2="{y2}" stroke="#666"/>'
+
+
+def _box(mapping: Mapping, spot: Tuple[float, int], is_beside: bool) -> str:
+    x, y = _corner(spot)
+    dashes = ' stroke-dasharray="4 3"' if is_beside else ""
+    frame = f'<rect x="{x}" y="{y}" width="{_WIDTH}" height="{_HEIGHT}" fill="#fff" stroke="#333"{dashes}/>'
+    texts = [f'<text x="{x + 6}" y="{y + 15 * line}">{text}</text>' for line, text in enumerate(_lines(mapping), 1)]
+    return f'<g data-space="{mapping.place.space}" data-page="{mapping.place.page}">{frame}{"".join(texts)}</g>'
+
+
+def frame(kernel: Kernel, number: int) -> Tree:
+    """The mapping tree of a frame: sigma0's page, and what was mapped from it in all spaces. ValueError where there is no such frame."""
+    if not 0 <= number < kernel.frames:
+        raise ValueError(f"there is no frame {number}: the machine has {kernel.frames}, from 0 on")
     everything = (mapping for space in kernel.spaces() for mapping in kernel.mappings(space))
-    shown = [mapping for mapping in everything if mapping.frame == number]
-    return _graph(f"frame_{number}", map(_node, shown), shown)
+    return Tree(f"frame_{number}", tuple(mapping for mapping in everything if mapping.frame == number))
 
 
-def space(kernel: Kernel, number: int) -> str:
-    """The mappings of a space, with the pages of other spaces that they were mapped from, which have dashed lines."""
-    shown = list(kernel.mappings(number))
+def _mappings(kernel: Kernel, number: int) -> Tuple[Mapping, ...]:
+    """The mappings of a space that is there."""
+    if number not in kernel.spaces():
+        raise ValueError(f"there is no space {number}, but {', '.join(map(str, kernel.spaces()))}")
+    return tuple(kernel.mappings(number))
+
+
+def space(kernel: Kernel, number: int) -> Tree:
+    """The mappings of a space, with the pages of other spaces that they were mapped from, which have dashed lines. ValueError where there
+    is no such space."""
+    shown = _mappings(kernel, number)
     parents: Dict[Place, Mapping] = {}
     for mapping in shown:
         parent = mapping.parent
@@ -41,5 +151,9 @@ def space(kernel: Kernel, number: int) -> str:
             there = kernel.mapping(parent.space, parent.page)
             if there:
                 parents[parent] = there
-    nodes = [_node(parents[place], ", style=dashed") for place in sorted(parents)]
-    return _graph(f"space_{number}", nodes + [_node(mapping) for mapping in shown], shown)
+    return Tree(f"space_{number}", shown, tuple(parents[place] for place in sorted(parents)))
+
+
+def pages(kernel: Kernel, number: int) -> Table:
+    """The mappings of a space as a table. ValueError where there is no such space."""
+    return Table(number, _mappings(kernel, number))

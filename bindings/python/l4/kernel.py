@@ -8,9 +8,11 @@ from typing import Any, Callable, Iterator, Optional, Set, Tuple, Union
 
 from . import _library
 from ._handles import Handle
-from ._library import library, number
+from ._library import library, number, of_type
+from ._shown import hexadecimal
+from .calls import Call
 from .refusals import IpcFailed, Refused
-from .words import MAX_THREADS, PAGE_BYTES, SMALL_SPACE_PAGES, Call, Item, Message, Rights, ThreadId, items_of
+from .words import MAX_THREADS, PAGE_BYTES, SMALL_SPACE_PAGES, Item, Message, Rights, ThreadId, items_of
 
 
 class Outcome(enum.Enum):
@@ -96,12 +98,25 @@ class ReplyKind(enum.Enum):
     GONE = _library.L4_REPLY_GONE
 
 
-@dataclass(frozen=True)
+_ENDS = {
+    ReplyKind.HIT: "the page is there with the rights that the access needs",
+    ReplyKind.ANSWERED: "the pager has answered the fault",
+    ReplyKind.FAILED: "the fault failed",
+    ReplyKind.UNMAPPED: "the Unmap is done",
+    ReplyKind.CONTROLLED: "the control of threads is done",
+    ReplyKind.GONE: "the thread is gone",
+}
+
+
+@dataclass(frozen=True, repr=False)
 class Reply:
     """How a thread's last call ended.
 
     `error` is the ErrorCode of an Ipc or a fault that failed, else 0. The rest is of an Ipc: `tag` is the message's (0x8000 where the
     call failed), `sender` is who sent it, or `ThreadId.NIL`, and `words` are those after the tag, at most 63.
+
+    >>> Reply(ReplyKind.IPC, 0x70001, 0, ThreadId.SIGMA0, (5,))
+    <Reply ipc 0x00070001 0x00000005: message of thread 1: label 0x0007; 1 untyped>
     """
 
     kind: ReplyKind
@@ -135,6 +150,17 @@ class Reply:
     def items(self) -> Tuple[Item, ...]:
         """The message's items."""
         return items_of(self.words[self.tag & 0x3F :])
+
+    def __str__(self) -> str:
+        if self.error:
+            return str(IpcFailed(self.error))
+        if self.kind is not ReplyKind.IPC:
+            return _ENDS[self.kind]
+        return f"message of {self.sender}: {self.message}" if self.sender != ThreadId.NIL else "no message was to be received"
+
+    def __repr__(self) -> str:
+        words = f" {hexadecimal(self.message.words)}" if self.kind is ReplyKind.IPC else ""
+        return f"<Reply {self.kind.name.lower()}{words}: {self}>"
 
 
 @dataclass(frozen=True, order=True)
@@ -193,7 +219,13 @@ class Kernel(Handle):
     def __init__(self, frames: int = 256, page_bytes: int = PAGE_BYTES) -> None:
         given = number(frames, "the number of frames"), number(page_bytes, "the number of bytes")
         super().__init__(_library.l4_kernel(), library.l4_boot_sized, library.l4_free, *given)
+        self._frames = given[0]
         self._threads = {ThreadId.SIGMA0.number, ThreadId.ROOT.number}
+
+    @property
+    def frames(self) -> int:
+        """The number of frames, with which it was booted."""
+        return self._frames
 
     @property
     def page_bytes(self) -> int:
@@ -202,7 +234,7 @@ class Kernel(Handle):
 
     def _begin(self, function: Callable[..., Any], thread: int, call: Call, *rest: Any) -> Any:
         """What the library answers to the call."""
-        words = call.words
+        words = of_type(call, Call, "what a thread starts").words
         given = (byref(call.given()), _library.array(words), len(words))
         return self._ask(function, number(thread, "a thread number"), *given, *rest)
 

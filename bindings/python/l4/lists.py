@@ -4,9 +4,10 @@ from __future__ import annotations
 import re
 from typing import Callable, Iterable, Iterator, List, Optional
 
+from .calls import Call
 from .kernel import Answer, Expire, Kernel, Outcome, Reply, ReplyKind, Step, Transfer
 from .refusals import Refused
-from .words import MAX_WORDS, Call, Message, Rights
+from .words import MAX_WORDS, Message, Rights, ThreadId
 
 #: The greatest number of bytes of a line.
 MAX_LINE = 4096
@@ -49,17 +50,17 @@ def _number(token: bytes) -> int:
 def _call(kind: bytes, numbers: List[int]) -> Call:
     """The call of this kind."""
     if kind == b"ipc" and 4 <= len(numbers) <= 4 + MAX_WORDS:
-        return Call.ipc(*numbers[:4], Message(tuple(numbers[4:])))
+        return Call.ipc(*map(ThreadId, numbers[:2]), *numbers[2:4], Message(tuple(numbers[4:])))
     if kind == b"fault" and len(numbers) == 3 and numbers[2] < 8:
         return Call.fault(numbers[0], numbers[1], Rights.of_bits(numbers[2]))
     if kind == b"unmap" and 1 <= len(numbers) <= 1 + MAX_WORDS:
         return Call.unmap_words(numbers[0], numbers[1:])
     if kind == b"create" and len(numbers) == 3:
-        return Call.create(*numbers)
+        return Call.create(*map(ThreadId, numbers))
     if kind == b"setpager" and len(numbers) == 2:
-        return Call.set_pager(*numbers)
+        return Call.set_pager(*map(ThreadId, numbers))
     if kind == b"delete" and len(numbers) == 1:
-        return Call.delete(*numbers)
+        return Call.delete(*map(ThreadId, numbers))
     raise _NoLine
 
 
@@ -68,7 +69,7 @@ def _reply(reply: Optional[Reply], none: str) -> str:
         return none
     if reply.kind is ReplyKind.IPC:
         words = "".join(f" {word:08x}" for word in reply.words)
-        return f"ipc {reply.tag:08x} {reply.error} {reply.sender:08x}{words}"
+        return f"ipc {reply.tag:08x} {reply.error} {reply.sender.word:08x}{words}"
     if reply.kind is ReplyKind.FAILED:
         return f"failed {reply.error}"
     return reply.kind.name.lower()

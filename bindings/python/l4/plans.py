@@ -6,7 +6,8 @@ from dataclasses import dataclass
 from typing import Iterator, Sequence, Tuple
 
 from . import _library
-from ._library import Forks, array, library, number
+from ._library import Forks, array, library, number, of_type
+from ._shown import hexadecimal, table
 from .refusals import Refused, TooLong
 from .words import PAGE_BYTES, Item, Message, Rights, items_of
 
@@ -58,6 +59,11 @@ class Plan:
         """A page of each item, in the items' order."""
         return _first_pages(self.region, self.page_bytes)
 
+    def _repr_html_(self) -> str:
+        """The items with their words and pages, as a table for a notebook."""
+        rows = ((hexadecimal(item.words(False)), item, page) for item, page in zip(self.items(), self.pages()))
+        return table(f"{self.item_count} items in {self.message_count} messages", ("words", "item", "page"), rows)
+
 
 def _first_pages(region: Region, page_bytes: int) -> Tuple[int, ...]:
     """The pages of the items of a region's plan, or those that show that it is too long."""
@@ -75,11 +81,15 @@ class Region:
     count: int
     rights: Rights
 
+    def __post_init__(self) -> None:
+        for name in ("source", "target", "count"):
+            number(getattr(self, name), f"the {name} of a region")
+        of_type(self.rights, Rights, "what may be done with a region")
+
     def given(self) -> _library.l4_region:
         """What the library reads."""
         Forks.check()
-        numbers = (number(getattr(self, name), name) for name in ("source", "target", "count"))
-        return _library.l4_region(*numbers, self.rights.value)
+        return _library.l4_region(self.source, self.target, self.count, self.rights.value)
 
     def plan(self, page_bytes: int = PAGE_BYTES) -> Plan:
         """The shortest list of map items that moves exactly the region of pages of so many bytes, 4,096 or 1,024.

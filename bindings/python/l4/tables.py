@@ -2,11 +2,12 @@
 from __future__ import annotations
 
 from ctypes import byref
-from typing import Any
+from typing import Any, List, Tuple
 
 from . import _library
 from ._handles import Handle
-from ._library import array, library, number
+from ._library import array, library, number, of_type
+from ._shown import table
 from .plans import Region
 from .refusals import Refused
 from .words import PAGE_BYTES, Message, Rights
@@ -36,20 +37,34 @@ class Pager(Handle):
     def __init__(self, page_bytes: int = PAGE_BYTES) -> None:
         page_bytes = number(page_bytes, "the number of bytes")
         super().__init__(_library.l4_pager(), library.l4_pager_new_sized, library.l4_pager_free, page_bytes)
+        self._regions: List[Region] = []
 
     def add(self, region: Region) -> None:
         """Adds a region at the end. Refused, in this order, by P4, P1 and P3, and then nothing has changed."""
-        refusal = self._ask(library.l4_pager_add, byref(region.given()))
-        told = self._told(_library.l4_verdict(refusal, 0))
-        if told.refusal:
-            raise Refused(told.refusal)
+        given = byref(of_type(region, Region, "what a table gets").given())
+        with self._turn:
+            told = self._told(_library.l4_verdict(self._ask(library.l4_pager_add, given), 0))
+            if told.refusal:
+                raise Refused(told.refusal)
+            self._regions.append(region)
+
+    @property
+    def regions(self) -> Tuple[Region, ...]:
+        """The regions, in the order in which they were added."""
+        return tuple(self._regions)
+
+    def _repr_html_(self) -> str:
+        """The regions, as a table for a notebook."""
+        rows = ((region.target, region.source, region.count, region.rights) for region in self.regions)
+        return table("regions", ("first page", "source page", "pages", "rights"), rows)
 
     def find(self, page: int, access: Rights) -> int:
         """The source page of a target page, where its region's rights hold those that the access needs.
 
         An access that needs none is held by each region. Refused by P2.
         """
-        told = self._told(self._ask(library.l4_pager_find, number(page, "a page"), access.value))
+        needed = of_type(access, Rights, "what an access needs").value
+        told = self._told(self._ask(library.l4_pager_find, number(page, "a page"), needed))
         if told.refusal:
             raise Refused(told.refusal)
         return told.page
@@ -60,7 +75,7 @@ class Pager(Handle):
         To a page fault it is one map item, the source page with its region's rights for the fault's page; a nil map item where `find`
         refuses the page, and to any other message. Refused by M7, M1, M5, M2, M4 or M3.
         """
-        words = message.words
+        words = of_type(message, Message, "what is answered").words
         return _answer(self._told(self._ask(library.l4_pager_answer, array(words), len(words))))
 
 
@@ -90,6 +105,6 @@ class Sigma0(Handle):
         and the answer is one map item of them with all rights, to the pages of the same numbers; anything else is answered by a nil map
         item, and changes nothing. Refused by M7, M1, M5, M2, M4 or M3.
         """
-        words = message.words
+        words = of_type(message, Message, "what is answered").words
         given = number(space, "a space", 64), array(words), len(words)
         return _answer(self._told(self._ask(library.l4_sigma0_answer, *given)))

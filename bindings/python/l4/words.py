@@ -6,7 +6,8 @@ from dataclasses import dataclass
 from typing import ClassVar, Dict, Iterable, Optional, Sequence, Tuple
 
 from . import _library
-from ._library import number
+from ._library import number, of_type
+from ._shown import bytes_of, hexadecimal
 
 #: The bytes of a page, and of a small one.
 PAGE_BYTES = _library.L4_PAGE_BYTES
@@ -35,10 +36,15 @@ def _page_log(page_bytes: int) -> int:
     return _PAGE_LOGS[page_bytes]
 
 
-class ThreadId(int):
+@dataclass(frozen=True, order=True, repr=False)
+class ThreadId:
     """A thread id: a thread number in bits 31 to 14, and a version in bits 13 to 0 (L4 X.2 manual, ThreadId).
 
-    Each word is one, also one that no thread can have; `ThreadId.of` makes only those that a thread can have.
+    Each word is one, also one that no thread can have; `ThreadId.of` makes only those that a thread can have. An id is no number, and a
+    number no id: where the one is due, the other is a TypeError.
+
+    >>> ThreadId.of(3), str(ThreadId.of(3)), ThreadId.of(3).number
+    (ThreadId(0x0000c001), 'thread 3', 3)
     """
 
     #: The id of nobody: a call has no phase with it.
@@ -50,8 +56,10 @@ class ThreadId(int):
     #: The id of root, thread 2 in space 1.
     ROOT: ClassVar[ThreadId]
 
-    def __new__(cls, word: int) -> ThreadId:
-        return super().__new__(cls, number(word, "a thread id"))
+    word: int
+
+    def __post_init__(self) -> None:
+        number(self.word, "the word of a thread id")
 
     @classmethod
     def of(cls, thread: int, version: int = 1) -> ThreadId:
@@ -65,15 +73,20 @@ class ThreadId(int):
     @property
     def number(self) -> int:
         """The thread number, below 262,144."""
-        return self >> 14
+        return self.word >> 14
 
     @property
     def version(self) -> int:
         """The version, below 16,384."""
-        return self & 0x3FFF
+        return self.word & 0x3FFF
+
+    def __str__(self) -> str:
+        if self in (ThreadId.NIL, ThreadId.ANY):
+            return "nil" if self == ThreadId.NIL else "any"
+        return f"thread {self.number}" + ("" if self.version == 1 else f" version {self.version}")
 
     def __repr__(self) -> str:
-        return f"ThreadId({int(self):#010x})"
+        return f"ThreadId({self.word:#010x})"
 
 
 ThreadId.NIL = ThreadId(_library.L4_NILTHREAD)
@@ -105,12 +118,15 @@ class Rights(enum.Flag):
         return "".join(letter if right in self else "-" for right, letter in letters)
 
 
-@dataclass(frozen=True)
+@dataclass(frozen=True, repr=False)
 class Fpage:
     """A flexpage: 2^log bytes at `base`, in bytes, with rights (L4 X.2 manual, Fpages).
 
     `log` is 10 to 31, and `base` a multiple of 2^log; with base 0, a log of 0 is the nil fpage, which has no bytes, and one of 32 the
     complete one. As a receive window it says where a receiver accepts pages; its rights mean nothing there.
+
+    >>> Fpage.page(16, Rights.ALL)
+    <Fpage 0x000100c7: 4 KiB at 0x10000 rwx>
     """
 
     base: int
@@ -119,7 +135,8 @@ class Fpage:
 
     def __post_init__(self) -> None:
         number(self.base, "the base of an fpage")
-        if self.log not in (_NIL_LOG, _SPACE_LOG) and not 10 <= self.log <= 31:
+        of_type(self.rights, Rights, "what may be done with an fpage")
+        if number(self.log, "the log of an fpage") not in (_NIL_LOG, _SPACE_LOG) and not 10 <= self.log <= 31:
             raise ValueError(f"no fpage has 2^{self.log} bytes")
         if self.base and (self.log == _NIL_LOG or self.base % (1 << self.log)):
             raise ValueError(f"an fpage of 2^{self.log} bytes doesn't start at {self.base:#x}")
@@ -178,6 +195,14 @@ class Fpage:
         size = 1 if self.log == _SPACE_LOG else self.log
         return self.base | size << 4 | self.rights.value
 
+    def __str__(self) -> str:
+        if self.log == _NIL_LOG:
+            return "nil"
+        return f"complete {self.rights}" if self.log == _SPACE_LOG else f"{bytes_of(self.log)} at {self.base:#x} {self.rights}"
+
+    def __repr__(self) -> str:
+        return f"<Fpage {hexadecimal([self.word])}: {self}>"
+
     @property
     def page_range(self) -> range:
         """The pages all of whose bytes it names."""
@@ -194,11 +219,14 @@ class Fpage:
         return range(first, first + (1 << self.log >> page_log))
 
 
-@dataclass(frozen=True)
+@dataclass(frozen=True, repr=False)
 class Item:
     """What a message hands over: the pages of an fpage, shared (map) or given away (grant) (L4 X.2 manual, IPC: map item, grant item).
 
     The send base, in bytes, a multiple of 1,024, says where they land in a larger receive window.
+
+    >>> Item.map(Fpage.page(16, Rights.READ), 0x20000)
+    <Item 0x00020008 0x000100c4: map 4 KiB at 0x10000 r--, send base 0x20000>
     """
 
     fpage: Fpage
@@ -206,6 +234,7 @@ class Item:
     is_grant: bool = False
 
     def __post_init__(self) -> None:
+        of_type(self.fpage, Fpage, "what an item hands over")
         if number(self.base, "a send base") % 1024:
             raise ValueError(f"a send base is a multiple of 1,024: {self.base:#x}")
 
@@ -231,6 +260,12 @@ class Item:
         """The two words; `more`, their lowest bit, says that another item follows."""
         return self.base | (10 if self.is_grant else 8) | more, self.fpage.word
 
+    def __str__(self) -> str:
+        return f"{'grant' if self.is_grant else 'map'} {self.fpage}, send base {self.base:#x}"
+
+    def __repr__(self) -> str:
+        return f"<Item {hexadecimal(self.words(False))}: {self}>"
+
 
 def items_of(words: Sequence[int]) -> Tuple[Item, ...]:
     """The items of the typed words of a message."""
@@ -245,11 +280,35 @@ def words_of(words: Iterable[int], what: str) -> Tuple[int, ...]:
     return words
 
 
-@dataclass(frozen=True)
+def _item_text(first: int, second: int) -> str:
+    """The item of two words, in words."""
+    try:
+        return str(Item.read(first, second))
+    except ValueError:
+        return f"no item in {hexadecimal([first, second])}"
+
+
+def _message_text(tag: int, words: Sequence[int]) -> str:
+    """The words after a message's tag, and the tag, in words."""
+    untyped, typed, flags = tag & 0x3F, tag >> 6 & 0x3F, tag >> 12 & 0xF
+    found = words[untyped : untyped + typed]
+    parts = [f"label {tag >> 16:#06x}", f"flags {flags:#x}" if flags else "", f"{untyped} untyped" if untyped else ""]
+    parts += [_item_text(first, second) for first, second in zip(found[::2], found[1::2])]
+    if typed % 2:
+        parts.append(f"an odd number of words for the items: {typed}")
+    if len(words) != untyped + typed:
+        parts.append(f"{len(words)} words where the tag counts {untyped + typed}")
+    return "; ".join(part for part in parts if part)
+
+
+@dataclass(frozen=True, repr=False)
 class Message:
     """The words of a message, from its tag on: at most 64 (L4 X.2 manual, IPC: message registers).
 
     Such words may be refused by the kernel; `Message.of` makes only those that aren't.
+
+    >>> Message((0x70081, 5, 0x20008, 0x100c7))
+    <Message 0x00070081 0x00000005 0x00020008 0x000100c7: label 0x0007; 1 untyped; map 4 KiB at 0x10000 rwx, send base 0x20000>
     """
 
     words: Tuple[int, ...] = ()
@@ -265,12 +324,18 @@ class Message:
         >>> [hex(word) for word in message.words]
         ['0x70081', '0x5', '0x20008', '0x100c7']
         """
-        untyped, items = tuple(untyped), tuple(items)
+        untyped, items = tuple(untyped), tuple(of_type(item, Item, "an item of a message") for item in items)
         number(label, "a label", 16)
         if len(untyped) + 2 * len(items) >= MAX_WORDS:
             raise ValueError(f"more than {MAX_WORDS - 1} words after the tag")
         typed = [word for place, item in enumerate(items, 1) for word in item.words(place < len(items))]
         return cls((label << 16 | len(items) << 7 | len(untyped), *untyped, *typed))
+
+    def __str__(self) -> str:
+        return _message_text(self.words[0], self.words[1:]) if self.words else "no tag"
+
+    def __repr__(self) -> str:
+        return f"<Message {hexadecimal(self.words)}: {self}>" if self.words else "<Message: no tag>"
 
 
 class Timeout(enum.Enum):
@@ -284,117 +349,6 @@ class Timeout(enum.Enum):
 
 def timeouts(send: Timeout, receive: Timeout) -> int:
     """The timeouts word of a send phase and a receive phase, in bits 31 to 16 and 15 to 0."""
-    return send.value << 16 | receive.value
+    return of_type(send, Timeout, "a timeout").value << 16 | of_type(receive, Timeout, "a timeout").value
 
 
-@dataclass(frozen=True)
-class Call:
-    """A call of a thread, which `Kernel.start` and `Kernel.enter` begin; one of the functions below makes it."""
-
-    _members: Tuple[Tuple[str, int], ...]
-    _words: Tuple[int, ...] = ()
-
-    @classmethod
-    def _of_kind(cls, kind: int, members: Dict[str, int], words: Tuple[int, ...] = ()) -> Call:
-        return cls((("kind", kind), *((name, number(value, name)) for name, value in members.items())), words)
-
-    @classmethod
-    def ipc(cls, to: int, source: int, timeout_word: int, acceptor: int, message: Message) -> Call:
-        """An Ipc by its words: a send phase unless `to` is nil, then a receive phase unless `source` is.
-
-        Refused, in this order, by K4 for its timeouts, M7, M1, M5, M2, M4 or M3 for its message, and M6 for its window (bits 31 to 4 of
-        `acceptor`); the calls below have good timeouts and windows.
-        """
-        members = {"to": to, "from": source, "timeouts": timeout_word, "acceptor": acceptor}
-        return cls._of_kind(_library.L4_IPC, members, message.words)
-
-    @classmethod
-    def send(cls, to: int, message: Message, timeout: Timeout = Timeout.NEVER) -> Call:
-        """Sends the message, and receives nothing (L4 X.2 manual, Send)."""
-        return cls.ipc(to, ThreadId.NIL, timeouts(timeout, Timeout.NEVER), 0, message)
-
-    @classmethod
-    def receive(cls, source: int = ThreadId.ANY, window: Optional[Fpage] = None, timeout: Timeout = Timeout.NEVER) -> Call:
-        """Receives a message of this thread, or of anybody, and accepts pages in the window (L4 X.2 manual, Receive and Wait).
-
-        No window is the nil fpage; its rights mean nothing.
-        """
-        return cls.ipc(ThreadId.NIL, source, timeouts(Timeout.NEVER, timeout), window.word if window else 0, Message())
-
-    @classmethod
-    def call(
-        cls,
-        to: int,
-        message: Message,
-        window: Optional[Fpage] = None,
-        send: Timeout = Timeout.NEVER,
-        receive: Timeout = Timeout.NEVER,
-    ) -> Call:
-        """Sends the message to a thread and receives that thread's answer (L4 X.2 manual, Call)."""
-        return cls.ipc(to, to, timeouts(send, receive), window.word if window else 0, message)
-
-    @classmethod
-    def reply_and_wait(
-        cls,
-        to: int,
-        message: Message,
-        window: Optional[Fpage] = None,
-        send: Timeout = Timeout.NEVER,
-        receive: Timeout = Timeout.NEVER,
-    ) -> Call:
-        """Sends the message to a thread and receives anybody's message (L4 X.2 manual, ReplyWait)."""
-        return cls.ipc(to, ThreadId.ANY, timeouts(send, receive), window.word if window else 0, message)
-
-    @classmethod
-    def fault(cls, address: int, ip: int, access: Rights) -> Call:
-        """A page fault at the address by the instruction at `ip`, both in bytes, by an access that needs these rights.
-
-        Where the page isn't there with them, it goes to the thread's pager as a message (L4 X.2 manual, Page Fault Protocol).
-        """
-        return cls._of_kind(_library.L4_FAULT, {"address": address, "ip": ip, "access": access.value})
-
-    @classmethod
-    def unmap(cls, fpages: Iterable[Fpage], own: bool = False) -> Call:
-        """Takes the rights that 1 to 64 fpages name from all that was mapped from the caller's pages in them, and with `own` from those
-        pages too (L4 X.2 manual, Unmap)."""
-        words = tuple(fpage.word for fpage in fpages)
-        if not words:
-            raise ValueError("an Unmap has an fpage")
-        return cls.unmap_words(own << 6 | (len(words) - 1) & 0x3F, words)
-
-    @classmethod
-    def unmap_words(cls, control: int, words: Iterable[int]) -> Call:
-        """An Unmap by its words: bit 6 of `control` means the caller's own pages too, and bits 5 to 0 are k where the words 0 to k are
-        fpages. Refused, in this order, by U2 and U1."""
-        return cls._of_kind(_library.L4_UNMAP, {"control": control}, words_of(words, "a word of an Unmap"))
-
-    @classmethod
-    def create(cls, thread_id: int, space: int, pager: int = ThreadId.NIL) -> Call:
-        """Makes a thread of this id, in the space of the thread `space` or, where that is the id itself, in a new space (L4 X.2 manual,
-        ThreadControl). Refused by H1 to H5, and by NoMemory where the space is new."""
-        return cls._of_kind(_library.L4_CREATE, {"id": thread_id, "space": space, "pager": pager})
-
-    @classmethod
-    def set_pager(cls, thread_id: int, pager: int) -> Call:
-        """Gives a thread another pager (L4 X.2 manual, ThreadControl). Refused by H1 and H4."""
-        return cls._of_kind(_library.L4_SET_PAGER, {"id": thread_id, "pager": pager})
-
-    @classmethod
-    def delete(cls, thread_id: int) -> Call:
-        """Ends a thread, and its space with its last one (L4 X.2 manual, ThreadControl). Refused by H1, H4 and H6."""
-        return cls._of_kind(_library.L4_DELETE, {"id": thread_id})
-
-    @property
-    def words(self) -> Tuple[int, ...]:
-        """The words of its message, or of its Unmap."""
-        return self._words
-
-    @property
-    def created(self) -> Optional[int]:
-        """The number of the thread that it would create, else None."""
-        members = dict(self._members)
-        return members["id"] >> 14 if members["kind"] == _library.L4_CREATE else None
-
-    def given(self) -> _library.l4_call:
-        """What the library reads."""
-        return _library.l4_call(**dict(self._members))

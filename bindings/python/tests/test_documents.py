@@ -2,11 +2,11 @@
 import doctest
 import unittest
 
-from l4 import kernel, plans, tables, words
+from l4 import calls, kernel, plans, tables, words
 
 
 def load_tests(_loader, tests, _pattern):
-    for module in (kernel, plans, tables, words):
+    for module in (calls, kernel, plans, tables, words):
         tests.addTests(doctest.DocTestSuite(module))
     return tests
 

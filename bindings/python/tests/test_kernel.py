@@ -168,8 +168,8 @@ class Kernels(unittest.TestCase):
             ((0x100, 8, 0, 0, 0), "M4", 1),
         ):
             self.refuses(code, detail, kernel.start, 1, Call.send(ThreadId.ROOT, Message(words)))
-        self.refuses("M6", None, kernel.start, 1, Call.ipc(0, ThreadId.ANY, 0, 0x20, Message()))
-        self.refuses("K4", None, kernel.start, 1, Call.ipc(0, ThreadId.ANY, 1, 0x20, Message()))
+        self.refuses("M6", None, kernel.start, 1, Call.ipc(ThreadId.NIL, ThreadId.ANY, 0, 0x20, Message()))
+        self.refuses("K4", None, kernel.start, 1, Call.ipc(ThreadId.NIL, ThreadId.ANY, 1, 0x20, Message()))
         self.refuses("U1", 1, kernel.start, 1, Call.unmap_words(1, [0x17, 0x20]))
         self.refuses("U2", None, kernel.start, 1, Call.unmap_words(1, [0x17]))
         kernel.start(2, Call.receive())
@@ -216,6 +216,28 @@ class Kernels(unittest.TestCase):
         ):
             with self.assertRaises(ValueError):
                 step(*values)
+
+    def test_what_is_no_number_and_no_call_is_told(self):
+        kernel = Kernel(7)
+        self.assertEqual(kernel.frames, 7)
+        for step, values, text in (
+            (kernel.enter, (ThreadId.ROOT, Call.receive()), "a thread number is a number"),
+            (kernel.reply, (ThreadId.ROOT,), "a thread number is a number"),
+            (kernel.space_of, ("1",), "a thread number is a number"),
+            (kernel.enter, (2, Message()), "what a thread starts is a Call"),
+            (kernel.start, (2, None), "what a thread starts is a Call"),
+        ):
+            with self.assertRaisesRegex(TypeError, text):
+                step(*values)
+
+    def test_replies_are_shown_in_words(self):
+        kernel = Kernel(1)
+        kernel.enter(1, Call.send(ThreadId.of(9), Message((0,))))
+        self.assertEqual(repr(kernel.reply(1)), "<Reply ipc 0x00008000: ErrorCode 4: there is nobody to send to>")
+        kernel.enter(1, Call.send(ThreadId.NIL, Message((0,))))
+        self.assertEqual(repr(kernel.reply(1)), "<Reply ipc 0x00000000: no message was to be received>")
+        kernel.enter(1, Call.fault(0, 0, Rights.READ))
+        self.assertEqual(repr(kernel.reply(1)), "<Reply hit: the page is there with the rights that the access needs>")
 
     def test_a_closed_kernel_is_refused(self):
         with delivered() as kernel:

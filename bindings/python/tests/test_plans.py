@@ -33,7 +33,7 @@ class Plans(unittest.TestCase):
         self.refuses("N2", None, Region(SPACE_PAGES, 12, 1, Rights.ALL).plan)
         self.refuses("N3", None, Region(4, 12, 1, Rights.NONE).plan)
         with self.assertRaises(ValueError):
-            Region(1 << 32, 12, 1, Rights.ALL).plan()
+            Region(1 << 32, 12, 1, Rights.ALL)
 
     def test_small_pages_have_plans_of_their_own(self):
         region = Region(16, 32, 1, Rights.ALL)

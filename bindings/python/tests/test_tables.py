@@ -91,9 +91,22 @@ class Tables(unittest.TestCase):
             (Pager().find, (1 << 32, Rights.NONE)),
             (Sigma0, (-1,)),
             (Sigma0().answer, (1 << 64, fault(0))),
-            (Pager().add, (Region(1 << 32, 0, 1, Rights.ALL),)),
+            (Region, (1 << 32, 0, 1, Rights.ALL)),
+            (Region, (0, -1, 1, Rights.ALL)),
         ):
             with self.assertRaises(ValueError):
+                step(*values)
+
+    def test_other_types_are_told(self):
+        for step, values in (
+            (Region, (0, 0, 1, 7)),
+            (Region, (0, 0, "1", Rights.ALL)),
+            (Pager().add, ((0, 0, 1, 7),)),
+            (Pager().find, (5, 4)),
+            (Pager().answer, ((0,),)),
+            (Sigma0().answer, (2, [0])),
+        ):
+            with self.assertRaises(TypeError):
                 step(*values)
 
     def test_closed_tables_are_refused(self):

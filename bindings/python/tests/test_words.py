@@ -7,7 +7,8 @@ from l4 import MAX_WORDS, SMALL_PAGE_BYTES, SMALL_SPACE_PAGES, SPACE_PAGES, Call
 class Words(unittest.TestCase):
     def test_ids_have_a_number_and_a_version(self):
         thread = ThreadId.of(3)
-        self.assertEqual((thread, thread.number, thread.version), (0xC001, 3, 1))
+        self.assertEqual((thread.word, thread.number, thread.version), (0xC001, 3, 1))
+        self.assertEqual((thread, thread == 0xC001), (ThreadId(0xC001), False))
         self.assertEqual((ThreadId.SIGMA0.number, ThreadId.ROOT.number), (1, 2))
         self.assertEqual(repr(thread), "ThreadId(0x0000c001)")
         pairs = [(0, 1), (1 << 18, 1), (1, 0), (1, 0x40), (1, 1 << 14), ((1 << 18) - 1, (1 << 14) - 1)]
@@ -16,6 +17,86 @@ class Words(unittest.TestCase):
                 ThreadId.of(number, version)
         with self.assertRaises(ValueError):
             ThreadId(1 << 32)
+        shown = [str(ThreadId(word)) for word in (0, 0xFFFFFFFF, 0x8001, 0xC002)]
+        self.assertEqual(shown, ["nil", "any", "thread 2", "thread 3 version 2"])
+
+    def test_a_bare_number_is_no_id(self):
+        message = Message((0,))
+        for make in (
+            lambda: Call.send(3, message),
+            lambda: Call.receive(3),
+            lambda: Call.call(0xC001, message),
+            lambda: Call.reply_and_wait(3, message),
+            lambda: Call.ipc(0, ThreadId.ANY, 0, 0, message),
+            lambda: Call.ipc(ThreadId.NIL, 0, 0, 0, message),
+            lambda: Call.create(3, ThreadId.ROOT),
+            lambda: Call.create(ThreadId.of(3), 2),
+            lambda: Call.create(ThreadId.of(3), ThreadId.ROOT, 1),
+            lambda: Call.set_pager(ThreadId.of(3), None),
+            lambda: Call.delete("3"),
+        ):
+            with self.assertRaisesRegex(TypeError, "is a ThreadId, as ThreadId.of"):
+                make()
+
+    def test_other_types_are_told_where_they_are_given(self):
+        to, fpage, message = ThreadId.of(3), Fpage.complete(), Message((0,))
+        for make in (
+            lambda: Call.send(to, (0,)),
+            lambda: Call.send(to, message, 0x400),
+            lambda: Call.receive(window=0x10),
+            lambda: Call.call(to, message, fpage, receive=0),
+            lambda: Call.fault(0, 0, 4),
+            lambda: Call.fault("0", 0, Rights.READ),
+            lambda: Call.unmap([0x17]),
+            lambda: Call.unmap_words(None, []),
+            lambda: Message(("0",)),
+            lambda: Message.of(items=[(8, 0)]),
+            lambda: Fpage(0, 12, 7),
+            lambda: Fpage(0, 12.0),
+            lambda: Item.map(0x17),
+            lambda: ThreadId(to),
+        ):
+            with self.assertRaises(TypeError):
+                make()
+
+    def test_words_are_shown_in_words(self):
+        for word, text in (
+            (0, "nil"),
+            (0x17, "complete rwx"),
+            (0x14A4, "1 KiB at 0x1400 r--"),
+            (0x800001F0, "2 GiB at 0x80000000 ---"),
+        ):
+            self.assertEqual(repr(Fpage.read(word)), f"<Fpage {word:#010x}: {text}>")
+        item = "grant 4 KiB at 0x10000 rwx, send base 0x20000"
+        for words, text in (
+            ((0x1002,), "label 0x0000; flags 0x1; 2 untyped; 0 words where the tag counts 2"),
+            ((0x80, 14, 0), "label 0x0000; no item in 0x0000000e 0x00000000"),
+            ((0x40, 8), "label 0x0000; an odd number of words for the items: 1"),
+            ((0x80, 0x2000A, 0x100C7), f"label 0x0000; {item}"),
+        ):
+            self.assertEqual(str(Message(words)), text)
+        self.assertEqual(repr(Message((0x80, 0x2000A, 0x100C7))), f"<Message 0x00000080 0x0002000a 0x000100c7: label 0x0000; {item}>")
+        self.assertEqual(repr(Message()), "<Message: no tag>")
+
+    def test_calls_are_shown_in_words(self):
+        to, message, page = ThreadId.of(3), Message.of(7, [5]), Fpage.page(1, Rights.WRITE)
+        for call, text in (
+            (Call.send(to, message, Timeout.ZERO), "send to thread 3 at once: label 0x0007; 1 untyped"),
+            (Call.receive(), "receive from any, window nil"),
+            (
+                Call.call(to, message, Fpage.complete(), receive=Timeout.ZERO),
+                "send to thread 3: label 0x0007; 1 untyped, then receive from thread 3 at once, window complete ---",
+            ),
+            (Call.send(ThreadId.NIL, message), "neither phase"),
+            (Call.ipc(ThreadId.NIL, to, 1, 0x20, message), "receive from thread 3 with timeout 0x0001, window no fpage in 0x00000020"),
+            (Call.unmap([page] * 2, own=True), "unmap own pages too, 4 KiB at 0x1000 -w-; 4 KiB at 0x1000 -w-"),
+            (Call.unmap_words(0, [0x20, 0]), "unmap no fpage in 0x00000020"),
+            (Call.create(to, to, ThreadId.ROOT), "create thread 3 in a new space, pager thread 2"),
+            (Call.create(to, ThreadId.ROOT), "create thread 3 in the space of thread 2, pager nil"),
+            (Call.set_pager(to, ThreadId.ROOT), "pager of thread 3 is thread 2"),
+        ):
+            self.assertEqual(str(call), text)
+        self.assertEqual(repr(Call.delete(to)), "<Call delete 0x0000c001: delete thread 3>")
 
     def test_rights_are_sets(self):
         self.assertEqual(Rights.READ | Rights.WRITE | Rights.EXECUTE, Rights.ALL)
@@ -113,7 +194,7 @@ class Words(unittest.TestCase):
         self.assertEqual(self.given(Call.set_pager(to, ThreadId.ROOT)), {"kind": 5, "id": 0xC001, "pager": 0x8001})
         self.assertEqual(self.given(Call.delete(to)), {"kind": 6, "id": 0xC001})
         with self.assertRaises(ValueError):
-            Call.delete(1 << 32)
+            Call.fault(1 << 32, 0, Rights.READ)
 
     def test_an_unmap_has_1_to_64_fpages(self):
         fpage = Fpage.page(1, Rights.WRITE)

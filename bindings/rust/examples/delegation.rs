@@ -15,7 +15,7 @@ fn show(kernel: &Kernel, space: u64) {
 
 fn main() -> Result<(), Box<dyn Error>> {
     let mut kernel = Kernel::boot(256)?;
-    let buyer = ThreadId::new(3, 1).ok_or("no thread can have this id")?;
+    let buyer = ThreadId::new(3, 1)?;
     kernel.enter(2, &Call::create(buyer, buyer, ThreadId::NIL))?;
     let space = kernel.space_of(3).ok_or("thread 3 is not there")?;
 
@@ -34,7 +34,7 @@ fn main() -> Result<(), Box<dyn Error>> {
     kernel.enter(1, &Call::send(buyer, &plan.only()?, Timeout::Zero))?;
     show(&kernel, space);
 
-    let all = Call::unmap(false, &[Fpage::complete(Rights::ALL)]).ok_or("an Unmap has an fpage")?;
+    let all = Call::unmap(false, &[Fpage::complete(Rights::ALL)])?;
     kernel.enter(1, &all)?;
     show(&kernel, space);
     Ok(())

@@ -7,13 +7,13 @@ const PAGE: u32 = 101;
 
 fn main() -> Result<(), Box<dyn Error>> {
     let mut kernel = Kernel::boot(256)?;
-    let pager = ThreadId::new(4, 1).ok_or("no thread can have this id")?;
-    let client = ThreadId::new(5, 1).ok_or("no thread can have this id")?;
+    let pager = ThreadId::new(4, 1)?;
+    let client = ThreadId::new(5, 1)?;
     kernel.enter(2, &Call::create(pager, pager, ThreadId::NIL))?;
     kernel.enter(2, &Call::create(client, client, pager))?;
 
     // sigma0 gives the pager its page
-    let page = Fpage::page(PAGE, Rights::ALL).ok_or("no such page")?;
+    let page = Fpage::page(PAGE, Rights::ALL)?;
     let gift = Message::new(0, &[], &[Item::map(page, PAGE * PAGE_BYTES)])?;
     kernel.enter(4, &Call::receive(ThreadId::SIGMA0, page, Timeout::Never))?;
     kernel.enter(1, &Call::send(pager, &gift, Timeout::Zero))?;
@@ -32,7 +32,7 @@ fn main() -> Result<(), Box<dyn Error>> {
     );
 
     // the answer: the page where the fault was, to be read and executed
-    let page = Fpage::page(PAGE, Rights::READ | Rights::EXECUTE).ok_or("no such page")?;
+    let page = Fpage::page(PAGE, Rights::READ | Rights::EXECUTE)?;
     let answer = Message::new(0, &[], &[Item::map(page, address)])?;
     kernel.enter(4, &Call::send(fault.from, &answer, Timeout::Zero))?;
     println!("{:?}", kernel.reply(5).ok_or("the client still waits")?);

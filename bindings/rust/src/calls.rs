@@ -1,6 +1,9 @@
 //! The calls of threads.
 use crate::ffi;
+use crate::words::Hexadecimal;
 use crate::{Fpage, Message, Rights, ThreadId, TooManyWords, MAX_WORDS};
+use std::error::Error;
+use std::fmt;
 
 /// How long a phase of an Ipc waits for its partner.
 #[derive(Clone, Copy, PartialEq, Eq, Hash, Debug, Default)]
@@ -42,8 +45,27 @@ pub struct Ipc {
     pub message: Message,
 }
 
-/// A call of a thread, which [`Kernel::start`](crate::Kernel::start) and [`Kernel::enter`](crate::Kernel::enter) begin.
+/// An Unmap has 1 to 64 fpages.
 #[derive(Clone, Copy, PartialEq, Eq, Debug)]
+pub struct FpageCount;
+
+impl fmt::Display for FpageCount {
+    fn fmt(&self, out: &mut fmt::Formatter<'_>) -> fmt::Result {
+        write!(out, "an Unmap has 1 to {MAX_WORDS} fpages")
+    }
+}
+
+impl Error for FpageCount {}
+
+/// A call of a thread, which [`Kernel::start`](crate::Kernel::start) and [`Kernel::enter`](crate::Kernel::enter) begin.
+///
+/// ```
+/// use l4::{Call, Rights, ThreadId};
+/// let call = Call::fault(0x5678, 0x400100, Rights::READ);
+/// assert_eq!(call.to_string(), "fault at 0x5678 by 0x400100, which needs r--");
+/// assert_eq!(format!("{:?}", Call::delete(ThreadId::ROOT)), "Call(delete 0x00008001: delete thread 2)");
+/// ```
+#[derive(Clone, Copy, PartialEq, Eq)]
 pub struct Call {
     given: ffi::l4_call,
     words: Message,
@@ -158,14 +180,11 @@ impl Call {
     }
 
     /// Takes the rights that 1 to 64 fpages name from all that was mapped from the caller's pages in them, and with `own` from those
-    /// pages too (L4 X.2 manual, Unmap). None for no fpage and for more than 64.
-    pub fn unmap(own: bool, fpages: &[Fpage]) -> Option<Call> {
-        let mut words = [0; MAX_WORDS];
-        for (word, fpage) in words.get_mut(..fpages.len())?.iter_mut().zip(fpages) {
-            *word = fpage.word();
-        }
-        let last = fpages.len().checked_sub(1)? as u32;
-        Call::unmap_words(u32::from(own) << 6 | last, &words[..fpages.len()]).ok()
+    /// pages too (L4 X.2 manual, Unmap).
+    pub fn unmap(own: bool, fpages: &[Fpage]) -> Result<Call, FpageCount> {
+        let last = fpages.len().checked_sub(1).ok_or(FpageCount)? as u32;
+        let words: Vec<u32> = fpages.iter().map(|fpage| fpage.word()).collect();
+        Call::unmap_words(u32::from(own) << 6 | last & 0x3f, &words).map_err(|_| FpageCount)
     }
 
     /// An Unmap by its words: bit 6 of `control` means the caller's own pages too, and bits 5 to 0 are k where the words 0 to k are
@@ -200,6 +219,114 @@ impl Call {
         let mut call = Call::of_kind(ffi::L4_DELETE);
         call.given.id = id.word();
         call
+    }
+
+    /// The number of the thread that it would create.
+    pub(crate) fn created(&self) -> Option<u32> {
+        (self.given.kind == ffi::L4_CREATE).then(|| ThreadId::of_word(self.given.id).number())
+    }
+
+    /// Its name and numbers as in a list of steps, without its words.
+    fn members(&self) -> (&'static str, Vec<u32>) {
+        let it = &self.given;
+        match it.kind {
+            ffi::L4_IPC => ("ipc", vec![it.to, it.from, it.timeouts, it.acceptor]),
+            ffi::L4_FAULT => ("fault", vec![it.address, it.ip, it.access]),
+            ffi::L4_UNMAP => ("unmap", vec![it.control]),
+            ffi::L4_CREATE => ("create", vec![it.id, it.space, it.pager]),
+            ffi::L4_SET_PAGER => ("setpager", vec![it.id, it.pager]),
+            _ => ("delete", vec![it.id]),
+        }
+    }
+
+    /// An Ipc in words.
+    fn write_ipc(&self, out: &mut fmt::Formatter<'_>) -> fmt::Result {
+        let (to, from) = (
+            ThreadId::of_word(self.given.to),
+            ThreadId::of_word(self.given.from),
+        );
+        let [send, receive] =
+            [self.given.timeouts >> 16, self.given.timeouts & 0xffff].map(|bits| match bits {
+                0 => String::new(),
+                ffi::L4_ZERO_TIMEOUT => " at once".into(),
+                other => format!(" with timeout {other:#06x}"),
+            });
+        if to != ThreadId::NIL {
+            write!(out, "send to {to}{send}: {}", self.words)?;
+        }
+        if from != ThreadId::NIL {
+            let between = if to == ThreadId::NIL { "" } else { ", then " };
+            let window = fpage_text(self.given.acceptor & !0xf);
+            write!(
+                out,
+                "{between}receive from {from}{receive}, window {window}"
+            )?;
+        }
+        if to == ThreadId::NIL && from == ThreadId::NIL {
+            out.write_str("neither phase")?;
+        }
+        Ok(())
+    }
+
+    /// An Unmap in words.
+    fn write_unmap(&self, out: &mut fmt::Formatter<'_>) -> fmt::Result {
+        let own = if self.given.control & 0x40 == 0 {
+            ""
+        } else {
+            "own pages too, "
+        };
+        let count = (self.given.control & 0x3f) as usize + 1;
+        let fpages: Vec<String> = self
+            .words
+            .words()
+            .iter()
+            .take(count)
+            .map(|&word| fpage_text(word))
+            .collect();
+        write!(out, "unmap {own}{}", fpages.join("; "))
+    }
+}
+
+/// The fpage of a word, in words.
+fn fpage_text(word: u32) -> String {
+    match Fpage::read(word) {
+        Ok(fpage) => fpage.to_string(),
+        Err(_) => format!("no fpage in {word:#010x}"),
+    }
+}
+
+/// The call in words.
+impl fmt::Display for Call {
+    fn fmt(&self, out: &mut fmt::Formatter<'_>) -> fmt::Result {
+        let it = &self.given;
+        let [id, space, pager] = [it.id, it.space, it.pager].map(ThreadId::of_word);
+        match it.kind {
+            ffi::L4_IPC => self.write_ipc(out),
+            ffi::L4_FAULT => {
+                let access = Rights::of_bits(it.access);
+                write!(
+                    out,
+                    "fault at {:#x} by {:#x}, which needs {access}",
+                    it.address, it.ip
+                )
+            }
+            ffi::L4_UNMAP => self.write_unmap(out),
+            ffi::L4_CREATE if id == space => {
+                write!(out, "create {id} in a new space, pager {pager}")
+            }
+            ffi::L4_CREATE => write!(out, "create {id} in the space of {space}, pager {pager}"),
+            ffi::L4_SET_PAGER => write!(out, "pager of {id} is {pager}"),
+            _ => write!(out, "delete {id}"),
+        }
+    }
+}
+
+/// As in a list of steps, with each word in hexadecimal, and then in words.
+impl fmt::Debug for Call {
+    fn fmt(&self, out: &mut fmt::Formatter<'_>) -> fmt::Result {
+        let (name, mut words) = self.members();
+        words.extend(self.words.words());
+        write!(out, "Call({name} {}: {self})", Hexadecimal(&words))
     }
 }
 
@@ -275,8 +402,48 @@ mod tests {
         assert_eq!((call.given.kind, call.given.control), (3, 0x7f));
         assert_eq!(call.given().1, [0x10c2; 64]);
         assert_eq!(Call::unmap(false, &[fpage]).unwrap().given.control, 0);
-        assert_eq!(Call::unmap(false, &[]), None);
-        assert_eq!(Call::unmap(false, &[fpage; 65]), None);
+        assert_eq!(Call::unmap(false, &[]), Err(FpageCount));
+        assert_eq!(Call::unmap(false, &[fpage; 65]), Err(FpageCount));
         assert_eq!(Call::unmap_words(0, &[0; 65]), Err(TooManyWords));
+    }
+
+    #[test]
+    fn calls_are_shown_in_words() {
+        let (three, root) = (ThreadId::of_word(0xc001), ThreadId::ROOT);
+        let message = Message::new(7, &[5], &[]).unwrap();
+        let window = Fpage::complete(Rights::NONE);
+        let (never, zero) = (Timeout::Never, Timeout::Zero);
+        let page = Fpage::page(1, Rights::WRITE).unwrap();
+        for (call, text) in [
+            (Call::send(three, &message, zero), "send to thread 3 at once: label 0x0007; 1 untyped"),
+            (Call::receive(ThreadId::ANY, Fpage::NIL, never), "receive from any, window nil"),
+            (
+                Call::call(three, &message, window, never, zero),
+                "send to thread 3: label 0x0007; 1 untyped, then receive from thread 3 at once, window complete ---",
+            ),
+            (Call::send(ThreadId::NIL, &message, never), "neither phase"),
+            (Call::unmap(true, &[page; 2]).unwrap(), "unmap own pages too, 4 KiB at 0x1000 -w-; 4 KiB at 0x1000 -w-"),
+            (Call::unmap_words(0, &[0x20, 0]).unwrap(), "unmap no fpage in 0x00000020"),
+            (Call::create(three, three, root), "create thread 3 in a new space, pager thread 2"),
+            (Call::create(three, root, ThreadId::NIL), "create thread 3 in the space of thread 2, pager nil"),
+            (Call::set_pager(three, root), "pager of thread 3 is thread 2"),
+        ] {
+            assert_eq!(call.to_string(), text);
+        }
+        let shown = format!("{:?}", Call::send(three, &message, zero));
+        let words = "0x0000c001 0x00000000 0x04000000 0x00000000 0x00070001 0x00000005";
+        assert_eq!(
+            shown,
+            format!("Call(ipc {words}: send to thread 3 at once: label 0x0007; 1 untyped)")
+        );
+        let ipc = Ipc {
+            to: ThreadId::NIL,
+            from: three,
+            timeouts: 1,
+            acceptor: 0x20,
+            message,
+        };
+        let text = "receive from thread 3 with timeout 0x0001, window no fpage in 0x00000020";
+        assert_eq!(Call::ipc(&ipc).to_string(), text);
     }
 }

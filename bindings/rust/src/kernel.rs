@@ -1,7 +1,8 @@
 //! Kernels, their steps, and what there is to be seen.
 use crate::ffi;
 use crate::refusals::unknown;
-use crate::{Call, PageSize, Refusal, Reply, Rights, MAX_THREADS};
+use crate::{Call, PageSize, Refusal, Reply, Rights, ThreadId, MAX_THREADS};
+use std::collections::BTreeSet;
 use std::fmt;
 
 /// A step that is done without a call's being started.
@@ -148,6 +149,8 @@ pub struct Mapping {
 /// Threads go by their numbers here. A refused step changes nothing.
 pub struct Kernel {
     handle: ffi::Handle<ffi::l4_kernel>,
+    /// The numbers of the threads, and of some that are gone: the library tells no list of them.
+    threads: BTreeSet<u32>,
 }
 
 impl Kernel {
@@ -165,7 +168,7 @@ impl Kernel {
     /// let mut kernel = Kernel::boot_sized(256, PageSize::Kib1)?;
     /// kernel.start(2, &Call::receive(ThreadId::ANY, Fpage::complete(Rights::NONE), Timeout::Never))?;
     /// // 4 KiB are four of its pages
-    /// let fpage = Fpage::bytes(0x10000, 12, Rights::ALL).expect("it is aligned");
+    /// let fpage = Fpage::bytes(0x10000, 12, Rights::ALL)?;
     /// let message = Message::new(0, &[], &[Item::map(fpage, 0x20000)])?;
     /// kernel.enter(1, &Call::send(ThreadId::ROOT, &message, Timeout::Never))?;
     /// let frames: Vec<_> = kernel.mappings(1).map(|mapping| (mapping.place.page, mapping.frame)).collect();
@@ -174,7 +177,12 @@ impl Kernel {
     /// ```
     pub fn boot_sized(frames: u32, page_size: PageSize) -> Result<Kernel, Refusal> {
         match ffi::Handle::boot(frames, page_size.bytes()) {
-            Ok(handle) => Ok(Kernel { handle }),
+            Ok(handle) => Ok(Kernel {
+                handle,
+                threads: [ThreadId::SIGMA0, ThreadId::ROOT]
+                    .map(ThreadId::number)
+                    .into(),
+            }),
             Err(number) => Err(Refusal::of(number, 0)),
         }
     }
@@ -189,7 +197,17 @@ impl Kernel {
     /// or of a control of threads (H1 to H6; NoMemory of a Create in a new space).
     pub fn start(&mut self, thread: u32, call: &Call) -> Result<Answer, Refusal> {
         let (given, words) = call.given();
-        Answer::of(&self.handle.start(thread, given, words))
+        let answer = Answer::of(&self.handle.start(thread, given, words))?;
+        self.keep(call);
+        Ok(answer)
+    }
+
+    /// Keeps the number of a thread that was created.
+    fn keep(&mut self, call: &Call) {
+        if let Some(number) = call.created() {
+            self.threads = self.threads().into_iter().collect();
+            self.threads.insert(number);
+        }
     }
 
     /// Starts a call as [`start`](Kernel::start) does, and then does the steps that come next until there is none. Refused as `start`.
@@ -207,8 +225,10 @@ impl Kernel {
         let (given, words) = call.given();
         let (entered, steps) = self.handle.enter(thread, given, words);
         let count = MAX_THREADS.min(entered.step_count as usize);
+        let start = Answer::of(&entered.start)?;
+        self.keep(call);
         Ok(Entered {
-            start: Answer::of(&entered.start)?,
+            start,
             steps: steps[..count].iter().filter_map(Done::of).collect(),
         })
     }
@@ -250,6 +270,31 @@ impl Kernel {
     /// The reply of the last ended call of a thread that runs; None where the thread waits, isn't there, or made no call yet.
     pub fn reply(&self, thread: u32) -> Option<Reply> {
         Reply::of(&self.handle.reply_of(thread))
+    }
+
+    /// The numbers of the threads, by rising number.
+    ///
+    /// ```
+    /// use l4::{Call, Kernel, ThreadId};
+    /// let mut kernel = Kernel::boot(1)?;
+    /// let id = ThreadId::new(9, 1)?;
+    /// kernel.enter(2, &Call::create(id, id, ThreadId::NIL))?;
+    /// assert_eq!((kernel.threads(), kernel.spaces()), (vec![1, 2, 9], vec![0, 1, 2]));
+    /// # Ok::<(), l4::Refusal>(())
+    /// ```
+    pub fn threads(&self) -> Vec<u32> {
+        let there = |thread: &u32| self.space_of(*thread).is_some();
+        self.threads.iter().copied().filter(there).collect()
+    }
+
+    /// The numbers of the spaces, by rising number.
+    pub fn spaces(&self) -> Vec<u64> {
+        let spaces: BTreeSet<u64> = self
+            .threads
+            .iter()
+            .filter_map(|&thread| self.space_of(thread))
+            .collect();
+        spaces.into_iter().collect()
     }
 
     /// The number of a thread's space; None where there is no such thread.

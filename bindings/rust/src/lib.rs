@@ -14,7 +14,7 @@
 //! // root waits for anybody's message, and accepts pages everywhere
 //! kernel.start(2, &Call::receive(ThreadId::ANY, Fpage::complete(Rights::NONE), Timeout::Never))?;
 //! // sigma0 maps its page 16 to page 32
-//! let page = Fpage::page(16, Rights::ALL).expect("page 16 is one of a space's");
+//! let page = Fpage::page(16, Rights::ALL)?;
 //! let message = Message::new(0, &[], &[Item::map(page, 32 * PAGE_BYTES)])?;
 //! let entered = kernel.enter(1, &Call::send(ThreadId::ROOT, &message, Timeout::Never))?;
 //! assert_eq!(entered.steps[0].ended, [1, 2]);
@@ -60,7 +60,7 @@ mod replies;
 mod tables;
 mod words;
 
-pub use calls::{Call, Ipc, Timeout};
+pub use calls::{Call, FpageCount, Ipc, Timeout};
 pub use kernel::{Answer, Done, Entered, Kernel, Mapping, Mappings, Outcome, Place, Step};
 pub use plans::{NoPlan, Plan, Region};
 pub use refusals::Refusal;

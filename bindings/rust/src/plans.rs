@@ -87,7 +87,7 @@ impl Plan {
         self.messages().flat_map(|message| {
             let pairs = message.words()[1..].chunks_exact(2);
             pairs
-                .filter_map(|pair| Item::read(pair[0], pair[1]))
+                .filter_map(|pair| Item::read(pair[0], pair[1]).ok())
                 .collect::<Vec<_>>()
         })
     }
@@ -99,7 +99,7 @@ impl Plan {
 }
 
 /// Why there is no plan for a region.
-#[derive(Clone, PartialEq, Eq, Debug)]
+#[derive(Clone, PartialEq, Eq)]
 pub enum NoPlan {
     /// The region is refused, by N1, N2 or N3.
     Refused(Refusal),
@@ -130,6 +130,17 @@ impl NoPlan {
 impl fmt::Display for NoPlan {
     fn fmt(&self, out: &mut fmt::Formatter<'_>) -> fmt::Result {
         self.refusal().fmt(out)
+    }
+}
+
+impl fmt::Debug for NoPlan {
+    fn fmt(&self, out: &mut fmt::Formatter<'_>) -> fmt::Result {
+        match self {
+            NoPlan::Refused(refusal) => write!(out, "{refusal:?}"),
+            NoPlan::TooLong(pages) => {
+                write!(out, "{:?}, as {} pages show", self.refusal(), pages.len())
+            }
+        }
     }
 }
 

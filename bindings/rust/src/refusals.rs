@@ -13,8 +13,9 @@ macro_rules! refusals {
         /// let refused = Kernel::boot(0).unwrap_err();
         /// assert_eq!(refused, Refusal::FrameCount);
         /// assert_eq!(refused.to_string(), "K6: a machine has 1 to 4,096 frames");
+        /// assert_eq!(format!("{refused:?}"), "FrameCount (K6: a machine has 1 to 4,096 frames)");
         /// ```
-        #[derive(Clone, Copy, PartialEq, Eq, Hash, Debug)]
+        #[derive(Clone, Copy, PartialEq, Eq, Hash)]
         pub enum Refusal {
             $(#[doc = concat!($code, ": ", $text, ".")] $name $(($detail))?,)*
         }
@@ -39,6 +40,13 @@ macro_rules! refusals {
             pub fn text(self) -> &'static str {
                 match self {
                     $(Refusal::$name { .. } => $text,)*
+                }
+            }
+
+            /// The name of the variant.
+            fn name(self) -> &'static str {
+                match self {
+                    $(Refusal::$name { .. } => stringify!($name),)*
                 }
             }
 
@@ -106,6 +114,12 @@ impl fmt::Display for Refusal {
             Some(detail) => write!(out, "{} {detail}: {}", self.code(), self.text()),
             None => write!(out, "{}: {}", self.code(), self.text()),
         }
+    }
+}
+
+impl fmt::Debug for Refusal {
+    fn fmt(&self, out: &mut fmt::Formatter<'_>) -> fmt::Result {
+        write!(out, "{} ({self})", self.name())
     }
 }
 

@@ -1,6 +1,7 @@
 //! How calls end.
 use crate::ffi;
 use crate::refusals::unknown;
+use crate::words::{write_message, Hexadecimal};
 use crate::{Item, Message, ThreadId};
 use std::error::Error;
 use std::fmt;
@@ -52,7 +53,7 @@ impl ErrorCode {
 
 impl fmt::Debug for ErrorCode {
     fn fmt(&self, out: &mut fmt::Formatter<'_>) -> fmt::Result {
-        write!(out, "ErrorCode({})", self.0)
+        write!(out, "ErrorCode({}: {})", self.0, self.text())
     }
 }
 
@@ -65,7 +66,7 @@ impl fmt::Display for ErrorCode {
 impl Error for ErrorCode {}
 
 /// How an Ipc ended: with the message that it received, without one where it had no receive phase, or with an error.
-#[derive(Clone, PartialEq, Eq, Debug)]
+#[derive(Clone, PartialEq, Eq)]
 pub struct Received {
     /// The tag of the message; 0x8000 where the call failed, 0 where nothing was to be received.
     pub tag: u32,
@@ -105,7 +106,31 @@ impl Received {
     pub fn items(&self) -> impl Iterator<Item = Item> + '_ {
         self.words[self.untyped_count()..]
             .chunks_exact(2)
-            .filter_map(|pair| Item::read(pair[0], pair[1]))
+            .filter_map(|pair| Item::read(pair[0], pair[1]).ok())
+    }
+}
+
+/// As `message of thread 1: label 0x0007; ..`, or why there is none.
+impl fmt::Display for Received {
+    fn fmt(&self, out: &mut fmt::Formatter<'_>) -> fmt::Result {
+        match (self.error, self.from) {
+            (Some(error), _) => write!(out, "{error}"),
+            (None, ThreadId::NIL) => out.write_str("no message was to be received"),
+            (None, from) => {
+                write!(out, "message of {from}: ")?;
+                write_message(out, self.tag, &self.words)
+            }
+        }
+    }
+}
+
+impl fmt::Debug for Received {
+    fn fmt(&self, out: &mut fmt::Formatter<'_>) -> fmt::Result {
+        write!(
+            out,
+            "Received({}: {self})",
+            Hexadecimal(self.message().words())
+        )
     }
 }
 
@@ -181,6 +206,12 @@ mod tests {
         };
         assert_eq!((received.label(), received.untyped()), (7, &[5][..]));
         assert_eq!(received.message().words(), [0x70081, 5, 0x20008, 0x100c7]);
+        let text = "message of thread 1: label 0x0007; 1 untyped; map 4 KiB at 0x10000 rwx, send base 0x20000";
+        let words = "0x00070081 0x00000005 0x00020008 0x000100c7";
+        assert_eq!(
+            format!("{received:?}"),
+            format!("Received({words}: {text})")
+        );
         let items: Vec<Item> = received.items().collect();
         assert_eq!(
             (items.len(), items[0].base(), items[0].fpage().word()),

@@ -1,9 +1,22 @@
 //! The words of the kernel's interface: thread ids, rights, fpages, items and messages.
 use crate::refusals::unknown;
-use crate::{ffi, MAX_WORDS};
+use crate::{ffi, Refusal, MAX_WORDS};
 use std::error::Error;
 use std::fmt;
 use std::ops::{BitAnd, BitOr, Range, Sub};
+
+/// Words, each as `0x` and eight digits.
+pub(crate) struct Hexadecimal<'words>(pub(crate) &'words [u32]);
+
+impl fmt::Display for Hexadecimal<'_> {
+    fn fmt(&self, out: &mut fmt::Formatter<'_>) -> fmt::Result {
+        for (place, word) in self.0.iter().enumerate() {
+            let between = if place == 0 { "" } else { " " };
+            write!(out, "{between}{word:#010x}")?;
+        }
+        Ok(())
+    }
+}
 
 /// A thread id: a thread number in bits 31 to 14, and a version in bits 13 to 0 (L4 X.2 manual, ThreadId).
 #[derive(Clone, Copy, PartialEq, Eq, PartialOrd, Ord, Hash)]
@@ -22,12 +35,23 @@ impl ThreadId {
     /// The id of root, thread 2 in space 1.
     pub const ROOT: ThreadId = ThreadId(2 << 14 | 1);
 
-    /// The id of the thread `number`, from 1 to 262,143, with a version from 1 to 16,383 whose low six bits aren't all zero. None for
-    /// other numbers, and for the one pair whose word stands for anybody.
-    pub fn new(number: u32, version: u32) -> Option<ThreadId> {
+    /// The id of the thread `number`, from 1 to 262,143, with a version from 1 to 16,383 whose low six bits aren't all zero. Refused by
+    /// H2 for other numbers, and for the one pair whose word stands for anybody.
+    ///
+    /// ```
+    /// use l4::{Refusal, ThreadId};
+    /// assert_eq!(ThreadId::new(3, 1)?.word(), 0xc001);
+    /// assert_eq!(ThreadId::new(0, 1), Err(Refusal::BadThreadId));
+    /// # Ok::<(), Refusal>(())
+    /// ```
+    pub fn new(number: u32, version: u32) -> Result<ThreadId, Refusal> {
         let there = (1..1 << 18).contains(&number) && version < 1 << 14 && version & 0x3f != 0;
         let id = ThreadId(number << 14 | version & 0x3fff);
-        (there && id != ThreadId::ANY).then_some(id)
+        if there && id != ThreadId::ANY {
+            Ok(id)
+        } else {
+            Err(Refusal::BadThreadId)
+        }
     }
 
     /// The id of a word, which may be one that no thread can have.
@@ -51,9 +75,21 @@ impl ThreadId {
     }
 }
 
+/// As `thread 3`, with its version where that isn't 1, or as `nil` or `any`.
+impl fmt::Display for ThreadId {
+    fn fmt(&self, out: &mut fmt::Formatter<'_>) -> fmt::Result {
+        match (*self, self.number(), self.version()) {
+            (ThreadId::NIL, ..) => out.write_str("nil"),
+            (ThreadId::ANY, ..) => out.write_str("any"),
+            (_, number, 1) => write!(out, "thread {number}"),
+            (_, number, version) => write!(out, "thread {number} version {version}"),
+        }
+    }
+}
+
 impl fmt::Debug for ThreadId {
     fn fmt(&self, out: &mut fmt::Formatter<'_>) -> fmt::Result {
-        write!(out, "ThreadId({:#010x})", self.0)
+        write!(out, "ThreadId({:#010x}: {self})", self.0)
     }
 }
 
@@ -152,13 +188,14 @@ impl fmt::Debug for Rights {
     }
 }
 
-/// A word is no fpage: its size field is 1 with a base that isn't 0, 2 to 9, or 33 to 63.
+/// There is no such fpage: a word's size field is 1 with a base that isn't 0, 2 to 9, or 33 to 63; or an fpage was asked for that has
+/// too few or too many bytes, doesn't start at a multiple of its size, or goes beyond a space.
 #[derive(Clone, Copy, PartialEq, Eq, Debug)]
 pub struct BadFpage;
 
 impl fmt::Display for BadFpage {
     fn fmt(&self, out: &mut fmt::Formatter<'_>) -> fmt::Result {
-        out.write_str("the word is no fpage")
+        out.write_str("there is no such fpage")
     }
 }
 
@@ -173,7 +210,14 @@ const SPACE_SIZE: u8 = 32;
 /// A flexpage: no bytes, all bytes of a space, or 2^log bytes from a multiple of 2^log on, with rights (L4 X.2 manual, Fpages).
 ///
 /// As a receive window it says where a receiver accepts pages; its rights mean nothing there.
-#[derive(Clone, Copy, PartialEq, Eq, Hash, Debug)]
+///
+/// ```
+/// use l4::{Fpage, Rights};
+/// let shown = format!("{:?}", Fpage::page(16, Rights::ALL)?);
+/// assert_eq!(shown, "Fpage(0x000100c7: 4 KiB at 0x10000 rwx)");
+/// # Ok::<(), l4::BadFpage>(())
+/// ```
+#[derive(Clone, Copy, PartialEq, Eq, Hash)]
 pub struct Fpage {
     base: u32,
     log: u8,
@@ -197,20 +241,24 @@ impl Fpage {
         }
     }
 
-    /// 2^log bytes from the byte `base` on. None where `log` isn't from 10 to 31, or `base` is no multiple of 2^log.
-    pub fn bytes(base: u32, log: u8, rights: Rights) -> Option<Fpage> {
+    /// 2^log bytes from the byte `base` on. There is none where `log` isn't from 10 to 31, or `base` is no multiple of 2^log.
+    pub fn bytes(base: u32, log: u8, rights: Rights) -> Result<Fpage, BadFpage> {
         let aligned = (10..SPACE_SIZE).contains(&log) && base & ((1 << log) - 1) == 0;
-        aligned.then_some(Fpage { base, log, rights })
+        if aligned {
+            Ok(Fpage { base, log, rights })
+        } else {
+            Err(BadFpage)
+        }
     }
 
-    /// 2^log pages of 4 KiB from the page `first` on; all pages of a space where `log` is 20. None where `log` is above 20, `first` is no
-    /// multiple of 2^log, or it isn't below 1,048,576. [`PageSize::fpage`] has those of another size.
-    pub fn pages(first: u32, log: u8, rights: Rights) -> Option<Fpage> {
+    /// 2^log pages of 4 KiB from the page `first` on; all pages of a space where `log` is 20. There is none where `log` is above 20,
+    /// `first` is no multiple of 2^log, or it isn't below 1,048,576. [`PageSize::fpage`] has those of another size.
+    pub fn pages(first: u32, log: u8, rights: Rights) -> Result<Fpage, BadFpage> {
         PageSize::Kib4.fpage(first, log, rights)
     }
 
     /// One page of 4 KiB, below 1,048,576.
-    pub fn page(page: u32, rights: Rights) -> Option<Fpage> {
+    pub fn page(page: u32, rights: Rights) -> Result<Fpage, BadFpage> {
         Fpage::pages(page, 0, rights)
     }
 
@@ -219,7 +267,7 @@ impl Fpage {
     ///
     /// ```
     /// use l4::{BadFpage, Fpage, Rights};
-    /// assert_eq!(Fpage::read(0x100c7).ok(), Fpage::page(16, Rights::ALL));
+    /// assert_eq!(Fpage::read(0x100c7), Fpage::page(16, Rights::ALL));
     /// assert_eq!(Fpage::read(0x1020), Err(BadFpage));
     /// ```
     pub fn read(word: u32) -> Result<Fpage, BadFpage> {
@@ -265,14 +313,38 @@ impl Fpage {
     }
 }
 
+/// As `4 KiB at 0x10000 rwx`, `complete rwx` or `nil`.
+impl fmt::Display for Fpage {
+    fn fmt(&self, out: &mut fmt::Formatter<'_>) -> fmt::Result {
+        match self.log {
+            NIL_SIZE => out.write_str("nil"),
+            SPACE_SIZE => write!(out, "complete {}", self.rights),
+            log => {
+                let (count, unit) = (
+                    1 << (log % 10),
+                    ["bytes", "KiB", "MiB", "GiB"][usize::from(log / 10)],
+                );
+                write!(out, "{count} {unit} at {:#x} {}", self.base, self.rights)
+            }
+        }
+    }
+}
+
+impl fmt::Debug for Fpage {
+    fn fmt(&self, out: &mut fmt::Formatter<'_>) -> fmt::Result {
+        write!(out, "Fpage({:#010x}: {self})", self.word())
+    }
+}
+
 /// The size of a kernel's pages and frames, which is chosen as it boots.
 ///
 /// ```
 /// use l4::{PageSize, Rights};
-/// let page = PageSize::Kib1.fpage(16, 0, Rights::ALL).expect("page 16 is one of a space's");
+/// let page = PageSize::Kib1.fpage(16, 0, Rights::ALL)?;
 /// assert_eq!((page.word(), PageSize::Kib1.range(page)), (0x40a7, 16..17));
 /// // it is too small to be a page of 4 KiB
 /// assert!(page.page_range().is_empty());
+/// # Ok::<(), l4::BadFpage>(())
 /// ```
 #[derive(Clone, Copy, PartialEq, Eq, Hash, Debug, Default)]
 pub enum PageSize {
@@ -311,15 +383,15 @@ impl PageSize {
         1 << (SPACE_SIZE - self.log())
     }
 
-    /// 2^log pages from the page `first` on; all pages of a space where these are as many. None where 2^log is more, `first` is no
-    /// multiple of 2^log, or it isn't one of the space's.
-    pub fn fpage(self, first: u32, log: u8, rights: Rights) -> Option<Fpage> {
+    /// 2^log pages from the page `first` on; all pages of a space where these are as many. There is none where 2^log is more, `first` is
+    /// no multiple of 2^log, or it isn't one of the space's.
+    pub fn fpage(self, first: u32, log: u8, rights: Rights) -> Result<Fpage, BadFpage> {
         let all = SPACE_SIZE - self.log();
         if log == all && first == 0 {
-            return Some(Fpage::complete(rights));
+            return Ok(Fpage::complete(rights));
         }
         if log >= all || first >= self.space_pages() {
-            return None;
+            return Err(BadFpage);
         }
         Fpage::bytes(first * self.bytes(), log + self.log(), rights)
     }
@@ -336,7 +408,7 @@ impl PageSize {
 
 /// What a message hands over: the pages of an fpage, shared (map) or given away (grant), with a send base that says where they land in
 /// a larger receive window (L4 X.2 manual, IPC: map item, grant item).
-#[derive(Clone, Copy, PartialEq, Eq, Hash, Debug)]
+#[derive(Clone, Copy, PartialEq, Eq, Hash)]
 pub struct Item {
     is_grant: bool,
     base: u32,
@@ -362,13 +434,24 @@ impl Item {
         }
     }
 
-    /// The item of two words; None for strings, CtrlXfer items, and words that are none.
-    pub fn read(first: u32, second: u32) -> Option<Item> {
-        let fpage = Fpage::read(second).ok()?;
-        match first >> 1 & 7 {
-            4 => Some(Item::map(fpage, first)),
-            5 => Some(Item::grant(fpage, first)),
-            _ => None,
+    /// The item of two words. Refused as the first item of a message is: by M4 for strings and CtrlXfer items, and by M3 for words that
+    /// are none.
+    ///
+    /// ```
+    /// use l4::{Item, Refusal};
+    /// assert_eq!(Item::read(0x20008, 0x100c7)?.to_string(), "map 4 KiB at 0x10000 rwx, send base 0x20000");
+    /// assert_eq!(Item::read(0, 0x100c7), Err(Refusal::UnsupportedItem(0)));
+    /// # Ok::<(), Refusal>(())
+    /// ```
+    pub fn read(first: u32, second: u32) -> Result<Item, Refusal> {
+        let kind = first >> 1 & 7;
+        if kind < 4 || kind == 6 {
+            return Err(Refusal::UnsupportedItem(0));
+        }
+        match (kind, Fpage::read(second)) {
+            (4, Ok(fpage)) => Ok(Item::map(fpage, first)),
+            (5, Ok(fpage)) => Ok(Item::grant(fpage, first)),
+            _ => Err(Refusal::BadItem(0)),
         }
     }
 
@@ -394,6 +477,20 @@ impl Item {
     }
 }
 
+/// As `map 4 KiB at 0x10000 rwx, send base 0x20000`, or `grant ..`.
+impl fmt::Display for Item {
+    fn fmt(&self, out: &mut fmt::Formatter<'_>) -> fmt::Result {
+        let kind = if self.is_grant { "grant" } else { "map" };
+        write!(out, "{kind} {}, send base {:#x}", self.fpage, self.base)
+    }
+}
+
+impl fmt::Debug for Item {
+    fn fmt(&self, out: &mut fmt::Formatter<'_>) -> fmt::Result {
+        write!(out, "Item({}: {self})", Hexadecimal(&self.words(false)))
+    }
+}
+
 /// A message has more than 64 words, the tag among them.
 #[derive(Clone, Copy, PartialEq, Eq, Debug)]
 pub struct TooManyWords;
@@ -407,6 +504,12 @@ impl fmt::Display for TooManyWords {
 impl Error for TooManyWords {}
 
 /// The words of a message, from its tag on: at most 64 (L4 X.2 manual, IPC: message registers).
+///
+/// ```
+/// let message = l4::Message::of_words(&[0x70081, 5, 0x20008, 0x100c7])?;
+/// assert_eq!(message.to_string(), "label 0x0007; 1 untyped; map 4 KiB at 0x10000 rwx, send base 0x20000");
+/// # Ok::<(), l4::TooManyWords>(())
+/// ```
 #[derive(Clone, Copy)]
 pub struct Message {
     words: [u32; MAX_WORDS],
@@ -474,9 +577,54 @@ impl PartialEq for Message {
 
 impl Eq for Message {}
 
+/// A message in words: its label, how many untyped words there are, and its items.
+pub(crate) fn write_message(out: &mut fmt::Formatter<'_>, tag: u32, words: &[u32]) -> fmt::Result {
+    let (untyped, typed, flags) = (
+        (tag & 0x3f) as usize,
+        (tag >> 6 & 0x3f) as usize,
+        tag >> 12 & 0xf,
+    );
+    write!(out, "label {:#06x}", tag >> 16)?;
+    if flags != 0 {
+        write!(out, "; flags {flags:#x}")?;
+    }
+    if untyped != 0 {
+        write!(out, "; {untyped} untyped")?;
+    }
+    let items = &words[untyped.min(words.len())..(untyped + typed).min(words.len())];
+    for pair in items.chunks_exact(2) {
+        match Item::read(pair[0], pair[1]) {
+            Ok(item) => write!(out, "; {item}")?,
+            Err(_) => write!(out, "; no item in {}", Hexadecimal(pair))?,
+        }
+    }
+    if typed % 2 != 0 {
+        write!(out, "; an odd number of words for the items: {typed}")?;
+    }
+    if words.len() != untyped + typed {
+        write!(
+            out,
+            "; {} words where the tag counts {}",
+            words.len(),
+            untyped + typed
+        )?;
+    }
+    Ok(())
+}
+
+/// As `label 0x0007; 1 untyped; map ..`.
+impl fmt::Display for Message {
+    fn fmt(&self, out: &mut fmt::Formatter<'_>) -> fmt::Result {
+        match self.words().split_first() {
+            Some((&tag, words)) => write_message(out, tag, words),
+            None => out.write_str("no tag"),
+        }
+    }
+}
+
 impl fmt::Debug for Message {
     fn fmt(&self, out: &mut fmt::Formatter<'_>) -> fmt::Result {
-        write!(out, "Message({:#x?})", self.words())
+        write!(out, "Message({}: {self})", Hexadecimal(self.words()))
     }
 }
 
@@ -499,11 +647,11 @@ mod tests {
             (1, 1 << 14),
             ((1 << 18) - 1, (1 << 14) - 1),
         ] {
-            assert_eq!(ThreadId::new(number, version), None);
+            assert_eq!(ThreadId::new(number, version), Err(Refusal::BadThreadId));
         }
         assert_eq!(
             ThreadId::new((1 << 18) - 1, 1).map(ThreadId::number),
-            Some((1 << 18) - 1)
+            Ok((1 << 18) - 1)
         );
     }
 
@@ -537,7 +685,7 @@ mod tests {
         assert_eq!(Fpage::complete(Rights::ALL).page_range(), 0..SPACE_PAGES);
         assert_eq!(
             Fpage::pages(0, 20, Rights::READ),
-            Some(Fpage::complete(Rights::READ))
+            Ok(Fpage::complete(Rights::READ))
         );
         assert!(
             Fpage::NIL.page_range().is_empty()
@@ -547,10 +695,10 @@ mod tests {
                     .is_empty()
         );
         for (first, log) in [(2, 2), (0, 21), (SPACE_PAGES, 0), (1, 20), (u32::MAX, 0)] {
-            assert_eq!(Fpage::pages(first, log, Rights::ALL), None);
+            assert_eq!(Fpage::pages(first, log, Rights::ALL), Err(BadFpage));
         }
         for (base, log) in [(0, 9), (0, 32), (0x400, 11), (0, 255)] {
-            assert_eq!(Fpage::bytes(base, log, Rights::ALL), None);
+            assert_eq!(Fpage::bytes(base, log, Rights::ALL), Err(BadFpage));
         }
         assert_eq!(
             Fpage::bytes(0x8000_0000, 31, Rights::NONE)
@@ -569,19 +717,19 @@ mod tests {
         assert_eq!(PageSize::default(), large);
         let fpage = Fpage::page(5, Rights::ALL).unwrap();
         assert_eq!((large.range(fpage), small.range(fpage)), (5..6, 20..24));
-        assert_eq!(small.fpage(20, 2, Rights::ALL), Some(fpage));
+        assert_eq!(small.fpage(20, 2, Rights::ALL), Ok(fpage));
         assert_eq!(small.range(Fpage::complete(Rights::ALL)), 0..4_194_304);
         assert_eq!(
             small.fpage(0, 22, Rights::READ),
-            Some(Fpage::complete(Rights::READ))
+            Ok(Fpage::complete(Rights::READ))
         );
         assert!(small.range(Fpage::NIL).is_empty());
         assert_eq!(
             small.fpage(4_194_303, 0, Rights::ALL).map(Fpage::word),
-            Some(0xffff_fca7)
+            Ok(0xffff_fca7)
         );
         for (first, log) in [(2, 2), (0, 23), (4_194_304, 0), (1, 22), (u32::MAX, 0)] {
-            assert_eq!(small.fpage(first, log, Rights::ALL), None);
+            assert_eq!(small.fpage(first, log, Rights::ALL), Err(BadFpage));
         }
     }
 
@@ -596,13 +744,19 @@ mod tests {
             for more in [false, true] {
                 let [first, second] = item.words(more);
                 assert_eq!(first & 1, u32::from(more));
-                assert_eq!(Item::read(first, second), Some(item));
+                assert_eq!(Item::read(first, second), Ok(item));
             }
         }
         assert_eq!(Item::map(fpage, 0x7ff).base(), 0x400);
-        assert_eq!(Item::read(0, 0x50c7), None);
-        assert_eq!(Item::read(14, 0x50c7), None);
-        assert_eq!(Item::read(8, 0x1020), None);
+        for (first, second, refusal) in [
+            (0, 0x50c7, Refusal::UnsupportedItem(0)),
+            (6, 0x1020, Refusal::UnsupportedItem(0)),
+            (12, 0x50c7, Refusal::UnsupportedItem(0)),
+            (14, 0x50c7, Refusal::BadItem(0)),
+            (8, 0x1020, Refusal::BadItem(0)),
+        ] {
+            assert_eq!(Item::read(first, second), Err(refusal));
+        }
     }
 
     #[test]
@@ -616,5 +770,49 @@ mod tests {
         assert_eq!(Message::of_words(&[1; 64]).unwrap().words(), [1; 64]);
         assert_eq!(Message::of_words(&[1; 65]), Err(TooManyWords));
         assert!(Message::of_words(&[]).unwrap().words().is_empty());
+    }
+
+    #[test]
+    fn words_are_shown_in_words() {
+        for (id, text) in [
+            (ThreadId::NIL, "nil"),
+            (ThreadId::ANY, "any"),
+            (ThreadId::ROOT, "thread 2"),
+            (ThreadId(0xc002), "thread 3 version 2"),
+        ] {
+            assert_eq!(id.to_string(), text);
+        }
+        assert_eq!(
+            format!("{:?}", ThreadId::ROOT),
+            "ThreadId(0x00008001: thread 2)"
+        );
+        for (word, text) in [
+            (0, "nil"),
+            (0x17, "complete rwx"),
+            (0x14a4, "1 KiB at 0x1400 r--"),
+            (0x8000_01f0, "2 GiB at 0x80000000 ---"),
+        ] {
+            assert_eq!(Fpage::read(word).unwrap().to_string(), text);
+        }
+        for (words, text) in [
+            (&[][..], "no tag"),
+            (
+                &[0x1002],
+                "label 0x0000; flags 0x1; 2 untyped; 0 words where the tag counts 2",
+            ),
+            (
+                &[0x80, 14, 0],
+                "label 0x0000; no item in 0x0000000e 0x00000000",
+            ),
+            (
+                &[0x40, 8],
+                "label 0x0000; an odd number of words for the items: 1",
+            ),
+        ] {
+            assert_eq!(Message::of_words(words).unwrap().to_string(), text);
+        }
+        let message = Message::of_words(&[0x80, 0x2000a, 0x100c7]).unwrap();
+        let text = "Message(0x00000080 0x0002000a 0x000100c7: label 0x0000; grant 4 KiB at 0x10000 rwx, send base 0x20000)";
+        assert_eq!(format!("{message:?}"), text);
     }
 }
