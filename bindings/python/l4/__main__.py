@@ -1,12 +1,14 @@
-"""The command line: answers a list of steps, or draws the mappings that it leaves."""
+"""The command line: answers a list of steps, draws the mappings that it leaves, or shows the run of a script in a browser."""
 from __future__ import annotations
 
 import argparse
 import sys
+import webbrowser
 from typing import List, Optional
 
 from . import draw
 from .kernel import Kernel
+from .lab import Lab, read_script
 from .lists import Unread, replay
 from .refusals import Refused
 from .words import PAGE_BYTES, SMALL_PAGE_BYTES
@@ -15,7 +17,7 @@ from .words import PAGE_BYTES, SMALL_PAGE_BYTES
 def parse(words: Optional[List[str]]) -> argparse.Namespace:
     parser = argparse.ArgumentParser(
         prog="python -m l4",
-        description="Does a list of steps, read on standard input (l4_steps --help has the language).",
+        description="Does a list of steps, read on standard input (l4_steps --help has the language), or shows a script (l4 --help) in a browser.",
     )
     parser.add_argument("--frames", type=int, default=256, help="the frames of the machine, from 1 to 4096 [default: %(default)s]")
     parser.add_argument("--page-size", type=int, choices=(PAGE_BYTES, SMALL_PAGE_BYTES), default=PAGE_BYTES, help="the bytes of a page [default: %(default)s]")
@@ -25,6 +27,10 @@ def parse(words: Optional[List[str]]) -> argparse.Namespace:
     tree.add_argument("frame", type=int)
     space = commands.add_parser("space", help="then draw the mappings of a space, as DOT text")
     space.add_argument("space", type=int)
+    lab = commands.add_parser("lab", help="show the run of a script in a browser, until it is interrupted")
+    lab.add_argument("script", nargs="?", help="a file; it can be changed on the page")
+    lab.add_argument("--port", type=int, default=0, help="the port of 127.0.0.1 where the page is [default: one that is free]")
+    lab.add_argument("--no-open", action="store_true", help="don't open a browser")
     return parser.parse_args(words)
 
 
@@ -40,11 +46,28 @@ def run(options: argparse.Namespace) -> None:
             sys.stdout.write(str(draw.space(kernel, options.space)))
 
 
+def show(options: argparse.Namespace) -> None:
+    """Serves the lab's page until it is interrupted."""
+    Kernel(options.frames, options.page_size).close()
+    script = read_script(options.script) if options.script else ""
+    with Lab(script, options.frames, options.page_size, options.port) as lab:
+        print(f"The lab is at {lab.address} until it is interrupted.", flush=True)
+        if not options.no_open:
+            webbrowser.open(lab.address)
+        try:
+            lab.serve_forever()
+        except KeyboardInterrupt:
+            pass
+
+
 def main(words: Optional[List[str]] = None) -> int:
     options = parse(words)
     try:
-        run(options)
-    except (Refused, Unread, ValueError) as why:
+        if options.command == "lab":
+            show(options)
+        else:
+            run(options)
+    except (Refused, Unread, ValueError, OSError, OverflowError) as why:
         sys.stdout.flush()
         print(f"error: {why}", file=sys.stderr)
         return 2

@@ -1,0 +1,400 @@
+"""Scripts in the language of `l4 run`, over a kernel and the tables of its pagers; `l4 --help` has the language.
+
+What `l4 run` proves of a script's answers is not proved here: this does the same by the library's calls, step by step, so that what there
+is to be seen can be asked after each step.
+"""
+from __future__ import annotations
+
+import re
+from dataclasses import dataclass
+from typing import Callable, Dict, Iterable, Iterator, List, Optional, Set, Tuple
+
+from ._library import L4_DELETE
+from .calls import Call
+from .kernel import Kernel, Outcome, Reply, ReplyKind, Transfer
+from .plans import Plan, Region
+from .refusals import Refused
+from .tables import Pager, Sigma0
+from .words import MAX_WORDS, PAGE_BYTES, Message, Rights, ThreadId
+
+#: The greatest number of bytes of a line.
+MAX_LINE = 4096
+
+#: With more steps than these no call is started (L1).
+MOST_STEPS = 999_871
+
+# how often served threads may act on a line, and the space of a thread that isn't there
+_MOST_ACTS = 256
+_NO_SPACE = (1 << 64) - 1
+
+_NUMBER = re.compile(r"0x[0-9A-Fa-f]{1,8}|[0-9]{1,10}")
+_RIGHTS = {str(rights): rights for rights in map(Rights.of_bits, range(8))}
+
+_OUTCOMES = {
+    Outcome.DELIVERED: "done",
+    Outcome.NO_WINDOW: "no-window",
+    Outcome.ENTANGLED: "entangled",
+    Outcome.WANTS_MEMORY: "no-memory",
+}
+
+_ENDS = {
+    ReplyKind.HIT: "fault hit",
+    ReplyKind.ANSWERED: "fault answered",
+    ReplyKind.UNMAPPED: "unmap ok",
+    ReplyKind.CONTROLLED: "control ok",
+    ReplyKind.GONE: "gone",
+}
+
+
+@dataclass(frozen=True)
+class Event:
+    """What happened on a line: a call that a thread started, a step that followed, or an answer alone.
+
+    `texts` are the lines of its answer. With a transfer goes the message that was sent.
+    """
+
+    line: int
+    texts: Tuple[str, ...]
+    thread: Optional[int] = None
+    call: Optional[Call] = None
+    transfer: Optional[Transfer] = None
+    message: Optional[Message] = None
+    is_step: bool = False
+
+
+class _Bad(Exception):
+    """Why a line is refused: its code, with the number that the code carries."""
+
+
+class _Tokens:
+    """The tokens of a line after its command, taken one by one."""
+
+    def __init__(self, tokens: List[str]) -> None:
+        self.left = tokens
+
+    def take(self) -> str:
+        if not self.left:
+            raise _Bad("S2")
+        return self.left.pop(0)
+
+    def number(self, below: int = 1 << 32) -> int:
+        token = self.take()
+        if not _NUMBER.fullmatch(token):
+            raise _Bad("S2")
+        value = int(token, 16 if token.startswith("0x") else 10)
+        if value >= below:
+            raise _Bad("S2")
+        return value
+
+    def thread(self) -> int:
+        return self.number(1 << 18)
+
+    def id_or(self, names: Dict[str, ThreadId]) -> ThreadId:
+        if self.left and self.left[0] in names:
+            return names[self.take()]
+        return _id(self.thread())
+
+    def partner(self) -> ThreadId:
+        return self.id_or({"nil": ThreadId.NIL, "any": ThreadId.ANY})
+
+    def pager(self) -> ThreadId:
+        return self.id_or({"nil": ThreadId.NIL})
+
+    def rights(self) -> Rights:
+        token = self.take()
+        if token not in _RIGHTS:
+            raise _Bad("S2")
+        return _RIGHTS[token]
+
+    def words(self) -> Tuple[int, ...]:
+        if len(self.left) > MAX_WORDS:
+            raise _Bad("S2")
+        return tuple(self.number() for _ in list(self.left))
+
+    def end(self) -> None:
+        if self.left:
+            raise _Bad("S2")
+
+
+def _id(thread: int) -> ThreadId:
+    """The id of this thread in a script, which may be one that no thread can have."""
+    return ThreadId(thread << 14 | 1)
+
+
+def _ipc(to: ThreadId, source: ThreadId, words: Iterable[int] = (), timeout_word: int = 0, window: int = 0) -> Call:
+    return Call.ipc(to, source, timeout_word, window, Message(tuple(words)))
+
+
+def _text(refused: Refused) -> str:
+    return refused.code if refused.detail is None else f"{refused.code} {refused.detail}"
+
+
+def _reply_text(reply: Optional[Reply]) -> str:
+    if reply is None:
+        return "gone"
+    if reply.kind is ReplyKind.IPC:
+        sender = "nil" if reply.sender == ThreadId.NIL else reply.sender.number
+        return f"ipc {reply.tag:08x} {reply.error} {sender}" + "".join(f" {word:08x}" for word in reply.words)
+    return f"fault failed {reply.error}" if reply.kind is ReplyKind.FAILED else _ENDS[reply.kind]
+
+
+class Script:
+    """A run of a script, line by line.
+
+    >>> script = Script(256)
+    >>> [text for line in ("recv 2 any 0x10", "send 1 2 0x80 0x20008 0x100c7") for event in script.line(line) for text in event.texts]
+    ['2 waits', 'transfer 1 2 done', '1 ipc 00000000 0 nil', '2 ipc 00000080 0 1 00020008 000100c7']
+    """
+
+    def __init__(self, frames: int = 256, page_bytes: int = PAGE_BYTES) -> None:
+        self.kernel = Kernel(frames, page_bytes)
+        self.page_bytes = page_bytes
+        self.sigma0 = Sigma0(frames, page_bytes)
+        self.pagers: Dict[int, Pager] = {}
+        self.served: Set[int] = set()
+        self.steps = 0
+        self.line_count = 0
+        #: The call that each thread started last.
+        self.calls: Dict[int, Call] = {}
+        self._seats = {1, 2}
+        # the thread whose call the line entered, while that goes on
+        self._waiting: Optional[int] = None
+
+    def run(self, text: str) -> Iterator[Event]:
+        """What happens on the lines of a text; a last one without its newline is refused (S4)."""
+        *lines, last = text.split("\n")
+        for line in lines:
+            yield from self.line(line)
+        if last:
+            yield from self.line(last, is_cut=True)
+
+    def line(self, line: str, is_cut: bool = False) -> Iterator[Event]:
+        """What happens on a line, given without its newline: each event is done as it is asked for."""
+        self.line_count += 1
+        try:
+            yield from self._carry_out(line, is_cut)
+        except _Bad as why:
+            yield self._told(f"line {self.line_count} refused {why}")
+        except Refused as refused:
+            yield self._told(f"line {self.line_count} refused {_text(refused)}")
+
+    def _told(self, *texts: str) -> Event:
+        return Event(self.line_count, texts)
+
+    def _carry_out(self, line: str, is_cut: bool) -> Iterator[Event]:
+        if is_cut:
+            raise _Bad("S4")
+        if len(line.encode("utf-8", "surrogateescape")) > MAX_LINE:
+            raise _Bad("S3")
+        tokens = [token for token in line.split(" ") if token]
+        if not tokens or line.startswith("#"):
+            return iter(())
+        command = _COMMANDS.get(tokens[0])
+        if command is None:
+            raise _Bad("S1")
+        return command(self, _Tokens(tokens[1:]))
+
+    # the commands
+
+    def _thread(self, tokens: _Tokens) -> Iterator[Event]:
+        number = tokens.thread()
+        space, pager = tokens.id_or({"new": _id(number)}), tokens.pager()
+        tokens.end()
+        self._seats.add(number)
+        return self._enter(ThreadId.ROOT.number, Call.create(_id(number), space, pager))
+
+    def _setpager(self, tokens: _Tokens) -> Iterator[Event]:
+        number, pager = tokens.thread(), tokens.pager()
+        tokens.end()
+        return self._enter(ThreadId.ROOT.number, Call.set_pager(_id(number), pager))
+
+    def _delete(self, tokens: _Tokens) -> Iterator[Event]:
+        number = tokens.thread()
+        tokens.end()
+        return self._enter(ThreadId.ROOT.number, Call.delete(_id(number)))
+
+    def _recv(self, tokens: _Tokens) -> Iterator[Event]:
+        number, source, window = tokens.thread(), tokens.partner(), tokens.number()
+        tokens.end()
+        return self._enter(number, _ipc(ThreadId.NIL, source, window=window))
+
+    def _send(self, tokens: _Tokens) -> Iterator[Event]:
+        number, to = tokens.thread(), tokens.partner()
+        return self._enter(number, _ipc(to, ThreadId.NIL, tokens.words()))
+
+    def _ipc(self, tokens: _Tokens) -> Iterator[Event]:
+        number, to, source = tokens.thread(), tokens.partner(), tokens.partner()
+        timeout_word, window = tokens.number(), tokens.number()
+        return self._enter(number, _ipc(to, source, tokens.words(), timeout_word, window))
+
+    def _delegate(self, tokens: _Tokens) -> Iterator[Event]:
+        number, to = tokens.thread(), tokens.partner()
+        plan = self._plan(tokens)
+        if plan.message_count > 1:
+            raise _Bad(f"N5 {plan.message_count}")
+        return self._enter(number, _ipc(to, ThreadId.NIL, plan.only().words))
+
+    def _part(self, tokens: _Tokens) -> Iterator[Event]:
+        number, to, part = tokens.thread(), tokens.partner(), tokens.number()
+        plan = self._plan(tokens)
+        if part >= plan.message_count:
+            raise _Bad(f"N6 {plan.message_count}")
+        return self._enter(number, _ipc(to, ThreadId.NIL, plan.message(part).words))
+
+    def _plan(self, tokens: _Tokens) -> Plan:
+        """The plan of the region that the line's last tokens name."""
+        source, target, count, rights = tokens.number(), tokens.number(), tokens.number(), tokens.rights()
+        tokens.end()
+        return Region(source, target, count, rights).plan(self.page_bytes)
+
+    def _unmap(self, tokens: _Tokens) -> Iterator[Event]:
+        number, control = tokens.thread(), tokens.number()
+        return self._enter(number, Call.unmap_words(control, tokens.words()))
+
+    def _fault(self, tokens: _Tokens) -> Iterator[Event]:
+        number, address, ip, access = tokens.thread(), tokens.number(), tokens.number(), tokens.rights()
+        tokens.end()
+        return self._enter(number, Call.fault(address, ip, access))
+
+    def _region(self, tokens: _Tokens) -> Iterator[Event]:
+        number, first, source, count, rights = tokens.thread(), tokens.number(), tokens.number(), tokens.number(), tokens.rights()
+        tokens.end()
+        self._space(number)
+        self._pager(number).add(Region(source, first, count, rights))
+        yield self._told("region ok")
+
+    def _serve(self, tokens: _Tokens) -> Iterator[Event]:
+        number = tokens.thread()
+        tokens.end()
+        return self._enter(number, _ipc(ThreadId.NIL, ThreadId.ANY), serves=True)
+
+    def _show(self, tokens: _Tokens) -> Iterator[Event]:
+        number, first, count = tokens.thread(), tokens.number(), tokens.number()
+        tokens.end()
+        space, texts = self._space(number), []
+        page = self.kernel.next_page(space, first)
+        while page is not None and page < first + count:
+            mapping = self.kernel.mapping(space, page)
+            if mapping:
+                texts.append(f"page {page} frame {mapping.frame} {mapping.rights}")
+            page = self.kernel.next_page(space, page + 1)
+        yield self._told(*texts, f"shown {len(texts)}")
+
+    def _parent(self, tokens: _Tokens) -> Iterator[Event]:
+        number, page = tokens.thread(), tokens.number()
+        tokens.end()
+        mapping = self.kernel.mapping(self._space(number), page)
+        if mapping is None:
+            yield self._told("absent")
+        elif mapping.parent is None:
+            yield self._told("parent none")
+        else:
+            yield self._told(f"parent {mapping.parent.space} {mapping.parent.page}")
+
+    def _steps(self, tokens: _Tokens) -> Iterator[Event]:
+        tokens.end()
+        yield self._told(f"steps {self.steps}")
+
+    def _space(self, number: int) -> int:
+        space = self.kernel.space_of(number)
+        if space is None:
+            raise _Bad("K2")
+        return space
+
+    def _pager(self, number: int) -> Pager:
+        """The table of this thread."""
+        if number not in self.pagers:
+            self.pagers[number] = Pager(self.page_bytes)
+        return self.pagers[number]
+
+    # the call of a line, and those of the served threads after it
+
+    def _enter(self, number: int, call: Call, serves: bool = False) -> Iterator[Event]:
+        if number not in self._seats:
+            raise _Bad("K2")
+        if self.steps > MOST_STEPS:
+            raise _Bad("L1")
+        self._waiting = number
+        yield self._start(number, call)
+        if serves:
+            self.served.add(number)
+        if call.given().kind == L4_DELETE:
+            self._forget_ended()
+        yield from self._go_on()
+        for _ in range(_MOST_ACTS):
+            running = [thread for thread in sorted(self.served) if self.kernel.reply(thread) is not None]
+            if not running or self.steps > MOST_STEPS:
+                break
+            try:
+                yield self._start(running[0], self._act(running[0]))
+            except Refused as refused:
+                yield self._told(f"{running[0]} refused {_text(refused)}")
+                break
+            yield from self._go_on()
+        if self._waiting is not None:
+            yield self._told(f"{number} waits")
+
+    def _start(self, number: int, call: Call) -> Event:
+        """Starts a call, which is a step."""
+        answer = self.kernel.start(number, call)
+        self.steps += 1
+        self.calls[number] = call
+        return Event(self.line_count, self._ended(answer.ended), number, call, is_step=True)
+
+    def _go_on(self) -> Iterator[Event]:
+        """Does the steps that come next."""
+        for done in self.kernel.steps():
+            self.steps += 1
+            if isinstance(done.step, Transfer):
+                sender, receiver = done.step.sender, done.step.receiver
+                texts = (f"transfer {sender} {receiver} {_OUTCOMES[done.outcome]}", *self._ended(done.ended))
+                reply = self.kernel.reply(receiver)
+                message = reply.message if reply and reply.kind is ReplyKind.IPC and not reply.error else None
+                yield Event(self.line_count, texts, transfer=done.step, message=message, is_step=True)
+            else:
+                yield Event(self.line_count, (f"expire {done.step.thread}", *self._ended(done.ended)), done.step.thread, is_step=True)
+
+    def _ended(self, threads: Iterable[int]) -> Tuple[str, ...]:
+        """How the calls of these threads ended."""
+        texts = tuple(f"{thread} {_reply_text(self.kernel.reply(thread))}" for thread in threads)
+        if self._waiting in threads:
+            self._waiting = None
+        return texts
+
+    def _act(self, number: int) -> Call:
+        """The call that a served thread enters."""
+        reply = self.kernel.reply(number)
+        if reply is None or reply.kind is not ReplyKind.IPC or reply.error:
+            return _ipc(ThreadId.NIL, ThreadId.ANY)
+        if number == ThreadId.SIGMA0.number:
+            space = self.kernel.space_of(reply.sender.number)
+            answer = self.sigma0.answer(_NO_SPACE if space is None else space, reply.message)
+        else:
+            answer = self._pager(number).answer(reply.message)
+        return _ipc(reply.sender, ThreadId.ANY, answer.words, timeout_word=0x400 << 16)
+
+    def _forget_ended(self) -> None:
+        """Forgets what threads had that are gone."""
+        there = set(self.kernel.threads())
+        self.served &= there
+        self.pagers = {thread: pager for thread, pager in self.pagers.items() if thread in there}
+        self.calls = {thread: call for thread, call in self.calls.items() if thread in there}
+
+
+_COMMANDS: Dict[str, Callable[[Script, _Tokens], Iterator[Event]]] = {
+    "thread": Script._thread,
+    "setpager": Script._setpager,
+    "delete": Script._delete,
+    "recv": Script._recv,
+    "send": Script._send,
+    "ipc": Script._ipc,
+    "delegate": Script._delegate,
+    "part": Script._part,
+    "unmap": Script._unmap,
+    "fault": Script._fault,
+    "region": Script._region,
+    "serve": Script._serve,
+    "show": Script._show,
+    "parent": Script._parent,
+    "steps": Script._steps,
+}
