@@ -16,6 +16,11 @@ def bytes_of(log: int) -> str:
     return f"{1 << log - 10 * unit} {('bytes', 'KiB', 'MiB', 'GiB')[unit]}"
 
 
+def counted(count: int, name: str) -> str:
+    """So many of these."""
+    return f"{count:,} {name}" if count == 1 else f"{count:,} {name}s"
+
+
 def table(caption: str, head: Sequence[str], rows: Iterable[Sequence[Any]]) -> str:
     """A table as HTML."""
     lines = [("th", head), *(("td", row) for row in rows)]

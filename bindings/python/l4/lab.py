@@ -14,12 +14,13 @@ from pathlib import Path
 from typing import Any, Callable, Dict, Iterator, List, Optional, Tuple
 
 from . import _library, charts
+from .calls import Call
 from .draw import MOST_SHOWN, Tree
 from .kernel import Kernel, Mapping
 from .plans import Region
 from .refusals import Refused, TooLong
 from .scripts import Event, Script
-from .words import MAX_FRAMES, PAGE_BYTES, SMALL_PAGE_BYTES, Rights, ThreadId
+from .words import MAX_FRAMES, PAGE_BYTES, SMALL_PAGE_BYTES, Message, Rights, ThreadId
 
 #: The greatest number of bytes of a script, of what happens in its run, and of lines of answers, that the lab takes.
 MOST_BYTES = 1 << 20
@@ -162,8 +163,8 @@ class Run:
 
     def threads(self) -> List[Dict[str, Any]]:
         """The threads, with what each waits for."""
-        kernel, calls = self.script.kernel, self.script.calls
-        waits = {thread: str(call) for thread, call in calls.items() if kernel.reply(thread) is None}
+        kernel, sending = self.script.kernel, {thread for thread, _ in self.senders.queue(self.script.kernel)}
+        waits = {it: _wait(call, it in sending) for it, call in self.script.calls.items() if kernel.reply(it) is None}
         served = self.script.served
         return [
             {"number": it, "space": kernel.space_of(it), "waits": _cut(waits.get(it, "")), "served": it in served} for it in kernel.threads()
@@ -173,6 +174,16 @@ class Run:
         """The last messages so far, as SVG."""
         sent = [event for event in self.done if event.transfer is not None]
         return charts.chart([_arrow(event) for event in sent[-_MESSAGES:]], max(0, len(sent) - _MESSAGES))
+
+
+def _wait(call: Call, is_sending: bool) -> str:
+    """What a thread waits for in this call: all of it, or its receive phase."""
+    given = call.given()
+    if is_sending:
+        return str(call)
+    if given.kind == _library.L4_FAULT:
+        return f"receive what its pager answers to the {call}"
+    return str(Call.ipc(ThreadId.NIL, ThreadId(getattr(given, "from")), given.timeouts, given.acceptor, Message()))
 
 
 def _cut(text: str) -> str:
@@ -192,7 +203,7 @@ def _step_text(event: Event) -> str:
 def _arrow(event: Event) -> charts.Arrow:
     assert event.transfer is not None
     outcome = event.texts[0].rpartition(" ")[2]
-    text = str(event.message) if event.message is not None else "to its receiver" if outcome == "done" else outcome
+    text = f"{event.message}" if outcome == "done" else f"{outcome}: {event.message}"
     return charts.Arrow(event.transfer.sender, event.transfer.receiver, text[:60], outcome == "done")
 
 
@@ -275,7 +286,7 @@ def plan(asked: Dict[str, Any]) -> Dict[str, Any]:
     words, certificate = found.words(), found.pages()
     region.check(words, certificate, page_bytes)
     return {
-        "text": f"{found.item_count:,} items in {found.message_count} messages",
+        "text": str(found),
         "verdict": f"proved {found.item_count}",
         "items": [str(item) for item in found.items()[:MOST_SHOWN]],
         "pages": certificate[:MOST_SHOWN],

@@ -7,7 +7,7 @@ from typing import Iterator, Sequence, Tuple
 
 from . import _library
 from ._library import Forks, array, library, number, of_type
-from ._shown import hexadecimal, table
+from ._shown import counted, hexadecimal, table
 from .refusals import Refused, TooLong
 from .words import PAGE_BYTES, Item, Message, Rights, items_of
 
@@ -59,10 +59,13 @@ class Plan:
         """A page of each item, in the items' order."""
         return _first_pages(self.region, self.page_bytes)
 
+    def __str__(self) -> str:
+        return f"{counted(self.item_count, 'item')} in {counted(self.message_count, 'message')}"
+
     def _repr_html_(self) -> str:
         """The items with their words and pages, as a table for a notebook."""
         rows = ((hexadecimal(item.words(False)), item, page) for item, page in zip(self.items(), self.pages()))
-        return table(f"{self.item_count} items in {self.message_count} messages", ("words", "item", "page"), rows)
+        return table(str(self), ("words", "item", "page"), rows)
 
 
 def _first_pages(region: Region, page_bytes: int) -> Tuple[int, ...]:

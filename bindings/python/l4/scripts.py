@@ -348,11 +348,15 @@ class Script:
             if isinstance(done.step, Transfer):
                 sender, receiver = done.step.sender, done.step.receiver
                 texts = (f"transfer {sender} {receiver} {_OUTCOMES[done.outcome]}", *self._ended(done.ended))
-                reply = self.kernel.reply(receiver)
-                message = reply.message if reply and reply.kind is ReplyKind.IPC and not reply.error else None
+                message = self._sent(sender, receiver)
                 yield Event(self.line_count, texts, transfer=done.step, message=message, is_step=True)
             else:
                 yield Event(self.line_count, (f"expire {done.step.thread}", *self._ended(done.ended)), done.step.thread, is_step=True)
+
+    def _sent(self, sender: int, receiver: int) -> Message:
+        """The message that was sent: of an Ipc its call's, and of a fault what its pager got."""
+        reply, words = self.kernel.reply(receiver), self.calls[sender].words
+        return Message(words) if words or reply is None else reply.message
 
     def _ended(self, threads: Iterable[int]) -> Tuple[str, ...]:
         """How the calls of these threads ended."""

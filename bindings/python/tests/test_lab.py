@@ -68,11 +68,21 @@ class Labs(unittest.TestCase):
     def test_a_page_fault_waits_for_its_pager(self):
         view = self.view("thread 3 new 2\nfault 3 0x5678 0 r--\n")
         self.assertEqual(view["senders"], [{"thread": 3, "to": "thread 2"}])
-        self.assertEqual(self.view("thread 3 new 2\nfault 3 0x5678 0 r--\nrecv 2 any 0\n")["senders"], [])
+        told = self.view("thread 3 new 2\nfault 3 0x5678 0 r--\nrecv 2 any 0\n")
+        waits = [thread["waits"] for thread in told["threads"]]
+        self.assertEqual((told["senders"], waits), ([], ["", "", "receive what its pager answers to the fault at 0x5678 by 0x0, which needs r--"]))
+        self.assertIn("label 0xffe4; 2 untyped", told["chart"])
+        both = self.view("recv 2 any 0\nipc 1 2 2 0 0x10 0x70000\nrecv 2 any 0\n")
+        waits = [thread["waits"] for thread in both["threads"]]
+        self.assertEqual(waits, ["receive from thread 2, window complete ---", "receive from any, window nil"])
+
+    def test_messages_that_are_not_delivered_are_shown(self):
+        view = self.view("recv 2 any 0\nsend 1 2 0x80 0x20008 0x100c7\n")
+        self.assertIn("no-window: label 0x0000; map 4 KiB", view["chart"])
 
     def test_plans(self):
         plan = self.ask("/plan", source=4, target=12, count=12, rights=7)
-        self.assertEqual((plan["text"], plan["verdict"], plan["pages"]), ("2 items in 1 messages", "proved 2", [4, 8]))
+        self.assertEqual((plan["text"], plan["verdict"], plan["pages"]), ("2 items in 1 message", "proved 2", [4, 8]))
         kinds = [group.get("class") for group in ElementTree.fromstring(plan["blocks"]).iter(f"{SVG}g")]
         self.assertEqual((kinds.count("block"), kinds.count("witness")), (4, 2))
         long = self.ask("/plan", source=0, target=1, count=1985, rights=7)
