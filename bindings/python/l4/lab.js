@@ -2,8 +2,10 @@
 
 // what is shown: the step (null is the last), the space with the first page of its list, and the page that was clicked
 const shown = { step: null, space: 0, first: 0, page: null, frame: null };
-// how many runs and plans were asked for
-let asked = 0;
+// whether the server is asked, and is to be asked again; how often the page was shown, and plans were asked for
+let isAsking = false;
+let isWanted = false;
+let shownCount = 0;
 let planned = 0;
 
 const it = (id) => document.getElementById(id);
@@ -40,24 +42,31 @@ function machine() {
   return { page_bytes: number("page-bytes") };
 }
 
-// Shows the run as it is after the step, unless something else was asked for meanwhile.
+// Shows the run as it is after the step. One question is asked at a time, and the last of those that came meanwhile next.
 async function refresh() {
-  const place = ++asked;
+  isWanted = true;
+  if (isAsking) return;
+  isAsking = true;
+  while (isWanted) {
+    isWanted = false;
+    await showOnce();
+  }
+  isAsking = false;
+  document.body.dataset.shown = ++shownCount;
+}
+
+async function showOnce() {
   const question = { script: it("script").value, frames: number("frames"), ...machine(), space: shown.space, first: shown.first };
-  if (shown.step !== null) question.step = shown.step;
-  if (shown.frame !== null) question.frame = shown.frame;
-  if (shown.page !== null) question.page = shown.page;
+  for (const name of ["step", "frame", "page"]) if (shown[name] !== null) question[name] = shown[name];
   try {
     const view = await ask("/view", question);
-    if (place !== asked) return;
     it("error").textContent = "";
+    if (isWanted) return;
     showRun(view);
     showPages(view);
   } catch (fault) {
-    if (place !== asked) return;
     it("error").textContent = fault.message;
   }
-  document.body.dataset.shown = place;
 }
 
 function showRun(view) {

@@ -331,6 +331,10 @@ class Handler(BaseHTTPRequestHandler):
         except (Bad, Refused, ValueError, RecursionError) as why_not:
             self.close_connection = True
             self._send_json(HTTPStatus.BAD_REQUEST, {"error": str(why_not)})
+        except OSError:
+            raise
+        except Exception as fault:  # the page is told of a fault of the lab's own, and goes on
+            self._send_json(HTTPStatus.INTERNAL_SERVER_ERROR, {"error": f"the lab failed: {fault!r}"})
         else:
             self._send_json(HTTPStatus.OK, told)
 
