@@ -25,7 +25,7 @@ from .words import MAX_FRAMES, PAGE_BYTES, SMALL_PAGE_BYTES, Message, Rights, Th
 #: The greatest number of bytes of a script, of what happens in its run, and of lines of answers, that the lab takes.
 MOST_BYTES = 1 << 20
 MOST_EVENTS = 20_000
-MOST_ANSWERS = 200_000
+MOST_ANSWERS = 50_000
 
 #: The greatest number of mappings that are looked at for a frame's tree.
 MOST_MAPPINGS = 50_000

@@ -164,7 +164,10 @@ class Script:
         """What happens on the lines of a text; a last one without its newline is refused (S4)."""
         *lines, last = text.split("\n")
         for line in lines:
-            yield from self.line(line)
+            if line:
+                yield from self.line(line)
+            else:
+                self.line_count += 1
         if last:
             yield from self.line(last, is_cut=True)
 
