@@ -23,7 +23,7 @@ from .scripts import Event, Script
 from .words import MAX_FRAMES, PAGE_BYTES, SMALL_PAGE_BYTES, Message, Rights, ThreadId
 
 #: The greatest number of bytes of a script, of what happens in its run, and of lines of answers, that the lab takes.
-MOST_BYTES = 1 << 20
+MOST_BYTES = 1 << 18
 MOST_EVENTS = 20_000
 MOST_ANSWERS = 50_000
 
@@ -31,10 +31,13 @@ MOST_ANSWERS = 50_000
 MOST_MAPPINGS = 50_000
 
 #: The greatest number of bytes of a request: a script's characters may have six each.
-MOST_REQUEST = 8 << 20
+MOST_REQUEST = 2 << 20
 
 # how many lines, steps, messages, characters of a line, answers of a line and parents are shown at once
 _LINES, _STEPS, _MESSAGES, _CHARACTERS, _ANSWERS, _PARENTS = 200, 200, 40, 300, 64, 64
+
+# how many bytes of a request that is too long are read before it is answered
+_SKIPPED = 1 << 26
 
 _FILES = {"/": ("lab.html", "text/html"), "/lab.js": ("lab.js", "text/javascript"), "/lab.css": ("lab.css", "text/css")}
 
@@ -352,9 +355,17 @@ class Handler(BaseHTTPRequestHandler):
         length = self.headers.get("Content-Length", "")
         if self.headers.get("Content-Type") != "application/json":
             raise Bad("a request is of the type application/json")
-        if not (length.isascii() and length.isdigit() and len(length) < 10 and int(length) <= MOST_REQUEST):
-            raise Bad(f"a request has up to {MOST_REQUEST:,} bytes, and says how many")
+        if not (length.isascii() and length.isdigit() and len(length) < 10):
+            raise Bad("a request says how many bytes it has")
+        if int(length) > MOST_REQUEST:
+            self._skip(min(int(length), _SKIPPED))
+            raise Bad(f"a request has up to {MOST_REQUEST:,} bytes")
         return self.rfile.read(int(length))
+
+    def _skip(self, count: int) -> None:
+        """Reads so many bytes, since who sends them reads no answer before."""
+        while count > 0 and self.rfile.read(min(count, 1 << 16)):
+            count -= 1 << 16
 
     def _send_json(self, status: HTTPStatus, told: Dict[str, Any]) -> None:
         self._send(status, "application/json", json.dumps(told).encode())

@@ -136,18 +136,22 @@ class Labs(unittest.TestCase):
         self.assertEqual(self.send("GET", "/")[0], 200)
 
     def test_large_scripts_stay_within_bounds(self):
-        long = "recv 2 any 0x400\nipc 1 2 nil 0 0 0\n" * 12000
+        long = "recv 2 any 0x400\nipc 1 2 nil 0 0 0\n" * 6000
         view = self.view(long)
         self.assertEqual((len(view["notes"]), len(view["lines"]), len(view["steps"])), (1, 200, 200))
         self.assertRegex(view["notes"][0], "^The lab stops on line [0-9,]+, after 20,000 events")
         self.assertLess(len(json.dumps(view)), 1 << 20)
-        self.assertEqual(self.ask("/view", 400, script="#" * (MOST_BYTES + 1))["error"], "the lab takes scripts of up to 1,048,576 bytes; l4 run takes any")
+        self.assertEqual(self.ask("/view", 400, script="#" * (MOST_BYTES + 1))["error"], "the lab takes scripts of up to 262,144 bytes; l4 run takes any")
         lines = self.view("x" * MOST_BYTES)["lines"]
         self.assertEqual((len(lines), lines[0]["answers"], len(lines[0]["text"])), (1, ["line 1 refused S4"], 302))
         self.assertEqual(self.view("\n" * MOST_BYTES)["line_count"], MOST_BYTES + 1)
         shows = self.view("show 1 0 4096\n" * 1000, frames=4096)
         self.assertEqual((len(shows["notes"]), shows["pages"]["next"], len(shows["lines"][49]["answers"])), (1, 256, 0))
         self.assertEqual([len(line["answers"]) for line in self.view("show 1 0 4096\n", frames=4096)["lines"]], [65, 0])
+
+    def test_the_page_takes_what_the_server_takes(self):
+        self.assertIn(f'maxlength="{MOST_BYTES}"', self.send("GET", "/")[1].decode())
+        self.assertEqual(self.ask("/view", 400, script="steps\n" * 2_000_000)["error"], "a request has up to 2,097,152 bytes")
 
     def test_64_threads_with_4096_frames(self):
         script = "".join(f"thread {thread} new nil\nrecv {thread} 1 0x10\ndelegate 1 {thread} 0 0 4096 rwx\n" for thread in range(3, 65))
