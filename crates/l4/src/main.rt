@@ -8,6 +8,7 @@ ghost use Rattle.std.specs.Prelude.{◌≤◌};
 ghost use Rattle.l4_fpage.specs.Pages.{max_frames};
 
 use l4_fpage::PageSize;
+use l4_history::{answered_history, history};
 use l4_msg::Region;
 use l4_options::{Options, command_words, misread, show, status_of, stopped};
 use l4_shell::{RunFault, check_lines, options, plan_lines, run};
@@ -28,6 +29,29 @@ fn answer_script<R: AllocGlobal + Input + Print + Eprint>(rt: &R, frames: u32, s
         &mut rt.reader(),
         &mut io::writer(rt),
     ) {
+        Ok(_) => 0,
+        Err(fault) => stopped(rt, fault),
+    }
+}
+
+/// Writes the history of the script on standard input.
+fn tell_history<R: AllocGlobal + Input + Print + Eprint>(
+    rt: &R,
+    frames: u32,
+    size: PageSize,
+    answers: bool,
+) -> u8
+    requires some { 1 ≤ frames }
+    requires fit { frames ≤ max_frames }
+{
+    let reader = &mut rt.reader();
+    let writer = &mut io::writer(rt);
+    let told = if answers {
+        answered_history(rt.alloc(), frames, size, reader, writer)
+    } else {
+        history(rt.alloc(), frames, size, reader, writer)
+    };
+    match told {
         Ok(_) => 0,
         Err(fault) => stopped(rt, fault),
     }
@@ -59,6 +83,13 @@ fn check<R: Input + Print + Eprint>(rt: &R, region: &Region, size: PageSize) -> 
 fn obey<R: AllocGlobal + Input + Print + Eprint>(rt: &R, words: &[String]) -> u8 {
     match options(rt.alloc(), words) {
         Ok(Options::Run { frames, size }) => answer_script(rt, frames, size),
+        Ok(
+            Options::History {
+                frames,
+                size,
+                answers,
+            },
+        ) => tell_history(rt, frames, size, answers),
         Ok(Options::Plan { region, size }) => plan(rt, &region, size),
         Ok(Options::Check { region, size }) => check(rt, &region, size),
         Ok(Options::Show(text)) => show(rt, text.as_str()),

@@ -2,7 +2,7 @@
 use Rattle.std.specs.Prelude.{ℕ, ◌≤◌}
 use Rattle.l4_fpage.specs.Pages.{max_frames}
 use Rattle.l4_options.specs.declared.requests.Options.{Options}
-use Rattle.l4_options.specs.declared.requests.Options.TheVariants.{Run, Plan, Check, Show}
+use Rattle.l4_options.specs.declared.requests.Options.TheVariants.{Run, History, Plan, Check, Show}
 use Rattle.l4_options.specs.declared.requests.StepOptions.{StepOptions}
 use Rattle.l4_options.specs.declared.requests.StepOptions.TheVariants.{Run as RunSteps, Show as ShowText}
 
@@ -13,6 +13,7 @@ IsFrameCount n = (1 ≤ n) × (n ≤ max_frames)
 -- the number of frames that the command line of l4 asks for is one that a machine can have
 abbrev pub IsInRange : Options → Type 0
 IsInRange (Run frames size) = IsFrameCount frames
+IsInRange (History frames size answers) = IsFrameCount frames
 IsInRange (Plan region size) = Unit {0}
 IsInRange (Check region size) = Unit {0}
 IsInRange (Show text) = Unit {0}

@@ -2,9 +2,11 @@
 ghost use Rattle.std.specs.Prelude.{IfOk};
 ghost use Rattle.l4_options.specs.Ranges.{IsInRange};
 
-use crate::help::{ABOUT, CHECK, PLAN, SCRIPT};
+use crate::help::{ABOUT, CHECK, HISTORY, PLAN, SCRIPT};
 use crate::requests::{OptionFault, Options};
-use crate::values::{frames_of, frames_option, help_text, region_of, size_of, size_option};
+use crate::values::{
+    answers_option, frames_of, frames_option, help_text, region_of, size_of, size_option,
+};
 use clap::{Arg, ArgAction, ArgMatches, Command, Error};
 use std::alloc::{AllocError, Global};
 use std::convert::AsStr;
@@ -47,12 +49,19 @@ fn known<'a>(alloc: Global) -> Result<Command<'a>, AllocError> {
         .after_help(SCRIPT)
         .arg(frames_option(alloc))?
         .arg(size_option(alloc))?;
+    let history = Command::new(alloc, "history")
+        .about("Writes the steps of a script as l4_steps reads them")
+        .after_help(HISTORY)
+        .arg(frames_option(alloc))?
+        .arg(size_option(alloc))?
+        .arg(answers_option(alloc))?;
     Command::new(alloc, "l4")
         .about(ABOUT)
         .version("0.1.0")
         .after_help(SCRIPT)
         .subcommand_required(true)
         .subcommand(run)?
+        .subcommand(history)?
         .subcommand(of_region(alloc, "plan", "Plans the delegation of a region", PLAN)?)?
         .subcommand(of_region(alloc, "check", "Checks a plan", CHECK)?)
 }
@@ -80,9 +89,23 @@ fn run_options(alloc: Global, matches: &ArgMatches<'_>) -> Result<Options, Optio
     }
 }
 
+/// What the matches of `history` ask for.
+fn history_options(alloc: Global, matches: &ArgMatches<'_>) -> Result<Options, OptionFault>
+    ensures { IfOk result IsInRange }
+{
+    match frames_of(alloc, matches) {
+        Ok(frames) => Ok(Options::History {
+            frames,
+            size: size_of(alloc, matches)?,
+            answers: matches.get_flag("answers"),
+        }),
+        Err(fault) => Err(fault),
+    }
+}
+
 /// Reads the words of the command line, the program's name first:
-/// `l4 run [--frames N]`, `l4 plan SOURCE TARGET COUNT RIGHTS`, `l4 check` with the same words, each with
-/// `--page-size BYTES` where that is wanted, `--help`, `help` or `--version`. N is 256 and BYTES 4096 where they
+/// `l4 run [--frames N]`, `l4 history [--frames N] [--answers]`, `l4 plan SOURCE TARGET COUNT RIGHTS`, `l4 check` with the same words, each
+/// with `--page-size BYTES` where that is wanted, `--help`, `help` or `--version`. N is 256 and BYTES 4096 where they
 /// are left out.
 ///
 /// `Memory` comes only where an allocation was refused. Every other fault names the word that is
@@ -112,6 +135,7 @@ pub fn options<'a, S: AsStr>(alloc: Global, words: &'a [S]) -> Result<Options, O
             }),
             Err(fault) => Err(fault),
         },
+        Some(("history", history)) => history_options(alloc, history),
         Some((_, run)) => run_options(alloc, run),
         None => Err(OptionFault::Memory),
     }

@@ -29,6 +29,19 @@ the region, and is no list shorter?
 Exit status: 0 if it is proved, 1 if not, 2 if the command line is not
 understood, 3 if a read or a write failed.";
 
+pub(crate) const HISTORY: &str = "\
+The script is read on standard input and carried out as 'l4 run' does. In place
+of its answers the steps that were done are written once it has ended, each as
+a line of a list for l4_steps: the start of a call, or a transfer or expiry that
+followed it. l4_steps with the same --frames and --page-size does these steps.
+
+  l4 history < script | l4_steps
+
+With --answers the lines that l4_steps answers to a step stand below it, behind
+'# ', so that l4_steps skips them. A refused line of the script leaves no step.
+
+Exit status: as that of 'l4 run'.";
+
 pub(crate) const SCRIPT: &str = "\
 The script is read on standard input, and each line is answered on standard
 output. Tokens are parted by spaces. Empty lines, and lines that begin with #,

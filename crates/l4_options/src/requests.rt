@@ -7,11 +7,26 @@ use thiserror::Error;
 #[derive(Debug, Drop)]
 pub enum Options {
     /// To answer a script over a machine with this many frames, 1 to 4,096, of this size.
-    Run { frames: u32, size: PageSize },
+    Run {
+        frames: u32,
+        size: PageSize,
+    },
+    /// To write the history of a script over such a machine, with what each step answers or without.
+    History {
+        frames: u32,
+        size: PageSize,
+        answers: bool,
+    },
     /// To print the shortest plan of this region of pages of this size, or why there is none.
-    Plan { region: Region, size: PageSize },
+    Plan {
+        region: Region,
+        size: PageSize,
+    },
     /// To check the plan on standard input against this region of pages of this size.
-    Check { region: Region, size: PageSize },
+    Check {
+        region: Region,
+        size: PageSize,
+    },
     /// To print this text: the usage, or the version.
     Show(String),
 }

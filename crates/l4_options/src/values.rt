@@ -31,6 +31,14 @@ pub(crate) fn size_option<'a>(alloc: Global) -> Arg<'a> {
         .action(ArgAction::Set)
 }
 
+/// The option `--answers`.
+pub(crate) fn answers_option<'a>(alloc: Global) -> Arg<'a> {
+    Arg::new(alloc, "answers")
+        .long("answers")
+        .help("Each step's answer below it, behind #")
+        .action(ArgAction::SetTrue)
+}
+
 /// A number in decimal digits, up to 4,294,967,295.
 fn number_in(text: &[u8]) -> Option<u32> {
     if text.is_empty() {

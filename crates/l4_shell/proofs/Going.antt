@@ -30,7 +30,7 @@ use Rattle.l4_threads.specs.declared.Reply.{Reply}
 use Rattle.l4_threads.specs.Threads.{Threads}
 use Rattle.l4_servers.specs.Acting.{NoneReady, IsFirstReady, Follows as FollowsReply, ActsNext}
 use Rattle.l4_shell.specs.Refusals.{call_refusal, lacks_memory}
-use Rattle.l4_shell.specs.Sessions.{Session, session, gone_on, done_text, step_line, step_text, ended_text, ended_in, waiting_text, Act, act_text, ended_by, IsAct, AreActs, GoesOn, Follows, Refuses, Enters, Creates}
+use Rattle.l4_shell.specs.Sessions.{Session, session, call_entries, done_entry, gone_on, done_text, step_line, step_text, ended_text, ended_in, waiting_text, Act, act_text, act_entries, ended_by, IsAct, AreActs, GoesOn, Follows, Refuses, Enters, Creates}
 use Rattle.l4_shell.specs.Requests.{root}
 use Rattle.l4_shell.specs.Inside.Scripts.{HasFirstSeats}
 use Rattle.l4_shell.specs.Inside.Telling.{next_text, ended_later, TellsAppended, TellsCall, TellsRefusal, TellsActs}
@@ -50,18 +50,18 @@ told_later now after (n ∷ ended) lasts =
 record Walked (m : Machine) (steps : List NextStep) (new : Machine) : Type 0 where
   pub done : List Done
   pub next : AreNext m done new
-  pub number : length done ≡ length steps
+  pub entries : (n : ℕ) → map (next_entry n) steps ≡ map (done_entry n) done
   pub texts : flat_map (next_text new) steps ≡ flat_map done_text done
   pub ended : ended_later steps ≡ ended_in done
 
 walked : (m : Machine) (steps : List NextStep) (new : Machine) → ComeNext m steps new → Walked m steps new
-walked m [] new g = record { done = []; next = g; number = refl; texts = refl; ended = refl }
+walked m [] new g = record { done = []; next = g; entries = λ n. refl; texts = refl; ended = refl }
 walked m (s ∷ steps) new g =
     let w : Walked g.1.0 steps new = walked g.1.0 steps new g.1.3 in
     record {
       done = record { step = step_of s; answer = answer_of s; after = g.1.0 } ∷ w.done;
       next = (g.0, g.1.1, w.next);
-      number = ap suc w.number;
+      entries = λ n. ap (λ (l : List Entry). next_entry n s ∷ l) (w.entries n);
       texts = λ i. (step_line (step_of s) (answer_of s).outcome ++ told_later new g.1.0 (answer_of s).ended.items g.1.2 i) ++ w.texts i;
       ended = ap (λ (l : List ℕ). (answer_of s).ended.items ++ l) w.ended;
     }
@@ -70,9 +70,6 @@ pub calls_on : (old new : Seated) (caller : ℕ) (call : Call) (appended : Appen
     → read ≡ new.machine → TellsAppended read appended thread ended written a before t → TellsCall old caller call thread ended new written a before t
 calls_on old new caller call appended read thread ended written a before t e same told =
     let w : Walked e.started appended.next.items new.machine = walked e.started appended.next.items new.machine e.next in
-    let all : length new.history ≡ length old.history + 1 + length w.done =
-    (let l = ap (λ (es : List Entry). length es) e.history in let n = w.number in
-    omega (arith, l, n, length-append old.history (start_entry caller call appended.start ∷ map (next_entry caller) appended.next.items), length-map appended.next.items (next_entry caller))) in
     record {
       enters = record {
         can = e.can;
@@ -82,7 +79,7 @@ calls_on old new caller call appended read thread ended written a before t e sam
         steps = w.done;
         next = w.next;
         idle = e.idle;
-        entries = all;
+        history = e.history ∙ ap (λ (l : List Entry). old.history ++ start_entry caller call appended.start ∷ l) (w.entries caller);
         same = e.same;
       };
       ended_is = told.ended_is ∙ ap (λ (l : List ℕ). is_among thread (appended.start.ended.items ++ l)) w.ended;
@@ -93,17 +90,17 @@ calls_on old new caller call appended read thread ended written a before t e sam
     }
 
 -- the session once a call was entered
-pub went : (old new : Seated) (sv later : Servers) (caller : ℕ) (call : Call) → (e : Entered old new caller call) → session new later ≡ gone_on (session old sv) later (length e.steps) new.machine
+pub went : (old new : Seated) (sv later : Servers) (caller : ℕ) (call : Call) → (e : Entered old new caller call) → session new later ≡ gone_on (session old sv) later (call_entries caller call e.answer e.steps) new.machine
 went old new sv later caller call e =
-    λ i. record { machine = new.machine; servers = later; entries = e.entries i; numbers = e.same.0 i; seen = e.same.1 i }
+    λ i. record { machine = new.machine; servers = later; history = e.history i; numbers = e.same.0 i; seen = e.same.1 i }
 
 -- ACTS
 
 -- one act after those that were done
-acts_more : (old between new : Session) (acts : List Act) (act : Act) → AreActs old acts between → IsAct between act → new ≡ gone_on between act.servers (length act.steps) act.after → AreActs old (acts ++ act ∷ []) new
+acts_more : (old between new : Session) (acts : List Act) (act : Act) → AreActs old acts between → IsAct between act → new ≡ gone_on between act.servers (act_entries act) act.after → AreActs old (acts ++ act ∷ []) new
 acts_more old between new [] act are is then_is =
-    subst (λ (m : Session). IsAct m act → new ≡ gone_on m act.servers (length act.steps) act.after → AreActs old (act ∷ []) new) (sym are) (λ is' new'. (is', new')) is then_is
-acts_more old between new (first ∷ acts) act are is then_is = (are.0, acts_more (gone_on old first.servers (length first.steps) first.after) between new acts act are.1 is then_is)
+    subst (λ (m : Session). IsAct m act → new ≡ gone_on m act.servers (act_entries act) act.after → AreActs old (act ∷ []) new) (sym are) (λ is' new'. (is', new')) is then_is
+acts_more old between new (first ∷ acts) act are is then_is = (are.0, acts_more (gone_on old first.servers (act_entries first) first.after) between new acts act are.1 is then_is)
 
 -- so far these acts were done and told, and the thread's call has ended in one or not
 pub record Acting (old : Session) (thread count : ℕ) (m : Session) (has : Bool) (written now : Option (List ℕ)) (before after : List ℕ × Bool) : Type 0 where
@@ -250,7 +247,7 @@ follows_on old new sv later wanted last thread call asked ended written a b befo
         next = e.next;
         idle = e.idle;
         rest = g.0;
-        goes_on = subst (λ (x : Session). GoesOn x thread had g.0 last) (went old new sv later thread call e ∙ ap (λ (x : Servers). gone_on (session old sv) x (length e.steps) new.machine) is') g.1;
+        goes_on = subst (λ (x : Session). GoesOn x thread had g.0 last) (went old new sv later thread call e ∙ (λ i. gone_on (session old sv) (is' i) (call_entries thread (is i) e.answer e.steps) new.machine)) g.1;
         text_is = refl;
       },
       tells_more written a b before s t _ _ told.tells g.2,

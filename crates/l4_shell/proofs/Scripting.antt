@@ -10,6 +10,7 @@ use denote.Enum.Bare.{sameb}
 use Rattle.std.proofs.lemmas.Bool.{false≢true}
 use Rattle.l4_fpage.specs.declared.sizes.PageSize.{PageSize}
 use Rattle.l4_ipc.specs.Machine.{IsBoot}
+use Rattle.l4_record.specs.declared.entries.Entry.{Entry}
 use Rattle.l4_servers.specs.Servers.{Servers, no_servers}
 use Rattle.l4_text.specs.Lines.{NoNewline, kept_of, TakesLine, TakesRest, GivesLine, left_of}
 use Rattle.l4_shell.specs.Lines.{ScriptLine, in_front, lines_of}
@@ -18,6 +19,7 @@ use Rattle.l4_text.specs.Streams.{WentOut, HasTold, Tells}
 use Rattle.l4_shell.specs.Sessions.{Session, session, first_session, AnswersLine, AnswersLines}
 use Rattle.l4_shell.specs.Seated.{Seated}
 use Rattle.l4_shell.specs.Scripts.{Runs}
+use Rattle.l4_shell.specs.Histories.{Records}
 use Rattle.l4_shell.specs.Inside.Scripts.{HasFirstSeats, TellsBeginning, TellsAll, TellsWhole, TellsScript}
 use Rattle.l4_text.specs.declared.lines.Ending.{Ending}
 use Rattle.l4_text.specs.declared.lines.Ending.TheVariants.{Whole, Long, Cut}
@@ -178,7 +180,7 @@ answered_sent m last old new now number written out out' before s t a sent = rec
 
 -- the lines so far, as lines of what was read
 pub beginning_of : (m last : Session) (old new : Option (List ℕ)) (now : List ℕ × ℕ) (number : ℕ) (written out : Option (List ℕ)) (before after : List ℕ × Bool)
-    → Answered m old new now number last written out before after → TellsBeginning m old new written out before after
+    → Answered m old new now number last written out before after → TellsBeginning m last old new written out before after
 beginning_of m last old new now number written out before after a = record {
   read = a.read;
   «from» = a.from;
@@ -186,7 +188,7 @@ beginning_of m last old new now number written out before after a = record {
   later = lines_of now.0;
   parts = ap lines_of a.same ∙ a.front now.0;
   sure = inl a.whole;
-  told = record { text = a.text; last = last; answers = a.answers; tells = a.tells };
+  told = record { text = a.text; answers = a.answers; tells = a.tells };
 }
 
 -- all that was read and not taken has no newline
@@ -198,7 +200,7 @@ same_rest m last old mid new now after kept number written out before s a l =
 
 -- reading failed
 pub answered_read : (m last : Session) (old mid new : Option (List ℕ)) (now after : List ℕ × ℕ) (kept : List ℕ × Bool) (number : ℕ) (written out : Option (List ℕ)) (before s : List ℕ × Bool)
-    (e : RunFault) → Answered m old mid now number last written out before s → GivesLine mid new now after kept (Err e) → TellsWhole m old new written out before s
+    (e : RunFault) → Answered m old mid now number last written out before s → GivesLine mid new now after kept (Err e) → TellsWhole m last old new written out before s
 answered_read m last old mid new now after kept number written out before s e a gives =
     let l = gives.0 in
     let parts = same_rest m last old mid new now after kept number written out before s a l in
@@ -210,7 +212,7 @@ answered_read m last old mid new now after kept number written out before s e a 
         later = lines_of l.bytes;
         parts = parts;
         sure = inl a.whole;
-        told = record { text = a.text; last = last; answers = a.answers; tells = a.tells };
+        told = record { text = a.text; answers = a.answers; tells = a.tells };
       };
       whole = whole_front a.lines (lines_of l.bytes) a.whole (none_whole l.bytes l.plain) ∙ sym (ap (λ lines. filter (λ (line : ScriptLine). line.whole) lines) parts);
     }
@@ -225,7 +227,7 @@ something_kept bytes h = omega (arith, h, length-take 4096 bytes)
 -- at the end no line is left
 pub answered_end : (m last : Session) (old mid new : Option (List ℕ)) (now after : List ℕ × ℕ) (kept : List ℕ × Bool) (number : ℕ) (written out : Option (List ℕ)) (before s : List ℕ × Bool)
     (r : Option Ending) → Answered m old mid now number last written out before s → GivesLine mid new now after kept (Ok r) → r ≡ None
-    → TellsAll m old new written out before s (number - 1)
+    → TellsAll m last old new written out before s (number - 1)
 answered_end m last old mid new now after kept number written out before s r a gives is =
     let g = subst (λ (o : Option Ending). GivesLine mid new now after kept (Ok o)) is gives in
     let l = g.0 in
@@ -240,7 +242,7 @@ answered_end m last old mid new now after kept number written out before s r a g
         later = lines_of l.bytes;
         parts = parts;
         sure = inl a.whole;
-        told = record { text = a.text; last = last; answers = a.answers; tells = a.tells };
+        told = record { text = a.text; answers = a.answers; tells = a.tells };
       };
       all = sym all;
       end = g.1;
@@ -251,7 +253,7 @@ answered_end m last old mid new now after kept number written out before s r a g
 abbrev pub AfterLine : Ending → Session → Option (List ℕ) → Option (List ℕ) → List ℕ × ℕ → ℕ → Session → Option (List ℕ) → Option (List ℕ) → List ℕ × Bool → List ℕ × Bool → Type 0
 AfterLine Whole m old new now number last written out before after = Answered m old new now (number + 1) last written out before after
 AfterLine Long m old new now number last written out before after = Answered m old new now (number + 1) last written out before after
-AfterLine Cut m old new now number last written out before after = TellsAll m old new written out before after number
+AfterLine Cut m old new now number last written out before after = TellsAll m last old new written out before after number
 
 pub after_line : (ending : Ending) (m last next : Session) (old mid new : Option (List ℕ)) (now after : List ℕ × ℕ) (kept : List ℕ × Bool) (number : ℕ) (written out out' : Option (List ℕ))
     (before s t : List ℕ × Bool) (r : Option Ending) → Answered m old mid now number last written out before s → GivesLine mid new now after kept (Ok r) → r ≡ Some ending
@@ -280,7 +282,6 @@ after_line Cut m last next old mid new now after kept number written out out' be
         sure = inr g.1;
         told = record {
           text = a.text ++ told.0;
-          last = next;
           answers = answers_more m last next 1 a.lines a.text line told.0 a.answers (subst (λ (n : ℕ). AnswersLine last n (asked_of line) told.0 next) a.number_is told.1);
           tells = tells_more written out out' before s t _ _ a.tells told.2;
         };
@@ -292,7 +293,7 @@ after_line Cut m last next old mid new now after kept number written out out' be
 
 -- the line was cut
 pub answered_cut : (ending : Ending) (m next : Session) (old new : Option (List ℕ)) (after : List ℕ × ℕ) (number : ℕ) (written out : Option (List ℕ)) (before t : List ℕ × Bool)
-    → AfterLine ending m old new after number next written out before t → true ≡ sameb the_type ending Cut → TellsAll m old new written out before t number
+    → AfterLine ending m old new after number next written out before t → true ≡ sameb the_type ending Cut → TellsAll m next old new written out before t number
 answered_cut Whole m next old new after number written out before t a cut = absurd (false≢true (sym cut))
 answered_cut Long m next old new after number written out before t a cut = absurd (false≢true (sym cut))
 answered_cut Cut m next old new after number written out before t a cut = a
@@ -310,7 +311,7 @@ answered_on Cut m next old new after number written out before t a cut = absurd 
 pub first_is : (frames : ℕ) (size : PageSize) (kernel : Seated) (sv : Servers) → HasFirstSeats frames size kernel → sv ≡ no_servers size frames → session kernel sv ≡ first_session frames kernel.machine
 first_is frames size kernel sv has none =
     let same : sv ≡ no_servers kernel.machine.size frames = none ∙ ap (λ (z : PageSize). no_servers z frames) (sym has.4) in
-    λ i. record { machine = kernel.machine; servers = same i; entries = length (has.1 i); numbers = has.2 i; seen = has.3 i }
+    λ i. record { machine = kernel.machine; servers = same i; history = has.1 i; numbers = has.2 i; seen = has.3 i }
 
 -- nobody was served at the start
 from_none : (frames : ℕ) (m : Seated) (sv : Servers) (lines : List ScriptLine) (text : List ℕ) (last : Session) → session m sv ≡ first_session frames m.machine
@@ -318,10 +319,10 @@ from_none : (frames : ℕ) (m : Seated) (sv : Servers) (lines : List ScriptLine)
 from_none frames m sv lines text last none answers = subst (λ (x : Session). AnswersLines x 1 lines text last) none answers
 
 -- all that was told went out
-pub runs_on : (frames : ℕ) (size : PageSize) (m : Seated) (sv : Servers) (old new written out now : Option (List ℕ)) (before after : List ℕ × Bool) (result : Result ℕ RunFault) → IsBoot frames m.machine → m.machine.size ≡ size → session m sv ≡ first_session frames m.machine → before ≡ ([], false)
-    → TellsScript (session m sv) old new written out before after result
+pub runs_on : (frames : ℕ) (size : PageSize) (m : Seated) (sv : Servers) (last : Session) (old new written out now : Option (List ℕ)) (before after : List ℕ × Bool) (result : Result ℕ RunFault) → IsBoot frames m.machine → m.machine.size ≡ size → session m sv ≡ first_session frames m.machine → before ≡ ([], false)
+    → TellsScript (session m sv) last old new written out before after result
     → ((start : Option (List ℕ)) (told : List ℕ) → HasTold start out after.0 after.1 told → Appends start now told) → Runs frames size old new written now result
-runs_on frames size m sv old new written out now before after (Ok count) boots sized none is t sent =
+runs_on frames size m sv last old new written out now before after (Ok count) boots sized none is t sent =
     let told = t.some.told in
     record {
       read = t.some.read;
@@ -329,19 +330,19 @@ runs_on frames size m sv old new written out now before after (Ok count) boots s
       end = t.end;
       lines = t.number;
       text = told.text;
-      is_text = record { boot = m.machine; boots = boots; sized = sized; last = told.last; answers = subst (λ (ls : List ScriptLine). AnswersLines (first_session frames m.machine) 1 ls told.text told.last) t.all (from_none frames m sv _ _ _ none told.answers) };
+      is_text = record { boot = m.machine; boots = boots; sized = sized; last = last; answers = subst (λ (ls : List ScriptLine). AnswersLines (first_session frames m.machine) 1 ls told.text last) t.all (from_none frames m sv _ _ _ none told.answers) };
       out = sent written told.text (told.tells written [] (nothing_told written before is));
     }
-runs_on frames size m sv old new written out now before after (Err Read) boots sized none is t sent =
+runs_on frames size m sv last old new written out now before after (Err Read) boots sized none is t sent =
     let told = t.some.told in
     record {
       read = t.some.read;
       «from» = t.some.from;
       text = told.text;
-      is_text = record { boot = m.machine; boots = boots; sized = sized; last = told.last; answers = subst (λ (ls : List ScriptLine). AnswersLines (first_session frames m.machine) 1 ls told.text told.last) t.whole (from_none frames m sv _ _ _ none told.answers) };
+      is_text = record { boot = m.machine; boots = boots; sized = sized; last = last; answers = subst (λ (ls : List ScriptLine). AnswersLines (first_session frames m.machine) 1 ls told.text last) t.whole (from_none frames m sv _ _ _ none told.answers) };
       out = sent written told.text (told.tells written [] (nothing_told written before is));
     }
-runs_on frames size m sv old new written out now before after (Err Write) boots sized none is t sent =
+runs_on frames size m sv last old new written out now before after (Err Write) boots sized none is t sent =
     let told = t.told in
     record {
       read = t.read;
@@ -351,25 +352,25 @@ runs_on frames size m sv old new written out now before after (Err Write) boots 
       parts = t.parts;
       sure = t.sure;
       text = told.text;
-      is_text = record { boot = m.machine; boots = boots; sized = sized; last = told.last; answers = from_none frames m sv _ _ _ none told.answers };
+      is_text = record { boot = m.machine; boots = boots; sized = sized; last = last; answers = from_none frames m sv _ _ _ none told.answers };
       out = record { front = told.text; rest = []; whole = sym (append-nil told.text); out = sent written told.text (told.tells written [] (nothing_told written before is)) };
     }
-runs_on frames size m sv old new written out now before after (Err Memory) boots sized none is t sent = absurd t
+runs_on frames size m sv last old new written out now before after (Err Memory) boots sized none is t sent = absurd t
 
 -- the lines that were answered, whatever then came
-some_told : (m : Session) (old new written out : Option (List ℕ)) (before after : List ℕ × Bool) (result : Result ℕ RunFault) → TellsScript m old new written out before after result
-    → TellsBeginning m old new written out before after
-some_told m old new written out before after (Ok count) t = t.some
-some_told m old new written out before after (Err Read) t = t.some
-some_told m old new written out before after (Err Write) t = t
-some_told m old new written out before after (Err Memory) t = absurd t
+some_told : (m last : Session) (old new written out : Option (List ℕ)) (before after : List ℕ × Bool) (result : Result ℕ RunFault) → TellsScript m last old new written out before after result
+    → TellsBeginning m last old new written out before after
+some_told m last old new written out before after (Ok count) t = t.some
+some_told m last old new written out before after (Err Read) t = t.some
+some_told m last old new written out before after (Err Write) t = t
+some_told m last old new written out before after (Err Memory) t = absurd t
 
 -- a write failed
-pub runs_not : (frames : ℕ) (size : PageSize) (m : Seated) (sv : Servers) (old new written out now : Option (List ℕ)) (before after : List ℕ × Bool) (result : Result ℕ RunFault) → IsBoot frames m.machine → m.machine.size ≡ size → session m sv ≡ first_session frames m.machine → before ≡ ([], false)
-    → TellsScript (session m sv) old new written out before after result
+pub runs_not : (frames : ℕ) (size : PageSize) (m : Seated) (sv : Servers) (last : Session) (old new written out now : Option (List ℕ)) (before after : List ℕ × Bool) (result : Result ℕ RunFault) → IsBoot frames m.machine → m.machine.size ≡ size → session m sv ≡ first_session frames m.machine → before ≡ ([], false)
+    → TellsScript (session m sv) last old new written out before after result
     → ((start : Option (List ℕ)) (told : List ℕ) → HasTold start out after.0 after.1 told → WentOut start now told) → Runs frames size old new written now (Err Write)
-runs_not frames size m sv old new written out now before after result boots sized none is tells sent =
-    let t = some_told (session m sv) old new written out before after result tells in
+runs_not frames size m sv last old new written out now before after result boots sized none is tells sent =
+    let t = some_told (session m sv) last old new written out before after result tells in
     let told = t.told in
     record {
       read = t.read;
@@ -379,9 +380,41 @@ runs_not frames size m sv old new written out now before after result boots size
       parts = t.parts;
       sure = t.sure;
       text = told.text;
-      is_text = record { boot = m.machine; boots = boots; sized = sized; last = told.last; answers = from_none frames m sv _ _ _ none told.answers };
+      is_text = record { boot = m.machine; boots = boots; sized = sized; last = last; answers = from_none frames m sv _ _ _ none told.answers };
       out = sent written told.text (told.tells written [] (nothing_told written before is));
     }
+
+-- the history is wanted alone
+pub records_on : (frames : ℕ) (size : PageSize) (m k : Seated) (sv sv' : Servers) (old new written out : Option (List ℕ)) (before after : List ℕ × Bool) (result : Result ℕ RunFault) (history : List Entry) → IsBoot frames m.machine → m.machine.size ≡ size
+    → session m sv ≡ first_session frames m.machine → TellsScript (session m sv) (session k sv') old new written out before after result → history ≡ k.history → Records frames size old new history result
+records_on frames size m k sv sv' old new written out before after (Ok count) history boots sized none t is =
+    let told = t.some.told in
+    record {
+      read = t.some.read;
+      «from» = t.some.from;
+      lines = t.some.lines;
+      answered = (t.end, t.all, t.number ∙ ap length (sym t.all));
+      is_history = (told.text, record { boot = m.machine; boots = boots; sized = sized; last = session k sv'; answers = from_none frames m sv _ _ _ none told.answers }, is);
+    }
+records_on frames size m k sv sv' old new written out before after (Err Read) history boots sized none t is =
+    let told = t.some.told in
+    record {
+      read = t.some.read;
+      «from» = t.some.from;
+      lines = t.some.lines;
+      answered = t.whole;
+      is_history = (told.text, record { boot = m.machine; boots = boots; sized = sized; last = session k sv'; answers = from_none frames m sv _ _ _ none told.answers }, is);
+    }
+records_on frames size m k sv sv' old new written out before after (Err Write) history boots sized none t is =
+    let told = t.told in
+    record {
+      read = t.read;
+      «from» = t.from;
+      lines = t.lines;
+      answered = (t.later, t.parts, t.sure);
+      is_history = (told.text, record { boot = m.machine; boots = boots; sized = sized; last = session k sv'; answers = from_none frames m sv _ _ _ none told.answers }, is);
+    }
+records_on frames size m k sv sv' old new written out before after (Err Memory) history boots sized none t is = absurd t
 
 -- the bytes of the line are those that were kept
 pub same_bytes : (last next : Session) (number : ℕ) (ending : Ending) (bytes kept : List ℕ) (out out' : Option (List ℕ)) (s t : List ℕ × Bool) → bytes ≡ kept

@@ -26,7 +26,7 @@ use Rattle.l4_shell.specs.declared.requests.Request.TheVariants.{Enter, CreateTh
 use Rattle.l4_shell.specs.Lines.{ScriptLine}
 use Rattle.l4_shell.specs.Requests.{request_of, asked_of, root, delete_call}
 use Rattle.l4_shell.specs.Seated.{with_number}
-use Rattle.l4_shell.specs.Sessions.{Session, first_session, gone_on, Act, IsAct, AreActs, StopsActing, Follows, Enters, RegionAdded, RegionRefused, CarriesOut, AnswersLine, AnswersLines}
+use Rattle.l4_shell.specs.Sessions.{Session, first_session, call_entries, gone_on, Act, act_entries, IsAct, AreActs, StopsActing, Follows, Enters, RegionAdded, RegionRefused, CarriesOut, AnswersLine, AnswersLines}
 use Rattle.l4_shell.specs.Sizes.{GoBy, HasSize}
 
 -- STEPS
@@ -91,7 +91,7 @@ acts_go size t old thread call new a h = elim a.follows [
 same_size : (size : PageSize) (old new : Session) → new ≡ old → HasSize size old → HasSize size new
 same_size size old new is h = subst (HasSize size) (sym is) h
 
-act_size : (size : PageSize) (old : Session) (act : Act) → IsAct old act → HasSize size old → HasSize size (gone_on old act.servers (length act.steps) act.after)
+act_size : (size : PageSize) (old : Session) (act : Act) → IsAct old act → HasSize size old → HasSize size (gone_on old act.servers (act_entries act) act.after)
 act_size size old act is h = record {
   machine = steps_size act.started act.steps act.after is.next ∙ size_stays old.machine (Start act.thread act.call) (Ok act.answer) act.started is.starts ∙ h.machine;
   servers = acts_go size old.machine.threads old.servers act.thread act.call act.servers is.acts h.servers;
@@ -100,7 +100,7 @@ act_size size old act is h = record {
 are_acts_size : (size : PageSize) (old : Session) (acts : List Act) (new : Session) → AreActs old acts new → HasSize size old → HasSize size new
 are_acts_size size old [] new are h = same_size size old new are h
 are_acts_size size old (act ∷ acts) new are h =
-    are_acts_size size (gone_on old act.servers (length act.steps) act.after) acts new are.1 (act_size size old act are.0 h)
+    are_acts_size size (gone_on old act.servers (act_entries act) act.after) acts new are.1 (act_size size old act are.0 h)
 
 stops_size : (size : PageSize) (old : Session) (count : ℕ) (text : List ℕ) (new : Session) → StopsActing old count text new → HasSize size old → HasSize size new
 stops_size size old count text new stops h = elim stops [
@@ -118,7 +118,7 @@ follows_size : (size : PageSize) (old : Session) (thread : ℕ) (call : Call) (s
 follows_size size old thread call sv text new f h go =
     let g = f.goes_on in
     stops_size size g.between (length g.acts) g.last new g.stops
-    (are_acts_size size (gone_on old sv (length f.steps) f.settled) g.acts g.between g.are
+    (are_acts_size size (gone_on old sv (call_entries thread call f.answer f.steps) f.settled) g.acts g.between g.are
     (record {
       machine = steps_size f.started f.steps f.settled f.next ∙ size_stays old.machine (Start thread call) (Ok f.answer) f.started f.starts ∙ h.machine;
       servers = go;

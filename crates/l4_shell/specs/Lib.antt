@@ -1,5 +1,6 @@
 pub mod Commands
 pub mod Delegations
+pub mod Histories
 pub mod Lines
 pub mod Refusals
 pub mod Requests

@@ -1,5 +1,5 @@
 -- What is told of a line's call and of the steps that follow it, and what a script's lines are answered (this profile's own).
-use Rattle.std.specs.Prelude.{◌≡◌, ℕ, ◌+◌, ◌^◌, ◌<◌, ◌≤◌, ◌⊎◌, ◌↔◌, Bool, false, List, [], ◌∷◌, ◌++◌, length, Contains, Option, Some, None, Result, Ok, Err, MatchOption, if◌then◌else◌}
+use Rattle.std.specs.Prelude.{◌≡◌, ℕ, ◌+◌, ◌^◌, ◌<◌, ◌≤◌, ◌⊎◌, ◌↔◌, Bool, false, List, [], ◌∷◌, ◌++◌, length, map, Contains, Option, Some, None, Result, Ok, Err, MatchOption, if◌then◌else◌}
 use Rattle.std.specs.Option.{option_map_or}
 use Rattle.std.specs.List.{flat_map, AllPairs}
 use Rattle.l4_fpage.specs.Pages.{space_pages}
@@ -17,7 +17,9 @@ use Rattle.l4_ipc.specs.Machine.{Machine, IsBoot}
 use Rattle.l4_ipc.specs.Reading.{reply_of}
 use Rattle.l4_ipc.specs.Steps.{Steps, IsIdle}
 use Rattle.l4_ipc.specs.Following.{Done, AreNext}
+use Rattle.l4_record.specs.declared.entries.Entry.{Entry as HistoryEntry}
 use Rattle.l4_record.specs.declared.refusals.RecordRefusal.{RecordRefusal}
+use Rattle.l4_record.specs.Following.{start_entry}
 use Rattle.l4_shell.specs.Seated.{Seated, is_among, with_number, CanEnter, MayEnter, Refuses as RefusesCall}
 use Rattle.l4_shell.specs.Commands.{Command}
 use Rattle.l4_shell.specs.declared.commands.ScriptFault.{ScriptFault}
@@ -72,27 +74,34 @@ waiting_text thread ended = if ended then [] else waits_text thread
 
 -- SESSIONS
 
--- What a script has: the kernel, the servers, how many entries the history has, the numbers that have their seats, and the count that was
--- told last. An entry is the start of a call, or a step that followed one.
+-- What a script has: the kernel, the servers, the history, the numbers that have their seats, and the count that was told last. An entry of
+-- the history is the start of a call, or a step that followed one.
 pub record Session : Type 0 where
   pub machine : Machine
   pub servers : Servers
-  pub entries : ℕ
+  pub history : List HistoryEntry
   pub numbers : List ℕ
   pub seen : ℕ
 
 -- the session of a kernel with its seats, and of its servers
 abbrev pub session : Seated → Servers → Session
 session kernel servers =
-    record { machine = kernel.machine; servers = servers; entries = length kernel.history; numbers = kernel.numbers; seen = kernel.seen }
+    record { machine = kernel.machine; servers = servers; history = kernel.history; numbers = kernel.numbers; seen = kernel.seen }
 
 -- at the start sigma0 and root have their seats, and the servers go by the size of the pages of the machine
 abbrev pub first_session : ℕ → Machine → Session
-first_session frames boot = record { machine = boot; servers = no_servers boot.size frames; entries = 0; numbers = 1 ∷ 2 ∷ []; seen = 0 }
+first_session frames boot = record { machine = boot; servers = no_servers boot.size frames; history = []; numbers = 1 ∷ 2 ∷ []; seen = 0 }
 
--- once a call was entered and so many steps followed its start
-abbrev pub gone_on : Session → Servers → ℕ → Machine → Session
-gone_on old servers steps settled = record old { machine = settled; servers = servers; entries = old.entries + 1 + steps }
+-- the entries of a call: its start, and the steps that followed
+abbrev pub done_entry : ℕ → Done → HistoryEntry
+done_entry n done = record { seat = n; step = done.step; answer = done.answer }
+
+abbrev pub call_entries : ℕ → Call → Answer → List Done → List HistoryEntry
+call_entries n call answer steps = start_entry n call answer ∷ map (done_entry n) steps
+
+-- once a call was entered, whose entries these are
+abbrev pub gone_on : Session → Servers → List HistoryEntry → Machine → Session
+gone_on old servers entries settled = record old { machine = settled; servers = servers; history = old.history ++ entries }
 
 -- SERVED THREADS
 
@@ -109,7 +118,7 @@ pub record Act : Type 0 where
 -- the served thread that acts next entered its call, and the step that comes next was done, again and again until there was none
 pub record IsAct (old : Session) (act : Act) : Type 0 where
   pub acts : ActsNext old.machine.threads old.servers act.thread act.call act.servers
-  pub can : CanEnter old.entries old.numbers act.thread
+  pub can : CanEnter (length old.history) old.numbers act.thread
   pub starts : Steps old.machine (Start act.thread act.call) (Ok act.answer) act.started
   pub next : AreNext act.started act.steps act.after
   pub idle : IsIdle act.after
@@ -121,10 +130,13 @@ act_text act = step_text (Start act.thread act.call) act.answer act.started ++ f
 abbrev pub ended_by : List Act → List ℕ
 ended_by acts = flat_map (λ act. act.answer.ended.items ++ ended_in act.steps) acts
 
+abbrev pub act_entries : Act → List HistoryEntry
+act_entries act = call_entries act.thread act.call act.answer act.steps
+
 -- one act after another
 abbrev pub AreActs : Session → List Act → Session → Type 0
 AreActs old [] new = new ≡ old
-AreActs old (act ∷ acts) new = IsAct old act × AreActs (gone_on old act.servers (length act.steps) act.after) acts new
+AreActs old (act ∷ acts) new = IsAct old act × AreActs (gone_on old act.servers (act_entries act) act.after) acts new
 
 -- the acts of a line, at most
 abbrev pub most_acts : ℕ
@@ -145,7 +157,7 @@ pub record RefusesAct (old : Session) (count : ℕ) (text : List ℕ) (new : Ses
   pub call : Call
   pub acts : ActsNext old.machine.threads old.servers thread call new.servers
   pub refusal : RecordRefusal
-  pub refused : RefusesCall old.machine old.entries old.numbers thread call refusal
+  pub refused : RefusesCall old.machine (length old.history) old.numbers thread call refusal
   pub same : new ≡ record old { servers = new.servers }
   pub text_is : text ≡ refused_act_text thread (call_refusal refusal)
 
@@ -169,7 +181,7 @@ pub record GoesOn (old : Session) (thread : ℕ) (ended text : List ℕ) (new : 
 -- The call was started, and the step that comes next was done, again and again until there was none, and all of it is told; the servers
 -- are these since; and then what follows.
 pub record Follows (old : Session) (thread : ℕ) (call : Call) (servers : Servers) (text : List ℕ) (new : Session) : Type 0 where
-  pub can : CanEnter old.entries old.numbers thread
+  pub can : CanEnter (length old.history) old.numbers thread
   pub answer : Answer
   pub started : Machine
   pub starts : Steps old.machine (Start thread call) (Ok answer) started
@@ -178,13 +190,13 @@ pub record Follows (old : Session) (thread : ℕ) (call : Call) (servers : Serve
   pub next : AreNext started steps settled
   pub idle : IsIdle settled
   pub rest : List ℕ
-  pub goes_on : GoesOn (gone_on old servers (length steps) settled) thread (answer.ended.items ++ ended_in steps) rest new
+  pub goes_on : GoesOn (gone_on old servers (call_entries thread call answer steps) settled) thread (answer.ended.items ++ ended_in steps) rest new
   pub text_is : text ≡ (step_text (Start thread call) answer started ++ flat_map done_text steps) ++ rest
 
 -- the call of this line was refused, and the text is its refusal
 pub record Refuses (old : Session) (line thread : ℕ) (call : Call) (text : List ℕ) (new : Session) : Type 0 where
   pub refusal : RecordRefusal
-  pub refused : RefusesCall old.machine old.entries old.numbers thread call refusal
+  pub refused : RefusesCall old.machine (length old.history) old.numbers thread call refusal
   pub same : new ≡ old
   pub text_is : text ≡ refused_text line (call_refusal refusal)
 
@@ -211,7 +223,7 @@ Creates old line number call text new =
 -- There was no memory for one more served thread, whose call would else have been entered: so whatever else it is refused for comes before.
 pub record LacksRoom (old : Session) (line thread : ℕ) (text : List ℕ) (new : Session) : Type 0 where
   pub first : is_served old.servers thread ≡ false
-  pub may : MayEnter old.machine old.entries old.numbers thread
+  pub may : MayEnter old.machine (length old.history) old.numbers thread
   pub lacks : LacksMemory old line text new
 
 -- a thread waits for anybody's message, and is served from then on

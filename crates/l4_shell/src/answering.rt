@@ -19,6 +19,7 @@ use crate::requests::{CallPlaces, make_fault, make_ipc, make_receive, set_parts}
 use crate::seated::SeatedKernel;
 use crate::session::{Session, refuse};
 use l4_ipc::Call;
+use l4_record::History;
 use l4_servers::Servers;
 use l4_text::{Ending, next_token};
 use std::io::Write;
@@ -111,6 +112,14 @@ impl Script {
             session: Session::new(kernel, servers),
             calls: CallPlaces::new(),
         }
+    }
+
+    /// The history.
+    pub(crate) fn into_history(self) -> History
+        ensures { result.entries ≡ self.session.kernel.history }
+    {
+        let Script { session, calls: _ } = self;
+        session.into_history()
     }
 
     /// Answers a line of another first token than `recv`, `send`, `ipc` and `fault`.

@@ -18,7 +18,7 @@ use std::io::{Read, Write};
 const SIGMA0: u32 = 1;
 
 /// A kernel as it boots, in which sigma0 and root have their seats.
-fn booted(alloc: Global, frames: u32, size: PageSize) -> Option<SeatedKernel>
+pub(crate) fn booted(alloc: Global, frames: u32, size: PageSize) -> Option<SeatedKernel>
     ensures { IfSome result (HasFirstSeats frames size) }
 {
     let Ok(mut kernel) = SeatedKernel::new(alloc, frames, size) else {
@@ -36,12 +36,13 @@ fn booted(alloc: Global, frames: u32, size: PageSize) -> Option<SeatedKernel>
 impl Script {
     /// Answers line after line, to the end of the script. Answers their number.
     #[inline(never)]
-    fn answer_all<R: Read, W: Write>(
+    pub(crate) fn answer_all<R: Read, W: Write>(
         &mut self,
         reader: &mut R,
         writer: &mut W,
     ) -> Result<u64, RunFault>
-        ensures { TellsScript (session self.old.session.kernel self.old.session.servers) (R.remaining reader.old) (R.remaining reader.new)
+        ensures { TellsScript (session self.old.session.kernel self.old.session.servers) (session self.new.session.kernel self.new.session.servers)
+            (R.remaining reader.old) (R.remaining reader.new)
             (W.contents writer.old) (W.contents writer.new) self.old.session.out self.new.session.out result }
     {
         let mut lines = LineReader::new();

@@ -5,7 +5,7 @@ ghost use Rattle.l4_shell.specs.Seated.{is_among, IsNew, with_number, MayEnter, 
 ghost use Rattle.l4_shell.specs.Inside.Entering.{Enters};
 
 use l4_ipc::{Call, Kernel, NoMemory, PageSize, Refused};
-use l4_record::{Appended, Board, RecordRefusal, Recorder, Watch};
+use l4_record::{Appended, Board, History, RecordRefusal, Recorder, Watch};
 use std::alloc::Global;
 use std::marker::Model;
 
@@ -130,5 +130,19 @@ impl SeatedKernel {
             watch,
         } = self;
         board.look(watch)
+    }
+
+    /// The history.
+    pub fn into_history(self) -> History
+        ensures { result.entries ≡ self.history }
+    {
+        let SeatedKernel {
+            recorder,
+            numbers: _,
+            board: _,
+            watch: _,
+        } = self;
+        let (history, _) = recorder.into_parts();
+        history
     }
 }

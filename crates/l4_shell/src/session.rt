@@ -18,7 +18,7 @@ use l4_answers::{Code, add_refused, parent_text, put_page, refused_code, shown_t
 use l4_ipc::{Call, Kernel, Refused};
 use l4_msg::Region;
 use l4_pager::{Entry, wait};
-use l4_record::Appended;
+use l4_record::{Appended, History};
 use l4_servers::Servers;
 use l4_text::{Output, Text};
 use std::io::Write;
@@ -148,6 +148,20 @@ impl Session {
             appended: Appended::new(),
             out: Output::new(),
         }
+    }
+
+    /// The history.
+    pub(crate) fn into_history(self) -> History
+        ensures { result.entries ≡ self.kernel.history }
+    {
+        let Session {
+            kernel,
+            servers: _,
+            act: _,
+            appended: _,
+            out: _,
+        } = self;
+        kernel.into_history()
     }
 
     /// Enters a call, and tells its start and the steps that follow it. Answers whether it has ended. Where it is refused, tells why; None then.

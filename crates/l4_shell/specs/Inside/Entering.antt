@@ -1,5 +1,5 @@
 -- A call that was entered, with what was appended to the history. (this profile's own)
-use Rattle.std.specs.Prelude.{◌≡◌, ℕ, ◌+◌, List, ◌∷◌, ◌++◌, length, map, Ok}
+use Rattle.std.specs.Prelude.{◌≡◌, ℕ, List, ◌∷◌, ◌++◌, length, map, Ok}
 use Rattle.l4_ipc.specs.declared.calls.Call.{Call}
 use Rattle.l4_ipc.specs.declared.steps.Answer.{Answer}
 use Rattle.l4_ipc.specs.declared.steps.Step.TheVariants.{Start}
@@ -9,6 +9,7 @@ use Rattle.l4_ipc.specs.Following.{Done, AreNext}
 use Rattle.l4_record.specs.declared.appended.Appended.{Appended}
 use Rattle.l4_record.specs.Following.{Lasts, ComeNext, start_entry, next_entry}
 use Rattle.l4_shell.specs.Seated.{Seated, CanEnter}
+use Rattle.l4_shell.specs.Sessions.{call_entries}
 
 -- The call was entered: the history goes on by its start and by the steps that come next, until there is none. The replies of all calls that
 -- ended in them can still be read.
@@ -31,5 +32,5 @@ pub record Entered (old new : Seated) (n : ℕ) (call : Call) : Type 0 where
   pub steps : List Done
   pub next : AreNext started steps new.machine
   pub idle : IsIdle new.machine
-  pub entries : length new.history ≡ length old.history + 1 + length steps
+  pub history : new.history ≡ old.history ++ call_entries n call answer steps
   pub same : (new.numbers ≡ old.numbers) × (new.seen ≡ old.seen)
