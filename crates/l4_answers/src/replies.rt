@@ -33,6 +33,7 @@ fn add_outcome(out: &mut Output, outcome: Outcome)
 }
 
 /// Adds `transfer S R done`, or what else came of it in the last word's place, and ends the line.
+#[inline(always)]
 fn add_transfer(out: &mut Output, sender: u32, receiver: u32, outcome: Outcome)
     requires { length out.old.0 + 80 ≤ held_bytes }
     ensures { out.new ≡ (out.old.0 ++ transfer_text sender receiver outcome, out.old.1) }
@@ -157,6 +158,7 @@ fn add_failed_head(out: &mut Output, number: u32, code: u32)
 }
 
 /// Adds how a thread's call ended, of a line that goes on with the words of its message.
+#[inline(always)]
 fn add_reply_head(out: &mut Output, number: u32, reply: Option<&Reply>)
     requires { length out.old.0 + 80 ≤ held_bytes }
     ensures { out.new ≡ (out.old.0 ++ reply_head number (option_copied reply.entry), out.old.1) }

@@ -335,6 +335,7 @@ fn not_running(threads: &Threads, number: u32) -> Option<Refused>
 }
 
 /// Starts a call, and writes what that did in the place of another answer.
+#[inline(always)]
 pub fn start(
     threads: &mut Threads,
     forest: &mut Forest,
@@ -385,6 +386,7 @@ pub fn start_answered(
 }
 
 /// Does a transfer that is enabled, and tells what it did, and whether the sender's call ended.
+#[inline(always)]
 pub fn carry_over(
     threads: &mut Threads,
     forest: &mut Forest,

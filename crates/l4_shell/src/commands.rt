@@ -94,6 +94,7 @@ fn delete(line: &[u8]) -> Option<Request<'static>>
 
 /// `N FROM WINDOW`
 #[tactic(auto, unfolding(crate::specs::Commands::receive_asked))]
+#[inline(always)]
 pub(crate) fn receive_parts(line: &[u8]) -> Option<(u32, Partner, u32)>
     ensures { option_map (λ p. Receive p.0 p.1 p.2) result ≡ receive_asked (tokens_of line.now) }
 {

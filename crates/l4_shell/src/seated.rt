@@ -60,11 +60,16 @@ impl SeatedKernel {
         self.recorder.kernel()
     }
 
-    /// Whether the number has its seat.
+    /// Whether the number has its seat. Mostly seats are given in the order of their numbers from 1 on, so that is looked at first.
     fn has_seat(&self, number: u32) -> bool
         ensures { result ≡ is_among number self.now.numbers }
     {
-        self.numbers.as_slice().contains(&number)
+        let numbers = self.numbers.as_slice();
+        let place = (number as usize).saturating_sub(1);
+        if place < numbers.len() && numbers[place] == number {
+            return true;
+        }
+        numbers.contains(&number)
     }
 
     /// The number has its seat from then on. `NoMemory` comes where a growth was refused, and then nothing has changed; never for a
