@@ -3,6 +3,7 @@ pub mod DigitTable
 pub mod Eight
 pub mod Ended
 pub mod Gone
+pub mod Hundreds
 pub mod LineSteps
 pub mod Newlines
 pub mod OneNumber

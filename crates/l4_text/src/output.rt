@@ -250,8 +250,29 @@ impl Output {
         if number < 100 {
             return self.add(&two_digits(number as u8));
         }
+        if number < 10_000 {
+            return self.add_hundreds(number as u16);
+        }
         let mut buffer = Buffer::new();
         self.add(buffer.format(number).as_bytes());
+    }
+
+    /// `add_number` for a number of three or four digits.
+    #[inline(always)]
+    fn add_hundreds(&mut self, number: u16)
+        requires long { (100 ≤ number) × (number < 10_000) }
+        requires room { length self.old.0 + 4 ≤ held_bytes }
+        ensures value { self.new ≡ (self.old.0 ++ decimal number, self.old.1) }
+        ensures len { length self.new.0 ≤ length self.old.0 + 4 }
+    {
+        let rest = two_digits((number % 100) as u8);
+        if number < 1000 {
+            self.push(b'0' + (number / 100) as u8);
+            return self.add(&rest);
+        }
+        let [tens, ones] = rest;
+        let [thousands, hundreds] = two_digits((number / 100) as u8);
+        self.add(&[thousands, hundreds, tens, ones]);
     }
 
     /// Adds a word in eight hexadecimal digits of lower case.

@@ -69,10 +69,11 @@ pub(crate) fn word_digits(word: u32) -> [u8; 8]
     digits.to_le_bytes()
 }
 
-/// A number of two digits in decimal.
+/// A number below 100 in decimal, with a zero in front where it is below 10.
 pub(crate) fn two_digits(number: u8) -> [u8; 2]
-    requires two { (10 ≤ number) × (number < 100) }
-    ensures { result ≡ decimal number }
+    requires { number < 100 }
+    ensures digits { result ≡ (48 + number / 10) ∷ (48 + number % 10) ∷ [] }
+    ensures decimal { 10 ≤ number → result ≡ decimal number }
 {
     [b'0' + number / 10, b'0' + number % 10]
 }
