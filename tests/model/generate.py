@@ -18,8 +18,9 @@ def ident(number):
 
 
 def pools(pages):
-    """Where pages lie that are mapped on: at the ends of a space of so many, and over a border between two tables of 2,048 pages."""
-    return [range(0, 12), range(0, 40), range(2040, 2060), range(pages - 16, pages), range(4, 9)]
+    """Where pages lie that are mapped on: at the ends of a space of so many, over a border between two tables of 2,048 pages, and over one
+    of 64 or 1,024 pages."""
+    return [range(0, 12), range(0, 40), range(2040, 2060), range(pages - 16, pages), range(4, 9), range(60, 68), range(1020, 1028)]
 
 
 class Maker:
@@ -217,6 +218,26 @@ class Maker:
             words += [at << self.page_log | self.random.choice([8, 10, 10]), page << self.page_log | self.page_log << 4 | self.rights()]
         yield from self.hand_on(giver, other, words)
 
+    def plan_ranges(self):
+        """Two ranges in one message, often within one space, over pages that sigma0 has handed on as a range before; then some are taken back."""
+        giver, taker = self.sharing() if self.random.random() < 0.4 else self.pair()
+        log = self.random.choice([1, 2, 3, 6])
+        begin = self.page() >> log << log
+        if giver != 1:
+            yield from self.hand_on(1, giver, self.one_range(0, begin, log, 7))
+        words = [4 << 6]
+        for kind in (8, self.random.choice([8, 8, 10])):
+            some = self.random.choice([log, max(log - 1, 0)])
+            source = (begin + self.random.choice([0, 0, 1 << some])) % self.pages
+            words += self.one_range(source, self.page(), some, self.rights(), kind)[1:]
+        yield from self.hand_on(giver, taker, words)
+        yield self.any_unmap(self.random.choice([giver, taker]))
+
+    def one_range(self, source, target, log, rights, kind=8):
+        """A message of one item of 2^log pages, of which the first has this page."""
+        first = source >> log << log
+        return [0x80, target << self.page_log | kind, first << self.page_log | (self.page_log + log) << 4 | rights]
+
     def one_item(self, source, target, rights, kind=8):
         return [0x80, target << self.page_log | kind, source << self.page_log | self.page_log << 4 | rights]
 
@@ -256,7 +277,7 @@ class Maker:
 class StepMaker(Maker):
     """Makes lists of kernel steps."""
 
-    PLANS = {"chain": 2, "tree": 1, "grants": 2, "family": 3, "queue": 0.2, "fault": 1, "spaces": 1}
+    PLANS = {"chain": 2, "tree": 1, "grants": 2, "family": 3, "ranges": 2, "queue": 0.2, "fault": 1, "spaces": 1}
 
     def any_line(self):
         random = self.random
@@ -401,7 +422,7 @@ class StepMaker(Maker):
 class ScriptMaker(Maker):
     """Makes scripts."""
 
-    PLANS = {"chain": 2, "tree": 1, "grants": 2, "family": 3, "queue": 0.2, "serve": 2, "pagers": 4, "regions": 0.3, "spaces": 1}
+    PLANS = {"chain": 2, "tree": 1, "grants": 2, "family": 3, "ranges": 2, "queue": 0.2, "serve": 2, "pagers": 4, "regions": 0.3, "spaces": 1}
 
     def any_line(self):
         random = self.random
