@@ -1,4 +1,5 @@
 pub mod Writes
+pub mod Joining
 pub mod Runs
 pub mod Growing
 pub mod Roots

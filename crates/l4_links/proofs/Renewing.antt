@@ -1,16 +1,19 @@
 -- Walks that begin with a stamp of their own: what stands stays, and where the stamps have run out no node keeps one.
-use Rattle.std.proofs.Common.{◌≡◌, ◌≢◌, ℕ, ◌+◌, ◌<◌, ◌≤◌, length, Option, Some, None, refl, sym, ap, ◌∙◌, subst, arith, inl, inr}
-use Rattle.std.proofs.lemmas.Bool.{cases_eq}
-use Rattle.std.specs.Option.{option_map}
+use Rattle.std.proofs.Common.{◌≡◌, ◌≢◌, ℕ, List, [], Option, Some, None, refl, sym, ap, ◌∙◌, subst, inl, inr}
+use Rattle.std.specs.Option.{option_map, option_and_then}
 use Rattle.l4_fpage.specs.Rights.{RightsSet}
 use Rattle.l4_links.specs.declared.nodes.Node.{Node}
+use Rattle.l4_links.specs.declared.nodes.Slot.{Slot}
+use Rattle.l4_links.specs.declared.packed.Packed.{Packed}
+use Rattle.l4_links.specs.declared.slots.Note.{Note}
 use Rattle.l4_links.specs.Leads.{Leads}
 use Rattle.l4_links.specs.Inside.Trees.{Limb, parent_at}
-use Rattle.l4_links.specs.Inside.Nodes.{Slots, node_at, limbs, marks, Marks, capped_worth, AreUnmarked, IsSame, CapsBelow, NoneMet, Meets, Sees}
-use Rattle.l4_links.proofs.Writes.{marks_of}
-use Rattle.l4_links.proofs.Cutting.{node_within}
-use Rattle.l4_links.proofs.Walking.{node_from_limb}
-use Rattle.l4_links.proofs.Seeking.{same_on, sees_same, sources_same}
+use Rattle.l4_links.specs.Inside.Nodes.{Slots, slot_at, node_at, limbs, Marks, capped_worth, AreUnmarked, IsSame, CapsBelow, NoneMet, Meets}
+use Rattle.l4_links.specs.Inside.Packed.{unnoted, with_node}
+use Rattle.l4_links.specs.Inside.Joined.{joined}
+use Rattle.l4_links.proofs.Writes.{marks_of, doom_of, spot_of, map_both}
+use Rattle.l4_links.proofs.Joining.{node_in, spot_in, unnoted_all}
+use Rattle.l4_links.proofs.Seeking.{sources_same}
 
 abbrev limb_of : Node → Limb
 limb_of n = record { parent = n.parent; depth = n.depth }
@@ -47,38 +50,28 @@ meets_from_same old new k s m = (
 pub none_from_same : (old new : Slots) (k : ℕ) → IsSame old new → NoneMet k new → NoneMet k old
 none_from_same old new k s f j l e = f j (subst (λ (g : ℕ → Option Limb). Leads (parent_at g) j k) (λ i a. sym (s.limbs_same a) i) l) (sources_same old new s j ∙ e)
 
--- stamps that were taken away
-pub record UnmarkedSoFar (old cur : Slots) (count : ℕ) : Type 0 where
-  pub same : IsSame old cur
-  pub done : (k : ℕ) → k < count → (m : Marks) → marks cur k ≡ Some m → (m.mark ≡ 0) × (m.seen ≡ 0)
+-- stamps that were taken away: nothing is noted of any key
+taken : (slots : List (Option Packed)) (notes : List Note) (old : Slots) → joined slots notes ≡ old → (k : ℕ) → node_at (joined slots []) k ≡ option_map unnoted (node_at old k)
+taken slots notes old is k = ap (option_and_then (λ (s : Slot). s.node)) (unnoted_all slots notes old k is) ∙ node_in unnoted (slot_at old k)
 
-pub unmarked_first : (old : Slots) → UnmarkedSoFar old old 0
-unmarked_first old = record {
-  same = record { limbs_same = λ k. refl; links_same = λ k. refl; values_same = λ k. refl; dooms_same = λ k. refl; spots_same = λ k. refl };
-  done = λ k lt m is. absurd (omega (arith, lt));
+stays : {X : Type 0} (F : Node → X) → ((n : Node) → F (unnoted n) ≡ F n) → (slots : List (Option Packed)) (notes : List Note) (old : Slots) → joined slots notes ≡ old → (k : ℕ) → option_map F (node_at (joined slots []) k) ≡ option_map F (node_at old k)
+stays F same slots notes old is k = ap (option_map F) (taken slots notes old is k) ∙ map_both F unnoted same (node_at old k)
+
+pub unmarked_same : (slots : List (Option Packed)) (notes : List Note) (old : Slots) → joined slots notes ≡ old → IsSame old (joined slots [])
+unmarked_same slots notes old is = record {
+  limbs_same = stays limb_of (λ n. refl) slots notes old is;
+  links_same = stays (λ n. record { prev = n.prev; next = n.next }) (λ n. refl) slots notes old is;
+  values_same = stays (λ n. record { frame = n.frame; rights = n.rights; source = n.source; granted = n.granted }) (λ n. refl) slots notes old is;
+  dooms_same = stays doom_of (λ n. refl) slots notes old is;
+  spots_same = λ k. ap (option_map spot_of) (unnoted_all slots notes old k is) ∙ spot_in (with_node unnoted) (λ s. refl) (slot_at old k);
 }
 
-pub unmarked_more : (old cur new : Slots) (count : ℕ) → UnmarkedSoFar old cur count → Sees count 0 cur new → UnmarkedSoFar old new (count + 1)
-unmarked_more old cur new count c w = record {
-  same = same_on old cur new c.same (sees_same count 0 cur new w);
-  done = λ k lt m is. elim (cases_eq k count) [
-    | inr ne ↦ c.done k (omega (arith, lt, ne)) m (sym (ap (option_map marks_of) (w.others k ne)) ∙ is)
-    | inl e ↦ elim (node_at cur count) as (λ o. node_at cur count ≡ o → (m.mark ≡ 0) × (m.seen ≡ 0)) [
-      | None ↦ λ none. absurd (
-          let z : ◌≡◌ {A = Option Marks} None (Some m) = sym (ap (option_map marks_of) (ap (node_at new) e ∙ w.here ∙ ap (option_map (λ (n : Node). record n { seen = 0; mark = 0 })) none)) ∙ is in cc)
-      | Some n ↦ λ some.
-          let z : ◌≡◌ {A = Option Marks} (Some (record { mark = 0; seen = 0 })) (Some m) = sym (ap (option_map marks_of) (ap (node_at new) e ∙ w.here ∙ ap (option_map (λ (n : Node). record n { seen = 0; mark = 0 })) some)) ∙ is in
-          let same : record { mark = 0; seen = 0 } ≡ m = cc in
-          (sym (ap (λ (q : Marks). q.mark) same), sym (ap (λ (q : Marks). q.seen) same))
-    ] refl
-  ];
-}
-
-pub unmarked_all : (old cur : Slots) (count : ℕ) → UnmarkedSoFar old cur count → length old ≤ count → AreUnmarked cur
-unmarked_all old cur count c whole k m is = elim (node_at cur k) as (λ o. node_at cur k ≡ o → (m.mark ≡ 0) × (m.seen ≡ 0)) [
-  | None ↦ λ none. absurd (let z : ◌≡◌ {A = Option Marks} None (Some m) = sym (ap (option_map marks_of) none) ∙ is in cc)
-  | Some n ↦ λ some.
-      let o = node_from_limb old k (limb_of n) (sym (c.same.limbs_same k) ∙ ap (option_map limb_of) some) in
-      let w = node_within old k o.0 o.1 in
-      c.done k (omega (arith, w, whole)) m is
-] refl
+pub unmarked_all : (slots : List (Option Packed)) (notes : List Note) (old : Slots) → joined slots notes ≡ old → AreUnmarked (joined slots [])
+unmarked_all slots notes old is k m at = none (node_at old k) (sym (ap (option_map marks_of) (taken slots notes old is k)) ∙ at)
+  where
+    none : (o : Option Node) → option_map marks_of (option_map unnoted o) ≡ Some m → (m.mark ≡ 0) × (m.seen ≡ 0)
+    none None z = absurd (let y : ◌≡◌ {A = Option Marks} None (Some m) = z in cc)
+    none (Some n) z =
+        let y : ◌≡◌ {A = Option Marks} (Some (record { mark = 0; seen = 0 })) (Some m) = z in
+        let same : record { mark = 0; seen = 0 } ≡ m = cc in
+        (sym (ap (λ (q : Marks). q.mark) same), sym (ap (λ (q : Marks). q.seen) same))

@@ -16,7 +16,7 @@ doom_of n = record { rights = n.rights; next = n.doomed }
 abbrev pub spot_of : Slot → Spot
 spot_of s = record { place = s.place; wanted = s.wanted }
 
-map_both : {X : Type 0} (F : Node → X) (f : Node → Node) → ((n : Node) → F (f n) ≡ F n) → (o : Option Node) → option_map F (option_map f o) ≡ option_map F o
+pub map_both : {X : Type 0} (F : Node → X) (f : Node → Node) → ((n : Node) → F (f n) ≡ F n) → (o : Option Node) → option_map F (option_map f o) ≡ option_map F o
 map_both F f same None = refl
 map_both F f same (Some n) = ap (λ x. Some x) (same n)
 

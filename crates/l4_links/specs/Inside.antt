@@ -3,6 +3,7 @@ pub mod Packed
 pub mod Trees
 pub mod Orders
 pub mod Nodes
+pub mod Joined
 pub mod Stacks
 pub mod Keeping
 pub mod Moving

@@ -12,10 +12,9 @@ ghost use Rattle.l4_links.specs.Inside.Moving.{CanMove, IsHindered, Hinders, Lac
 
 use crate::Place;
 use crate::nodes::{node_of, set_place};
-use crate::packed::Packed;
+use crate::slots::Slots;
 use l4_fpage::Rights;
 use l4_spaces::{NoMemory, Spaces};
-use slab::Slab;
 
 /// The place that the page of the source's space goes to.
 #[inline]
@@ -32,7 +31,7 @@ fn place_from(source: Place, target: Place, page: u32) -> Place
 
 /// Whether what stands under the key has no other rights than these.
 #[inline]
-fn is_within(nodes: &Slab<Packed>, key: usize, rights: Rights) -> bool
+fn is_within(nodes: &Slots, key: usize, rights: Rights) -> bool
     ensures yes { result ≡ true → (n : ANode) → node_at nodes.now.slots key ≡ Some n → Within n.rights rights }
     ensures no { result ≡ false → (n : ANode) × (node_at nodes.now.slots key ≡ Some n) × ¬ (Within n.rights rights) }
 {
@@ -44,7 +43,7 @@ fn is_within(nodes: &Slab<Packed>, key: usize, rights: Rights) -> bool
 
 /// Whether what is under the key can go to the place: it has no other rights than these, and the place has no key. Room is made for it.
 fn can_move(
-    nodes: &Slab<Packed>,
+    nodes: &Slots,
     pages: &mut Spaces,
     key: usize,
     place: Place,
@@ -75,7 +74,7 @@ fn can_move(
 
 /// Whether all that is at the pages from the source on and before the end can go to the places from the target on. Room is made for it.
 pub(crate) fn can_move_all(
-    nodes: &Slab<Packed>,
+    nodes: &Slots,
     pages: &mut Spaces,
     source: Place,
     end: u32,
@@ -111,7 +110,7 @@ pub(crate) fn can_move_all(
 
 /// Lets the key of a page be of another place, which has no key and which there is room for.
 #[inline]
-fn move_key(nodes: &mut Slab<Packed>, pages: &mut Spaces, source: Place, key: usize, place: Place)
+fn move_key(nodes: &mut Slots, pages: &mut Spaces, source: Place, key: usize, place: Place)
     requires indexed { IsIndexed nodes.old.slots pages.old }
     requires stands { IsOf nodes.old.slots source key }
     requires there { IsSpace pages.old place.space }
@@ -129,7 +128,7 @@ fn move_key(nodes: &mut Slab<Packed>, pages: &mut Spaces, source: Place, key: us
 
 /// Lets all that is at the pages from the source on and before the end go to the places from the target on.
 pub(crate) fn move_all(
-    nodes: &mut Slab<Packed>,
+    nodes: &mut Slots,
     pages: &mut Spaces,
     source: Place,
     end: u32,

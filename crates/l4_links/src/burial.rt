@@ -10,9 +10,8 @@ ghost use Rattle.l4_links.specs.Inside.Stacks.{HasStack, Buries};
 use crate::keys::Link;
 use crate::lists::take_out;
 use crate::nodes::{Node, node_of};
-use crate::packed::Packed;
+use crate::slots::Slots;
 use l4_spaces::Spaces;
-use slab::Slab;
 
 /// The key that a list begins with once the node has left it, if it began with `first`.
 fn first_without(node: &Node, first: Link) -> Link
@@ -27,7 +26,7 @@ fn first_without(node: &Node, first: Link) -> Link
 
 /// Takes the nodes of the stack, which begins with the key `doomed`, out of the list, and their slots away with their
 /// pages' names. The list begins with the key that is given then.
-pub(crate) fn bury(nodes: &mut Slab<Packed>, pages: &mut Spaces, first: Link, doomed: Link) -> Link
+pub(crate) fn bury(nodes: &mut Slots, pages: &mut Spaces, first: Link, doomed: Link) -> Link
     requires forest { (ks : List ℕ) × IsForest nodes.old.slots ks }
     requires within { IsWithin nodes.old.slots }
     requires stack { HasStack nodes.old.slots doomed }

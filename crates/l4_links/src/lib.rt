@@ -17,6 +17,7 @@ mod names;
 mod nodes;
 mod packed;
 mod parents;
+mod slots;
 mod stamps;
 mod walks;
 
@@ -26,12 +27,9 @@ use l4_fpage::Rights;
 pub use l4_spaces::NoMemory;
 use l4_spaces::Spaces;
 use names::{remove, take_over};
-use nodes::{
-    cap_at, make_room, node_of, set_plain, set_rights, set_source, set_wanted, standing_of,
-    vacant_key_fits,
-};
+use nodes::{cap_at, node_of, set_plain, set_rights, set_source, set_wanted, standing_of};
 use packed::Packed;
-use slab::Slab;
+use slots::Slots;
 use stamps::{SOURCES_WALK, fresh, stamp_for};
 use std::alloc::Global;
 use std::marker::Model;
@@ -74,7 +72,7 @@ pub struct Entry {
 /// The nodes of all pages, and the spaces that there are.
 #[derive(Drop)]
 pub struct Links {
-    nodes: Slab<Packed>,
+    nodes: Slots,
     /// The key of each page.
     pages: Spaces,
     /// The key of the first node of the list.
@@ -111,7 +109,7 @@ impl Links {
         ensures spaces { result.spaces ≡ set.empty }
     {
         Links {
-            nodes: Slab::new(alloc),
+            nodes: Slots::new(alloc),
             pages: Spaces::new(alloc),
             first: Link::none(),
             stamp: 1,
@@ -200,9 +198,9 @@ impl Links {
             return None;
         };
         Some(Entry {
-            place: slot.place(),
-            wanted: slot.is_wanted(),
-            stands: standing_of(slot.node()),
+            place: slot.place,
+            wanted: slot.wanted,
+            stands: standing_of(slot.node),
         })
     }
 
@@ -223,9 +221,9 @@ impl Links {
         ensures spaces { self.new.spaces ≡ self.old.spaces }
         ensures err { OnErr result (self.new ≡ self.old) }
     {
-        vacant_key_fits(&self.nodes)?;
+        self.nodes.make_room()?;
         self.pages.prepare(place.space, &[place.page])?;
-        let key = self.nodes.insert(Packed::blank(place))?;
+        let key = self.nodes.insert_reserved(Packed::blank(place));
         self.pages.set(place.space, place.page, key);
         Ok(key)
     }
@@ -322,7 +320,7 @@ impl Links {
         let Some(above) = node_of(&self.nodes, parent) else {
             unreachable!()
         };
-        match make_room(&mut self.nodes) {
+        match self.nodes.make_room() {
             Ok(()) => {}
             Err(refused) => return self.taken_or(place, refused),
         }

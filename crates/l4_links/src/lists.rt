@@ -1,13 +1,13 @@
 //! The list of all nodes in depth-first order: one is put in, one is taken out, a run is cut off.
 
 ghost use Rattle.std.specs.Prelude.{◌≡◌, ◌≢◌, ◌<◌, ◌+◌, ◌^◌, ◌++◌, ◌∷◌, [], ℕ, List, Option, Some, None, false};
-ghost use Rattle.slab.specs.Slab.{HasRoomFor};
 ghost use Rattle.l4_fpage.specs.Rights.{common};
 ghost use Rattle.l4_spaces.specs.Tables.{IsPage};
 ghost use Rattle.l4_links.specs.Inside.Keys.{IsKey};
 ghost use Rattle.l4_links.specs.Inside.Trees.{Sprouts, Rises};
 ghost use Rattle.l4_links.specs.Inside.Orders.{TakesOut, first_of};
 ghost use Rattle.l4_links.specs.Inside.Nodes.{node_at, slot_at, spots, limbs, links, values, AreKeys, IsOrder, IsForest, Parts, TakesSlot, CutsOff, ClosesGap, Comes, child, AddsUnder, Prunes, Clears};
+ghost use Rattle.l4_links.specs.Inside.Joined.{HasRoom};
 ghost use Rattle.l4_links.specs.Inside.Keeping.{IsIndexed};
 
 use crate::Place;
@@ -15,13 +15,13 @@ use crate::keys::Link;
 use crate::names::remove;
 use crate::nodes::{Node, child_depth, empty, is_wanted, node_of, set_next, set_prev, write};
 use crate::packed::Packed;
+use crate::slots::Slots;
 use crate::walks::is_leaf;
 use l4_fpage::Rights;
 use l4_spaces::Spaces;
-use slab::Slab;
 
 /// Takes the node out of its list. Its slot stays, as a blank.
-pub(crate) fn unlink(nodes: &mut Slab<Packed>, key: usize)
+pub(crate) fn unlink(nodes: &mut Slots, key: usize)
     requires order { (ks : List ℕ) × IsOrder nodes.old.slots ks }
     requires there { node_at nodes.old.slots key ≢ None }
     ensures takes { TakesOut (links nodes.old.slots) (links nodes.new.slots) key }
@@ -37,7 +37,7 @@ pub(crate) fn unlink(nodes: &mut Slab<Packed>, key: usize)
 }
 
 /// Takes the node out of its list, and the slot away with its page's name.
-pub(crate) fn take_out(nodes: &mut Slab<Packed>, pages: &mut Spaces, key: usize)
+pub(crate) fn take_out(nodes: &mut Slots, pages: &mut Spaces, key: usize)
     requires order { (ks : List ℕ) × IsOrder nodes.old.slots ks }
     requires there { node_at nodes.old.slots key ≢ None }
     ensures out { TakesSlot key nodes.old.slots nodes.new.slots }
@@ -52,7 +52,7 @@ pub(crate) fn take_out(nodes: &mut Slab<Packed>, pages: &mut Spaces, key: usize)
 /// Takes the node away where it stands, and leaves the links to it as they are. A wanted page is left as a blank, and any other slot goes
 /// with its page's name.
 #[inline]
-fn cut_off(nodes: &mut Slab<Packed>, pages: &mut Spaces, key: usize)
+fn cut_off(nodes: &mut Slots, pages: &mut Spaces, key: usize)
     requires there { node_at nodes.old.slots key ≢ None }
     ensures out { CutsOff key nodes.old.slots nodes.new.slots }
     ensures indexed { IsIndexed nodes.old.slots pages.old → IsIndexed nodes.new.slots pages.new }
@@ -65,7 +65,7 @@ fn cut_off(nodes: &mut Slab<Packed>, pages: &mut Spaces, key: usize)
 }
 
 /// Links the node with the one that comes after it once all between them have gone, of which there were so many.
-fn close_gap(nodes: &mut Slab<Packed>, top: usize, next: Link, gone: usize)
+fn close_gap(nodes: &mut Slots, top: usize, next: Link, gone: usize)
     requires key { IsKey top }
     ensures whole { gone ≡ 0 → nodes.new.slots ≡ nodes.old.slots }
     ensures closed { gone ≢ 0 → ClosesGap top next nodes.old.slots nodes.new.slots }
@@ -105,13 +105,7 @@ fn child_of(parent: usize, above: &Node, rights: Rights, slots: usize) -> Node
 }
 
 /// Puts a node straight after its parent, into the blank that the key is of.
-pub(crate) fn link_under(
-    nodes: &mut Slab<Packed>,
-    parent: usize,
-    key: usize,
-    above: Node,
-    rights: Rights,
-)
+pub(crate) fn link_under(nodes: &mut Slots, parent: usize, key: usize, above: Node, rights: Rights)
     requires forest { (ks : List ℕ) × IsForest nodes.old.slots ks }
     requires few { AreKeys nodes.old.slots }
     requires there { node_at nodes.old.slots parent ≡ Some above }
@@ -130,7 +124,7 @@ pub(crate) fn link_under(
 
 /// Puts a node for a page straight after its parent, into the slot of the vacant key, which there is room for.
 pub(crate) fn add_under(
-    nodes: &mut Slab<Packed>,
+    nodes: &mut Slots,
     parent: usize,
     place: Place,
     above: &Node,
@@ -142,7 +136,7 @@ pub(crate) fn add_under(
     requires fits { IsPage place.page }
     requires kept { IsKey nodes.old.vacant_key }
     requires vacant { slot_at nodes.old.slots nodes.old.vacant_key ≡ None }
-    requires room { HasRoomFor nodes.old 1 }
+    requires room { HasRoom nodes.old }
     ensures { AddsUnder parent place above.now rights nodes.old.slots nodes.new.slots nodes.old.vacant_key }
 {
     let node = child_of(parent, above, rights, nodes.capacity());
@@ -154,7 +148,7 @@ pub(crate) fn add_under(
 
 /// Puts a root before all other nodes, into the blank that the key is of. The list begins with the key that is given then.
 pub(crate) fn link_root(
-    nodes: &mut Slab<Packed>,
+    nodes: &mut Slots,
     first: Link,
     key: usize,
     frame: u32,
@@ -191,7 +185,7 @@ pub(crate) fn link_root(
 
 /// Cuts off all that descends from the node. Where nothing does, that is seen at once.
 #[inline]
-fn cut_below(nodes: &mut Slab<Packed>, pages: &mut Spaces, top: usize)
+fn cut_below(nodes: &mut Slots, pages: &mut Spaces, top: usize)
     requires forest { (ks : List ℕ) × IsForest nodes.old.slots ks }
     requires few { AreKeys nodes.old.slots }
     requires there { node_at nodes.old.slots top ≢ None }
@@ -206,7 +200,7 @@ fn cut_below(nodes: &mut Slab<Packed>, pages: &mut Spaces, top: usize)
 }
 
 /// Cuts off all that descends from the node: the run of deeper nodes after it, in one pass that mends the list at its end.
-pub(crate) fn cut_run(nodes: &mut Slab<Packed>, pages: &mut Spaces, top: usize)
+pub(crate) fn cut_run(nodes: &mut Slots, pages: &mut Spaces, top: usize)
     requires forest { (ks : List ℕ) × IsForest nodes.old.slots ks }
     requires few { AreKeys nodes.old.slots }
     requires there { node_at nodes.old.slots top ≢ None }
@@ -236,7 +230,7 @@ pub(crate) fn cut_run(nodes: &mut Slab<Packed>, pages: &mut Spaces, top: usize)
 
 /// Cuts off all that descends from the node, and takes the node out of the list. Its slot stays, as a blank. The list begins
 /// with the key that is given then.
-pub(crate) fn clear(nodes: &mut Slab<Packed>, pages: &mut Spaces, first: Link, top: usize) -> Link
+pub(crate) fn clear(nodes: &mut Slots, pages: &mut Spaces, first: Link, top: usize) -> Link
     requires forest { (ks : List ℕ) × IsForest nodes.old.slots ks }
     requires few { AreKeys nodes.old.slots }
     requires there { node_at nodes.old.slots top ≢ None }

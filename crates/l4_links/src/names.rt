@@ -5,14 +5,13 @@ ghost use Rattle.l4_links.specs.Inside.Nodes.{slot_at, node_at, TakesOver};
 ghost use Rattle.l4_links.specs.Inside.Keeping.{IsIndexed};
 
 use crate::nodes::{give, place_of};
-use crate::packed::Packed;
+use crate::slots::Slots;
 use l4_fpage::Rights;
 use l4_spaces::Spaces;
-use slab::Slab;
 
 /// Takes the slot under the key away, if there is one, and its page's name.
 #[inline]
-pub(crate) fn remove(nodes: &mut Slab<Packed>, pages: &mut Spaces, key: usize)
+pub(crate) fn remove(nodes: &mut Slots, pages: &mut Spaces, key: usize)
     ensures gone { slot_at nodes.new.slots key ≡ None }
     ensures others { (other : ℕ) → other ≢ key → slot_at nodes.new.slots other ≡ slot_at nodes.old.slots other }
     ensures indexed { IsIndexed nodes.old.slots pages.old → IsIndexed nodes.new.slots pages.new }
@@ -22,12 +21,12 @@ pub(crate) fn remove(nodes: &mut Slab<Packed>, pages: &mut Spaces, key: usize)
         return;
     };
     pages.clear(place.space, place.page);
-    let _ = nodes.try_remove(key);
+    nodes.remove(key);
 }
 
 /// Lets the key be of the blank's page, with a note that an item of these rights grants it. The blank goes.
 pub(crate) fn take_over(
-    nodes: &mut Slab<Packed>,
+    nodes: &mut Slots,
     pages: &mut Spaces,
     key: usize,
     blank: usize,
@@ -49,6 +48,6 @@ pub(crate) fn take_over(
     };
     pages.set(to.space, to.page, key);
     pages.clear(from.space, from.page);
-    let _ = nodes.try_remove(blank);
+    nodes.remove(blank);
     give(nodes, key, to, rights);
 }

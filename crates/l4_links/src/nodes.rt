@@ -1,24 +1,22 @@
 //! The slots of the slab: what each holds, and the writes to one of them.
 
-ghost use Rattle.std.specs.Prelude.{◌≡◌, ◌+◌, ◌<◌, ◌≤◌, false, Some, None, OnOk, OnErr};
+ghost use Rattle.std.specs.Prelude.{◌≡◌, ◌+◌, ◌<◌, Some, None};
 ghost use Rattle.std.specs.Option.{option_map};
-ghost use Rattle.slab.specs.Slab.{HasRoomFor};
 ghost use Rattle.l4_spaces.specs.Tables.{IsPage};
-ghost use Rattle.l4_links.specs.Inside.Keys.{IsKey, no_key};
+ghost use Rattle.l4_links.specs.Inside.Keys.{IsKey};
 ghost use Rattle.l4_links.specs.Inside.Stacks.{HasStack};
 ghost use Rattle.l4_links.specs.Inside.Keeping.{standing_of};
 ghost use Rattle.l4_links.specs.Inside.Nodes.{node_at, slot_at, spots, AreKeys, wanted_in, Writes, SetsWanted, SetsPlace, Gives, SetsNext, SetsPrev, Caps, SetsRights, Closes, Sees, SetsSource, SetsPlain};
+ghost use Rattle.l4_links.specs.Inside.Packed.{unnoted};
 ghost use Rattle.l4_links.specs.declared.nodes.Slot.{Slot as ASlot};
 ghost use Rattle.l4_links.specs.declared.nodes.Node.{Node as ANode};
 
-use crate::keys::{Link, NO_KEY};
-use crate::packed::Packed;
+use crate::keys::Link;
+use crate::slots::{Note, Slots, clear_note, note_at, put_note};
 use crate::{Place, Standing};
 use l4_fpage::Rights;
-use l4_spaces::NoMemory;
-use slab::Slab;
 
-/// What a slot holds for a page. It is kept as `Packed`.
+/// What a slot holds for a page. It is kept as `Packed`, and a `Note` beside it.
 #[derive(Clone, Copy)]
 pub(crate) struct Slot {
     pub place: Place,
@@ -56,58 +54,34 @@ pub(crate) struct Node {
 }
 
 /// The node under the key.
-pub(crate) fn node_of(nodes: &Slab<Packed>, key: usize) -> Option<Node>
+#[inline]
+pub(crate) fn node_of(nodes: &Slots, key: usize) -> Option<Node>
     ensures { result ≡ node_at nodes.now.slots key }
 {
     let Some(slot) = nodes.get(key) else {
         return None;
     };
-    slot.node()
+    slot.node
 }
 
 /// The page of the key.
-pub(crate) fn place_of(nodes: &Slab<Packed>, key: usize) -> Option<Place>
+pub(crate) fn place_of(nodes: &Slots, key: usize) -> Option<Place>
     ensures { result ≡ option_map (λ (s : ASlot). s.place) (slot_at nodes.now.slots key) }
 {
     let Some(slot) = nodes.get(key) else {
         return None;
     };
-    Some(slot.place())
+    Some(slot.place)
 }
 
 /// Whether a message fills the page of the key.
-pub(crate) fn is_wanted(nodes: &Slab<Packed>, key: usize) -> bool
+pub(crate) fn is_wanted(nodes: &Slots, key: usize) -> bool
     ensures { result ≡ wanted_in (spots nodes.now.slots key) }
 {
     let Some(slot) = nodes.get(key) else {
         return false;
     };
-    slot.is_wanted()
-}
-
-/// Refuses where a node can't keep the key that the next slot would have. Keys that were given back come first, so then all that
-/// it can keep are taken.
-pub(crate) fn vacant_key_fits(nodes: &Slab<Packed>) -> Result<(), NoMemory>
-    ensures few { OnOk result (IsKey nodes.now.vacant_key) }
-    ensures vacant { OnOk result (slot_at nodes.now.slots nodes.now.vacant_key ≡ None) }
-    ensures full { OnErr result (no_key ≤ nodes.now.vacant_key) }
-{
-    if nodes.vacant_key() < NO_KEY as usize {
-        return Ok(());
-    }
-    Err(NoMemory)
-}
-
-/// Makes room for one more slot, whose key a node can keep.
-pub(crate) fn make_room(nodes: &mut Slab<Packed>) -> Result<(), NoMemory>
-    ensures room { OnOk result (HasRoomFor nodes.new 1) }
-    ensures few { OnOk result (IsKey nodes.new.vacant_key) }
-    ensures vacant { OnOk result (slot_at nodes.new.slots nodes.new.vacant_key ≡ None) }
-    ensures same { nodes.new.slots ≡ nodes.old.slots }
-{
-    vacant_key_fits(nodes)?;
-    nodes.reserve(1)?;
-    Ok(())
+    slot.wanted
 }
 
 /// How deep a child of the node stands. No node stands deeper than there are slots.
@@ -118,91 +92,99 @@ pub(crate) fn child_depth(node: &Node, slots: usize) -> usize
     node.depth + 1
 }
 
-/// Lets the slot under the key, if there is one, hold this node.
-pub(crate) fn write(nodes: &mut Slab<Packed>, key: usize, node: Node)
-    requires depth { IsKey node.depth }
-    requires unmarked { node.mark ≡ 0 }
-    ensures { Writes key (Some node) nodes.old.slots nodes.new.slots }
+/// Lets the slot under the key, if there is one, hold this node, of which no walk has noted anything.
+pub(crate) fn write(nodes: &mut Slots, key: usize, node: Node)
+    requires { IsKey node.depth }
+    ensures { Writes key (Some (unnoted node)) nodes.old.slots nodes.new.slots }
 {
-    if let Some(slot) = nodes.get_mut(key) {
-        slot.put(node);
-    }
+    let Some(slot) = nodes.packed.get_mut(key) else {
+        return;
+    };
+    slot.put(node);
+    clear_note(&mut nodes.notes, key);
 }
 
 /// Lets the slot under the key, if there is one, be a blank.
-pub(crate) fn empty(nodes: &mut Slab<Packed>, key: usize)
+pub(crate) fn empty(nodes: &mut Slots, key: usize)
     ensures { Writes key None nodes.old.slots nodes.new.slots }
 {
-    if let Some(slot) = nodes.get_mut(key) {
-        slot.empty();
-    }
+    let Some(slot) = nodes.packed.get_mut(key) else {
+        return;
+    };
+    slot.empty();
 }
 
 /// Notes whether a message fills the page of the key, if there is one.
-pub(crate) fn set_wanted(nodes: &mut Slab<Packed>, key: usize, wanted: bool)
+pub(crate) fn set_wanted(nodes: &mut Slots, key: usize, wanted: bool)
     ensures { SetsWanted key wanted nodes.old.slots nodes.new.slots }
 {
-    if let Some(slot) = nodes.get_mut(key) {
-        slot.set_wanted(wanted);
-    }
+    let Some(slot) = nodes.packed.get_mut(key) else {
+        return;
+    };
+    slot.set_wanted(wanted);
 }
 
 /// Lets the slot under the key, if there is one, be of this page.
-pub(crate) fn set_place(nodes: &mut Slab<Packed>, key: usize, place: Place)
+pub(crate) fn set_place(nodes: &mut Slots, key: usize, place: Place)
     requires { IsPage place.page }
     ensures { SetsPlace key place nodes.old.slots nodes.new.slots }
 {
-    if let Some(slot) = nodes.get_mut(key) {
-        slot.set_place(place);
-    }
+    let Some(slot) = nodes.packed.get_mut(key) else {
+        return;
+    };
+    slot.set_place(place);
 }
 
 /// Lets the slot under the key, if there is one, be of this page, with a note that an item of these rights grants it.
-pub(crate) fn give(nodes: &mut Slab<Packed>, key: usize, place: Place, rights: Rights)
+pub(crate) fn give(nodes: &mut Slots, key: usize, place: Place, rights: Rights)
     requires { IsPage place.page }
     ensures { Gives key place rights nodes.old.slots nodes.new.slots }
 {
-    if let Some(slot) = nodes.get_mut(key) {
-        slot.give(place, rights);
-    }
+    let Some(slot) = nodes.packed.get_mut(key) else {
+        return;
+    };
+    slot.give(place, rights);
 }
 
 /// Lets the node that is meant have this next key.
-pub(crate) fn set_next(nodes: &mut Slab<Packed>, at: Link, next: Link)
+pub(crate) fn set_next(nodes: &mut Slots, at: Link, next: Link)
     ensures { SetsNext at next nodes.old.slots nodes.new.slots }
 {
     let Some(key) = at.key() else {
         return;
     };
-    if let Some(slot) = nodes.get_mut(key) {
-        slot.set_next(next);
-    }
+    let Some(slot) = nodes.packed.get_mut(key) else {
+        return;
+    };
+    slot.set_next(next);
 }
 
 /// Lets the node that is meant have this previous key.
-pub(crate) fn set_prev(nodes: &mut Slab<Packed>, at: Link, prev: Link)
+pub(crate) fn set_prev(nodes: &mut Slots, at: Link, prev: Link)
     ensures { SetsPrev at prev nodes.old.slots nodes.new.slots }
 {
     let Some(key) = at.key() else {
         return;
     };
-    if let Some(slot) = nodes.get_mut(key) {
-        slot.set_prev(prev);
-    }
+    let Some(slot) = nodes.packed.get_mut(key) else {
+        return;
+    };
+    slot.set_prev(prev);
 }
 
 /// Lets the node have these rights, and this key after it on the stack of nodes without rights.
-pub(crate) fn set_rights(nodes: &mut Slab<Packed>, key: usize, rights: Rights, doomed: Link)
+pub(crate) fn set_rights(nodes: &mut Slots, key: usize, rights: Rights, doomed: Link)
     ensures { SetsRights key rights doomed nodes.old.slots nodes.new.slots }
 {
-    if let Some(slot) = nodes.get_mut(key) {
-        slot.set_rights(rights, doomed);
-    }
+    let Some(slot) = nodes.packed.get_mut(key) else {
+        return;
+    };
+    slot.set_rights(rights, doomed);
 }
 
 /// Lets the node have no other rights than these. A node that loses its last right goes on the stack that begins with the key
 /// `doomed`. The key that the stack begins with then is given.
-pub(crate) fn cap_at(nodes: &mut Slab<Packed>, key: usize, cap: Rights, doomed: Link) -> Link
+pub(crate) fn cap_at(nodes: &mut Slots, key: usize, cap: Rights, doomed: Link) -> Link
     requires few { AreKeys nodes.old.slots }
     requires stack { HasStack nodes.old.slots doomed }
     ensures caps { Caps key cap nodes.old.slots nodes.new.slots }
@@ -224,39 +206,46 @@ pub(crate) fn cap_at(nodes: &mut Slab<Packed>, key: usize, cap: Rights, doomed: 
 }
 
 /// Notes that the walk has come by the node and has been over all that descends from it, and where it left that run.
-pub(crate) fn close(nodes: &mut Slab<Packed>, key: usize, stamp: u32, end: Link)
+pub(crate) fn close(nodes: &mut Slots, key: usize, stamp: u32, end: Link)
     ensures { Closes key stamp end nodes.old.slots nodes.new.slots }
 {
-    if let Some(slot) = nodes.get_mut(key) {
-        slot.close(stamp, end);
-    }
+    let Some(slot) = nodes.packed.get_mut(key) else {
+        return;
+    };
+    slot.set_closed(true);
+    put_note(&mut nodes.notes, key, Note { stamp, end });
 }
 
 /// Notes that the walk has come by the node.
-pub(crate) fn see(nodes: &mut Slab<Packed>, key: usize, stamp: u32)
+pub(crate) fn see(nodes: &mut Slots, key: usize, stamp: u32)
     ensures { Sees key stamp nodes.old.slots nodes.new.slots }
 {
-    if let Some(slot) = nodes.get_mut(key) {
-        slot.see(stamp);
-    }
+    let Some(slot) = nodes.packed.get_mut(key) else {
+        return;
+    };
+    slot.set_closed(false);
+    let end = note_at(&nodes.notes, key).end;
+    put_note(&mut nodes.notes, key, Note { stamp, end });
 }
 
 /// Marks the node as a source, or takes the mark away.
-pub(crate) fn set_source(nodes: &mut Slab<Packed>, key: usize, source: bool)
+pub(crate) fn set_source(nodes: &mut Slots, key: usize, source: bool)
     ensures { SetsSource key source nodes.old.slots nodes.new.slots }
 {
-    if let Some(slot) = nodes.get_mut(key) {
-        slot.set_source(source);
-    }
+    let Some(slot) = nodes.packed.get_mut(key) else {
+        return;
+    };
+    slot.set_source(source);
 }
 
 /// Takes the marks of a source and of a grant from the node.
-pub(crate) fn set_plain(nodes: &mut Slab<Packed>, key: usize)
+pub(crate) fn set_plain(nodes: &mut Slots, key: usize)
     ensures { SetsPlain key nodes.old.slots nodes.new.slots }
 {
-    if let Some(slot) = nodes.get_mut(key) {
-        slot.set_plain();
-    }
+    let Some(slot) = nodes.packed.get_mut(key) else {
+        return;
+    };
+    slot.set_plain();
 }
 
 /// What a contract shows of a node.

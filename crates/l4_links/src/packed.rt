@@ -1,18 +1,20 @@
-//! A slot in forty-four bytes, so that four of them take three lines of a cache with the slab's own words. A number of eight bytes is
-//! kept in two halves, since eight bytes at once would have to lie at each eighth byte; a page takes twenty-two bits, and what else is
-//! small stands in the ten that are left of four bytes: three for the rights, three for the notes, and four for the rights of an item.
+//! A slot in thirty-six bytes, forty with the slab's own word. A number of eight bytes is kept in two halves, since eight bytes at once
+//! would have to lie at each eighth byte; a page takes twenty-two bits, and what else is small stands in the ten that are left of four
+//! bytes: three for the rights, three for the notes, and four for the rights of an item. What walks note of a key stands elsewhere.
 
-ghost use Rattle.std.specs.Prelude.{◌≡◌, ◌<◌, ℕ, false, Some, None, IfSome};
+ghost use Rattle.std.specs.Prelude.{◌≡◌, ◌<◌, ℕ, false, Some, None, IfSome, if◌then◌else◌};
 ghost use Rattle.std.specs.Option.{option_map};
 ghost use Rattle.l4_spaces.specs.Tables.{IsPage};
 ghost use Rattle.l4_links.specs.Inside.Keys.{IsKey};
-ghost use Rattle.l4_links.specs.Inside.Packed.{rights_shown, notes_shown};
+ghost use Rattle.l4_links.specs.Inside.Packed.{rights_shown, notes_shown, no_note, unnoted, slot_shown, with_node, Turns};
 ghost use Rattle.l4_links.specs.declared.nodes.Slot.{Slot as ASlot};
 ghost use Rattle.l4_links.specs.declared.nodes.Node.{Node as ANode};
+ghost use Rattle.l4_links.specs.declared.slots.Note.{Note as ANote};
 
 use crate::Place;
 use crate::keys::Link;
-use crate::nodes::Node;
+use crate::nodes::{Node, Slot};
+use crate::slots::Note;
 use l4_fpage::Rights;
 use std::marker::Model;
 use std::mem::size_of;
@@ -270,7 +272,7 @@ impl Notes {
     }
 }
 
-/// A slot.
+/// A slot, but for what walks have noted of its key.
 #[derive(Drop)]
 pub(crate) struct Packed {
     space: Halves,
@@ -282,30 +284,17 @@ pub(crate) struct Packed {
     parent: Link,
     prev: Link,
     next: Link,
-    end: Link,
     doomed: Link,
-    /// The stamp of the last walk that has come by the node.
-    stamp: u32,
 }
 
-const _: () = prove!(size_of::<Packed>() == 44);
-
-impl Model for Packed {
-    ghost use Rattle.l4_links.specs.declared.nodes.Slot.{Slot};
-
-    ghost Value = { Slot };
-
-    ghost use Rattle.l4_links.specs.Inside.Packed.{slot_shown};
-
-    ghost view = { slot_shown };
-}
+const _: () = prove!(size_of::<Packed>() == 36);
 
 impl Packed {
     /// A blank of the page.
     #[inline]
     pub(crate) fn blank(place: Place) -> Packed
         requires { IsPage place.page }
-        ensures { result ≡ record { place = place; wanted = false; node = None } }
+        ensures { slot_shown result no_note ≡ record { place = place; wanted = false; node = None } }
     {
         Packed {
             space: Halves::of(place.space),
@@ -320,19 +309,16 @@ impl Packed {
             parent: Link::none(),
             prev: Link::none(),
             next: Link::none(),
-            end: Link::none(),
             doomed: Link::none(),
-            stamp: 0,
         }
     }
 
-    /// A slot of the page where this node stands, which no walk has been over.
+    /// A slot of the page where this node stands, of which no walk has noted anything.
     #[inline]
     pub(crate) fn of(place: Place, node: Node) -> Packed
         requires fits { IsPage place.page }
         requires depth { IsKey node.depth }
-        requires unmarked { node.mark ≡ 0 }
-        ensures { result ≡ record { place = place; wanted = false; node = Some node } }
+        ensures { slot_shown result no_note ≡ record { place = place; wanted = false; node = Some (unnoted node) } }
     {
         let notes = Notes {
             wanted: false,
@@ -352,35 +338,29 @@ impl Packed {
             parent: node.parent,
             prev: node.prev,
             next: node.next,
-            end: node.end,
             doomed: node.doomed,
-            stamp: node.seen,
         }
     }
 
-    /// The page.
+    /// What is in the slot, with what is noted of its key.
     #[inline]
-    pub(crate) fn place(&self) -> Place
-        ensures { result ≡ self.now.place }
+    pub(crate) fn slot(&self, note: Note) -> Slot
+        ensures { result ≡ slot_shown self.now note }
     {
-        Place {
-            space: self.space.number(),
-            page: self.word.page(),
+        Slot {
+            place: Place {
+                space: self.space.number(),
+                page: self.word.page(),
+            },
+            wanted: Notes::of(self.word.notes()).wanted,
+            node: self.node(note),
         }
     }
 
-    /// Whether a message fills the page.
+    /// The node, with what is noted of its key. None in a blank.
     #[inline]
-    pub(crate) fn is_wanted(&self) -> bool
-        ensures { result ≡ self.now.wanted }
-    {
-        Notes::of(self.word.notes()).wanted
-    }
-
-    /// The node. None in a blank.
-    #[inline]
-    pub(crate) fn node(&self) -> Option<Node>
-        ensures { result ≡ self.now.node }
+    fn node(&self, note: Note) -> Option<Node>
+        ensures { result ≡ (slot_shown self.now note).node }
     {
         let Some(depth) = self.depth.key() else {
             return None;
@@ -392,9 +372,9 @@ impl Packed {
             source: notes.source,
             granted: granted_of(self.word.granted()),
             depth,
-            seen: self.stamp,
-            mark: if notes.closed { self.stamp } else { 0 },
-            end: self.end,
+            seen: note.stamp,
+            mark: if notes.closed { note.stamp } else { 0 },
+            end: note.end,
             parent: self.parent,
             prev: self.prev,
             next: self.next,
@@ -402,15 +382,14 @@ impl Packed {
         })
     }
 
-    /// Lets this node be in the slot, which no walk has been over.
+    /// Lets this node be in the slot, of which no walk has noted anything.
     #[inline]
     pub(crate) fn put(&mut self, node: Node)
-        requires depth { IsKey node.depth }
-        requires unmarked { node.mark ≡ 0 }
-        ensures { self.new ≡ record self.old { node = Some node } }
+        requires { IsKey node.depth }
+        ensures { slot_shown self.new no_note ≡ record (slot_shown self.old no_note) { node = Some (unnoted node) } }
     {
         let notes = Notes {
-            wanted: self.is_wanted(),
+            wanted: Notes::of(self.word.notes()).wanted,
             source: node.source,
             closed: false,
         };
@@ -425,15 +404,13 @@ impl Packed {
         self.parent = node.parent;
         self.prev = node.prev;
         self.next = node.next;
-        self.end = node.end;
         self.doomed = node.doomed;
-        self.stamp = node.seen;
     }
 
     /// Lets the slot be a blank.
     #[inline]
     pub(crate) fn empty(&mut self)
-        ensures { self.new ≡ record self.old { node = None } }
+        ensures { Turns (λ (s : ASlot). record s { node = None }) self.old self.new }
     {
         self.depth = Link::none();
     }
@@ -441,7 +418,7 @@ impl Packed {
     /// Notes whether a message fills the page.
     #[inline]
     pub(crate) fn set_wanted(&mut self, wanted: bool)
-        ensures { self.new ≡ record self.old { wanted = wanted } }
+        ensures { Turns (λ (s : ASlot). record s { wanted = wanted }) self.old self.new }
     {
         let mut notes = Notes::of(self.word.notes());
         notes.wanted = wanted;
@@ -452,7 +429,7 @@ impl Packed {
     #[inline]
     pub(crate) fn set_place(&mut self, place: Place)
         requires { IsPage place.page }
-        ensures { self.new ≡ record self.old { place = place } }
+        ensures { Turns (λ (s : ASlot). record s { place = place }) self.old self.new }
     {
         self.space = Halves::of(place.space);
         self.word.set_page(place.page);
@@ -462,7 +439,7 @@ impl Packed {
     #[inline]
     pub(crate) fn give(&mut self, place: Place, rights: Rights)
         requires { IsPage place.page }
-        ensures { self.new ≡ record self.old { place = place; node = option_map (λ (n : ANode). record n { granted = Some rights }) self.old.node } }
+        ensures { Turns (λ (s : ASlot). record s { place = place; node = option_map (λ (n : ANode). record n { granted = Some rights }) s.node }) self.old self.new }
     {
         self.space = Halves::of(place.space);
         self.word.set_page(place.page);
@@ -472,7 +449,7 @@ impl Packed {
     /// Lets a node have this next key.
     #[inline]
     pub(crate) fn set_next(&mut self, next: Link)
-        ensures { self.new ≡ record self.old { node = option_map (λ (n : ANode). record n { next = next }) self.old.node } }
+        ensures { Turns (with_node (λ (n : ANode). record n { next = next })) self.old self.new }
     {
         self.next = next;
     }
@@ -480,7 +457,7 @@ impl Packed {
     /// Lets a node have this previous key.
     #[inline]
     pub(crate) fn set_prev(&mut self, prev: Link)
-        ensures { self.new ≡ record self.old { node = option_map (λ (n : ANode). record n { prev = prev }) self.old.node } }
+        ensures { Turns (with_node (λ (n : ANode). record n { prev = prev })) self.old self.new }
     {
         self.prev = prev;
     }
@@ -488,39 +465,26 @@ impl Packed {
     /// Lets a node have these rights, and this key after it on the stack of nodes without rights.
     #[inline]
     pub(crate) fn set_rights(&mut self, rights: Rights, doomed: Link)
-        ensures { self.new ≡ record self.old { node = option_map (λ (n : ANode). record n { rights = rights; doomed = doomed }) self.old.node } }
+        ensures { Turns (with_node (λ (n : ANode). record n { rights = rights; doomed = doomed })) self.old self.new }
     {
         self.word.set_rights(rights.bits());
         self.doomed = doomed;
     }
 
-    /// Notes that the walk has come by a node and has been over all that descends from it, and where it left that run.
+    /// Notes whether the last walk that has come by a node has been over all that descends from it.
     #[inline]
-    pub(crate) fn close(&mut self, stamp: u32, end: Link)
-        ensures { self.new ≡ record self.old { node = option_map (λ (n : ANode). record n { seen = stamp; mark = stamp; end = end }) self.old.node } }
+    pub(crate) fn set_closed(&mut self, closed: bool)
+        ensures { (note : ANote) → slot_shown self.new note ≡ with_node (λ (n : ANode). record n { mark = if closed then note.stamp else 0 }) (slot_shown self.old note) }
     {
         let mut notes = Notes::of(self.word.notes());
-        notes.closed = true;
+        notes.closed = closed;
         self.word.set_notes(notes.digit());
-        self.stamp = stamp;
-        self.end = end;
-    }
-
-    /// Notes that the walk has come by a node. What an earlier one has noted of all that descends from it goes.
-    #[inline]
-    pub(crate) fn see(&mut self, stamp: u32)
-        ensures { self.new ≡ record self.old { node = option_map (λ (n : ANode). record n { seen = stamp; mark = 0 }) self.old.node } }
-    {
-        let mut notes = Notes::of(self.word.notes());
-        notes.closed = false;
-        self.word.set_notes(notes.digit());
-        self.stamp = stamp;
     }
 
     /// Marks a node as a source, or takes the mark away.
     #[inline]
     pub(crate) fn set_source(&mut self, source: bool)
-        ensures { self.new ≡ record self.old { node = option_map (λ (n : ANode). record n { source = source }) self.old.node } }
+        ensures { Turns (with_node (λ (n : ANode). record n { source = source })) self.old self.new }
     {
         let mut notes = Notes::of(self.word.notes());
         notes.source = source;
@@ -530,7 +494,7 @@ impl Packed {
     /// Takes the marks of a source and of a grant from a node.
     #[inline]
     pub(crate) fn set_plain(&mut self)
-        ensures { self.new ≡ record self.old { node = option_map (λ (n : ANode). record n { source = false; granted = None }) self.old.node } }
+        ensures { Turns (with_node (λ (n : ANode). record n { source = false; granted = None })) self.old self.new }
     {
         self.set_source(false);
         self.word.set_granted(NO_ITEM);

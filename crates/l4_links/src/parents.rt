@@ -5,14 +5,13 @@ ghost use Rattle.l4_links.specs.Inside.Nodes.{IsForest};
 ghost use Rattle.l4_links.specs.Inside.Parents.{IsParent, IsParentKey, NoParents, IsFirstParent, NoParentPage, IsParentPage};
 
 use crate::nodes::node_of;
-use crate::packed::Packed;
+use crate::slots::Slots;
 use crate::walks::is_leaf;
 use l4_spaces::{Row, Spaces};
-use slab::Slab;
 
 /// Whether something descends from the key.
 #[inline]
-fn is_parent(nodes: &Slab<Packed>, key: usize) -> bool
+fn is_parent(nodes: &Slots, key: usize) -> bool
     requires forest { (keys : List ℕ) × IsForest nodes.now.slots keys }
     ensures yes { result ≡ true → IsParent nodes.now.slots key }
     ensures no { result ≡ false → ¬ (IsParent nodes.now.slots key) }
@@ -25,7 +24,7 @@ fn is_parent(nodes: &Slab<Packed>, key: usize) -> bool
 
 /// The key, if something descends from it.
 #[inline]
-fn parent_key(nodes: &Slab<Packed>, key: Option<usize>) -> Option<usize>
+fn parent_key(nodes: &Slots, key: Option<usize>) -> Option<usize>
     requires forest { (keys : List ℕ) × IsForest nodes.now.slots keys }
     ensures { MatchOption result ((here : ℕ) → key ≡ Some here → ¬ (IsParent nodes.now.slots here)) (λ here. (key ≡ Some here) × IsParent nodes.now.slots here) }
 {
@@ -40,7 +39,7 @@ fn parent_key(nodes: &Slab<Packed>, key: Option<usize>) -> Option<usize>
 
 /// The key of this place of a table, if something descends from it.
 #[inline]
-fn parent_at(nodes: &Slab<Packed>, row: &Row, low: usize) -> Option<usize>
+fn parent_at(nodes: &Slots, row: &Row, low: usize) -> Option<usize>
     requires forest { (keys : List ℕ) × IsForest nodes.now.slots keys }
     requires within { low < length row.now }
     ensures { MatchOption result ((key : ℕ) → ¬ (IsParentKey nodes.now.slots row.now low key)) (IsParentKey nodes.now.slots row.now low) }
@@ -50,7 +49,7 @@ fn parent_at(nodes: &Slab<Packed>, row: &Row, low: usize) -> Option<usize>
 
 /// The first place of a table from this one on and before the end with a key that something descends from, and the key.
 #[inline(never)]
-fn parent_in(nodes: &Slab<Packed>, row: &Row, from: usize, end: usize) -> Option<(usize, usize)>
+fn parent_in(nodes: &Slots, row: &Row, from: usize, end: usize) -> Option<(usize, usize)>
     requires forest { (keys : List ℕ) × IsForest nodes.now.slots keys }
     requires within { end ≤ length row.now }
     ensures { MatchOption result (NoParents nodes.now.slots row.now from end) (λ found. IsFirstParent nodes.now.slots row.now from end found.0 found.1) }
@@ -90,7 +89,7 @@ fn last_low(places: usize, start: u32, end: u32) -> usize
 /// The first page of the space from `page` on and before `end` with a key that something descends from, and the key.
 #[inline(never)]
 fn seek_parent(
-    nodes: &Slab<Packed>,
+    nodes: &Slots,
     pages: &Spaces,
     space: u64,
     page: u32,
@@ -116,7 +115,7 @@ fn seek_parent(
 /// The same. A page that has such a key is often followed by another, which is seen without a walk.
 #[inline(always)]
 pub(crate) fn next_parent(
-    nodes: &Slab<Packed>,
+    nodes: &Slots,
     pages: &Spaces,
     space: u64,
     page: u32,

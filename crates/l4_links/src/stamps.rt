@@ -4,9 +4,7 @@ ghost use Rattle.std.specs.Prelude.{◌≡◌, ◌≢◌, ◌⊎◌};
 ghost use Rattle.l4_links.specs.Inside.Nodes.{IsSame, AreUnmarked};
 ghost use Rattle.l4_links.specs.Inside.Keeping.{IsFresh, BeginsWalk, sources_walk};
 
-use crate::nodes::see;
-use crate::packed::Packed;
-use slab::Slab;
+use crate::slots::Slots;
 
 /// The number of a walk for sources. A walk that caps rights has the number of their bits, which is less.
 pub(crate) const SOURCES_WALK: u8 = 8;
@@ -23,18 +21,16 @@ pub(crate) fn fresh(stamp: u32) -> u32
 
 /// Takes the stamps of all walks from all nodes. It is needed once in 2^32 - 1 stamps.
 #[cold]
-fn unmark_all(nodes: &mut Slab<Packed>)
+fn unmark_all(nodes: &mut Slots)
     ensures same { IsSame nodes.old.slots nodes.new.slots }
     ensures unmarked { AreUnmarked nodes.new.slots }
 {
-    for key in 0..nodes.capacity() {
-        see(nodes, key, 0);
-    }
+    nodes.notes.clear();
 }
 
 /// The stamp for a walk: the last one, where that walk was for the same, or a fresh one. Where the stamps have run out they begin
 /// again, with no node that has one.
-pub(crate) fn stamp_for(nodes: &mut Slab<Packed>, stamp: u32, last: u8, walk: u8) -> u32
+pub(crate) fn stamp_for(nodes: &mut Slots, stamp: u32, last: u8, walk: u8) -> u32
     ensures same { IsSame nodes.old.slots nodes.new.slots }
     ensures begins { BeginsWalk last walk stamp result nodes.old.slots nodes.new.slots }
 {

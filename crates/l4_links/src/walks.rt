@@ -8,9 +8,8 @@ ghost use Rattle.l4_links.specs.Inside.Nodes.{node_at, limbs, AreKeys, IsForest,
 
 use crate::keys::Link;
 use crate::nodes::{Node, cap_at, close, node_of, see};
-use crate::packed::Packed;
+use crate::slots::Slots;
 use l4_fpage::Rights;
-use slab::Slab;
 
 /// Where the walk goes on: after the run of a node that it has been over, and else at the next node.
 fn onward(node: &Node, stamp: u32) -> Link
@@ -30,7 +29,7 @@ fn onward(node: &Node, stamp: u32) -> Link
 /// Lets all that descends from the node have no other rights than these. A run that the walk of this stamp has been over is passed by.
 /// Nodes that lose their last right go on the stack that begins with the key `doomed`. The key that the stack begins with then is given.
 pub(crate) fn cap_below(
-    nodes: &mut Slab<Packed>,
+    nodes: &mut Slots,
     top: usize,
     cap: Rights,
     stamp: u32,
@@ -81,7 +80,7 @@ fn was_seen(node: &Node, stamp: u32) -> bool
 }
 
 /// Whether a source descends from the node. What walks of this stamp have come by is not looked at again.
-pub(crate) fn has_source(nodes: &mut Slab<Packed>, top: usize, stamp: u32) -> bool
+pub(crate) fn has_source(nodes: &mut Slots, top: usize, stamp: u32) -> bool
     requires seen { HasSeen stamp nodes.old.slots }
     requires stamped { IsStamped stamp nodes.old.slots }
     requires there { node_at nodes.old.slots top ≢ None }
@@ -122,7 +121,7 @@ pub(crate) fn has_source(nodes: &mut Slab<Packed>, top: usize, stamp: u32) -> bo
 /// Whether nothing descends from the node. What descends from it would begin with the node after it, one that is deeper, so no walk is
 /// needed. False where there is no node.
 #[inline]
-pub(crate) fn is_leaf(nodes: &Slab<Packed>, key: usize) -> bool
+pub(crate) fn is_leaf(nodes: &Slots, key: usize) -> bool
     requires forest { (keys : List ℕ) × IsForest nodes.now.slots keys }
     ensures yes { result ≡ true → (node_at nodes.now.slots key ≢ None) × ((low : ℕ) → ¬ (Leads (parent_at (limbs nodes.now.slots)) low key)) }
     ensures no { result ≡ false → node_at nodes.now.slots key ≢ None → (low : ℕ) × Leads (parent_at (limbs nodes.now.slots)) low key }

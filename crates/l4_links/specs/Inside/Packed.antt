@@ -1,5 +1,5 @@
--- How a slot is kept in forty-four bytes.
-use Rattle.std.specs.Prelude.{ℕ, ◌+◌, ◌*◌, ◌/◌, ◌%◌, ◌==◌, ◌^◌, eqb, Option, Some, None, if◌then◌else◌}
+-- How a slot is kept in thirty-six bytes, without what walks note of its key.
+use Rattle.std.specs.Prelude.{◌≡◌, ℕ, ◌+◌, ◌*◌, ◌/◌, ◌%◌, ◌==◌, ◌^◌, eqb, Option, Some, None, if◌then◌else◌}
 use Rattle.std.specs.Option.{option_map}
 use Rattle.l4_fpage.specs.Rights.{RightsSet, set_of_bits}
 use Rattle.l4_links.specs.declared.nodes.Node.{Node}
@@ -8,7 +8,8 @@ use Rattle.l4_links.specs.declared.packed.Notes.{Notes}
 use Rattle.l4_links.specs.declared.packed.Parts.{Parts}
 use Rattle.l4_links.specs.declared.packed.Halves.TheInside as halves
 use Rattle.l4_links.specs.declared.packed.Word.TheInside as words
-use Rattle.l4_links.specs.declared.packed.Packed.TheInside as packed
+use Rattle.l4_links.specs.declared.packed.Packed.{Packed}
+use Rattle.l4_links.specs.declared.slots.Note.{Note}
 
 -- the number of two halves
 abbrev pub number_shown : halves.Inside → ℕ
@@ -26,26 +27,42 @@ rights_shown digit = if eqb digit 8 then None else Some (set_of_bits digit)
 abbrev pub notes_shown : ℕ → Notes
 notes_shown digit = record { wanted = digit % 2 == 1; source = digit / 2 % 2 == 1; closed = digit / 4 % 2 == 1 }
 
--- the node of this depth
-abbrev pub node_shown : packed.Inside → ℕ → Node
-node_shown a depth = record {
-  frame = a.frame;
-  rights = set_of_bits a.word.rights;
-  source = (notes_shown a.word.notes).source;
-  granted = rights_shown a.word.granted;
+-- nothing is noted
+abbrev pub no_note : Note
+no_note = record { stamp = 0; end = None }
+
+-- the node, of which no walk has noted anything
+abbrev pub unnoted : Node → Node
+unnoted n = record n { seen = 0; mark = 0; end = None }
+
+-- the node of this depth, with what is noted of its key
+abbrev pub node_shown : Packed → Note → ℕ → Node
+node_shown p note depth = record {
+  frame = p.frame;
+  rights = set_of_bits p.word.rights;
+  source = (notes_shown p.word.notes).source;
+  granted = rights_shown p.word.granted;
   depth = depth;
-  seen = a.stamp;
-  mark = if (notes_shown a.word.notes).closed then a.stamp else 0;
-  end = a.end;
-  parent = a.parent;
-  prev = a.prev;
-  next = a.next;
-  doomed = a.doomed;
+  seen = note.stamp;
+  mark = if (notes_shown p.word.notes).closed then note.stamp else 0;
+  end = note.end;
+  parent = p.parent;
+  prev = p.prev;
+  next = p.next;
+  doomed = p.doomed;
 }
 
-abbrev pub slot_shown : packed.Inside → Slot
-slot_shown a = record {
-  place = record { space = a.space; page = a.word.page };
-  wanted = (notes_shown a.word.notes).wanted;
-  node = option_map (node_shown a) a.depth;
+abbrev pub slot_shown : Packed → Note → Slot
+slot_shown p note = record {
+  place = record { space = p.space; page = p.word.page };
+  wanted = (notes_shown p.word.notes).wanted;
+  node = option_map (node_shown p note) p.depth;
 }
+
+-- whatever is noted of its key, the slot is now what this makes of what it was
+abbrev pub Turns : (Slot → Slot) → Packed → Packed → Type 0
+Turns change old new = (note : Note) → slot_shown new note ≡ change (slot_shown old note)
+
+-- the slot, with this change of its node
+abbrev pub with_node : (Node → Node) → Slot → Slot
+with_node change s = record s { node = option_map change s.node }

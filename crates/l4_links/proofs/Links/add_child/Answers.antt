@@ -20,7 +20,7 @@ use Rattle.l4_links.proofs.Links.add_child.Goals as goal
 adds : (c : goal.After-self-1) → AddsUnder c.args.parent c.args.place c.in-Some.above c.args.rights c.self.inside.nodes.slots c.add_under.new.nodes.slots c.vacant_key-key.result
 adds c =
     subst (λ (k : ℕ). AddsUnder c.args.parent c.args.place c.in-Some.above c.args.rights c.self.inside.nodes.slots c.add_under.new.nodes.slots k) (sym c.vacant_key-key.ensures.value)
-    (subst (λ (s : Slots). AddsUnder c.args.parent c.args.place c.in-Some.above c.args.rights s c.add_under.new.nodes.slots c.make_room.new.nodes.vacant_key) c.make_room.ensures.same c.add_under.ensures)
+    (subst (λ (s : Slots). AddsUnder c.args.parent c.args.place c.in-Some.above c.args.rights s c.add_under.new.nodes.slots c.make_room.new.self.vacant_key) c.make_room.ensures.same c.add_under.ensures)
 
 stands : (c : goal.After-self-1) → node_at c.self.inside.nodes.slots c.args.parent ≡ Some c.in-Some.above
 stands c = sym c.node_of.ensures ∙ c.in-Some.is

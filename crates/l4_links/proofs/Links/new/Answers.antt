@@ -11,9 +11,9 @@ pub invariant_of-result : goal.invariant_of-result
 invariant_of-result c = record {
   sound =
       subst (λ (o : Option ℕ). IsSound c.new.result.slots o 1 sources_walk) (sym c.none.ensures)
-      (subst (λ (s : Slots). IsSound s None 1 sources_walk) (sym c.new.ensures.empty) (sound_empty sources_walk));
-  indexed = indexed_empty c.new.result.slots c.new-2.result c.new.ensures.empty c.new-2.ensures.pages;
+      (subst (λ (s : Slots). IsSound s None 1 sources_walk) (sym c.new.ensures) (sound_empty sources_walk));
+  indexed = indexed_empty c.new.result.slots c.new-2.result c.new.ensures c.new-2.ensures.pages;
   stack =
       subst (λ (o : Option ℕ). HasStack c.new.result.slots o) (sym c.none-2.ensures)
-      (subst (λ (s : Slots). HasStack s None) (sym c.new.ensures.empty) (stack_empty [] (λ k. no_right [] k refl)));
+      (subst (λ (s : Slots). HasStack s None) (sym c.new.ensures) (stack_empty [] (λ k. no_right [] k refl)));
 }

@@ -4,6 +4,7 @@ use Rattle.l4_links.specs.declared.nodes.Node.{Node}
 use Rattle.l4_links.specs.declared.nodes.Slot.{Slot}
 use Rattle.l4_links.specs.Inside.Keys.{IsKey}
 use Rattle.l4_links.specs.Inside.Nodes.{slot_at, child, SetsNext, SetsPrev, AddsUnder}
+use Rattle.l4_links.specs.Inside.Packed.{unnoted}
 use Rattle.l4_links.proofs.Adding.{added}
 use Rattle.l4_links.proofs.Depths.{depth_fits, depth_kept}
 use Rattle.l4_links.proofs.Writes.{node_key}
@@ -15,11 +16,8 @@ child_of-node-requires-clause-key c = node_key c.args.nodes.now.slots c.args.par
 pub child_of-node-requires-clause-depth : goal.child_of-node-requires-clause-depth
 child_of-node-requires-clause-depth c =
     let d = depth_fits c.args.nodes.now.slots c.requires.forest.0 c.args.parent c.args.above.now c.requires.forest.1 c.requires.there in
-    let s = c.capacity.ensures.slots in
+    let s = c.capacity.ensures in
     omega (arith, d, s)
-
-pub of-requires-clause-unmarked : goal.of-requires-clause-unmarked
-of-requires-clause-unmarked c = ap (λ (n : Node). n.mark) c.child_of-node.ensures
 
 pub of-requires-clause-depth : goal.of-requires-clause-depth
 of-requires-clause-depth c =
@@ -33,8 +31,8 @@ returns c =
     let put = c.insert_reserved-key.new.self.slots in
     let key = c.insert_reserved-key.result in
     let filled : slot_at put key ≡ Some (record { place = c.args.place; wanted = false; node = Some (child c.args.parent c.args.above.now c.args.rights) }) =
-    c.insert_reserved-key.ensures.updates.changed ∙ ap (λ (s : Slot). Some s) c.of.ensures
-    ∙ ap (λ (n : Node). Some (record { place = c.args.place; wanted = false; node = Some n })) c.child_of-node.ensures in
+    c.insert_reserved-key.ensures.here ∙ ap (λ (s : Slot). Some s) c.of.ensures
+    ∙ ap (λ (n : Node). Some (record { place = c.args.place; wanted = false; node = Some (unnoted n) })) c.child_of-node.ensures in
     let after : SetsPrev c.args.above.now.next (Some key) put c.set_prev.new.nodes.slots =
     subst (λ (o : Option ℕ). SetsPrev c.args.above.now.next o put c.set_prev.new.nodes.slots) c.to-at.ensures c.set_prev.ensures in
     let before : SetsNext (Some c.args.parent) (Some key) c.set_prev.new.nodes.slots c.set_next.new.nodes.slots =
@@ -42,4 +40,4 @@ returns c =
     (subst (λ (o : Option ℕ). SetsNext c.to.result o c.set_prev.new.nodes.slots c.set_next.new.nodes.slots) c.to-at.ensures c.set_next.ensures) in
     subst (λ (k : ℕ). AddsUnder c.args.parent c.args.place c.args.above.now c.args.rights old c.set_next.new.nodes.slots k) c.insert_reserved-key.ensures.key
     (added old put c.set_prev.new.nodes.slots c.set_next.new.nodes.slots c.args.parent key c.args.place c.args.above.now c.args.rights
-    c.requires.there c.insert_reserved-key.ensures.was_vacant filled c.insert_reserved-key.ensures.updates.others after before)
+    c.requires.there c.insert_reserved-key.ensures.was_vacant filled c.insert_reserved-key.ensures.others after before)

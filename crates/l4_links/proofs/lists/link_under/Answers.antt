@@ -1,7 +1,8 @@
-use Rattle.std.proofs.Common.{ℕ, arith, refl, sym, subst, Option, Some, ap}
+use Rattle.std.proofs.Common.{ℕ, arith, refl, sym, subst, Option, Some}
 use Rattle.l4_links.specs.declared.nodes.Node.{Node}
 use Rattle.l4_links.specs.Inside.Keys.{IsKey}
 use Rattle.l4_links.specs.Inside.Nodes.{child, Writes, SetsNext, SetsPrev}
+use Rattle.l4_links.specs.Inside.Packed.{unnoted}
 use Rattle.l4_links.proofs.Depths.{depth_fits, depth_is_key}
 use Rattle.l4_links.proofs.Writes.{slot_key, node_key}
 use Rattle.l4_links.proofs.Neighbours.{put_in, sprouts, forest_in, comes_in}
@@ -16,14 +17,11 @@ to-at-requires c = slot_key c.args.nodes.now.slots c.args.key c.requires.few c.r
 pub child_of-node-requires-clause-depth : goal.child_of-node-requires-clause-depth
 child_of-node-requires-clause-depth c =
     let d = depth_fits c.args.nodes.now.slots c.requires.forest.0 c.args.parent c.args.above c.requires.forest.1 c.requires.there in
-    let s = c.capacity.ensures.slots in
+    let s = c.capacity.ensures in
     omega (arith, d, s)
 
-pub write-requires-clause-unmarked : goal.write-requires-clause-unmarked
-write-requires-clause-unmarked c = ap (λ (n : Node). n.mark) c.child_of-node.ensures
-
-pub write-requires-clause-depth : goal.write-requires-clause-depth
-write-requires-clause-depth c =
+pub write-requires : goal.write-requires
+write-requires c =
     subst (λ (n : Node). IsKey n.depth) (sym c.child_of-node.ensures)
     (depth_is_key c.args.nodes.now.slots c.requires.forest.0 c.args.parent c.args.above c.args.key c.requires.forest.1 c.requires.few c.requires.there c.requires.room c.requires.blank)
 
@@ -32,7 +30,7 @@ abbrev stands : (c : goal.After-set_next) → Node
 stands c = child c.args.parent c.args.above c.args.rights
 
 written : (c : goal.After-set_next) → Writes c.args.key (Some (stands c)) c.args.nodes.now.slots c.write.new.nodes.slots
-written c = subst (λ (n : Node). Writes c.args.key (Some n) c.args.nodes.now.slots c.write.new.nodes.slots) c.child_of-node.ensures c.write.ensures
+written c = subst (λ (n : Node). Writes c.args.key (Some (unnoted n)) c.args.nodes.now.slots c.write.new.nodes.slots) c.child_of-node.ensures c.write.ensures
 
 after : (c : goal.After-set_next) → SetsPrev c.args.above.next (Some c.args.key) c.write.new.nodes.slots c.set_prev.new.nodes.slots
 after c = subst (λ (o : Option ℕ). SetsPrev c.args.above.next o c.write.new.nodes.slots c.set_prev.new.nodes.slots) c.to-at.ensures c.set_prev.ensures

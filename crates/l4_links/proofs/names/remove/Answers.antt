@@ -4,5 +4,5 @@ use Rattle.l4_links.proofs.names.remove.Goals as goal
 
 pub returns-clause-indexed : goal.returns-clause-indexed
 returns-clause-indexed c i =
-    indexed_removed c.args.nodes.now.slots c.try_remove.new.self.slots c.args.pages.now c.clear.new.self c.in-Some.place c.args.key (sym c.place_of.ensures ∙ c.in-Some.is)
-    c.try_remove.ensures.updates.changed c.try_remove.ensures.updates.others c.clear.ensures.pages c.clear.ensures.spaces i
+    indexed_removed c.args.nodes.now.slots c.remove.new.self.slots c.args.pages.now c.clear.new.self c.in-Some.place c.args.key (sym c.place_of.ensures ∙ c.in-Some.is)
+    c.remove.ensures.gone c.remove.ensures.others c.clear.ensures.pages c.clear.ensures.spaces i

@@ -18,11 +18,14 @@ two_keys c e = c.requires.there (ap (node_at c.args.nodes.now.slots) e ∙ c.req
 
 pub returns-clause-takes : goal.returns-clause-takes
 returns-clause-takes c =
-    taken c.args.nodes.now.slots c.try_remove.new.self.slots c.give.new.nodes.slots c.args.key c.args.blank c.in-Some.from c.in-Some-place_of.to c.args.rights (two_keys c)
-    (sym c.place_of.ensures ∙ c.in-Some.is) (sym c.place_of-2.ensures ∙ c.in-Some-place_of.is) c.try_remove.ensures.updates.changed c.try_remove.ensures.updates.others c.give.ensures
+    taken c.args.nodes.now.slots c.remove.new.self.slots c.give.new.nodes.slots c.args.key c.args.blank c.in-Some.from c.in-Some-place_of.to c.args.rights (two_keys c)
+    (sym c.place_of.ensures ∙ c.in-Some.is) (sym c.place_of-2.ensures ∙ c.in-Some-place_of.is) c.remove.ensures.gone c.remove.ensures.others c.give.ensures
 
 pub returns-clause-indexed : goal.returns-clause-indexed
 returns-clause-indexed c =
-    indexed_taken c.args.nodes.now.slots c.try_remove.new.self.slots c.give.new.nodes.slots c.args.key c.args.blank c.in-Some.from c.in-Some-place_of.to c.args.rights (two_keys c)
-    (sym c.place_of.ensures ∙ c.in-Some.is) (sym c.place_of-2.ensures ∙ c.in-Some-place_of.is) c.try_remove.ensures.updates.changed c.try_remove.ensures.updates.others c.give.ensures
+    indexed_taken c.args.nodes.now.slots c.remove.new.self.slots c.give.new.nodes.slots c.args.key c.args.blank c.in-Some.from c.in-Some-place_of.to c.args.rights (two_keys c)
+    (sym c.place_of.ensures ∙ c.in-Some.is) (sym c.place_of-2.ensures ∙ c.in-Some-place_of.is) c.remove.ensures.gone c.remove.ensures.others c.give.ensures
     c.args.pages.now c.set.new.self c.clear.new.self c.set.ensures.pages c.clear.ensures.pages (c.clear.ensures.spaces ∙ c.set.ensures.spaces) c.requires.indexed
+
+pub give-requires : goal.give-requires
+give-requires c = place_fits c.args.nodes.now.slots c.args.pages.now c.args.blank c.in-Some-place_of.to c.requires.indexed (sym c.place_of-2.ensures ∙ c.in-Some-place_of.is)

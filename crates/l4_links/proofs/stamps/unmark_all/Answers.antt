@@ -1,18 +1,10 @@
-use Rattle.std.proofs.Common.{arith}
-use Rattle.l4_links.proofs.Renewing.{unmarked_first, unmarked_more, unmarked_all}
+use Rattle.std.proofs.Common.{ap}
+use Rattle.l4_links.specs.Inside.Joined.{Store}
+use Rattle.l4_links.proofs.Renewing.{unmarked_same, unmarked_all}
 use Rattle.l4_links.proofs.stamps.unmark_all.Goals as goal
 
-pub loop-key-init : goal.loop-key-init
-loop-key-init c = unmarked_first c.args.nodes.now.slots
+pub returns-clause-same : goal.returns-clause-same
+returns-clause-same c = rw c.clear.ensures.items (unmarked_same c.nodes.inside.packed.slots c.nodes.inside.notes.items c.args.nodes.now.slots (ap (λ (s : Store). s.slots) c.nodes.view_is))
 
-pub loop-key-preserved : goal.loop-key-preserved
-loop-key-preserved c = unmarked_more c.args.nodes.now.slots c.loop-key.nodes.slots c.see.new.nodes.slots c.loop-key.key c.loop-key.invariant c.see.ensures
-
-pub returns : goal.returns
-returns c =
-    let s = c.capacity-key-end.ensures.slots in
-    let f = c.loop-key-test.false in
-    record {
-      same = c.loop-key.invariant.same;
-      unmarked = unmarked_all c.args.nodes.now.slots c.loop-key.nodes.slots c.loop-key.key c.loop-key.invariant (omega (arith, s, f));
-    }
+pub returns-clause-unmarked : goal.returns-clause-unmarked
+returns-clause-unmarked c = rw c.clear.ensures.items (unmarked_all c.nodes.inside.packed.slots c.nodes.inside.notes.items c.args.nodes.now.slots (ap (λ (s : Store). s.slots) c.nodes.view_is))

@@ -1,0 +1,185 @@
+//! The slots, and beside them what walks note of their keys. A slot is read with what is noted of its key.
+
+ghost use Rattle.std.specs.Prelude.{◌≡◌, ◌≢◌, ◌<◌, ◌≤◌, ℕ, [], None, Some, length, slice_index_or, vec_capacity, OnOk, OnErr};
+ghost use Rattle.l4_links.specs.Inside.Keys.{IsKey, no_key};
+ghost use Rattle.l4_links.specs.Inside.Nodes.{slot_at};
+ghost use Rattle.l4_links.specs.Inside.Packed.{no_note, slot_shown};
+ghost use Rattle.l4_links.specs.Inside.Joined.{HasRoom};
+
+use crate::keys::{Link, NO_KEY};
+use crate::nodes::Slot;
+use crate::packed::Packed;
+use l4_spaces::NoMemory;
+use slab::Slab;
+use std::alloc::Global;
+use std::marker::Model;
+
+/// What walks have noted of a key.
+#[derive(Clone, Copy)]
+pub(crate) struct Note {
+    /// The stamp of the last walk that has come by the node.
+    pub stamp: u32,
+    /// Where that walk left the run of the node's descendants, if it has been over it.
+    pub end: Link,
+}
+
+/// The slots under their keys.
+#[derive(Drop)]
+pub(crate) struct Slots {
+    pub packed: Slab<Packed>,
+    /// What is noted of each key. The room for all keys is taken with the slots, so that no walk needs memory, but nothing beyond
+    /// the last key that a walk has noted something of is written.
+    pub notes: Vec<Note>,
+}
+
+impl Model for Slots {
+    ghost use Rattle.l4_links.specs.Inside.Joined.{Store};
+
+    ghost Value = { Store };
+
+    ghost use Rattle.l4_links.specs.Inside.Joined.{store_shown, HaveNotes};
+
+    ghost view = { store_shown };
+
+    ghost invariant = { HaveNotes };
+}
+
+/// What is noted of the key.
+#[inline]
+pub(crate) fn note_at(notes: &Vec<Note>, key: usize) -> Note
+    ensures { result ≡ slice_index_or notes.now.items key no_note }
+{
+    if key < notes.len() {
+        return notes[key];
+    }
+    Note {
+        stamp: 0,
+        end: Link::none(),
+    }
+}
+
+/// Lets the list have a note of the key, which is that of nothing if it had none.
+#[cold]
+#[inline(never)]
+fn reach(notes: &mut Vec<Note>, key: usize)
+    requires room { key < vec_capacity notes.old }
+    ensures within { key < length notes.new.items }
+    ensures same { (other : ℕ) → slice_index_or notes.new.items other no_note ≡ slice_index_or notes.old.items other no_note }
+    ensures capacity { vec_capacity notes.old ≤ vec_capacity notes.new }
+{
+    for _ in notes.len()..key + 1 {
+        let _ = notes.push(Note {
+            stamp: 0,
+            end: Link::none(),
+        });
+    }
+}
+
+/// Lets this be noted of the key.
+#[inline]
+pub(crate) fn put_note(notes: &mut Vec<Note>, key: usize, note: Note)
+    requires room { key < vec_capacity notes.old }
+    ensures here { slice_index_or notes.new.items key no_note ≡ note }
+    ensures others { (other : ℕ) → other ≢ key → slice_index_or notes.new.items other no_note ≡ slice_index_or notes.old.items other no_note }
+    ensures capacity { vec_capacity notes.old ≤ vec_capacity notes.new }
+{
+    if key >= notes.len() {
+        reach(notes, key);
+    }
+    notes[key] = note;
+}
+
+/// Lets nothing be noted of the key.
+#[inline]
+pub(crate) fn clear_note(notes: &mut Vec<Note>, key: usize)
+    ensures here { slice_index_or notes.new.items key no_note ≡ no_note }
+    ensures others { (other : ℕ) → other ≢ key → slice_index_or notes.new.items other no_note ≡ slice_index_or notes.old.items other no_note }
+    ensures capacity { vec_capacity notes.new ≡ vec_capacity notes.old }
+{
+    if key < notes.len() {
+        notes[key] = Note {
+            stamp: 0,
+            end: Link::none(),
+        };
+    }
+}
+
+impl Slots {
+    /// No slots.
+    pub(crate) fn new(alloc: Global) -> Slots
+        ensures { result.slots ≡ [] }
+    {
+        Slots {
+            packed: Slab::new(alloc),
+            notes: Vec::new(alloc),
+        }
+    }
+
+    /// A number that all keys lie below.
+    pub(crate) fn capacity(&self) -> usize
+        ensures { length self.now.slots ≤ result }
+    {
+        self.packed.capacity()
+    }
+
+    /// What is in the slot under the key, if there is one.
+    #[inline]
+    pub(crate) fn get(&self, key: usize) -> Option<Slot>
+        ensures { result ≡ slot_at self.now.slots key }
+    {
+        let Some(slot) = self.packed.get(key) else {
+            return None;
+        };
+        Some(slot.slot(note_at(&self.notes, key)))
+    }
+
+    /// The key that the next slot will have.
+    pub(crate) fn vacant_key(&self) -> usize
+        ensures value { result ≡ self.now.vacant_key }
+        ensures vacant { slot_at self.now.slots result ≡ None }
+    {
+        self.packed.vacant_key()
+    }
+
+    /// Makes room for one more slot, whose key a node can keep, and for what is noted of it. NoMemory comes too where a node can't keep
+    /// the key that the next slot would have. Keys that were given back come first, so then all that it can keep are taken.
+    pub(crate) fn make_room(&mut self) -> Result<(), NoMemory>
+        ensures room { OnOk result (HasRoom self.new) }
+        ensures few { OnOk result (IsKey self.new.vacant_key) }
+        ensures same { self.new.slots ≡ self.old.slots }
+    {
+        let key = self.packed.vacant_key();
+        if key >= NO_KEY as usize {
+            return Err(NoMemory);
+        }
+        self.packed.reserve(1)?;
+        let notes = &mut self.notes;
+        if key >= notes.capacity() {
+            notes.reserve(key + 1 - notes.len())?;
+        }
+        Ok(())
+    }
+
+    /// Puts this into a new slot, of whose key nothing is noted, and gives its key. There is room for it.
+    #[inline]
+    pub(crate) fn insert_reserved(&mut self, slot: Packed) -> usize
+        requires room { HasRoom self.old }
+        ensures key { result ≡ self.old.vacant_key }
+        ensures was_vacant { slot_at self.old.slots result ≡ None }
+        ensures here { slot_at self.new.slots result ≡ Some (slot_shown slot no_note) }
+        ensures others { (other : ℕ) → other ≢ result → slot_at self.new.slots other ≡ slot_at self.old.slots other }
+    {
+        let key = self.packed.insert_reserved(slot);
+        clear_note(&mut self.notes, key);
+        key
+    }
+
+    /// Takes the slot under the key away, if there is one.
+    #[inline]
+    pub(crate) fn remove(&mut self, key: usize)
+        ensures gone { slot_at self.new.slots key ≡ None }
+        ensures others { (other : ℕ) → other ≢ key → slot_at self.new.slots other ≡ slot_at self.old.slots other }
+    {
+        let _ = self.packed.try_remove(key);
+    }
+}
