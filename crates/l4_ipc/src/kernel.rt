@@ -9,7 +9,7 @@ use crate::calls::Call;
 use crate::steps::{Answer, Lower, NextStep, Refused, Step};
 use l4_fpage::PageSize;
 use l4_mapdb::{Forest, MAX_FRAMES, Mapping, NoMemory};
-use l4_threads::{ROOT_SPACE, Reply, Threads};
+use l4_threads::{ROOT_SPACE, Reply, Thread, Threads};
 use std::alloc::Global;
 use std::marker::Model;
 
@@ -40,7 +40,7 @@ impl Model for Kernel {
 
 impl Kernel {
     ghost use Rattle.l4_fpage.specs.Pages.{max_frames};
-    ghost use Rattle.l4_threads.specs.Threads.{runs, space_of, IsConsistent};
+    ghost use Rattle.l4_threads.specs.Threads.{runs, space_of, thread_at, IsConsistent};
     ghost use Rattle.l4_mapdb.specs.Mappings.{shown, IsForest};
     ghost use Rattle.l4_mapdb.specs.Places.{NonePresentFrom, IsNextPresent};
     ghost use Rattle.l4_ipc.specs.Machine.{IsBoot};
@@ -239,6 +239,13 @@ impl Kernel {
         ensures { result ≡ space_of self.now.threads number }
     {
         self.threads.space_of(number)
+    }
+
+    /// The thread of a number: its space, and what it is doing.
+    pub fn thread(&self, number: u32) -> Option<&Thread>
+        ensures { option_copied result ≡ thread_at self.now.threads number }
+    {
+        self.threads.thread(number)
     }
 
     /// The size of the pages and frames, as it was chosen at boot.
