@@ -11,7 +11,7 @@ use crate::nodes::Slot;
 use crate::packed::Packed;
 use l4_spaces::NoMemory;
 use slab::Slab;
-use std::alloc::Global;
+use std::alloc::{AllocError, Global};
 use std::marker::Model;
 
 /// What walks have noted of a key.
@@ -56,6 +56,19 @@ pub(crate) fn note_at(notes: &Vec<Note>, key: usize) -> Note
         stamp: 0,
         end: Link::none(),
     }
+}
+
+/// Makes room for what is noted of the key, which there is none for.
+#[cold]
+#[inline(never)]
+fn grow(notes: &mut Vec<Note>, key: usize) -> Result<(), AllocError>
+    requires kept { IsKey key }
+    requires full { vec_capacity notes.old ≤ key }
+    ensures room { OnOk result (key < vec_capacity notes.new) }
+    ensures same { notes.new.items ≡ notes.old.items }
+    ensures capacity { vec_capacity notes.old ≤ vec_capacity notes.new }
+{
+    notes.reserve(key + 1 - notes.len())
 }
 
 /// Lets the list have a note of the key, which is that of nothing if it had none.
@@ -143,6 +156,7 @@ impl Slots {
 
     /// Makes room for one more slot, whose key a node can keep, and for what is noted of it. NoMemory comes too where a node can't keep
     /// the key that the next slot would have. Keys that were given back come first, so then all that it can keep are taken.
+    #[inline]
     pub(crate) fn make_room(&mut self) -> Result<(), NoMemory>
         ensures room { OnOk result (HasRoom self.new) }
         ensures few { OnOk result (IsKey self.new.vacant_key) }
@@ -153,9 +167,8 @@ impl Slots {
             return Err(NoMemory);
         }
         self.packed.reserve(1)?;
-        let notes = &mut self.notes;
-        if key >= notes.capacity() {
-            notes.reserve(key + 1 - notes.len())?;
+        if key >= self.notes.capacity() {
+            grow(&mut self.notes, key)?;
         }
         Ok(())
     }
