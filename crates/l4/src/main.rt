@@ -10,8 +10,9 @@ ghost use Rattle.l4_fpage.specs.Pages.{max_frames};
 use l4_fpage::PageSize;
 use l4_history::{answered_history, history};
 use l4_msg::Region;
-use l4_options::{Options, command_words, misread, show, status_of, stopped};
-use l4_shell::{RunFault, check_lines, options, plan_lines, run};
+use l4_options::{Options, command_words, misread, options, show, status_of, stopped};
+use l4_plan_lines::{check_lines, plan_lines};
+use l4_shell::{RunFault, run};
 use std::io;
 use std::process::ExitCode;
 

@@ -6,7 +6,7 @@ use l4_msg::{Message, PageFault, Region, TOO_MANY};
 use l4_pager::{Entry, RegionPager};
 use l4_plan::{PlanRefusal, plan};
 use l4_plan_check::{check, check_too_long};
-use l4_shell::{check_lines, plan_lines};
+use l4_plan_lines::{check_lines, plan_lines};
 use l4_sigma0::Sigma0;
 use std::io;
 

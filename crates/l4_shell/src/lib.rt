@@ -16,8 +16,6 @@ mod serving;
 mod session;
 mod texts;
 
-pub use l4_options::options;
-pub use l4_plan_lines::{check_lines, plan_lines};
 pub use l4_text::RunFault;
 pub use laws::the_size_of_pages_stays;
 pub use recording::record;
