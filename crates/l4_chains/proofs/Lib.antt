@@ -1,0 +1,5 @@
+pub mod Carried
+pub mod Walked
+pub mod Written
+pub mod Same
+pub mod Choice

@@ -1,0 +1,38 @@
+-- A chain of moves as data, and the provenance of a place in a history (this profile's own).
+use Rattle.std.specs.Prelude.{◌≡◌, ℕ, suc, ◌⊎◌, List, [], ◌∷◌, Some}
+use Rattle.l4_fpage.specs.Fpages.{rights_of}
+use Rattle.l4_msg.specs.Moves.{fpage_of}
+use Rattle.l4_mapdb.specs.declared.Place.{Place}
+use Rattle.l4_mapdb.specs.declared.Mapping.{Mapping}
+use Rattle.l4_mapdb.specs.Mappings.{shown}
+use Rattle.l4_ipc.specs.Machine.{Machine}
+use Rattle.l4_ipc.specs.Events.{Event, IsTrace}
+use Rattle.l4_ipc.specs.Provenance.{Link, Brings, LeavesAlone, HasProvenance}
+use Rattle.l4_record.specs.declared.entries.Entry.{Entry}
+use Rattle.l4_record.specs.History.{steps_of, answers_of}
+use Rattle.l4_chains.specs.declared.links.ChainLink.{ChainLink}
+
+-- what is told of a link whose transfer is the entry of this number
+abbrev pub told : ℕ → Link → ChainLink
+told number link =
+    record { entry = number; source = link.move.source; target = link.move.target; grant = link.move.grant; source_rights = link.move.shows.rights; item_rights = rights_of (fpage_of link.item) }
+
+-- Over these events, whose first is the entry of this number, links lead from the first place to the last, and this is told of them: an event
+-- leaves alone the place that was reached, or it is a delivered transfer and one of its used moves goes on from there.
+abbrev pub LeadsAsTold : ℕ → List Event → Place → List ChainLink → Place → Type 0
+LeadsAsTold number [] first links last = (links ≡ []) × (first ≡ last)
+LeadsAsTold number (event ∷ events) first links last =
+    (LeavesAlone event first × LeadsAsTold (suc number) events first links last)
+    ⊎ ((link : Link) × (later : List ChainLink) × (links ≡ told number link ∷ later)
+    × Brings event link × (link.move.source ≡ first) × LeadsAsTold (suc number) events link.move.target later last)
+
+-- The history is a run of the machine from boot, at whose end the place is present. It has its provenance, and the list tells its links: they
+-- lead to it from a page that sigma0 had at boot, and no others do.
+pub record IsProvenance (boot : Machine) (history : List Entry) (place : Place) (links : List ChainLink) : Type 0 where
+  pub events : List Event
+  pub now : Machine
+  pub trace : IsTrace boot (steps_of history) (answers_of history) events now
+  pub shows : Mapping
+  pub at : shown now.mappings place ≡ Some shows
+  pub has : HasProvenance boot.mappings events now.mappings place shows
+  pub leads : LeadsAsTold 0 events has.origin links place

@@ -1,0 +1,148 @@
+//! The entries of a history on a second kernel, and the chain over each.
+ghost use Rattle.std.specs.Prelude.{◌≡◌, ◌≢◌, ◌↔◌, ◌⊎◌, ◌∷◌, ℕ, List, IsTrue, IfOk, IfErr, MatchOption, Result, Ok};
+ghost use Rattle.l4_mapdb.specs.declared.Place.{Place as APlace};
+ghost use Rattle.l4_ipc.specs.declared.steps.Outcome.TheVariants.{Done};
+ghost use Rattle.l4_ipc.specs.Machine.{Machine};
+ghost use Rattle.l4_ipc.specs.Provenance.{LeavesAlone};
+ghost use Rattle.l4_chains.specs.declared.links.ChainLink.{ChainLink as AChainLink};
+ghost use Rattle.l4_chains.specs.Inside.Walking.{entry_event, Does, IsNotDue, BringsTold, Passes};
+ghost use Rattle.l4_chains.specs.Inside.Redoing.{FailsAt};
+ghost use Rattle.l4_provenance_check.specs.Inside.Following.{NonePasses};
+
+use crate::carrying::{is_carried, is_written};
+use l4_chains::{ChainLink, ReplayFault};
+use l4_ipc::{Kernel, Lower, Outcome, Place, Refused};
+use l4_record::Entry;
+
+/// Whether the entry delivered a message.
+fn is_done(entry: &Entry) -> bool
+    ensures { IsTrue result ↔ (entry.now.answer.outcome ≡ Done) }
+{
+    entry.answer.outcome == Outcome::Done
+}
+
+/// Does the step of an entry, which is to give the answer that the history says.
+fn redo(kernel: &mut Kernel, number: usize, entry: &Entry) -> Result<(), ReplayFault>
+    ensures ok { IfOk result (λ _. Does kernel.old entry.now kernel.new) }
+    ensures err { IfErr result (FailsAt number kernel.old entry.now) }
+{
+    match kernel.step(&entry.step) {
+        Ok(answer) => {
+            if answer == entry.answer {
+                return Ok(());
+            }
+            if answer.outcome == Outcome::NoMemory {
+                return Err(ReplayFault::NoMemory);
+            }
+            Err(ReplayFault::OtherAnswer(number))
+        }
+        Err(Refused::Lower(Lower::NoMemory)) => Err(ReplayFault::NoMemory),
+        Err(_) => Err(ReplayFault::OtherAnswer(number)),
+    }
+}
+
+/// Does the entry, and tells whether it leaves the place alone.
+fn leaves_alone(
+    kernel: &mut Kernel,
+    number: usize,
+    entry: &Entry,
+    place: Place,
+) -> Result<bool, ReplayFault>
+    ensures ok { IfOk result (λ yes. Does kernel.old entry.now kernel.new × (IsTrue yes ↔ LeavesAlone (entry_event kernel.old entry.now kernel.new) place)) }
+    ensures err { IfErr result (FailsAt number kernel.old entry.now) }
+{
+    let before = kernel.mapping(place.space, place.page).is_some();
+    let done = is_done(entry);
+    let written = is_written(kernel, &entry.step, place);
+    if let Err(fault) = redo(kernel, number, entry) {
+        return Err(fault);
+    }
+    let after = kernel.mapping(place.space, place.page).is_some();
+    if !before {
+        return Ok(false);
+    }
+    if !after {
+        return Ok(false);
+    }
+    if !done {
+        return Ok(true);
+    }
+    Ok(!written)
+}
+
+/// Does the entry, and tells whether it brings the link.
+fn brings(
+    kernel: &mut Kernel,
+    number: usize,
+    entry: &Entry,
+    link: &ChainLink,
+) -> Result<bool, ReplayFault>
+    ensures ok { IfOk result (λ yes. Does kernel.old entry.now kernel.new × (IsTrue yes ↔ BringsTold kernel.old entry.now kernel.new link.now)) }
+    ensures err { IfErr result (FailsAt number kernel.old entry.now) }
+{
+    let done = is_done(entry);
+    let carried = is_carried(kernel, &entry.step, link);
+    if let Err(fault) = redo(kernel, number, entry) {
+        return Err(fault);
+    }
+    if !done {
+        return Ok(false);
+    }
+    Ok(carried)
+}
+
+/// The first link and those behind it, where it is of the entry of this number.
+fn due(left: &[ChainLink], number: usize) -> Option<(&ChainLink, &[ChainLink])>
+    ensures { MatchOption result (IsNotDue number left.now) (λ d. (left.now ≡ d.0.now ∷ d.1.now) × (d.0.now.entry ≡ number)) }
+{
+    match left {
+        [] => None,
+        [link, rest @ ..] => {
+            if link.entry == number {
+                Some((link, rest))
+            } else {
+                None
+            }
+        }
+    }
+}
+
+/// Whether two places are one.
+pub fn is_at(a: Place, b: Place) -> bool
+    ensures { IsTrue result ↔ (a ≡ b) }
+{
+    if a.space != b.space {
+        return false;
+    }
+    a.page == b.page
+}
+
+/// Does the entry of this number, and tells how far the chain leads over it: the next place, and the links that are left then. None where it
+/// doesn't.
+pub fn pass<'a>(
+    kernel: &mut Kernel,
+    number: usize,
+    entry: &Entry,
+    place: Place,
+    left: &'a [ChainLink],
+) -> Result<Option<(Place, &'a [ChainLink])>, ReplayFault>
+    ensures ok { IfOk result (λ next. MatchOption next (NonePasses number kernel.old entry.now place left.now)
+        (λ w. Does kernel.old entry.now kernel.new × Passes number kernel.old entry.now kernel.new place left.now w.0 w.1.now)) }
+    ensures err { IfErr result (FailsAt number kernel.old entry.now) }
+{
+    let Some((link, rest)) = due(left, number) else {
+        return match leaves_alone(kernel, number, entry, place) {
+            Ok(true) => Ok(Some((place, left))),
+            Ok(false) => Ok(None),
+            Err(fault) => Err(fault),
+        };
+    };
+    if !is_at(link.source, place) {
+        return Ok(None);
+    }
+    match brings(kernel, number, entry, link) {
+        Ok(true) => Ok(Some((link.target, rest))),
+        Ok(false) => Ok(None),
+        Err(fault) => Err(fault),
+    }
+}
