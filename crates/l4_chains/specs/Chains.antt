@@ -4,9 +4,10 @@ use Rattle.l4_fpage.specs.Fpages.{rights_of}
 use Rattle.l4_msg.specs.Moves.{fpage_of}
 use Rattle.l4_mapdb.specs.declared.Place.{Place}
 use Rattle.l4_mapdb.specs.declared.Mapping.{Mapping}
-use Rattle.l4_mapdb.specs.Mappings.{shown}
+use Rattle.l4_mapdb.specs.Mappings.{shown, IsPresent}
 use Rattle.l4_ipc.specs.Machine.{Machine}
 use Rattle.l4_ipc.specs.Events.{Event, IsTrace}
+use Rattle.l4_ipc.specs.Runs.{Run}
 use Rattle.l4_ipc.specs.Provenance.{Link, Brings, LeavesAlone, HasProvenance}
 use Rattle.l4_record.specs.declared.entries.Entry.{Entry}
 use Rattle.l4_record.specs.History.{steps_of, answers_of}
@@ -36,3 +37,9 @@ pub record IsProvenance (boot : Machine) (history : List Entry) (place : Place) 
   pub at : shown now.mappings place ≡ Some shows
   pub has : HasProvenance boot.mappings events now.mappings place shows
   pub leads : LeadsAsTold 0 events has.origin links place
+
+-- The history is a run of the machine from boot, at whose end the place is not present.
+pub record IsAbsent (boot : Machine) (history : List Entry) (place : Place) : Type 0 where
+  pub now : Machine
+  pub run : Run boot (steps_of history) (answers_of history) now
+  pub absent : ¬ (IsPresent now.mappings place)

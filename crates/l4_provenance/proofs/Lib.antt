@@ -1,0 +1,4 @@
+pub mod Snoc
+pub mod Sofar
+pub mod Back
+pub mod Given

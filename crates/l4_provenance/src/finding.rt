@@ -1,0 +1,78 @@
+//! The provenance of a page.
+ghost use Rattle.std.specs.Prelude.{◌≡◌, ◌≤◌, length, MatchOption, MatchResult};
+ghost use Rattle.l4_fpage.specs.Pages.{max_frames};
+ghost use Rattle.l4_ipc.specs.Machine.{Machine, IsBoot};
+ghost use Rattle.l4_chains.specs.Chains.{IsProvenance, IsAbsent};
+ghost use Rattle.l4_chains.specs.Replays.{IsNotReplayed};
+ghost use Rattle.l4_provenance.specs.Inside.Arrivals.{Arrived};
+
+use crate::replaying::{Arrival, last_arrival};
+use l4_chains::{ChainLink, ReplayFault};
+use l4_ipc::{Kernel, PageSize, Place, Refused};
+use l4_record::History;
+use std::alloc::Global;
+
+/// How the place came to what it shows after the first entries of a history, so many, which are done on a kernel of its own.
+fn arrival(
+    alloc: Global,
+    frames: u32,
+    size: PageSize,
+    history: &History,
+    count: usize,
+    place: Place,
+) -> Result<Arrival, ReplayFault>
+    requires { count ≤ length history.now.entries }
+    ensures { MatchResult result
+        (λ a. (boot : Machine) × IsBoot frames boot × (boot.size ≡ size) × ((now : Machine) × Arrived boot history.now.entries count place now a)
+        × (1 ≤ frames) × (frames ≤ max_frames))
+        (IsNotReplayed frames size history.now.entries) }
+{
+    let mut kernel = match Kernel::boot(alloc, frames, size) {
+        Ok(kernel) => kernel,
+        Err(Refused::BadFrames) => return Err(ReplayFault::BadFrames),
+        Err(_) => return Err(ReplayFault::NoMemory),
+    };
+    last_arrival(&mut kernel, history, count, place)
+}
+
+/// The provenance of a page of a space in the history of a kernel with so many frames of this size: the transfers that brought it there from a
+/// page that sigma0 had at boot, one after another. None where the page is not present at the end.
+///
+/// The history is done once on a kernel of its own, and once more up to each link: `BadFrames` comes for fewer than 1 or more than 4,096 frames,
+/// `NoMemory` where a growth was refused, and `OtherAnswer` where a step gets another answer than the history says.
+pub fn provenance(
+    alloc: Global,
+    frames: u32,
+    size: PageSize,
+    history: &History,
+    place: Place,
+) -> Result<Option<Vec<ChainLink>>, ReplayFault>
+    ensures { MatchResult result
+        (λ found. (boot : Machine) × IsBoot frames boot × (boot.size ≡ size)
+        × MatchOption found (IsAbsent boot history.now.entries place) (λ links. IsProvenance boot history.now.entries place links.items))
+        (IsNotReplayed frames size history.now.entries) }
+{
+    let mut links = Vec::new(alloc);
+    let mut count = history.len();
+    let mut reached = place;
+    loop {
+        let came = match arrival(alloc, frames, size, history, count, reached) {
+            Ok(came) => came,
+            Err(fault) => return Err(fault),
+        };
+        match came {
+            Arrival::Absent => return Ok(None),
+            Arrival::AtBoot => {
+                links.reverse();
+                return Ok(Some(links));
+            }
+            Arrival::By(link) => {
+                count = link.entry;
+                reached = link.source;
+                if let Err(_) = links.push(link) {
+                    return Err(ReplayFault::NoMemory);
+                }
+            }
+        }
+    }
+}

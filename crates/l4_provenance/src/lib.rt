@@ -1,0 +1,9 @@
+//! Finds how a page came to where it is.
+#![tactic(auto)]
+
+mod finding;
+mod replaying;
+mod writing;
+
+pub use finding::provenance;
+pub use l4_chains::{ChainLink, ReplayFault};

@@ -1,0 +1,94 @@
+//! A history once more on a second kernel, and what came to a place in it.
+ghost use Rattle.std.specs.Prelude.{◌≡◌, ◌≤◌, length, IfOk, IfErr};
+ghost use Rattle.l4_chains.specs.Inside.Redoing.{FailsAt, FailsIn};
+ghost use Rattle.l4_chains.specs.Inside.Walking.{Does};
+ghost use Rattle.l4_provenance.specs.Inside.Arrivals.{Brought, newer, Arrived};
+
+use crate::writing::link_to;
+use l4_chains::{ChainLink, ReplayFault};
+use l4_ipc::{Kernel, Lower, Outcome, Place, Refused};
+use l4_record::{Entry, History};
+
+/// How a place came to what it shows.
+#[derive(Clone, Copy)]
+pub enum Arrival {
+    /// It is not present.
+    Absent,
+    /// Nothing was moved to it since boot.
+    AtBoot,
+    /// By this link, and since then nothing was moved to it.
+    By(ChainLink),
+}
+
+/// Does the step of the entry of this number once more.
+fn again(kernel: &mut Kernel, number: usize, entry: &Entry) -> Result<(), ReplayFault>
+    ensures ok { IfOk result (λ _. Does kernel.old entry.now kernel.new) }
+    ensures err { IfErr result (FailsAt number kernel.old entry.now) }
+{
+    match kernel.step(&entry.step) {
+        Ok(answer) => {
+            if answer == entry.answer {
+                return Ok(());
+            }
+            match answer.outcome {
+                Outcome::NoMemory => Err(ReplayFault::NoMemory),
+                _ => Err(ReplayFault::OtherAnswer(number)),
+            }
+        }
+        Err(Refused::Lower(Lower::NoMemory)) => Err(ReplayFault::NoMemory),
+        Err(_) => Err(ReplayFault::OtherAnswer(number)),
+    }
+}
+
+/// The link that the entry would bring to the place, if it delivers.
+fn delivered_link(kernel: &Kernel, number: usize, entry: &Entry, place: Place) -> Option<ChainLink>
+    ensures { Brought number kernel.now entry.now place result }
+{
+    if entry.answer.outcome != Outcome::Done {
+        return None;
+    }
+    link_to(kernel, number, &entry.step, place)
+}
+
+/// The newer of two links.
+fn newer_of(link: Option<ChainLink>, last: Option<ChainLink>) -> Option<ChainLink>
+    ensures { result ≡ newer link last }
+{
+    match link {
+        Some(link) => Some(link),
+        None => last,
+    }
+}
+
+/// Does the first entries of the history, so many, and tells how the place came to what it shows after them.
+pub fn last_arrival(
+    kernel: &mut Kernel,
+    history: &History,
+    count: usize,
+    place: Place,
+) -> Result<Arrival, ReplayFault>
+    requires { count ≤ length history.now.entries }
+    ensures ok { IfOk result (Arrived kernel.old history.now.entries count place kernel.new) }
+    ensures err { IfErr result (FailsIn kernel.old history.now.entries) }
+{
+    let mut last = None;
+    kernel.law_forest();
+    for number in 0..count {
+        let Some(entry) = history.get(number) else {
+            return Ok(Arrival::Absent);
+        };
+        let link = delivered_link(kernel, number, &entry, place);
+        if let Err(fault) = again(kernel, number, &entry) {
+            return Err(fault);
+        }
+        kernel.law_forest();
+        last = newer_of(link, last);
+    }
+    if kernel.mapping(place.space, place.page).is_none() {
+        return Ok(Arrival::Absent);
+    }
+    match last {
+        Some(link) => Ok(Arrival::By(link)),
+        None => Ok(Arrival::AtBoot),
+    }
+}
