@@ -1,0 +1,4 @@
+pub mod Examples
+pub mod Fields
+pub mod Pieces
+pub mod Same

@@ -1,0 +1,9 @@
+use Rattle.std.proofs.Common.{slice_index}
+use Rattle.l4_text.specs.Streams.{Tells}
+use Rattle.l4_decode.specs.Spelling.{each_text}
+use Rattle.l4_decode.specs.Decoded.{word_text}
+use Rattle.l4_decode.proofs.decoding.tell_alone.Given as goal
+
+abbrev pub invariant-loop-k : goal.invariant-loop-k
+invariant-loop-k g l = Tells (g.W.Write.contents l.fn.writer) (g.W.Write.contents l.writer) l.fn.out l.out
+    (each_text (λ k. word_text l.size l.reading (slice_index l.words k)) l.k)

@@ -1,0 +1,16 @@
+//! The words of messages, fpages, receive windows and thread ids, told in words.
+#![tactic(auto)]
+
+mod decoding;
+mod fpages;
+mod ids;
+mod items;
+mod laws;
+mod meanings;
+mod refusals;
+mod spelling;
+mod tags;
+
+pub use decoding::{Reading, decode};
+pub use laws::{decoded_is_unique, told_as_read};
+pub use meanings::{Meaning, meaning_of};
