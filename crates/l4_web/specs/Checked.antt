@@ -1,0 +1,70 @@
+-- Checks of plans as they are told to the page (this profile's own).
+use Rattle.std.specs.Prelude.{◌≡◌, ◌⊎◌, ℕ, ◌+◌, ◌*◌, ◌%◌, ◌<◌, ◌≤◌, List, length, min, codes}
+use Rattle.l4_fpage.specs.declared.sizes.PageSize.{PageSize}
+use Rattle.l4_msg.specs.Regions.{IsRival, IsCertificate, NeedsAtLeast, NeedsMoreThan, max_plan_items}
+use Rattle.l4_msg.specs.Words.{ItemsRead, FirstFails}
+use Rattle.l4_msg.specs.declared.items.ItemFault.TheVariants.{Bad, Unsupported}
+use Rattle.l4_msg.specs.declared.items.Item.{Item}
+use Rattle.l4_msg.specs.declared.regions.Region.{Region}
+use Rattle.l4_plan_check.specs.Faults.{Holds, IsFirstFault, LongHolds, IsFirstLongFault}
+use Rattle.l4_plan_check.specs.declared.faults.Fault.{Fault as AFault}
+use Rattle.l4_plan_check.specs.declared.faults.Fault.TheVariants.{Region as InRegion, Item as InItem, Gap, Count, Page, Pair}
+use Rattle.l4_refusals.specs.Texts.{spelled}
+use Rattle.l4_web.specs.declared.checking.Verdict.{Verdict}
+
+-- a place, where detail has that number, and else the greatest that it has
+abbrev pub told_place : ℕ → ℕ
+told_place place = min place 0xffffffff
+
+abbrev pub verdict_of : ℕ → ℕ → Verdict
+verdict_of code number = record { refusal = code; detail = number }
+
+abbrev pub fault_verdict : AFault → Verdict
+fault_verdict InRegion = verdict_of (spelled (codes "C6")) 0
+fault_verdict (InItem i) = verdict_of (spelled (codes "C1")) (told_place i)
+fault_verdict (Gap page) = verdict_of (spelled (codes "C2")) page
+fault_verdict Count = verdict_of (spelled (codes "C5")) 0
+fault_verdict (Page i) = verdict_of (spelled (codes "C3")) (told_place i)
+fault_verdict (Pair i) = verdict_of (spelled (codes "C4")) (told_place i)
+
+-- the words of the items of a plan, at most
+abbrev pub max_plan_words : ℕ
+max_plan_words = 2 * max_plan_items
+
+-- why words are no items of a plan: too many, or an odd number, or else the first item that fails
+abbrev pub ReadsNone : List ℕ → Verdict → Type 0
+ReadsNone words v =
+    ((max_plan_words < length words) × (v ≡ verdict_of (spelled (codes "M1")) 0))
+    ⊎ ((length words ≤ max_plan_words) × (length words % 2 ≡ 1) × (v ≡ verdict_of (spelled (codes "M2")) 0))
+    ⊎ ((length words ≤ max_plan_words) × (length words % 2 ≡ 0) × (i : ℕ) × FirstFails words i Bad × (v ≡ verdict_of (spelled (codes "M3")) i))
+    ⊎ ((length words ≤ max_plan_words) × (length words % 2 ≡ 0) × (i : ℕ) × FirstFails words i Unsupported × (v ≡ verdict_of (spelled (codes "M4")) i))
+
+-- no fault holds of the items and the pages: they are a shortest plan
+pub record IsProved (size : PageSize) (r : Region) (items : List Item) (pages : List ℕ) : Type 0 where
+  pub none : (fault : AFault) → Holds size r items pages fault → ⊥
+  pub exact : IsRival size r items
+  pub certificate : IsCertificate r pages
+  pub one_each : length pages ≡ length items
+  pub few : length items ≤ max_plan_items
+  pub shortest : NeedsAtLeast size r (length items)
+
+-- the words are no items, or the first fault of the items and the pages is told, or there is none
+abbrev pub TellsCheck : PageSize → Region → List ℕ → List ℕ → Verdict → Type 0
+TellsCheck size r words pages v =
+    ReadsNone words v
+    ⊎ ((items : List Item) × ItemsRead words items
+    × (((fault : AFault) × IsFirstFault size r items pages fault × (v ≡ fault_verdict fault))
+    ⊎ (IsProved size r items pages × (v ≡ verdict_of 0 0))))
+
+-- no fault holds of the claim that these are 1,985 pages which show each list to be too long
+pub record IsProvedTooLong (size : PageSize) (r : Region) (pages : List ℕ) : Type 0 where
+  pub none : (fault : AFault) → LongHolds size r pages fault → ⊥
+  pub certificate : IsCertificate r pages
+  pub many : length pages ≡ max_plan_items + 1
+  pub too_long : NeedsMoreThan size r max_plan_items
+
+-- the first fault of that claim is told, or there is none
+abbrev pub TellsLongCheck : PageSize → Region → List ℕ → Verdict → Type 0
+TellsLongCheck size r pages v =
+    ((fault : AFault) × IsFirstLongFault size r pages fault × (v ≡ fault_verdict fault))
+    ⊎ (IsProvedTooLong size r pages × (v ≡ verdict_of 0 0))
