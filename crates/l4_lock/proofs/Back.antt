@@ -31,11 +31,11 @@ at_place : {X : Type 0} (xs : List X) (i : ℕ) (x : X) → i < length xs → x 
 at_place xs i x lt is = slice_get-get_or xs i x lt ∙ ap Some (sym is)
 
 -- one round of a loop over numbers: `Good` of each place before, or the least number of a bad one is kept
-abbrev SoFar : (ℕ → Type 0) → {X : Type 0} → (X → ℕ) → (ℕ → X → Type 0) → List X → ℕ → Option ℕ → Type 0
+abbrev pub SoFar : (ℕ → Type 0) → {X : Type 0} → (X → ℕ) → (ℕ → X → Type 0) → List X → ℕ → Option ℕ → Type 0
 SoFar Bad {X} key Good xs i None = (k : ℕ) (x : X) → k < i → slice_get xs k ≡ Some x → Good k x
 SoFar Bad {X} key Good xs i (Some n) = Bad n × ((k : ℕ) (x : X) → k < i → slice_get xs k ≡ Some x → key x < n → Good k x)
 
-one_more : (Bad : ℕ → Type 0) {X : Type 0} (key : X → ℕ) (Good : ℕ → X → Type 0) (xs : List X) (i : ℕ) (x : X) (bad : Bool) (found : Option ℕ)
+pub one_more : (Bad : ℕ → Type 0) {X : Type 0} (key : X → ℕ) (Good : ℕ → X → Type 0) (xs : List X) (i : ℕ) (x : X) (bad : Bool) (found : Option ℕ)
     → i < length xs → x ≡ get_or xs i x → (bad ≡ true → Bad (key x)) → (bad ≡ false → Good i x)
     → SoFar Bad key Good xs i found → SoFar Bad key Good xs (i + 1) (keep found (key x) bad)
 one_more Bad {X} key Good xs i x false None lt is wrong fine h = λ k y less at.

@@ -1,0 +1,6 @@
+pub mod Numbers
+pub mod Counts
+pub mod Keeping
+pub mod Answering
+pub mod Naming
+pub mod Returned

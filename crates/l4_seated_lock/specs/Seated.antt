@@ -1,0 +1,41 @@
+-- A locked kernel whose seats are all in one hand: what each keeps, and what is entered and taken by its number. (this profile's own)
+use Rattle.std.specs.Prelude.{◌≡◌, ℕ, List, [], map, Option, Some}
+use Rattle.std.specs.Option.{option_map, option_map_or}
+use Rattle.l4_threads.specs.declared.Reply.{Reply}
+use Rattle.l4_ipc.specs.declared.calls.Call.{Call}
+use Rattle.l4_lock.specs.declared.refusals.Entered.{Entered}
+use Rattle.l4_lock.specs.Books.{SeatState, seat_state, Book, pending_count, book_at}
+use Rattle.l4_lock.specs.Locked.{Lock, Enters, Tells, Takes}
+
+-- what a book's seat keeps, where nobody else ever had it: a call that isn't taken yet was left waiting, and the receipts are the book's
+abbrev pub seat_of : Book → SeatState
+seat_of b = seat_state b.number (pending_count b.pending) b.receipts
+
+-- the seat of a number, if it was given
+abbrev pub seat_at : List Book → ℕ → Option SeatState
+seat_at books n = option_map seat_of (book_at books n)
+
+-- the call was entered by the seat of this number, of which this is told
+pub record EntersBySeat (old new : Lock) (n : ℕ) (call : Call) (told : Entered) : Type 0 where
+  pub before : SeatState
+  pub after : SeatState
+  pub was : seat_at old.books n ≡ Some before
+  pub becomes : seat_at new.books n ≡ Some after
+  pub enters : Enters old new n call
+  pub tells : Tells old new before after call told
+
+-- a call of the seat of this number that was left waiting has ended with this reply, and is taken
+pub record TakesBySeat (old new : Lock) (n : ℕ) (reply : Reply) : Type 0 where
+  pub before : SeatState
+  pub after : SeatState
+  pub was : seat_at old.books n ≡ Some before
+  pub becomes : seat_at new.books n ≡ Some after
+  pub number : before.number ≡ n
+  pub takes : Takes old new before after (λ call. call) reply
+
+-- the seats that come back by their numbers: each as its book says, and one that was not given has entered nothing
+abbrev pub seat_back : List Book → ℕ → SeatState
+seat_back books n = option_map_or seat_of (book_at books n) (seat_state n 0 [])
+
+abbrev pub seats_back : List Book → List ℕ → List SeatState
+seats_back books numbers = map (seat_back books) numbers

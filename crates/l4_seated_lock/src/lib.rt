@@ -1,0 +1,9 @@
+//! A locked kernel together with the seats that it gave, by their numbers, for whoever holds all of them.
+#![tactic(auto)]
+
+mod closing;
+mod places;
+mod seated;
+
+pub use l4_lock::{Entered, History, LockRefusal, Mismatch, Seat};
+pub use seated::SeatedLock;

@@ -1,0 +1,178 @@
+//! The locked kernel with its seats.
+ghost use Rattle.std.specs.Prelude.{◌≡◌, ◌≢◌, ◌⊎◌, ◌+◌, ◌≤◌, [], ◌∷◌, ◌++◌, None, Some, IfOk, IfErr, IfSome, IfNone, MatchResult, MatchOption, false};
+ghost use Rattle.l4_fpage.specs.Pages.{max_frames};
+ghost use Rattle.l4_ipc.specs.Machine.{IsBoot};
+ghost use Rattle.l4_record.specs.Laws.{IsWholeRun};
+ghost use Rattle.l4_lock.specs.Books.{book, book_at, reply_waits};
+ghost use Rattle.l4_lock.specs.Closing.{IsShown, Closes, Mismatches, by_history};
+ghost use Rattle.l4_lock.specs.Locked.{IsKept, RefusesBoot, Refuses};
+ghost use Rattle.l4_lock.specs.declared.refusals.LockRefusal.TheVariants.{SeatTaken, NoMemory as WantOfMemory};
+ghost use Rattle.l4_seated_lock.specs.Seated.{seat_at, seats_back, EntersBySeat, TakesBySeat};
+ghost use Rattle.l4_seated_lock.specs.Inside.Places.{RefusesUnseated};
+
+use crate::closing::mismatch;
+use crate::places::position;
+use l4_ipc::{Call, Kernel, PageSize, Refused, Reply};
+use l4_lock::{Entered, History, LockRefusal, Locked, MAX_ENTRIES, MAX_STEPS, Mismatch, Seat};
+use std::alloc::Global;
+use std::marker::Model;
+
+/// The greatest number of entries with which another call is entered.
+const LAST_START: usize = MAX_ENTRIES - MAX_STEPS - 1;
+
+/// A locked kernel and each seat that it gave. Contracts see the locked kernel, whose books say what each seat keeps.
+#[derive(Drop)]
+pub struct SeatedLock {
+    locked: Locked,
+    seats: Vec<Seat>,
+}
+
+impl Model for SeatedLock {
+    ghost use Rattle.std.specs.Prelude.{◌≡◌, ℕ};
+    ghost use Rattle.l4_lock.specs.Locked.{Lock};
+    ghost use Rattle.l4_lock.specs.contracts.locked.Locked as inner;
+    ghost use Rattle.l4_seated_lock.specs.Seated.{seat_at};
+    ghost use Rattle.l4_seated_lock.specs.Inside.Places.{found};
+
+    ghost Value = { Lock };
+
+    ghost coded = { inner.the_row.coded };
+
+    ghost view = { λ a. a.locked };
+
+    ghost invariant = { λ a. (n : ℕ) → found a.seats.items n ≡ seat_at a.locked.books n };
+}
+
+impl SeatedLock {
+    /// A kernel as it boots, with 1 to 4,096 frames of this size and an empty history, of which no seat was given.
+    ///
+    /// `Kernel(BadFrames)` (L5) comes for any other number, and else `NoMemory` (L2), or `Kernel` with it, where a growth was refused.
+    pub fn new(alloc: Global, frames: u32, size: PageSize) -> Result<SeatedLock, LockRefusal>
+        ensures { MatchResult result
+            (λ l. (l.frames ≡ frames) × (l.kernel.size ≡ size) × IsBoot frames l.kernel × (l.history ≡ []) × (l.books ≡ []) × (1 ≤ frames) × (frames ≤ max_frames))
+            (RefusesBoot frames) }
+    {
+        match Locked::new(alloc, frames, size, 0) {
+            Ok((locked, _board, _watches)) => Ok(SeatedLock {
+                locked,
+                seats: Vec::new(alloc),
+            }),
+            Err(refusal) => Err(refusal),
+        }
+    }
+
+    /// The kernel.
+    pub fn kernel(&self) -> &Kernel
+        ensures { result.now ≡ self.now.kernel }
+    {
+        self.locked.kernel()
+    }
+
+    /// The history.
+    pub fn history(&self) -> &History
+        ensures { result.now.entries ≡ self.now.history }
+    {
+        self.locked.history()
+    }
+
+    /// What holds of the locked kernel at all times. It does nothing.
+    pub fn law_kept(&self)
+        ensures { IsKept self.now }
+    {
+        self.locked.law_kept();
+    }
+
+    /// What holds of the whole history. It does nothing.
+    pub fn law_history(&self)
+        ensures { IsWholeRun self.now.frames self.now.history self.now.kernel }
+    {
+        self.locked.law_history();
+    }
+
+    /// The seat of a number is given, once.
+    ///
+    /// Refusals in this order: `SeatTaken` (L4), `NoMemory` (L2). After either nothing has changed.
+    pub fn give(&mut self, number: u32) -> Result<(), LockRefusal>
+        ensures { MatchResult result
+            (λ _. (book_at self.old.books number ≡ None) × (self.new ≡ record self.old { books = self.old.books ++ book number None [] ∷ [] }))
+            (λ e. (self.new ≡ self.old)
+            × (((e ≡ SeatTaken) × (book_at self.old.books number ≢ None)) ⊎ ((e ≡ WantOfMemory) × (book_at self.old.books number ≡ None)))) }
+    {
+        if position(self.seats.as_slice(), number).is_some() {
+            return Err(LockRefusal::SeatTaken);
+        }
+        if self.seats.reserve(1).is_err() {
+            return Err(LockRefusal::NoMemory);
+        }
+        match self.locked.seat(number) {
+            Ok(seat) => {
+                self.seats.push_reserved(seat);
+                Ok(())
+            }
+            Err(refusal) => Err(refusal),
+        }
+    }
+
+    /// The seat of a number, if it was given: its receipts, each of which is right about the history, and how many calls it has started.
+    pub fn seat(&self, number: u32) -> Option<&Seat>
+        ensures { MatchOption result (book_at self.now.books number ≡ None)
+            (λ seat. (seat_at self.now.books number ≡ Some seat.now) × IsShown self.now seat.now) }
+    {
+        let Some(at) = position(self.seats.as_slice(), number) else {
+            return None;
+        };
+        self.locked.law_kept();
+        Some(&self.seats[at])
+    }
+
+    /// Why no call of a number is entered whose seat was not given.
+    fn refuse_unseated(&self) -> LockRefusal
+        ensures { RefusesUnseated self.now result }
+    {
+        if self.locked.history().len() > LAST_START {
+            LockRefusal::HistoryFull
+        } else {
+            LockRefusal::Kernel(Refused::UnknownThread)
+        }
+    }
+
+    /// Enters a call of the number's thread: its start is appended to the history, and then the steps that come next until there is none,
+    /// at most 128.
+    ///
+    /// Refusals in this order: `ReplyWaiting` (L3), `HistoryFull` (L1), `NoMemory` (L2), `Kernel` (L5), which is `UnknownThread` for a
+    /// number whose seat was not given. After any of them nothing has changed.
+    pub fn enter(&mut self, number: u32, call: Call) -> Result<Entered, LockRefusal>
+        ensures ok { IfOk result (EntersBySeat self.old self.new number call) }
+        ensures err { IfErr result (λ e. Refuses self.old number call e × (self.new ≡ self.old)) }
+    {
+        let Some(at) = position(self.seats.as_slice(), number) else {
+            return Err(self.refuse_unseated());
+        };
+        self.locked.law_kept();
+        let entered = self.locked.enter(&mut self.seats[at], call);
+        self.locked.law_kept();
+        entered
+    }
+
+    /// The reply of a call of the number's thread that was left waiting and has ended since: it is taken once.
+    pub fn take(&mut self, number: u32) -> Option<Reply>
+        ensures some { IfSome result (TakesBySeat self.old self.new number) }
+        ensures none { IfNone result ((self.new ≡ self.old) × (reply_waits self.old.books number ≡ false)) }
+    {
+        let Some(at) = position(self.seats.as_slice(), number) else {
+            return None;
+        };
+        self.locked.take(&mut self.seats[at])
+    }
+
+    /// How the seats of these numbers differ from those that were given, as where the lock is closed and they come back: the least number
+    /// whose seat is missing (X1), or else the least that was not given or comes back twice (X2); each seat that was given agrees with what
+    /// was kept of it, so there is no wrong receipt (X3). `None` where just those come back that were given, each once.
+    pub fn mismatch(&self, numbers: &[u32]) -> Option<Mismatch>
+        ensures { MatchOption result (Closes self.now (seats_back self.now.books numbers.now))
+            (Mismatches (by_history self.now.history) self.now.books (seats_back self.now.books numbers.now)) }
+    {
+        self.locked.law_kept();
+        mismatch(self.seats.as_slice(), numbers)
+    }
+}
