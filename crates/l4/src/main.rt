@@ -7,6 +7,7 @@
 ghost use Rattle.std.specs.Prelude.{◌≤◌};
 ghost use Rattle.l4_fpage.specs.Pages.{max_frames};
 
+use l4_decode::{Reading, decode};
 use l4_fpage::PageSize;
 use l4_history::{answered_history, history};
 use l4_msg::Region;
@@ -80,6 +81,14 @@ fn check<R: Input + Print + Eprint>(rt: &R, region: &Region, size: PageSize) -> 
     )
 }
 
+/// Says what words mean.
+fn tell_words<R: Print + Eprint>(rt: &R, words: &[u32], reading: Reading, size: PageSize) -> u8 {
+    match decode(words, reading, size, &mut io::writer(rt)) {
+        Ok(()) => 0,
+        Err(fault) => stopped(rt, fault),
+    }
+}
+
 /// Does what these words ask for.
 fn obey<R: AllocGlobal + Input + Print + Eprint>(rt: &R, words: &[String]) -> u8 {
     match options(rt.alloc(), words) {
@@ -93,6 +102,13 @@ fn obey<R: AllocGlobal + Input + Print + Eprint>(rt: &R, words: &[String]) -> u8
         ) => tell_history(rt, frames, size, answers),
         Ok(Options::Plan { region, size }) => plan(rt, &region, size),
         Ok(Options::Check { region, size }) => check(rt, &region, size),
+        Ok(
+            Options::Decode {
+                words,
+                reading,
+                size,
+            },
+        ) => tell_words(rt, words.as_slice(), reading, size),
         Ok(Options::Show(text)) => show(rt, text.as_str()),
         Err(fault) => misread(rt, &fault),
     }

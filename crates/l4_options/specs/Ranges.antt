@@ -2,7 +2,7 @@
 use Rattle.std.specs.Prelude.{ℕ, ◌≤◌}
 use Rattle.l4_fpage.specs.Pages.{max_frames}
 use Rattle.l4_options.specs.declared.requests.Options.{Options}
-use Rattle.l4_options.specs.declared.requests.Options.TheVariants.{Run, History, Plan, Check, Show}
+use Rattle.l4_options.specs.declared.requests.Options.TheVariants.{Run, History, Plan, Check, Decode, Show}
 use Rattle.l4_options.specs.declared.requests.StepOptions.{StepOptions}
 use Rattle.l4_options.specs.declared.requests.StepOptions.TheVariants.{Run as RunSteps, Show as ShowText}
 
@@ -16,6 +16,7 @@ IsInRange (Run frames size) = IsFrameCount frames
 IsInRange (History frames size answers) = IsFrameCount frames
 IsInRange (Plan region size) = Unit {0}
 IsInRange (Check region size) = Unit {0}
+IsInRange (Decode words reading size) = Unit {0}
 IsInRange (Show text) = Unit {0}
 
 -- the same of the command line of l4_steps

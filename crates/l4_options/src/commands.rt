@@ -2,10 +2,11 @@
 ghost use Rattle.std.specs.Prelude.{IfOk};
 ghost use Rattle.l4_options.specs.Ranges.{IsInRange};
 
-use crate::help::{ABOUT, CHECK, HISTORY, PLAN, SCRIPT};
+use crate::help::{ABOUT, CHECK, DECODE, HISTORY, PLAN, SCRIPT};
 use crate::requests::{OptionFault, Options};
 use crate::values::{
-    answers_option, frames_of, frames_option, help_text, region_of, size_of, size_option,
+    answers_option, frames_of, frames_option, help_text, reading_of, reading_option, region_of,
+    size_of, size_option, words_argument, words_of,
 };
 use clap::{Arg, ArgAction, ArgMatches, Command, Error};
 use std::alloc::{AllocError, Global};
@@ -55,6 +56,12 @@ fn known<'a>(alloc: Global) -> Result<Command<'a>, AllocError> {
         .arg(frames_option(alloc))?
         .arg(size_option(alloc))?
         .arg(answers_option(alloc))?;
+    let decode = Command::new(alloc, "decode")
+        .about("Says what the words of a message mean")
+        .after_help(DECODE)
+        .arg(words_argument(alloc))?
+        .arg(reading_option(alloc))?
+        .arg(size_option(alloc))?;
     Command::new(alloc, "l4")
         .about(ABOUT)
         .version("0.1.0")
@@ -63,7 +70,8 @@ fn known<'a>(alloc: Global) -> Result<Command<'a>, AllocError> {
         .subcommand(run)?
         .subcommand(history)?
         .subcommand(of_region(alloc, "plan", "Plans the delegation of a region", PLAN)?)?
-        .subcommand(of_region(alloc, "check", "Checks a plan", CHECK)?)
+        .subcommand(of_region(alloc, "check", "Checks a plan", CHECK)?)?
+        .subcommand(decode)
 }
 
 /// What a parse that gave no matches means.
@@ -103,10 +111,24 @@ fn history_options(alloc: Global, matches: &ArgMatches<'_>) -> Result<Options, O
     }
 }
 
+/// What the matches of `decode` ask for.
+fn decode_options(alloc: Global, matches: &ArgMatches<'_>) -> Result<Options, OptionFault>
+    ensures { IfOk result IsInRange }
+{
+    match words_of(alloc, matches) {
+        Ok(words) => Ok(Options::Decode {
+            reading: reading_of(alloc, matches, words.len())?,
+            size: size_of(alloc, matches)?,
+            words,
+        }),
+        Err(fault) => Err(fault),
+    }
+}
+
 /// Reads the words of the command line, the program's name first:
-/// `l4 run [--frames N]`, `l4 history [--frames N] [--answers]`, `l4 plan SOURCE TARGET COUNT RIGHTS`, `l4 check` with the same words, each
-/// with `--page-size BYTES` where that is wanted, `--help`, `help` or `--version`. N is 256 and BYTES 4096 where they
-/// are left out.
+/// `l4 run [--frames N]`, `l4 history [--frames N] [--answers]`, `l4 plan SOURCE TARGET COUNT RIGHTS`, `l4 check` with the same words,
+/// `l4 decode [--as READING] WORD..`, each with `--page-size BYTES` where that is wanted, `--help`, `help` or `--version`. N is 256 and
+/// BYTES 4096 where they are left out; READING is message, fpage, window or id.
 ///
 /// `Memory` comes only where an allocation was refused. Every other fault names the word that is
 /// not understood.
@@ -136,6 +158,7 @@ pub fn options<'a, S: AsStr>(alloc: Global, words: &'a [S]) -> Result<Options, O
             Err(fault) => Err(fault),
         },
         Some(("history", history)) => history_options(alloc, history),
+        Some(("decode", decode)) => decode_options(alloc, decode),
         Some((_, run)) => run_options(alloc, run),
         None => Err(OptionFault::Memory),
     }

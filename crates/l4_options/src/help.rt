@@ -42,6 +42,31 @@ With --answers the lines that l4_steps answers to a step stand below it, behind
 
 Exit status: as that of 'l4 run'.";
 
+pub(crate) const DECODE: &str = "\
+The words are a message, the tag first: a line for the tag, for each untyped
+word and for each item, and at the end what they mean as a whole. One word alone
+is read as a tag, as an fpage, as a receive window and as a thread's id. With
+--as the words are a message, or each of them an fpage, a window or an id.
+
+  tag WORD: label L, flags F, untyped U, typed T
+                             a tag: how many words follow it; a page fault's label
+                             has the access behind it
+  word K WORD: untyped, D    the word at place K, in decimal; also half an item,
+                             and behind the message (which takes no notice of it)
+  item K WORD WORD: KIND, send base A, C B, FPAGE
+                             item K, from 0: map or grant, the send base in bytes,
+                             the bit that says that an item follows, the fpage
+  fpage WORD: FPAGE          pages with rights; complete, nil, or no fpage
+  window WORD: ..            the pages where a receiver takes items
+  id WORD: thread N, version V
+                             a thread's number and version; nilthread, anythread
+  message: untyped U, items I
+                             a message; also page fault, with address, instruction
+                             pointer and access, and request to sigma0
+  refused CODE: REASON       no message, and why (M1 to M7: see l4 --help)
+
+Exit status: 0, or 2 if the command line is not understood, 3 if a write failed.";
+
 pub(crate) const SCRIPT: &str = "\
 The script is read on standard input, and each line is answered on standard
 output. Tokens are parted by spaces. Empty lines, and lines that begin with #,
@@ -120,8 +145,8 @@ page i; thread 2 is root. Numbers are decimal, or hexadecimal after 0x.
   steps K                          K steps so far, served threads' too
   line L refused CODE              the line changed nothing
 
-The codes, each with the number that it carries; l4 plan, l4 check and l4_steps
-print them too:
+The codes, each with the number that it carries; l4 plan, l4 check, l4 decode
+and l4_steps print them too:
 
   M1         the tag counts more than 63 words after it
   M2         the tag counts an odd number of words for the items

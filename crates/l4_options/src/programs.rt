@@ -54,7 +54,10 @@ pub fn misread(rt: &impl Eprint, fault: &OptionFault) -> u8
         | OptionFault::Frames(_)
         | OptionFault::Pages(_)
         | OptionFault::Number(_)
-        | OptionFault::Rights(_) => NOT_UNDERSTOOD,
+        | OptionFault::Rights(_)
+        | OptionFault::Word(_)
+        | OptionFault::TooMany(_)
+        | OptionFault::Reading(_) => NOT_UNDERSTOOD,
     }
 }
 

@@ -1,6 +1,8 @@
 //! What the command lines of the programs ask for, and why one is not understood.
+use arrayvec::ArrayVec;
+use l4_decode::Reading;
 use l4_fpage::PageSize;
-use l4_msg::Region;
+use l4_msg::{MAX_WORDS, Region};
 use thiserror::Error;
 
 /// What the command line of `l4` asks for.
@@ -25,6 +27,12 @@ pub enum Options {
     /// To check the plan on standard input against this region of pages of this size.
     Check {
         region: Region,
+        size: PageSize,
+    },
+    /// To say what these words mean, 64 at most, by a reading and by pages of this size.
+    Decode {
+        words: ArrayVec<u32, MAX_WORDS>,
+        reading: Reading,
         size: PageSize,
     },
     /// To print this text: the usage, or the version.
@@ -61,4 +69,13 @@ pub enum OptionFault {
     /// What stands for rights is not r, w and x in turn, each of them or `-` or `_` in its place.
     #[error("error: invalid value '{0}': it is not r, w and x in turn, each of them or _ in its place")]
     Rights(String),
+    /// What stands for a word is no number of a script.
+    #[error("error: invalid value '{0}' for '<WORD>...': it is no number up to 4294967295, decimal or hexadecimal after 0x")]
+    Word(String),
+    /// One word more than a message can have.
+    #[error("error: unexpected value '{0}' for '<WORD>...': a message has at most 64 words")]
+    TooMany(String),
+    /// What stands for a reading is none.
+    #[error("error: invalid value '{0}' for '--as <READING>': it is none of message, fpage, window and id")]
+    Reading(String),
 }

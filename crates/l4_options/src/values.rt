@@ -1,13 +1,16 @@
-//! Values on a command line: numbers, rights, regions, and the options `--frames` and `--page-size`.
+//! Values on a command line: numbers, rights, regions, words, and the options `--frames`, `--page-size` and `--as`.
 ghost use Rattle.std.specs.Prelude.{IfOk, IfSome};
 ghost use Rattle.l4_options.specs.Ranges.{IsFrameCount};
 
 use crate::requests::OptionFault;
+use arrayvec::ArrayVec;
 use clap::error::ErrorKind;
 use clap::{Arg, ArgAction, ArgMatches, Error};
+use l4_decode::Reading;
 use l4_fpage::{PageSize, Rights};
 use l4_ipc::MAX_FRAMES;
-use l4_msg::Region;
+use l4_msg::{MAX_WORDS, Region};
+use l4_text::number;
 use std::alloc::Global;
 
 /// The frames of a machine where none are asked for.
@@ -37,6 +40,25 @@ pub(crate) fn answers_option<'a>(alloc: Global) -> Arg<'a> {
         .long("answers")
         .help("Each step's answer below it, behind #")
         .action(ArgAction::SetTrue)
+}
+
+/// The words of `decode`.
+pub(crate) fn words_argument<'a>(alloc: Global) -> Arg<'a> {
+    Arg::new(alloc, "words")
+        .value_name("WORD")
+        .help("Words, decimal or hexadecimal after 0x, 64 at most")
+        .required(true)
+        .num_args(1..)
+        .action(ArgAction::Append)
+}
+
+/// The option `--as`.
+pub(crate) fn reading_option<'a>(alloc: Global) -> Arg<'a> {
+    Arg::new(alloc, "as")
+        .long("as")
+        .value_name("READING")
+        .help("How the words are read: message, fpage, window or id")
+        .action(ArgAction::Set)
 }
 
 /// A number in decimal digits, up to 4,294,967,295.
@@ -170,5 +192,53 @@ pub(crate) fn size_of(alloc: Global, matches: &ArgMatches<'_>) -> Result<PageSiz
     match String::from_str(alloc, word) {
         Ok(text) => Err(OptionFault::Pages(text)),
         Err(_) => Err(OptionFault::Memory),
+    }
+}
+
+/// The words that the matches name.
+pub(crate) fn words_of(
+    alloc: Global,
+    matches: &ArgMatches<'_>,
+) -> Result<ArrayVec<u32, MAX_WORDS>, OptionFault> {
+    let mut words = ArrayVec::new();
+    for text in matches.get_strs("words").unwrap_or(&[]) {
+        let Some(word) = number(text.as_bytes()) else {
+            return match String::from_str(alloc, text) {
+                Ok(text) => Err(OptionFault::Word(text)),
+                Err(_) => Err(OptionFault::Memory),
+            };
+        };
+        if words.try_push(word).is_err() {
+            return match String::from_str(alloc, text) {
+                Ok(text) => Err(OptionFault::TooMany(text)),
+                Err(_) => Err(OptionFault::Memory),
+            };
+        }
+    }
+    Ok(words)
+}
+
+/// The reading that the matches name; where the option is left out a word alone is read in each way, and several are a message.
+pub(crate) fn reading_of(
+    alloc: Global,
+    matches: &ArgMatches<'_>,
+    words: usize,
+) -> Result<Reading, OptionFault> {
+    let Some(name) = matches.get_str("as") else {
+        return Ok(if words == 1 {
+            Reading::Each
+        } else {
+            Reading::Message
+        });
+    };
+    match name {
+        "message" => Ok(Reading::Message),
+        "fpage" => Ok(Reading::Fpage),
+        "window" => Ok(Reading::Window),
+        "id" => Ok(Reading::Id),
+        _ => match String::from_str(alloc, name) {
+            Ok(text) => Err(OptionFault::Reading(text)),
+            Err(_) => Err(OptionFault::Memory),
+        },
     }
 }
