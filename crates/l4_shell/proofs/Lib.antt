@@ -4,7 +4,7 @@ pub mod Listing
 pub mod Scripting
 pub mod Delegating
 pub mod Served
-pub mod Seating
+pub mod Booted
 pub mod InTurn
 pub mod StraightLines
 pub mod SizesKept

@@ -17,7 +17,7 @@ use Rattle.l4_shell.specs.Lines.{ScriptLine, in_front, lines_of}
 use Rattle.l4_shell.specs.Requests.{asked_at, asked_of}
 use Rattle.l4_text.specs.Streams.{WentOut, HasTold, Tells}
 use Rattle.l4_shell.specs.Sessions.{Session, session, first_session, AnswersLine, AnswersLines}
-use Rattle.l4_shell.specs.Seated.{Seated}
+use Rattle.l4_seated.specs.Seated.{Seated}
 use Rattle.l4_shell.specs.Scripts.{Runs}
 use Rattle.l4_shell.specs.Histories.{Records}
 use Rattle.l4_shell.specs.Inside.Scripts.{HasFirstSeats, TellsBeginning, TellsAll, TellsWhole, TellsScript}

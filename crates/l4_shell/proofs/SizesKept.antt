@@ -25,7 +25,7 @@ use Rattle.l4_shell.specs.declared.requests.Request.{Request}
 use Rattle.l4_shell.specs.declared.requests.Request.TheVariants.{Enter, CreateThread, EndThread, SendPlan, ListPages, TellParent, AddRegion, ServeThread, TellSteps}
 use Rattle.l4_shell.specs.Lines.{ScriptLine}
 use Rattle.l4_shell.specs.Requests.{request_of, asked_of, root, delete_call}
-use Rattle.l4_shell.specs.Seated.{with_number}
+use Rattle.l4_seated.specs.Seated.{with_number}
 use Rattle.l4_shell.specs.Sessions.{Session, first_session, call_entries, gone_on, Act, act_entries, IsAct, AreActs, StopsActing, Follows, Enters, RegionAdded, RegionRefused, CarriesOut, AnswersLine, AnswersLines}
 use Rattle.l4_shell.specs.Sizes.{GoBy, HasSize}
 

@@ -5,7 +5,6 @@ pub mod Lines
 pub mod Refusals
 pub mod Requests
 pub mod Scripts
-pub mod Seated
 pub mod Sessions
 pub mod Sizes
 pub mod Texts

@@ -16,10 +16,10 @@ use crate::commands::{
 use crate::partners::Partner;
 use crate::refusals::script_code;
 use crate::requests::{CallPlaces, make_fault, make_ipc, make_receive, set_parts};
-use crate::seated::SeatedKernel;
 use crate::session::{Session, refuse};
 use l4_ipc::Call;
 use l4_record::History;
+use l4_seated::SeatedKernel;
 use l4_servers::Servers;
 use l4_text::{Ending, next_token};
 use std::io::Write;

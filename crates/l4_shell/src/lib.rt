@@ -11,7 +11,6 @@ mod refusals;
 mod regions;
 mod requests;
 mod running;
-mod seated;
 mod serving;
 mod session;
 mod texts;

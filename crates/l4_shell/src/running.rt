@@ -7,8 +7,8 @@ ghost use Rattle.l4_shell.specs.Sessions.{session};
 
 use crate::answering::Script;
 use crate::requests::ROOT;
-use crate::seated::SeatedKernel;
 use l4_ipc::PageSize;
+use l4_seated::SeatedKernel;
 use l4_servers::Servers;
 use l4_text::{Ending, LineReader, RunFault};
 use std::alloc::Global;

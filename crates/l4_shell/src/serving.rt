@@ -5,7 +5,7 @@ ghost use Rattle.l4_ipc.specs.OwnCall.{ended_if};
 ghost use Rattle.l4_ipc.specs.NextSteps.{answer_of};
 ghost use Rattle.l4_text.specs.Streams.{Tells};
 ghost use Rattle.l4_shell.specs.Sessions.{session, ended_text, waiting_text, GoesOn};
-ghost use Rattle.l4_shell.specs.Seated.{is_among};
+ghost use Rattle.l4_seated.specs.Seated.{is_among};
 ghost use Rattle.l4_shell.specs.Texts.{refused_act_text};
 ghost use Rattle.l4_shell.specs.Refusals.{call_refusal};
 ghost use Rattle.l4_servers.specs.Acting.{IsFirstReady};

@@ -1,5 +1,5 @@
 use Rattle.std.proofs.Common.{sym}
-use Rattle.l4_shell.proofs.Seating.{ok_part}
+use Rattle.l4_shell.proofs.Booted.{ok_part}
 use Rattle.l4_shell.proofs.Going.{first_seats}
 use Rattle.l4_shell.proofs.running.booted.Goals as goal
 

@@ -1,13 +1,11 @@
 -- A call that the recorder entered, as a kernel with its seats tells it.
-use Rattle.std.proofs.Common.{◌≡◌, ℕ, true, false, List, Result, Ok, Err, IfOk, MatchResult, refl, sym, subst}
-use Rattle.std.specs.Result.{is_err}
-use Rattle.std.proofs.lemmas.Bool.{false≢true}
+use Rattle.std.proofs.Common.{◌≡◌, ℕ, true, List, Result, Ok, Err, IfOk, refl, subst}
 use Rattle.l4_ipc.specs.declared.calls.Call.{Call}
 use Rattle.l4_record.specs.declared.appended.Appended.{Appended}
 use Rattle.l4_record.specs.declared.refusals.RecordRefusal.{RecordRefusal}
 use Rattle.l4_record.specs.Recording.{Recording, Enters as Recorded}
-use Rattle.l4_shell.specs.Seated.{Seated, seated, is_among}
-use Rattle.l4_shell.specs.Inside.Entering.{Enters}
+use Rattle.l4_seated.specs.Seated.{Seated, seated, is_among}
+use Rattle.l4_seated.specs.Entering.{Enters}
 
 pub ok_enters : {T : Type 0} (r : Result T RecordRefusal) (s : Seated) (old new : Recording) (numbers : List ℕ) (seen n : ℕ) (call : Call) (appended : Appended) → is_among n numbers ≡ true
     → seated old.kernel old.history numbers seen ≡ s → IfOk r (λ _. Recorded old new n call appended) → IfOk r (λ _. Enters s (seated new.kernel new.history numbers seen) n call appended)
@@ -24,7 +22,3 @@ ok_enters (Ok x) s old new numbers seen n call appended has is e =
       same = (refl, refl);
     })
 ok_enters (Err x) s old new numbers seen n call appended has is e = e
-
-pub ok_part : {T E : Type 0} (r : Result T E) (P Q : Type 0) → MatchResult r (λ _. P) (λ _. Q) → is_err r ≡ false → P
-ok_part (Ok x) P Q h e = h
-ok_part (Err x) P Q h e = absurd (false≢true (sym e))

@@ -1,8 +1,8 @@
 //! The kernel of a script: one that is recorded, and the numbers whose threads may enter calls.
 ghost use Rattle.std.specs.Prelude.{◌≡◌, ◌≤◌, ◌↔◌, false, IsTrue, IfOk, IfErr, MatchResult, length};
 ghost use Rattle.l4_record.specs.Recording.{RefusesBoot};
-ghost use Rattle.l4_shell.specs.Seated.{is_among, IsNew, with_number, MayEnter, Refuses};
-ghost use Rattle.l4_shell.specs.Inside.Entering.{Enters};
+ghost use Rattle.l4_seated.specs.Seated.{is_among, IsNew, with_number, MayEnter, Refuses};
+ghost use Rattle.l4_seated.specs.Entering.{Enters};
 
 use l4_ipc::{Call, Kernel, NoMemory, PageSize, Refused};
 use l4_record::{Appended, Board, History, RecordRefusal, Recorder, Watch};
@@ -11,7 +11,7 @@ use std::marker::Model;
 
 /// A recorded kernel, the numbers that have their seats, and a watch of its board. Who has no seat enters no call.
 #[derive(Drop)]
-pub(crate) struct SeatedKernel {
+pub struct SeatedKernel {
     recorder: Recorder,
     numbers: Vec<u32>,
     board: Board,
@@ -22,7 +22,7 @@ impl Model for SeatedKernel {
     ghost use Rattle.std.specs.Prelude.{◌≡◌};
     ghost use Rattle.l4_threads.specs.contracts.Thread as thread;
     ghost use Rattle.l4_record.specs.contracts.entries.Entry as entry;
-    ghost use Rattle.l4_shell.specs.Seated.{Seated, seated, seated_code};
+    ghost use Rattle.l4_seated.specs.Seated.{Seated, seated, seated_code};
 
     ghost Value = { Seated };
 

@@ -1,0 +1,21 @@
+-- A call that was entered, with what was appended to the history. (this profile's own)
+use Rattle.std.specs.Prelude.{◌≡◌, ℕ, ◌∷◌, ◌++◌, length, map, Ok}
+use Rattle.l4_ipc.specs.declared.calls.Call.{Call}
+use Rattle.l4_ipc.specs.declared.steps.Step.TheVariants.{Start}
+use Rattle.l4_ipc.specs.Machine.{Machine}
+use Rattle.l4_ipc.specs.Steps.{Steps, IsIdle}
+use Rattle.l4_record.specs.declared.appended.Appended.{Appended}
+use Rattle.l4_record.specs.Following.{Lasts, ComeNext, start_entry, next_entry}
+use Rattle.l4_seated.specs.Seated.{Seated, CanEnter}
+
+-- The call was entered: the history goes on by its start and by the steps that come next, until there is none. The replies of all calls that
+-- ended in them can still be read.
+pub record Enters (old new : Seated) (n : ℕ) (call : Call) (appended : Appended) : Type 0 where
+  pub can : CanEnter (length old.history) old.numbers n
+  pub started : Machine
+  pub starts : Steps old.machine (Start n call) (Ok appended.start) started
+  pub lasts : Lasts new.machine started appended.start
+  pub next : ComeNext started appended.next.items new.machine
+  pub idle : IsIdle new.machine
+  pub history : new.history ≡ old.history ++ start_entry n call appended.start ∷ map (next_entry n) appended.next.items
+  pub same : (new.numbers ≡ old.numbers) × (new.seen ≡ old.seen)
