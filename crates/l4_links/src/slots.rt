@@ -1,7 +1,7 @@
 //! The slots, and beside them what walks note of their keys. A slot is read with what is noted of its key.
 
-ghost use Rattle.std.specs.Prelude.{◌≡◌, ◌≢◌, ◌<◌, ◌≤◌, ℕ, [], None, Some, length, slice_index_or, vec_capacity, OnOk};
-ghost use Rattle.l4_links.specs.Inside.Keys.{IsKey};
+ghost use Rattle.std.specs.Prelude.{◌≡◌, ◌≢◌, ◌<◌, ◌≤◌, ℕ, [], None, Some, length, slice_index_or, vec_capacity, OnOk, OnErr};
+ghost use Rattle.l4_links.specs.Inside.Keys.{IsKey, no_key};
 ghost use Rattle.l4_links.specs.Inside.Nodes.{slot_at};
 ghost use Rattle.l4_links.specs.Inside.Packed.{no_note, slot_shown};
 ghost use Rattle.l4_links.specs.Inside.Joined.{HasRoom};
@@ -26,7 +26,6 @@ pub(crate) struct Note {
 /// The slots under their keys.
 #[derive(Drop)]
 pub(crate) struct Slots {
-    /// What each slot holds, without what is noted of its key.
     pub packed: Slab<Packed>,
     /// What is noted of each key. The room for all keys is taken with the slots, so that no walk needs memory, but nothing beyond
     /// the last key that a walk has noted something of is written.
