@@ -4,7 +4,7 @@
  *
  * WHAT EACH CALL OWES AND IS OWED
  *
- * A handle (l4_kernel, l4_sigma0, l4_pager) is one pointer into what C can't look into. Begin it as L4_EMPTY. From then on it is the
+ * A handle (l4_kernel, l4_lock, l4_sigma0, l4_pager) is one pointer into what C can't look into. Begin it as L4_EMPTY. From then on it is the
  * library's: never write into it, and never use a copy of it once the first has been used again. It may be moved in memory between
  * calls. A handle that is empty, before its making and after its freeing, is refused by B1, and freeing it does nothing.
  *
@@ -120,6 +120,12 @@ extern "C" {
 #define L4_P2 UINT32_C(0x5032) /* no region of the table has the page with this access */
 #define L4_P3 UINT32_C(0x5033) /* the table has 64 regions */
 #define L4_P4 UINT32_C(0x5034) /* the region has no page, a page or source page beyond the space, or no right */
+#define L4_L1 UINT32_C(0x4C31) /* the history is full: with more than 999,871 steps no call is started */
+#define L4_L3 UINT32_C(0x4C33) /* an ended call of this seat has not been taken */
+#define L4_L4 UINT32_C(0x4C34) /* the seat of this number was given before */
+#define L4_X1 UINT32_C(0x5831) /* the seat of this number (detail) was given and is not here */
+#define L4_X2 UINT32_C(0x5832) /* the seat of this number (detail) was not given, or is here twice */
+#define L4_X3 UINT32_C(0x5833) /* the seat of this number (detail) does not agree with what was kept of it */
 #define L4_NO_MEMORY UINT32_C(0x4E6F) /* there was no memory for it */
 
 /* The printed code of a refusal ("K1", "NoMemory"), and a line of text that says what it means. Of its bytes the first `room` - 1 at
@@ -437,6 +443,112 @@ l4_verdict l4_check_too_long(const l4_region *region, const uint32_t *pages, siz
 
 /* The same with pages of so many bytes. B4 comes before all other refusals. */
 l4_verdict l4_check_too_long_sized(const l4_region *region, const uint32_t *pages, size_t page_count, uint32_t page_bytes);
+
+/* LOCKED KERNELS */
+
+/* A kernel that keeps the history of its steps, and seats: the seat of a number is what calls of that thread are entered by, and keeps a
+ * receipt of each that has ended. It is what threads of a program share, behind a lock of the program's own, and has none itself: one
+ * call at a time, as for every handle. A call that is left waiting ends while others are entered; a caller waits for that as the program
+ * likes (on a condition of its lock), and takes the reply. */
+typedef struct l4_lock {
+    void *hidden;
+} l4_lock;
+
+/* Makes a kernel as it boots, as l4_boot does, with an empty history and no seat given. The handle is empty, and holds it from then on;
+ * after a refusal it is as before. Refusals in this order: B2, K6, NoMemory. */
+uint32_t l4_lock_new(l4_lock *lock, uint32_t frames);
+
+/* The same with pages and frames of so many bytes. Refusals in this order: B4, B2, K6, NoMemory. */
+uint32_t l4_lock_new_sized(l4_lock *lock, uint32_t frames, uint32_t page_bytes);
+
+/* Frees it with its history and all receipts, whatever goes on in it. The handle is empty then. */
+void l4_lock_free(l4_lock *lock);
+
+/* The seat of a number is given, once, also before there is a thread of the number. After a refusal nothing has changed. Refusals in this
+ * order: B1, L4, NoMemory. */
+uint32_t l4_lock_give(l4_lock *lock, uint32_t seat);
+
+/* A call that was entered: the reply with which it has ended, or L4_NONE as the reply's kind where it was left waiting. */
+typedef struct l4_seated {
+    uint32_t refusal;
+    uint32_t detail;
+    l4_reply reply;
+} l4_seated;
+
+/* Enters a call of the seat's thread as l4_enter does: its start and the steps that come next, until there is none, are entries of the
+ * history from then on. After a refusal nothing has changed. Refusals in this order: B1, B3, L3, L1, NoMemory, K2 where the seat was not
+ * given, and then those of l4_start from K2 on. */
+l4_seated l4_lock_enter(l4_lock *lock, uint32_t seat, const l4_call *call, const uint32_t *words, size_t count);
+
+/* The reply of a call of the seat that was left waiting and has ended since, once; L4_NONE where there is none. It takes no memory.
+ * Refusals: B1. */
+l4_reply l4_lock_take(l4_lock *lock, uint32_t seat);
+
+/* A count. */
+typedef struct l4_count {
+    uint32_t refusal;
+    uint64_t count;
+} l4_count;
+
+/* How many entries the history has: at most 1,000,000. Refusals: B1. */
+l4_count l4_lock_length(l4_lock *lock);
+
+/* A further kind of steps: a call was entered. */
+#define L4_START UINT32_C(3)
+
+/* An entry of the history: the seat whose call this step starts or follows, the step (L4_START of thread, L4_TRANSFER from thread to
+ * receiver, L4_EXPIRE of thread; L4_NONE beyond the end), what it did, and the threads whose calls ended in it. Of a start, the call with
+ * its words, as it would be entered again; else both are 0. */
+typedef struct l4_entry {
+    uint32_t refusal;
+    uint32_t seat;
+    uint32_t kind;
+    uint32_t thread;
+    uint32_t receiver;
+    uint32_t outcome;
+    uint32_t ended_count;
+    uint32_t word_count;
+    uint32_t ended[L4_MAX_THREADS];
+    uint32_t words[L4_MAX_WORDS];
+    l4_call call;
+} l4_entry;
+
+/* The entry at a place, from 0. Refusals: B1. */
+l4_entry l4_lock_entry(l4_lock *lock, size_t place);
+
+/* How many calls a seat has started, each of which the history has once, and how many receipts it has; there is 0 where it was not
+ * given. */
+typedef struct l4_seat {
+    uint32_t refusal;
+    uint32_t there;
+    uint64_t starts;
+    uint64_t receipts;
+} l4_seat;
+
+/* What a seat has done. Refusals: B1. */
+l4_seat l4_lock_seat_of(l4_lock *lock, uint32_t seat);
+
+/* A receipt of a seat, of a call that has ended: the places of the entries that started and ended it, the call with its words, and its
+ * reply; there is 0 where there is none. */
+typedef struct l4_receipt {
+    uint32_t refusal;
+    uint32_t there;
+    uint64_t start;
+    uint64_t end;
+    uint32_t word_count;
+    uint32_t words[L4_MAX_WORDS];
+    l4_call call;
+    l4_reply reply;
+} l4_receipt;
+
+/* The receipt of a seat at a place, from 0, in the order in which it got them. Refusals: B1. */
+l4_receipt l4_lock_receipt(l4_lock *lock, uint32_t seat, size_t place);
+
+/* The seats of these numbers come back. Where just those come back that were given, each once, it is freed with its history, and the handle
+ * is empty: then the history has as many starts of each seat's thread as the seat counted, and each receipt was right about it. Else
+ * nothing has changed. Refusals in this order: B1; X1 with the least number whose seat is missing, X2 with the least that was not given
+ * or comes back twice. X3 never comes, as no seat is ever in other hands. */
+l4_verdict l4_lock_close(l4_lock *lock, const uint32_t *seats, size_t count);
 
 #ifdef __cplusplus
 }

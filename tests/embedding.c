@@ -328,6 +328,73 @@ static void plans(void) {
     EXPECT(l4_check_too_long(&several, pages, L4_TOO_MANY).refusal == L4_C3);
 }
 
+/* A locked kernel: calls of three seats, of which one waits for another, the history that they leave, and the seats that come back. */
+static l4_seated by_seat(l4_lock *lock, uint32_t seat, l4_call call, const uint32_t *words, size_t count) {
+    return l4_lock_enter(lock, seat, &call, words, count);
+}
+
+static void empty_locks(void) {
+    l4_lock lock = L4_EMPTY;
+    l4_lock_free(&lock);
+    EXPECT(l4_lock_give(&lock, 1) == L4_B1 && l4_lock_length(&lock).refusal == L4_B1);
+    EXPECT(by_seat(&lock, 1, kind(7), no_words, 0).refusal == L4_B1 && l4_lock_take(&lock, 1).refusal == L4_B1);
+    EXPECT(l4_lock_entry(&lock, 0).refusal == L4_B1 && l4_lock_seat_of(&lock, 1).refusal == L4_B1);
+    EXPECT(l4_lock_receipt(&lock, 1, 0).refusal == L4_B1 && l4_lock_close(&lock, no_words, 0).refusal == L4_B1);
+    EXPECT(l4_lock_new(&lock, 0) == L4_K6 && l4_lock_new_sized(&lock, 0, 512) == L4_B4);
+    EXPECT(l4_lock_new_sized(&lock, 16, L4_SMALL_PAGE_BYTES) == L4_OK && l4_lock_new(&lock, 1) == L4_B2);
+    EXPECT(l4_lock_close(&lock, no_words, 0).refusal == L4_OK && l4_lock_length(&lock).refusal == L4_B1);
+}
+
+static void locks_wait(l4_lock *lock) {
+    static const uint32_t nothing[3] = {0x80, 8, 0};
+    l4_call fault = kind(L4_FAULT), answer = send(3);
+    l4_seated entered;
+    fault.address = 0x20123;
+    fault.access = L4_READ;
+    EXPECT(l4_lock_give(lock, 2) == L4_OK && l4_lock_give(lock, 3) == L4_OK && l4_lock_give(lock, 1) == L4_OK && l4_lock_give(lock, 3) == L4_L4);
+    EXPECT(by_seat(lock, 3, fault, no_words, 0).refusal == L4_K2 && by_seat(lock, 9, fault, no_words, 0).refusal == L4_K2);
+    EXPECT(by_seat(lock, 2, kind(0), no_words, 0).refusal == L4_B3);
+    EXPECT(by_seat(lock, 2, create(3, 2), no_words, 0).reply.kind == L4_REPLY_CONTROLLED);
+    entered = by_seat(lock, 3, fault, no_words, 0);
+    EXPECT(entered.refusal == L4_OK && entered.reply.kind == L4_NONE && l4_lock_take(lock, 3).kind == L4_NONE);
+    EXPECT(by_seat(lock, 3, fault, no_words, 0).refusal == L4_K3);
+    EXPECT(l4_lock_seat_of(lock, 3).starts == 1 && l4_lock_seat_of(lock, 3).receipts == 0);
+    entered = by_seat(lock, 2, receive(0), no_words, 0);
+    EXPECT(entered.reply.kind == L4_REPLY_IPC && entered.reply.from == id(3) && entered.reply.words[0] == 0x20123);
+    EXPECT(by_seat(lock, 2, answer, nothing, 3).reply.kind == L4_REPLY_IPC);
+    EXPECT(by_seat(lock, 3, fault, no_words, 0).refusal == L4_L3);
+    EXPECT(l4_lock_take(lock, 3).kind == L4_REPLY_ANSWERED && l4_lock_take(lock, 3).kind == L4_NONE);
+}
+
+static void locks(void) {
+    static const uint32_t seats[4] = {3, 1, 2, 3};
+    l4_lock lock = L4_EMPTY;
+    l4_entry entry;
+    l4_receipt receipt;
+    EXPECT(l4_lock_new(&lock, 256) == L4_OK);
+    locks_wait(&lock);
+    EXPECT(l4_lock_length(&lock).refusal == L4_OK && l4_lock_length(&lock).count == 6);
+    entry = l4_lock_entry(&lock, 0);
+    EXPECT(entry.seat == 2 && entry.kind == L4_START && entry.thread == 2 && entry.outcome == L4_STARTED && entry.ended_count == 1 && entry.ended[0] == 2);
+    EXPECT(entry.call.kind == L4_CREATE && entry.call.id == id(3) && entry.call.pager == id(2) && entry.word_count == 0);
+    entry = l4_lock_entry(&lock, 3);
+    EXPECT(entry.seat == 2 && entry.kind == L4_TRANSFER && entry.thread == 3 && entry.receiver == 2 && entry.outcome == L4_DELIVERED && entry.ended_count == 1);
+    entry = l4_lock_entry(&lock, 4);
+    EXPECT(entry.kind == L4_START && entry.call.kind == L4_IPC && entry.call.to == id(3) && entry.word_count == 3 && entry.words[0] == 0x80);
+    EXPECT(l4_lock_entry(&lock, 6).refusal == L4_OK && l4_lock_entry(&lock, 6).kind == L4_NONE);
+    receipt = l4_lock_receipt(&lock, 3, 0);
+    EXPECT(receipt.there == 1 && receipt.start == 1 && receipt.end == 5 && receipt.call.kind == L4_FAULT && receipt.call.address == 0x20123);
+    EXPECT(receipt.reply.kind == L4_REPLY_ANSWERED && receipt.word_count == 0);
+    EXPECT(l4_lock_receipt(&lock, 3, 1).there == 0 && l4_lock_receipt(&lock, 9, 0).there == 0);
+    EXPECT(l4_lock_seat_of(&lock, 2).there == 1 && l4_lock_seat_of(&lock, 2).starts == 3 && l4_lock_seat_of(&lock, 9).there == 0);
+    EXPECT(l4_lock_close(&lock, seats, 1).refusal == L4_X1 && l4_lock_close(&lock, seats, 1).detail == 1);
+    EXPECT(l4_lock_close(&lock, seats, 4).refusal == L4_X2 && l4_lock_close(&lock, seats, 4).detail == 3);
+    EXPECT(l4_lock_close(&lock, seats, 3).refusal == L4_OK && l4_lock_length(&lock).refusal == L4_B1);
+    EXPECT(l4_lock_new(&lock, 1) == L4_OK);
+    l4_lock_free(&lock);
+    EXPECT(l4_lock_take(&lock, 1).refusal == L4_B1);
+}
+
 /* Kernels by pages of 1,024 bytes, and of other numbers of bytes. */
 static void small_kernels(void) {
     static const uint32_t words[3] = {0x80, 0x20008, 0x100c7};
@@ -420,7 +487,7 @@ static void texts(int shows) {
             }
         }
     }
-    EXPECT(found == 41);
+    EXPECT(found == 47);
     EXPECT(l4_refusal_code(L4_OK, code, sizeof code) == 0 && code[0] == 0);
     EXPECT(l4_refusal_code(0x10000 | L4_K1, code, sizeof code) == 0);
     EXPECT(l4_refusal_code(L4_K1, cut, 2) == 2 && cut[0] == 'K' && cut[1] == 0 && cut[2] == 'x');
@@ -445,6 +512,8 @@ int main(int count, char **words) {
     small_kernels();
     small_tables();
     small_plans();
+    empty_locks();
+    locks();
     texts(shows);
     return failures == 0 ? 0 : 1;
 }

@@ -76,6 +76,12 @@ L4_P1 = 0x5031
 L4_P2 = 0x5032
 L4_P3 = 0x5033
 L4_P4 = 0x5034
+L4_L1 = 0x4C31
+L4_L3 = 0x4C33
+L4_L4 = 0x4C34
+L4_X1 = 0x5831
+L4_X2 = 0x5832
+L4_X3 = 0x5833
 L4_NO_MEMORY = 0x4E6F
 
 L4_IPC = 1
@@ -103,6 +109,8 @@ L4_REPLY_FAILED = 4
 L4_REPLY_UNMAPPED = 5
 L4_REPLY_CONTROLLED = 6
 L4_REPLY_GONE = 7
+
+L4_START = 3
 
 # the room for a text of a refusal, which is longer than each of them
 TEXT_ROOM = 160
@@ -184,6 +192,39 @@ class l4_verdict(Structure):
     _fields_ = numbers("refusal detail")
 
 
+class l4_lock(Structure):
+    _fields_ = [("hidden", c_void_p)]
+
+
+class l4_seated(Structure):
+    _fields_ = numbers("refusal detail") + [("reply", l4_reply)]
+
+
+class l4_count(Structure):
+    _fields_ = numbers("refusal") + [("count", c_uint64)]
+
+
+class l4_entry(Structure):
+    _fields_ = numbers("refusal seat kind thread receiver outcome ended_count word_count") + [
+        ("ended", c_uint32 * L4_MAX_THREADS),
+        ("words", c_uint32 * L4_MAX_WORDS),
+        ("call", l4_call),
+    ]
+
+
+class l4_seat(Structure):
+    _fields_ = numbers("refusal there") + [("starts", c_uint64), ("receipts", c_uint64)]
+
+
+class l4_receipt(Structure):
+    _fields_ = (
+        numbers("refusal there")
+        + [("start", c_uint64), ("end", c_uint64)]
+        + numbers("word_count")
+        + [("words", c_uint32 * L4_MAX_WORDS), ("call", l4_call), ("reply", l4_reply)]
+    )
+
+
 STRUCTS = [
     l4_kernel,
     l4_call,
@@ -202,6 +243,12 @@ STRUCTS = [
     l4_plan,
     l4_part,
     l4_verdict,
+    l4_lock,
+    l4_seated,
+    l4_count,
+    l4_entry,
+    l4_seat,
+    l4_receipt,
 ]
 
 KERNEL = POINTER(l4_kernel)
@@ -209,6 +256,7 @@ WORDS = POINTER(c_uint32)
 PAGER = POINTER(l4_pager)
 SIGMA0 = POINTER(l4_sigma0)
 REGION = POINTER(l4_region)
+LOCK = POINTER(l4_lock)
 
 # each function's result and parameters
 FUNCTIONS: Dict[str, Tuple[Any, List[Any]]] = {
@@ -248,6 +296,17 @@ FUNCTIONS: Dict[str, Tuple[Any, List[Any]]] = {
     "l4_check_plan_sized": (l4_verdict, [REGION, WORDS, c_size_t, WORDS, c_size_t, c_uint32]),
     "l4_check_too_long": (l4_verdict, [REGION, WORDS, c_size_t]),
     "l4_check_too_long_sized": (l4_verdict, [REGION, WORDS, c_size_t, c_uint32]),
+    "l4_lock_new": (c_uint32, [LOCK, c_uint32]),
+    "l4_lock_new_sized": (c_uint32, [LOCK, c_uint32, c_uint32]),
+    "l4_lock_free": (None, [LOCK]),
+    "l4_lock_give": (c_uint32, [LOCK, c_uint32]),
+    "l4_lock_enter": (l4_seated, [LOCK, c_uint32, POINTER(l4_call), WORDS, c_size_t]),
+    "l4_lock_take": (l4_reply, [LOCK, c_uint32]),
+    "l4_lock_length": (l4_count, [LOCK]),
+    "l4_lock_entry": (l4_entry, [LOCK, c_size_t]),
+    "l4_lock_seat_of": (l4_seat, [LOCK, c_uint32]),
+    "l4_lock_receipt": (l4_receipt, [LOCK, c_uint32, c_size_t]),
+    "l4_lock_close": (l4_verdict, [LOCK, WORDS, c_size_t]),
 }
 
 

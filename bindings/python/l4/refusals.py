@@ -14,6 +14,9 @@ _DETAILED = {
     _library.L4_C2,
     _library.L4_C3,
     _library.L4_C4,
+    _library.L4_X1,
+    _library.L4_X2,
+    _library.L4_X3,
 }
 
 

@@ -124,6 +124,12 @@ constants! {
     L4_P2 = 0x5032;
     L4_P3 = 0x5033;
     L4_P4 = 0x5034;
+    L4_L1 = 0x4C31;
+    L4_L3 = 0x4C33;
+    L4_L4 = 0x4C34;
+    L4_X1 = 0x5831;
+    L4_X2 = 0x5832;
+    L4_X3 = 0x5833;
     L4_NO_MEMORY = 0x4E6F;
     L4_IPC = 1;
     L4_FAULT = 2;
@@ -147,6 +153,7 @@ constants! {
     L4_REPLY_UNMAPPED = 5;
     L4_REPLY_CONTROLLED = 6;
     L4_REPLY_GONE = 7;
+    L4_START = 3;
 }
 
 structs! {
@@ -271,6 +278,53 @@ structs! {
         refusal: u32,
         detail: u32,
     }
+
+    struct l4_lock {
+        hidden: *mut c_void,
+    }
+
+    struct l4_seated {
+        refusal: u32,
+        detail: u32,
+        reply: l4_reply,
+    }
+
+    struct l4_count {
+        refusal: u32,
+        count: u64,
+    }
+
+    struct l4_entry {
+        refusal: u32,
+        seat: u32,
+        kind: u32,
+        thread: u32,
+        receiver: u32,
+        outcome: u32,
+        ended_count: u32,
+        word_count: u32,
+        ended: [u32; L4_MAX_THREADS as usize],
+        words: [u32; L4_MAX_WORDS as usize],
+        call: l4_call,
+    }
+
+    struct l4_seat {
+        refusal: u32,
+        there: u32,
+        starts: u64,
+        receipts: u64,
+    }
+
+    struct l4_receipt {
+        refusal: u32,
+        there: u32,
+        start: u64,
+        end: u64,
+        word_count: u32,
+        words: [u32; L4_MAX_WORDS as usize],
+        call: l4_call,
+        reply: l4_reply,
+    }
 }
 
 functions! {
@@ -310,6 +364,17 @@ functions! {
     fn l4_check_plan_sized(region: *const l4_region, words: *const u32, count: usize, pages: *const u32, page_count: usize, page_bytes: u32) -> l4_verdict;
     fn l4_check_too_long(region: *const l4_region, pages: *const u32, page_count: usize) -> l4_verdict;
     fn l4_check_too_long_sized(region: *const l4_region, pages: *const u32, page_count: usize, page_bytes: u32) -> l4_verdict;
+    fn l4_lock_new(lock: *mut l4_lock, frames: u32) -> u32;
+    fn l4_lock_new_sized(lock: *mut l4_lock, frames: u32, page_bytes: u32) -> u32;
+    fn l4_lock_free(lock: *mut l4_lock) -> ();
+    fn l4_lock_give(lock: *mut l4_lock, seat: u32) -> u32;
+    fn l4_lock_enter(lock: *mut l4_lock, seat: u32, call: *const l4_call, words: *const u32, count: usize) -> l4_seated;
+    fn l4_lock_take(lock: *mut l4_lock, seat: u32) -> l4_reply;
+    fn l4_lock_length(lock: *mut l4_lock) -> l4_count;
+    fn l4_lock_entry(lock: *mut l4_lock, place: usize) -> l4_entry;
+    fn l4_lock_seat_of(lock: *mut l4_lock, seat: u32) -> l4_seat;
+    fn l4_lock_receipt(lock: *mut l4_lock, seat: u32, place: usize) -> l4_receipt;
+    fn l4_lock_close(lock: *mut l4_lock, seats: *const u32, count: usize) -> l4_verdict;
 }
 
 /// No step.

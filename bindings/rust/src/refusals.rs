@@ -104,6 +104,12 @@ refusals! {
     NotServed = L4_P2 "P2" "no region of the table has the page with this access";
     FullTable = L4_P3 "P3" "the table has 64 regions";
     BadRegion = L4_P4 "P4" "the region has no page, a page or source page beyond the space, or no right";
+    HistoryFull = L4_L1 "L1" "the history is full: with more than 999,871 steps no call is started";
+    ReplyWaiting = L4_L3 "L3" "an ended call of this seat has not been taken";
+    SeatTaken = L4_L4 "L4" "the seat of this number was given before";
+    SeatMissing(u32) = L4_X1 "X1" "the seat of this number was given and is not here";
+    SeatForeign(u32) = L4_X2 "X2" "the seat of this number was not given, or is here twice";
+    SeatWrong(u32) = L4_X3 "X3" "the seat of this number does not agree with what was kept of it";
     NoMemory = L4_NO_MEMORY "NoMemory" "there was no memory for it";
 }
 

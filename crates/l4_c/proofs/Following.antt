@@ -8,8 +8,8 @@ use Rattle.l4_ipc.specs.Machine.{Machine}
 use Rattle.l4_ipc.specs.Steps.{Steps, IsNext}
 use Rattle.l4_ipc.specs.Following.{Done, AreNext}
 use Rattle.l4_ipc.proofs.Work.{work, work_few, fewer}
-use Rattle.l4_c.specs.declared.results.NextResult.{NextResult}
-use Rattle.l4_c.specs.Told.{done_result}
+use Rattle.l4_c_values.specs.declared.results.NextResult.{NextResult}
+use Rattle.l4_c_values.specs.Told.{done_result}
 use Rattle.l4_c.specs.Exports.{noted}
 use Rattle.std.proofs.lemmas.Bool.{cases_lt}
 

@@ -12,9 +12,9 @@ use Rattle.l4_threads.specs.declared.ThreadFault.TheVariants.{NoPrivilege, BadId
 use Rattle.l4_answers.specs.Refusals.{kernel_refusal}
 use Rattle.l4_refusals.specs.Texts.{spelled}
 use Rattle.l4_c.specs.Exports.{Starts, Follows, Goes}
-use Rattle.l4_c.specs.declared.calls.CallGiven.{CallGiven}
-use Rattle.l4_c.specs.declared.results.NextResult.{NextResult}
-use Rattle.l4_c.specs.declared.results.StepResult.{StepResult}
+use Rattle.l4_c_values.specs.declared.calls.CallGiven.{CallGiven}
+use Rattle.l4_c_values.specs.declared.results.NextResult.{NextResult}
+use Rattle.l4_c_values.specs.declared.results.StepResult.{StepResult}
 
 -- a refusal of the kernel isn't told as 0
 told_refusal : (e : Refused) → spelled (kernel_refusal e).name ≡ 0 → ⊥

@@ -1,10 +1,8 @@
 -- The answers to questions, as they are told to C (this profile's own).
-use Rattle.std.specs.Prelude.{◌≡◌, ◌⊎◌, ℕ, [], codes, Option, None, Some, length}
+use Rattle.std.specs.Prelude.{◌≡◌, ◌⊎◌, ℕ, codes, Option, None, Some}
 use Rattle.l4_fpage.specs.Pages.{page_bytes}
 use Rattle.l4_fpage.specs.Rights.{bits_of}
 use Rattle.l4_threads.specs.Threads.{space_of}
-use Rattle.l4_threads.specs.declared.Reply.{Reply}
-use Rattle.l4_threads.specs.declared.Reply.TheVariants.{Ipc, Hit, Answered, FaultFailed, Unmapped, Controlled, Gone}
 use Rattle.l4_ipc.specs.Reading.{reply_of}
 use Rattle.l4_mapdb.specs.Mappings.{shown}
 use Rattle.l4_mapdb.specs.Places.{NonePresentFrom, IsNextPresent}
@@ -12,12 +10,13 @@ use Rattle.l4_mapdb.specs.declared.Mapping.{Mapping}
 use Rattle.l4_mapdb.specs.declared.Place.{Place}
 use Rattle.l4_ipc.specs.Machine.{Machine}
 use Rattle.l4_refusals.specs.Texts.{spelled}
-use Rattle.l4_c.specs.Told.{filled}
-use Rattle.l4_c.specs.declared.results.ReplyResult.{ReplyResult}
-use Rattle.l4_c.specs.declared.results.SizeResult.{SizeResult}
-use Rattle.l4_c.specs.declared.results.SpaceResult.{SpaceResult}
-use Rattle.l4_c.specs.declared.results.MappingResult.{MappingResult}
-use Rattle.l4_c.specs.declared.results.PageResult.{PageResult}
+use Rattle.l4_c_values.specs.Told.{no_page_result, page_result}
+use Rattle.l4_c_values.specs.Replied.{plain_result, reply_result}
+use Rattle.l4_c_values.specs.declared.results.ReplyResult.{ReplyResult}
+use Rattle.l4_c_values.specs.declared.results.SizeResult.{SizeResult}
+use Rattle.l4_c_values.specs.declared.results.SpaceResult.{SpaceResult}
+use Rattle.l4_c_values.specs.declared.results.MappingResult.{MappingResult}
+use Rattle.l4_c_values.specs.declared.results.PageResult.{PageResult}
 
 -- a space that was found; the code is why it couldn't be looked for
 abbrev pub space_result : ℕ → Option ℕ → SpaceResult
@@ -66,40 +65,11 @@ abbrev pub TellsMapping : Option Machine → ℕ → ℕ → MappingResult → T
 TellsMapping None space page r = r ≡ no_mapping_result (spelled (codes "B1"))
 TellsMapping (Some m) space page r = r ≡ mapping_result (shown m.mappings (record { space = space; page = page }))
 
--- no page, for this refusal
-abbrev pub no_page_result : ℕ → PageResult
-no_page_result code = record { refusal = code; there = 0; page = 0 }
-
-abbrev pub page_result : ℕ → PageResult
-page_result page = record { refusal = 0; there = 1; page = page }
-
 -- the least present page of a space that is not below this one
 abbrev pub TellsPage : Option Machine → ℕ → ℕ → PageResult → Type 0
 TellsPage None space page r = r ≡ no_page_result (spelled (codes "B1"))
 TellsPage (Some m) space page r =
     ((r ≡ no_page_result 0) × NonePresentFrom m.mappings space page) ⊎ ((found : ℕ) × (r ≡ page_result found) × IsNextPresent m.mappings space page found)
-
--- a reply of this kind, with this ErrorCode, and no message
-abbrev pub plain_result : ℕ → ℕ → ℕ → ReplyResult
-plain_result code kind error = record { refusal = code; kind = kind; tag = 0; error = error; «from» = 0; word_count = 0; words = filled 64 [] }
-
-abbrev pub reply_result : Option Reply → ReplyResult
-reply_result None = plain_result 0 0 0
-reply_result (Some (Ipc reply)) = record {
-  refusal = 0;
-  kind = 1;
-  tag = reply.tag;
-  error = reply.error;
-  «from» = reply.«from».0;
-  word_count = length reply.words.items;
-  words = filled 64 reply.words.items;
-}
-reply_result (Some Hit) = plain_result 0 2 0
-reply_result (Some Answered) = plain_result 0 3 0
-reply_result (Some (FaultFailed code)) = plain_result 0 4 code
-reply_result (Some Unmapped) = plain_result 0 5 0
-reply_result (Some Controlled) = plain_result 0 6 0
-reply_result (Some Gone) = plain_result 0 7 0
 
 -- how the last ended call of a thread that runs ended
 abbrev pub TellsReply : Option Machine → ℕ → ReplyResult → Type 0

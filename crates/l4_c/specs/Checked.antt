@@ -13,7 +13,7 @@ use Rattle.l4_plan_check.specs.declared.faults.Fault.{Fault as AFault}
 use Rattle.l4_plan_check.specs.declared.faults.Fault.TheVariants.{Region as InRegion, Item as InItem, Gap, Count, Page, Pair}
 use Rattle.l4_answers.specs.Refusals.{message_refusal}
 use Rattle.l4_refusals.specs.Texts.{spelled}
-use Rattle.l4_c.specs.Told.{carried}
+use Rattle.l4_c_values.specs.Told.{carried}
 use Rattle.l4_c.specs.declared.checking.Verdict.{Verdict}
 
 -- a place, where detail has that number, and else the greatest that it has

@@ -11,13 +11,13 @@ use Rattle.l4_ipc.specs.declared.steps.Refused.{Refused}
 use Rattle.l4_ipc.specs.declared.steps.Answer.{Answer}
 use Rattle.l4_ipc.specs.declared.steps.Step.{Step}
 use Rattle.l4_ipc.specs.Following.{Done, AreNext}
-use Rattle.l4_c.specs.Called.{IsCall, IsNoKind}
+use Rattle.l4_c_values.specs.Called.{IsCall, IsNoKind}
 use Rattle.l4_refusals.specs.Texts.{spelled}
-use Rattle.l4_c.specs.Told.{refusal_result, answer_result, step_result, no_step_result, next_result, done_result}
-use Rattle.l4_c.specs.declared.calls.CallGiven.{CallGiven}
-use Rattle.l4_c.specs.declared.results.EnterResult.{EnterResult}
-use Rattle.l4_c.specs.declared.results.NextResult.{NextResult}
-use Rattle.l4_c.specs.declared.results.StepResult.{StepResult}
+use Rattle.l4_c_values.specs.Told.{refusal_result, answer_result, step_result, no_step_result, next_result, done_result}
+use Rattle.l4_c_values.specs.declared.calls.CallGiven.{CallGiven}
+use Rattle.l4_c_values.specs.declared.results.EnterResult.{EnterResult}
+use Rattle.l4_c_values.specs.declared.results.NextResult.{NextResult}
+use Rattle.l4_c_values.specs.declared.results.StepResult.{StepResult}
 
 -- a kernel that is held does the step, and what it gave is told; an empty handle is refused (B1)
 abbrev pub Answers : Option Machine → Step → StepResult → Option Machine → Type 0

@@ -1,9 +1,8 @@
 pub mod Asked
-pub mod Called
 pub mod Checked
 pub mod Exports
 pub mod InBytes
+pub mod Locking
 pub mod Planned
 pub mod Served
-pub mod Told
 pub mod Written

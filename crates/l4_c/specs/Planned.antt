@@ -9,7 +9,7 @@ use Rattle.l4_msg.specs.declared.messages.Message.{Message}
 use Rattle.l4_plan.specs.Plan.{Listing, Sends}
 use Rattle.l4_plan.specs.Shortest.{IsShortest, IsTooLong}
 use Rattle.l4_refusals.specs.Texts.{spelled}
-use Rattle.l4_c.specs.Told.{filled}
+use Rattle.l4_c_values.specs.Told.{filled}
 use Rattle.l4_c.specs.declared.regions.RegionGiven.{RegionGiven}
 use Rattle.l4_c.specs.declared.planning.PartResult.{PartResult}
 use Rattle.l4_c.specs.declared.planning.PlanResult.{PlanResult}

@@ -14,10 +14,10 @@ use Rattle.l4_pager.specs.declared.regions.PagerRefusal.TheVariants.{NoRegion}
 use Rattle.l4_sigma0.specs.Owners.{Owners, Answers as AnswersByOwners}
 use Rattle.l4_answers.specs.Refusals.{message_refusal}
 use Rattle.l4_refusals.specs.Texts.{spelled}
-use Rattle.l4_c.specs.Told.{carried, filled}
-use Rattle.l4_c.specs.Asked.{no_page_result, page_result}
+use Rattle.l4_c_values.specs.Told.{carried, filled}
+use Rattle.l4_c_values.specs.Told.{no_page_result, page_result}
 use Rattle.l4_c.specs.declared.regions.RegionGiven.{RegionGiven}
-use Rattle.l4_c.specs.declared.results.PageResult.{PageResult}
+use Rattle.l4_c_values.specs.declared.results.PageResult.{PageResult}
 use Rattle.l4_c.specs.declared.messages.MessageResult.{MessageResult}
 
 abbrev pub entry_refusal : PagerRefusal → ℕ

@@ -5,9 +5,8 @@ ghost use Rattle.l4_mapdb.specs.Mappings.{shown};
 ghost use Rattle.l4_mapdb.specs.Places.{NonePresentFrom, IsNextPresent};
 ghost use Rattle.l4_c.specs.Asked.{TellsSpace, TellsSize, TellsMapping, TellsPage, space_result, no_mapping_result, mapping_result};
 
-use crate::numbers::EMPTY;
-use crate::results::{MappingResult, PageResult, SizeResult, SpaceResult, no_page, page_told};
 use crate::sizes::bytes_of;
+use l4_c_values::{EMPTY, MappingResult, PageResult, SizeResult, SpaceResult, no_page, page_told};
 use l4_handles::KernelHandle;
 use l4_ipc::Mapping;
 use std::alloc::Global;

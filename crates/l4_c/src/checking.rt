@@ -7,10 +7,10 @@ ghost use Rattle.l4_c.specs.InBytes.{InBytes};
 ghost use Rattle.l4_c.specs.Planned.{region_of};
 ghost use Rattle.l4_c.specs.Checked.{told_place, ItemsFail, max_plan_words, verdict_of, fault_verdict, TellsCheck, TellsLongCheck};
 
-use crate::numbers::{NO_SUCH_SIZE, message_detail, message_number};
 use crate::regions::{RegionGiven, region_of};
 use crate::sizes::size_of;
 use arrayvec::ArrayVec;
+use l4_c_values::{NO_SUCH_SIZE, message_detail, message_number};
 use l4_fpage::Fpage;
 use l4_ipc::PageSize;
 use l4_msg::{Item, ItemFault, MAX_PLAN_ITEMS, MsgFault};

@@ -1,13 +1,11 @@
 //! Calls that are entered: their start, and the steps that come next.
 ghost use Rattle.std.specs.Prelude.{◌≡◌, ◌≤◌, ◌<◌, length, slice_set};
 ghost use Rattle.l4_ipc.specs.NextSteps.{step_of, answer_of};
-ghost use Rattle.l4_c.specs.Told.{done_result};
+ghost use Rattle.l4_c_values.specs.Told.{done_result};
 ghost use Rattle.l4_c.specs.Exports.{Follows, Goes, Enters};
 
-use crate::calls::CallGiven;
-use crate::numbers::EMPTY;
-use crate::results::{EnterResult, NextResult, done_told, refused};
 use crate::stepping::start;
+use l4_c_values::{CallGiven, EMPTY, EnterResult, NextResult, done_told, refused};
 use l4_handles::KernelHandle;
 use l4_ipc::{Kernel, NextStep};
 use std::alloc::Global;

@@ -2,29 +2,30 @@
 #![tactic(auto)]
 
 mod asking;
-mod calls;
 mod checking;
 mod entering;
 mod giving;
+mod locking;
 mod messages;
-mod numbers;
 mod owning;
 mod paging;
 mod planning;
 mod regions;
 mod replies;
-mod results;
 mod sizes;
 mod stepping;
 mod texts;
 
 pub use asking::{l4_mapping_of, l4_next_page, l4_page_size_of, l4_space_of};
-pub use calls::CallGiven;
 pub use checking::{
     Verdict, l4_check_plan, l4_check_plan_sized, l4_check_too_long, l4_check_too_long_sized,
 };
 pub use entering::l4_enter;
 pub use giving::{l4_sigma0_answer, l4_sigma0_free, l4_sigma0_new, l4_sigma0_new_sized};
+pub use locking::{
+    CountResult, l4_lock_close, l4_lock_enter, l4_lock_entry, l4_lock_free, l4_lock_give,
+    l4_lock_length, l4_lock_new, l4_lock_new_sized, l4_lock_receipt, l4_lock_seat_of, l4_lock_take,
+};
 pub use messages::MessageResult;
 pub use owning::{l4_boot, l4_boot_sized, l4_free};
 pub use paging::{
@@ -36,9 +37,5 @@ pub use planning::{
 };
 pub use regions::RegionGiven;
 pub use replies::l4_reply_of;
-pub use results::{
-    EnterResult, MappingResult, NextResult, PageResult, ReplyResult, SizeResult, SpaceResult,
-    StepResult,
-};
 pub use stepping::{l4_enabled, l4_expire, l4_next, l4_start, l4_transfer};
 pub use texts::{l4_refusal_code, l4_refusal_text};

@@ -5,8 +5,8 @@ ghost use Rattle.l4_refusals.specs.Texts.{spelled};
 ghost use Rattle.l4_c.specs.Exports.{Boots};
 ghost use Rattle.l4_c.specs.InBytes.{InBytes};
 
-use crate::numbers::{HELD, NO_MEMORY, NO_SUCH_SIZE, kernel_number};
 use crate::sizes::size_of;
+use l4_c_values::{HELD, NO_MEMORY, NO_SUCH_SIZE, kernel_number};
 use l4_handles::KernelHandle;
 use l4_ipc::{Kernel, PageSize};
 use std::alloc::Global;

@@ -5,12 +5,10 @@ ghost use Rattle.l4_refusals.specs.Texts.{spelled};
 ghost use Rattle.l4_c.specs.InBytes.{InBytes};
 ghost use Rattle.l4_c.specs.Served.{entry_refusal, MakesTable, Adds, FindsSource, TellsTablesAnswer};
 
-use crate::calls::rights;
 use crate::messages::{MessageResult, message_told, no_message, unread};
-use crate::numbers::{EMPTY, HELD, NO_MEMORY, NO_SUCH_SIZE};
 use crate::regions::{RegionGiven, entry_of};
-use crate::results::{PageResult, no_page, page_told};
 use crate::sizes::size_of;
+use l4_c_values::{EMPTY, HELD, NO_MEMORY, NO_SUCH_SIZE, PageResult, no_page, page_told, rights};
 use l4_handles::PagerHandle;
 use l4_ipc::{Message, PageSize};
 use l4_pager::{PagerRefusal, RegionPager};

@@ -5,10 +5,9 @@ ghost use Rattle.l4_refusals.specs.Texts.{spelled};
 ghost use Rattle.l4_c.specs.InBytes.{InBytes};
 ghost use Rattle.l4_c.specs.Planned.{region_of, plan_result, part_result, PartIsTold, TellsPlan, TellsPart, placed, TellsPages};
 
-use crate::numbers::NO_SUCH_SIZE;
 use crate::regions::{RegionGiven, region_of};
-use crate::results::padded;
 use crate::sizes::size_of;
+use l4_c_values::{NO_SUCH_SIZE, padded};
 use l4_ipc::{MAX_WORDS, PageSize};
 use l4_msg::MAX_ITEMS;
 use l4_plan::{Pages, Plan, PlanRefusal, plan};

@@ -3,7 +3,7 @@ ghost use Rattle.std.specs.Prelude.{◌≡◌};
 ghost use Rattle.l4_c.specs.Planned.{region_of};
 ghost use Rattle.l4_c.specs.Served.{entry_of};
 
-use crate::calls::rights;
+use l4_c_values::rights;
 use l4_msg::Region;
 use l4_pager::Entry;
 

@@ -5,10 +5,9 @@ ghost use Rattle.l4_ipc.specs.Steps.{Steps};
 ghost use Rattle.l4_ipc.specs.declared.steps.Step.TheVariants.{Start, Transfer, Expire};
 ghost use Rattle.l4_c.specs.Exports.{Answers, Starts, Names, GoesOn};
 
-use crate::calls::{CallGiven, DELETE, delete, write_call};
-use crate::numbers::{EMPTY, NO_SUCH_CALL, kernel_detail, kernel_number};
-use crate::results::{
-    NextResult, StepResult, answered, done_told, no_step, refused, step_told, told,
+use l4_c_values::{
+    CallGiven, DELETE, EMPTY, NO_SUCH_CALL, NextResult, StepResult, answered, delete, done_told,
+    kernel_detail, kernel_number, no_step, refused, step_told, told, write_call,
 };
 use l4_handles::KernelHandle;
 use l4_ipc::{Answer, ArrayVec, Call, IpcCall, Kernel, Outcome, Step, ThreadId};

@@ -66,13 +66,19 @@ check_texts =
     ∷ (codes "C6", codes "the region is refused by N1, N2 or N3")
     ∷ []
 
--- what a pager's table refuses, and want of memory: the codes, each with a line that says what it means
+-- what a pager's table and a locked kernel refuse, and want of memory: the codes, each with a line that says what it means
 abbrev pub table_texts : List (List ℕ × List ℕ)
 table_texts =
     (codes "P1", codes "a page of the region is one of another region of the table")
     ∷ (codes "P2", codes "no region of the table has the page with this access")
     ∷ (codes "P3", codes "the table has 64 regions")
     ∷ (codes "P4", codes "the region has no page, a page or source page beyond the space, or no right")
+    ∷ (codes "L1", codes "the history is full: with more than 999,871 steps no call is started")
+    ∷ (codes "L3", codes "an ended call of this seat has not been taken")
+    ∷ (codes "L4", codes "the seat of this number was given before")
+    ∷ (codes "X1", codes "the seat of this number was given and is not here")
+    ∷ (codes "X2", codes "the seat of this number was not given, or is here twice")
+    ∷ (codes "X3", codes "the seat of this number does not agree with what was kept of it")
     ∷ (codes "NoMemory", codes "there was no memory for it")
     ∷ []
 

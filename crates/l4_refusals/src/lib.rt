@@ -133,8 +133,8 @@ fn check_texts() -> [Text; 6]
     ]
 }
 
-/// What a pager's table refuses, and want of memory.
-fn table_texts() -> [Text; 5]
+/// What a pager's table and a locked kernel refuse, and want of memory.
+fn table_texts() -> [Text; 11]
     ensures { map bytes_of result ≡ table_texts }
 {
     [
@@ -150,6 +150,21 @@ fn table_texts() -> [Text; 5]
         meaning(
             b"P4",
             b"the region has no page, a page or source page beyond the space, or no right",
+        ),
+        meaning(
+            b"L1",
+            b"the history is full: with more than 999,871 steps no call is started",
+        ),
+        meaning(b"L3", b"an ended call of this seat has not been taken"),
+        meaning(b"L4", b"the seat of this number was given before"),
+        meaning(b"X1", b"the seat of this number was given and is not here"),
+        meaning(
+            b"X2",
+            b"the seat of this number was not given, or is here twice",
+        ),
+        meaning(
+            b"X3",
+            b"the seat of this number does not agree with what was kept of it",
         ),
         meaning(b"NoMemory", b"there was no memory for it"),
     ]

@@ -1,7 +1,7 @@
 use Rattle.std.proofs.Common.{ℕ, Ok, Err, refl, ap, ◌∙◌}
 use Rattle.l4_answers.specs.Refusals.{kernel_refusal}
 use Rattle.l4_refusals.specs.Texts.{spelled}
-use Rattle.l4_c.specs.Told.{refusal_result}
+use Rattle.l4_c_values.specs.Told.{refusal_result}
 use Rattle.l4_c.proofs.stepping.start_call.Goals as goal
 
 pub returns-in-Ok : goal.returns-in-Ok

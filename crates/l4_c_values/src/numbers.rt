@@ -2,7 +2,7 @@
 ghost use Rattle.std.specs.Prelude.{◌≡◌};
 ghost use Rattle.l4_answers.specs.Refusals.{message_refusal, thread_refusal, unmap_refusal, kernel_refusal};
 ghost use Rattle.l4_refusals.specs.Texts.{spelled};
-ghost use Rattle.l4_c.specs.Told.{carried, outcome_number};
+ghost use Rattle.l4_c_values.specs.Told.{carried, outcome_number};
 
 use l4_ipc::{Lower, Outcome, Refused};
 use l4_msg::MsgFault;

@@ -1,7 +1,7 @@
 use Rattle.std.proofs.Common.{sym, arith}
 use Rattle.std.proofs.lemmas.List.{length-take-le}
-use Rattle.l4_c.proofs.Lists.{take_whole}
-use Rattle.l4_c.proofs.calls.registers.Goals as goal
+use Rattle.l4_c_values.proofs.Lists.{take_whole}
+use Rattle.l4_c_values.proofs.calls.registers.Goals as goal
 
 pub returns-then-words-le-MAX_WORDS-clause-first : goal.returns-then-words-le-MAX_WORDS-clause-first
 returns-then-words-le-MAX_WORDS-clause-first c = sym (take_whole 64 c.args.words.now c.if-words-le-MAX_WORDS.true)

@@ -4,7 +4,7 @@ use Rattle.l4_fpage.specs.Rights.{set_of_bits}
 use Rattle.l4_ipc.specs.declared.calls.Call.{Call}
 use Rattle.l4_ipc.specs.declared.calls.Call.TheVariants.{Ipc, Fault, Unmap, Control as Controls}
 use Rattle.l4_ipc.specs.declared.calls.Control.TheVariants.{Create, SetPager, Delete}
-use Rattle.l4_c.specs.declared.calls.CallGiven.{CallGiven}
+use Rattle.l4_c_values.specs.declared.calls.CallGiven.{CallGiven}
 
 -- the kind is none of the six
 abbrev pub IsNoKind : CallGiven → Type 0

@@ -8,8 +8,9 @@ use Rattle.l4_ipc.specs.declared.steps.Outcome.{Outcome}
 use Rattle.l4_ipc.specs.declared.steps.Outcome.TheVariants.{Started, Done, NoWindow, Entangled, NoMemory, Expired}
 use Rattle.l4_answers.specs.Refusals.{kernel_refusal}
 use Rattle.l4_refusals.specs.Texts.{spelled}
-use Rattle.l4_c.specs.declared.results.StepResult.{StepResult}
-use Rattle.l4_c.specs.declared.results.NextResult.{NextResult}
+use Rattle.l4_c_values.specs.declared.results.StepResult.{StepResult}
+use Rattle.l4_c_values.specs.declared.results.NextResult.{NextResult}
+use Rattle.l4_c_values.specs.declared.results.PageResult.{PageResult}
 
 -- the number that a refusal carries, or 0
 abbrev pub carried : Option ℕ → ℕ
@@ -89,3 +90,10 @@ done_result step answer = record {
   ended_count = length answer.ended.items;
   ended = filled 2 answer.ended.items;
 }
+
+-- no page, for this refusal
+abbrev pub no_page_result : ℕ → PageResult
+no_page_result code = record { refusal = code; there = 0; page = 0 }
+
+abbrev pub page_result : ℕ → PageResult
+page_result page = record { refusal = 0; there = 1; page = page }

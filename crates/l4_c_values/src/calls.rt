@@ -1,7 +1,7 @@
 //! Calls as C gives them.
 ghost use Rattle.std.specs.Prelude.{◌≡◌, ◌≤◌, [], true, false, length, take};
 ghost use Rattle.l4_fpage.specs.Rights.{set_of_bits};
-ghost use Rattle.l4_c.specs.Called.{IsBlank, IsCall, IsNoKind};
+ghost use Rattle.l4_c_values.specs.Called.{IsBlank, IsCall, IsNoKind};
 
 use l4_ipc::{
     ArrayVec, Call, Control, Create, FaultCall, IpcCall, MAX_WORDS, Rights, SetPager, ThreadId,

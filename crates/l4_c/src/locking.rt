@@ -1,0 +1,288 @@
+//! A locked kernel with its seats.
+ghost use Rattle.std.specs.Prelude.{◌≡◌, None, Some, codes, slice_get};
+ghost use Rattle.std.specs.Option.{option_and_then};
+ghost use Rattle.l4_fpage.specs.declared.sizes.PageSize.TheVariants.{Kib4};
+ghost use Rattle.l4_lock.specs.Books.{SeatState};
+ghost use Rattle.l4_seated_lock.specs.Seated.{seat_at};
+ghost use Rattle.l4_refusals.specs.Texts.{spelled};
+ghost use Rattle.l4_c_values.specs.Recorded.{entry_result, seat_result, receipt_result};
+ghost use Rattle.l4_c.specs.InBytes.{InBytes};
+ghost use Rattle.l4_c.specs.Locking.{MakesLock, Gives, GivesSeat, EntersCall, EntersSeat, TakesReply, TakesSeat, TellsLength, TellsEntry, TellsSeat, TellsReceipt, ClosesLock};
+
+use crate::checking::Verdict;
+use crate::sizes::size_of;
+use l4_c_values::{
+    CallGiven, EMPTY, EntryResult, HELD, NO_MEMORY, NO_SUCH_CALL, NO_SUCH_SIZE, ReceiptResult,
+    ReplyResult, SeatResult, SeatedResult, entered_told, entry_told, lock_detail, lock_number,
+    mismatch_told, no_entry, no_receipt, no_reply, no_seat, receipt_told, reply_told, seat_told,
+    unseated, write_call,
+};
+use l4_handles::LockHandle;
+use l4_ipc::{ArrayVec, Call, IpcCall, PageSize, ThreadId};
+use l4_seated_lock::SeatedLock;
+use std::alloc::Global;
+
+/// A count.
+#[repr(C)]
+#[derive(Clone, Copy)]
+pub struct CountResult {
+    pub refusal: u32,
+    pub count: u64,
+}
+
+/// Makes a locked kernel with pages of this size.
+fn make(alloc: Global, handle: &mut LockHandle, size: PageSize, frames: u32) -> u32
+    ensures { MakesLock handle.old.value size frames result handle.new.value }
+{
+    if let Some(lock) = handle.take(alloc) {
+        handle.put(lock);
+        return HELD;
+    }
+    let lock = match SeatedLock::new(alloc, frames, size) {
+        Ok(lock) => lock,
+        Err(refusal) => return lock_number(refusal),
+    };
+    match Box::new(alloc, lock) {
+        Ok(lock) => {
+            handle.put(lock);
+            0
+        }
+        Err(_) => NO_MEMORY,
+    }
+}
+
+/// Makes a locked kernel with pages of 4,096 bytes.
+#[unsafe(no_mangle)]
+pub extern "C" fn l4_lock_new(alloc: Global, handle: &mut LockHandle, frames: u32) -> u32
+    ensures { MakesLock handle.old.value Kib4 frames result handle.new.value }
+{
+    make(alloc, handle, PageSize::Kib4, frames)
+}
+
+/// Makes a locked kernel with pages of so many bytes.
+#[unsafe(no_mangle)]
+pub extern "C" fn l4_lock_new_sized(
+    alloc: Global,
+    handle: &mut LockHandle,
+    frames: u32,
+    page_bytes: u32,
+) -> u32
+    ensures { InBytes page_bytes (λ size. MakesLock handle.old.value size frames result handle.new.value) ((result ≡ spelled (codes "B4")) × (handle.new.value ≡ handle.old.value)) }
+{
+    match size_of(page_bytes) {
+        Some(size) => make(alloc, handle, size, frames),
+        None => NO_SUCH_SIZE,
+    }
+}
+
+/// Frees a locked kernel.
+#[unsafe(no_mangle)]
+pub extern "C" fn l4_lock_free(alloc: Global, handle: &mut LockHandle)
+    ensures { handle.new.value ≡ None }
+{
+    let _lock = handle.take(alloc);
+}
+
+/// The seat of a number is given.
+fn give(lock: &mut SeatedLock, number: u32) -> u32
+    ensures { Gives lock.old number result lock.new }
+{
+    match lock.give(number) {
+        Ok(()) => 0,
+        Err(refusal) => lock_number(refusal),
+    }
+}
+
+/// The seat of a number is given.
+#[unsafe(no_mangle)]
+pub extern "C" fn l4_lock_give(alloc: Global, handle: &mut LockHandle, number: u32) -> u32
+    ensures { GivesSeat handle.old.value number result handle.new.value }
+{
+    let Some(mut lock) = handle.take(alloc) else {
+        return EMPTY;
+    };
+    let given = give(&mut lock, number);
+    handle.put(lock);
+    given
+}
+
+/// Enters a call by the seat of a number.
+fn enter(lock: &mut SeatedLock, number: u32, given: &CallGiven, words: &[u32]) -> SeatedResult
+    ensures { EntersCall lock.old number given.now words.now result lock.new }
+{
+    let mut call = Call::Ipc(IpcCall {
+        to: ThreadId(0),
+        from: ThreadId(0),
+        timeouts: 0,
+        acceptor: 0,
+        words: ArrayVec::new(),
+    });
+    if !write_call(&mut call, given, words) {
+        return unseated(NO_SUCH_CALL, 0);
+    }
+    match lock.enter(number, call) {
+        Ok(entered) => entered_told(&entered),
+        Err(refusal) => unseated(lock_number(refusal), lock_detail(refusal)),
+    }
+}
+
+/// Enters a call by the seat of a number.
+#[unsafe(no_mangle)]
+pub extern "C" fn l4_lock_enter(
+    alloc: Global,
+    handle: &mut LockHandle,
+    number: u32,
+    call: &CallGiven,
+    words: &[u32],
+) -> SeatedResult
+    ensures { EntersSeat handle.old.value number call.now words.now result handle.new.value }
+{
+    let Some(mut lock) = handle.take(alloc) else {
+        return unseated(EMPTY, 0);
+    };
+    let entered = enter(&mut lock, number, call, words);
+    handle.put(lock);
+    entered
+}
+
+/// The reply of a call that was left waiting and has ended since.
+fn take(lock: &mut SeatedLock, number: u32) -> ReplyResult
+    ensures { TakesReply lock.old number result lock.new }
+{
+    match lock.take(number) {
+        Some(reply) => reply_told(&reply),
+        None => no_reply(0),
+    }
+}
+
+/// The reply of a call that was left waiting and has ended since.
+#[unsafe(no_mangle)]
+pub extern "C" fn l4_lock_take(alloc: Global, handle: &mut LockHandle, number: u32) -> ReplyResult
+    ensures { TakesSeat handle.old.value number result handle.new.value }
+{
+    let Some(mut lock) = handle.take(alloc) else {
+        return no_reply(EMPTY);
+    };
+    let taken = take(&mut lock, number);
+    handle.put(lock);
+    taken
+}
+
+/// How many entries the history has.
+#[unsafe(no_mangle)]
+pub extern "C" fn l4_lock_length(alloc: Global, handle: &mut LockHandle) -> CountResult
+    ensures kept { handle.new.value ≡ handle.old.value }
+    ensures told { TellsLength handle.old.value result }
+{
+    let Some(lock) = handle.take(alloc) else {
+        return CountResult {
+            refusal: EMPTY,
+            count: 0,
+        };
+    };
+    let count = lock.history().len() as u64;
+    handle.put(lock);
+    CountResult { refusal: 0, count }
+}
+
+/// The entry at a place.
+fn entry(lock: &SeatedLock, place: usize) -> EntryResult
+    ensures { result ≡ entry_result (slice_get lock.now.history place) }
+{
+    match lock.history().get(place) {
+        Some(entry) => entry_told(&entry),
+        None => no_entry(0),
+    }
+}
+
+/// The entry at a place.
+#[unsafe(no_mangle)]
+pub extern "C" fn l4_lock_entry(alloc: Global, handle: &mut LockHandle, place: usize) -> EntryResult
+    ensures kept { handle.new.value ≡ handle.old.value }
+    ensures told { TellsEntry handle.old.value place result }
+{
+    let Some(lock) = handle.take(alloc) else {
+        return no_entry(EMPTY);
+    };
+    let told = entry(&lock, place);
+    handle.put(lock);
+    told
+}
+
+/// What the seat of a number has done.
+fn seat(lock: &SeatedLock, number: u32) -> SeatResult
+    ensures { result ≡ seat_result (seat_at lock.now.books number) }
+{
+    match lock.seat(number) {
+        Some(seat) => seat_told(seat),
+        None => no_seat(0),
+    }
+}
+
+/// What the seat of a number has done.
+#[unsafe(no_mangle)]
+pub extern "C" fn l4_lock_seat_of(alloc: Global, handle: &mut LockHandle, number: u32) -> SeatResult
+    ensures kept { handle.new.value ≡ handle.old.value }
+    ensures told { TellsSeat handle.old.value number result }
+{
+    let Some(lock) = handle.take(alloc) else {
+        return no_seat(EMPTY);
+    };
+    let told = seat(&lock, number);
+    handle.put(lock);
+    told
+}
+
+/// The receipt of a seat at a place.
+fn receipt(lock: &SeatedLock, number: u32, place: usize) -> ReceiptResult
+    ensures { result ≡ receipt_result (option_and_then (λ (p : SeatState). slice_get p.receipts place) (seat_at lock.now.books number)) }
+{
+    let Some(seat) = lock.seat(number) else {
+        return no_receipt(0);
+    };
+    match seat.receipts().get(place) {
+        Some(receipt) => receipt_told(&receipt),
+        None => no_receipt(0),
+    }
+}
+
+/// The receipt of a seat at a place.
+#[unsafe(no_mangle)]
+pub extern "C" fn l4_lock_receipt(
+    alloc: Global,
+    handle: &mut LockHandle,
+    number: u32,
+    place: usize,
+) -> ReceiptResult
+    ensures kept { handle.new.value ≡ handle.old.value }
+    ensures told { TellsReceipt handle.old.value number place result }
+{
+    let Some(lock) = handle.take(alloc) else {
+        return no_receipt(EMPTY);
+    };
+    let told = receipt(&lock, number, place);
+    handle.put(lock);
+    told
+}
+
+/// The seats of these numbers come back, and the locked kernel goes where they are just those that were given.
+#[unsafe(no_mangle)]
+pub extern "C" fn l4_lock_close(alloc: Global, handle: &mut LockHandle, numbers: &[u32]) -> Verdict
+    ensures { ClosesLock handle.old.value numbers.now result handle.new.value }
+{
+    let Some(lock) = handle.take(alloc) else {
+        return Verdict {
+            refusal: EMPTY,
+            detail: 0,
+        };
+    };
+    let Some(mismatch) = lock.mismatch(numbers) else {
+        return Verdict {
+            refusal: 0,
+            detail: 0,
+        };
+    };
+    handle.put(lock);
+    let (refusal, detail) = mismatch_told(mismatch);
+    Verdict { refusal, detail }
+}

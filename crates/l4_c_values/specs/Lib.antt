@@ -1,0 +1,4 @@
+pub mod Called
+pub mod Recorded
+pub mod Replied
+pub mod Told
