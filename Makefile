@@ -2,6 +2,7 @@
 # make test       the gate: everything from nothing, and then the scripts and lists on the built programs
 # make install    puts the programs, the C library with its header and packages, and the manual pages under PREFIX (/usr/local if it
 #                 isn't given); make install-library the C library alone
+# make web        builds web/plan.html, a page with the proved planner and checker that is opened as a file
 PREFIX ?= /usr/local
 VERSION = 0.1.0
 
@@ -9,6 +10,7 @@ VERSION = 0.1.0
 HEAP = $(dir $(firstword $(shell rt doc)))c/liblibc_c.a
 OUT = crates/l4_c/out
 SONAME = libl4.so.0
+MODULE = crates/l4_web/out/l4_web.wasm
 SOURCES = crates.txt $(shell find crates -path '*/out' -prune -o \( -name '*.rt' -o -name '*.antt' \) -print)
 
 all: programs library
@@ -22,7 +24,7 @@ library: $(OUT)/libl4.a $(OUT)/$(SONAME)
 # BUILT=yes takes the archive if it is there, and else builds it over the libraries that `rt ci` has just left.
 ifdef BUILT
 $(OUT)/libl4_c.a:
-	tests/c-library || (cd crates/l4_c && rt lib)
+	tests/static-library l4_c || (cd crates/l4_c && rt lib)
 else
 $(OUT)/libl4_c.a: $(SOURCES)
 	cd crates/l4_c && rt lib
@@ -40,6 +42,22 @@ $(OUT)/exports: include/l4.h
 
 $(OUT)/$(SONAME): $(OUT)/libl4.a $(OUT)/exports
 	$(CC) -shared -o $@ -Wl,-soname,$(SONAME) -Wl,--version-script=$(OUT)/exports -Wl,--whole-archive $< -Wl,--no-whole-archive
+
+# The page has its module and its scripts in it, so that it can be opened as a file.
+web: web/plan.html
+
+ifdef BUILT
+$(MODULE):
+	tests/static-library l4_web wasm || (cd crates/l4_web && rt check && ../../tests/static-library l4_web wasm)
+else
+$(MODULE): $(SOURCES)
+	cd crates/l4_web && rt check
+	tests/static-library l4_web wasm
+endif
+
+web/plan.html: web/plan.in.html web/planner.js web/plan.js $(MODULE)
+	base64 $(MODULE) > $(MODULE).base64
+	sed -e '/^@MODULE@$$/{r $(MODULE).base64' -e 'd}' -e '/^@PLANNER@$$/{r web/planner.js' -e 'd}' -e '/^@PAGE@$$/{r web/plan.js' -e 'd}' $< > $@
 
 test:
 	bash .ci/run
@@ -62,4 +80,4 @@ install-library: library
 	@install -D -m 644 man/l4.3 $(DESTDIR)$(PREFIX)/share/man/man3/l4.3
 	@echo 'libl4 $(VERSION) is in $(DESTDIR)$(abspath $(PREFIX))'
 
-.PHONY: all programs library test install install-library
+.PHONY: all programs library web test install install-library
