@@ -21,6 +21,7 @@ from .calls import Call
 from .kernel import Answer, Done, Entered, Expire, Kernel, Mapping, Outcome, Place, Reply, ReplyKind, Step, Transfer
 from .plans import Plan, Region
 from .refusals import IpcFailed, Refused, TooLong
+from .shared import Entry, Receipt, Seat, SharedKernel, Start
 from .tables import Pager, Sigma0
 from .words import (
     MAX_FRAMES,
@@ -53,6 +54,7 @@ __all__ = [
     "Call",
     "Done",
     "Entered",
+    "Entry",
     "Expire",
     "Fpage",
     "IpcFailed",
@@ -64,12 +66,16 @@ __all__ = [
     "Pager",
     "Place",
     "Plan",
+    "Receipt",
     "Refused",
     "Region",
     "Reply",
     "ReplyKind",
     "Rights",
+    "Seat",
+    "SharedKernel",
     "Sigma0",
+    "Start",
     "Step",
     "ThreadId",
     "Timeout",

@@ -19,6 +19,16 @@ _NAMES = {
     _library.L4_DELETE: "delete",
 }
 
+# the members of each kind
+_MEMBERS = {
+    _library.L4_IPC: "to from timeouts acceptor",
+    _library.L4_FAULT: "address ip access",
+    _library.L4_UNMAP: "control",
+    _library.L4_CREATE: "id space pager",
+    _library.L4_SET_PAGER: "id pager",
+    _library.L4_DELETE: "id",
+}
+
 _TIMEOUTS = {0: "", _library.L4_ZERO_TIMEOUT: " at once"}
 
 
@@ -61,6 +71,12 @@ class Call:
     @classmethod
     def _of_kind(cls, kind: int, members: Dict[str, int], words: Tuple[int, ...] = ()) -> Call:
         return cls((("kind", kind), *((name, number(value, name)) for name, value in members.items())), words)
+
+    @classmethod
+    def told(cls, given: _library.l4_call, words: Tuple[int, ...]) -> Call:
+        """The call that the library tells of a history or a receipt."""
+        members = {name: getattr(given, name) for name in _MEMBERS[given.kind].split()}
+        return cls._of_kind(given.kind, members, words)
 
     @classmethod
     def ipc(cls, to: ThreadId, source: ThreadId, timeout_word: int, acceptor: int, message: Message) -> Call:
@@ -181,10 +197,15 @@ class Call:
             return f"create {thread} in {space}, pager {others[1]}"
         return f"delete {thread}" if kind == _library.L4_DELETE else f"pager of {thread} is {others[0]}"
 
-    def __repr__(self) -> str:
+    @property
+    def line(self) -> str:
+        """The call as in a list of steps, with each word in hexadecimal."""
         (_, kind), *members = self._members
         words = [*(value for _, value in members), *self._words]
-        return f"<Call {_NAMES[kind]} {hexadecimal(words)}: {self}>"
+        return f"{_NAMES[kind]} {hexadecimal(words)}"
+
+    def __repr__(self) -> str:
+        return f"<Call {self.line}: {self}>"
 
 
 def _ipc_text(to: int, source: int, timeout_word: int, acceptor: int, words: Tuple[int, ...]) -> str:

@@ -181,10 +181,23 @@ class Mapping:
     parent: Optional[Place]
 
 
+def reply_of(told: _library.l4_reply) -> Optional[Reply]:
+    """The reply that the library tells; None where there is none."""
+    if told.kind == _library.L4_NONE:
+        return None
+    words = tuple(told.words[: told.word_count])
+    return Reply(ReplyKind(told.kind), told.tag, told.error, ThreadId(getattr(told, "from")), words)
+
+
+def step_of(kind: int, thread: int, receiver: int) -> Optional[Step]:
+    """The step of this kind and of these threads; None where there is none."""
+    if kind == _library.L4_TRANSFER:
+        return Transfer(thread, receiver)
+    return Expire(thread) if kind == _library.L4_EXPIRE else None
+
+
 def _step(told: _library.l4_step) -> Optional[Step]:
-    if told.kind == _library.L4_TRANSFER:
-        return Transfer(told.thread, told.receiver)
-    return Expire(told.thread) if told.kind == _library.L4_EXPIRE else None
+    return step_of(told.kind, told.thread, told.receiver)
 
 
 def _done(told: _library.l4_step) -> Optional[Done]:
@@ -294,11 +307,7 @@ class Kernel(Handle):
 
     def reply(self, thread: int) -> Optional[Reply]:
         """The reply of the last ended call of a thread that runs; None where it waits, isn't there, or made no call yet."""
-        told = self._told(self._ask(library.l4_reply_of, number(thread, "a thread number")))
-        if told.kind == _library.L4_NONE:
-            return None
-        words = tuple(told.words[: told.word_count])
-        return Reply(ReplyKind(told.kind), told.tag, told.error, ThreadId(getattr(told, "from")), words)
+        return reply_of(self._told(self._ask(library.l4_reply_of, number(thread, "a thread number"))))
 
     def space_of(self, thread: int) -> Optional[int]:
         """The number of a thread's space; None where there is no such thread."""

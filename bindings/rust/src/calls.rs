@@ -93,6 +93,21 @@ impl Call {
         }
     }
 
+    /// The call that the library tells of a history or a receipt.
+    pub(crate) fn told(given: &ffi::l4_call, words: &[u32]) -> Call {
+        Call {
+            given: *given,
+            words: Message::of_words(words).unwrap_or(Message::EMPTY),
+        }
+    }
+
+    /// Its name and numbers as in a list of steps.
+    pub(crate) fn line(&self) -> String {
+        let (name, mut words) = self.members();
+        words.extend(self.words.words());
+        format!("{name} {}", Hexadecimal(&words))
+    }
+
     /// What the library reads.
     pub(crate) fn given(&self) -> (&ffi::l4_call, &[u32]) {
         (&self.given, self.words.words())
@@ -324,9 +339,7 @@ impl fmt::Display for Call {
 /// As in a list of steps, with each word in hexadecimal, and then in words.
 impl fmt::Debug for Call {
     fn fmt(&self, out: &mut fmt::Formatter<'_>) -> fmt::Result {
-        let (name, mut words) = self.members();
-        words.extend(self.words.words());
-        write!(out, "Call({name} {}: {self})", Hexadecimal(&words))
+        write!(out, "Call({}: {self})", self.line())
     }
 }
 

@@ -421,6 +421,7 @@ hidden! {
     l4_kernel l4_free;
     l4_pager l4_pager_free;
     l4_sigma0 l4_sigma0_free;
+    l4_lock l4_lock_free;
 }
 
 /// A handle that holds something from its making to its drop. The library writes the handle also as it is asked, so the handle stands
@@ -533,6 +534,54 @@ impl Handle<l4_kernel> {
     pub(crate) fn next_page(&self, space: u64, page: u32) -> l4_page {
         // SAFETY: as in `enabled`.
         unsafe { l4_next_page(self.cell.get(), space, page) }
+    }
+}
+
+impl Handle<l4_lock> {
+    /// A locked kernel as it boots, with pages of so many bytes, or the number of the refusal.
+    pub(crate) fn lock(frames: u32, page_bytes: u32) -> Result<Handle<l4_lock>, u32> {
+        // SAFETY: as in `boot`.
+        Handle::made(|handle| unsafe { l4_lock_new_sized(handle, frames, page_bytes) })
+    }
+
+    pub(crate) fn give(&mut self, seat: u32) -> u32 {
+        // SAFETY: the handle is live and borrowed alone.
+        unsafe { l4_lock_give(self.cell.get(), seat) }
+    }
+
+    pub(crate) fn enter(&mut self, seat: u32, call: &l4_call, words: &[u32]) -> l4_seated {
+        // SAFETY: as in `start`.
+        unsafe { l4_lock_enter(self.cell.get(), seat, call, words.as_ptr(), words.len()) }
+    }
+
+    pub(crate) fn take(&mut self, seat: u32) -> l4_reply {
+        // SAFETY: the handle is live and borrowed alone.
+        unsafe { l4_lock_take(self.cell.get(), seat) }
+    }
+
+    pub(crate) fn length(&self) -> l4_count {
+        // SAFETY: as in `enabled`.
+        unsafe { l4_lock_length(self.cell.get()) }
+    }
+
+    pub(crate) fn entry(&self, place: usize) -> l4_entry {
+        // SAFETY: as in `enabled`.
+        unsafe { l4_lock_entry(self.cell.get(), place) }
+    }
+
+    pub(crate) fn seat_of(&self, seat: u32) -> l4_seat {
+        // SAFETY: as in `enabled`.
+        unsafe { l4_lock_seat_of(self.cell.get(), seat) }
+    }
+
+    pub(crate) fn receipt(&self, seat: u32, place: usize) -> l4_receipt {
+        // SAFETY: as in `enabled`.
+        unsafe { l4_lock_receipt(self.cell.get(), seat, place) }
+    }
+
+    pub(crate) fn close(&mut self, seats: &[u32]) -> l4_verdict {
+        // SAFETY: the handle is live and borrowed alone, so it doesn't overlap the seats; a slice's pointer is aligned and never null.
+        unsafe { l4_lock_close(self.cell.get(), seats.as_ptr(), seats.len()) }
     }
 }
 

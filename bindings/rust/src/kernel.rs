@@ -25,15 +25,18 @@ pub enum Step {
 impl Step {
     /// The step that the library tells; None where there is none.
     fn of(told: &ffi::l4_step) -> Option<Step> {
-        match told.kind {
+        Step::named(told.kind, told.thread, told.receiver)
+    }
+
+    /// The step of this kind and of these threads; None where there is none.
+    pub(crate) fn named(kind: u32, thread: u32, receiver: u32) -> Option<Step> {
+        match kind {
             ffi::L4_NONE => None,
             ffi::L4_TRANSFER => Some(Step::Transfer {
-                sender: told.thread,
-                receiver: told.receiver,
+                sender: thread,
+                receiver,
             }),
-            ffi::L4_EXPIRE => Some(Step::Expire {
-                thread: told.thread,
-            }),
+            ffi::L4_EXPIRE => Some(Step::Expire { thread }),
             kind => unknown("step", kind),
         }
     }
@@ -57,7 +60,7 @@ pub enum Outcome {
 }
 
 impl Outcome {
-    fn of(number: u32) -> Outcome {
+    pub(crate) fn of(number: u32) -> Outcome {
         match number {
             ffi::L4_STARTED => Outcome::Started,
             ffi::L4_DELIVERED => Outcome::Delivered,

@@ -39,7 +39,8 @@
 //! # What can't happen
 //!
 //! What the C header calls the caller's fault (a freed handle, a null pointer, two calls on a kernel at one time) can't be said in safe
-//! code: a kernel is freed as it is dropped, and is [`Send`] but not [`Sync`]. All `unsafe` stands in one private module.
+//! code: a kernel is freed as it is dropped, and is [`Send`] but not [`Sync`]; threads share a [`SharedKernel`], which is both. All `unsafe`
+//! stands in one private module.
 //!
 //! ```compile_fail
 //! fn shared<T: Sync>() {}
@@ -57,6 +58,7 @@ mod kernel;
 mod plans;
 mod refusals;
 mod replies;
+mod shared;
 mod tables;
 mod words;
 
@@ -65,6 +67,7 @@ pub use kernel::{Answer, Done, Entered, Kernel, Mapping, Mappings, Outcome, Plac
 pub use plans::{NoPlan, Plan, Region};
 pub use refusals::Refusal;
 pub use replies::{ErrorCode, Received, Reply};
+pub use shared::{Entry, Receipt, Recorded, Seat, SharedKernel, Unclosed};
 pub use tables::{Pager, Sigma0};
 pub use words::{BadFpage, Fpage, Item, Message, PageSize, Rights, ThreadId, TooManyWords};
 

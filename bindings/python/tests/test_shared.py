@@ -1,0 +1,136 @@
+"""Threads share a kernel."""
+import threading
+import time
+import unittest
+
+from l4 import PAGE_BYTES, Call, Fpage, Item, Message, Refused, ReplyKind, Rights, SharedKernel, Start, ThreadId, Transfer
+
+PAGE = Message.of(items=[Item.map(Fpage.page(16, Rights.ALL), 16 * PAGE_BYTES)])
+
+
+def create(number, pager=ThreadId.NIL):
+    return Call.create(ThreadId.of(number), ThreadId.of(number), pager)
+
+
+def wait_for(kernel, steps):
+    """Other threads act until the history has so many steps."""
+    while kernel.steps() < steps:
+        time.sleep(0.001)
+
+
+class Parties:
+    """Threads that act at the same time, each with what it gave."""
+
+    def __init__(self):
+        self.threads = []
+        self.given = {}
+
+    def begin(self, name, work):
+        thread = threading.Thread(target=lambda: self.given.__setitem__(name, work()))
+        self.threads.append(thread)
+        thread.start()
+
+    def end(self):
+        for thread in self.threads:
+            thread.join()
+        return self.given
+
+
+class Shared(unittest.TestCase):
+    def test_a_fault_waits_for_its_pager(self):
+        kernel = SharedKernel()
+        sigma0, root, pager, client = map(kernel.seat, (1, 2, 3, 4))
+        root.call(create(3))
+        root.call(create(4, ThreadId.of(3)))
+        fault = Call.fault(0x10123, 0, Rights.READ)
+
+        def serve():
+            pager.call(Call.receive(ThreadId.SIGMA0, Fpage.complete()))
+            asked = pager.call(Call.receive(ThreadId.of(4)))
+            pager.call(Call.send(ThreadId.of(4), PAGE))
+            return asked.untyped[0]
+
+        parties = Parties()
+        parties.begin("faults", lambda: (client.call(fault).kind, client.call(fault).kind))
+        wait_for(kernel, 3)
+        parties.begin("page", lambda: sigma0.call(Call.send(ThreadId.of(3), PAGE)).kind)
+        parties.begin("asked", serve)
+        given = {"faults": (ReplyKind.ANSWERED, ReplyKind.HIT), "page": ReplyKind.IPC, "asked": 0x10123}
+        self.assertEqual(parties.end(), given)
+        receipts = client.receipts
+        self.assertEqual((len(receipts), client.starts, receipts[0].start, receipts[0].reply.kind), (2, 2, 2, ReplyKind.ANSWERED))
+        steps = kernel.steps()
+        history = kernel.close([client, pager, root, sigma0])
+        self.assertEqual(len(history), steps)
+        self.assertEqual(str(history[0]), "start 2 create 0x0000c001 0x0000c001 0x00000000")
+        self.assertEqual(str(history[2]), "start 4 fault 0x00010123 0x00000000 0x00000004")
+        self.assertEqual(history[receipts[0].end].step, Transfer(3, 4))
+        with self.assertRaises(ValueError):
+            client.call(fault)
+        with self.assertRaises(ValueError):
+            kernel.seat(5)
+
+    def test_many_threads_send_to_one(self):
+        kernel = SharedKernel(1)
+        root = kernel.seat(2)
+        for number in range(3, 11):
+            root.call(create(number))
+        seats = {number: kernel.seat(number) for number in range(3, 11)}
+
+        def act(number):
+            call = Call.receive() if number == 3 else Call.send(ThreadId.of(3), Message.of(untyped=[number]))
+            for _ in range(700 if number == 3 else 100):
+                seats[number].call(call)
+
+        parties = Parties()
+        for number in seats:
+            parties.begin(number, lambda number=number: act(number))
+        parties.end()
+        counts = {2: 8, 3: 700, **dict.fromkeys(range(4, 11), 100)}
+        self.assertEqual({2: root.starts, **{number: seat.starts for number, seat in seats.items()}}, counts)
+        self.assertEqual(kernel.steps(), 2108)
+        history = kernel.close([root, *seats.values()])
+        self.assertEqual(len(history), 2108)
+        starts = [entry.step.thread for entry in history if isinstance(entry.step, Start)]
+        self.assertEqual({number: starts.count(number) for number in counts}, counts)
+
+    def test_a_deleted_thread_is_gone(self):
+        kernel = SharedKernel(1)
+        root, waiting = kernel.seat(2), kernel.seat(3)
+        root.call(create(3))
+        parties = Parties()
+        parties.begin("waits", lambda: waiting.call(Call.receive()).kind)
+        wait_for(kernel, 2)
+        self.assertEqual(root.call(Call.delete(ThreadId.of(3))).kind, ReplyKind.CONTROLLED)
+        self.assertEqual(parties.end(), {"waits": ReplyKind.GONE})
+        with self.assertRaisesRegex(Refused, "^K2"):
+            waiting.call(Call.receive())
+        self.assertEqual(len(kernel.close([waiting, root])), 3)
+
+    def test_a_seat_is_missing(self):
+        kernel, other = SharedKernel(1), SharedKernel(1)
+        root, third = kernel.seat(2), kernel.seat(3)
+        with self.assertRaisesRegex(Refused, "^L4: "):
+            kernel.seat(3)
+        with self.assertRaisesRegex(Refused, "^X1 3: "):
+            kernel.close([root])
+        with self.assertRaisesRegex(Refused, "^X2 3: "):
+            kernel.close([root, other.seat(3)])
+        with self.assertRaisesRegex(Refused, "^X2 3: "):
+            kernel.close([root, third, third])
+        self.assertEqual(kernel.close([third, root]), ())
+
+    def test_what_is_given(self):
+        with self.assertRaisesRegex(Refused, "^K6"):
+            SharedKernel(0)
+        kernel = SharedKernel(1, 1024)
+        with self.assertRaises(ValueError):
+            kernel.seat(1 << 32)
+        with self.assertRaises(TypeError):
+            kernel.seat(2).call(create)
+        with self.assertRaises(TypeError):
+            kernel.close([3])
+
+
+if __name__ == "__main__":
+    unittest.main()

@@ -1,0 +1,190 @@
+//! Threads share a kernel.
+use l4::{
+    Call, Entry, Fpage, Item, Message, Recorded, Refusal, Reply, Rights, Seat, SharedKernel,
+    ThreadId, Timeout,
+};
+use std::thread;
+
+fn id(number: u32) -> ThreadId {
+    ThreadId::new(number, 1).unwrap()
+}
+
+fn create(number: u32, pager: ThreadId) -> Call {
+    Call::create(id(number), id(number), pager)
+}
+
+fn receive(from: ThreadId) -> Call {
+    Call::receive(from, Fpage::complete(Rights::NONE), Timeout::Never)
+}
+
+fn send(to: u32, message: &Message) -> Call {
+    Call::send(id(to), message, Timeout::Never)
+}
+
+/// How many starts of this thread's calls there are.
+fn starts(history: &[Entry], number: u32) -> usize {
+    let own =
+        |entry: &&Entry| matches!(entry.step, Recorded::Start { thread, .. } if thread == number);
+    history.iter().filter(own).count()
+}
+
+/// Other threads act until the history has so many steps.
+fn wait_for(kernel: &SharedKernel, steps: u64) {
+    while kernel.steps() < steps {
+        thread::yield_now();
+    }
+}
+
+#[test]
+fn a_fault_waits_for_its_pager() {
+    let kernel = SharedKernel::new(256).unwrap();
+    let [mut sigma0, mut root, mut pager, mut client] =
+        [1, 2, 3, 4].map(|number| kernel.seat(number).unwrap());
+    assert_eq!(root.call(&create(3, ThreadId::NIL)), Ok(Reply::Controlled));
+    assert_eq!(root.call(&create(4, id(3))), Ok(Reply::Controlled));
+    let page = Item::map(Fpage::page(16, Rights::ALL).unwrap(), 16 * l4::PAGE_BYTES);
+    let message = Message::new(0, &[], &[page]).unwrap();
+    let fault = Call::fault(0x10123, 0, Rights::READ);
+    thread::scope(|threads| {
+        let faults = threads.spawn(|| (client.call(&fault), client.call(&fault)));
+        wait_for(&kernel, 3);
+        threads.spawn(|| sigma0.call(&send(3, &message)));
+        threads.spawn(|| {
+            pager.call(&receive(ThreadId::SIGMA0)).unwrap();
+            let asked = pager.call(&receive(id(4))).unwrap();
+            assert_eq!(asked.received().unwrap().unwrap().untyped()[0], 0x10123);
+            pager.call(&send(4, &message)).unwrap();
+        });
+        assert_eq!(
+            faults.join().unwrap(),
+            (Ok(Reply::Answered), Ok(Reply::Hit))
+        );
+    });
+    let receipts = client.receipts();
+    assert_eq!((receipts.len(), client.starts()), (2, 2));
+    assert_eq!(
+        (receipts[0].start, &receipts[0].reply),
+        (2, &Reply::Answered)
+    );
+    let steps = kernel.steps();
+    let history = kernel.close(vec![root, client, pager, sigma0]).unwrap();
+    assert_eq!(history.len() as u64, steps);
+    assert_eq!(
+        history[0].to_string(),
+        "start 2 create 0x0000c001 0x0000c001 0x00000000"
+    );
+    assert_eq!(
+        history[2].to_string(),
+        "start 4 fault 0x00010123 0x00000000 0x00000004"
+    );
+    assert_eq!(
+        history[receipts[0].end as usize].to_string(),
+        "transfer 3 4"
+    );
+}
+
+/// Seven threads send 100 messages each, and one receives them.
+fn storm(kernel: &SharedKernel) -> Vec<Seat> {
+    let mut root = kernel.seat(2).unwrap();
+    for number in 3..=10 {
+        root.call(&create(number, ThreadId::NIL)).unwrap();
+    }
+    let mut seats = thread::scope(|threads| {
+        let parties: Vec<_> = (3..=10)
+            .map(|number| {
+                let mut seat = kernel.seat(number).unwrap();
+                threads.spawn(move || {
+                    let message = Message::new(0, &[number], &[]).unwrap();
+                    let (call, count) = if number == 3 {
+                        (receive(ThreadId::ANY), 700)
+                    } else {
+                        (send(3, &message), 100)
+                    };
+                    for _ in 0..count {
+                        seat.call(&call).unwrap();
+                    }
+                    seat
+                })
+            })
+            .collect();
+        parties
+            .into_iter()
+            .map(|party| party.join().unwrap())
+            .collect::<Vec<Seat>>()
+    });
+    seats.push(root);
+    seats
+}
+
+#[test]
+fn many_threads_send_to_one() {
+    let kernel = SharedKernel::new(1).unwrap();
+    let seats = storm(&kernel);
+    assert_eq!(kernel.steps(), 2108);
+    let counts: Vec<(u32, u64)> = seats
+        .iter()
+        .map(|seat| (seat.number(), seat.starts()))
+        .collect();
+    let history = kernel.close(seats).unwrap();
+    assert_eq!(history.len(), 2108);
+    for (number, count) in counts {
+        let wanted = match number {
+            2 => 8,
+            3 => 700,
+            _ => 100,
+        };
+        assert_eq!(
+            (number, count, starts(&history, number)),
+            (number, wanted, wanted as usize)
+        );
+    }
+    let transfers = history
+        .iter()
+        .filter(|entry| matches!(entry.step, Recorded::Next(_)));
+    assert_eq!(transfers.count(), 700);
+}
+
+#[test]
+fn a_deleted_thread_is_gone() {
+    let kernel = SharedKernel::new(1).unwrap();
+    let (mut root, mut waiting) = (kernel.seat(2).unwrap(), kernel.seat(3).unwrap());
+    root.call(&create(3, ThreadId::NIL)).unwrap();
+    thread::scope(|threads| {
+        let waits = threads.spawn(|| waiting.call(&receive(ThreadId::ANY)));
+        wait_for(&kernel, 2);
+        assert_eq!(root.call(&Call::delete(id(3))), Ok(Reply::Controlled));
+        assert_eq!(waits.join().unwrap(), Ok(Reply::Gone));
+    });
+    assert_eq!(
+        waiting.call(&receive(ThreadId::ANY)),
+        Err(Refusal::NoSuchThread)
+    );
+    assert_eq!(kernel.close(vec![waiting, root]).unwrap().len(), 3);
+}
+
+#[test]
+fn a_seat_is_missing() {
+    let kernel = SharedKernel::new(1).unwrap();
+    let (root, third) = (kernel.seat(2).unwrap(), kernel.seat(3).unwrap());
+    assert_eq!(kernel.seat(3).unwrap_err(), Refusal::SeatTaken);
+    let unclosed = kernel.close(vec![root]).unwrap_err();
+    assert_eq!(unclosed.refusal, Refusal::SeatMissing(3));
+    let other = SharedKernel::new(1).unwrap();
+    let foreign = other.seat(3).unwrap();
+    let mut seats = unclosed.seats;
+    seats.push(foreign);
+    let unclosed = unclosed.kernel.close(seats).unwrap_err();
+    assert_eq!(unclosed.refusal, Refusal::SeatForeign(3));
+    let mut seats = unclosed.seats;
+    seats.pop();
+    seats.push(third);
+    assert_eq!(unclosed.kernel.close(seats).unwrap(), []);
+}
+
+#[test]
+fn a_shared_kernel_is_sent_and_shared() {
+    fn shared<T: Send + Sync>() {}
+    shared::<SharedKernel>();
+    shared::<Seat>();
+    assert_eq!(SharedKernel::new(0).unwrap_err(), Refusal::FrameCount);
+}
