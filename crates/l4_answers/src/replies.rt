@@ -18,6 +18,7 @@ use std::io::Write;
 const FEW_WORDS: usize = 8;
 
 /// Adds what came of a transfer, in a word. Each is added by itself, so that its length is known as the program is built.
+#[inline(always)]
 fn add_outcome(out: &mut Output, outcome: Outcome)
     requires { length out.old.0 + 16 ≤ held_bytes }
     ensures value { out.new ≡ (out.old.0 ++ outcome_word outcome, out.old.1) }
@@ -133,6 +134,7 @@ fn add_thread(out: &mut Output, id: ThreadId)
 }
 
 /// Adds `N ipc TAG ERROR FROM`, of a line that goes on with the words.
+#[inline(always)]
 fn add_ipc_head(out: &mut Output, number: u32, reply: &IpcReply)
     requires { length out.old.0 + 80 ≤ held_bytes }
     ensures value { out.new ≡ (out.old.0 ++ ipc_head number reply.now, out.old.1) }

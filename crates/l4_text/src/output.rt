@@ -236,20 +236,20 @@ impl Output {
         if number < 10 {
             return self.push(b'0' + number as u8);
         }
+        if number < 100 {
+            return self.add(&two_digits(number as u8));
+        }
         self.add_longer(number);
     }
 
-    /// `add_number` for a number of two digits or more.
+    /// `add_number` for a number of three digits or more.
     #[inline(never)]
     fn add_longer(&mut self, number: u64)
-        requires long { 10 ≤ number }
+        requires long { 100 ≤ number }
         requires room { length self.old.0 + 20 ≤ held_bytes }
         ensures value { self.new ≡ (self.old.0 ++ decimal number, self.old.1) }
         ensures len { length self.new.0 ≤ length self.old.0 + 20 }
     {
-        if number < 100 {
-            return self.add(&two_digits(number as u8));
-        }
         if number < 10_000 {
             return self.add_hundreds(number as u16);
         }
