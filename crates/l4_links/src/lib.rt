@@ -128,6 +128,14 @@ impl Links {
         self.pages.add(space)
     }
 
+    /// Takes the memory for so many more pages at once, but for the tables that name them, so that none of it is taken twice.
+    pub fn reserve(&mut self, pages: usize) -> Result<(), NoMemory>
+        ensures { self.new ≡ self.old }
+    {
+        self.nodes.reserve(pages)?;
+        Ok(())
+    }
+
     /// Ends a space that no key is of. Nothing changes if it isn't there.
     pub fn end_space(&mut self, space: u64)
         requires empty { NoKeyFrom self.old.entries space 0 }

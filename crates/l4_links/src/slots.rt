@@ -173,6 +173,14 @@ impl Slots {
         Ok(())
     }
 
+    /// Takes the room for so many more slots, and for what is noted of their keys, at once.
+    pub(crate) fn reserve(&mut self, slots: usize) -> Result<(), AllocError>
+        ensures { self.new.slots ≡ self.old.slots }
+    {
+        self.packed.reserve(slots)?;
+        self.notes.reserve(slots)
+    }
+
     /// Puts this into a new slot, of whose key nothing is noted, and gives its key. There is room for it.
     #[inline]
     pub(crate) fn insert_reserved(&mut self, slot: Packed) -> usize

@@ -20,7 +20,7 @@ use Rattle.l4_mapdb.proofs.Buried.{cut_clean, cut_loses}
 use Rattle.l4_mapdb.proofs.View.{at_place, some_standing, stands_at, descends_by_key, key_above, shown_by_key}
 
 -- the keys of the roots stay
-pub roots_cut : (Covered : ℕ → Type 0) (rights : RightsSet) (old : Linked) (new : Entries) (roots : List (Option ℕ)) → IsClean old → CutsKeys Covered rights old.entries new
+pub roots_cut : (Covered : ℕ → Type 0) (rights : RightsSet) (old : Linked) (new : Entries) (roots : List ℕ) → IsClean old → CutsKeys Covered rights old.entries new
     → RootsKnown old.entries roots → RootsKnown new roots
 roots_cut Covered rights old new roots clean cuts known key t at top =
     let e = some_standing new key t at in

@@ -291,20 +291,20 @@ module _ (start now : Linked) (from to : ℕ) (items : List ItemMove) (ready : I
           ]
 
   -- what is left without a parent stood under its key at the start
-  root_now : (key : ℕ) (e : Entry) (t : Standing) → entry_at now.entries key ≡ Some e → e.stands ≡ Some t → t.parent ≡ None → (roots : List (Option ℕ)) → RootsKnown start.entries roots → slice_get roots t.frame ≡ Some (Some key)
+  root_now : (key : ℕ) (e : Entry) (t : Standing) → entry_at now.entries key ≡ Some e → e.stands ≡ Some t → t.parent ≡ None → (roots : List ℕ) → RootsKnown start.entries roots → slice_get roots t.frame ≡ Some key
   root_now key e t at stands top roots known = elim (placed.only key e at) [
     | inl v ↦ at_target v v.move.grant refl
     | inr o ↦ left o.0 o.1 o.2 o.3
   ]
     where
-      at_target : (v : IsTarget start from to items e.place) (b : Bool) → v.move.grant ≡ b → slice_get roots t.frame ≡ Some (Some key)
+      at_target : (v : IsTarget start from to items e.place) (b : Bool) → v.move.grant ≡ b → slice_get roots t.frame ≡ Some key
       at_target v true grant =
           let p = granted_to start now from to items ready Done placed have all v.move v.used grant in
           let key_is : p.key ≡ key = have.once (link_place v.move.target) p.key key (ap (option_map {T = Entry} (λ x. x.place)) p.at) (ap (option_map {T = Entry} (λ x. x.place)) at ∙ ap Some (sym v.target)) in
           let is : e ≡ record { place = link_place v.move.target; wanted = false; stands = Some (record p.standing { source = true; granted = Some p.by.rights }) } = same_value (sym at ∙ ap (entry_at now.entries) (sym key_is) ∙ p.at) in
           let standing_is : t ≡ record p.standing { source = true; granted = Some p.by.rights } = same_value (sym stands ∙ ap (λ (x : Entry). x.stands) is) in
           let was : standing_at start.entries p.key ≡ Some p.standing = ap (option_and_then (λ (x : Entry). x.stands)) p.stood_as.1 ∙ p.stood_as.2 in
-          ap (slice_get roots) (ap (λ (x : Standing). x.frame) standing_is) ∙ known p.key p.standing was (ap (λ (x : Standing). x.parent) (sym standing_is) ∙ top) ∙ ap (λ (k : ℕ). Some (Some k)) key_is
+          ap (slice_get roots) (ap (λ (x : Standing). x.frame) standing_is) ∙ known p.key p.standing was (ap (λ (x : Standing). x.parent) (sym standing_is) ∙ top) ∙ ap (λ (k : ℕ). Some k) key_is
       at_target v false map =
           let c = placed.mapped v.move v.used (all v.move v.used) (λ g. let z : false ≡ true = sym map ∙ g in cc) in
           let child : Standing = record { frame = v.move.shows.frame; rights = v.move.rights; source = false; granted = None; parent = Some c.parent } in
@@ -312,7 +312,7 @@ module _ (start now : Linked) (from to : ℕ) (items : List ItemMove) (ready : I
           let standing_is : t ≡ child = same_value (sym stands ∙ ap (λ (x : Entry). x.stands) is) in
           absurd (let z : ◌≡◌ {A = Option ℕ} (Some c.parent) None = ap (λ (x : Standing). x.parent) (sym standing_is) ∙ top in cc)
 
-      left : (before : Entry) → entry_at start.entries key ≡ Some before → before.place ≡ e.place → ¬ (IsGone Moves (mappings_of start) (map_place e.place)) → slice_get roots t.frame ≡ Some (Some key)
+      left : (before : Entry) → entry_at start.entries key ≡ Some before → before.place ≡ e.place → ¬ (IsGone Moves (mappings_of start) (map_place e.place)) → slice_get roots t.frame ≡ Some key
       left before at_start same there =
           let p = ready.clean key before at_start in
           let l = placed.kept key before p.standing at_start p.stands (λ g. there (subst (λ (q : LinkPlace). IsGone Moves (mappings_of start) (map_place q)) same g)) (not_granted_here start now from to items ready Done placed have all key e before at at_start same) in
@@ -322,7 +322,7 @@ module _ (start now : Linked) (from to : ℕ) (items : List ItemMove) (ready : I
           ∙ known key p.standing (ap (option_and_then (λ (x : Entry). x.stands)) at_start ∙ p.stands) (ap (λ (x : Standing). x.parent) (sym standing_is) ∙ top)
 
   -- the keys of roots that are kept are right in the end
-  pub roots_in_the_end : (roots : List (Option ℕ)) → RootsKnown start.entries roots → RootsKnown new.entries roots
+  pub roots_in_the_end : (roots : List ℕ) → RootsKnown start.entries roots → RootsKnown new.entries roots
   roots_in_the_end roots known key t at top =
       let s = some_standing new.entries key t at in
       elim (tidies.each key) [
@@ -333,7 +333,7 @@ module _ (start now : Linked) (from to : ℕ) (items : List ItemMove) (ready : I
             ap (slice_get roots) (ap (λ (x : Standing). x.frame) t_is) ∙ from_buried w.entry w.standing w.was w.stood (ap (λ (x : Standing). x.parent) (sym t_is) ∙ top)
       ]
     where
-      from_buried : (e : Entry) (t : Standing) → entry_at buried.entries key ≡ Some e → e.stands ≡ Some t → t.parent ≡ None → slice_get roots t.frame ≡ Some (Some key)
+      from_buried : (e : Entry) (t : Standing) → entry_at buried.entries key ≡ Some e → e.stands ≡ Some t → t.parent ≡ None → slice_get roots t.frame ≡ Some key
       from_buried e t at stands top =
           let s = stood_before key e t at stands in
           ap (slice_get roots) s.frame ∙ root_now key s.entry s.standing s.at s.stands (sym s.parent ∙ top) roots known

@@ -34,7 +34,7 @@ one_longer (y ∷ xs) x = let e = one_longer xs x in omega (arith, e)
 nothing : (s : Entries) → s ≡ [] → (key : ℕ) (e : Entry) → entry_at s key ≡ Some e → ⊥
 nothing s empty key e at = let k : ◌≡◌ {A = Option Entry} None (Some e) = ap (λ (s : Entries). entry_at s key) (sym empty) ∙ at in cc
 
-pub owns_none : (s : Entries) (roots : List (Option ℕ)) → s ≡ [] → roots ≡ [] → OwnsFirst 0 s roots
+pub owns_none : (s : Entries) (roots : List ℕ) → s ≡ [] → roots ≡ [] → OwnsFirst 0 s roots
 owns_none s roots empty no_roots = record {
   only = λ key e at. absurd (nothing s empty key e at);
   each = λ frame less. absurd (omega (arith, less));
@@ -42,7 +42,7 @@ owns_none s roots empty no_roots = record {
 }
 
 -- the next frame's page has no key yet
-pub owns_free : (frame : ℕ) (s : Entries) (roots : List (Option ℕ)) → OwnsFirst frame s roots → (key : ℕ) → ¬ (IsAt s (record { space = 0; page = frame }) key)
+pub owns_free : (frame : ℕ) (s : Entries) (roots : List ℕ) → OwnsFirst frame s roots → (key : ℕ) → ¬ (IsAt s (record { space = 0; page = frame }) key)
 owns_free frame s roots owns key at =
     let e = some_entry s (record { space = 0; page = frame }) key at in
     let o = owns.only key e.0 e.1 in
@@ -50,9 +50,9 @@ owns_free frame s roots owns key at =
     omega (arith, same, o.1)
 
 -- the next frame
-pub owns_more : (frame : ℕ) (old mid new : Entries) (roots after : List (Option ℕ)) (key : ℕ) (rights : RightsSet) → OwnsFirst frame old roots
+pub owns_more : (frame : ℕ) (old mid new : Entries) (roots after : List ℕ) (key : ℕ) (rights : RightsSet) → OwnsFirst frame old roots
     → AddsBlank (record { space = 0; page = frame }) old mid key → rights ≡ all_rights
-    → Stands key (record { frame = frame; rights = rights; source = false; granted = None; parent = None }) mid new → after ≡ roots ++ Some key ∷ [] → OwnsFirst (frame + 1) new after
+    → Stands key (record { frame = frame; rights = rights; source = false; granted = None; parent = None }) mid new → after ≡ roots ++ key ∷ [] → OwnsFirst (frame + 1) new after
 owns_more frame old mid new roots after key rights owns adds all stands pushed = record {
   only = λ k e at. elim (same_or k key) [
     | inl same ↦ (frame, omega arith, same_value (sym at ∙ ap (entry_at new) same ∙ here))
@@ -62,14 +62,14 @@ owns_more frame old mid new roots after key rights owns adds all stands pushed =
     | inl same ↦ (
       key,
       here ∙ ap (λ (n : ℕ). Some (own_entry n)) (sym same),
-      ap (λ (r : List (Option ℕ)). slice_get r f) pushed ∙ ap (slice_get (roots ++ Some key ∷ [])) (same ∙ sym owns.count) ∙ get_last roots (Some key),
+      ap (λ (r : List ℕ). slice_get r f) pushed ∙ ap (slice_get (roots ++ key ∷ [])) (same ∙ sym owns.count) ∙ get_last roots key,
     )
     | inr ne ↦
         let o = owns.each f (omega (arith, less, ne)) in
         let other : o.0 ≢ key = λ e. let k : ◌≡◌ {A = Option Entry} None (Some (own_entry f)) = sym adds.vacant ∙ ap (entry_at old) (sym e) ∙ o.1 in cc in
-        (o.0, stands.others o.0 other ∙ adds.others o.0 other ∙ o.1, ap (λ (r : List (Option ℕ)). slice_get r f) pushed ∙ get_front roots (Some key ∷ []) f (Some o.0) o.2)
+        (o.0, stands.others o.0 other ∙ adds.others o.0 other ∙ o.1, ap (λ (r : List ℕ). slice_get r f) pushed ∙ get_front roots (key ∷ []) f o.0 o.2)
   ];
-  count = ap length pushed ∙ one_longer roots (Some key) ∙ ap (λ (n : ℕ). n + 1) owns.count;
+  count = ap length pushed ∙ one_longer roots key ∙ ap (λ (n : ℕ). n + 1) owns.count;
 } where
   here : entry_at new key ≡ Some (own_entry frame)
   here =
@@ -77,7 +77,7 @@ owns_more frame old mid new roots after key rights owns adds all stands pushed =
       ∙ ap (option_map {T = Entry} (λ e. record e { stands = Some (record { frame = frame; rights = rights; source = false; granted = None; parent = None }) })) adds.filled
       ∙ ap (λ (r : RightsSet). Some (record (own_entry frame) { stands = Some (record { frame = frame; rights = r; source = false; granted = None; parent = None }) })) all
 
-module _ (frames : ℕ) (s : Linked) (roots : List (Option ℕ)) (have : HavePlaces s) (owns : OwnsFirst frames s.entries roots) where
+module _ (frames : ℕ) (s : Linked) (roots : List ℕ) (have : HavePlaces s) (owns : OwnsFirst frames s.entries roots) where
   pub owns_first : s.spaces ≡ set.insert set.empty 0 → IsFirst frames (mappings_of s)
   owns_first spaces = record {
     spaces = spaces;
@@ -119,7 +119,7 @@ module _ (frames : ℕ) (s : Linked) (roots : List (Option ℕ)) (have : HavePla
       let own = owns.each o.0 o.1 in
       let frame : t.frame ≡ o.0 = ap (λ (t : Standing). t.frame) (same_value (sym e.2 ∙ ap (λ (e : Entry). e.stands) o.2)) in
       let one : own.0 ≡ key = have.once (record { space = 0; page = o.0 }) own.0 key (ap (option_map {T = Entry} (λ e. e.place)) own.1) (ap (option_map {T = Entry} (λ e. e.place)) (e.1 ∙ ap (λ (e : Entry). Some e) o.2)) in
-      ap (slice_get roots) frame ∙ own.2 ∙ ap (λ (k : ℕ). Some (Some k)) one
+      ap (slice_get roots) frame ∙ own.2 ∙ ap (λ (k : ℕ). Some k) one
 
 pub kept_first : (frames : ℕ) (a : Inside) → frames ≤ 4096 → HavePlaces a.links → OwnsFirst frames a.links.entries a.roots.items → a.links.spaces ≡ set.insert set.empty 0 → IsKept a
 kept_first frames a le have owns spaces = record {

@@ -56,7 +56,7 @@ module _ (start : Linked) (from to : ℕ) (items : List ItemMove) (ground : IsGr
     }
   ]
 
-  pub roots_now : (roots : List (Option ℕ)) → RootsKnown start.entries roots → RootsKnown now.entries roots
+  pub roots_now : (roots : List ℕ) → RootsKnown start.entries roots → RootsKnown now.entries roots
   roots_now roots known key t at top =
       let f = found_of now.entries key t at in
       elim (mapped.only key f.entry f.at) [

@@ -81,20 +81,20 @@ module _ (s : Linked) (have : HavePlaces s) where
               cc
         ] refl
 
-    pub no_root : (roots : List (Option ℕ)) (frame : ℕ) → RootsKnown s.entries roots → kept_at roots frame ≡ None → (place : Place) → ¬ (IsRoot (mappings_of s) frame place)
+    pub no_root : (roots : List ℕ) (frame : ℕ) → RootsKnown s.entries roots → kept_at roots frame ≡ None → (place : Place) → ¬ (IsRoot (mappings_of s) frame place)
     no_root roots frame known none place root =
         let r = root_key frame place root in
-        let at : slice_get roots frame ≡ Some (Some r.0) = ap (slice_get roots) (sym r.4) ∙ known r.0 r.1 r.3 r.5 in
-        let k : ◌≡◌ {A = Option ℕ} None (Some r.0) = sym none ∙ ap (option_and_then (λ (k : Option ℕ). k)) at in
+        let at : slice_get roots frame ≡ Some r.0 = ap (slice_get roots) (sym r.4) ∙ known r.0 r.1 r.3 r.5 in
+        let k : ◌≡◌ {A = Option ℕ} None (Some r.0) = sym none ∙ at in
         cc
 
-    pub root_is : (roots : List (Option ℕ)) (frame key : ℕ) (result : Option Place) → RootsKnown s.entries roots → kept_at roots frame ≡ Some key
+    pub root_is : (roots : List ℕ) (frame key : ℕ) (result : Option Place) → RootsKnown s.entries roots → kept_at roots frame ≡ Some key
         → MatchOption result (NoRootKey s.entries frame key) (IsRootKey s.entries frame key)
         → MatchOption result ((place : Place) → ¬ (IsRoot (mappings_of s) frame place)) (IsRoot (mappings_of s) frame)
     root_is roots frame key None known at none = λ place root.
         let r = root_key frame place root in
-        let known_at : slice_get roots frame ≡ Some (Some r.0) = ap (slice_get roots) (sym r.4) ∙ known r.0 r.1 r.3 r.5 in
-        let one : r.0 ≡ key = same_value (sym (ap (option_and_then (λ (k : Option ℕ). k)) known_at) ∙ at) in
+        let known_at : slice_get roots frame ≡ Some r.0 = ap (slice_get roots) (sym r.4) ∙ known r.0 r.1 r.3 r.5 in
+        let one : r.0 ≡ key = same_value (sym known_at ∙ at) in
         none r.1 (ap (standing_at s.entries) (sym one) ∙ r.3) r.4 r.5
     root_is roots frame key (Some place) known at is = record {
       mapping = mapping_of s.entries is.standing;
@@ -110,8 +110,8 @@ kept_begun a new space (Ok _) ok err kept = subst (λ (s : Linked). IsKept (reco
     (record { clean = kept.clean; known = kept.known; forest = begins_keeps (mappings_of a.links) space kept.forest })
 kept_begun a new space (Err _) ok err kept = subst (λ (s : Linked). IsKept (record { links = s; roots = a.roots })) (sym err) kept
 
-pub kept_within : (roots : List (Option ℕ)) (frame : ℕ) → frame < length roots → slice_index_or roots frame None ≡ kept_at roots frame
-kept_within roots frame less = sym (ap (option_and_then (λ (k : Option ℕ). k)) (slice_get-get_or roots frame None less))
+pub kept_within : (roots : List ℕ) (frame : ℕ) → frame < length roots → Some (slice_index_or roots frame 0) ≡ kept_at roots frame
+kept_within roots frame less = sym (slice_get-get_or roots frame 0 less)
 
 -- what stands where nothing is marked has a right
 pub clean_rights : (s : Linked) → IsClean s → HaveRights s.entries

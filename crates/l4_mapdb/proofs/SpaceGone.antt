@@ -99,7 +99,7 @@ module _ (space : ℕ) (old new : Linked) (have : HavePlaces old) (trees : AreTr
   pub clean_left : IsClean new
   clean_left key e at = clean key e (left key e at).0
 
-  pub roots_left : (roots : List (Option ℕ)) → RootsKnown old.entries roots → RootsKnown new.entries roots
+  pub roots_left : (roots : List ℕ) → RootsKnown old.entries roots → RootsKnown new.entries roots
   roots_left roots known key t at top =
       let e = some_standing new.entries key t at in
       known key t (stands_at old.entries key e.0 t (left key e.0 e.1).0 e.2) top

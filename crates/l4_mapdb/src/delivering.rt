@@ -27,7 +27,7 @@ fn carry_out(links: &mut Links, from: u64, to: u64, items: &[ItemMove])
     ensures delivers { (start : Linked) → IsStart start from to items.now → Cleared (IsUsed (mappings_of start) from to items.now) start links.old → Delivers from to items.now (mappings_of start) (mappings_of links.new) }
     ensures clean { IsClean links.new }
     ensures roots { (start : Linked) → IsStart start from to items.now → Cleared (IsUsed (mappings_of start) from to items.now) start links.old
-        → (roots : List (Option ℕ)) → RootsKnown start.entries roots → RootsKnown links.new.entries roots }
+        → (roots : List ℕ) → RootsKnown start.entries roots → RootsKnown links.new.entries roots }
     ensures spaces { links.new.spaces ≡ links.old.spaces }
 {
     move_all(links, from, to, items);

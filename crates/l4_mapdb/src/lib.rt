@@ -100,7 +100,7 @@ pub enum Cause {
 pub struct Forest {
     links: Links,
     /// The key of each frame's root, also once what stood under it is gone.
-    roots: Vec<Option<usize>>,
+    roots: Vec<u32>,
 }
 
 impl Model for Forest {
@@ -134,7 +134,8 @@ impl Forest {
     {
         let mut links = Links::new(alloc);
         links.add_space(0)?;
-        let mut roots = Vec::new(alloc);
+        links.reserve(frames as usize)?;
+        let mut roots = Vec::with_capacity(alloc, frames as usize)?;
         booting::own_places(&mut links, &mut roots, frames)?;
         Ok(Forest { links, roots })
     }

@@ -47,14 +47,14 @@ pub(crate) fn shown_at(links: &Links, place: Place) -> Option<Mapping>
 }
 
 /// The key that is kept for the frame's root.
-pub(crate) fn kept_key(roots: &[Option<usize>], frame: u32) -> Option<usize>
+pub(crate) fn kept_key(roots: &[u32], frame: u32) -> Option<usize>
     ensures { result ≡ kept_at roots.now frame }
 {
     let index = frame as usize;
     if index >= roots.len() {
         return None;
     }
-    roots[index]
+    Some(roots[index] as usize)
 }
 
 /// The place of the key, if what stands there shows the frame and has no parent.

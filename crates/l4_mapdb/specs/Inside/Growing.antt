@@ -106,4 +106,4 @@ pub record IsDelivered (from to : ℕ) (items : List ItemMove) (old new : Linked
   pub delivers : Delivers from to items (mappings_of old) (mappings_of new)
   pub free : ¬ (IsEntangled (IsUsed (mappings_of old) from to items) (mappings_of old))
   pub clean : IsClean new
-  pub roots : (roots : List (Option ℕ)) → RootsKnown old.entries roots → RootsKnown new.entries roots
+  pub roots : (roots : List ℕ) → RootsKnown old.entries roots → RootsKnown new.entries roots

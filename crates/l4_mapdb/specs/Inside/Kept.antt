@@ -26,8 +26,8 @@ abbrev pub IsClean : Linked → Type 0
 IsClean s = (key : ℕ) (e : Entry) → entry_at s.entries key ≡ Some e → IsPlain e
 
 -- what stands without a parent has the key that is kept for its frame
-abbrev pub RootsKnown : Entries → List (Option ℕ) → Type 0
-RootsKnown s roots = (key : ℕ) (t : Standing) → standing_at s key ≡ Some t → t.parent ≡ None → slice_get roots t.frame ≡ Some (Some key)
+abbrev pub RootsKnown : Entries → List ℕ → Type 0
+RootsKnown s roots = (key : ℕ) (t : Standing) → standing_at s key ≡ Some t → t.parent ≡ None → slice_get roots t.frame ≡ Some key
 
 pub record IsKept (a : Inside) : Type 0 where
   pub clean : IsClean a.links
@@ -35,8 +35,8 @@ pub record IsKept (a : Inside) : Type 0 where
   pub forest : IsForest (mappings_of a.links)
 
 -- the key that is kept for a frame
-abbrev pub kept_at : List (Option ℕ) → ℕ → Option ℕ
-kept_at roots frame = option_and_then (λ (k : Option ℕ). k) (slice_get roots frame)
+abbrev pub kept_at : List ℕ → ℕ → Option ℕ
+kept_at roots frame = slice_get roots frame
 
 -- what stands under the key shows the frame and has no parent
 pub record IsRootKey (s : Entries) (frame key : ℕ) (place : Place) : Type 0 where
@@ -60,7 +60,7 @@ own_entry frame = record {
 }
 
 -- the frames below this number are at the pages of their numbers, with the keys of the roots, and there is nothing else
-pub record OwnsFirst (frames : ℕ) (s : Entries) (roots : List (Option ℕ)) : Type 0 where
+pub record OwnsFirst (frames : ℕ) (s : Entries) (roots : List ℕ) : Type 0 where
   pub only : (key : ℕ) (e : Entry) → entry_at s key ≡ Some e → (frame : ℕ) × (frame < frames) × (e ≡ own_entry frame)
-  pub each : (frame : ℕ) → frame < frames → (key : ℕ) × (entry_at s key ≡ Some (own_entry frame)) × (slice_get roots frame ≡ Some (Some key))
+  pub each : (frame : ℕ) → frame < frames → (key : ℕ) × (entry_at s key ≡ Some (own_entry frame)) × (slice_get roots frame ≡ Some key)
   pub count : length roots ≡ frames
