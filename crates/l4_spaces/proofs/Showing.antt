@@ -151,7 +151,7 @@ wrote_all {k} {ss} {new} {old} {ts} P w here other q = elim (cases_eq q k) [
   | inr ne ↦ subst (λ (t : Rows). P q (tables_of ss q) t) (sym (w.other q ne)) (other q)
 ]
 
-once_same : (ss new : Live) → numbers new ≡ numbers ss → IsOnce ss → IsOnce new
+pub once_same : (ss new : Live) → numbers new ≡ numbers ss → IsOnce ss → IsOnce new
 once_same ss [] e h = tt
 once_same [] (n ∷ ns) e h = absurd (let l : length (n.0 ∷ numbers ns) ≡ 0 = ap length e in omega (arith, l))
 once_same (s ∷ ss) (n ∷ ns) e h =

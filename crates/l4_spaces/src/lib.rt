@@ -6,6 +6,7 @@ ghost use Rattle.std.specs.FinMap as map;
 ghost use Rattle.std.specs.FinSet as set;
 ghost use Rattle.l4_spaces.specs.Inside.Seen.{has, IsOnce, StandsAt};
 
+mod copying;
 mod row;
 mod tables;
 

@@ -80,6 +80,11 @@ impl Row {
         Ok(Row { short, long })
     }
 
+    /// Where the memory comes from.
+    pub(crate) fn allocator(&self) -> Global {
+        *self.short.allocator()
+    }
+
     /// How many places there are.
     pub fn len(&self) -> usize
         ensures { result ≡ length self.now }

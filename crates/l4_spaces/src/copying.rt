@@ -1,0 +1,36 @@
+//! Copies of the tables. A table's copy is made by what is seen of it, and takes as much memory as a table.
+
+ghost use Rattle.std.specs.Prelude.{◌≡◌, IfOk};
+
+use crate::row::Row;
+use crate::{NoMemory, Spaces};
+use std::alloc::AllocError;
+
+impl Clone for Row {
+    ghost use Rattle.std.specs.Prelude.{◌≡◌};
+
+    ghost is_clone = { λ row copy. copy ≡ row };
+
+    fn clone(&self) -> Result<Self, AllocError> {
+        let mut copy = Row::whole(self.allocator(), self.len())?;
+        for low in 0..self.len() {
+            if let Some(key) = self.at(low) {
+                copy.put(low, key);
+            }
+        }
+        Ok(copy)
+    }
+}
+
+impl Spaces {
+    /// The same spaces with the same pages, in tables of their own. What is done with the one is not seen in the other.
+    pub fn copy(&self) -> Result<Spaces, NoMemory>
+        ensures { IfOk result (λ copy. copy ≡ self.now) }
+    {
+        let spaces = self.spaces.clone()?;
+        Ok(Spaces {
+            alloc: self.alloc,
+            spaces,
+        })
+    }
+}
