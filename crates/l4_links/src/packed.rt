@@ -23,7 +23,7 @@ use std::mem::size_of;
 const HALF: u64 = 1 << 32;
 
 /// A number of eight bytes.
-#[derive(Drop)]
+#[derive(Clone, Drop)]
 struct Halves {
     low: u32,
     high: u32,
@@ -81,7 +81,7 @@ struct Parts {
 }
 
 /// These numbers in four bytes.
-#[derive(Drop)]
+#[derive(Clone, Drop)]
 struct Word {
     bits: u32,
 }
@@ -273,7 +273,7 @@ impl Notes {
 }
 
 /// A slot, but for what walks have noted of its key.
-#[derive(Drop)]
+#[derive(Clone, Drop)]
 pub(crate) struct Packed {
     space: Halves,
     /// The page, the rights, what is noted, and the rights of the item that has granted it.
