@@ -8,6 +8,7 @@ ghost use Rattle.l4_fpage.specs.Pages.{max_frames};
 
 mod booting;
 mod clearing;
+mod copying;
 mod cutting;
 mod delivering;
 mod ending;
