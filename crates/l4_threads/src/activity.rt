@@ -17,6 +17,7 @@ use crate::{Envelope, IpcReply, Receiving, Reply, SendPhase, Sending, Source, Th
 use arrayvec::ArrayVec;
 use l4_fpage::Fpage;
 use l4_msg::Item;
+use std::alloc::AllocError;
 use std::marker::Model;
 
 /// Which of an activity's places say what the thread is doing.
@@ -51,6 +52,23 @@ impl Model for Activity {
     ghost coded = { state.the_row.coded };
 
     ghost view = { shown };
+}
+
+impl Clone for Activity {
+    ghost use Rattle.std.specs.Prelude.{◌≡◌, ⊤};
+
+    ghost is_clone = { λ activity copy. copy ≡ activity };
+
+    ghost is_infallible = { λ _. ⊤ };
+
+    fn clone(&self) -> Result<Self, AllocError> {
+        Ok(Activity {
+            phase: self.phase,
+            reply: self.reply.clone()?,
+            sending: self.sending.clone()?,
+            receiving: self.receiving,
+        })
+    }
 }
 
 /// Puts these elements into the place of those that the list has. Where there are as many, none of those is cleared first, and where there are

@@ -2,6 +2,7 @@
 #![tactic(auto)]
 
 mod activity;
+mod copying;
 mod entries;
 mod focus;
 mod roster;

@@ -10,6 +10,7 @@ use crate::entries::{free_all, hand_over};
 use crate::{Envelope, MAX_THREADS, Receiving, Reply, SendPhase, Thread, ThreadId, Wordless};
 use arrayvec::ArrayVec;
 use l4_msg::Item;
+use std::alloc::AllocError;
 use std::marker::Model;
 
 /// How many hints there are.
@@ -36,6 +37,22 @@ impl Model for Roster {
     ghost view = { λ r. r.entries.items };
 
     ghost invariant = { λ r. AreNumbers r.numbers.items r.hints r.entries.items };
+}
+
+impl Clone for Roster {
+    ghost use Rattle.std.specs.Prelude.{◌≡◌, ⊤};
+
+    ghost is_clone = { λ roster copy. copy ≡ roster };
+
+    ghost is_infallible = { λ _. ⊤ };
+
+    fn clone(&self) -> Result<Self, AllocError> {
+        Ok(Roster {
+            entries: self.entries.clone()?,
+            numbers: self.numbers.clone()?,
+            hints: self.hints,
+        })
+    }
 }
 
 /// Where the number stands.

@@ -15,6 +15,7 @@ use crate::{
 };
 use arrayvec::ArrayVec;
 use l4_msg::Item;
+use std::alloc::AllocError;
 use std::marker::Model;
 
 /// The number of the root space.
@@ -46,6 +47,24 @@ impl Model for Threads {
     ghost view = { seen };
 
     ghost invariant = { IsKept };
+}
+
+impl Clone for Threads {
+    ghost use Rattle.std.specs.Prelude.{◌≡◌, ⊤};
+
+    ghost is_clone = { λ threads copy. copy ≡ threads };
+
+    ghost is_infallible = { λ _. ⊤ };
+
+    /// The same threads with their message registers, and the same queue of senders. What is done with the one is not seen in the other.
+    fn clone(&self) -> Result<Self, AllocError> {
+        Ok(Threads {
+            threads: self.threads.clone()?,
+            queue: self.queue.clone()?,
+            next_space: self.next_space,
+            focus: self.focus,
+        })
+    }
 }
 
 ghost use Rattle.l4_threads.specs.Enabled.{offers_to};
