@@ -43,6 +43,8 @@ impl Kernel {
     ghost use Rattle.l4_threads.specs.Threads.{runs, space_of, thread_at, IsConsistent};
     ghost use Rattle.l4_mapdb.specs.Mappings.{shown, IsForest};
     ghost use Rattle.l4_mapdb.specs.Places.{NonePresentFrom, IsNextPresent};
+    ghost use Rattle.l4_threads.specs.Listed.{NoThreadFrom, IsNextThread};
+    ghost use Rattle.l4_mapdb.specs.Listed.{NoSpaceFrom, IsNextSpace};
     ghost use Rattle.l4_ipc.specs.Machine.{IsBoot};
     ghost use Rattle.l4_ipc.specs.SpacePages.{FitIn};
     ghost use Rattle.l4_ipc.specs.Steps.{IsNext, IsIdle, Steps};
@@ -83,6 +85,24 @@ impl Kernel {
             }),
             Err(_) => Err(Refused::Lower(Lower::NoMemory)),
         }
+    }
+
+    /// The same machine, in memory of its own: each thread with what it is doing and its message registers, the queue of senders, each
+    /// space, and what each page shows. What is done with the one is not seen in the other, so a run can be taken both ways.
+    ///
+    /// `NoMemory` comes where a growth was refused, and then there is no copy; the kernel itself stays as it is. A copy takes memory for
+    /// what is mapped, and not for what there is room for.
+    pub fn copy(&self) -> Result<Kernel, NoMemory>
+        ensures { IfOk result (λ copy. copy ≡ self.now) }
+    {
+        let forest = self.forest.copy()?;
+        let threads = self.threads.clone()?;
+        Ok(Kernel {
+            threads,
+            forest,
+            size: self.size,
+            alloc: self.alloc,
+        })
     }
 
     /// Does one step, and says what it did and whose calls ended in it, or why it is refused. A refused step changes nothing.
@@ -246,6 +266,20 @@ impl Kernel {
         ensures { option_copied result ≡ thread_at self.now.threads number }
     {
         self.threads.thread(number)
+    }
+
+    /// The least number of a thread that is not below `from`, None where there is none.
+    pub fn next_thread(&self, from: u32) -> Option<u32>
+        ensures { MatchOption result (NoThreadFrom self.now.threads from) (IsNextThread self.now.threads from) }
+    {
+        self.threads.next_thread(from)
+    }
+
+    /// The least number of a space that is not below `from`, None where there is none.
+    pub fn next_space(&self, from: u64) -> Option<u64>
+        ensures { MatchOption result (NoSpaceFrom self.now.mappings from) (IsNextSpace self.now.mappings from) }
+    {
+        self.forest.next_space(from)
     }
 
     /// The size of the pages and frames, as it was chosen at boot.

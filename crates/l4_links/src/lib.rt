@@ -101,6 +101,7 @@ impl Model for Links {
 }
 
 impl Links {
+    ghost use Rattle.l4_spaces.specs.Listed.{NoSpaceFrom, IsNextSpace};
     ghost use Rattle.l4_links.specs.Entries.{entry_at, standing_at, parent_of, IsStanding, IsBlank, IsAt, IsSource, HaveRights, HavePlaces, AreTrees, NoKeyFrom, IsNextKey, NoKeyIn, IsNextKeyIn, IsKeyOf, NoParentIn, IsNextParentIn, Descends, AddsBlank, Stands, Sprouts, AddsChild, Clears, CutsBelow, Buries, CapsBelow, CapsTree, SetsSource, SetsPlain, SetsWanted, TakesOver, MovesPages, Hinders, LacksPlace};
     ghost use Rattle.l4_links.specs.declared.Standing.{Standing as AStanding};
 
@@ -143,6 +144,13 @@ impl Links {
         ensures { self.new ≡ record self.old { spaces = set.remove self.old.spaces space } }
     {
         self.pages.remove(space);
+    }
+
+    /// The least number of a space that is not below `from`, None where there is none.
+    pub fn next_space(&self, from: u64) -> Option<u64>
+        ensures { MatchOption result (NoSpaceFrom self.now.spaces from) (IsNextSpace self.now.spaces from) }
+    {
+        self.pages.next_space(from)
     }
 
     /// The key of the page.

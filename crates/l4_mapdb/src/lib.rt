@@ -119,6 +119,7 @@ impl Model for Forest {
 }
 
 impl Forest {
+    ghost use Rattle.l4_mapdb.specs.Listed.{NoSpaceFrom, IsNextSpace};
     ghost use Rattle.l4_mapdb.specs.Mappings.{Mappings, shown, IsForest, IsRoot};
     ghost use Rattle.l4_mapdb.specs.Boot.{IsFirst};
     ghost use Rattle.l4_mapdb.specs.Places.{NonePresentFrom, IsNextPresent};
@@ -149,6 +150,13 @@ impl Forest {
         ensures there { IsTrue (set.contains self.old.spaces space) → self.new ≡ self.old }
     {
         self.links.add_space(space)
+    }
+
+    /// The least number of a space that is not below `from`, None where there is none.
+    pub fn next_space(&self, from: u64) -> Option<u64>
+        ensures { MatchOption result (NoSpaceFrom self.now from) (IsNextSpace self.now from) }
+    {
+        self.links.next_space(from)
     }
 
     /// What the page of the space shows, None if it is not present.

@@ -7,6 +7,7 @@ ghost use Rattle.std.specs.FinSet as set;
 ghost use Rattle.l4_spaces.specs.Inside.Seen.{has, IsOnce, StandsAt};
 
 mod copying;
+mod numbers;
 mod row;
 mod tables;
 

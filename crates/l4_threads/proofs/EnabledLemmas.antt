@@ -189,10 +189,10 @@ offer_receives (Some (Sends x)) (Some (Sends y)) s r h = absurd (false≢true h)
 pub none_first : (t : Threads) → ((n : ℕ) → option_map_or is_receiving (state_of t n) false ≡ false) → (s r : ℕ) → ¬ (IsFirstSender t r s)
 none_first t none s r first = false≢true (sym (none r) ∙ offer_receives (state_of t s) (state_of t r) s r first.offers)
 
--- the least so far, of the entries before a place, that can expire
-abbrev pub LeastSoFar : Threads → Entries → ℕ → Option ℕ → Type 0
-LeastSoFar t es i None = (k : ℕ) (e : ℕ × Thread) → k < i → slice_get es k ≡ Some e → ¬ (CanExpire t e.0)
-LeastSoFar t es i (Some n) = CanExpire t n × ((k : ℕ) (e : ℕ × Thread) → k < i → slice_get es k ≡ Some e → CanExpire t e.0 → n ≤ e.0)
+-- the least so far, of the entries before a place, for which this holds
+abbrev pub LeastSoFar : (ℕ → Type 0) → Entries → ℕ → Option ℕ → Type 0
+LeastSoFar P es i None = (k : ℕ) (e : ℕ × Thread) → k < i → slice_get es k ≡ Some e → ¬ (P e.0)
+LeastSoFar P es i (Some n) = P n × ((k : ℕ) (e : ℕ × Thread) → k < i → slice_get es k ≡ Some e → P e.0 → n ≤ e.0)
 
 -- what holds of the entries before a place and of the one there
 up_to : (P : ℕ → Type 0) (es : Entries) (i : ℕ) (x : ℕ × Thread) → slice_get es i ≡ Some x → P x.0 → ((k : ℕ) (e : ℕ × Thread) → k < i → slice_get es k ≡ Some e → P e.0)
@@ -206,23 +206,23 @@ up_to P es i x there here before k e lt at =
       | inr other ↦ before k e (omega arith) at
     ]
 
-pub least_skips : (t : Threads) (es : Entries) (i : ℕ) (x : ℕ × Thread) → slice_get es i ≡ Some x → ¬ (CanExpire t x.0) → (o : Option ℕ) → LeastSoFar t es i o → LeastSoFar t es (i + 1) o
-least_skips t es i x there cannot None h = up_to (λ n. ¬ (CanExpire t n)) es i x there cannot h
-least_skips t es i x there cannot (Some n) h = (h.0, up_to (λ m. CanExpire t m → n ≤ m) es i x there (λ can. absurd (cannot can)) h.1)
+pub least_skips : (P : ℕ → Type 0) (es : Entries) (i : ℕ) (x : ℕ × Thread) → slice_get es i ≡ Some x → ¬ (P x.0) → (o : Option ℕ) → LeastSoFar P es i o → LeastSoFar P es (i + 1) o
+least_skips P es i x there cannot None h = up_to (λ n. ¬ (P n)) es i x there cannot h
+least_skips P es i x there cannot (Some n) h = (h.0, up_to (λ m. P m → n ≤ m) es i x there (λ can. absurd (cannot can)) h.1)
 
-pub least_takes : (t : Threads) (es : Entries) (i : ℕ) (x : ℕ × Thread) → slice_get es i ≡ Some x → CanExpire t x.0 → (o : Option ℕ) → LeastSoFar t es i o
-    → LeastSoFar t es (i + 1) (Some (option_map_or (λ other. if nat_lt other x.0 then other else x.0) o x.0))
-least_takes t es i x there can None h =
-    (can, up_to (λ m. CanExpire t m → x.0 ≤ m) es i x there (λ _. omega arith) (λ k e lt at other. absurd (h k e lt at other)))
-least_takes t es i x there can (Some n) h =
-    elim (nat_lt n x.0) as (λ b. nat_lt n x.0 ≡ b → LeastSoFar t es (i + 1) (Some (if b then n else x.0))) [
-      | true ↦ λ less. let le : n ≤ x.0 = grind (arith, nat_tests) in (h.0, up_to (λ m. CanExpire t m → n ≤ m) es i x there (λ _. le) h.1)
+pub least_takes : (P : ℕ → Type 0) (es : Entries) (i : ℕ) (x : ℕ × Thread) → slice_get es i ≡ Some x → P x.0 → (o : Option ℕ) → LeastSoFar P es i o
+    → LeastSoFar P es (i + 1) (Some (option_map_or (λ other. if nat_lt other x.0 then other else x.0) o x.0))
+least_takes P es i x there can None h =
+    (can, up_to (λ m. P m → x.0 ≤ m) es i x there (λ _. omega arith) (λ k e lt at other. absurd (h k e lt at other)))
+least_takes P es i x there can (Some n) h =
+    elim (nat_lt n x.0) as (λ b. nat_lt n x.0 ≡ b → LeastSoFar P es (i + 1) (Some (if b then n else x.0))) [
+      | true ↦ λ less. let le : n ≤ x.0 = grind (arith, nat_tests) in (h.0, up_to (λ m. P m → n ≤ m) es i x there (λ _. le) h.1)
       | false ↦ λ more.
           let le : x.0 ≤ n = grind (arith, nat_tests) in
-          (can, up_to (λ m. CanExpire t m → x.0 ≤ m) es i x there (λ _. omega arith) (λ k e lt at other. let far = h.1 k e lt at other in omega arith))
+          (can, up_to (λ m. P m → x.0 ≤ m) es i x there (λ _. omega arith) (λ k e lt at other. let far = h.1 k e lt at other in omega arith))
     ] refl
 
-pub least_of_all : (es : Entries) (queue : List ℕ) (next : ℕ) (t : Threads) → threads_of es queue next ≡ t → (i : ℕ) → length es ≤ i → (o : Option ℕ) → LeastSoFar t es i o
+pub least_of_all : (es : Entries) (queue : List ℕ) (next : ℕ) (t : Threads) → threads_of es queue next ≡ t → (i : ℕ) → length es ≤ i → (o : Option ℕ) → LeastSoFar (CanExpire t) es i o
     → MatchOption o ((n : ℕ) → ¬ (CanExpire t n)) (IsNextExpiry t)
 least_of_all es queue next t is i all o h = each o h where
   stands : (n : ℕ) → CanExpire t n → (k : ℕ) × (thread : Thread) × (k < i) × (slice_get es k ≡ Some (n, thread))
@@ -232,6 +232,6 @@ least_of_all es queue next t is i all o h = each o h where
       let within = slice_get_within es at.0 (n, there.0) at.1 in
       (at.0, there.0, omega arith, at.1)
 
-  each : (o : Option ℕ) → LeastSoFar t es i o → MatchOption o ((n : ℕ) → ¬ (CanExpire t n)) (IsNextExpiry t)
+  each : (o : Option ℕ) → LeastSoFar (CanExpire t) es i o → MatchOption o ((n : ℕ) → ¬ (CanExpire t n)) (IsNextExpiry t)
   each None h = λ n can. let s = stands n can in h s.0 (n, s.1) s.2 s.3 can
   each (Some m) h = record { can_expire = h.0; least = λ n can. let s = stands n can in h.1 s.0 (n, s.1) s.2 s.3 can }

@@ -4,6 +4,7 @@ pub mod NumberLemmas
 pub mod QueueLemmas
 pub mod ViewLemmas
 pub mod EnabledLemmas
+pub mod NextLemmas
 pub mod TransferLemmas
 pub mod BootLemmas
 pub mod ControlLemmas

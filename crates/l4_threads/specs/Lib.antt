@@ -2,6 +2,7 @@ pub mod Threads
 pub mod Activities
 pub mod Enabled
 pub mod Control
+pub mod Listed
 pub mod Queue
 pub mod Endings
 pub mod Sizes

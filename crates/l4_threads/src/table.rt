@@ -95,6 +95,7 @@ impl Threads {
     ghost use Rattle.l4_threads.specs.declared.State.TheVariants.{Sending as Sends};
     ghost use Rattle.l4_threads.specs.Endings.{wordless_reply};
     ghost use Rattle.l4_threads.specs.Enabled.{Offers, IsFirstSender, IsNextTransfer, CanExpire, IsNextExpiry};
+    ghost use Rattle.l4_threads.specs.Listed.{NoThreadFrom, IsNextThread};
     ghost use Rattle.l4_threads.specs.Inside.Taker.{taker, TakesPart};
     ghost use Rattle.l4_threads.specs.Inside.Transfers.{AreTransfers};
     ghost use Rattle.l4_threads.specs.Control.{is_privileged, space_for, is_full, create_test, CanCreate, created, set_pager_test, with_pager, delete_test, Deletes, IsEndedList, HasEnded, TellsEnd};
@@ -132,6 +133,19 @@ impl Threads {
             next_space: 2,
             focus: Focus::Nobody,
         }
+    }
+
+    /// The least number of a thread that is not below `from`, None where there is none.
+    pub fn next_thread(&self, from: u32) -> Option<u32>
+        ensures { MatchOption result (NoThreadFrom self.now from) (IsNextThread self.now from) }
+    {
+        let mut least = None;
+        for entry in self.threads.as_slice() {
+            if entry.0 >= from {
+                least = Some(lesser(least, entry.0));
+            }
+        }
+        least
     }
 
     /// The thread of this number.

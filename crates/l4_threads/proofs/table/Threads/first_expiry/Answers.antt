@@ -2,7 +2,7 @@ use Rattle.std.proofs.Common.{◌≡◌, ℕ, Some, refl, sym, ap, ◌∙◌, su
 use Rattle.std.proofs.lemmas.Option.{slice_get_read}
 use Rattle.std.proofs.lemmas.Bool.{false≢true}
 use Rattle.l4_threads.specs.Inside.Entries.{Entries, any_state}
-use Rattle.l4_threads.specs.Enabled.{expires}
+use Rattle.l4_threads.specs.Enabled.{expires, CanExpire}
 use Rattle.l4_threads.specs.Inside.Transfers.{AreTransfers}
 use Rattle.l4_threads.specs.Inside.Kept.{threads_of}
 use Rattle.l4_threads.proofs.EnabledLemmas.{LeastSoFar, least_skips, least_takes, least_of_all, never_expires, none_such}
@@ -26,11 +26,11 @@ loop-entry-preserved c =
     c.expires_beside.result c.expires_beside.ensures in
     elim c.if-expires_beside.branch [
       | then-expires_beside w ↦
-          subst (LeastSoFar c.args.self.now es _) (sym (w.least-is ∙ ap (λ (n : ℕ). Some n) w.lesser.ensures))
-          (least_takes c.args.self.now es c.loop-entry.entry-index c.entry-item.result there (can.0 w.if-expires_beside.true) c.loop-entry.least c.loop-entry.invariant)
+          subst (LeastSoFar (CanExpire c.args.self.now) es _) (sym (w.least-is ∙ ap (λ (n : ℕ). Some n) w.lesser.ensures))
+          (least_takes (CanExpire c.args.self.now) es c.loop-entry.entry-index c.entry-item.result there (can.0 w.if-expires_beside.true) c.loop-entry.least c.loop-entry.invariant)
       | else-expires_beside w ↦
-          subst (LeastSoFar c.args.self.now es _) (sym w.least-is)
-          (least_skips c.args.self.now es c.loop-entry.entry-index c.entry-item.result there (λ h. false≢true (sym w.if-expires_beside.false ∙ can.1 h)) c.loop-entry.least c.loop-entry.invariant)
+          subst (LeastSoFar (CanExpire c.args.self.now) es _) (sym w.least-is)
+          (least_skips (CanExpire c.args.self.now) es c.loop-entry.entry-index c.entry-item.result there (λ h. false≢true (sym w.if-expires_beside.false ∙ can.1 h)) c.loop-entry.least c.loop-entry.invariant)
     ]
 
 pub returns : goal.returns
