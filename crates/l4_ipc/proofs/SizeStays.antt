@@ -1,6 +1,5 @@
 -- The size of pages is chosen at boot, and stays.
 use Rattle.std.proofs.Common.{◌≡◌, ℕ, List, ap, Result, Ok, Err}
-use Rattle.l4_fpage.specs.declared.sizes.PageSize.{PageSize}
 use Rattle.l4_threads.specs.declared.Thread.{Thread}
 use Rattle.l4_ipc.specs.declared.calls.Call.{Call}
 use Rattle.l4_ipc.specs.declared.calls.Call.TheVariants.{Ipc, Fault, Unmap, Control as Controls}
