@@ -151,6 +151,12 @@ uint32_t l4_boot(l4_kernel *kernel, uint32_t frames);
 /* The same with pages and frames of so many bytes, for as long as there is the kernel. Refusals in this order: B4, B2, K6, NoMemory. */
 uint32_t l4_boot_sized(l4_kernel *kernel, uint32_t frames, uint32_t page_bytes);
 
+/* Makes a copy of a kernel: the same threads with what each is doing and its message registers, the same queue of senders, the same
+ * spaces, and the same pages, in memory of its own. What is done with the one is not seen in the other. The second handle is empty, and
+ * holds the copy from then on; after a refusal it is as before. The first is as before in either case. A copy takes memory for what is
+ * mapped. Refusals in this order: B1 of the kernel, B2 of the copy, NoMemory. */
+uint32_t l4_copy(l4_kernel *kernel, l4_kernel *copy);
+
 /* Frees a kernel with all its memory. The handle is empty then. */
 void l4_free(l4_kernel *kernel);
 
@@ -280,6 +286,21 @@ typedef struct l4_space {
 /* The space of a thread. Refusals: B1. */
 l4_space l4_space_of(l4_kernel *kernel, uint32_t thread);
 
+/* The least number of a space that is not below `space`; there is 0 where there is none. Begun at 0, and then at the number found and 1,
+ * it lists all spaces. Refusals: B1. */
+l4_space l4_next_space(l4_kernel *kernel, uint64_t space);
+
+/* The number of a thread; there is 0 where there is none. */
+typedef struct l4_thread {
+    uint32_t refusal;
+    uint32_t there;
+    uint32_t thread;
+} l4_thread;
+
+/* The least number of a thread that is not below `thread`. Begun at 0, and then at the number found and 1, it lists all threads.
+ * Refusals: B1. */
+l4_thread l4_next_thread(l4_kernel *kernel, uint32_t thread);
+
 /* How many bytes a page of a kernel has: L4_PAGE_BYTES or L4_SMALL_PAGE_BYTES. */
 typedef struct l4_page_size {
     uint32_t refusal;
@@ -321,6 +342,38 @@ typedef struct l4_region {
     uint32_t count;
     uint32_t rights;
 } l4_region;
+
+/* WHAT A PAGER AND SIGMA0 ARE SENT. No handle is needed. */
+
+/* A page fault: its address and the instruction that tried the access, in bytes, and the rights that the access needs; there is 0
+ * where the message is none. */
+typedef struct l4_fault {
+    uint32_t refusal;
+    uint32_t detail;
+    uint32_t there;
+    uint32_t address;
+    uint32_t ip;
+    uint32_t access;
+} l4_fault;
+
+/* The page fault that a message of this many words tells, from the tag on: a fault's label is 0xFFE0 to 0xFFE7, with two untyped words
+ * and no item. Words after the message mean nothing. Refusals: those of the message (M7, M1, M5, M2, M4 or M3). */
+l4_fault l4_read_fault(const uint32_t *words, size_t count);
+
+/* A request for frames: the word of the fpage whose pages' frames are asked for, without rights, and the memory attributes, of which 0
+ * asks for the machine's own; there is 0 where the message is none. */
+typedef struct l4_request {
+    uint32_t refusal;
+    uint32_t detail;
+    uint32_t there;
+    uint32_t fpage;
+    uint32_t attributes;
+} l4_request;
+
+/* The request for frames that a message of this many words is, from the tag on: a request's label is 0xFFA0, with two untyped words, of
+ * which the first is an fpage, and no item. Words after the message mean nothing. Refusals: those of the message (M7, M1, M5, M2, M4 or
+ * M3). */
+l4_request l4_read_request(const uint32_t *words, size_t count);
 
 /* THE TABLES OF PAGERS */
 

@@ -68,6 +68,7 @@ static void empty_handles(void) {
     EXPECT(l4_page_size_of(&kernel).refusal == L4_B1 && l4_page_size_of(&kernel).page_bytes == 0);
     EXPECT(l4_mapping_of(&kernel, 0, 0).refusal == L4_B1);
     EXPECT(l4_next_page(&kernel, 0, 0).refusal == L4_B1);
+    EXPECT(l4_next_thread(&kernel, 0).refusal == L4_B1 && l4_next_space(&kernel, 0).refusal == L4_B1);
     {
         l4_call call = kind(L4_IPC);
         EXPECT(l4_enter(&kernel, 1, &call, no_words, 0, &step, 1).start.refusal == L4_B1);
@@ -200,6 +201,54 @@ static void delivers(l4_kernel *kernel) {
     EXPECT(mapping.there == 1 && mapping.frame == 16 && mapping.rights == (L4_READ | L4_WRITE | L4_EXECUTE));
     EXPECT(mapping.has_parent == 1 && mapping.parent_page == 16 && mapping.parent_space == 0);
     EXPECT(l4_mapping_of(kernel, 0, 16).has_parent == 0 && l4_mapping_of(kernel, 2, 31).there == 0);
+}
+
+/* The threads and spaces of the machine that `delivers` leaves. */
+static void lists(l4_kernel *kernel) {
+    EXPECT(l4_next_thread(kernel, 0).there == 1 && l4_next_thread(kernel, 0).thread == 1);
+    EXPECT(l4_next_thread(kernel, 2).thread == 2 && l4_next_thread(kernel, 3).thread == 3 && l4_next_thread(kernel, 4).there == 0);
+    EXPECT(l4_next_space(kernel, 0).there == 1 && l4_next_space(kernel, 0).space == 0 && l4_next_space(kernel, 1).space == 1);
+    EXPECT(l4_next_space(kernel, 2).space == 2 && l4_next_space(kernel, 3).there == 0);
+}
+
+/* The run of the machine that `delivers` leaves, taken both ways: thread 1 waits to send to thread 2, for no time. */
+static void copies(void) {
+    static const uint32_t words[2] = {1, 5}, whole[1] = {0x12};
+    l4_kernel kernel = L4_EMPTY, copy = L4_EMPTY, other = L4_EMPTY;
+    l4_call call = send(2);
+    EXPECT(l4_copy(&kernel, &copy) == L4_B1 && l4_enabled(&copy).refusal == L4_B1);
+    EXPECT(l4_boot(&kernel, 256) == L4_OK);
+    delivers(&kernel);
+    call.timeouts = L4_ZERO_TIMEOUT << 16;
+    EXPECT(l4_start(&kernel, 1, &call, words, 2).refusal == L4_OK);
+    EXPECT(l4_copy(&kernel, &copy) == L4_OK && l4_copy(&kernel, &copy) == L4_B2 && l4_copy(&copy, &other) == L4_OK);
+    lists(&copy);
+    EXPECT(plainly(&kernel, 2, receive(0)).refusal == L4_OK && l4_next(&kernel).outcome == L4_DELIVERED);
+    EXPECT(l4_reply_of(&kernel, 2).word_count == 1 && l4_reply_of(&kernel, 2).words[0] == 5);
+    EXPECT(l4_expire(&copy, 1).outcome == L4_EXPIRED && l4_reply_of(&copy, 1).error == 2 && l4_reply_of(&copy, 2).kind == L4_REPLY_CONTROLLED);
+    call = kind(L4_UNMAP);
+    EXPECT(l4_start(&copy, 1, &call, whole, 1).refusal == L4_OK);
+    EXPECT(l4_mapping_of(&copy, 2, 32).rights == (L4_READ | L4_EXECUTE) && l4_mapping_of(&kernel, 2, 32).rights == 7);
+    l4_free(&kernel);
+    EXPECT(l4_enabled(&other).kind == L4_EXPIRE && l4_enabled(&other).thread == 1 && l4_mapping_of(&other, 2, 32).rights == 7);
+    EXPECT(l4_reply_of(&other, 3).word_count == 2 && l4_reply_of(&other, 3).words[1] == 0x100c7);
+    l4_free(&other);
+    l4_free(&copy);
+}
+
+/* What the words of messages tell a pager and sigma0. */
+static void readers(void) {
+    static const uint32_t request[3] = {0xffa00002, 0x100f5, 1}, no_fpage[3] = {0xffa00002, 0x20, 0};
+    uint32_t words[3];
+    l4_fault fault;
+    fault_words(words, 0x21123, L4_READ);
+    fault = l4_read_fault(words, 3);
+    EXPECT(fault.refusal == L4_OK && fault.there == 1 && fault.address == 0x21123 && fault.ip == 0x1000 && fault.access == L4_READ);
+    EXPECT(l4_read_fault(words, 2).refusal == L4_M7 && l4_read_request(words, 2).refusal == L4_M7);
+    EXPECT(l4_read_request(words, 3).refusal == L4_OK && l4_read_request(words, 3).there == 0);
+    EXPECT(l4_read_request(request, 3).there == 1 && l4_read_request(request, 3).fpage == 0x100f0 && l4_read_request(request, 3).attributes == 1);
+    EXPECT(l4_read_fault(request, 3).refusal == L4_OK && l4_read_fault(request, 3).there == 0);
+    EXPECT(l4_read_request(no_fpage, 3).refusal == L4_OK && l4_read_request(no_fpage, 3).there == 0);
 }
 
 /* The other kinds of calls, on the machine that `delivers` leaves. */
@@ -508,6 +557,8 @@ int main(int count, char **words) {
     refusals(&kernel);
     enters(&kernel);
     l4_free(&kernel);
+    copies();
+    readers();
     plans();
     small_kernels();
     small_tables();

@@ -20,6 +20,7 @@ from . import draw
 from .calls import Call
 from .kernel import Answer, Done, Entered, Expire, Kernel, Mapping, Outcome, Place, Reply, ReplyKind, Step, Transfer
 from .plans import Plan, Region
+from .protocols import FrameRequest, PageFault
 from .refusals import IpcFailed, Refused, TooLong
 from .shared import Entry, Receipt, Seat, SharedKernel, Start
 from .tables import Pager, Sigma0
@@ -57,12 +58,14 @@ __all__ = [
     "Entry",
     "Expire",
     "Fpage",
+    "FrameRequest",
     "IpcFailed",
     "Item",
     "Kernel",
     "Mapping",
     "Message",
     "Outcome",
+    "PageFault",
     "Pager",
     "Place",
     "Plan",

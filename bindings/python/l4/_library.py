@@ -149,6 +149,10 @@ class l4_space(Structure):
     _fields_ = numbers("refusal there") + [("space", c_uint64)]
 
 
+class l4_thread(Structure):
+    _fields_ = numbers("refusal there thread")
+
+
 class l4_page_size(Structure):
     _fields_ = numbers("refusal page_bytes")
 
@@ -159,6 +163,14 @@ class l4_mapping(Structure):
 
 class l4_page(Structure):
     _fields_ = numbers("refusal there page")
+
+
+class l4_fault(Structure):
+    _fields_ = numbers("refusal detail there address ip access")
+
+
+class l4_request(Structure):
+    _fields_ = numbers("refusal detail there fpage attributes")
 
 
 class l4_region(Structure):
@@ -233,9 +245,12 @@ STRUCTS = [
     l4_entered,
     l4_reply,
     l4_space,
+    l4_thread,
     l4_page_size,
     l4_mapping,
     l4_page,
+    l4_fault,
+    l4_request,
     l4_region,
     l4_pager,
     l4_message,
@@ -264,6 +279,7 @@ FUNCTIONS: Dict[str, Tuple[Any, List[Any]]] = {
     "l4_refusal_text": (c_size_t, [c_uint32, c_char_p, c_size_t]),
     "l4_boot": (c_uint32, [KERNEL, c_uint32]),
     "l4_boot_sized": (c_uint32, [KERNEL, c_uint32, c_uint32]),
+    "l4_copy": (c_uint32, [KERNEL, KERNEL]),
     "l4_free": (None, [KERNEL]),
     "l4_start": (l4_answer, [KERNEL, c_uint32, POINTER(l4_call), WORDS, c_size_t]),
     "l4_transfer": (l4_answer, [KERNEL, c_uint32, c_uint32]),
@@ -273,9 +289,13 @@ FUNCTIONS: Dict[str, Tuple[Any, List[Any]]] = {
     "l4_enter": (l4_entered, [KERNEL, c_uint32, POINTER(l4_call), WORDS, c_size_t, POINTER(l4_step), c_size_t]),
     "l4_reply_of": (l4_reply, [KERNEL, c_uint32]),
     "l4_space_of": (l4_space, [KERNEL, c_uint32]),
+    "l4_next_space": (l4_space, [KERNEL, c_uint64]),
+    "l4_next_thread": (l4_thread, [KERNEL, c_uint32]),
     "l4_page_size_of": (l4_page_size, [KERNEL]),
     "l4_mapping_of": (l4_mapping, [KERNEL, c_uint64, c_uint32]),
     "l4_next_page": (l4_page, [KERNEL, c_uint64, c_uint32]),
+    "l4_read_fault": (l4_fault, [WORDS, c_size_t]),
+    "l4_read_request": (l4_request, [WORDS, c_size_t]),
     "l4_pager_new": (c_uint32, [PAGER]),
     "l4_pager_new_sized": (c_uint32, [PAGER, c_uint32]),
     "l4_pager_free": (None, [PAGER]),

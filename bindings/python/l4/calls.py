@@ -172,12 +172,6 @@ class Call:
         """The words of its message, or of its Unmap."""
         return self._words
 
-    @property
-    def created(self) -> Optional[int]:
-        """The number of the thread that it would create, else None."""
-        members = dict(self._members)
-        return members["id"] >> 14 if members["kind"] == _library.L4_CREATE else None
-
     def given(self) -> _library.l4_call:
         """What the library reads."""
         return _library.l4_call(**dict(self._members))

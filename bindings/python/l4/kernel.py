@@ -4,7 +4,7 @@ from __future__ import annotations
 import enum
 from ctypes import byref
 from dataclasses import dataclass
-from typing import Any, Callable, Iterator, Optional, Set, Tuple, Union
+from typing import Any, Callable, Iterator, Optional, Tuple, Union
 
 from . import _library
 from ._handles import Handle
@@ -233,7 +233,26 @@ class Kernel(Handle):
         given = number(frames, "the number of frames"), number(page_bytes, "the number of bytes")
         super().__init__(_library.l4_kernel(), library.l4_boot_sized, library.l4_free, *given)
         self._frames = given[0]
-        self._threads = {ThreadId.SIGMA0.number, ThreadId.ROOT.number}
+
+    def copy(self) -> Kernel:
+        """The same machine, in memory of its own.
+
+        It has each thread with what it is doing and its message registers, the queue of senders, each space, and what each page shows. What
+        is done with the one is not seen in the other, so a run can be taken both ways. Refused by NoMemory.
+
+        >>> from l4 import Call, Message, ThreadId, Timeout
+        >>> kernel = Kernel(1)
+        >>> _ = kernel.start(1, Call.send(ThreadId.ROOT, Message.of(untyped=[5]), Timeout.ZERO))
+        >>> copy = kernel.copy()
+        >>> kernel.enter(2, Call.receive()).steps[0].step, copy.enabled()
+        (Transfer(sender=1, receiver=2), Expire(thread=1))
+        """
+        with self._turn:
+            self._told(self._ask(library.l4_page_size_of))
+            copy = Kernel.__new__(Kernel)
+            Handle.__init__(copy, _library.l4_kernel(), lambda made: library.l4_copy(byref(self._handle), made), library.l4_free)
+        copy._frames = self._frames
+        return copy
 
     @property
     def frames(self) -> int:
@@ -251,11 +270,6 @@ class Kernel(Handle):
         given = (byref(call.given()), _library.array(words), len(words))
         return self._ask(function, number(thread, "a thread number"), *given, *rest)
 
-    def _keep(self, call: Call) -> None:
-        """Keeps the number of a thread that was created, as the library tells no list of them."""
-        if call.created is not None:
-            self._threads.add(call.created)
-
     def start(self, thread: int, call: Call) -> Answer:
         """Starts a call of a thread.
 
@@ -263,18 +277,13 @@ class Kernel(Handle):
         K3, K4, then by those of the message and the window (M7, M1, M5, M2, M4 or M3; M6), of an Unmap (U2, U1), or of a control of
         threads (H1 to H6; NoMemory of a Create in a new space).
         """
-        with self._turn:
-            answer = _answer(self._told(self._begin(library.l4_start, thread, call)))
-            self._keep(call)
-        return answer
+        return _answer(self._told(self._begin(library.l4_start, thread, call)))
 
     def enter(self, thread: int, call: Call) -> Entered:
         """Starts a call as `start` does, and then does the steps that come next until there is none."""
         steps = (_library.l4_step * MAX_THREADS)()
-        with self._turn:
-            told = self._begin(library.l4_enter, thread, call, steps, MAX_THREADS)
-            start = _answer(self._told(told.start))
-            self._keep(call)
+        told = self._begin(library.l4_enter, thread, call, steps, MAX_THREADS)
+        start = _answer(self._told(told.start))
         done = (_done(step) for step in steps[: told.step_count])
         return Entered(start, tuple(step for step in done if step))
 
@@ -344,11 +353,17 @@ class Kernel(Handle):
     def threads(self) -> Tuple[int, ...]:
         """The numbers of the threads, by rising number."""
         with self._turn:
-            self._threads = {thread for thread in self._threads if self.space_of(thread) is not None}
-            return tuple(sorted(self._threads))
+            return tuple(self._listed(library.l4_next_thread, "thread"))
 
     def spaces(self) -> Tuple[int, ...]:
         """The numbers of the spaces, by rising number."""
         with self._turn:
-            found: Set[Optional[int]] = {self.space_of(thread) for thread in self.threads()}
-            return tuple(sorted(space for space in found if space is not None))
+            return tuple(self._listed(library.l4_next_space, "space"))
+
+    def _listed(self, function: Callable[..., Any], member: str) -> Iterator[int]:
+        """The numbers that the library finds, each from the one after the last on."""
+        told = self._told(self._ask(function, 0))
+        while told.there:
+            found = getattr(told, member)
+            yield found
+            told = self._told(self._ask(function, found + 1))

@@ -119,6 +119,24 @@ class Kernels(unittest.TestCase):
         kernel.start(2, Call.delete(ThreadId.of(9)))
         self.assertEqual((kernel.threads(), kernel.spaces()), ((1, 2), (0, 1)))
 
+    def test_a_run_is_taken_both_ways(self):
+        kernel = delivered()
+        kernel.start(1, Call.send(ThreadId.ROOT, Message((1, 5)), Timeout.ZERO))
+        copied = kernel.copy()
+        self.assertEqual((copied.frames, copied.page_bytes, copied.threads()), (256, 4096, (1, 2, 3)))
+        self.assertEqual(kernel.enter(2, Call.receive()).steps[0].step, Transfer(1, 2))
+        self.assertEqual(kernel.reply(2).words, (5,))
+        self.assertEqual((copied.enabled(), copied.reply(2).kind), (Expire(1), ReplyKind.CONTROLLED))
+        copied.expire(1)
+        copied.start(2, Call.delete(THREAD))
+        self.assertEqual((copied.reply(1).error, copied.spaces()), (2, (0, 1)))
+        self.assertEqual((kernel.spaces(), kernel.mapping(2, 32).frame), ((0, 1, 2), 16))
+        kernel.close()
+        self.assertEqual(copied.mapping(0, 16).frame, 16)
+        self.assertEqual(copied.copy().threads(), (1, 2))
+        with self.assertRaises(ValueError):
+            kernel.copy()
+
     def test_the_other_kinds_of_calls(self):
         kernel = delivered()
         kernel.start(3, Call.fault(0x20123, 0, Rights.READ))

@@ -236,11 +236,6 @@ impl Call {
         call
     }
 
-    /// The number of the thread that it would create.
-    pub(crate) fn created(&self) -> Option<u32> {
-        (self.given.kind == ffi::L4_CREATE).then(|| ThreadId::of_word(self.given.id).number())
-    }
-
     /// Its name and numbers as in a list of steps, without its words.
     fn members(&self) -> (&'static str, Vec<u32>) {
         let it = &self.given;

@@ -216,6 +216,12 @@ structs! {
         space: u64,
     }
 
+    struct l4_thread {
+        refusal: u32,
+        there: u32,
+        thread: u32,
+    }
+
     struct l4_page_size {
         refusal: u32,
         page_bytes: u32,
@@ -235,6 +241,23 @@ structs! {
         refusal: u32,
         there: u32,
         page: u32,
+    }
+
+    struct l4_fault {
+        refusal: u32,
+        detail: u32,
+        there: u32,
+        address: u32,
+        ip: u32,
+        access: u32,
+    }
+
+    struct l4_request {
+        refusal: u32,
+        detail: u32,
+        there: u32,
+        fpage: u32,
+        attributes: u32,
     }
 
     struct l4_region {
@@ -332,6 +355,7 @@ functions! {
     fn l4_refusal_text(refusal: u32, out: *mut c_char, room: usize) -> usize;
     fn l4_boot(kernel: *mut l4_kernel, frames: u32) -> u32;
     fn l4_boot_sized(kernel: *mut l4_kernel, frames: u32, page_bytes: u32) -> u32;
+    fn l4_copy(kernel: *mut l4_kernel, copy: *mut l4_kernel) -> u32;
     fn l4_free(kernel: *mut l4_kernel) -> ();
     fn l4_start(kernel: *mut l4_kernel, thread: u32, call: *const l4_call, words: *const u32, count: usize) -> l4_answer;
     fn l4_transfer(kernel: *mut l4_kernel, sender: u32, receiver: u32) -> l4_answer;
@@ -341,9 +365,13 @@ functions! {
     fn l4_enter(kernel: *mut l4_kernel, thread: u32, call: *const l4_call, words: *const u32, count: usize, steps: *mut l4_step, room: usize) -> l4_entered;
     fn l4_reply_of(kernel: *mut l4_kernel, thread: u32) -> l4_reply;
     fn l4_space_of(kernel: *mut l4_kernel, thread: u32) -> l4_space;
+    fn l4_next_space(kernel: *mut l4_kernel, space: u64) -> l4_space;
+    fn l4_next_thread(kernel: *mut l4_kernel, thread: u32) -> l4_thread;
     fn l4_page_size_of(kernel: *mut l4_kernel) -> l4_page_size;
     fn l4_mapping_of(kernel: *mut l4_kernel, space: u64, page: u32) -> l4_mapping;
     fn l4_next_page(kernel: *mut l4_kernel, space: u64, page: u32) -> l4_page;
+    fn l4_read_fault(words: *const u32, count: usize) -> l4_fault;
+    fn l4_read_request(words: *const u32, count: usize) -> l4_request;
     fn l4_pager_new(pager: *mut l4_pager) -> u32;
     fn l4_pager_new_sized(pager: *mut l4_pager, page_bytes: u32) -> u32;
     fn l4_pager_free(pager: *mut l4_pager) -> ();
@@ -461,6 +489,12 @@ impl Handle<l4_kernel> {
         Handle::made(|handle| unsafe { l4_boot_sized(handle, frames, page_bytes) })
     }
 
+    /// The same machine in a handle of its own, or the number of the refusal.
+    pub(crate) fn copy(&self) -> Result<Handle<l4_kernel>, u32> {
+        // SAFETY: as in `enabled`; the handle that `made` gives is empty, live and nobody else's, so it isn't this one.
+        Handle::made(|copy| unsafe { l4_copy(self.cell.get(), copy) })
+    }
+
     pub(crate) fn start(&mut self, thread: u32, call: &l4_call, words: &[u32]) -> l4_answer {
         // SAFETY: the handle is live and borrowed alone, so it overlaps neither the call nor the words, which live as long as their
         // borrows; a slice's pointer is aligned and never null, also where it has no words.
@@ -519,6 +553,16 @@ impl Handle<l4_kernel> {
     pub(crate) fn space_of(&self, thread: u32) -> l4_space {
         // SAFETY: as in `enabled`.
         unsafe { l4_space_of(self.cell.get(), thread) }
+    }
+
+    pub(crate) fn next_space(&self, space: u64) -> l4_space {
+        // SAFETY: as in `enabled`.
+        unsafe { l4_next_space(self.cell.get(), space) }
+    }
+
+    pub(crate) fn next_thread(&self, thread: u32) -> l4_thread {
+        // SAFETY: as in `enabled`.
+        unsafe { l4_next_thread(self.cell.get(), thread) }
     }
 
     pub(crate) fn page_size(&self) -> l4_page_size {
@@ -619,6 +663,16 @@ impl Handle<l4_sigma0> {
         // SAFETY: the handle is live and borrowed alone, so it doesn't overlap the words, which live as long as their borrow.
         unsafe { l4_sigma0_answer(self.cell.get(), space, words.as_ptr(), words.len()) }
     }
+}
+
+pub(crate) fn read_fault(words: &[u32]) -> l4_fault {
+    // SAFETY: the words live as long as their borrow, a slice's pointer is aligned and never null, and no handle is needed.
+    unsafe { l4_read_fault(words.as_ptr(), words.len()) }
+}
+
+pub(crate) fn read_request(words: &[u32]) -> l4_request {
+    // SAFETY: as in `read_fault`.
+    unsafe { l4_read_request(words.as_ptr(), words.len()) }
 }
 
 pub(crate) fn plan_region(region: &l4_region, page_bytes: u32) -> l4_plan {

@@ -1,9 +1,8 @@
 //! Kernels, their steps, and what there is to be seen.
 use crate::ffi;
 use crate::refusals::unknown;
-use crate::{Call, PageSize, Refusal, Reply, Rights, ThreadId, MAX_THREADS};
-use std::collections::BTreeSet;
-use std::fmt;
+use crate::{Call, PageSize, Refusal, Reply, Rights, MAX_THREADS};
+use std::{fmt, iter};
 
 /// A step that is done without a call's being started.
 #[derive(Clone, Copy, PartialEq, Eq, Hash, Debug)]
@@ -152,8 +151,6 @@ pub struct Mapping {
 /// Threads go by their numbers here. A refused step changes nothing.
 pub struct Kernel {
     handle: ffi::Handle<ffi::l4_kernel>,
-    /// The numbers of the threads, and of some that are gone: the library tells no list of them.
-    threads: BTreeSet<u32>,
 }
 
 impl Kernel {
@@ -180,12 +177,29 @@ impl Kernel {
     /// ```
     pub fn boot_sized(frames: u32, page_size: PageSize) -> Result<Kernel, Refusal> {
         match ffi::Handle::boot(frames, page_size.bytes()) {
-            Ok(handle) => Ok(Kernel {
-                handle,
-                threads: [ThreadId::SIGMA0, ThreadId::ROOT]
-                    .map(ThreadId::number)
-                    .into(),
-            }),
+            Ok(handle) => Ok(Kernel { handle }),
+            Err(number) => Err(Refusal::of(number, 0)),
+        }
+    }
+
+    /// The same machine, in memory of its own: each thread with what it is doing and its message registers, the queue of senders, each
+    /// space, and what each page shows. What is done with the one is not seen in the other, so a run can be taken both ways. Refused by
+    /// NoMemory.
+    ///
+    /// ```
+    /// use l4::{Call, Fpage, Kernel, Message, ThreadId, Timeout};
+    /// let mut kernel = Kernel::boot(1)?;
+    /// let message = Message::new(0, &[5], &[])?;
+    /// kernel.start(1, &Call::send(ThreadId::ROOT, &message, Timeout::Zero))?;
+    /// let mut copy = kernel.try_clone()?;
+    /// kernel.enter(2, &Call::receive(ThreadId::ANY, Fpage::NIL, Timeout::Never))?;
+    /// copy.expire(1)?;
+    /// assert!(kernel.reply(2).is_some() && copy.reply(2).is_none());
+    /// # Ok::<(), Box<dyn std::error::Error>>(())
+    /// ```
+    pub fn try_clone(&self) -> Result<Kernel, Refusal> {
+        match self.handle.copy() {
+            Ok(handle) => Ok(Kernel { handle }),
             Err(number) => Err(Refusal::of(number, 0)),
         }
     }
@@ -200,17 +214,7 @@ impl Kernel {
     /// or of a control of threads (H1 to H6; NoMemory of a Create in a new space).
     pub fn start(&mut self, thread: u32, call: &Call) -> Result<Answer, Refusal> {
         let (given, words) = call.given();
-        let answer = Answer::of(&self.handle.start(thread, given, words))?;
-        self.keep(call);
-        Ok(answer)
-    }
-
-    /// Keeps the number of a thread that was created.
-    fn keep(&mut self, call: &Call) {
-        if let Some(number) = call.created() {
-            self.threads = self.threads().into_iter().collect();
-            self.threads.insert(number);
-        }
+        Answer::of(&self.handle.start(thread, given, words))
     }
 
     /// Starts a call as [`start`](Kernel::start) does, and then does the steps that come next until there is none. Refused as `start`.
@@ -228,10 +232,8 @@ impl Kernel {
         let (given, words) = call.given();
         let (entered, steps) = self.handle.enter(thread, given, words);
         let count = MAX_THREADS.min(entered.step_count as usize);
-        let start = Answer::of(&entered.start)?;
-        self.keep(call);
         Ok(Entered {
-            start,
+            start: Answer::of(&entered.start)?,
             steps: steps[..count].iter().filter_map(Done::of).collect(),
         })
     }
@@ -286,18 +288,20 @@ impl Kernel {
     /// # Ok::<(), l4::Refusal>(())
     /// ```
     pub fn threads(&self) -> Vec<u32> {
-        let there = |thread: &u32| self.space_of(*thread).is_some();
-        self.threads.iter().copied().filter(there).collect()
+        let next = |from| {
+            let told = self.handle.next_thread(from);
+            (told.there != 0).then_some(told.thread)
+        };
+        iter::successors(next(0), |thread| next(thread + 1)).collect()
     }
 
     /// The numbers of the spaces, by rising number.
     pub fn spaces(&self) -> Vec<u64> {
-        let spaces: BTreeSet<u64> = self
-            .threads
-            .iter()
-            .filter_map(|&thread| self.space_of(thread))
-            .collect();
-        spaces.into_iter().collect()
+        let next = |from| {
+            let told = self.handle.next_space(from);
+            (told.there != 0).then_some(told.space)
+        };
+        iter::successors(next(0), |space| next(space + 1)).collect()
     }
 
     /// The number of a thread's space; None where there is no such thread.
@@ -375,4 +379,4 @@ impl Iterator for Mappings<'_> {
     }
 }
 
-impl std::iter::FusedIterator for Mappings<'_> {}
+impl iter::FusedIterator for Mappings<'_> {}

@@ -209,6 +209,30 @@ fn a_message_maps_a_page() {
 }
 
 #[test]
+fn a_run_is_taken_both_ways() {
+    let mut kernel = delivered();
+    let send = Call::send(ThreadId::ROOT, &message(&[1, 5]), Timeout::Zero);
+    kernel.start(1, &send).unwrap();
+    let mut copy = kernel.try_clone().unwrap();
+    assert_eq!(
+        (copy.threads(), copy.spaces()),
+        (vec![1, 2, 3], vec![0, 1, 2])
+    );
+    let receive = Call::receive(ThreadId::ANY, Fpage::NIL, Timeout::Never);
+    assert_eq!(kernel.enter(2, &receive).unwrap().steps.len(), 1);
+    assert!(matches!(kernel.reply(2), Some(Reply::Ipc(_))));
+    assert_eq!(copy.enabled(), Some(Step::Expire { thread: 1 }));
+    assert!(matches!(copy.reply(2), Some(Reply::Controlled)));
+    copy.expire(1).unwrap();
+    copy.start(2, &Call::delete(id(3))).unwrap();
+    assert_eq!((copy.threads(), copy.spaces()), (vec![1, 2], vec![0, 1]));
+    assert_eq!(kernel.mapping(2, 32).unwrap().frame, 16);
+    assert_eq!(copy.mapping(2, 32), None);
+    drop(kernel);
+    assert_eq!(copy.mapping(0, 16).unwrap().frame, 16);
+}
+
+#[test]
 fn the_other_kinds_of_calls() {
     let mut kernel = delivered();
     kernel

@@ -1,4 +1,7 @@
 pub mod Asked
+pub mod Copied
+pub mod Listed
+pub mod Read
 pub mod Checked
 pub mod Exports
 pub mod InBytes

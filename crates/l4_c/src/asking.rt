@@ -12,7 +12,7 @@ use l4_ipc::Mapping;
 use std::alloc::Global;
 
 /// A space that was found.
-fn space_told(found: Option<u64>) -> SpaceResult
+pub(crate) fn space_told(found: Option<u64>) -> SpaceResult
     ensures { result ≡ space_result 0 found }
 {
     match found {

@@ -3,13 +3,16 @@
 
 mod asking;
 mod checking;
+mod copying;
 mod entering;
 mod giving;
+mod listing;
 mod locking;
 mod messages;
 mod owning;
 mod paging;
 mod planning;
+mod reading;
 mod regions;
 mod replies;
 mod sizes;
@@ -20,8 +23,10 @@ pub use asking::{l4_mapping_of, l4_next_page, l4_page_size_of, l4_space_of};
 pub use checking::{
     Verdict, l4_check_plan, l4_check_plan_sized, l4_check_too_long, l4_check_too_long_sized,
 };
+pub use copying::l4_copy;
 pub use entering::l4_enter;
 pub use giving::{l4_sigma0_answer, l4_sigma0_free, l4_sigma0_new, l4_sigma0_new_sized};
+pub use listing::{ThreadResult, l4_next_space, l4_next_thread};
 pub use locking::{
     CountResult, l4_lock_close, l4_lock_enter, l4_lock_entry, l4_lock_free, l4_lock_give,
     l4_lock_length, l4_lock_new, l4_lock_new_sized, l4_lock_receipt, l4_lock_seat_of, l4_lock_take,
@@ -35,6 +40,7 @@ pub use planning::{
     PartResult, PlanResult, l4_plan_message, l4_plan_message_sized, l4_plan_pages,
     l4_plan_pages_sized, l4_plan_region, l4_plan_region_sized,
 };
+pub use reading::{FaultResult, RequestResult, l4_read_fault, l4_read_request};
 pub use regions::RegionGiven;
 pub use replies::l4_reply_of;
 pub use stepping::{l4_enabled, l4_expire, l4_next, l4_start, l4_transfer};

@@ -189,6 +189,23 @@ fn spare<R: Input + Print>(rt: &R, kernel: &mut Kernel) -> io::Result<()> {
     Ok(())
 }
 
+/// Copies the kernel, once more where memory was lacking, and tells the copy.
+fn copy(rt: &impl Print, kernel: &Kernel) -> io::Result<()> {
+    let copied = match kernel.copy() {
+        Ok(copied) => copied,
+        Err(_) => {
+            println!(rt; "refused copy")?;
+            show(rt, kernel)?;
+            let Ok(copied) = kernel.copy() else {
+                return Err(stop());
+            };
+            copied
+        }
+    };
+    println!(rt; "done copy")?;
+    show(rt, &copied)
+}
+
 /// Makes threads, so many that a space takes memory, and maps pages.
 fn take_memory(rt: &impl Print, kernel: &mut Kernel) -> io::Result<()> {
     println!(rt; "done boot")?;
@@ -204,7 +221,7 @@ fn take_memory(rt: &impl Print, kernel: &mut Kernel) -> io::Result<()> {
         ];
         run(rt, kernel, &steps)?;
     }
-    Ok(())
+    copy(rt, kernel)
 }
 
 /// Boots, makes threads, maps pages, and does steps that take no memory. Answers whether there was memory to boot.

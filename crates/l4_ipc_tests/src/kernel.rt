@@ -630,6 +630,33 @@ fn waits_that_expire(rt: HostRuntime) -> Result<(), Fail> {
     Ok(())
 }
 
+/// Whether what sigma0 sent was delivered in the one kernel, and in the other the one thread of its space was deleted that waited for it.
+fn went_both_ways(kernel: &Kernel, copy: &Kernel) -> bool {
+    kernel.mapping(2, 32) == mapped(16, 7, 0, 16)
+        && replied(kernel, 3, 0x80, 0, SIGMA0, &[0x2_0008, 0x1_00c7])
+        && kernel.next_thread(3) == Some(3)
+        && kernel.next_space(2) == Some(2)
+        && ipc_failed(copy, 1, 4)
+        && copy.next_thread(3).is_none()
+        && copy.next_space(2).is_none()
+        && copy.next_page(2, 0).is_none()
+}
+
+#[test]
+fn a_run_taken_both_ways(rt: HostRuntime) -> Result<(), Fail> {
+    let mut kernel = waiting(rt.alloc(), COMPLETE)?;
+    assert!(rt; starts(&mut kernel, &send(1, THIRD, &MAPS), &[]));
+    let mut copy = kernel.copy()?;
+    assert!(rt; transfers_next(&copy, 1, 3));
+    assert!(rt; ends(&mut kernel, &Step::Transfer(1, 3), Outcome::Done, &[1, 3]));
+    assert!(rt; starts(&mut copy, &delete(2, THIRD), &[2, 1, 3]));
+    assert!(rt; went_both_ways(&kernel, &copy));
+    let again = kernel.copy()?;
+    assert!(rt; starts(&mut kernel, &delete(2, THIRD), &[2]));
+    assert!(rt; went_both_ways(&again, &copy));
+    Ok(())
+}
+
 #[test]
 fn a_wait_that_expires_after_its_send(rt: HostRuntime) -> Result<(), Fail> {
     let mut kernel = waiting(rt.alloc(), COMPLETE)?;

@@ -1,0 +1,112 @@
+//! What a message tells that a pager or sigma0 is sent.
+ghost use Rattle.std.specs.Prelude.{◌≡◌};
+ghost use Rattle.l4_c.specs.Read.{TellsFault, TellsFaultOf, TellsRequest, TellsRequestOf, no_fault_result, no_request_result};
+
+use l4_c_values::{message_detail, message_number};
+use l4_ipc::Message;
+use l4_msg::{FrameRequest, PageFault};
+
+/// A page fault.
+#[repr(C)]
+#[derive(Clone, Copy)]
+pub struct FaultResult {
+    pub refusal: u32,
+    pub detail: u32,
+    pub there: u32,
+    pub address: u32,
+    pub ip: u32,
+    pub access: u32,
+}
+
+/// A request for frames.
+#[repr(C)]
+#[derive(Clone, Copy)]
+pub struct RequestResult {
+    pub refusal: u32,
+    pub detail: u32,
+    pub there: u32,
+    pub fpage: u32,
+    pub attributes: u32,
+}
+
+/// No fault, for this refusal.
+fn no_fault(refusal: u32, detail: u32) -> FaultResult
+    ensures { result ≡ no_fault_result refusal detail }
+{
+    FaultResult {
+        refusal,
+        detail,
+        there: 0,
+        address: 0,
+        ip: 0,
+        access: 0,
+    }
+}
+
+/// The fault that a message is.
+fn fault_of(message: &Message) -> FaultResult
+    ensures { TellsFaultOf message.now result }
+{
+    match PageFault::read(message) {
+        Some(fault) => FaultResult {
+            refusal: 0,
+            detail: 0,
+            there: 1,
+            address: fault.address,
+            ip: fault.ip,
+            access: u32::from(fault.access.bits()),
+        },
+        None => no_fault(0, 0),
+    }
+}
+
+/// The page fault that the words of a message tell.
+#[unsafe(no_mangle)]
+pub extern "C" fn l4_read_fault(words: &[u32]) -> FaultResult
+    ensures { TellsFault words.now result }
+{
+    match Message::read(words) {
+        Ok(message) => fault_of(&message),
+        Err(fault) => no_fault(message_number(fault), message_detail(fault)),
+    }
+}
+
+/// No request, for this refusal.
+fn no_request(refusal: u32, detail: u32) -> RequestResult
+    ensures { result ≡ no_request_result refusal detail }
+{
+    RequestResult {
+        refusal,
+        detail,
+        there: 0,
+        fpage: 0,
+        attributes: 0,
+    }
+}
+
+/// The request that a message is.
+fn request_of(message: &Message) -> RequestResult
+    ensures { TellsRequestOf message.now result }
+{
+    match FrameRequest::read(message) {
+        Some(request) => RequestResult {
+            refusal: 0,
+            detail: 0,
+            there: 1,
+            fpage: request.fpage.word(),
+            attributes: request.attributes,
+        },
+        None => no_request(0, 0),
+    }
+}
+
+/// The request for frames that the words of a message are.
+#[unsafe(no_mangle)]
+pub extern "C" fn l4_read_request(words: &[u32]) -> RequestResult
+    ensures { TellsRequest words.now result }
+{
+    match Message::read(words) {
+        Ok(message) => request_of(&message),
+        Err(fault) => no_request(message_number(fault), message_detail(fault)),
+    }
+}
