@@ -1,5 +1,5 @@
 -- A revocation of keys is one of places, and leaves a forest.
-use Rattle.std.proofs.Common.{◌≡◌, ℕ, ◌+◌, ◌^◌, Bool, Option, Some, IsTrue, ◌↔◌, ◌⊎◌, inl, inr, sym, ap, ◌∙◌, slice_get, List, arith, option_map}
+use Rattle.std.proofs.Common.{◌≡◌, ℕ, ◌+◌, ◌^◌, Bool, Some, IsTrue, ◌↔◌, ◌⊎◌, inl, inr, sym, ap, ◌∙◌, slice_get, List, arith, option_map}
 use Rattle.l4_fpage.specs.Rights.{RightsSet, Right, has}
 use Rattle.l4_links.specs.declared.Place.{Place as LinkPlace}
 use Rattle.l4_links.specs.declared.Entry.{Entry}

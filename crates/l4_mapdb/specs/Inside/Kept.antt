@@ -1,5 +1,5 @@
 -- What the entries and the keys of the roots keep between two operations. (this profile's own)
-use Rattle.std.specs.Prelude.{◌≡◌, ◌≢◌, ℕ, Some, None, List, Option, false, slice_get, option_and_then, length, ◌<◌}
+use Rattle.std.specs.Prelude.{◌≡◌, ◌≢◌, ℕ, Some, None, List, Option, false, slice_get, length, ◌<◌}
 use Rattle.l4_fpage.specs.Rights.{no_rights, all_rights}
 use Rattle.l4_links.specs.declared.Standing.{Standing}
 use Rattle.l4_links.specs.declared.Entry.{Entry}

@@ -1,4 +1,4 @@
-use Rattle.std.proofs.Common.{◌∙◌, sym, ap, ℕ, List, Option}
+use Rattle.std.proofs.Common.{◌∙◌, sym, ap, ℕ, List}
 use Rattle.l4_mapdb.specs.Inside.Kept.{kept_at}
 use Rattle.l4_mapdb.proofs.Presence.{no_root, root_is}
 use Rattle.l4_mapdb.proofs.Forest.root.Goals as goal
