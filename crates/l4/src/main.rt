@@ -1,61 +1,101 @@
 //! The program `l4`: answers scripts of kernel calls (`l4 --help`).
 //!
-//! Exit statuses: 0 at the end of the script, for a plan and for a proved one, 1 where there is no plan or it is not proved, 2 for a command line that is not understood, 3 where a
-//! read or a write failed, 4 for want of memory at the start.
+//! Exit statuses: 0 at the end of the script, for a plan and for a proved one, 1 where there is no plan or it is not proved, or a refused
+//! line ended a strict run, 2 for a command line that is not understood or a file that can't be opened, 3 where a read or a write failed, 4
+//! for want of memory at the start.
 #![tactic(auto)]
 
-ghost use Rattle.std.specs.Prelude.{◌≤◌};
-ghost use Rattle.l4_fpage.specs.Pages.{max_frames};
+ghost use Rattle.std.specs.Prelude.{◌≡◌, IfErr};
+ghost use Rattle.l4_options.specs.Ranges.{IsFrameCount};
 
 use l4_decode::{Reading, decode};
 use l4_fpage::PageSize;
 use l4_history::{answered_history, history};
 use l4_msg::Region;
-use l4_options::{Options, command_words, misread, options, show, status_of, stopped};
+use l4_options::{
+    Options, STANDARD_INPUT, ScriptOptions, command_words, misread, not_opened, options, show,
+    status_of, stopped,
+};
 use l4_plan_lines::{check_lines, plan_lines};
 use l4_shell::{RunFault, run};
-use std::io;
+use l4_streams::{ScriptReader, StrictWriter};
 use std::process::ExitCode;
+use std::rt::Files;
+use std::{fs, io};
 
 const NOT_PROVED: u8 = 1;
 
-/// Answers the script on standard input.
-fn answer_script<R: AllocGlobal + Input + Print + Eprint>(rt: &R, frames: u32, size: PageSize) -> u8
-    requires some { 1 ≤ frames }
-    requires fit { frames ≤ max_frames }
+/// The exit status of a strict run that a refused line ended.
+const REFUSED: u8 = 1;
+
+/// What a file holds, or standard input where none is named. Where it can't be opened says so, and answers the status to end with.
+fn opened<R: Files + Input + Eprint>(
+    rt: &R,
+    file: Option<&str>,
+) -> Result<ScriptReader<R::Reader, R::File>, u8>
+    ensures { IfErr result (λ status. status ≡ 2) }
 {
-    match run(
-        rt.alloc(),
-        frames,
-        size,
-        &mut rt.reader(),
-        &mut io::writer(rt),
-    ) {
-        Ok(_) => 0,
-        Err(fault) => stopped(rt, fault),
+    let Some(name) = file else {
+        return Ok(ScriptReader::Standard(rt.reader()));
+    };
+    match fs::open(rt, name) {
+        Ok(file) => Ok(ScriptReader::File(file)),
+        Err(error) => Err(not_opened(rt, name, error)),
     }
 }
 
-/// Writes the history of the script on standard input.
-fn tell_history<R: AllocGlobal + Input + Print + Eprint>(
+/// Answers a script, to its first refused line alone where that is asked for.
+fn answer_script<R: AllocGlobal + Files + Input + Print + Eprint>(
     rt: &R,
-    frames: u32,
-    size: PageSize,
+    script: &ScriptOptions,
+    strict: bool,
+) -> u8
+    requires { IsFrameCount script.now.frames }
+{
+    let file = script.file.as_deref();
+    let mut reader = match opened(rt, file) {
+        Ok(reader) => reader,
+        Err(status) => return status,
+    };
+    let mut writer = StrictWriter::new(io::writer(rt), strict);
+    let answered = run(
+        rt.alloc(),
+        script.frames,
+        script.size,
+        &mut reader,
+        &mut writer,
+    );
+    if writer.has_refused() {
+        return REFUSED;
+    }
+    match answered {
+        Ok(_) => 0,
+        Err(fault) => stopped(rt, fault, file.unwrap_or(STANDARD_INPUT)),
+    }
+}
+
+/// Writes the history of a script.
+fn tell_history<R: AllocGlobal + Files + Input + Print + Eprint>(
+    rt: &R,
+    script: &ScriptOptions,
     answers: bool,
 ) -> u8
-    requires some { 1 ≤ frames }
-    requires fit { frames ≤ max_frames }
+    requires { IsFrameCount script.now.frames }
 {
-    let reader = &mut rt.reader();
+    let file = script.file.as_deref();
+    let mut reader = match opened(rt, file) {
+        Ok(reader) => reader,
+        Err(status) => return status,
+    };
     let writer = &mut io::writer(rt);
     let told = if answers {
-        answered_history(rt.alloc(), frames, size, reader, writer)
+        answered_history(rt.alloc(), script.frames, script.size, &mut reader, writer)
     } else {
-        history(rt.alloc(), frames, size, reader, writer)
+        history(rt.alloc(), script.frames, script.size, &mut reader, writer)
     };
     match told {
         Ok(_) => 0,
-        Err(fault) => stopped(rt, fault),
+        Err(fault) => stopped(rt, fault, file.unwrap_or(STANDARD_INPUT)),
     }
 }
 
@@ -64,7 +104,7 @@ fn judged(rt: &impl Eprint, outcome: Result<bool, RunFault>) -> u8 {
     match outcome {
         Ok(true) => 0,
         Ok(false) => NOT_PROVED,
-        Err(fault) => stopped(rt, fault),
+        Err(fault) => stopped(rt, fault, STANDARD_INPUT),
     }
 }
 
@@ -74,10 +114,15 @@ fn plan<R: Print + Eprint>(rt: &R, region: &Region, size: PageSize) -> u8 {
 }
 
 /// Checks the plan on standard input.
-fn check<R: Input + Print + Eprint>(rt: &R, region: &Region, size: PageSize) -> u8 {
+fn check<R: Files + Input + Print + Eprint>(rt: &R, region: &Region, size: PageSize) -> u8 {
     judged(
         rt,
-        check_lines(region, size, &mut rt.reader(), &mut io::writer(rt)),
+        check_lines(
+            region,
+            size,
+            &mut ScriptReader::<R::Reader, R::File>::Standard(rt.reader()),
+            &mut io::writer(rt),
+        ),
     )
 }
 
@@ -85,21 +130,15 @@ fn check<R: Input + Print + Eprint>(rt: &R, region: &Region, size: PageSize) -> 
 fn tell_words<R: Print + Eprint>(rt: &R, words: &[u32], reading: Reading, size: PageSize) -> u8 {
     match decode(words, reading, size, &mut io::writer(rt)) {
         Ok(()) => 0,
-        Err(fault) => stopped(rt, fault),
+        Err(fault) => stopped(rt, fault, STANDARD_INPUT),
     }
 }
 
 /// Does what these words ask for.
-fn obey<R: AllocGlobal + Input + Print + Eprint>(rt: &R, words: &[String]) -> u8 {
+fn obey<R: AllocGlobal + Files + Input + Print + Eprint>(rt: &R, words: &[String]) -> u8 {
     match options(rt.alloc(), words) {
-        Ok(Options::Run { frames, size }) => answer_script(rt, frames, size),
-        Ok(
-            Options::History {
-                frames,
-                size,
-                answers,
-            },
-        ) => tell_history(rt, frames, size, answers),
+        Ok(Options::Run { script, strict }) => answer_script(rt, &script, strict),
+        Ok(Options::History { script, answers }) => tell_history(rt, &script, answers),
         Ok(Options::Plan { region, size }) => plan(rt, &region, size),
         Ok(Options::Check { region, size }) => check(rt, &region, size),
         Ok(

@@ -12,8 +12,8 @@ IsFrameCount n = (1 ≤ n) × (n ≤ max_frames)
 
 -- the number of frames that the command line of l4 asks for is one that a machine can have
 abbrev pub IsInRange : Options → Type 0
-IsInRange (Run frames size) = IsFrameCount frames
-IsInRange (History frames size answers) = IsFrameCount frames
+IsInRange (Run script strict) = IsFrameCount script.frames
+IsInRange (History script answers) = IsFrameCount script.frames
 IsInRange (Plan region size) = Unit {0}
 IsInRange (Check region size) = Unit {0}
 IsInRange (Decode words reading size) = Unit {0}

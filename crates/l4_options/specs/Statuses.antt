@@ -3,7 +3,7 @@ use Rattle.std.specs.Prelude.{ℕ}
 use Rattle.l4_text.specs.declared.faults.RunFault.{RunFault}
 use Rattle.l4_text.specs.declared.faults.RunFault.TheVariants.{Read, Write, Memory}
 use Rattle.l4_options.specs.declared.requests.OptionFault.{OptionFault}
-use Rattle.l4_options.specs.declared.requests.OptionFault.TheVariants.{Memory as NoMemory, Words, Frames, Pages, Number, Rights, Word, TooMany, Reading}
+use Rattle.l4_options.specs.declared.requests.OptionFault.TheVariants.{Memory as NoMemory, Words, Frames, Pages, Number, Rights, Hyphens, Word, TooMany, Reading}
 
 -- after a run that stopped: 3 where a stream failed, 4 for want of memory
 abbrev pub run_status : RunFault → ℕ
@@ -17,8 +17,9 @@ option_status NoMemory = 4
 option_status (Words text) = 2
 option_status (Frames text) = 2
 option_status (Pages text) = 2
-option_status (Number text) = 2
+option_status (Number name word) = 2
 option_status (Rights text) = 2
+option_status (Hyphens word instead) = 2
 option_status (Word text) = 2
 option_status (TooMany text) = 2
 option_status (Reading text) = 2

@@ -1,13 +1,15 @@
 //! Reads the command line of `l4`.
-ghost use Rattle.std.specs.Prelude.{IfOk};
+ghost use Rattle.std.specs.Prelude.{◌≡◌, IfOk, IfSome, Some};
 ghost use Rattle.l4_options.specs.Ranges.{IsInRange};
+ghost use Rattle.l4_options.specs.Words.{spelled_anew};
 
 use crate::help::{ABOUT, CHECK, DECODE, HISTORY, PLAN, SCRIPT};
 use crate::requests::{OptionFault, Options};
 use crate::values::{
-    answers_option, frames_of, frames_option, help_text, reading_of, reading_option, region_of,
-    size_of, size_option, words_argument, words_of,
+    answers_option, file_argument, frames_option, help_text, reading_of, reading_option, region_of,
+    script_of, size_of, size_option, strict_option, without_hyphens, words_argument, words_of,
 };
+use clap::error::ErrorKind;
 use clap::{Arg, ArgAction, ArgMatches, Command, Error};
 use std::alloc::{AllocError, Global};
 use std::convert::AsStr;
@@ -48,11 +50,14 @@ fn known<'a>(alloc: Global) -> Result<Command<'a>, AllocError> {
     let run = Command::new(alloc, "run")
         .about("Answers a script of kernel calls")
         .after_help(SCRIPT)
+        .arg(file_argument(alloc))?
         .arg(frames_option(alloc))?
-        .arg(size_option(alloc))?;
+        .arg(size_option(alloc))?
+        .arg(strict_option(alloc))?;
     let history = Command::new(alloc, "history")
         .about("Writes the steps of a script as l4_steps reads them")
         .after_help(HISTORY)
+        .arg(file_argument(alloc))?
         .arg(frames_option(alloc))?
         .arg(size_option(alloc))?
         .arg(answers_option(alloc))?;
@@ -74,10 +79,41 @@ fn known<'a>(alloc: Global) -> Result<Command<'a>, AllocError> {
         .subcommand(decode)
 }
 
-/// What a parse that gave no matches means.
-fn without_matches(alloc: Global, error: &Error) -> Result<Options, OptionFault>
+/// The rights among the words of a plan or a check that were taken for an option, as the word and as it can be written.
+fn taken_for_option<'a, S: AsStr>(words: &'a [S]) -> Option<(&'a str, &'static str)>
+    ensures { IfSome result (λ r. spelled_anew r.0.now ≡ Some r.1.now) }
+{
+    if words.len() < 2 {
+        return None;
+    }
+    let command = words[1].as_str();
+    if command != "plan" && command != "check" {
+        return None;
+    }
+    for word in words {
+        if let Some(instead) = without_hyphens(word.as_str()) {
+            return Some((word.as_str(), instead));
+        }
+    }
+    None
+}
+
+/// What a parse that gave no matches of these words means.
+fn without_matches<'a, S: AsStr>(
+    alloc: Global,
+    error: &Error,
+    words: &'a [S],
+) -> Result<Options, OptionFault>
     ensures { IfOk result IsInRange }
 {
+    if error.kind() == ErrorKind::UnknownArgument {
+        if let Some((word, instead)) = taken_for_option(words) {
+            return match String::from_str(alloc, word) {
+                Ok(word) => Err(OptionFault::Hyphens { word, instead }),
+                Err(_) => Err(OptionFault::Memory),
+            };
+        }
+    }
     match help_text(alloc, error) {
         Ok(text) => Ok(Options::Show(text)),
         Err(fault) => Err(fault),
@@ -88,10 +124,10 @@ fn without_matches(alloc: Global, error: &Error) -> Result<Options, OptionFault>
 fn run_options(alloc: Global, matches: &ArgMatches<'_>) -> Result<Options, OptionFault>
     ensures { IfOk result IsInRange }
 {
-    match frames_of(alloc, matches) {
-        Ok(frames) => Ok(Options::Run {
-            frames,
-            size: size_of(alloc, matches)?,
+    match script_of(alloc, matches) {
+        Ok(script) => Ok(Options::Run {
+            script,
+            strict: matches.get_flag("strict"),
         }),
         Err(fault) => Err(fault),
     }
@@ -101,10 +137,9 @@ fn run_options(alloc: Global, matches: &ArgMatches<'_>) -> Result<Options, Optio
 fn history_options(alloc: Global, matches: &ArgMatches<'_>) -> Result<Options, OptionFault>
     ensures { IfOk result IsInRange }
 {
-    match frames_of(alloc, matches) {
-        Ok(frames) => Ok(Options::History {
-            frames,
-            size: size_of(alloc, matches)?,
+    match script_of(alloc, matches) {
+        Ok(script) => Ok(Options::History {
+            script,
             answers: matches.get_flag("answers"),
         }),
         Err(fault) => Err(fault),
@@ -126,12 +161,12 @@ fn decode_options(alloc: Global, matches: &ArgMatches<'_>) -> Result<Options, Op
 }
 
 /// Reads the words of the command line, the program's name first:
-/// `l4 run [--frames N]`, `l4 history [--frames N] [--answers]`, `l4 plan SOURCE TARGET COUNT RIGHTS`, `l4 check` with the same words,
-/// `l4 decode [--as READING] WORD..`, each with `--page-size BYTES` where that is wanted, `--help`, `help` or `--version`. N is 256 and
-/// BYTES 4096 where they are left out; READING is message, fpage, window or id.
+/// `l4 run [FILE] [--frames N] [--strict]`, `l4 history [FILE] [--frames N] [--answers]`, `l4 plan SOURCE TARGET COUNT RIGHTS`, `l4 check`
+/// with the same words, `l4 decode [--as READING] WORD..`, each with `--page-size BYTES` where that is wanted, `--help`, `help` or
+/// `--version`. N is 256 and BYTES 4096 where they are left out; READING is message, fpage, window or id.
 ///
-/// `Memory` comes only where an allocation was refused. Every other fault names the word that is
-/// not understood.
+/// `Memory` comes only where an allocation was refused. Every other fault names the word that is not understood, and where it stands for
+/// a number or rights the argument too.
 pub fn options<'a, S: AsStr>(alloc: Global, words: &'a [S]) -> Result<Options, OptionFault>
     ensures { IfOk result IsInRange }
 {
@@ -140,7 +175,7 @@ pub fn options<'a, S: AsStr>(alloc: Global, words: &'a [S]) -> Result<Options, O
     };
     let matches = match command.try_get_matches_from(words) {
         Ok(matches) => matches,
-        Err(error) => return without_matches(alloc, &error),
+        Err(error) => return without_matches(alloc, &error, words),
     };
     match matches.subcommand() {
         Some(("plan", plan)) => match region_of(alloc, plan) {

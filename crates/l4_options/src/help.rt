@@ -3,9 +3,10 @@ pub(crate) const ABOUT: &str = "An L4 X.2 kernel core in user space.";
 
 pub(crate) const PLAN: &str = "\
 The region is COUNT pages from page SOURCE on, which go to the pages from TARGET
-on with these rights. A plan is the shortest list of map items that moves just
-the region. Each item has a page with it, and no map item that stays within the
-region could move two of these pages: so no list is shorter.
+on with these rights; numbers are decimal, or hexadecimal after 0x. A plan is
+the shortest list of map items that moves just the region. Each item has a page
+with it, and no map item that stays within the region could move two of these
+pages: so no list is shorter.
 
   tag WORD                   the tag of a message, whose items follow, 31 at most
   item WORD WORD page P      a map item, and its page
@@ -30,10 +31,11 @@ Exit status: 0 if it is proved, 1 if not, 2 if the command line is not
 understood, 3 if a read or a write failed.";
 
 pub(crate) const HISTORY: &str = "\
-The script is read on standard input and carried out as 'l4 run' does. In place
-of its answers the steps that were done are written once it has ended, each as
-a line of a list for l4_steps: the start of a call, or a transfer or expiry that
-followed it. l4_steps with the same --frames and --page-size does these steps.
+The script is read from FILE, or on standard input, and carried out as 'l4 run'
+does. In place of its answers the steps that were done are written once it has
+ended, each as a line of a list for l4_steps: the start of a call, or a transfer
+or expiry that followed it. l4_steps with the same --frames and --page-size does
+these steps.
 
   l4 history < script | l4_steps
 
@@ -68,9 +70,9 @@ is read as a tag, as an fpage, as a receive window and as a thread's id. With
 Exit status: 0, or 2 if the command line is not understood, 3 if a write failed.";
 
 pub(crate) const SCRIPT: &str = "\
-The script is read on standard input, and each line is answered on standard
-output. Tokens are parted by spaces. Empty lines, and lines that begin with #,
-are skipped.
+The script is read from FILE, or on standard input, and each line is answered on
+standard output. Tokens are parted by spaces. Empty lines, and lines that begin
+with #, are skipped.
 
   thread N SPACE PAGER   root creates thread N, in a new space (SPACE is new) or
                          in the space of a thread; PAGER is a thread or nil
@@ -197,5 +199,6 @@ and l4_steps print them too:
   S4         the input ends before the line does
   NoMemory   there was no memory for it
 
-Exit status: 0 at the end of the script, 2 if the command line is not
-understood, 3 if a read or a write failed, 4 if there is no memory.";
+Exit status: 0 at the end of the script, 1 if a refused line ended it (with
+--strict), 2 if the command line is not understood or FILE can't be opened, 3 if
+a read or a write failed, 4 if there is no memory.";

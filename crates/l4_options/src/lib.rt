@@ -10,6 +10,8 @@ mod step_help;
 mod values;
 
 pub use commands::options;
-pub use programs::{NOT_UNDERSTOOD, command_words, misread, show, status_of, stopped};
-pub use requests::{OptionFault, Options, StepOptions};
+pub use programs::{
+    NOT_UNDERSTOOD, STANDARD_INPUT, command_words, misread, not_opened, show, status_of, stopped,
+};
+pub use requests::{OptionFault, Options, ScriptOptions, StepOptions};
 pub use step_commands::step_options;

@@ -6,9 +6,10 @@ ghost use Rattle.l4_options.specs.Statuses.{run_status, option_status};
 use crate::requests::OptionFault;
 use l4_text::RunFault;
 use std::alloc::AllocError;
-use std::env;
 use std::io::ErrorKind;
 use std::rt::Env;
+use std::{env, io};
+use thiserror::Error;
 
 /// The exit status where the command line, or a line of a list of steps, is not understood.
 pub const NOT_UNDERSTOOD: u8 = 2;
@@ -27,12 +28,39 @@ fn failed(rt: &impl Eprint, text: &str, status: u8) -> u8
     status
 }
 
-/// Says on standard error why a run stopped, and answers the status to end with: 4 for want of memory, else 3.
-pub fn stopped(rt: &impl Eprint, fault: RunFault) -> u8
+/// What a program reads where no file is named, as its messages call it.
+pub const STANDARD_INPUT: &str = "standard input";
+
+/// A read that failed.
+#[derive(Debug, Drop, Error)]
+#[error("error: a read of {0} failed")]
+struct ReadFailed<'a>(&'a str);
+
+/// A file that can't be opened, and why.
+#[derive(Debug, Drop, Error)]
+#[error("error: {name} can't be opened: {error}")]
+struct NotOpened<'a> {
+    name: &'a str,
+    error: io::Error,
+}
+
+/// Says on standard error that a file can't be opened, and answers the status to end with.
+pub fn not_opened(rt: &impl Eprint, name: &str, error: io::Error) -> u8
+    ensures { result ≡ 2 }
+{
+    let _ = rt.eprintln(&NotOpened { name, error });
+    NOT_UNDERSTOOD
+}
+
+/// Says on standard error why a run over this source stopped, and answers the status to end with: 4 for want of memory, else 3.
+pub fn stopped(rt: &impl Eprint, fault: RunFault, source: &str) -> u8
     ensures { result ≡ run_status fault }
 {
     match fault {
-        RunFault::Read => failed(rt, "error: a read of standard input failed", STREAM_FAILED),
+        RunFault::Read => {
+            let _ = rt.eprintln(&ReadFailed(source));
+            STREAM_FAILED
+        }
         RunFault::Write => failed(
             rt,
             "error: a write to standard output failed",
@@ -53,8 +81,9 @@ pub fn misread(rt: &impl Eprint, fault: &OptionFault) -> u8
         OptionFault::Words(_)
         | OptionFault::Frames(_)
         | OptionFault::Pages(_)
-        | OptionFault::Number(_)
+        | OptionFault::Number { .. }
         | OptionFault::Rights(_)
+        | OptionFault::Hyphens { .. }
         | OptionFault::Word(_)
         | OptionFault::TooMany(_)
         | OptionFault::Reading(_) => NOT_UNDERSTOOD,

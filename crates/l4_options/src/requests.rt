@@ -5,18 +5,26 @@ use l4_fpage::PageSize;
 use l4_msg::{MAX_WORDS, Region};
 use thiserror::Error;
 
+/// A script that is to be carried out: over a machine with this many frames, 1 to 4,096, of this size, from the file of this name, or from
+/// standard input where there is none.
+#[derive(Debug, Drop)]
+pub struct ScriptOptions {
+    pub frames: u32,
+    pub size: PageSize,
+    pub file: Option<String>,
+}
+
 /// What the command line of `l4` asks for.
 #[derive(Debug, Drop)]
 pub enum Options {
-    /// To answer a script over a machine with this many frames, 1 to 4,096, of this size.
+    /// To answer a script, to its first refused line alone where that is asked for.
     Run {
-        frames: u32,
-        size: PageSize,
+        script: ScriptOptions,
+        strict: bool,
     },
-    /// To write the history of a script over such a machine, with what each step answers or without.
+    /// To write the history of a script, with what each step answers or without.
     History {
-        frames: u32,
-        size: PageSize,
+        script: ScriptOptions,
         answers: bool,
     },
     /// To print the shortest plan of this region of pages of this size, or why there is none.
@@ -63,12 +71,15 @@ pub enum OptionFault {
     /// What stands for the bytes of a page is neither 4,096 nor 1,024 in decimal digits.
     #[error("error: invalid value '{0}' for '--page-size <BYTES>': it is neither 4096 nor 1024")]
     Pages(String),
-    /// What stands for a page or a count is no number up to 4,294,967,295 in decimal digits.
-    #[error("error: invalid value '{0}': it is no decimal number up to 4294967295")]
-    Number(String),
+    /// What stands for a page or a count, which is named, is no number of a script.
+    #[error("error: invalid value '{word}' for '<{name}>': it is no number up to 4294967295, decimal or hexadecimal after 0x")]
+    Number { name: &'static str, word: String },
     /// What stands for rights is not r, w and x in turn, each of them or `-` or `_` in its place.
-    #[error("error: invalid value '{0}': it is not r, w and x in turn, each of them or _ in its place")]
+    #[error("error: invalid value '{0}' for '<RIGHTS>': it is not r, w and x in turn, each of them or _ in its place")]
     Rights(String),
+    /// Rights that begin with `-` were taken for an option; what to write in their place.
+    #[error("error: '{word}' was taken for an option: for '<RIGHTS>' write {instead}, with _ for -")]
+    Hyphens { word: String, instead: &'static str },
     /// What stands for a word is no number of a script.
     #[error("error: invalid value '{0}' for '<WORD>...': it is no number up to 4294967295, decimal or hexadecimal after 0x")]
     Word(String),

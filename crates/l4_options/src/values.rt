@@ -1,8 +1,10 @@
 //! Values on a command line: numbers, rights, regions, words, and the options `--frames`, `--page-size` and `--as`.
-ghost use Rattle.std.specs.Prelude.{IfOk, IfSome};
+ghost use Rattle.std.specs.Prelude.{◌≡◌, IfOk, IfSome, codes, option_map};
+ghost use Rattle.clap.specs.Matches.{found_of};
 ghost use Rattle.l4_options.specs.Ranges.{IsFrameCount};
+ghost use Rattle.l4_options.specs.Words.{right_of, rights_of, underscored, spelled_anew, word_at, IsNumberAt, AreRightsAt, IsRegionIn};
 
-use crate::requests::OptionFault;
+use crate::requests::{OptionFault, ScriptOptions};
 use arrayvec::ArrayVec;
 use clap::error::ErrorKind;
 use clap::{Arg, ArgAction, ArgMatches, Error};
@@ -32,6 +34,22 @@ pub(crate) fn size_option<'a>(alloc: Global) -> Arg<'a> {
         .value_name("BYTES")
         .help("The bytes of a page, 4096 or 1024 [default: 4096]")
         .action(ArgAction::Set)
+}
+
+/// The file of a script.
+pub(crate) fn file_argument<'a>(alloc: Global) -> Arg<'a> {
+    Arg::new(alloc, "file")
+        .value_name("FILE")
+        .help("The script; without it standard input is read")
+        .action(ArgAction::Set)
+}
+
+/// The option `--strict`.
+pub(crate) fn strict_option<'a>(alloc: Global) -> Arg<'a> {
+    Arg::new(alloc, "strict")
+        .long("strict")
+        .help("End at the first refused line, with status 1")
+        .action(ArgAction::SetTrue)
 }
 
 /// The option `--answers`.
@@ -100,23 +118,69 @@ fn size_in(text: &[u8]) -> Option<PageSize> {
 }
 
 /// Whether the byte gives a right or leaves it out.
-fn right_in(byte: u8, right: u8) -> Option<bool> {
-    match byte {
-        b'-' | b'_' => Some(false),
-        _ if byte == right => Some(true),
-        _ => None,
+fn right(letter: u8, byte: u8) -> Option<bool>
+    ensures { result ≡ right_of letter byte }
+{
+    if byte == letter {
+        return Some(true);
+    }
+    if byte == b'-' || byte == b'_' {
+        Some(false)
+    } else {
+        None
     }
 }
 
+/// The rights among read, write and execute.
+fn rights_with(read: bool, write: bool, execute: bool) -> Rights
+    ensures { result ≡ record { r = read; w = write; x = execute } }
+{
+    Rights::of_bits(4 * u8::from(read) + 2 * u8::from(write) + u8::from(execute))
+}
+
 /// Rights: r, w and x in turn, each of them or `-` or `_` in its place.
-fn rights_in(text: &[u8]) -> Option<Rights> {
-    let [r, w, x] = text else {
+#[tactic(auto, unfolding(crate::specs::Words::rights_of))]
+fn rights_in(text: &[u8]) -> Option<Rights>
+    ensures { result ≡ rights_of text.now }
+{
+    if text.len() != 3 {
         return None;
-    };
-    let r = right_in(*r, b'r')?;
-    let w = right_in(*w, b'w')?;
-    let x = right_in(*x, b'x')?;
-    Some(Rights::of_bits(4 * u8::from(r) + 2 * u8::from(w) + u8::from(x)))
+    }
+    let read = right(b'r', text[0])?;
+    let write = right(b'w', text[1])?;
+    let execute = right(b'x', text[2])?;
+    Some(rights_with(read, write, execute))
+}
+
+/// Rights without that to read in letters, with an underscore for each that is left out.
+fn underscored(bits: u8) -> &'static str
+    ensures { result.now ≡ underscored bits }
+{
+    if bits == 0 {
+        return "___";
+    }
+    if bits == 1 {
+        return "__x";
+    }
+    if bits == 2 {
+        return "_w_";
+    }
+    "_wx"
+}
+
+/// What to write on a command line for rights whose word begins with `-`, which is taken for an option.
+pub(crate) fn without_hyphens(word: &str) -> Option<&'static str>
+    ensures { option_map (λ s. s.now) result ≡ spelled_anew word.now }
+{
+    let bytes = word.as_bytes();
+    if bytes.is_empty() {
+        return None;
+    }
+    if bytes[0] != b'-' {
+        return None;
+    }
+    let rights = rights_in(bytes)?;
+    Some(underscored(rights.bits()))
 }
 
 /// The usage or the version, where a parse gave it in place of matches.
@@ -131,21 +195,40 @@ pub(crate) fn help_text(alloc: Global, error: &Error) -> Result<String, OptionFa
     }
 }
 
-/// The number that stands for a part of a region.
-fn number_of(alloc: Global, matches: &ArgMatches<'_>, id: &str) -> Result<u32, OptionFault> {
-    let word = matches.get_str(id).unwrap_or("");
-    match number_in(word.as_bytes()) {
+/// The word of an argument, an empty one where there is none.
+fn word_at<'a>(matches: &ArgMatches<'a>, id: &str) -> &'a str
+    ensures { result.now ≡ word_at (found_of matches.now) id.now }
+{
+    match matches.get_str(id) {
+        Some(word) => word,
+        None => "",
+    }
+}
+
+/// The number that stands for a part of a region, by the argument's name.
+fn number_of(
+    alloc: Global,
+    matches: &ArgMatches<'_>,
+    id: &str,
+    name: &'static str,
+) -> Result<u32, OptionFault>
+    ensures { IfOk result (IsNumberAt (found_of matches.now) id.now) }
+{
+    let word = word_at(matches, id);
+    match number(word.as_bytes()) {
         Some(number) => Ok(number),
         None => match String::from_str(alloc, word) {
-            Ok(text) => Err(OptionFault::Number(text)),
+            Ok(word) => Err(OptionFault::Number { name, word }),
             Err(_) => Err(OptionFault::Memory),
         },
     }
 }
 
 /// The rights of a region.
-fn rights_of(alloc: Global, matches: &ArgMatches<'_>) -> Result<Rights, OptionFault> {
-    let word = matches.get_str("rights").unwrap_or("");
+fn rights_of(alloc: Global, matches: &ArgMatches<'_>) -> Result<Rights, OptionFault>
+    ensures { IfOk result (AreRightsAt (found_of matches.now) (codes "rights")) }
+{
+    let word = word_at(matches, "rights");
     match rights_in(word.as_bytes()) {
         Some(rights) => Ok(rights),
         None => match String::from_str(alloc, word) {
@@ -156,11 +239,13 @@ fn rights_of(alloc: Global, matches: &ArgMatches<'_>) -> Result<Rights, OptionFa
 }
 
 /// The region that the matches name.
-pub(crate) fn region_of(alloc: Global, matches: &ArgMatches<'_>) -> Result<Region, OptionFault> {
+pub(crate) fn region_of(alloc: Global, matches: &ArgMatches<'_>) -> Result<Region, OptionFault>
+    ensures { IfOk result (IsRegionIn (found_of matches.now)) }
+{
     Ok(Region {
-        source: number_of(alloc, matches, "source")?,
-        target: number_of(alloc, matches, "target")?,
-        count: number_of(alloc, matches, "count")?,
+        source: number_of(alloc, matches, "source", "SOURCE")?,
+        target: number_of(alloc, matches, "target", "TARGET")?,
+        count: number_of(alloc, matches, "count", "COUNT")?,
         rights: rights_of(alloc, matches)?,
     })
 }
@@ -191,6 +276,32 @@ pub(crate) fn size_of(alloc: Global, matches: &ArgMatches<'_>) -> Result<PageSiz
     }
     match String::from_str(alloc, word) {
         Ok(text) => Err(OptionFault::Pages(text)),
+        Err(_) => Err(OptionFault::Memory),
+    }
+}
+
+/// The script that the matches name.
+pub(crate) fn script_of(
+    alloc: Global,
+    matches: &ArgMatches<'_>,
+) -> Result<ScriptOptions, OptionFault>
+    ensures { IfOk result (λ script. IsFrameCount script.frames) }
+{
+    let frames = frames_of(alloc, matches)?;
+    let size = size_of(alloc, matches)?;
+    let Some(name) = matches.get_str("file") else {
+        return Ok(ScriptOptions {
+            frames,
+            size,
+            file: None,
+        });
+    };
+    match String::from_str(alloc, name) {
+        Ok(name) => Ok(ScriptOptions {
+            frames,
+            size,
+            file: Some(name),
+        }),
         Err(_) => Err(OptionFault::Memory),
     }
 }

@@ -1,16 +1,16 @@
 use l4_fpage::{PageSize, Rights};
 use l4_msg::Region;
-use l4_options::{OptionFault, Options, StepOptions, options, step_options};
+use l4_options::{OptionFault, Options, ScriptOptions, StepOptions, options, step_options};
 use std::test::Fail;
 
 #[test]
 fn reads_frames(rt: HostRuntime) -> Result<(), Fail> {
     for (word, frames) in [("1", 1), ("4096", 4096), ("007", 7)] {
         let words = ["l4", "run", "--frames", word];
-        let Ok(Options::Run { frames: got, .. }) = options(rt.alloc(), words.as_slice()) else {
+        let Ok(Options::Run { script, .. }) = options(rt.alloc(), words.as_slice()) else {
             return Err("not understood".into());
         };
-        assert_eq!(rt; got, frames);
+        assert_eq!(rt; script.frames, frames);
         let words = ["l4_steps", "--frames", word];
         let Ok(StepOptions::Run { frames: got, .. }) = step_options(rt.alloc(), words.as_slice())
         else {
@@ -23,8 +23,12 @@ fn reads_frames(rt: HostRuntime) -> Result<(), Fail> {
         matches!(
             options(rt.alloc(), words.as_slice()),
             Ok(Options::Run {
-                frames: 256,
-                size: PageSize::Kib4
+                script: ScriptOptions {
+                    frames: 256,
+                    size: PageSize::Kib4,
+                    file: None
+                },
+                strict: false
             })
         )
     );
@@ -49,16 +53,10 @@ fn reads_page_sizes(rt: HostRuntime) -> Result<(), Fail> {
         ("01024", PageSize::Kib1),
     ] {
         let words = ["l4", "run", "--frames=5", "--page-size", word];
-        let Ok(
-            Options::Run {
-                frames: 5,
-                size: got,
-            },
-        ) = options(rt.alloc(), words.as_slice())
-        else {
+        let Ok(Options::Run { script, .. }) = options(rt.alloc(), words.as_slice()) else {
             return Err("not understood".into());
         };
-        assert!(rt; got == size);
+        assert!(rt; script.frames == 5 && script.size == size);
         let words = ["l4_steps", "--page-size", word];
         let Ok(
             StepOptions::Run {
@@ -111,7 +109,7 @@ fn is_planned(asked: &Options, owed: &Region) -> bool {
 
 #[test]
 fn reads_regions(rt: HostRuntime) -> Result<(), Fail> {
-    let words = ["l4", "plan", "4", "12", "4294967295", "r_-"];
+    let words = ["l4", "plan", "0x4", "12", "0xffffffff", "r_-"];
     let Ok(asked) = options(rt.alloc(), words.as_slice()) else {
         return Err("not understood".into());
     };
@@ -126,7 +124,7 @@ fn reads_regions(rt: HostRuntime) -> Result<(), Fail> {
     assert!(rt;
         matches!(
             options(rt.alloc(), words.as_slice()),
-            Err(OptionFault::Number(_))
+            Err(OptionFault::Number { name: "COUNT", .. })
         )
     );
     let words = ["l4", "check", "0", "0", "1", "rxw"];
@@ -134,6 +132,13 @@ fn reads_regions(rt: HostRuntime) -> Result<(), Fail> {
         matches!(
             options(rt.alloc(), words.as_slice()),
             Err(OptionFault::Rights(_))
+        )
+    );
+    let words = ["l4", "plan", "0", "0", "1", "-w-"];
+    assert!(rt;
+        matches!(
+            options(rt.alloc(), words.as_slice()),
+            Err(OptionFault::Hyphens { instead: "_w_", .. })
         )
     );
     Ok(())

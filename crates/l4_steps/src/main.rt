@@ -6,7 +6,8 @@
 
 use l4_fpage::PageSize;
 use l4_options::{
-    NOT_UNDERSTOOD, StepOptions, command_words, misread, show, status_of, step_options, stopped,
+    NOT_UNDERSTOOD, STANDARD_INPUT, StepOptions, command_words, misread, show, status_of,
+    step_options, stopped,
 };
 use l4_step_lines::{Fault, run};
 use std::io;
@@ -22,7 +23,7 @@ fn answer_list<R: AllocGlobal + Input + Print + Eprint>(rt: &R, frames: u32, siz
         &mut io::writer(rt),
     ) {
         Ok(()) => 0,
-        Err(Fault::Stopped(fault)) => stopped(rt, fault),
+        Err(Fault::Stopped(fault)) => stopped(rt, fault, STANDARD_INPUT),
         Err(fault) => {
             let _ = rt.eprintln(&fault);
             NOT_UNDERSTOOD
