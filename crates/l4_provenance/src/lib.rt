@@ -7,3 +7,4 @@ mod writing;
 
 pub use finding::provenance;
 pub use l4_chains::{ChainLink, ReplayFault};
+pub use replaying::replay;

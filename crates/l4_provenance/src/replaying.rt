@@ -2,6 +2,8 @@
 ghost use Rattle.std.specs.Prelude.{◌≡◌, ◌≤◌, length, IfOk, IfErr};
 ghost use Rattle.l4_chains.specs.Inside.Redoing.{FailsAt, FailsIn};
 ghost use Rattle.l4_chains.specs.Inside.Walking.{Does};
+ghost use Rattle.l4_ipc.specs.Runs.{Run};
+ghost use Rattle.l4_record.specs.History.{steps_of, answers_of};
 ghost use Rattle.l4_provenance.specs.Inside.Arrivals.{Brought, newer, Arrived};
 
 use crate::writing::link_to;
@@ -91,4 +93,23 @@ pub fn last_arrival(
         Some(link) => Ok(Arrival::By(link)),
         None => Ok(Arrival::AtBoot),
     }
+}
+
+/// Does all the steps of a history on a kernel. `NoMemory` comes where a growth was refused, and `OtherAnswer` where a step gets another answer
+/// than the history says; the steps before it are done then.
+pub fn replay(kernel: &mut Kernel, history: &History) -> Result<(), ReplayFault>
+    ensures ok { IfOk result (λ _. Run kernel.old (steps_of history.now.entries) (answers_of history.now.entries) kernel.new) }
+    ensures err { IfErr result (FailsIn kernel.old history.now.entries) }
+{
+    kernel.law_forest();
+    for number in 0..history.len() {
+        let Some(entry) = history.get(number) else {
+            return Err(ReplayFault::NoMemory);
+        };
+        if let Err(fault) = again(kernel, number, &entry) {
+            return Err(fault);
+        }
+        kernel.law_forest();
+    }
+    Ok(())
 }

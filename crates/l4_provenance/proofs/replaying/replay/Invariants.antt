@@ -1,0 +1,5 @@
+use Rattle.l4_provenance.proofs.Sofar.{Done}
+use Rattle.l4_provenance.proofs.replaying.replay.Given as goal
+
+abbrev pub invariant-loop-number : goal.invariant-loop-number
+invariant-loop-number l = Done l.fn.kernel l.fn.history.entries l.number l.kernel
