@@ -1,0 +1,124 @@
+-- What is found of a page, and what is told of it.
+use Rattle.std.proofs.Common.{◌≡◌, ℕ, Bool, List, [], ◌++◌, Option, Some, None, Result, Ok, Err, IsTrue, is_some, refl, sym, ap, ◌∙◌, subst}
+use Rattle.std.proofs.lemmas.List.{append-nil}
+use Rattle.std.proofs.lemmas.Bool.{false≢true}
+use Rattle.std.specs.Global.{Vec}
+use Rattle.std.specs.Io.KnownBytes.{Appends}
+use Rattle.l4_fpage.specs.declared.sizes.PageSize.{PageSize}
+use Rattle.l4_mapdb.specs.declared.Mapping.{Mapping}
+use Rattle.l4_mapdb.specs.declared.Place.{Place}
+use Rattle.l4_mapdb.specs.Mappings.{IsPresent, shown}
+use Rattle.l4_threads.specs.declared.Thread.{Thread}
+use Rattle.l4_threads.specs.Threads.{thread_at}
+use Rattle.l4_ipc.specs.Machine.{Machine, IsBoot}
+use Rattle.l4_ipc.specs.Runs.{Run}
+use Rattle.l4_record.specs.declared.entries.Entry.{Entry}
+use Rattle.l4_record.specs.History.{steps_of, answers_of}
+use Rattle.l4_chains.specs.declared.links.ChainLink.{ChainLink}
+use Rattle.l4_chains.specs.Chains.{IsProvenance, IsAbsent}
+use Rattle.l4_provenance.proofs.Back.{one_boot}
+use Rattle.l4_shell.specs.Histories.{Records}
+use Rattle.l4_text.specs.Streams.{WentOut}
+use Rattle.l4_text.specs.declared.faults.RunFault.{RunFault}
+use Rattle.l4_text.specs.declared.faults.RunFault.TheVariants.{Read, Write, Memory}
+use Rattle.l4_why.specs.Telling.{IsWhy, HasWhy, TellsWhy, IsThreadText, IsPlaceText}
+use Rattle.l4_why.specs.Inside.Finding.{is_found, answer_text, Holds, IsAnswer, IsOfThread}
+use Rattle.l4_why.specs.declared.asking.ThreadPage.{ThreadPage}
+use Rattle.l4_why.specs.declared.asking.Answer.{Answer}
+use Rattle.l4_why.specs.declared.asking.Answer.TheVariants.{Unknown, Absent, Chain}
+
+-- WHAT IS FOUND
+
+of_thread : (boot now : Machine) (history : List Entry) (asked : ThreadPage) (place : Place) (found : Bool) (text : List ℕ) → IsOfThread now asked place
+    → IsPlaceText boot now history place found text → IsThreadText boot now history (thread_at now.threads asked.thread) asked.page found text
+of_thread boot now history asked place found text of is =
+    subst (λ (o : Option Thread). IsThreadText boot now history o asked.page found text) (sym of.1) (subst (λ (p : Place). IsPlaceText boot now history p found text) of.2 is)
+
+text_of : (boot now : Machine) (history : List Entry) (asked : ThreadPage) (answer : Answer) → Holds boot now history asked answer
+    → IsThreadText boot now history (thread_at now.threads asked.thread) asked.page (is_found answer) (answer_text history answer)
+text_of boot now history asked Unknown h =
+    subst (λ (o : Option Thread). IsThreadText boot now history o asked.page (is_found Unknown) (answer_text history Unknown)) (sym h) (refl, refl)
+text_of boot now history asked Absent h = of_thread boot now history asked h.0 (is_found Absent) (answer_text history Absent) h.1 (h.2, refl)
+text_of boot now history asked (Chain place links shows) h =
+    of_thread boot now history asked place (is_found (Chain place links shows)) (answer_text history (Chain place links shows)) h.0
+    (record { links = links.items; provenance = h.1; shows = shows; at = h.2; is_text = refl })
+
+why_of : (frames : ℕ) (size : PageSize) (history : List Entry) (asked : ThreadPage) (answer : Answer) → IsAnswer frames size history asked answer
+    → IsWhy frames size history asked (is_found answer) (answer_text history answer)
+why_of frames size history asked answer h =
+    record { boot = h.boot; boots = h.boots; size_is = h.size_is; now = h.now; run = h.run; is_text = text_of h.boot h.now history asked answer h.holds }
+
+-- ON KERNELS OF ONE'S OWN
+
+-- a kernel of one's own has done the history
+pub record Ended (frames : ℕ) (size : PageSize) (history : List Entry) (now : Machine) : Type 0 where
+  pub boot : Machine
+  pub boots : IsBoot frames boot
+  pub size_is : boot.size ≡ size
+  pub run : Run boot (steps_of history) (answers_of history) now
+
+module _ (frames : ℕ) (size : PageSize) (history : List Entry) (now : Machine) (asked : ThreadPage) (e : Ended frames size history now) where
+  answered : (answer : Answer) → Holds e.boot now history asked answer → IsAnswer frames size history asked answer
+  answered answer holds = record { boot = e.boot; boots = e.boots; size_is = e.size_is; now = now; run = e.run; holds = holds }
+
+  pub is_unknown : thread_at now.threads asked.thread ≡ None → IsAnswer frames size history asked Unknown
+  is_unknown none = answered Unknown none
+
+  -- of another kernel that booted alike
+  same_boot : (P : Machine → Type 0) → (b : Machine) × IsBoot frames b × (b.size ≡ size) × P b → P e.boot
+  same_boot P other = subst P (one_boot frames other.0 e.boot other.1 e.boots (other.2 ∙ sym e.size_is)) other.3
+
+  module _ (thread : Thread) (at : thread_at now.threads asked.thread ≡ Some thread) where
+    abbrev pub place : Place
+    place = record { space = thread.space; page = asked.page }
+
+    pub is_absent : shown now.mappings place ≡ None → IsAnswer frames size history asked Absent
+    is_absent none = answered Absent (place, (thread, at, refl), record { now = now; run = e.run; absent = subst (λ (o : Option Mapping). ¬ (IsTrue (is_some o))) (sym none) (λ h. false≢true h) })
+
+    pub is_found_absent : (b : Machine) × IsBoot frames b × (b.size ≡ size) × IsAbsent b history place → IsAnswer frames size history asked Absent
+    is_found_absent other = answered Absent (place, (thread, at, refl), same_boot (λ b. IsAbsent b history place) other)
+
+    pub is_chain : (links : Vec ChainLink) (shows : Mapping) → (b : Machine) × IsBoot frames b × (b.size ≡ size) × IsProvenance b history place links.items → shown now.mappings place ≡ Some shows
+        → IsAnswer frames size history asked (Chain place links shows)
+    is_chain links shows other is = answered (Chain place links shows) ((thread, at, refl), same_boot (λ b. IsProvenance b history place links.items) other, is)
+
+-- WHAT GOES OUT
+
+has_why : (frames : ℕ) (size : PageSize) (asked : ThreadPage) (old new : Option (List ℕ)) (read : Result ℕ RunFault) (history : List Entry) (found : Bool) (text : List ℕ)
+    → Records frames size old new history read → IsWhy frames size history asked found text → HasWhy frames size asked old new read found text
+has_why frames size asked old new read history found text records is = record { history = history; records = records; is_why = is }
+
+-- what is given for how the script was read
+abbrev pub outcome : Result ℕ RunFault → Bool → Result Bool RunFault
+outcome (Ok count) found = Ok found
+outcome (Err fault) found = Err fault
+
+-- all of it
+goes_out : (frames : ℕ) (size : PageSize) (asked : ThreadPage) (old new written now : Option (List ℕ)) (read : Result ℕ RunFault) (history : List Entry) (found : Bool) (text : List ℕ)
+    → Records frames size old new history read → IsWhy frames size history asked found text → Appends written now text
+    → TellsWhy frames size asked old new written now (outcome read found)
+goes_out frames size asked old new written now (Ok count) history found text records is out =
+    (count, text, has_why frames size asked old new (Ok count) history found text records is, out)
+goes_out frames size asked old new written now (Err Read) history found text records is out =
+    (found, text, has_why frames size asked old new (Err Read) history found text records is, out)
+goes_out frames size asked old new written now (Err Write) history found text records is out =
+    (Err Write, found, text, has_why frames size asked old new (Err Write) history found text records is, record { front = text; rest = []; whole = sym (append-nil text); out = out })
+goes_out frames size asked old new written now (Err Memory) history found text records is out = absurd records.answered
+
+-- all that is told of an answer
+pub all_told : (frames : ℕ) (size : PageSize) (asked : ThreadPage) (old new written now : Option (List ℕ)) (read same : Result ℕ RunFault) (history : List Entry) (answer : Answer) (found : Bool)
+    → read ≡ same → found ≡ is_found answer → Records frames size old new history read → IsAnswer frames size history asked answer → Appends written now (answer_text history answer)
+    → TellsWhy frames size asked old new written now (outcome same found)
+all_told frames size asked old new written now read same history answer found is is_there records holds out =
+    let text : List ℕ = answer_text history answer in
+    let why : IsWhy frames size history asked found text = subst (λ (b : Bool). IsWhy frames size history asked b text) (sym is_there) (why_of frames size history asked answer holds) in
+    subst (λ (r : Result ℕ RunFault). TellsWhy frames size asked old new written now (outcome r found)) is
+    (goes_out frames size asked old new written now read history found text records why out)
+
+-- a beginning of it
+pub some_told : (frames : ℕ) (size : PageSize) (asked : ThreadPage) (old new written now : Option (List ℕ)) (read : Result ℕ RunFault) (history : List Entry) (answer : Answer)
+    → Records frames size old new history read → IsAnswer frames size history asked answer → WentOut written now (answer_text history answer)
+    → TellsWhy frames size asked old new written now (Err Write)
+some_told frames size asked old new written now read history answer records holds out =
+    let text : List ℕ = answer_text history answer in
+    (read, is_found answer, text, has_why frames size asked old new read history (is_found answer) text records (why_of frames size history asked answer holds), out)

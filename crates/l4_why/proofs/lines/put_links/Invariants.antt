@@ -1,0 +1,8 @@
+use Rattle.std.proofs.Common.{take}
+use Rattle.l4_text.specs.Streams.{Tells}
+use Rattle.l4_why.specs.Chains.{link_lines}
+use Rattle.l4_why.proofs.lines.put_links.Given as goal
+
+abbrev pub invariant-loop-link : goal.invariant-loop-link
+invariant-loop-link g l =
+    Tells (g.W.Write.contents l.initial.writer) (g.W.Write.contents l.writer) l.initial.out l.out (link_lines l.history.entries (take l.link-index l.links))

@@ -1,0 +1,74 @@
+-- How a page of a thread's space came there, as it is told of a script (this profile's own).
+use Rattle.std.specs.Prelude.{ℕ, ◌≡◌, ◌⊎◌, Bool, true, false, List, ◌++◌, Option, Some, None, Result, Ok, Err, codes}
+use Rattle.std.specs.Io.KnownBytes.{Appends}
+use Rattle.l4_fpage.specs.declared.sizes.PageSize.{PageSize}
+use Rattle.l4_mapdb.specs.declared.Mapping.{Mapping}
+use Rattle.l4_mapdb.specs.declared.Place.{Place}
+use Rattle.l4_mapdb.specs.Mappings.{shown}
+use Rattle.l4_threads.specs.declared.Thread.{Thread}
+use Rattle.l4_threads.specs.Threads.{thread_at}
+use Rattle.l4_ipc.specs.Machine.{Machine, IsBoot}
+use Rattle.l4_ipc.specs.Runs.{Run}
+use Rattle.l4_record.specs.declared.entries.Entry.{Entry}
+use Rattle.l4_record.specs.History.{steps_of, answers_of}
+use Rattle.l4_chains.specs.declared.links.ChainLink.{ChainLink}
+use Rattle.l4_chains.specs.Chains.{IsProvenance, IsAbsent}
+use Rattle.l4_shell.specs.Histories.{Records}
+use Rattle.l4_text.specs.Streams.{WentOut}
+use Rattle.l4_text.specs.declared.faults.RunFault.{RunFault}
+use Rattle.l4_text.specs.declared.faults.RunFault.TheVariants.{Read, Write, Memory}
+use Rattle.l4_answers.specs.Replies.{newline}
+use Rattle.l4_why.specs.Chains.{chain_text}
+use Rattle.l4_why.specs.declared.asking.ThreadPage.{ThreadPage}
+
+-- of a thread that isn't there
+abbrev pub unknown_text : List ℕ
+unknown_text = codes "refused K2" ++ newline
+
+-- of a page that isn't there
+abbrev pub absent_text : List ℕ
+absent_text = codes "absent" ++ newline
+
+-- the links are the provenance of the place in the history, which shows this at the end, and this is their text
+pub record IsChainText (boot now : Machine) (history : List Entry) (place : Place) (text : List ℕ) : Type 0 where
+  pub links : List ChainLink
+  pub provenance : IsProvenance boot history place links
+  pub shows : Mapping
+  pub at : shown now.mappings place ≡ Some shows
+  pub is_text : text ≡ chain_text history links place shows
+
+-- of a place: its chain, or that it is absent
+abbrev pub IsPlaceText : Machine → Machine → List Entry → Place → Bool → List ℕ → Type 0
+IsPlaceText boot now history place true text = IsChainText boot now history place text
+IsPlaceText boot now history place false text = IsAbsent boot history place × (text ≡ absent_text)
+
+-- of a page of the space of a thread, if that is there at the end
+abbrev pub IsThreadText : Machine → Machine → List Entry → Option Thread → ℕ → Bool → List ℕ → Type 0
+IsThreadText boot now history None page found text = (found ≡ false) × (text ≡ unknown_text)
+IsThreadText boot now history (Some thread) page found text = IsPlaceText boot now history (record { space = thread.space; page = page }) found text
+
+-- Whether a page is found that the asked thread's space has at the end of the history, and what is told of it.
+pub record IsWhy (frames : ℕ) (size : PageSize) (history : List Entry) (asked : ThreadPage) (found : Bool) (text : List ℕ) : Type 0 where
+  pub boot : Machine
+  pub boots : IsBoot frames boot
+  pub size_is : boot.size ≡ size
+  pub now : Machine
+  pub run : Run boot (steps_of history) (answers_of history) now
+  pub is_text : IsThreadText boot now history (thread_at now.threads asked.thread) asked.page found text
+
+-- a script was carried out, and this is told of the page
+pub record HasWhy (frames : ℕ) (size : PageSize) (asked : ThreadPage) (old new : Option (List ℕ)) (read : Result ℕ RunFault) (found : Bool) (text : List ℕ) : Type 0 where
+  pub history : List Entry
+  pub records : Records frames size old new history read
+  pub is_why : IsWhy frames size history asked found text
+
+-- What is told went out, where a read failed too, of the lines before it, or where a write failed a beginning of it. Nothing did where memory was
+-- wanting.
+abbrev pub TellsWhy : ℕ → PageSize → ThreadPage → Option (List ℕ) → Option (List ℕ) → Option (List ℕ) → Option (List ℕ) → Result Bool RunFault → Type 0
+TellsWhy frames size asked old new written now (Ok found) =
+    (count : ℕ) × (text : List ℕ) × HasWhy frames size asked old new (Ok count) found text × Appends written now text
+TellsWhy frames size asked old new written now (Err Read) =
+    (found : Bool) × (text : List ℕ) × HasWhy frames size asked old new (Err Read) found text × Appends written now text
+TellsWhy frames size asked old new written now (Err Write) =
+    (read : Result ℕ RunFault) × (found : Bool) × (text : List ℕ) × HasWhy frames size asked old new read found text × WentOut written now text
+TellsWhy frames size asked old new written now (Err Memory) = now ≡ written
