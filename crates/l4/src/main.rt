@@ -1,8 +1,8 @@
 //! The program `l4`: answers scripts of kernel calls (`l4 --help`).
 //!
-//! Exit statuses: 0 at the end of the script, for a plan and for a proved one, 1 where there is no plan or it is not proved, or a refused
-//! line ended a strict run, 2 for a command line that is not understood or a file that can't be opened, 3 where a read or a write failed, 4
-//! for want of memory at the start.
+//! Exit statuses: 0 at the end of the script, for a plan and for a proved one, 1 where there is no plan or it is not proved, where the page that
+//! is asked for isn't there, or a refused line ended a strict run, 2 for a command line that is not understood or a file that can't be
+//! opened, 3 where a read or a write failed, 4 for want of memory.
 #![tactic(auto)]
 
 ghost use Rattle.std.specs.Prelude.{◌≡◌, IfErr};
@@ -19,11 +19,12 @@ use l4_options::{
 use l4_plan_lines::{check_lines, plan_lines};
 use l4_shell::{RunFault, run};
 use l4_streams::{ScriptReader, StrictWriter};
+use l4_why::{ThreadPage, why};
 use std::process::ExitCode;
 use std::rt::Files;
 use std::{fs, io};
 
-const NOT_PROVED: u8 = 1;
+const NOT_FOUND: u8 = 1;
 
 /// The exit status of a strict run that a refused line ended.
 const REFUSED: u8 = 1;
@@ -45,6 +46,7 @@ fn opened<R: Files + Input + Eprint>(
 }
 
 /// Answers a script, to its first refused line alone where that is asked for.
+#[inline(never)]
 fn answer_script<R: AllocGlobal + Files + Input + Print + Eprint>(
     rt: &R,
     script: &ScriptOptions,
@@ -75,6 +77,7 @@ fn answer_script<R: AllocGlobal + Files + Input + Print + Eprint>(
 }
 
 /// Writes the history of a script.
+#[inline(never)]
 fn tell_history<R: AllocGlobal + Files + Input + Print + Eprint>(
     rt: &R,
     script: &ScriptOptions,
@@ -99,21 +102,47 @@ fn tell_history<R: AllocGlobal + Files + Input + Print + Eprint>(
     }
 }
 
-/// The status of a plan that was made or proved, was not, or met a fault of a stream.
+/// The status of a page that was found or a plan that was made or proved, of one that was not, or of a fault of a stream.
 fn judged(rt: &impl Eprint, outcome: Result<bool, RunFault>) -> u8 {
     match outcome {
         Ok(true) => 0,
-        Ok(false) => NOT_PROVED,
+        Ok(false) => NOT_FOUND,
         Err(fault) => stopped(rt, fault, STANDARD_INPUT),
     }
 }
 
+/// Tells how a page came to where it is, by the script on standard input.
+#[inline(never)]
+fn tell_why<R: AllocGlobal + Files + Input + Print + Eprint>(
+    rt: &R,
+    frames: u32,
+    size: PageSize,
+    asked: ThreadPage,
+) -> u8
+    requires { IsFrameCount frames }
+{
+    let mut reader: ScriptReader<R::Reader, R::File> = ScriptReader::Standard(rt.reader());
+    judged(
+        rt,
+        why(
+            rt.alloc(),
+            frames,
+            size,
+            asked,
+            &mut reader,
+            &mut io::writer(rt),
+        ),
+    )
+}
+
 /// Plans a region.
+#[inline(never)]
 fn plan<R: Print + Eprint>(rt: &R, region: &Region, size: PageSize) -> u8 {
     judged(rt, plan_lines(region, size, &mut io::writer(rt)))
 }
 
 /// Checks the plan on standard input.
+#[inline(never)]
 fn check<R: Files + Input + Print + Eprint>(rt: &R, region: &Region, size: PageSize) -> u8 {
     judged(
         rt,
@@ -127,6 +156,7 @@ fn check<R: Files + Input + Print + Eprint>(rt: &R, region: &Region, size: PageS
 }
 
 /// Says what words mean.
+#[inline(never)]
 fn tell_words<R: Print + Eprint>(rt: &R, words: &[u32], reading: Reading, size: PageSize) -> u8 {
     match decode(words, reading, size, &mut io::writer(rt)) {
         Ok(()) => 0,
@@ -139,6 +169,14 @@ fn obey<R: AllocGlobal + Files + Input + Print + Eprint>(rt: &R, words: &[String
     match options(rt.alloc(), words) {
         Ok(Options::Run { script, strict }) => answer_script(rt, &script, strict),
         Ok(Options::History { script, answers }) => tell_history(rt, &script, answers),
+        Ok(
+            Options::Why {
+                frames,
+                size,
+                thread,
+                page,
+            },
+        ) => tell_why(rt, frames, size, ThreadPage { thread, page }),
         Ok(Options::Plan { region, size }) => plan(rt, &region, size),
         Ok(Options::Check { region, size }) => check(rt, &region, size),
         Ok(

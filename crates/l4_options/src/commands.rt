@@ -3,19 +3,20 @@ ghost use Rattle.std.specs.Prelude.{◌≡◌, IfOk, IfSome, Some};
 ghost use Rattle.l4_options.specs.Ranges.{IsInRange};
 ghost use Rattle.l4_options.specs.Words.{spelled_anew};
 
-use crate::help::{ABOUT, CHECK, DECODE, HISTORY, PLAN, SCRIPT};
+use crate::help::{ABOUT, CHECK, DECODE, HISTORY, PLAN, SCRIPT, WHY};
 use crate::requests::{OptionFault, Options};
 use crate::values::{
-    answers_option, file_argument, frames_option, help_text, reading_of, reading_option, region_of,
-    script_of, size_of, size_option, strict_option, without_hyphens, words_argument, words_of,
+    answers_option, file_argument, frames_of, frames_option, help_text, number_of, reading_of,
+    reading_option, region_of, script_of, size_of, size_option, strict_option, without_hyphens,
+    words_argument, words_of,
 };
 use clap::error::ErrorKind;
 use clap::{Arg, ArgAction, ArgMatches, Command, Error};
 use std::alloc::{AllocError, Global};
 use std::convert::AsStr;
 
-/// An argument of a region.
-fn region_word<'a>(alloc: Global, id: &'a str, name: &'a str, help: &'a str) -> Arg<'a> {
+/// A word that has to be there.
+fn needed_word<'a>(alloc: Global, id: &'a str, name: &'a str, help: &'a str) -> Arg<'a> {
     Arg::new(alloc, id)
         .value_name(name)
         .help(help)
@@ -33,15 +34,26 @@ fn of_region<'a>(
     Command::new(alloc, name)
         .about(about)
         .after_help(more)
-        .arg(region_word(alloc, "source", "SOURCE", "The first page of the region"))?
-        .arg(region_word(alloc, "target", "TARGET", "The page that it goes to"))?
-        .arg(region_word(alloc, "count", "COUNT", "The number of its pages"))?
-        .arg(region_word(
+        .arg(needed_word(alloc, "source", "SOURCE", "The first page of the region"))?
+        .arg(needed_word(alloc, "target", "TARGET", "The page that it goes to"))?
+        .arg(needed_word(alloc, "count", "COUNT", "The number of its pages"))?
+        .arg(needed_word(
             alloc,
             "rights",
             "RIGHTS",
             "Its rights: r, w and x in turn, or _ for each",
         ))?
+        .arg(size_option(alloc))
+}
+
+/// The command `why`.
+fn of_page<'a>(alloc: Global) -> Result<Command<'a>, AllocError> {
+    Command::new(alloc, "why")
+        .about("Tells how a page of a thread's space came there")
+        .after_help(WHY)
+        .arg(needed_word(alloc, "thread", "THREAD", "The number of the thread"))?
+        .arg(needed_word(alloc, "page", "PAGE", "The number of the page"))?
+        .arg(frames_option(alloc))?
         .arg(size_option(alloc))
 }
 
@@ -74,6 +86,7 @@ fn known<'a>(alloc: Global) -> Result<Command<'a>, AllocError> {
         .subcommand_required(true)
         .subcommand(run)?
         .subcommand(history)?
+        .subcommand(of_page(alloc)?)?
         .subcommand(of_region(alloc, "plan", "Plans the delegation of a region", PLAN)?)?
         .subcommand(of_region(alloc, "check", "Checks a plan", CHECK)?)?
         .subcommand(decode)
@@ -146,6 +159,21 @@ fn history_options(alloc: Global, matches: &ArgMatches<'_>) -> Result<Options, O
     }
 }
 
+/// What the matches of `why` ask for.
+fn why_options(alloc: Global, matches: &ArgMatches<'_>) -> Result<Options, OptionFault>
+    ensures { IfOk result IsInRange }
+{
+    match frames_of(alloc, matches) {
+        Ok(frames) => Ok(Options::Why {
+            frames,
+            size: size_of(alloc, matches)?,
+            thread: number_of(alloc, matches, "thread", "THREAD")?,
+            page: number_of(alloc, matches, "page", "PAGE")?,
+        }),
+        Err(fault) => Err(fault),
+    }
+}
+
 /// What the matches of `decode` ask for.
 fn decode_options(alloc: Global, matches: &ArgMatches<'_>) -> Result<Options, OptionFault>
     ensures { IfOk result IsInRange }
@@ -161,9 +189,10 @@ fn decode_options(alloc: Global, matches: &ArgMatches<'_>) -> Result<Options, Op
 }
 
 /// Reads the words of the command line, the program's name first:
-/// `l4 run [FILE] [--frames N] [--strict]`, `l4 history [FILE] [--frames N] [--answers]`, `l4 plan SOURCE TARGET COUNT RIGHTS`, `l4 check`
-/// with the same words, `l4 decode [--as READING] WORD..`, each with `--page-size BYTES` where that is wanted, `--help`, `help` or
-/// `--version`. N is 256 and BYTES 4096 where they are left out; READING is message, fpage, window or id.
+/// `l4 run [FILE] [--frames N] [--strict]`, `l4 history [FILE] [--frames N] [--answers]`, `l4 why THREAD PAGE [--frames N]`,
+/// `l4 plan SOURCE TARGET COUNT RIGHTS`, `l4 check` with the same words, `l4 decode [--as READING] WORD..`, each with
+/// `--page-size BYTES` where that is wanted, `--help`, `help` or `--version`. N is 256 and BYTES 4096 where they are left out; READING is
+/// message, fpage, window or id.
 ///
 /// `Memory` comes only where an allocation was refused. Every other fault names the word that is not understood, and where it stands for
 /// a number or rights the argument too.
@@ -193,6 +222,7 @@ pub fn options<'a, S: AsStr>(alloc: Global, words: &'a [S]) -> Result<Options, O
             Err(fault) => Err(fault),
         },
         Some(("history", history)) => history_options(alloc, history),
+        Some(("why", why)) => why_options(alloc, why),
         Some(("decode", decode)) => decode_options(alloc, decode),
         Some((_, run)) => run_options(alloc, run),
         None => Err(OptionFault::Memory),

@@ -44,6 +44,28 @@ With --answers the lines that l4_steps answers to a step stand below it, behind
 
 Exit status: as that of 'l4 run'.";
 
+pub(crate) const WHY: &str = "\
+The script is read on standard input and carried out as 'l4 run' does. In place
+of its answers it is told, once it has ended, how page PAGE of the space of
+thread THREAD came there: from a page that sigma0 had at boot, by one transfer
+after another.
+
+  sigma0 page P              sigma0's page, which has frame P
+  entry E transfer S R KIND SOURCE TARGET RIGHTS RIGHTS
+                             the transfer that is entry E of the history, from 0:
+                             an item of S's message moved page SOURCE of S's space
+                             to page TARGET of R's. KIND is map, or grant where it
+                             was given away. The first RIGHTS are those that S's
+                             page had just before, the second those of the item
+  page P frame F RIGHTS      the page as it is
+  absent                     it isn't there
+  refused K2                 there is no thread of this number
+
+Entry E is line E + 1 of what 'l4 history' writes.
+
+Exit status: as that of 'l4 run', and 1 where the page or the thread isn't
+there.";
+
 pub(crate) const DECODE: &str = "\
 The words are a message, the tag first: a line for the tag, for each untyped
 word and for each item, and at the end what they mean as a whole. One word alone

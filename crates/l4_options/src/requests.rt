@@ -27,6 +27,13 @@ pub enum Options {
         script: ScriptOptions,
         answers: bool,
     },
+    /// To tell how a page of a thread's space came there, by a script over such a machine.
+    Why {
+        frames: u32,
+        size: PageSize,
+        thread: u32,
+        page: u32,
+    },
     /// To print the shortest plan of this region of pages of this size, or why there is none.
     Plan {
         region: Region,
@@ -71,7 +78,7 @@ pub enum OptionFault {
     /// What stands for the bytes of a page is neither 4,096 nor 1,024 in decimal digits.
     #[error("error: invalid value '{0}' for '--page-size <BYTES>': it is neither 4096 nor 1024")]
     Pages(String),
-    /// What stands for a page or a count, which is named, is no number of a script.
+    /// What stands for a thread, a page or a count, which is named, is no number of a script.
     #[error("error: invalid value '{word}' for '<{name}>': it is no number up to 4294967295, decimal or hexadecimal after 0x")]
     Number { name: &'static str, word: String },
     /// What stands for rights is not r, w and x in turn, each of them or `-` or `_` in its place.

@@ -205,8 +205,8 @@ fn word_at<'a>(matches: &ArgMatches<'a>, id: &str) -> &'a str
     }
 }
 
-/// The number that stands for a part of a region, by the argument's name.
-fn number_of(
+/// The number of a thread, or of a part of a region, by the argument's name.
+pub(crate) fn number_of(
     alloc: Global,
     matches: &ArgMatches<'_>,
     id: &str,
