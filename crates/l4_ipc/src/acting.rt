@@ -187,6 +187,7 @@ fn start_items(
 }
 
 /// Starts an Ipc of a running thread.
+#[inline(always)]
 fn start_ipc(threads: &mut Threads, number: u32, call: &IpcCall) -> Result<bool, Refused>
     requires { IsTrue (runs threads.old number) }
     ensures { (size : APageSize) (s : Mappings) → Steps (machine size threads.old s) (Start number (Ipc call.now)) (answered_if number result) (machine size threads.new s) }

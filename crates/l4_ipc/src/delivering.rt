@@ -86,6 +86,7 @@ pub fn receiver_ending(done: bool, takes: &Receiving) -> Option<Ending>
 }
 
 /// The receiver's call ends, and where nothing else is said with what the sender sends to it.
+#[inline(always)]
 pub fn end_receiver(
     threads: &mut Threads,
     sender: u32,
@@ -214,6 +215,7 @@ fn move_listed(
 }
 
 /// Moves the pages of a message from the one space to the other, two that are there.
+#[inline(always)]
 pub fn deliver(
     forest: &mut Forest,
     from: u64,
