@@ -79,6 +79,11 @@ fn reads_page_sizes(rt: HostRuntime) -> Result<(), Fail> {
         };
         assert!(rt; got == size);
     }
+    Ok(())
+}
+
+#[test]
+fn refuses_page_sizes(rt: HostRuntime) {
     for word in ["2048", "4", "0x400", "+1024", "1k", ""] {
         let words = ["l4", "run", "--page-size", word];
         assert!(rt;
@@ -96,7 +101,6 @@ fn reads_page_sizes(rt: HostRuntime) -> Result<(), Fail> {
             Err(OptionFault::Words(_))
         )
     );
-    Ok(())
 }
 
 /// A plan of just this region of large pages is asked.
