@@ -91,7 +91,7 @@ impl Kernel {
     /// space, and what each page shows. What is done with the one is not seen in the other, so a run can be taken both ways.
     ///
     /// `NoMemory` comes where a growth was refused, and then there is no copy; the kernel itself stays as it is. A copy takes memory for
-    /// what is mapped, and not for what there is room for.
+    /// the most pages that were ever present at once, and not for what there is room for.
     pub fn copy(&self) -> Result<Kernel, NoMemory>
         ensures { IfOk result (λ copy. copy ≡ self.now) }
     {

@@ -7,7 +7,8 @@ use crate::{Forest, NoMemory};
 impl Forest {
     /// The same mappings and spaces, in memory of their own. What is done with the one is not seen in the other.
     ///
-    /// It takes memory for what is mapped, and not for what there is room for. Where that is refused, nothing has changed.
+    /// It takes memory for the most pages that were ever present at once, and not for what there is room for. Where that is refused, nothing
+    /// has changed.
     pub fn copy(&self) -> Result<Forest, NoMemory>
         ensures { IfOk result (λ copy. copy ≡ self.now) }
     {
