@@ -153,8 +153,8 @@ uint32_t l4_boot_sized(l4_kernel *kernel, uint32_t frames, uint32_t page_bytes);
 
 /* Makes a copy of a kernel: the same threads with what each is doing and its message registers, the same queue of senders, the same
  * spaces, and the same pages, in memory of its own. What is done with the one is not seen in the other. The second handle is empty, and
- * holds the copy from then on; after a refusal it is as before. The first is as before in either case. A copy takes memory for what is
- * mapped. Refusals in this order: B1 of the kernel, B2 of the copy, NoMemory. */
+ * holds the copy from then on; after a refusal it is as before. The first is as before in either case. A copy takes memory for the most
+ * pages that were ever present at once. Refusals in this order: B1 of the kernel, B2 of the copy, NoMemory. */
 uint32_t l4_copy(l4_kernel *kernel, l4_kernel *copy);
 
 /* Frees a kernel with all its memory. The handle is empty then. */
