@@ -1,0 +1,139 @@
+//! Reads a script on standard input, with the options of `l4_steps`, and has `check_provenance` judge what `provenance` finds of each page that
+//! a space but sigma0's has at the end, and of the page behind each: tests/pages gives it random scripts.
+//!
+//! Exit statuses: 0 where all is right, 1 where something isn't; else those of `l4 run`.
+#![tactic(auto)]
+
+ghost use Rattle.std.specs.Prelude.{◌≤◌};
+ghost use Rattle.l4_fpage.specs.Pages.{max_frames};
+
+use l4_fpage::PageSize;
+use l4_ipc::{Kernel, MOST_PAGES, Place};
+use l4_options::{StepOptions, command_words, misread, show, status_of, step_options, stopped};
+use l4_provenance::{provenance, replay};
+use l4_provenance_check::check_provenance;
+use l4_record::History;
+use l4_shell::{RunFault, record};
+use std::alloc::Global;
+use std::process::ExitCode;
+
+/// What is not as the checker says it.
+const WRONG: u8 = 1;
+
+/// A history, and the kernel at its end.
+#[derive(Clone, Copy)]
+struct Ended<'a> {
+    frames: u32,
+    size: PageSize,
+    history: &'a History,
+    kernel: &'a Kernel,
+}
+
+/// How many pages were judged, how many links there were, and how many pages were judged otherwise than they were found.
+#[derive(Clone, Copy)]
+struct Counts {
+    pages: u64,
+    links: u64,
+    wrong: u64,
+}
+
+/// The number of links that are found of a page, if the checker says that they are right, and that none are.
+fn judged(alloc: Global, ended: &Ended<'_>, place: Place) -> Option<usize> {
+    let is_there = ended.kernel.mapping(place.space, place.page).is_some();
+    let found = provenance(alloc, ended.frames, ended.size, ended.history, place);
+    let Ok(found) = found else {
+        return None;
+    };
+    let links = match &found {
+        Some(links) => links.as_slice(),
+        None => &[],
+    };
+    let says = check_provenance(alloc, ended.frames, ended.size, ended.history, place, links);
+    if says == Ok(is_there) && found.is_some() == is_there {
+        Some(links.len())
+    } else {
+        None
+    }
+}
+
+/// Judges a page.
+fn judge(alloc: Global, ended: &Ended<'_>, place: Place, counts: &mut Counts) {
+    counts.pages = counts.pages.saturating_add(1);
+    match judged(alloc, ended, place) {
+        Some(links) => counts.links = counts.links.saturating_add(links as u64),
+        None => counts.wrong = counts.wrong.saturating_add(1),
+    }
+}
+
+/// Judges the pages of a space.
+fn judge_space(alloc: Global, ended: &Ended<'_>, space: u64, counts: &mut Counts) {
+    let mut from = 0u32;
+    for _turn in 0..MOST_PAGES {
+        let Some(page) = ended.kernel.next_page(space, from) else {
+            break;
+        };
+        judge(alloc, ended, Place { space, page }, counts);
+        from = page.saturating_add(1);
+        if ended.kernel.mapping(space, from).is_none() {
+            judge(alloc, ended, Place { space, page: from }, counts);
+        }
+    }
+}
+
+/// Judges the pages of all spaces but sigma0's. A history makes no more spaces than it has entries.
+fn judge_all(alloc: Global, ended: &Ended<'_>) -> Counts {
+    let mut counts = Counts {
+        pages: 0,
+        links: 0,
+        wrong: 0,
+    };
+    for space in 1..(ended.history.len() as u64).saturating_add(2) {
+        judge_space(alloc, ended, space, &mut counts);
+    }
+    counts
+}
+
+/// Judges the script on standard input.
+fn judge_script<R: AllocGlobal + Input + Print + Eprint>(rt: &R, frames: u32, size: PageSize) -> u8
+    requires some { 1 ≤ frames }
+    requires fit { frames ≤ max_frames }
+{
+    let Some((history, _)) = record(rt.alloc(), frames, size, &mut rt.reader()) else {
+        return stopped(rt, RunFault::Memory);
+    };
+    let Ok(mut kernel) = Kernel::boot(rt.alloc(), frames, size) else {
+        return stopped(rt, RunFault::Memory);
+    };
+    if replay(&mut kernel, &history).is_err() {
+        return stopped(rt, RunFault::Memory);
+    }
+    let ended = Ended {
+        frames,
+        size,
+        history: &history,
+        kernel: &kernel,
+    };
+    let counts = judge_all(rt.alloc(), &ended);
+    let told = println!(rt;
+        "{} pages, {} links, {} wrong",
+        counts.pages, counts.links, counts.wrong
+    );
+    if told.is_err() {
+        return stopped(rt, RunFault::Write);
+    }
+    if counts.wrong == 0 { 0 } else { WRONG }
+}
+
+/// Does what these words ask for.
+fn obey<R: AllocGlobal + Input + Print + Eprint>(rt: &R, words: &[String]) -> u8 {
+    match step_options(rt.alloc(), words) {
+        Ok(StepOptions::Run { frames, size }) => judge_script(rt, frames, size),
+        Ok(StepOptions::Show(text)) => show(rt, text.as_str()),
+        Err(fault) => misread(rt, &fault),
+    }
+}
+
+fn main(rt: HostRuntime) -> ExitCode {
+    let words = command_words(&rt);
+    ExitCode::from(status_of(words, |words| obey(&rt, words)))
+}
