@@ -7,7 +7,7 @@ use std::io::Write;
 use std::marker::Model;
 
 /// A writer of a script's answers. Where it is strict it takes them to the first that tells of a refused line, which goes out too; each
-/// write after that fails.
+/// write after that fails, and the flush behind it, so that nothing more is read.
 #[derive(Drop)]
 pub struct StrictWriter<W: Write> {
     writer: W,
@@ -67,6 +67,10 @@ impl<W: Write> Write for StrictWriter<W> {
     }
 
     fn flush(&mut self) -> io::Result<()> {
-        self.writer.flush()
+        let flushed = self.writer.flush();
+        if self.strict && self.seen.is_refused() {
+            return Err(io::Error::from(io::ErrorKind::Other));
+        }
+        flushed
     }
 }
