@@ -9,7 +9,9 @@ ghost use Rattle.l4_fpage.specs.Pages.{max_frames};
 
 use l4_fpage::PageSize;
 use l4_ipc::{Kernel, MOST_PAGES, Place};
-use l4_options::{StepOptions, command_words, misread, show, status_of, step_options, stopped};
+use l4_options::{
+    STANDARD_INPUT, StepOptions, command_words, misread, show, status_of, step_options, stopped,
+};
 use l4_provenance::{provenance, replay};
 use l4_provenance_check::check_provenance;
 use l4_record::History;
@@ -99,13 +101,13 @@ fn judge_script<R: AllocGlobal + Input + Print + Eprint>(rt: &R, frames: u32, si
     requires fit { frames ≤ max_frames }
 {
     let Some((history, _)) = record(rt.alloc(), frames, size, &mut rt.reader()) else {
-        return stopped(rt, RunFault::Memory);
+        return stopped(rt, RunFault::Memory, STANDARD_INPUT);
     };
     let Ok(mut kernel) = Kernel::boot(rt.alloc(), frames, size) else {
-        return stopped(rt, RunFault::Memory);
+        return stopped(rt, RunFault::Memory, STANDARD_INPUT);
     };
     if replay(&mut kernel, &history).is_err() {
-        return stopped(rt, RunFault::Memory);
+        return stopped(rt, RunFault::Memory, STANDARD_INPUT);
     }
     let ended = Ended {
         frames,
@@ -119,7 +121,7 @@ fn judge_script<R: AllocGlobal + Input + Print + Eprint>(rt: &R, frames: u32, si
         counts.pages, counts.links, counts.wrong
     );
     if told.is_err() {
-        return stopped(rt, RunFault::Write);
+        return stopped(rt, RunFault::Write, STANDARD_INPUT);
     }
     if counts.wrong == 0 { 0 } else { WRONG }
 }
