@@ -123,6 +123,8 @@ extern "C" {
 #define L4_L1 UINT32_C(0x4C31) /* the history is full: with more than 999,871 steps no call is started */
 #define L4_L3 UINT32_C(0x4C33) /* an ended call of this seat has not been taken */
 #define L4_L4 UINT32_C(0x4C34) /* the seat of this number was given before */
+#define L4_L6 UINT32_C(0x4C36) /* the history has a transfer (entry detail, from 0) that found no memory, and finds it as the history is done again */
+#define L4_L7 UINT32_C(0x4C37) /* the links aren't how the page came there */
 #define L4_X1 UINT32_C(0x5831) /* the seat of this number (detail) was given and is not here */
 #define L4_X2 UINT32_C(0x5832) /* the seat of this number (detail) was not given, or is here twice */
 #define L4_X3 UINT32_C(0x5833) /* the seat of this number (detail) does not agree with what was kept of it */
@@ -596,6 +598,40 @@ typedef struct l4_receipt {
 
 /* The receipt of a seat at a place, from 0, in the order in which it got them. Refusals: B1. */
 l4_receipt l4_lock_receipt(l4_lock *lock, uint32_t seat, size_t place);
+
+/* A transfer that moved a page on: the place of its entry in the history, from 0; the sender's page and the receiver's, with the numbers of
+ * their spaces; whether the item gave the page away (grant is 1) or shared it (0); the rights that the sender's page had just before,
+ * and those that the item named. */
+typedef struct l4_link {
+    uint64_t entry;
+    uint64_t source_space;
+    uint64_t target_space;
+    uint32_t source_page;
+    uint32_t target_page;
+    uint32_t grant;
+    uint32_t source_rights;
+    uint32_t item_rights;
+} l4_link;
+
+/* How many links brought a page to where it is; there is 0 where it isn't present. */
+typedef struct l4_chain {
+    uint32_t refusal;
+    uint32_t detail;
+    uint32_t there;
+    uint64_t count;
+} l4_chain;
+
+/* How a page of a space came to where it is: the transfers that brought it there from a page that sigma0 had at boot, each from the page to
+ * which the one before it went. The first `room` of them are written to links; count is how many there are, so a second call with that
+ * much room gets all of them. A page that sigma0 has had since boot has none. Nothing is written where the page isn't present, or after a
+ * refusal, and the lock is as before in either case. It takes the time of the whole history, and once more of its part before each link,
+ * and the memory of a second kernel. Refusals in this order: B1; NoMemory, or L6 with an entry. */
+l4_chain l4_lock_provenance(l4_lock *lock, uint64_t space, uint32_t page, l4_link *links, size_t room);
+
+/* Checks that just these links are how a page of a space came to where it is; they never are where it isn't present. A grant is any number
+ * but 0. It shares no code with what finds them, does the history once more on a second kernel, and changes nothing. Refusals in this
+ * order: B1; NoMemory, or L6 with an entry; L7. */
+l4_verdict l4_lock_check_provenance(l4_lock *lock, uint64_t space, uint32_t page, const l4_link *links, size_t count);
 
 /* The seats of these numbers come back. Where just those come back that were given, each once, it is freed with its history, and the handle
  * is empty: then the history has as many starts of each seat's thread as the seat counted, and each receipt was right about it. Else

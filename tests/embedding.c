@@ -382,6 +382,82 @@ static l4_seated by_seat(l4_lock *lock, uint32_t seat, l4_call call, const uint3
     return l4_lock_enter(lock, seat, &call, words, count);
 }
 
+/* The link is of this entry, from the one page to the other. */
+static int brings(l4_link link, uint64_t entry, uint64_t source_space, uint32_t source_page, uint64_t target_space, uint32_t target_page) {
+    return link.entry == entry && link.source_space == source_space && link.source_page == source_page && link.target_space == target_space
+        && link.target_page == target_page;
+}
+
+/* The link is a grant or not, by these rights. */
+static int shares(l4_link link, uint32_t grant, uint32_t source_rights, uint32_t item_rights) {
+    return link.grant == grant && link.source_rights == source_rights && link.item_rights == item_rights;
+}
+
+/* The seat waits for any message, and another sends it these words. */
+static void moves(l4_lock *lock, uint32_t receiver, uint32_t sender, const uint32_t words[3]) {
+    EXPECT(by_seat(lock, receiver, receive(0x10), no_words, 0).refusal == L4_OK);
+    EXPECT(by_seat(lock, sender, send(receiver), words, 3).reply.kind == L4_REPLY_IPC);
+    EXPECT(l4_lock_take(lock, receiver).tag == 0x80);
+}
+
+/* A lock whose history maps page 16 of sigma0 to page 32 of thread 3 (entry 4) and that to page 7 of thread 4, to be read and written
+ * (entry 7). */
+static void maps(l4_lock *lock) {
+    static const uint32_t first[3] = {0x80, 0x20008, 0x100c7}, second[3] = {0x80, 0x7008, 0x200c6};
+    uint32_t seat;
+    EXPECT(l4_lock_new(lock, 256) == L4_OK);
+    for (seat = 1; seat <= 4; seat++) {
+        EXPECT(l4_lock_give(lock, seat) == L4_OK);
+    }
+    EXPECT(by_seat(lock, 2, create(3, 2), no_words, 0).refusal == L4_OK && by_seat(lock, 2, create(4, 2), no_words, 0).refusal == L4_OK);
+    moves(lock, 3, 1, first);
+    moves(lock, 4, 3, second);
+}
+
+/* The two links of page 7 of space 3, in rooms for none, one and three, and whose else they are. */
+static void chain_of_maps(l4_lock *lock) {
+    l4_link links[3];
+    l4_chain chain;
+    memset(links, 0, sizeof links);
+    chain = l4_lock_provenance(lock, 3, 7, links, 0);
+    EXPECT(chain.refusal == L4_OK && chain.detail == 0 && chain.there == 1 && chain.count == 2 && brings(links[0], 0, 0, 0, 0, 0));
+    EXPECT(l4_lock_provenance(lock, 3, 7, links, 1).count == 2 && brings(links[0], 4, 0, 16, 2, 32) && brings(links[1], 0, 0, 0, 0, 0));
+    EXPECT(l4_lock_provenance(lock, 3, 7, links, 3).count == 2 && brings(links[0], 4, 0, 16, 2, 32) && shares(links[0], 0, 7, 7));
+    EXPECT(brings(links[1], 7, 2, 32, 3, 7) && shares(links[1], 0, 7, 6) && brings(links[2], 0, 0, 0, 0, 0));
+    EXPECT(l4_lock_check_provenance(lock, 3, 7, links, 2).refusal == L4_OK && l4_lock_check_provenance(lock, 2, 32, links, 1).refusal == L4_OK);
+    EXPECT(l4_lock_check_provenance(lock, 3, 7, links, 1).refusal == L4_L7 && l4_lock_check_provenance(lock, 3, 7, links + 1, 1).refusal == L4_L7);
+    EXPECT(l4_lock_check_provenance(lock, 3, 7, links, 0).refusal == L4_L7 && l4_lock_check_provenance(lock, 2, 32, links, 2).refusal == L4_L7);
+    EXPECT(l4_lock_check_provenance(lock, 3, 8, links, 2).refusal == L4_L7 && l4_lock_check_provenance(lock, 3, 8, links, 0).refusal == L4_L7);
+    links[1].item_rights = L4_READ;
+    EXPECT(l4_lock_check_provenance(lock, 3, 7, links, 2).refusal == L4_L7);
+    EXPECT(l4_lock_provenance(lock, 0, 16, links, 0).there == 1 && l4_lock_provenance(lock, 0, 16, links, 0).count == 0);
+    EXPECT(l4_lock_check_provenance(lock, 0, 16, links, 0).refusal == L4_OK);
+    chain = l4_lock_provenance(lock, 3, 8, links, 3);
+    EXPECT(chain.refusal == L4_OK && chain.there == 0 && chain.count == 0 && brings(links[0], 4, 0, 16, 2, 32));
+    EXPECT(l4_lock_provenance(lock, 9, 7, links, 3).there == 0 && l4_lock_provenance(lock, 0, 256, links, 3).there == 0);
+}
+
+/* Page 7 of thread 4 goes for good to page 3 of thread 2, to be read (entry 10), and then page 17 of sigma0 stands there (entry 13). */
+static void provenance(void) {
+    static const uint32_t grant[3] = {0x80, 0x300a, 0x70c4}, other[3] = {0x80, 0x3008, 0x110c7};
+    l4_lock lock = L4_EMPTY;
+    l4_link links[4], one;
+    memset(links, 0, sizeof links);
+    EXPECT(l4_lock_provenance(&lock, 0, 0, links, 4).refusal == L4_B1 && l4_lock_check_provenance(&lock, 0, 0, links, 0).refusal == L4_B1);
+    maps(&lock);
+    chain_of_maps(&lock);
+    moves(&lock, 2, 4, grant);
+    EXPECT(l4_lock_provenance(&lock, 3, 7, links, 4).there == 0);
+    EXPECT(l4_lock_provenance(&lock, 1, 3, links, 4).count == 3 && brings(links[0], 4, 0, 16, 2, 32) && brings(links[1], 7, 2, 32, 3, 7));
+    EXPECT(brings(links[2], 10, 3, 7, 1, 3) && shares(links[2], 1, 6, 4));
+    EXPECT(l4_lock_check_provenance(&lock, 1, 3, links, 3).refusal == L4_OK);
+    moves(&lock, 2, 1, other);
+    EXPECT(l4_lock_check_provenance(&lock, 1, 3, links, 3).refusal == L4_L7);
+    EXPECT(l4_lock_provenance(&lock, 1, 3, &one, 1).count == 1 && brings(one, 13, 0, 17, 1, 3) && shares(one, 0, 7, 7));
+    EXPECT(l4_lock_check_provenance(&lock, 1, 3, &one, 1).refusal == L4_OK && l4_lock_length(&lock).count == 14);
+    l4_lock_free(&lock);
+}
+
 static void empty_locks(void) {
     l4_lock lock = L4_EMPTY;
     l4_lock_free(&lock);
@@ -536,7 +612,7 @@ static void texts(int shows) {
             }
         }
     }
-    EXPECT(found == 47);
+    EXPECT(found == 49);
     EXPECT(l4_refusal_code(L4_OK, code, sizeof code) == 0 && code[0] == 0);
     EXPECT(l4_refusal_code(0x10000 | L4_K1, code, sizeof code) == 0);
     EXPECT(l4_refusal_code(L4_K1, cut, 2) == 2 && cut[0] == 'K' && cut[1] == 0 && cut[2] == 'x');
@@ -565,6 +641,7 @@ int main(int count, char **words) {
     small_plans();
     empty_locks();
     locks();
+    provenance();
     texts(shows);
     return failures == 0 ? 0 : 1;
 }

@@ -22,7 +22,7 @@ from .kernel import Answer, Done, Entered, Expire, Kernel, Mapping, Outcome, Pla
 from .plans import Plan, Region
 from .protocols import FrameRequest, PageFault
 from .refusals import IpcFailed, Refused, TooLong
-from .shared import Entry, Receipt, Seat, SharedKernel, Start
+from .shared import Entry, Link, Receipt, Seat, SharedKernel, Start
 from .tables import Pager, Sigma0
 from .words import (
     MAX_FRAMES,
@@ -62,6 +62,7 @@ __all__ = [
     "IpcFailed",
     "Item",
     "Kernel",
+    "Link",
     "Mapping",
     "Message",
     "Outcome",

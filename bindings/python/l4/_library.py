@@ -79,6 +79,8 @@ L4_P4 = 0x5034
 L4_L1 = 0x4C31
 L4_L3 = 0x4C33
 L4_L4 = 0x4C34
+L4_L6 = 0x4C36
+L4_L7 = 0x4C37
 L4_X1 = 0x5831
 L4_X2 = 0x5832
 L4_X3 = 0x5833
@@ -237,6 +239,16 @@ class l4_receipt(Structure):
     )
 
 
+class l4_link(Structure):
+    _fields_ = [("entry", c_uint64), ("source_space", c_uint64), ("target_space", c_uint64)] + numbers(
+        "source_page target_page grant source_rights item_rights"
+    )
+
+
+class l4_chain(Structure):
+    _fields_ = numbers("refusal detail there") + [("count", c_uint64)]
+
+
 STRUCTS = [
     l4_kernel,
     l4_call,
@@ -264,6 +276,8 @@ STRUCTS = [
     l4_entry,
     l4_seat,
     l4_receipt,
+    l4_link,
+    l4_chain,
 ]
 
 KERNEL = POINTER(l4_kernel)
@@ -272,6 +286,7 @@ PAGER = POINTER(l4_pager)
 SIGMA0 = POINTER(l4_sigma0)
 REGION = POINTER(l4_region)
 LOCK = POINTER(l4_lock)
+LINKS = POINTER(l4_link)
 
 # each function's result and parameters
 FUNCTIONS: Dict[str, Tuple[Any, List[Any]]] = {
@@ -326,6 +341,8 @@ FUNCTIONS: Dict[str, Tuple[Any, List[Any]]] = {
     "l4_lock_entry": (l4_entry, [LOCK, c_size_t]),
     "l4_lock_seat_of": (l4_seat, [LOCK, c_uint32]),
     "l4_lock_receipt": (l4_receipt, [LOCK, c_uint32, c_size_t]),
+    "l4_lock_provenance": (l4_chain, [LOCK, c_uint64, c_uint32, LINKS, c_size_t]),
+    "l4_lock_check_provenance": (l4_verdict, [LOCK, c_uint64, c_uint32, LINKS, c_size_t]),
     "l4_lock_close": (l4_verdict, [LOCK, WORDS, c_size_t]),
 }
 

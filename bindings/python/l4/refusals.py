@@ -14,6 +14,7 @@ _DETAILED = {
     _library.L4_C2,
     _library.L4_C3,
     _library.L4_C4,
+    _library.L4_L6,
     _library.L4_X1,
     _library.L4_X2,
     _library.L4_X3,
@@ -24,7 +25,7 @@ class Refused(Exception):
     """A call did nothing: a refused step changes nothing.
 
     `code` is what the programs print, such as "K1"; `text` says what it means; `detail` is the number that some refusals carry (an
-    item, a word or a place of a list, from 0, or a page), else None.
+    item, a word, an entry or a place of a list, from 0, a page or a seat), else None.
     """
 
     code: str

@@ -5,15 +5,19 @@ import threading
 from ctypes import byref
 from dataclasses import dataclass
 from itertools import count
-from typing import Any, Callable, Iterable, Iterator, Optional, Tuple, Union
+from typing import Any, Callable, Iterable, Iterator, List, Optional, Tuple, Union
 
 from . import _library
 from ._handles import Handle
 from ._library import library, number, of_type
 from .calls import Call
-from .kernel import Expire, Outcome, Reply, Transfer, reply_of, step_of
+from .kernel import Expire, Outcome, Place, Reply, Transfer, reply_of, step_of
 from .refusals import Refused
-from .words import PAGE_BYTES
+from .words import PAGE_BYTES, Rights
+
+
+# the room for links that is enough for most pages
+_LINK_ROOM = 16
 
 
 @dataclass(frozen=True)
@@ -52,6 +56,35 @@ class Receipt:
     reply: Reply
 
 
+@dataclass(frozen=True)
+class Link:
+    """A transfer that moved a page on: the place of its entry in the history, from 0, the numbers of the threads that sent and received, the
+    sender's page and the receiver's, whether the item gave the page away or shared it, the rights that the sender's page had just before,
+    and those that the item named. As a string it is a line of what the program `l4 why` writes."""
+
+    entry: int
+    sender: int
+    receiver: int
+    source: Place
+    target: Place
+    grant: bool
+    source_rights: Rights
+    item_rights: Rights
+
+    def __str__(self) -> str:
+        kind = "grant" if self.grant else "map"
+        pages = f"{self.source.page} {self.target.page} {self.source_rights} {self.item_rights}"
+        return f"entry {self.entry} transfer {self.sender} {self.receiver} {kind} {pages}"
+
+    def given(self) -> _library.l4_link:
+        """The link as the library takes it."""
+        source, target = self.source, self.target
+        spaces = number(source.space, "a space", 64), number(target.space, "a space", 64)
+        pages = number(source.page, "a page"), number(target.page, "a page")
+        rights = self.source_rights.value, self.item_rights.value
+        return _library.l4_link(number(self.entry, "an entry", 64), *spaces, *pages, bool(self.grant), *rights)
+
+
 def _call(told: Any) -> Call:
     return Call.told(told.call, tuple(told.words[: told.word_count]))
 
@@ -60,6 +93,12 @@ def _entry(told: _library.l4_entry) -> Optional[Entry]:
     step: Union[Start, Transfer, Expire, None]
     step = Start(told.thread, _call(told)) if told.kind == _library.L4_START else step_of(told.kind, told.thread, told.receiver)
     return None if step is None else Entry(told.seat, step, Outcome(told.outcome), tuple(told.ended[: told.ended_count]))
+
+
+def _link(told: _library.l4_link, entry: _library.l4_entry) -> Link:
+    source, target = Place(told.source_space, told.source_page), Place(told.target_space, told.target_page)
+    rights = Rights.of_bits(told.source_rights), Rights.of_bits(told.item_rights)
+    return Link(told.entry, entry.thread, entry.receiver, source, target, bool(told.grant), *rights)
 
 
 def _receipt(told: _library.l4_receipt) -> Optional[Receipt]:
@@ -115,6 +154,40 @@ class SharedKernel:
         """All steps since boot."""
         with self._entered:
             return tuple(_until_none(_entry(self._lock.answer(library.l4_lock_entry, place)) for place in count()))
+
+    def provenance(self, space: int, page: int) -> Optional[List[Link]]:
+        """How a page of a space came to where it is: the transfers that brought it there from a page that sigma0 had at boot, one after
+        another; a page that sigma0 has had since boot has none. None where the page is not present.
+
+        The history is done once more on a second kernel, while calls of seats wait. Refused by NoMemory, and by L6 where a transfer of the
+        history found no memory.
+        """
+        place = number(space, "a space", 64), number(page, "a page")
+        with self._entered:
+            room = _LINK_ROOM
+            while True:
+                links = (_library.l4_link * room)()
+                told = self._lock.answer(library.l4_lock_provenance, *place, links, room)
+                if told.refusal:
+                    raise Refused(told.refusal, told.detail)
+                if told.count <= room:
+                    break
+                room = told.count
+            if not told.there:
+                return None
+            return [_link(link, self._lock.answer(library.l4_lock_entry, link.entry)) for link in links[: told.count]]
+
+    def check_provenance(self, space: int, page: int, links: Iterable[Link]) -> None:
+        """Checks that just these links are how a page of a space came to where it is, by code that shares none with `provenance`.
+
+        Refused by L7 where they aren't, which no links are where the page is not present, and as `provenance` is. A link's sender and
+        receiver are those of its entry, and are not judged.
+        """
+        place = number(space, "a space", 64), number(page, "a page")
+        given = [of_type(link, Link, "a link").given() for link in links]
+        told = self._lock.answer(library.l4_lock_check_provenance, *place, (_library.l4_link * max(len(given), 1))(*given), len(given))
+        if told.refusal:
+            raise Refused(told.refusal, told.detail)
 
     def close(self, seats: Iterable[Seat]) -> Tuple[Entry, ...]:
         """The history, where just the seats come back that were given; from then on each call raises ValueError.

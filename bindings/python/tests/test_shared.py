@@ -3,7 +3,7 @@ import threading
 import time
 import unittest
 
-from l4 import PAGE_BYTES, Call, Fpage, Item, Message, Refused, ReplyKind, Rights, SharedKernel, Start, ThreadId, Transfer
+from l4 import PAGE_BYTES, Call, Fpage, Item, Message, Place, Refused, ReplyKind, Rights, SharedKernel, Start, ThreadId, Transfer
 
 PAGE = Message.of(items=[Item.map(Fpage.page(16, Rights.ALL), 16 * PAGE_BYTES)])
 
@@ -106,6 +106,43 @@ class Shared(unittest.TestCase):
         with self.assertRaisesRegex(Refused, "^K2"):
             waiting.call(Call.receive())
         self.assertEqual(len(kernel.close([waiting, root])), 3)
+
+    def move(self, sender, receiver, item):
+        """One seat sends an item to another's thread, which receives it."""
+        parties = Parties()
+        parties.begin("received", lambda: receiver.call(Call.receive(window=Fpage.complete())))
+        sender.call(Call.send(ThreadId.of(receiver.number), Message.of(items=[item])))
+        parties.end()
+
+    def test_a_page_came_by_two_links(self):
+        kernel = SharedKernel()
+        sigma0, root, first, second = map(kernel.seat, (1, 2, 3, 4))
+        root.call(create(3))
+        root.call(create(4))
+        self.move(sigma0, first, Item.map(Fpage.page(16, Rights.ALL), 32 * PAGE_BYTES))
+        self.move(first, second, Item.grant(Fpage.page(32, Rights.READ), 7 * PAGE_BYTES))
+        links = kernel.provenance(3, 7)
+        lines = ["entry 4 transfer 1 3 map 16 32 rwx rwx", "entry 7 transfer 3 4 grant 32 7 rwx r--"]
+        self.assertEqual([str(link) for link in links], lines)
+        self.assertEqual((links[1].source, links[1].target, links[1].grant), (Place(2, 32), Place(3, 7), True))
+        kernel.check_provenance(3, 7, links)
+        for others in (links[:1], links[1:], []):
+            with self.assertRaisesRegex(Refused, "^L7: "):
+                kernel.check_provenance(3, 7, others)
+        self.assertIsNone(kernel.provenance(2, 32))
+        self.assertEqual(kernel.provenance(0, 16), [])
+        with self.assertRaises(TypeError):
+            kernel.check_provenance(3, 7, lines)
+
+    def test_a_page_came_by_many_links(self):
+        kernel = SharedKernel(1)
+        sigma0, root = kernel.seat(1), kernel.seat(2)
+        for _ in range(10):
+            self.move(sigma0, root, Item.grant(Fpage.page(0, Rights.ALL), 0))
+            self.move(root, sigma0, Item.grant(Fpage.page(0, Rights.ALL), 0))
+        links = kernel.provenance(0, 0)
+        self.assertEqual([link.entry for link in links], list(range(2, 60, 3)))
+        kernel.check_provenance(0, 0, links)
 
     def test_a_seat_is_missing(self):
         kernel, other = SharedKernel(1), SharedKernel(1)

@@ -127,6 +127,8 @@ constants! {
     L4_L1 = 0x4C31;
     L4_L3 = 0x4C33;
     L4_L4 = 0x4C34;
+    L4_L6 = 0x4C36;
+    L4_L7 = 0x4C37;
     L4_X1 = 0x5831;
     L4_X2 = 0x5832;
     L4_X3 = 0x5833;
@@ -348,6 +350,24 @@ structs! {
         call: l4_call,
         reply: l4_reply,
     }
+
+    struct l4_link {
+        entry: u64,
+        source_space: u64,
+        target_space: u64,
+        source_page: u32,
+        target_page: u32,
+        grant: u32,
+        source_rights: u32,
+        item_rights: u32,
+    }
+
+    struct l4_chain {
+        refusal: u32,
+        detail: u32,
+        there: u32,
+        count: u64,
+    }
 }
 
 functions! {
@@ -402,6 +422,8 @@ functions! {
     fn l4_lock_entry(lock: *mut l4_lock, place: usize) -> l4_entry;
     fn l4_lock_seat_of(lock: *mut l4_lock, seat: u32) -> l4_seat;
     fn l4_lock_receipt(lock: *mut l4_lock, seat: u32, place: usize) -> l4_receipt;
+    fn l4_lock_provenance(lock: *mut l4_lock, space: u64, page: u32, links: *mut l4_link, room: usize) -> l4_chain;
+    fn l4_lock_check_provenance(lock: *mut l4_lock, space: u64, page: u32, links: *const l4_link, count: usize) -> l4_verdict;
     fn l4_lock_close(lock: *mut l4_lock, seats: *const u32, count: usize) -> l4_verdict;
 }
 
@@ -415,6 +437,21 @@ const NO_STEP: l4_step = l4_step {
     ended_count: 0,
     ended: [0; 2],
 };
+
+/// No link.
+const NO_LINK: l4_link = l4_link {
+    entry: 0,
+    source_space: 0,
+    target_space: 0,
+    source_page: 0,
+    target_page: 0,
+    grant: 0,
+    source_rights: 0,
+    item_rights: 0,
+};
+
+/// The room for links that is enough for most pages.
+const LINK_ROOM: usize = 16;
 
 /// A handle as the header declares it: one pointer into what nobody looks into, or none.
 pub(crate) trait Hidden {
@@ -621,6 +658,29 @@ impl Handle<l4_lock> {
     pub(crate) fn receipt(&self, seat: u32, place: usize) -> l4_receipt {
         // SAFETY: as in `enabled`.
         unsafe { l4_lock_receipt(self.cell.get(), seat, place) }
+    }
+
+    /// The links of a page stand in the list, as many as the answer counts.
+    pub(crate) fn provenance(&self, space: u64, page: u32) -> (l4_chain, Vec<l4_link>) {
+        let mut links = vec![NO_LINK; LINK_ROOM];
+        loop {
+            let room = links.len();
+            // SAFETY: as in `enabled`; the links are this function's own, and their room is their length.
+            let told = unsafe {
+                l4_lock_provenance(self.cell.get(), space, page, links.as_mut_ptr(), room)
+            };
+            let count = told.count as usize;
+            links.resize(count, NO_LINK);
+            if count <= room {
+                return (told, links);
+            }
+        }
+    }
+
+    pub(crate) fn check_provenance(&self, space: u64, page: u32, links: &[l4_link]) -> l4_verdict {
+        let (first, count) = (links.as_ptr(), links.len());
+        // SAFETY: as in `enabled`; the links live as long as their borrow, and a slice's pointer is aligned and never null.
+        unsafe { l4_lock_check_provenance(self.cell.get(), space, page, first, count) }
     }
 
     pub(crate) fn close(&mut self, seats: &[u32]) -> l4_verdict {

@@ -50,7 +50,7 @@ macro_rules! refusals {
                 }
             }
 
-            /// The number that some refusals carry: an item, a word or a place of a list, from 0, or a page.
+            /// The number that some refusals carry: an item, a word, an entry or a place of a list, from 0, a page or a seat.
             pub fn detail(self) -> Option<u32> {
                 match self {
                     $(refusals!(@pattern $name detail $($detail)?) => refusals!(@value detail $($detail)?),)*
@@ -107,6 +107,8 @@ refusals! {
     HistoryFull = L4_L1 "L1" "the history is full: with more than 999,871 steps no call is started";
     ReplyWaiting = L4_L3 "L3" "an ended call of this seat has not been taken";
     SeatTaken = L4_L4 "L4" "the seat of this number was given before";
+    MemoryFoundSince(u32) = L4_L6 "L6" "the history has a transfer that found no memory, and finds it as the history is done again";
+    OtherProvenance = L4_L7 "L7" "the links aren't how the page came there";
     SeatMissing(u32) = L4_X1 "X1" "the seat of this number was given and is not here";
     SeatForeign(u32) = L4_X2 "X2" "the seat of this number was not given, or is here twice";
     SeatWrong(u32) = L4_X3 "X3" "the seat of this number does not agree with what was kept of it";

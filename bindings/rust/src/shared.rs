@@ -1,6 +1,6 @@
 //! A kernel that threads share, with its history and its seats.
 use crate::ffi::{self, Handle};
-use crate::{Call, Outcome, PageSize, Refusal, Reply, Step};
+use crate::{Call, Outcome, PageSize, Place, Refusal, Reply, Rights, Step};
 use std::fmt;
 use std::sync::atomic::{AtomicU64, Ordering};
 use std::sync::{Arc, Condvar, Mutex, MutexGuard, PoisonError};
@@ -79,6 +79,80 @@ pub struct Receipt {
     pub reply: Reply,
 }
 
+/// A transfer that moved a page on. It prints as a line of what the program `l4 why` writes.
+#[derive(Clone, Copy, PartialEq, Eq, Debug)]
+pub struct Link {
+    /// The place of its entry in the history, from 0.
+    pub entry: u64,
+    /// The number of the thread that sent the page.
+    pub sender: u32,
+    /// The number of the thread that received it.
+    pub receiver: u32,
+    /// The sender's page.
+    pub source: Place,
+    /// The receiver's page.
+    pub target: Place,
+    /// The item gave the page away, else it shared it.
+    pub grant: bool,
+    /// The rights that the sender's page had just before.
+    pub source_rights: Rights,
+    /// The rights that the item named.
+    pub item_rights: Rights,
+}
+
+impl Link {
+    /// The link that the library tells, with the parties of its entry.
+    fn of(told: &ffi::l4_link, entry: &ffi::l4_entry) -> Link {
+        Link {
+            entry: told.entry,
+            sender: entry.thread,
+            receiver: entry.receiver,
+            source: Place {
+                space: told.source_space,
+                page: told.source_page,
+            },
+            target: Place {
+                space: told.target_space,
+                page: told.target_page,
+            },
+            grant: told.grant != 0,
+            source_rights: Rights::of_bits(told.source_rights),
+            item_rights: Rights::of_bits(told.item_rights),
+        }
+    }
+
+    /// The link as the library is given it.
+    fn given(&self) -> ffi::l4_link {
+        ffi::l4_link {
+            entry: self.entry,
+            source_space: self.source.space,
+            target_space: self.target.space,
+            source_page: self.source.page,
+            target_page: self.target.page,
+            grant: self.grant.into(),
+            source_rights: self.source_rights.bits(),
+            item_rights: self.item_rights.bits(),
+        }
+    }
+}
+
+impl fmt::Display for Link {
+    fn fmt(&self, out: &mut fmt::Formatter<'_>) -> fmt::Result {
+        let kind = if self.grant { "grant" } else { "map" };
+        write!(
+            out,
+            "entry {} transfer {} {} {kind} {} {} {} {}",
+            self.entry,
+            self.sender,
+            self.receiver,
+            self.source.page,
+            self.target.page,
+            self.source_rights,
+            self.item_rights
+        )
+    }
+}
+
 /// What threads share: the locked kernel, whom to wake as calls are entered, and the length of the history.
 struct Shared {
     lock: Mutex<Handle<ffi::l4_lock>>,
@@ -155,6 +229,35 @@ impl SharedKernel {
         (0..)
             .map_while(|place| Entry::of(&lock.entry(place)))
             .collect()
+    }
+
+    /// How a page of a space came to where it is: the transfers that brought it there from a page that sigma0 had at boot, one after another;
+    /// a page that sigma0 has had since boot has none. `None` where the page is not present.
+    ///
+    /// The history is done once more on a second kernel, while calls of seats wait. Refused by NoMemory, and by L6 where a transfer of the
+    /// history found no memory.
+    pub fn provenance(&self, space: u64, page: u32) -> Result<Option<Vec<Link>>, Refusal> {
+        let lock = self.shared.lock();
+        let (told, links) = lock.provenance(space, page);
+        if told.refusal != ffi::L4_OK {
+            return Err(Refusal::of(told.refusal, told.detail));
+        }
+        let links = links
+            .iter()
+            .map(|link| Link::of(link, &lock.entry(link.entry as usize)));
+        Ok((told.there != 0).then(|| links.collect()))
+    }
+
+    /// Checks that just these links are how a page of a space came to where it is, by code that shares none with
+    /// [`provenance`](SharedKernel::provenance). Refused by L7 where they aren't, which no links are where the page is not present, and as
+    /// it is. A link's sender and receiver are those of its entry, and are not judged.
+    pub fn check_provenance(&self, space: u64, page: u32, links: &[Link]) -> Result<(), Refusal> {
+        let given: Vec<_> = links.iter().map(Link::given).collect();
+        let verdict = self.shared.lock().check_provenance(space, page, &given);
+        match verdict.refusal {
+            ffi::L4_OK => Ok(()),
+            number => Err(Refusal::of(number, verdict.detail)),
+        }
     }
 
     /// Ends the sharing, where just the seats come back that were given: it gives the history, of which each receipt was right. X1 where a

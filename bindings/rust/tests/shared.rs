@@ -1,6 +1,6 @@
 //! Threads share a kernel.
 use l4::{
-    Call, Entry, Fpage, Item, Message, Recorded, Refusal, Reply, Rights, Seat, SharedKernel,
+    Call, Entry, Fpage, Item, Message, Place, Recorded, Refusal, Reply, Rights, Seat, SharedKernel,
     ThreadId, Timeout,
 };
 use std::thread;
@@ -160,6 +160,62 @@ fn a_deleted_thread_is_gone() {
         Err(Refusal::NoSuchThread)
     );
     assert_eq!(kernel.close(vec![waiting, root]).unwrap().len(), 3);
+}
+
+/// One seat sends an item to another's thread, which receives it.
+fn moves(sender: &mut Seat, receiver: &mut Seat, item: Item) {
+    let message = Message::new(0, &[], &[item]).unwrap();
+    let to = receiver.number();
+    thread::scope(|threads| {
+        threads.spawn(|| receiver.call(&receive(ThreadId::ANY)).unwrap());
+        sender.call(&send(to, &message)).unwrap();
+    });
+}
+
+#[test]
+fn a_page_came_by_two_links() {
+    let kernel = SharedKernel::new(256).unwrap();
+    let [mut sigma0, mut root, mut first, mut second] =
+        [1, 2, 3, 4].map(|number| kernel.seat(number).unwrap());
+    root.call(&create(3, ThreadId::NIL)).unwrap();
+    root.call(&create(4, ThreadId::NIL)).unwrap();
+    let page = |page, rights| Fpage::page(page, rights).unwrap();
+    let map = Item::map(page(16, Rights::ALL), 32 * l4::PAGE_BYTES);
+    moves(&mut sigma0, &mut first, map);
+    let grant = Item::grant(page(32, Rights::READ), 7 * l4::PAGE_BYTES);
+    moves(&mut first, &mut second, grant);
+    let links = kernel.provenance(3, 7).unwrap().unwrap();
+    let lines: Vec<_> = links.iter().map(|link| link.to_string()).collect();
+    assert_eq!(
+        lines,
+        [
+            "entry 4 transfer 1 3 map 16 32 rwx rwx",
+            "entry 7 transfer 3 4 grant 32 7 rwx r--"
+        ]
+    );
+    assert_eq!(links[1].source, Place { space: 2, page: 32 });
+    assert_eq!(kernel.check_provenance(3, 7, &links), Ok(()));
+    for others in [&links[..1], &links[1..], &[]] {
+        let refused = kernel.check_provenance(3, 7, others);
+        assert_eq!(refused, Err(Refusal::OtherProvenance));
+    }
+    assert_eq!(kernel.provenance(2, 32), Ok(None));
+    assert_eq!(kernel.provenance(0, 16), Ok(Some(Vec::new())));
+}
+
+#[test]
+fn a_page_came_by_many_links() {
+    let kernel = SharedKernel::new(1).unwrap();
+    let (mut sigma0, mut root) = (kernel.seat(1).unwrap(), kernel.seat(2).unwrap());
+    let page = Fpage::page(0, Rights::ALL).unwrap();
+    for _ in 0..10 {
+        moves(&mut sigma0, &mut root, Item::grant(page, 0));
+        moves(&mut root, &mut sigma0, Item::grant(page, 0));
+    }
+    let links = kernel.provenance(0, 0).unwrap().unwrap();
+    assert_eq!(links.len(), 20);
+    assert_eq!((links[0].entry, links[19].entry), (2, 59));
+    assert_eq!(kernel.check_provenance(0, 0, &links), Ok(()));
 }
 
 #[test]

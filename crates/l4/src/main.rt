@@ -9,6 +9,7 @@ ghost use Rattle.std.specs.Prelude.{◌≡◌, IfErr};
 ghost use Rattle.l4_options.specs.Ranges.{IsFrameCount};
 
 use l4_decode::{Reading, decode};
+use l4_explain::ExplainingWriter;
 use l4_fpage::PageSize;
 use l4_history::{answered_history, history};
 use l4_msg::Region;
@@ -20,6 +21,7 @@ use l4_plan_lines::{check_lines, plan_lines};
 use l4_shell::{RunFault, run};
 use l4_streams::{ScriptReader, StrictWriter};
 use l4_why::{ThreadPage, why};
+use std::io::Write;
 use std::process::ExitCode;
 use std::rt::Files;
 use std::{fs, io};
@@ -45,12 +47,13 @@ fn opened<R: Files + Input + Eprint>(
     }
 }
 
-/// Answers a script, to its first refused line alone where that is asked for.
+/// Answers a script, to its first refused line alone or with each answer in words where that is asked for.
 #[inline(never)]
 fn answer_script<R: AllocGlobal + Files + Input + Print + Eprint>(
     rt: &R,
     script: &ScriptOptions,
     strict: bool,
+    explain: bool,
 ) -> u8
     requires { IsFrameCount script.now.frames }
 {
@@ -59,7 +62,11 @@ fn answer_script<R: AllocGlobal + Files + Input + Print + Eprint>(
         Ok(reader) => reader,
         Err(status) => return status,
     };
-    let mut writer = StrictWriter::new(io::writer(rt), strict);
+    let size = if explain { Some(script.size) } else { None };
+    let Ok(explained) = ExplainingWriter::new(rt.alloc(), io::writer(rt), size) else {
+        return stopped(rt, RunFault::Memory, STANDARD_INPUT);
+    };
+    let mut writer = StrictWriter::new(explained, strict);
     let answered = run(
         rt.alloc(),
         script.frames,
@@ -68,6 +75,8 @@ fn answer_script<R: AllocGlobal + Files + Input + Print + Eprint>(
         &mut writer,
     );
     if writer.has_refused() {
+        // what a line says goes out with the call after it
+        let _ = writer.flush();
         return REFUSED;
     }
     match answered {
@@ -167,7 +176,13 @@ fn tell_words<R: Print + Eprint>(rt: &R, words: &[u32], reading: Reading, size: 
 /// Does what these words ask for.
 fn obey<R: AllocGlobal + Files + Input + Print + Eprint>(rt: &R, words: &[String]) -> u8 {
     match options(rt.alloc(), words) {
-        Ok(Options::Run { script, strict }) => answer_script(rt, &script, strict),
+        Ok(
+            Options::Run {
+                script,
+                strict,
+                explain,
+            },
+        ) => answer_script(rt, &script, strict, explain),
         Ok(Options::History { script, answers }) => tell_history(rt, &script, answers),
         Ok(
             Options::Why {

@@ -1,5 +1,5 @@
 -- The texts of steps, and of how calls ended (this profile's own).
-use Rattle.std.specs.Prelude.{ℕ, ◌≡◌, ◌<◌, ◌≤◌, ◌==◌, length, List, [], ◌∷◌, ◌++◌, Option, Some, None, if◌then◌else◌, codes, decimal}
+use Rattle.std.specs.Prelude.{ℕ, ◌==◌, List, [], ◌∷◌, ◌++◌, Option, Some, None, if◌then◌else◌, codes, decimal}
 use Rattle.l4_ipc.specs.declared.steps.Outcome.{Outcome}
 use Rattle.l4_ipc.specs.declared.steps.Outcome.TheVariants.{Started, Done, NoWindow, Entangled, NoMemory, Expired}
 use Rattle.l4_threads.specs.declared.ThreadId.{ThreadId}
@@ -44,10 +44,6 @@ from_text id = if id.0 == 0 then codes "nil" else decimal (number_of id)
 
 abbrev pub ipc_head : ℕ → IpcReply → List ℕ
 ipc_head number reply = decimal number ++ codes " ipc " ++ word_text reply.tag ++ space ++ decimal reply.error ++ space ++ from_text reply.from
-
--- each number of an Ipc's reply has one digit, and its words are few
-abbrev pub IsShort : ℕ → IpcReply → Type 0
-IsShort number reply = (number < 10) × (reply.error < 10) × (reply.from.0 ≡ 0 → ⊥) × (number_of reply.from < 10) × (length reply.words.items ≤ 8)
 
 -- how a thread's call ended, but for the words of its message; a thread that is gone has no reply
 abbrev pub reply_head : ℕ → Option Reply → List ℕ

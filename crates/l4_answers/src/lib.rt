@@ -8,4 +8,4 @@ mod replies;
 
 pub use pages::{add_page, add_place, parent_text, put_page, shown_text};
 pub use refusals::{Code, add_code, add_refused, refused_code};
-pub use replies::{expire_text, put_reply, put_transfer, put_waits, reply_words};
+pub use replies::{expire_text, put_expire, put_reply, put_transfer, put_waits, reply_words};

@@ -38,19 +38,21 @@ pub fn add_page(text: &mut Text, page: u32, mapping: &Mapping)
 }
 
 /// Adds `page P frame F RIGHTS` to what is held back, and ends the line.
+#[inline(always)]
 fn add_page_line(out: &mut Output, page: u32, mapping: &Mapping)
     requires { length out.old.0 + 61 ≤ held_bytes }
     ensures { out.new ≡ (out.old.0 ++ page_text page mapping.now, out.old.1) }
 {
-    out.add(b"page ");
+    out.add_array(*b"page ");
     out.add_number(u64::from(page));
-    out.add(b" frame ");
+    out.add_array(*b" frame ");
     out.add_number(u64::from(mapping.frame));
     let [read, write, execute] = letters(mapping.rights);
-    out.add(&[b' ', read, write, execute, b'\n']);
+    out.add_array([b' ', read, write, execute, b'\n']);
 }
 
-/// Tells `page P frame F RIGHTS`.
+/// Tells `page P frame F RIGHTS`. It is put into its callers, which then don't look for the page's parent.
+#[inline(always)]
 pub fn put_page<W: Write>(page: u32, mapping: &Mapping, out: &mut Output, writer: &mut W)
     ensures { Tells (W.contents writer.old) (W.contents writer.new) out.old out.new (page_text page mapping.now) }
 {

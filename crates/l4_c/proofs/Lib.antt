@@ -2,3 +2,4 @@ pub mod Bytes
 pub mod Following
 pub mod Placing
 pub mod Starting
+pub mod Found

@@ -5,7 +5,7 @@ use Rattle.l4_fpage.specs.Rights.{bits_of}
 use Rattle.l4_threads.specs.Threads.{space_of}
 use Rattle.l4_ipc.specs.Reading.{reply_of}
 use Rattle.l4_mapdb.specs.Mappings.{shown}
-use Rattle.l4_mapdb.specs.Places.{NonePresentFrom, IsNextPresent}
+use Rattle.l4_forest.specs.Places.{NonePresentFrom, IsNextPresent}
 use Rattle.l4_mapdb.specs.declared.Mapping.{Mapping}
 use Rattle.l4_mapdb.specs.declared.Place.{Place}
 use Rattle.l4_ipc.specs.Machine.{Machine}

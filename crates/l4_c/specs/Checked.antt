@@ -1,5 +1,5 @@
 -- Checks of plans as they are told to C (this profile's own).
-use Rattle.std.specs.Prelude.{◌≡◌, ◌⊎◌, ℕ, ◌+◌, ◌*◌, ◌%◌, ◌<◌, ◌≤◌, List, length, min, codes}
+use Rattle.std.specs.Prelude.{◌≡◌, ◌⊎◌, ℕ, ◌+◌, ◌*◌, ◌%◌, ◌<◌, ◌≤◌, List, length, codes}
 use Rattle.l4_fpage.specs.declared.sizes.PageSize.{PageSize}
 use Rattle.l4_msg.specs.Regions.{IsRival, IsCertificate, NeedsAtLeast, NeedsMoreThan, max_plan_items}
 use Rattle.l4_msg.specs.Words.{ItemsRead, FirstFails}
@@ -13,12 +13,8 @@ use Rattle.l4_plan_check.specs.declared.faults.Fault.{Fault as AFault}
 use Rattle.l4_plan_check.specs.declared.faults.Fault.TheVariants.{Region as InRegion, Item as InItem, Gap, Count, Page, Pair}
 use Rattle.l4_answers.specs.Refusals.{message_refusal}
 use Rattle.l4_refusals.specs.Texts.{spelled}
-use Rattle.l4_c_values.specs.Told.{carried}
+use Rattle.l4_c_values.specs.Told.{carried, told_place}
 use Rattle.l4_c.specs.declared.checking.Verdict.{Verdict}
-
--- a place, where detail has that number, and else the greatest that it has
-abbrev pub told_place : ℕ → ℕ
-told_place place = min place 0xffffffff
 
 abbrev pub verdict_of : ℕ → ℕ → Verdict
 verdict_of code number = record { refusal = code; detail = number }

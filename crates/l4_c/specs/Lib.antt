@@ -8,4 +8,5 @@ pub mod InBytes
 pub mod Locking
 pub mod Planned
 pub mod Served
+pub mod Traced
 pub mod Written

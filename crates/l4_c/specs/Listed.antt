@@ -1,7 +1,7 @@
 -- The threads and the spaces of a kernel, as they are told to C (this profile's own).
 use Rattle.std.specs.Prelude.{◌≡◌, ◌⊎◌, ℕ, codes, Option, None, Some}
 use Rattle.l4_threads.specs.Listed.{NoThreadFrom, IsNextThread}
-use Rattle.l4_mapdb.specs.Listed.{NoSpaceFrom, IsNextSpace}
+use Rattle.l4_forest.specs.Listed.{NoSpaceFrom, IsNextSpace}
 use Rattle.l4_ipc.specs.Machine.{Machine}
 use Rattle.l4_refusals.specs.Texts.{spelled}
 use Rattle.l4_c_values.specs.declared.results.SpaceResult.{SpaceResult}

@@ -57,11 +57,11 @@ TellsPart size r number p =
     ⊎ ((0 < r.count) × InSpace size r × HasNoRights r × (p ≡ part_result (spelled (codes "N3")) 0 [] []))
     ⊎ ((pages : List ℕ) × IsTooLong size r pages × (p ≡ part_result (spelled (codes "N4")) 0 [] []))
 
--- what pages leave of some places: as many of them as there is room for, and the other places as they were
-abbrev pub placed : List ℕ → List ℕ → List ℕ
+-- what items leave of some places: as many of them as there is room for, and the other places as they were
+abbrev pub placed : {X : Type 0} → List X → List X → List X
 placed [] places = places
-placed (page ∷ pages) [] = []
-placed (page ∷ pages) (place ∷ places) = page ∷ placed pages places
+placed (item ∷ items) [] = []
+placed (item ∷ items) (place ∷ places) = item ∷ placed items places
 
 -- the pages of the plan of a region of pages of this size, or those that show that each list is too long, or none
 abbrev pub TellsPages : PageSize → Region → List ℕ → List ℕ → ℕ → Type 0

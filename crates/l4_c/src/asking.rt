@@ -2,7 +2,7 @@
 ghost use Rattle.std.specs.Prelude.{◌≡◌, None, Some, MatchOption};
 ghost use Rattle.l4_threads.specs.Threads.{space_of};
 ghost use Rattle.l4_mapdb.specs.Mappings.{shown};
-ghost use Rattle.l4_mapdb.specs.Places.{NonePresentFrom, IsNextPresent};
+ghost use Rattle.l4_forest.specs.Places.{NonePresentFrom, IsNextPresent};
 ghost use Rattle.l4_c.specs.Asked.{TellsSpace, TellsSize, TellsMapping, TellsPage, space_result, no_mapping_result, mapping_result};
 
 use crate::sizes::bytes_of;

@@ -5,12 +5,12 @@ ghost use Rattle.l4_msg.specs.Words.{ItemsRead, FirstFails};
 ghost use Rattle.l4_refusals.specs.Texts.{spelled};
 ghost use Rattle.l4_c.specs.InBytes.{InBytes};
 ghost use Rattle.l4_c.specs.Planned.{region_of};
-ghost use Rattle.l4_c.specs.Checked.{told_place, ItemsFail, max_plan_words, verdict_of, fault_verdict, TellsCheck, TellsLongCheck};
+ghost use Rattle.l4_c.specs.Checked.{ItemsFail, max_plan_words, verdict_of, fault_verdict, TellsCheck, TellsLongCheck};
 
 use crate::regions::{RegionGiven, region_of};
 use crate::sizes::size_of;
 use arrayvec::ArrayVec;
-use l4_c_values::{NO_SUCH_SIZE, message_detail, message_number};
+use l4_c_values::{NO_SUCH_SIZE, message_detail, message_number, place_told};
 use l4_fpage::Fpage;
 use l4_ipc::PageSize;
 use l4_msg::{Item, ItemFault, MAX_PLAN_ITEMS, MsgFault};
@@ -24,19 +24,8 @@ pub struct Verdict {
     pub detail: u32,
 }
 
-/// A place from 0.
-fn place(at: usize) -> u32
-    ensures { result ≡ told_place at }
-{
-    if at <= 0xffff_ffff {
-        at as u32
-    } else {
-        0xffff_ffff
-    }
-}
-
 /// A refusal of a claim, or none.
-fn verdict_of(refusal: u32, detail: u32) -> Verdict
+pub(crate) fn verdict_of(refusal: u32, detail: u32) -> Verdict
     ensures { result ≡ verdict_of refusal detail }
 {
     Verdict { refusal, detail }
@@ -48,11 +37,11 @@ fn fault_told(fault: Fault) -> Verdict
 {
     match fault {
         Fault::Region => verdict_of(0x4336, 0),
-        Fault::Item(i) => verdict_of(0x4331, place(i)),
+        Fault::Item(i) => verdict_of(0x4331, place_told(i)),
         Fault::Gap(page) => verdict_of(0x4332, page),
         Fault::Count => verdict_of(0x4335, 0),
-        Fault::Page(i) => verdict_of(0x4333, place(i)),
-        Fault::Pair(i) => verdict_of(0x4334, place(i)),
+        Fault::Page(i) => verdict_of(0x4333, place_told(i)),
+        Fault::Pair(i) => verdict_of(0x4334, place_told(i)),
     }
 }
 

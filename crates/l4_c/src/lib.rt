@@ -18,6 +18,7 @@ mod replies;
 mod sizes;
 mod stepping;
 mod texts;
+mod tracing;
 
 pub use asking::{l4_mapping_of, l4_next_page, l4_page_size_of, l4_space_of};
 pub use checking::{
@@ -45,3 +46,4 @@ pub use regions::RegionGiven;
 pub use replies::l4_reply_of;
 pub use stepping::{l4_enabled, l4_expire, l4_next, l4_start, l4_transfer};
 pub use texts::{l4_refusal_code, l4_refusal_text};
+pub use tracing::{l4_lock_check_provenance, l4_lock_provenance};

@@ -1,5 +1,5 @@
 -- Results as they are told to C (this profile's own).
-use Rattle.std.specs.Prelude.{ℕ, ◌-◌, List, [], ◌++◌, length, replicate, Option, None, Some, Result, Ok, Err}
+use Rattle.std.specs.Prelude.{ℕ, ◌-◌, List, [], ◌++◌, length, min, replicate, Option, None, Some, Result, Ok, Err}
 use Rattle.l4_ipc.specs.declared.steps.Refused.{Refused}
 use Rattle.l4_ipc.specs.declared.steps.Answer.{Answer}
 use Rattle.l4_ipc.specs.declared.steps.Step.{Step}
@@ -16,6 +16,10 @@ use Rattle.l4_c_values.specs.declared.results.PageResult.{PageResult}
 abbrev pub carried : Option ℕ → ℕ
 carried None = 0
 carried (Some number) = number
+
+-- a place, where detail has that number, and else the greatest that it has
+abbrev pub told_place : ℕ → ℕ
+told_place place = min place 0xffffffff
 
 -- so many places: the numbers, and 0 after them
 abbrev pub filled : ℕ → List ℕ → List ℕ

@@ -2,15 +2,19 @@
 #![tactic(auto)]
 
 mod calls;
+mod links;
 mod numbers;
 mod recorded;
 mod replies;
 mod results;
 
 pub use calls::{CallGiven, DELETE, delete, rights, write_call};
+pub use links::{
+    ChainResult, Link, chain_told, fault_detail, fault_number, link_given, link_told, no_chain,
+};
 pub use numbers::{
-    BAD_FRAMES, EMPTY, HELD, NO_MEMORY, NO_SUCH_CALL, NO_SUCH_SIZE, kernel_detail, kernel_number,
-    message_detail, message_number,
+    BAD_FRAMES, EMPTY, HELD, NO_MEMORY, NO_SUCH_CALL, NO_SUCH_SIZE, OTHER_ANSWER, OTHER_CHAIN,
+    kernel_detail, kernel_number, message_detail, message_number,
 };
 pub use recorded::{
     EntryResult, ReceiptResult, SeatResult, SeatedResult, entered_told, entry_told, lock_detail,
@@ -19,5 +23,6 @@ pub use recorded::{
 pub use replies::{no_reply, reply_told};
 pub use results::{
     EnterResult, MappingResult, NextResult, PageResult, ReplyResult, SizeResult, SpaceResult,
-    StepResult, answered, done_told, no_page, no_step, padded, page_told, refused, step_told, told,
+    StepResult, answered, done_told, no_page, no_step, padded, page_told, place_told, refused,
+    step_told, told,
 };

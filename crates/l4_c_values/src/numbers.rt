@@ -24,6 +24,12 @@ pub const NO_SUCH_SIZE: u32 = 0x4234;
 /// K6: a machine has 1 to 4,096 frames.
 pub const BAD_FRAMES: u32 = 0x4b36;
 
+/// L6: the history has a transfer that found no memory, and finds it as the history is done again.
+pub const OTHER_ANSWER: u32 = 0x4c36;
+
+/// L7: the links aren't how the page came there.
+pub const OTHER_CHAIN: u32 = 0x4c37;
+
 /// NoMemory.
 pub const NO_MEMORY: u32 = 0x4e6f;
 

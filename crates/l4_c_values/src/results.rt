@@ -2,7 +2,7 @@
 ghost use Rattle.std.specs.Prelude.{◌≡◌, ◌≤◌, length};
 ghost use Rattle.l4_ipc.specs.NextSteps.{step_of, answer_of};
 ghost use Rattle.l4_c_values.specs.Told.{no_page_result, page_result};
-ghost use Rattle.l4_c_values.specs.Told.{filled, outcome_number, refusal_result, answer_result, step_result, no_step_result, next_result, done_result};
+ghost use Rattle.l4_c_values.specs.Told.{told_place, filled, outcome_number, refusal_result, answer_result, step_result, no_step_result, next_result, done_result};
 
 use crate::numbers::{kernel_detail, kernel_number, outcome_number};
 use l4_ipc::{Answer, MAX_THREADS, MAX_WORDS, NextStep, Outcome, Refused, Step};
@@ -202,6 +202,17 @@ pub fn done_told(next: NextStep) -> NextResult
             ended_count: 1,
             ended: [thread, 0],
         },
+    }
+}
+
+/// A place from 0.
+pub fn place_told(at: usize) -> u32
+    ensures { result ≡ told_place at }
+{
+    if at <= 0xffff_ffff {
+        at as u32
+    } else {
+        0xffff_ffff
     }
 }
 

@@ -19,8 +19,8 @@ use Rattle.l4_ipc.proofs.Tracing.{AreForests, one_trace}
 use Rattle.l4_record.specs.declared.entries.Entry.{Entry}
 use Rattle.l4_record.specs.History.{steps_of, answers_of, KeepsForest, HasEvents}
 use Rattle.l4_chains.specs.declared.links.ChainLink.{ChainLink}
-use Rattle.l4_chains.specs.Chains.{told, LeadsAsTold, IsProvenance}
-use Rattle.l4_chains.specs.Inside.Walking.{entry_event, Does, IsNotDue, BringsTold, Passes, PassesAll, origin_of, IsWalked}
+use Rattle.l4_chains.specs.Chains.{told, LeadsAsTold, IsProvenance, origin_of}
+use Rattle.l4_chains.specs.Inside.Walking.{entry_event, Does, IsNotDue, BringsTold, Passes, PassesAll, IsWalked}
 
 -- FROM ENTRIES TO EVENTS
 

@@ -18,6 +18,11 @@ abbrev pub told : ℕ → Link → ChainLink
 told number link =
     record { entry = number; source = link.move.source; target = link.move.target; grant = link.move.grant; source_rights = link.move.shows.rights; item_rights = rights_of (fpage_of link.item) }
 
+-- the place at which a chain to the last place begins
+abbrev pub origin_of : List ChainLink → Place → Place
+origin_of [] last = last
+origin_of (link ∷ links) last = link.source
+
 -- Over these events, whose first is the entry of this number, links lead from the first place to the last, and this is told of them: an event
 -- leaves alone the place that was reached, or it is a delivered transfer and one of its used moves goes on from there.
 abbrev pub LeadsAsTold : ℕ → List Event → Place → List ChainLink → Place → Type 0

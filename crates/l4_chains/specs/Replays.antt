@@ -26,6 +26,12 @@ pub record IsAnsweredOtherwise (boot : Machine) (history : List Entry) (number :
   pub step : Steps now entry.step answer next
   pub other : answer ≢ Ok entry.answer
 
+-- why the entries are not done
+abbrev pub FailsIn : Machine → List Entry → ReplayFault → Type 0
+FailsIn m entries BadFrames = ⊥
+FailsIn m entries NoMemory = Unit {0}
+FailsIn m entries (OtherAnswer n) = IsAnsweredOtherwise m entries n
+
 -- why the history is not replayed: the number of frames is out of range, or a growth was refused, or a step got another answer
 abbrev pub IsNotReplayed : ℕ → PageSize → List Entry → ReplayFault → Type 0
 IsNotReplayed frames size history BadFrames = (frames ≡ 0) ⊎ (max_frames < frames)

@@ -4,8 +4,8 @@ ghost use Rattle.std.specs.FinSet as set;
 ghost use Rattle.l4_mapdb.specs.Mappings.{Mappings};
 
 use crate::{end_memory, stop};
+use l4_forest::{Cause, Forest, ItemMove, Place};
 use l4_ipc::{Block, MOST_PAGES, PageSize, Rights};
-use l4_mapdb::{Cause, Forest, ItemMove, Place};
 use l4_msg::Move;
 use l4_unmap::unmap;
 use std::io;

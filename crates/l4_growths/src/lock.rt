@@ -40,7 +40,7 @@ impl Asked {
 }
 
 /// Tells the history.
-fn show_history(rt: &impl Print, history: &History) -> io::Result<()> {
+pub fn show_history(rt: &impl Print, history: &History) -> io::Result<()> {
     for entry in history.entries_from(0) {
         println!(rt; "entry {entry:?}")?;
     }
@@ -48,7 +48,7 @@ fn show_history(rt: &impl Print, history: &History) -> io::Result<()> {
 }
 
 /// Tells a seat and its receipts.
-fn show_seat(rt: &impl Print, seat: &Seat) -> io::Result<()> {
+pub fn show_seat(rt: &impl Print, seat: &Seat) -> io::Result<()> {
     println!(rt;
         "seat {} starts {} waiting {}",
         seat.number(),

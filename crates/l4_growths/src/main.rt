@@ -9,6 +9,7 @@ mod forest;
 mod kernel;
 mod links;
 mod lock;
+mod seated;
 mod shell;
 mod spaces;
 mod words;
@@ -35,6 +36,7 @@ fn tell<R: AllocGlobal + Input + Print>(rt: &R) -> io::Result<()> {
     forest::tell(rt)?;
     kernel::tell(rt)?;
     lock::tell(rt)?;
+    seated::tell(rt)?;
     words::tell(rt)?;
     shell::tell(rt)
 }

@@ -9,7 +9,7 @@ use Rattle.std.proofs.lemmas.Bool.Decides.{eqb_tells}
 use Rattle.std.proofs.lemmas.List.Kept.{AllPairs-from_increasing}
 use Rattle.std.specs.FinMap as fin
 use Rattle.l4_mapdb.specs.Mappings.{Mappings}
-use Rattle.l4_mapdb.specs.Losing.{EndsSpace}
+use Rattle.l4_forest.specs.Losing.{EndsSpace}
 use Rattle.l4_threads.specs.declared.Reply.TheVariants.{Controlled}
 use Rattle.l4_threads.specs.declared.State.TheVariants.{Running}
 use Rattle.l4_threads.specs.declared.Thread.{Thread}

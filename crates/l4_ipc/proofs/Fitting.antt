@@ -10,7 +10,7 @@ use Rattle.l4_msg.specs.declared.items.Item.{Item}
 use Rattle.l4_mapdb.specs.declared.ItemMove.{ItemMove}
 use Rattle.l4_mapdb.specs.declared.Mapping.{Mapping}
 use Rattle.l4_mapdb.specs.declared.Place.{Place}
-use Rattle.l4_mapdb.specs.Boot.{IsFirst}
+use Rattle.l4_forest.specs.Boot.{IsFirst}
 use Rattle.l4_mapdb.specs.Mappings.{Mappings}
 use Rattle.l4_mapdb.specs.Transfer.{PageMove, IsUsed, Becomes, Delivers}
 use Rattle.l4_ipc.specs.declared.calls.Call.{Call}

@@ -10,7 +10,8 @@ use Rattle.l4_fpage.specs.declared.fpages.Fpage.{Fpage}
 use Rattle.l4_fpage.proofs.Same.{reads_same}
 use Rattle.l4_msg.proofs.Reading.{reading_is_unique, window_is_unique}
 use Rattle.l4_mapdb.specs.Mappings.{Mappings, shown}
-use Rattle.l4_mapdb.specs.Losing.{EndsSpace, GoesWithSpace, LosesRights}
+use Rattle.l4_forest.specs.Losing.{EndsSpace, GoesWithSpace}
+use Rattle.l4_mapdb.specs.Losing.{LosesRights}
 use Rattle.l4_mapdb.specs.Transfer.{PageMove, Moved, Transfers, Becomes, IsCut}
 use Rattle.l4_mapdb.proofs.Places.{same_option, same_mappings}
 use Rattle.l4_mapdb.proofs.Unique.{loses_unique}

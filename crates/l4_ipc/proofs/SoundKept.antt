@@ -12,8 +12,8 @@ use Rattle.l4_fpage.specs.declared.fpages.Fpage.{Fpage}
 use Rattle.l4_fpage.specs.declared.fpages.Fpage.TheVariants.{Complete}
 use Rattle.l4_msg.specs.declared.items.Item.{Item}
 use Rattle.l4_mapdb.specs.Mappings.{Mappings}
-use Rattle.l4_mapdb.specs.Boot.{IsFirst}
-use Rattle.l4_mapdb.specs.Losing.{EndsSpace}
+use Rattle.l4_forest.specs.Boot.{IsFirst}
+use Rattle.l4_forest.specs.Losing.{EndsSpace}
 use Rattle.l4_threads.specs.declared.Later.{Later}
 use Rattle.l4_threads.specs.declared.Reply.TheVariants.{Hit, Unmapped, Controlled}
 use Rattle.l4_threads.specs.declared.Sending.{Sending}

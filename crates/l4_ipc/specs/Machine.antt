@@ -3,7 +3,7 @@ use Rattle.std.specs.Prelude.{◌≡◌, ℕ, refl}
 use Rattle.std.specs.FinSet as set
 use Rattle.std.specs.Coded.{Coded, code_by, coded×}
 use Rattle.l4_mapdb.specs.Mappings.{Mappings, mappings_code}
-use Rattle.l4_mapdb.specs.Boot.{IsFirst}
+use Rattle.l4_forest.specs.Boot.{IsFirst}
 use Rattle.l4_threads.specs.declared.Thread.{Thread}
 use Rattle.l4_threads.specs.Threads.{Threads, first_threads, threads_code}
 use Rattle.l4_fpage.specs.declared.sizes.PageSize.{PageSize}

@@ -5,7 +5,7 @@ use Rattle.std.specs.List.Sorted.{IsStrictlyIncreasing}
 use Rattle.std.specs.FinSet as set
 use Rattle.l4_fpage.specs.declared.fpages.Fpage.{Fpage}
 use Rattle.l4_mapdb.specs.Mappings.{Mappings}
-use Rattle.l4_mapdb.specs.Losing.{EndsSpace}
+use Rattle.l4_forest.specs.Losing.{EndsSpace}
 use Rattle.l4_unmap.specs.Unmap.{UnmapReads, with_own, Unmaps}
 use Rattle.l4_threads.specs.declared.Receiving.{Receiving}
 use Rattle.l4_threads.specs.declared.Sending.{Sending}

@@ -32,10 +32,10 @@ use crate::delivering::{
 use crate::faulting::enter_fault;
 use crate::starting::{end, enter, going_on, partner};
 use crate::steps::{Answer, Lower, Outcome, Refused};
-use crate::turns::Ending;
+use crate::turns::{Ending, FaultingThread};
 use arrayvec::ArrayVec;
+use l4_forest::{Forest, NoMemory};
 use l4_fpage::PageSize;
-use l4_mapdb::{Forest, NoMemory};
 use l4_msg::{Item, Message, Tag};
 use l4_threads::{Activity, Envelope, MAX_THREADS, SendPhase, ThreadId, Threads, Wordless};
 use l4_unmap::unmap;
@@ -222,8 +222,12 @@ fn start_fault(
     let Some(thread) = threads.thread(number) else {
         return Err(Refused::UnknownThread);
     };
-    let (space, pager) = (thread.space, thread.pager);
-    let ends = enter_fault(threads, forest, size, number, space, pager, call);
+    let faulting = FaultingThread {
+        number,
+        space: thread.space,
+        pager: thread.pager,
+    };
+    let ends = enter_fault(threads, forest, size, faulting, call);
     Ok(ends)
 }
 

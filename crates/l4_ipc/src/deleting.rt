@@ -1,6 +1,6 @@
 //! Deletions of threads.
 ghost use Rattle.std.specs.Prelude.{◌≡◌, ◌<◌, ◌∷◌, length, IsTrue, MatchOption};
-ghost use Rattle.l4_mapdb.specs.Losing.{EndsSpace};
+ghost use Rattle.l4_forest.specs.Losing.{EndsSpace};
 ghost use Rattle.l4_threads.specs.Sizes.{max_threads};
 ghost use Rattle.l4_threads.specs.Threads.{runs};
 ghost use Rattle.l4_ipc.specs.Machine.{machine};
@@ -13,7 +13,7 @@ ghost use Rattle.l4_ipc.specs.declared.calls.Control.TheVariants.{Delete as Dele
 
 use crate::steps::{Answer, Lower, Outcome, Refused};
 use arrayvec::ArrayVec;
-use l4_mapdb::Forest;
+use l4_forest::Forest;
 use l4_threads::{MAX_THREADS, ThreadId, Threads, Wordless};
 
 /// Ends the space of a deleted thread, where it was the last one there.

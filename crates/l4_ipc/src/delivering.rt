@@ -24,8 +24,8 @@ use crate::starting::{end, going_on};
 use crate::steps::Outcome;
 use crate::turns::{Ending, Turn};
 use arrayvec::ArrayVec;
+use l4_forest::{Cause, Forest, ItemMove};
 use l4_fpage::{Block, Fpage, PageSize, Rights};
-use l4_mapdb::{Cause, Forest, ItemMove};
 use l4_msg::{Item, MAX_ITEMS, Move, item_moves};
 use l4_threads::{Envelope, Receiving, Sending, Thread, Threads};
 

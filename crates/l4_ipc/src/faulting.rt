@@ -9,9 +9,9 @@ ghost use Rattle.l4_ipc.specs.declared.turns.FaultTurn.TheVariants.{Tells};
 
 use crate::calls::FaultCall;
 use crate::starting::{end, partner};
-use crate::turns::{Ending, FaultTurn};
+use crate::turns::{Ending, FaultTurn, FaultingThread};
+use l4_forest::Forest;
 use l4_fpage::{Fpage, PageSize, Rights};
-use l4_mapdb::Forest;
 use l4_msg::{FAULT_LABEL, Tag};
 use l4_threads::{Later, SendPhase, ThreadId, Threads};
 
@@ -54,17 +54,15 @@ fn fault_turn(
     threads: &Threads,
     forest: &Forest,
     size: PageSize,
-    number: u32,
-    space: u64,
-    pager: ThreadId,
+    faulting: FaultingThread,
     call: &FaultCall,
 ) -> FaultTurn
-    ensures { next_of_fault pager call.now result ≡ fault_next size threads.now forest.now number space pager call.now }
+    ensures { next_of_fault faulting.pager call.now result ≡ fault_next size threads.now forest.now faulting.number faulting.space faulting.pager call.now }
 {
-    if has_page(forest, size, space, call) {
+    if has_page(forest, size, faulting.space, call) {
         return FaultTurn::Ends(Ending::Hit);
     }
-    match partner(threads, number, pager) {
+    match partner(threads, faulting.number, faulting.pager) {
         Some(to) => FaultTurn::Tells(to),
         None => FaultTurn::Ends(Ending::Failed(true, 4)),
     }
@@ -89,27 +87,25 @@ fn tell(threads: &mut Threads, number: u32, pager: ThreadId, call: &FaultCall, t
     threads.start_message(number, &words, &[], phase);
 }
 
-/// A running thread of this space and pager faults. Whether its call ended.
+/// A running thread faults. Whether its call ended.
 pub fn enter_fault(
     threads: &mut Threads,
     forest: &Forest,
     size: PageSize,
-    number: u32,
-    space: u64,
-    pager: ThreadId,
+    faulting: FaultingThread,
     call: &FaultCall,
 ) -> bool
-    requires { IsTrue (runs threads.old number) }
-    ensures threads { threads.new ≡ enters threads.old number (fault_next size threads.old forest.now number space pager call.now) }
-    ensures ended { ended_if result number ≡ ended_by number (fault_next size threads.old forest.now number space pager call.now) }
+    requires { IsTrue (runs threads.old faulting.number) }
+    ensures threads { threads.new ≡ enters threads.old faulting.number (fault_next size threads.old forest.now faulting.number faulting.space faulting.pager call.now) }
+    ensures ended { ended_if result faulting.number ≡ ended_by faulting.number (fault_next size threads.old forest.now faulting.number faulting.space faulting.pager call.now) }
 {
-    match fault_turn(threads, forest, size, number, space, pager, call) {
+    match fault_turn(threads, forest, size, faulting, call) {
         FaultTurn::Ends(ending) => {
-            end(threads, number, ending);
+            end(threads, faulting.number, ending);
             true
         }
         FaultTurn::Tells(to) => {
-            tell(threads, number, pager, call, to);
+            tell(threads, faulting.number, faulting.pager, call, to);
             false
         }
     }

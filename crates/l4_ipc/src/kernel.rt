@@ -7,8 +7,8 @@ ghost use Rattle.l4_mapdb.specs.declared.Place.{Place};
 use crate::acting::{carry_over, expire, expire_untold, start, start_answered, transfer};
 use crate::calls::Call;
 use crate::steps::{Answer, Lower, NextStep, Refused, Step};
+use l4_forest::{Forest, MAX_FRAMES, Mapping, NoMemory};
 use l4_fpage::PageSize;
-use l4_mapdb::{Forest, MAX_FRAMES, Mapping, NoMemory};
 use l4_threads::{ROOT_SPACE, Reply, Thread, Threads};
 use std::alloc::Global;
 use std::marker::Model;
@@ -16,8 +16,7 @@ use std::marker::Model;
 /// The kernel: its threads and the mappings of their spaces.
 #[derive(Drop)]
 pub struct Kernel {
-    /// In memory of its own, as it has room for all threads and a kernel is handed on by value.
-    threads: Box<Threads>,
+    threads: Threads,
     forest: Forest,
     size: PageSize,
     alloc: Global,
@@ -42,9 +41,9 @@ impl Kernel {
     ghost use Rattle.l4_fpage.specs.Pages.{max_frames};
     ghost use Rattle.l4_threads.specs.Threads.{runs, space_of, thread_at, IsConsistent};
     ghost use Rattle.l4_mapdb.specs.Mappings.{shown, IsForest};
-    ghost use Rattle.l4_mapdb.specs.Places.{NonePresentFrom, IsNextPresent};
+    ghost use Rattle.l4_forest.specs.Places.{NonePresentFrom, IsNextPresent};
     ghost use Rattle.l4_threads.specs.Listed.{NoThreadFrom, IsNextThread};
-    ghost use Rattle.l4_mapdb.specs.Listed.{NoSpaceFrom, IsNextSpace};
+    ghost use Rattle.l4_forest.specs.Listed.{NoSpaceFrom, IsNextSpace};
     ghost use Rattle.l4_ipc.specs.Machine.{IsBoot};
     ghost use Rattle.l4_ipc.specs.SpacePages.{FitIn};
     ghost use Rattle.l4_ipc.specs.Steps.{IsNext, IsIdle, Steps};
@@ -73,7 +72,7 @@ impl Kernel {
         let Ok(mut forest) = Forest::new(alloc, frames) else {
             return Err(Refused::Lower(Lower::NoMemory));
         };
-        let Ok(threads) = Box::new(alloc, Threads::boot()) else {
+        let Ok(threads) = Threads::boot(alloc) else {
             return Err(Refused::Lower(Lower::NoMemory));
         };
         match forest.new_space(ROOT_SPACE) {
@@ -116,20 +115,20 @@ impl Kernel {
     {
         match step {
             Step::Start(number, call) => start_answered(
-                &mut *self.threads,
+                &mut self.threads,
                 &mut self.forest,
                 self.size,
                 *number,
                 call,
             ),
             Step::Transfer(sender, receiver) => transfer(
-                &mut *self.threads,
+                &mut self.threads,
                 &mut self.forest,
                 self.size,
                 *sender,
                 *receiver,
             ),
-            Step::Expire(number) => expire(&mut *self.threads, *number),
+            Step::Expire(number) => expire(&mut self.threads, *number),
         }
     }
 
@@ -140,7 +139,7 @@ impl Kernel {
         ensures err { IfErr result (λ e. Steps self.old (Start number call.now) (Err e) self.new) }
     {
         start(
-            &mut *self.threads,
+            &mut self.threads,
             &mut self.forest,
             self.size,
             number,
@@ -201,11 +200,10 @@ impl Kernel {
     pub fn enabled(&self) -> Option<Step>
         ensures { MatchOption result (IsIdle self.now) (IsNext self.now) }
     {
-        let threads = &*self.threads;
-        if let Some((sender, receiver)) = threads.next_transfer() {
+        if let Some((sender, receiver)) = self.threads.next_transfer() {
             return Some(Step::Transfer(sender, receiver));
         }
-        let number = threads.next_expiry()?;
+        let number = self.threads.next_expiry()?;
         Some(Step::Expire(number))
     }
 
@@ -215,11 +213,10 @@ impl Kernel {
         ensures { MatchOption result (IsIdle self.old × (self.new ≡ self.old))
             (λ done. IsNext self.old (step_of done) × Steps self.old (step_of done) (Ok (answer_of done)) self.new) }
     {
-        let threads = &*self.threads;
-        let enabled = threads.next_transfer();
+        let enabled = self.threads.next_transfer();
         if let Some((from, to)) = enabled {
             let (outcome, ends) = carry_over(
-                &mut *self.threads,
+                &mut self.threads,
                 &mut self.forest,
                 self.size,
                 from,
@@ -227,11 +224,11 @@ impl Kernel {
             );
             return Some(NextStep::Transfer(from, to, outcome, ends));
         }
-        let Some(number) = threads.next_expiry() else {
+        let Some(number) = self.threads.next_expiry() else {
             self.threads.settle();
             return None;
         };
-        let Ok(()) = expire_untold(&mut *self.threads, number) else {
+        let Ok(()) = expire_untold(&mut self.threads, number) else {
             return None;
         };
         Some(NextStep::Expire(number))

@@ -21,8 +21,8 @@ pub use arrayvec::ArrayVec;
 pub use calls::{Call, Control, Create, FaultCall, IpcCall, SetPager, UnmapCall};
 pub use constructors::Timeout;
 pub use kernel::Kernel;
+pub use l4_forest::{MAX_FRAMES, Mapping, NoMemory, Place};
 pub use l4_fpage::{BadFpage, Block, Extent, Fpage, MOST_PAGES, PageSize, Rights};
-pub use l4_mapdb::{MAX_FRAMES, Mapping, NoMemory, Place};
 pub use l4_msg::{
     Acceptor, Item, ItemFault, MAX_ITEMS, MAX_UNTYPED, MAX_WORDS, Message, MsgFault, Tag,
 };

@@ -1,4 +1,4 @@
-use l4_threads::Receiving;
+use l4_threads::{Receiving, ThreadId};
 
 /// How a call ends whose reply has no words.
 #[derive(Clone, Copy)]
@@ -29,4 +29,14 @@ pub enum FaultTurn {
     Ends(Ending),
     /// It tells the fault to its pager, the thread of this number.
     Tells(u32),
+}
+
+/// A thread that faults.
+#[derive(Clone, Copy)]
+pub struct FaultingThread {
+    pub number: u32,
+    /// The space that shows the page or not.
+    pub space: u64,
+    /// Who is told of the fault.
+    pub pager: ThreadId,
 }

@@ -4,14 +4,14 @@ use Rattle.std.proofs.lemmas.Bool.{cases_eq}
 use Rattle.std.proofs.lemmas.List.{get_or-set_same, get_or-set_other}
 use Rattle.std.specs.Option.{option_map, option_and_then}
 use Rattle.l4_fpage.specs.Rights.{RightsSet}
-use Rattle.l4_links.specs.declared.Place.{Place}
-use Rattle.l4_links.specs.declared.nodes.Node.{Node}
-use Rattle.l4_links.specs.declared.nodes.Slot.{Slot}
-use Rattle.l4_links.specs.Inside.Nodes.{Slots, slot_at, node_at, spots, child, Writes, SetsNext, SetsPrev, Blanks, AddsUnder}
+use Rattle.l4_nodes.specs.declared.Place.{Place}
+use Rattle.l4_nodes.specs.declared.nodes.Node.{Node}
+use Rattle.l4_nodes.specs.declared.nodes.Slot.{Slot}
+use Rattle.l4_nodes.specs.Slots.{Slots, slot_at, node_at, spots, Writes, SetsNext, SetsPrev, spot_of}
+use Rattle.l4_links.specs.Inside.Nodes.{child, Blanks, AddsUnder}
 use Rattle.l4_links.proofs.Cutting.{node_within}
 use Rattle.l4_links.proofs.Kept.{nodes_blank}
 use Rattle.l4_links.proofs.Neighbours.{put_in, sprouts, forest_in, comes_in}
-use Rattle.l4_links.proofs.Writes.{spot_of}
 
 abbrev pub blank_of : Place → Slot
 blank_of place = record { place = place; wanted = false; node = None }

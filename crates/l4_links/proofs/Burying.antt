@@ -4,16 +4,17 @@ use Rattle.std.proofs.lemmas.Bool.{cases_eq}
 use Rattle.std.specs.Option.{option_map, option_and_then}
 use Rattle.l4_fpage.specs.Rights.{RightsSet, common, no_rights}
 use Rattle.l4_links.specs.declared.Standing.{Standing}
-use Rattle.l4_links.specs.declared.nodes.Node.{Node}
-use Rattle.l4_links.specs.declared.nodes.Slot.{Slot}
+use Rattle.l4_nodes.specs.declared.nodes.Node.{Node}
+use Rattle.l4_nodes.specs.declared.nodes.Slot.{Slot}
 use Rattle.l4_links.specs.Inside.Trees.{Limb, Sheds, SameOrder}
 use Rattle.l4_links.specs.Inside.Orders.{IsIn, first_of, last_of, position}
-use Rattle.l4_links.specs.Inside.Nodes.{Slots, slot_at, node_at, limbs, Marks, Doom, dooms, IsOrder, IsForest, TakesSlot}
+use Rattle.l4_nodes.specs.Slots.{Slots, slot_at, node_at, spot_of}
+use Rattle.l4_links.specs.Inside.Nodes.{limbs, Marks, Doom, dooms, IsOrder, IsForest, TakesSlot}
 use Rattle.l4_links.specs.Inside.Stacks.{IsStack, HasStack, IsBuried, IsLeft, Buries}
 use Rattle.l4_links.specs.Inside.Keeping.{standing_of, entries_of, IsWithin, IsFresh, IsSound}
 use Rattle.l4_links.specs.Entries.{standing_at, entry_at}
 use Rattle.l4_links.specs.Entries as entries
-use Rattle.l4_links.proofs.Writes.{no_slot, doom_of, spot_of}
+use Rattle.l4_links.proofs.Writes.{no_slot, doom_of}
 use Rattle.l4_links.proofs.Linking.{parted}
 use Rattle.l4_links.proofs.Positions.{same_order_out}
 use Rattle.l4_links.proofs.Neighbours.{worth_of, neighbours_at}

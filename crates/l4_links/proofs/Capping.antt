@@ -4,15 +4,16 @@ use Rattle.std.proofs.lemmas.Bool.{cases_eq}
 use Rattle.std.specs.Option.{option_map, option_and_then}
 use Rattle.l4_fpage.specs.Rights.{RightsSet, common, bits_of}
 use Rattle.l4_links.specs.declared.Entry.{Entry}
-use Rattle.l4_links.specs.declared.nodes.Node.{Node}
-use Rattle.l4_links.specs.declared.nodes.Slot.{Slot}
+use Rattle.l4_nodes.specs.declared.nodes.Node.{Node}
+use Rattle.l4_nodes.specs.declared.nodes.Slot.{Slot}
 use Rattle.l4_links.specs.Leads.{Leads, step}
 use Rattle.l4_links.specs.Inside.Trees.{Limb, parent_at}
-use Rattle.l4_links.specs.Inside.Nodes.{Slots, Spot, slot_at, node_at, spots, limbs, values, Worth, capped_worth, IsForest, IsLow, IsMarked, IsStamped, HasMarks, Caps, CapsBelow}
+use Rattle.l4_nodes.specs.Slots.{Slots, Spot, slot_at, node_at, spots, spot_of}
+use Rattle.l4_links.specs.Inside.Nodes.{limbs, values, Worth, capped_worth, IsForest, IsLow, IsMarked, IsStamped, HasMarks, Caps, CapsBelow}
 use Rattle.l4_links.specs.Inside.Nodes as nodes
 use Rattle.l4_links.specs.Entries.{entry_at, CapsTree, capped}
 use Rattle.l4_links.specs.Inside.Keeping.{standing_of, entry_of, entries_of, IsWithin, LiesWithin, IsSound}
-use Rattle.l4_links.proofs.Writes.{map_at, stamped_same, marks_of, spot_of}
+use Rattle.l4_links.proofs.Writes.{map_at, stamped_same, marks_of}
 use Rattle.l4_links.proofs.Neighbours.{worth_of}
 use Rattle.l4_links.proofs.Runs.{parent_is}
 use Rattle.l4_links.proofs.Walking.{low_of_common, low_stays, node_from_limb, caps_lowers, forest_same, done_same, marks_capped, values_capped}

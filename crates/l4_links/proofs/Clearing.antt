@@ -2,11 +2,12 @@
 use Rattle.std.proofs.Common.{◌≡◌, ◌≢◌, ℕ, List, [], ◌∷◌, ◌++◌, Option, Some, None, refl, sym, ap, ◌∙◌, arith, inl, inr}
 use Rattle.std.proofs.lemmas.Bool.{cases_eq}
 use Rattle.std.specs.Option.{option_map}
-use Rattle.l4_links.specs.declared.nodes.Node.{Node}
+use Rattle.l4_nodes.specs.declared.nodes.Node.{Node}
 use Rattle.l4_links.specs.Leads.{Leads, step}
 use Rattle.l4_links.specs.Inside.Trees.{Limb, parent_at, Sheds}
 use Rattle.l4_links.specs.Inside.Orders.{first_of, last_of, position}
-use Rattle.l4_links.specs.Inside.Nodes.{Slots, node_at, limbs, IsOrder, IsForest, Parts, Prunes, Clears}
+use Rattle.l4_nodes.specs.Slots.{Slots, node_at}
+use Rattle.l4_links.specs.Inside.Nodes.{limbs, IsOrder, IsForest, Parts, Prunes, Clears}
 use Rattle.l4_links.proofs.Positions.{same_order_out}
 use Rattle.l4_links.proofs.Growing.{tree_sheds}
 use Rattle.l4_links.proofs.Neighbours.{neighbours_at, some_from}

@@ -3,12 +3,13 @@ use Rattle.std.proofs.Common.{◌≡◌, ◌≢◌, ◌↔◌, ℕ, suc, zero, �
 use Rattle.std.proofs.lemmas.Bool.{cases_eq, cases_lt}
 use Rattle.std.proofs.lemmas.List.{get_or_past}
 use Rattle.std.specs.Option.{option_map, option_and_then}
-use Rattle.l4_links.specs.declared.nodes.Node.{Node}
-use Rattle.l4_links.specs.declared.nodes.Slot.{Slot}
+use Rattle.l4_nodes.specs.declared.nodes.Node.{Node}
+use Rattle.l4_nodes.specs.declared.nodes.Slot.{Slot}
 use Rattle.l4_links.specs.Leads.{Leads, steps}
 use Rattle.l4_links.specs.Inside.Trees.{Limb, IsInRun, parent_at, Sheds, SameOrder}
 use Rattle.l4_links.specs.Inside.Orders.{IsIn, IsOnce, first_of, position}
-use Rattle.l4_links.specs.Inside.Nodes.{Slots, node_at, spots, limbs, values, marks, IsOrder, IsForest, left_spot, Prunes}
+use Rattle.l4_nodes.specs.Slots.{Slots, node_at, spots}
+use Rattle.l4_links.specs.Inside.Nodes.{limbs, values, marks, IsOrder, IsForest, left_spot, Prunes}
 use Rattle.l4_links.proofs.Linking.{in_left, in_right, in_parts, once_front, once_back, once_out, parted}
 use Rattle.l4_links.proofs.Positions.{position_here, position_further, position_within}
 use Rattle.l4_links.proofs.Neighbours.{once_apart, in_list}

@@ -1,11 +1,12 @@
 -- How deep a key can stand, and the order of keys after several that went.
 use Rattle.std.proofs.Common.{◌≡◌, ◌≢◌, ℕ, suc, zero, ◌+◌, ◌<◌, ◌≤◌, List, ◌∷◌, length, Option, Some, None, refl, ap, subst, inl, inr, arith}
 use Rattle.std.specs.Option.{option_map}
-use Rattle.l4_links.specs.declared.nodes.Node.{Node}
+use Rattle.l4_nodes.specs.declared.nodes.Node.{Node}
 use Rattle.l4_links.specs.Inside.Trees.{Limb, IsTree, SameOrder}
-use Rattle.l4_links.specs.Inside.Keys.{IsKey, no_key}
+use Rattle.l4_nodes.specs.Keys.{IsKey, no_key}
 use Rattle.l4_links.specs.Inside.Orders.{IsIn, position}
-use Rattle.l4_links.specs.Inside.Nodes.{Slots, slot_at, node_at, limbs, AreKeys, IsForest}
+use Rattle.l4_nodes.specs.Slots.{Slots, slot_at, node_at}
+use Rattle.l4_links.specs.Inside.Nodes.{limbs, AreKeys, IsForest}
 use Rattle.l4_links.proofs.Positions.{position_within}
 use Rattle.l4_links.proofs.Neighbours.{in_list, not_in_list}
 use Rattle.l4_links.proofs.Writes.{slot_key, node_key}

@@ -2,10 +2,11 @@
 use Rattle.std.proofs.Common.{◌≡◌, ◌≢◌, ℕ, ◌+◌, ◌<◌, ◌≤◌, List, [], ◌∷◌, ◌++◌, length, Option, Some, None, refl, sym, ap, ◌∙◌, subst, arith, inl, inr, append_assoc, length-append}
 use Rattle.std.proofs.lemmas.Bool.{cases_eq}
 use Rattle.std.specs.Option.{option_map}
-use Rattle.l4_links.specs.declared.nodes.Node.{Node}
+use Rattle.l4_nodes.specs.declared.nodes.Node.{Node}
 use Rattle.l4_links.specs.Inside.Trees.{Limb}
 use Rattle.l4_links.specs.Inside.Orders.{IsIn, IsOnce, Link, first_of}
-use Rattle.l4_links.specs.Inside.Nodes.{Slots, node_at, spots, limbs, links, IsOrder, IsForest, CutsOff, ClosesGap, left_spot}
+use Rattle.l4_nodes.specs.Slots.{Slots, node_at, spots}
+use Rattle.l4_links.specs.Inside.Nodes.{limbs, links, IsOrder, IsForest, CutsOff, ClosesGap, left_spot}
 use Rattle.l4_links.proofs.Writes.{marks_of}
 use Rattle.l4_links.proofs.Linking.{in_left, in_right, in_parts, once_front, once_back, once_out, parted, first_in, linked_cut}
 use Rattle.l4_links.proofs.Neighbours.{worth_of, once_apart, in_list, neighbours_at, map_next, map_prev, next_set, prev_set, same_number, order_same_nodes}

@@ -4,12 +4,13 @@ use Rattle.std.proofs.lemmas.Bool.{cases_eq}
 use Rattle.std.specs.Option.{option_map, option_and_then}
 use Rattle.l4_fpage.specs.Rights.{RightsSet, common, set_of_bits, bits_of}
 use Rattle.l4_fpage.proofs.Eight.{bits_below, set_of_sum}
-use Rattle.l4_links.specs.declared.nodes.Node.{Node}
-use Rattle.l4_links.specs.declared.nodes.Slot.{Slot}
+use Rattle.l4_nodes.specs.declared.nodes.Node.{Node}
+use Rattle.l4_nodes.specs.declared.nodes.Slot.{Slot}
 use Rattle.l4_links.specs.Leads.{Leads, steps}
 use Rattle.l4_links.specs.Inside.Trees.{Limb, IsTree, parent_at, Sprouts, Rises}
 use Rattle.l4_links.specs.Inside.Orders.{Link, IsLinked, first_of, last_of, position}
-use Rattle.l4_links.specs.Inside.Nodes.{Slots, slot_at, node_at, limbs, links, values, marks, Marks, Worth, capped_worth, IsOrder, IsForest, IsLow, IsMarked, IsStamped, AreUnmarked, HasMarks, HasSeen, Ends, Comes, Prunes, Clears, CapsBelow, SetsWanted, IsSame}
+use Rattle.l4_nodes.specs.Slots.{Slots, slot_at, node_at, SetsWanted}
+use Rattle.l4_links.specs.Inside.Nodes.{limbs, links, values, marks, Marks, Worth, capped_worth, IsOrder, IsForest, IsLow, IsMarked, IsStamped, AreUnmarked, HasMarks, HasSeen, Ends, Comes, Prunes, Clears, CapsBelow, IsSame}
 use Rattle.l4_links.specs.Inside.Keeping.{IsWithin, LiesWithin, IsFresh, BeginsWalk, sources_walk, IsSound}
 use Rattle.l4_links.proofs.Writes.{stamped_same}
 use Rattle.l4_links.proofs.Linking.{parted, link_at, linked_same}

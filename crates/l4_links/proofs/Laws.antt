@@ -3,11 +3,12 @@ use Rattle.std.proofs.Common.{◌≡◌, ◌≢◌, ◌⊎◌, ℕ, suc, zero, �
 use Rattle.std.proofs.lemmas.Bool.{cases_eq}
 use Rattle.std.specs.Option.{option_map}
 use Rattle.l4_links.specs.declared.Standing.{Standing}
-use Rattle.l4_links.specs.declared.nodes.Node.{Node}
+use Rattle.l4_nodes.specs.declared.nodes.Node.{Node}
 use Rattle.l4_links.specs.Leads.{Leads, step, steps}
 use Rattle.l4_links.specs.Inside.Trees.{Limb, IsTree, parent_at}
 use Rattle.l4_links.specs.Inside.Orders.{position}
-use Rattle.l4_links.specs.Inside.Nodes.{Slots, node_at, limbs}
+use Rattle.l4_nodes.specs.Slots.{Slots, node_at}
+use Rattle.l4_links.specs.Inside.Nodes.{limbs}
 use Rattle.l4_links.specs.Inside.Keeping.{standing_of, entries_of, IsSound}
 use Rattle.l4_links.specs.Entries.{standing_at, ParentStands, AreTrees}
 use Rattle.l4_links.proofs.Neighbours.{worth_of}

@@ -1,11 +1,12 @@
 -- A node has no descendants where the node after it is no deeper.
 use Rattle.std.proofs.Common.{◌≡◌, ◌≢◌, ℕ, ◌<◌, ◌≤◌, List, ◌∷◌, ◌++◌, Option, Some, None, refl, sym, ap, ◌∙◌, subst, arith}
 use Rattle.std.specs.Option.{option_map}
-use Rattle.l4_links.specs.declared.nodes.Node.{Node}
+use Rattle.l4_nodes.specs.declared.nodes.Node.{Node}
 use Rattle.l4_links.specs.Leads.{Leads}
 use Rattle.l4_links.specs.Inside.Trees.{Limb, parent_at}
 use Rattle.l4_links.specs.Inside.Orders.{position}
-use Rattle.l4_links.specs.Inside.Nodes.{Slots, node_at, limbs, place_of, IsForest, Ends, Prunes}
+use Rattle.l4_nodes.specs.Slots.{Slots, node_at}
+use Rattle.l4_links.specs.Inside.Nodes.{limbs, place_of, IsForest, Ends, Prunes}
 use Rattle.l4_links.specs.Inside.Keeping.{standing_of, entries_of}
 use Rattle.l4_links.specs.Entries.{IsStanding, Descends}
 use Rattle.l4_links.proofs.Linking.{parted}

@@ -1,5 +1,4 @@
 pub mod Writes
-pub mod Joining
 pub mod Runs
 pub mod Growing
 pub mod Roots

@@ -3,11 +3,12 @@ use Rattle.std.proofs.Common.{Bool, true, false, ◌&&◌, ◌≡◌, ℕ, List,
 use Rattle.std.specs.Option.{option_map, option_and_then}
 use Rattle.l4_fpage.specs.Rights.{RightsSet, Read, Write, Execute, common, Within}
 use Rattle.l4_links.specs.declared.Standing.{Standing}
-use Rattle.l4_links.specs.declared.nodes.Node.{Node}
-use Rattle.l4_links.specs.declared.nodes.Slot.{Slot}
+use Rattle.l4_nodes.specs.declared.nodes.Node.{Node}
+use Rattle.l4_nodes.specs.declared.nodes.Slot.{Slot}
 use Rattle.l4_links.specs.Leads.{Leads, step, steps}
 use Rattle.l4_links.specs.Inside.Trees.{Limb, parent_at}
-use Rattle.l4_links.specs.Inside.Nodes.{Slots, slot_at, node_at, limbs, values, IsForest, IsLow}
+use Rattle.l4_nodes.specs.Slots.{Slots, slot_at, node_at}
+use Rattle.l4_links.specs.Inside.Nodes.{limbs, values, IsForest, IsLow}
 use Rattle.l4_links.specs.Inside.Keeping.{standing_of, entry_of, entries_of, IsWithin, IsSound}
 use Rattle.l4_links.specs.Entries.{entry_at, capped, CapsBelow, CapsTree}
 use Rattle.l4_links.proofs.Neighbours.{worth_of}

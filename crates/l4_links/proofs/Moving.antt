@@ -5,16 +5,16 @@ use Rattle.std.specs.Option.{option_map, option_and_then}
 use Rattle.l4_fpage.specs.Rights.{RightsSet, Within}
 use Rattle.l4_spaces.specs.Tables as tables
 use Rattle.l4_spaces.specs.Tables.{Tables, NonePresentIn, IsNextIn, HasRoom, KeepsRoom}
-use Rattle.l4_links.specs.declared.Place.{Place}
+use Rattle.l4_nodes.specs.declared.Place.{Place}
 use Rattle.l4_links.specs.declared.Standing.{Standing}
 use Rattle.l4_links.specs.declared.Entry.{Entry}
-use Rattle.l4_links.specs.declared.nodes.Node.{Node}
-use Rattle.l4_links.specs.declared.nodes.Slot.{Slot}
+use Rattle.l4_nodes.specs.declared.nodes.Node.{Node}
+use Rattle.l4_nodes.specs.declared.nodes.Slot.{Slot}
 use Rattle.l4_links.specs.Entries.{entry_at, IsInPages, moved_place, MovesPages, Hinders as HindersMove, LacksPlace as LacksHere}
-use Rattle.l4_links.specs.Inside.Nodes.{Slots, Spot, slot_at, node_at, IsOf, SetsPlace}
+use Rattle.l4_nodes.specs.Slots.{Slots, Spot, slot_at, node_at, SetsPlace, spot_of}
+use Rattle.l4_links.specs.Inside.Nodes.{IsOf}
 use Rattle.l4_links.specs.Inside.Keeping.{standing_of, entry_of, entries_of, IsIndexed}
 use Rattle.l4_links.specs.Inside.Moving.{AreFree, HaveRoom, CanMove, IsHindered, Hinders, LacksPlace, Moves}
-use Rattle.l4_links.proofs.Writes.{spot_of}
 use Rattle.l4_links.proofs.Seen.{at_seen}
 use Rattle.l4_links.proofs.Naming.{is_at}
 

@@ -12,15 +12,15 @@ use Rattle.l4_fpage.specs.Rights.{RightsSet}
 use Rattle.l4_spaces.specs.Tables as tables
 use Rattle.l4_spaces.specs.Tables.{Tables, NonePresentFrom, IsNextPresent, NonePresentIn, IsNextIn, IsPage}
 use Rattle.l4_spaces.proofs.Below.{places_total, tie, untie, apart, decided, is_equal}
-use Rattle.l4_links.specs.declared.Place.{Place}
+use Rattle.l4_nodes.specs.declared.Place.{Place}
 use Rattle.l4_links.specs.declared.Entry.{Entry}
-use Rattle.l4_links.specs.declared.nodes.Node.{Node}
-use Rattle.l4_links.specs.declared.nodes.Slot.{Slot}
+use Rattle.l4_nodes.specs.declared.nodes.Node.{Node}
+use Rattle.l4_nodes.specs.declared.nodes.Slot.{Slot}
 use Rattle.l4_links.specs.Entries.{entry_at, IsAt, HasKey, NoKeyFrom, IsNextKey, NoKeyIn, IsNextKeyIn, IsKeyOf, HavePlaces}
-use Rattle.l4_links.specs.Inside.Keys.{IsKey}
-use Rattle.l4_links.specs.Inside.Nodes.{Slots, Spot, slot_at, spots, IsOf, SetsWanted, SetsPlace, Gives, TakesOver}
+use Rattle.l4_nodes.specs.Keys.{IsKey}
+use Rattle.l4_nodes.specs.Slots.{Slots, Spot, slot_at, spots, SetsWanted, SetsPlace, Gives, spot_of}
+use Rattle.l4_links.specs.Inside.Nodes.{IsOf, TakesOver}
 use Rattle.l4_links.specs.Inside.Keeping.{entry_of, entries_of, IsIndexed}
-use Rattle.l4_links.proofs.Writes.{spot_of}
 use Rattle.l4_links.proofs.Seen.{at_seen}
 
 abbrev pub Pages : Type 0

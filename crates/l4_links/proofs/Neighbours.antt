@@ -2,12 +2,13 @@
 use Rattle.std.proofs.Common.{◌≡◌, ◌≢◌, ℕ, ◌+◌, Bool, true, false, if◌then◌else◌, List, [], ◌∷◌, ◌++◌, Option, Some, None, refl, sym, ap, ◌∙◌, subst, inl, inr}
 use Rattle.std.proofs.lemmas.Bool.{cases_eq}
 use Rattle.std.specs.Option.{option_map, option_and_then}
-use Rattle.l4_links.specs.declared.nodes.Node.{Node}
-use Rattle.l4_links.specs.declared.nodes.Slot.{Slot}
+use Rattle.l4_nodes.specs.declared.nodes.Node.{Node}
+use Rattle.l4_nodes.specs.declared.nodes.Slot.{Slot}
 use Rattle.l4_links.specs.Inside.Trees.{Limb, Sprouts}
 use Rattle.l4_links.specs.Inside.Orders.{IsIn, IsOnce, Link, first_of, last_of, IsLinked, PutsAfter, TakesOut, position}
-use Rattle.l4_links.specs.Inside.Nodes.{Slots, slot_at, node_at, limbs, links, Worth, IsOrder, IsForest, Writes, SetsNext, SetsPrev, Parts, TakesSlot, CutsOff, left_spot, Spot, wanted_in, spots, Comes}
-use Rattle.l4_links.proofs.Writes.{doom_of, marks_of, spot_of}
+use Rattle.l4_nodes.specs.Slots.{Slots, slot_at, node_at, Writes, SetsNext, SetsPrev, Spot, wanted_in, spots, spot_of}
+use Rattle.l4_links.specs.Inside.Nodes.{limbs, links, Worth, IsOrder, IsForest, Parts, TakesSlot, CutsOff, left_spot, Comes}
+use Rattle.l4_links.proofs.Writes.{doom_of, marks_of}
 use Rattle.l4_links.proofs.Linking.{in_left, in_right, in_parts, once_front, once_back, once_out, once_in, parted, first_in, last_in, link_at, linked_in, linked_out}
 use Rattle.l4_links.proofs.Positions.{stands_after}
 use Rattle.l4_links.proofs.Growing.{tree_sprouts}

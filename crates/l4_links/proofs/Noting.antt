@@ -3,12 +3,13 @@ use Rattle.std.proofs.Common.{◌≡◌, ◌≢◌, ◌<◌, ℕ, Bool, true, fa
 use Rattle.std.proofs.lemmas.Bool.{cases_eq, false≢true}
 use Rattle.std.specs.Option.{option_map, option_and_then}
 use Rattle.l4_fpage.specs.Rights.{RightsSet, set_of_bits}
-use Rattle.l4_links.specs.declared.nodes.Node.{Node}
-use Rattle.l4_links.specs.declared.nodes.Slot.{Slot}
+use Rattle.l4_nodes.specs.declared.nodes.Node.{Node}
+use Rattle.l4_nodes.specs.declared.nodes.Slot.{Slot}
 use Rattle.l4_links.specs.Leads.{Leads}
 use Rattle.l4_links.specs.Inside.Trees.{Limb, parent_at}
 use Rattle.l4_links.specs.Inside.Orders.{Link, position}
-use Rattle.l4_links.specs.Inside.Nodes.{Slots, slot_at, node_at, limbs, links, values, sources, marks, Worth, IsLow, IsMarked, Ends, place_of, SetsSource, SetsPlain, TakesOver}
+use Rattle.l4_nodes.specs.Slots.{Slots, slot_at, node_at, SetsSource, SetsPlain}
+use Rattle.l4_links.specs.Inside.Nodes.{limbs, links, values, sources, marks, Worth, IsLow, IsMarked, Ends, place_of, TakesOver}
 use Rattle.l4_links.specs.Inside.Keeping.{IsWithin, IsFresh, IsSound}
 use Rattle.l4_links.proofs.Writes.{map_at, marks_of, stamped_same}
 use Rattle.l4_links.proofs.Neighbours.{worth_of}

@@ -4,11 +4,12 @@ use Rattle.std.proofs.lemmas.Bool.{cases_eq}
 use Rattle.std.specs.Option.{option_map}
 use Rattle.l4_fpage.specs.Rights.{RightsSet, common, no_rights}
 use Rattle.l4_links.specs.declared.Entry.{Entry}
-use Rattle.l4_links.specs.declared.nodes.Node.{Node}
+use Rattle.l4_nodes.specs.declared.nodes.Node.{Node}
 use Rattle.l4_links.specs.Leads.{Leads, step, steps}
 use Rattle.l4_links.specs.Inside.Trees.{Limb, parent_at}
 use Rattle.l4_links.specs.Inside.Orders.{Link}
-use Rattle.l4_links.specs.Inside.Nodes.{Slots, node_at, spots, limbs, links, values, marks, Worth, SetsRights}
+use Rattle.l4_nodes.specs.Slots.{Slots, node_at, spots, SetsRights}
+use Rattle.l4_links.specs.Inside.Nodes.{limbs, links, values, marks, Worth}
 use Rattle.l4_links.specs.Inside.Stacks.{HasStack}
 use Rattle.l4_links.specs.Inside.Keeping.{IsWithin, LiesWithin, IsFresh, IsSound, standing_of, entries_of}
 use Rattle.l4_links.specs.Entries.{Sprouts}

@@ -6,7 +6,8 @@ use Rattle.l4_spaces.specs.Tables.{Tables, key_of, table_pages, IsTableIn, NoneP
 use Rattle.l4_links.specs.Leads.{Leads}
 use Rattle.l4_links.specs.Inside.Trees.{Limb, parent_at}
 use Rattle.l4_links.specs.Inside.Orders.{position}
-use Rattle.l4_links.specs.Inside.Nodes.{Slots, node_at, limbs, IsForest}
+use Rattle.l4_nodes.specs.Slots.{Slots, node_at}
+use Rattle.l4_links.specs.Inside.Nodes.{limbs, IsForest}
 use Rattle.l4_links.specs.Inside.Keeping.{entries_of, IsIndexed}
 use Rattle.l4_links.specs.Inside.Parents.{IsParent, NoParents, IsFirstParent, NoParentPage, IsParentPage}
 use Rattle.l4_links.specs.Entries.{NoParentIn, IsNextParentIn}

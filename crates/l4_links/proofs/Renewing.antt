@@ -1,18 +1,15 @@
 -- Walks that begin with a stamp of their own: what stands stays, and where the stamps have run out no node keeps one.
-use Rattle.std.proofs.Common.{◌≡◌, ◌≢◌, ℕ, List, [], Option, Some, None, refl, sym, ap, ◌∙◌, subst, inl, inr}
+use Rattle.std.proofs.Common.{◌≡◌, ◌≢◌, ℕ, Option, Some, None, refl, sym, ap, ◌∙◌, subst, inl, inr}
 use Rattle.std.specs.Option.{option_map, option_and_then}
 use Rattle.l4_fpage.specs.Rights.{RightsSet}
-use Rattle.l4_links.specs.declared.nodes.Node.{Node}
-use Rattle.l4_links.specs.declared.nodes.Slot.{Slot}
-use Rattle.l4_links.specs.declared.packed.Packed.{Packed}
-use Rattle.l4_links.specs.declared.slots.Note.{Note}
+use Rattle.l4_nodes.specs.declared.nodes.Node.{Node}
+use Rattle.l4_nodes.specs.declared.nodes.Slot.{Slot}
 use Rattle.l4_links.specs.Leads.{Leads}
 use Rattle.l4_links.specs.Inside.Trees.{Limb, parent_at}
-use Rattle.l4_links.specs.Inside.Nodes.{Slots, slot_at, node_at, limbs, Marks, capped_worth, AreUnmarked, IsSame, CapsBelow, NoneMet, Meets}
-use Rattle.l4_links.specs.Inside.Packed.{unnoted, with_node}
-use Rattle.l4_links.specs.Inside.Joined.{joined}
-use Rattle.l4_links.proofs.Writes.{marks_of, doom_of, spot_of, map_both}
-use Rattle.l4_links.proofs.Joining.{node_in, spot_in, unnoted_all}
+use Rattle.l4_nodes.specs.Slots.{Slots, slot_at, node_at, unnoted, unnoted_slot, spot_of}
+use Rattle.l4_links.specs.Inside.Nodes.{limbs, Marks, capped_worth, AreUnmarked, IsSame, CapsBelow, NoneMet, Meets}
+use Rattle.l4_links.proofs.Writes.{marks_of, doom_of, map_both}
+use Rattle.l4_nodes.proofs.Joining.{node_in, spot_in}
 use Rattle.l4_links.proofs.Seeking.{sources_same}
 
 abbrev limb_of : Node → Limb
@@ -50,24 +47,27 @@ meets_from_same old new k s m = (
 pub none_from_same : (old new : Slots) (k : ℕ) → IsSame old new → NoneMet k new → NoneMet k old
 none_from_same old new k s f j l e = f j (subst (λ (g : ℕ → Option Limb). Leads (parent_at g) j k) (λ i a. sym (s.limbs_same a) i) l) (sources_same old new s j ∙ e)
 
--- stamps that were taken away: nothing is noted of any key
-taken : (slots : List (Option Packed)) (notes : List Note) (old : Slots) → joined slots notes ≡ old → (k : ℕ) → node_at (joined slots []) k ≡ option_map unnoted (node_at old k)
-taken slots notes old is k = ap (option_and_then (λ (s : Slot). s.node)) (unnoted_all slots notes old k is) ∙ node_in unnoted (slot_at old k)
+-- nothing is noted of any key any more
+abbrev pub Unnotes : Slots → Slots → Type 0
+Unnotes old new = (key : ℕ) → slot_at new key ≡ option_map unnoted_slot (slot_at old key)
 
-stays : {X : Type 0} (F : Node → X) → ((n : Node) → F (unnoted n) ≡ F n) → (slots : List (Option Packed)) (notes : List Note) (old : Slots) → joined slots notes ≡ old → (k : ℕ) → option_map F (node_at (joined slots []) k) ≡ option_map F (node_at old k)
-stays F same slots notes old is k = ap (option_map F) (taken slots notes old is k) ∙ map_both F unnoted same (node_at old k)
+taken : (old new : Slots) → Unnotes old new → (k : ℕ) → node_at new k ≡ option_map unnoted (node_at old k)
+taken old new is k = ap (option_and_then (λ (s : Slot). s.node)) (is k) ∙ node_in unnoted (slot_at old k)
 
-pub unmarked_same : (slots : List (Option Packed)) (notes : List Note) (old : Slots) → joined slots notes ≡ old → IsSame old (joined slots [])
-unmarked_same slots notes old is = record {
-  limbs_same = stays limb_of (λ n. refl) slots notes old is;
-  links_same = stays (λ n. record { prev = n.prev; next = n.next }) (λ n. refl) slots notes old is;
-  values_same = stays (λ n. record { frame = n.frame; rights = n.rights; source = n.source; granted = n.granted }) (λ n. refl) slots notes old is;
-  dooms_same = stays doom_of (λ n. refl) slots notes old is;
-  spots_same = λ k. ap (option_map spot_of) (unnoted_all slots notes old k is) ∙ spot_in (with_node unnoted) (λ s. refl) (slot_at old k);
+stays : {X : Type 0} (F : Node → X) → ((n : Node) → F (unnoted n) ≡ F n) → (old new : Slots) → Unnotes old new → (k : ℕ) → option_map F (node_at new k) ≡ option_map F (node_at old k)
+stays F same old new is k = ap (option_map F) (taken old new is k) ∙ map_both F unnoted same (node_at old k)
+
+pub unmarked_same : (old new : Slots) → Unnotes old new → IsSame old new
+unmarked_same old new is = record {
+  limbs_same = stays limb_of (λ n. refl) old new is;
+  links_same = stays (λ n. record { prev = n.prev; next = n.next }) (λ n. refl) old new is;
+  values_same = stays (λ n. record { frame = n.frame; rights = n.rights; source = n.source; granted = n.granted }) (λ n. refl) old new is;
+  dooms_same = stays doom_of (λ n. refl) old new is;
+  spots_same = λ k. ap (option_map spot_of) (is k) ∙ spot_in unnoted_slot (λ s. refl) (slot_at old k);
 }
 
-pub unmarked_all : (slots : List (Option Packed)) (notes : List Note) (old : Slots) → joined slots notes ≡ old → AreUnmarked (joined slots [])
-unmarked_all slots notes old is k m at = none (node_at old k) (sym (ap (option_map marks_of) (taken slots notes old is k)) ∙ at)
+pub unmarked_all : (old new : Slots) → Unnotes old new → AreUnmarked new
+unmarked_all old new is k m at = none (node_at old k) (sym (ap (option_map marks_of) (taken old new is k)) ∙ at)
   where
     none : (o : Option Node) → option_map marks_of (option_map unnoted o) ≡ Some m → (m.mark ≡ 0) × (m.seen ≡ 0)
     none None z = absurd (let y : ◌≡◌ {A = Option Marks} None (Some m) = z in cc)

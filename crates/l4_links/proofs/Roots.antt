@@ -2,10 +2,11 @@
 use Rattle.std.proofs.Common.{◌≡◌, ◌≢◌, ℕ, ◌+◌, List, [], ◌∷◌, Option, Some, None, refl, sym, ap, ◌∙◌, subst, arith, inl, inr}
 use Rattle.std.proofs.lemmas.Bool.{cases_eq}
 use Rattle.std.specs.Option.{option_map}
-use Rattle.l4_links.specs.declared.nodes.Node.{Node}
+use Rattle.l4_nodes.specs.declared.nodes.Node.{Node}
 use Rattle.l4_links.specs.Inside.Trees.{Limb, IsTree, Rises}
 use Rattle.l4_links.specs.Inside.Orders.{Link, IsIn, IsOnce, IsLinked, first_of, position}
-use Rattle.l4_links.specs.Inside.Nodes.{Slots, slot_at, node_at, limbs, links, IsForest, Writes, SetsNext, SetsPrev}
+use Rattle.l4_nodes.specs.Slots.{Slots, slot_at, node_at, Writes, SetsNext, SetsPrev}
+use Rattle.l4_links.specs.Inside.Nodes.{limbs, links, IsForest}
 use Rattle.l4_links.proofs.Linking.{linked_same}
 use Rattle.l4_links.proofs.Positions.{position_here, position_further}
 use Rattle.l4_links.proofs.Neighbours.{not_in_list, some_from, map_prev, prev_set}

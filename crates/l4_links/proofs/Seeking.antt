@@ -2,11 +2,12 @@
 use Rattle.std.proofs.Common.{Bool, true, ◌≡◌, ◌≢◌, ℕ, ◌+◌, ◌<◌, ◌≤◌, List, length, Option, Some, None, refl, sym, ap, ◌∙◌, subst, arith, inl, inr, ◌⊎◌}
 use Rattle.std.proofs.lemmas.Bool.{cases_eq, cases_lt}
 use Rattle.std.specs.Option.{option_map}
-use Rattle.l4_links.specs.declared.nodes.Node.{Node}
+use Rattle.l4_nodes.specs.declared.nodes.Node.{Node}
 use Rattle.l4_links.specs.Leads.{Leads, step, steps}
 use Rattle.l4_links.specs.Inside.Trees.{Limb, IsTree, parent_at}
 use Rattle.l4_links.specs.Inside.Orders.{Link, IsIn, position}
-use Rattle.l4_links.specs.Inside.Nodes.{Slots, node_at, limbs, links, sources, Worth, IsForest, Closes, Sees, place_of, IsMarked, IsStamped, Ends, IsSame, IsFree, HasSeen, Meets, NoneMet}
+use Rattle.l4_nodes.specs.Slots.{Slots, node_at, Closes, Sees}
+use Rattle.l4_links.specs.Inside.Nodes.{limbs, links, sources, Worth, IsForest, place_of, IsMarked, IsStamped, Ends, IsSame, IsFree, HasSeen, Meets, NoneMet}
 use Rattle.l4_links.proofs.Writes.{map_at, stamped_at, doom_of}
 use Rattle.l4_links.proofs.Neighbours.{worth_of}
 use Rattle.l4_links.proofs.Linking.{linked_same}

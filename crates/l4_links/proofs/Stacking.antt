@@ -4,9 +4,10 @@ use Rattle.std.proofs.lemmas.Bool.{cases_eq, false≢true}
 use Rattle.std.specs.Option.{option_map}
 use Rattle.l4_fpage.specs.Rights.{RightsSet, common, no_rights, is_none}
 use Rattle.l4_links.specs.declared.Standing.{Standing}
-use Rattle.l4_links.specs.declared.nodes.Node.{Node}
+use Rattle.l4_nodes.specs.declared.nodes.Node.{Node}
 use Rattle.l4_links.specs.Inside.Orders.{IsIn, first_of}
-use Rattle.l4_links.specs.Inside.Nodes.{Slots, node_at, values, Worth, Doom, dooms, Writes, Caps, SetsRights, Closes, Comes, Prunes, Clears}
+use Rattle.l4_nodes.specs.Slots.{Slots, node_at, Writes, SetsRights, Closes}
+use Rattle.l4_links.specs.Inside.Nodes.{values, Worth, Doom, dooms, Caps, Comes, Prunes, Clears}
 use Rattle.l4_links.specs.Inside.Stacks.{IsStacked, IsStack, HasStack}
 use Rattle.l4_links.specs.Inside.Keeping.{standing_of, entries_of}
 use Rattle.l4_links.specs.Entries.{standing_at, HaveRights}

@@ -2,16 +2,18 @@
 use Rattle.std.proofs.Common.{◌≡◌, ◌≢◌, ℕ, Bool, false, ◌+◌, Option, Some, None, refl, sym, ap, ◌∙◌, inl, inr}
 use Rattle.std.specs.Option.{option_map, option_and_then}
 use Rattle.l4_fpage.specs.Rights.{RightsSet, common}
-use Rattle.l4_links.specs.declared.Place.{Place}
+use Rattle.l4_nodes.specs.declared.Place.{Place}
 use Rattle.l4_links.specs.declared.Standing.{Standing}
 use Rattle.l4_links.specs.declared.Entry.{Entry}
-use Rattle.l4_links.specs.declared.nodes.Node.{Node}
-use Rattle.l4_links.specs.declared.nodes.Slot.{Slot}
+use Rattle.l4_nodes.specs.declared.nodes.Node.{Node}
+use Rattle.l4_nodes.specs.declared.nodes.Slot.{Slot}
 use Rattle.l4_links.specs.Leads.{Leads}
 use Rattle.l4_links.specs.Inside.Trees.{Limb, parent_at, Rises}
 use Rattle.l4_links.specs.Inside.Trees as trees
-use Rattle.l4_links.specs.Inside.Nodes.{Slots, Spot, slot_at, node_at, spots, limbs, values, Worth, capped_worth, IsForest, Comes, AddsUnder, Meets, NoneMet, IsSame}
+use Rattle.l4_nodes.specs.Slots.{Slots, Spot, slot_at, node_at, spots}
+use Rattle.l4_links.specs.Inside.Nodes.{limbs, values, Worth, capped_worth, IsForest, Comes, AddsUnder, Meets, NoneMet, IsSame}
 use Rattle.l4_links.specs.Inside.Nodes as nodes
+use Rattle.l4_nodes.specs.Slots as slots
 use Rattle.l4_links.specs.Inside.Orders.{position}
 use Rattle.l4_links.specs.Entries.{Entries, entry_at, IsBlank, Descends, IsSource, AddsBlank, Stands, Sprouts, AddsChild, Clears, CutsBelow, CapsBelow, SetsSource, SetsPlain, SetsWanted, TakesOver, capped, cut_off}
 use Rattle.l4_links.specs.Inside.Keeping.{standing_of, entry_of, entries_of, IsSound}
@@ -81,7 +83,7 @@ view_meets slots top m = (m.0, descends_of slots m.1.0, source_is slots m.0 ∙ 
 pub view_none : (slots : Slots) (top : ℕ) → NoneMet top slots → (low : ℕ) → Descends (entries_of slots) low top → ¬ (IsSource (entries_of slots) low)
 view_none slots top none low d e = none low (leads_of slots d) (sym (source_is slots low) ∙ e)
 
-pub view_source : (old new : Slots) (key : ℕ) (source : Bool) → nodes.SetsSource key source old new → SetsSource key source (entries_of old) (entries_of new)
+pub view_source : (old new : Slots) (key : ℕ) (source : Bool) → slots.SetsSource key source old new → SetsSource key source (entries_of old) (entries_of new)
 view_source old new key source c = record {
   here =
       shown_is new key ∙ (λ i. joined (c.spots_same key i) (limb_here i) (value_here i)) ∙ source_joined source (spots old key) (limbs old key) (values old key)
@@ -176,7 +178,7 @@ view_cuts old new top p = record {
 pub cuts_none : (slots : Slots) (first : Option ℕ) (stamp walk top : ℕ) → IsSound slots first stamp walk → node_at slots top ≡ None → CutsBelow top (entries_of slots) (entries_of slots)
 cuts_none slots first stamp walk top s none = record { gone = λ k d. absurd (nothing_below slots first stamp walk top k s none d); kept = λ k off. refl }
 
-pub view_wanted : (old new : Slots) (key : ℕ) (wanted : Bool) → nodes.SetsWanted key wanted old new → SetsWanted key wanted (entries_of old) (entries_of new)
+pub view_wanted : (old new : Slots) (key : ℕ) (wanted : Bool) → slots.SetsWanted key wanted old new → SetsWanted key wanted (entries_of old) (entries_of new)
 view_wanted old new key wanted c = record {
   here = at_seen new key ∙ ap (option_map entry_of) c.here ∙ over (slot_at old key) ∙ sym (ap (option_map (λ (e : Entry). record e { wanted = wanted })) (at_seen old key));
   others = λ o ne. view_others old new o (c.others o ne);
@@ -186,7 +188,7 @@ view_wanted old new key wanted c = record {
     over None = refl
     over (Some s) = refl
 
-pub view_plain : (old new : Slots) (key : ℕ) → nodes.SetsPlain key old new → SetsPlain key (entries_of old) (entries_of new)
+pub view_plain : (old new : Slots) (key : ℕ) → slots.SetsPlain key old new → SetsPlain key (entries_of old) (entries_of new)
 view_plain old new key c = record {
   here =
       shown_is new key ∙ (λ i. joined (c.spots_same key i) (limb_here i) (value_here i)) ∙ plain_joined (spots old key) (limbs old key) (values old key)

@@ -2,11 +2,12 @@
 use Rattle.std.proofs.Common.{Bool, true, false, ◌&&◌, ◌≡◌, ◌≢◌, ◌↔◌, ℕ, ◌+◌, ◌<◌, ◌≤◌, List, [], ◌∷◌, ◌++◌, length, Option, Some, None, refl, sym, ap, ◌∙◌, subst, arith, inl, inr, ◌⊎◌, length-append}
 use Rattle.std.proofs.lemmas.Bool.{cases_eq, cases_lt}
 use Rattle.std.specs.Option.{option_map}
-use Rattle.l4_links.specs.declared.nodes.Node.{Node}
+use Rattle.l4_nodes.specs.declared.nodes.Node.{Node}
 use Rattle.l4_links.specs.Leads.{Leads}
 use Rattle.l4_links.specs.Inside.Trees.{Limb, IsTree, parent_at}
 use Rattle.l4_links.specs.Inside.Orders.{Link, IsIn, IsOnce, first_of, position}
-use Rattle.l4_links.specs.Inside.Nodes.{Slots, node_at, spots, limbs, links, values, capped_worth, IsOrder, IsForest, Caps, Closes, place_of, IsMarked, IsLow, IsStamped, Ends, IsDone, HasMarks, CapsBelow}
+use Rattle.l4_nodes.specs.Slots.{Slots, node_at, spots, Closes}
+use Rattle.l4_links.specs.Inside.Nodes.{limbs, links, values, capped_worth, IsOrder, IsForest, Caps, place_of, IsMarked, IsLow, IsStamped, Ends, IsDone, HasMarks, CapsBelow}
 use Rattle.l4_fpage.specs.Rights.{RightsSet, common}
 use Rattle.l4_links.proofs.Writes.{marks_of, map_at, stamped_same, stamped_at}
 use Rattle.l4_links.proofs.Neighbours.{worth_of}

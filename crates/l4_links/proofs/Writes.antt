@@ -2,19 +2,17 @@
 use Rattle.std.proofs.Common.{◌≡◌, ◌≢◌, ℕ, ◌≤◌, Option, Some, None, refl, sym, ap, ◌∙◌, subst, inl, inr}
 use Rattle.std.proofs.lemmas.Bool.{cases_eq}
 use Rattle.std.specs.Option.{option_map, option_and_then}
-use Rattle.l4_links.specs.declared.nodes.Node.{Node}
-use Rattle.l4_links.specs.declared.nodes.Slot.{Slot}
-use Rattle.l4_links.specs.Inside.Keys.{IsKey}
-use Rattle.l4_links.specs.Inside.Nodes.{Slots, Spot, slot_at, node_at, spots, AreKeys, marks, Marks, Doom, IsStamped}
+use Rattle.l4_nodes.specs.declared.nodes.Node.{Node}
+use Rattle.l4_nodes.specs.declared.nodes.Slot.{Slot}
+use Rattle.l4_nodes.specs.Keys.{IsKey}
+use Rattle.l4_nodes.specs.Slots.{Slots, Spot, slot_at, node_at, spots, spot_of}
+use Rattle.l4_links.specs.Inside.Nodes.{AreKeys, marks, Marks, Doom, IsStamped}
 
 abbrev pub marks_of : Node → Marks
 marks_of n = record { mark = n.mark; seen = n.seen }
 
 abbrev pub doom_of : Node → Doom
 doom_of n = record { rights = n.rights; next = n.doomed }
-
-abbrev pub spot_of : Slot → Spot
-spot_of s = record { place = s.place; wanted = s.wanted }
 
 pub map_both : {X : Type 0} (F : Node → X) (f : Node → Node) → ((n : Node) → F (f n) ≡ F n) → (o : Option Node) → option_map F (option_map f o) ≡ option_map F o
 map_both F f same None = refl

@@ -6,7 +6,7 @@ use Rattle.std.specs.FinSet as set
 use Rattle.std.specs.Coded.{Coded, code_by, coded×, coded_ℕ, coded_bool, coded_list, coded_option}
 use Rattle.l4_fpage.specs.Rights.{RightsSet, rights_code, common, no_rights, Within}
 use Rattle.l4_spaces.specs.Tables.{IsPage}
-use Rattle.l4_links.specs.declared.Place.{Place}
+use Rattle.l4_nodes.specs.declared.Place.{Place}
 use Rattle.l4_links.specs.declared.Standing.{Standing}
 use Rattle.l4_links.specs.declared.Entry.{Entry}
 use Rattle.l4_links.specs.Leads.{Leads}

@@ -3,17 +3,16 @@
 ghost use Rattle.std.specs.Prelude.{◌≡◌, ◌≢◌, ◌≤◌, ◌+◌, ◌-◌, ◌∷◌, ◌⊎◌, [], ℕ, IfOk, OnErr, Some, None, true, false};
 ghost use Rattle.l4_fpage.specs.Rights.{RightsSet, Within};
 ghost use Rattle.l4_spaces.specs.Tables.{IsPage, IsSpace, HasRoom, KeepsRoom, key_of, space_pages};
-ghost use Rattle.l4_links.specs.declared.Place.{Place as APlace};
-ghost use Rattle.l4_links.specs.declared.nodes.Node.{Node as ANode};
+ghost use Rattle.l4_nodes.specs.declared.Place.{Place as APlace};
+ghost use Rattle.l4_nodes.specs.declared.nodes.Node.{Node as ANode};
 ghost use Rattle.l4_links.specs.Entries.{moved_place};
-ghost use Rattle.l4_links.specs.Inside.Nodes.{node_at, IsOf, SetsPlace};
+ghost use Rattle.l4_nodes.specs.Slots.{node_at, SetsPlace};
+ghost use Rattle.l4_links.specs.Inside.Nodes.{IsOf};
 ghost use Rattle.l4_links.specs.Inside.Keeping.{IsIndexed};
 ghost use Rattle.l4_links.specs.Inside.Moving.{CanMove, IsHindered, Hinders, LacksPlace, Moves};
 
-use crate::Place;
-use crate::nodes::{node_of, set_place};
-use crate::slots::Slots;
 use l4_fpage::Rights;
+use l4_nodes::{Place, Slots, node_of, set_place};
 use l4_spaces::{NoMemory, Spaces};
 
 /// The place that the page of the source's space goes to.

@@ -1,17 +1,39 @@
-//! The burial of nodes without rights: they leave the list in the order of the stack that they stand on. Between two of them the
+//! The stack of nodes without rights, and their burial: they leave the list in the order of the stack that they stand on. Between two of them the
 //! list is whole and the trees needn't be, since a child may be left of a parent that has gone. Once all have gone the trees are
 //! whole again: what descends from a node without rights has none either.
 
 ghost use Rattle.std.specs.Prelude.{◌≡◌, ◌≢◌, ℕ, List, Some, None};
-ghost use Rattle.l4_links.specs.Inside.Nodes.{IsForest};
+ghost use Rattle.l4_links.specs.Inside.Nodes.{AreKeys, Caps, IsForest};
 ghost use Rattle.l4_links.specs.Inside.Keeping.{IsIndexed, IsWithin};
 ghost use Rattle.l4_links.specs.Inside.Stacks.{HasStack, Buries};
 
-use crate::keys::Link;
 use crate::lists::take_out;
-use crate::nodes::{Node, node_of};
-use crate::slots::Slots;
+use l4_fpage::Rights;
+use l4_nodes::{Link, Node, Slots, node_of, set_rights};
 use l4_spaces::Spaces;
+
+/// Lets the node have no other rights than these. A node that loses its last right goes on the stack that begins with the key
+/// `doomed`. The key that the stack begins with then is given.
+pub(crate) fn cap_at(nodes: &mut Slots, key: usize, cap: Rights, doomed: Link) -> Link
+    requires few { AreKeys nodes.old.slots }
+    requires stack { HasStack nodes.old.slots doomed }
+    ensures caps { Caps key cap nodes.old.slots nodes.new.slots }
+    ensures stack { HasStack nodes.new.slots result }
+{
+    let Some(node) = node_of(nodes, key) else {
+        return doomed;
+    };
+    if node.rights.is_empty() {
+        return doomed;
+    }
+    let rights = node.rights.intersection(cap);
+    if rights.is_empty() {
+        set_rights(nodes, key, rights, doomed);
+        return Link::to(key);
+    }
+    set_rights(nodes, key, rights, node.doomed);
+    doomed
+}
 
 /// The key that a list begins with once the node has left it, if it began with `first`.
 fn first_without(node: &Node, first: Link) -> Link

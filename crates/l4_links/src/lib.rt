@@ -12,37 +12,25 @@ ghost use Rattle.l4_spaces.specs.Tables.{IsPage, space_pages};
 mod blocks;
 mod burial;
 mod copying;
-mod keys;
 mod lists;
 mod names;
-mod nodes;
-mod packed;
 mod parents;
-mod slots;
 mod stamps;
+mod standings;
 mod walks;
 
 use blocks::{can_move_all, move_all};
-use keys::Link;
+use burial::cap_at;
 use l4_fpage::Rights;
+pub use l4_nodes::Place;
+use l4_nodes::{Link, Slots, node_of, set_plain, set_rights, set_source, set_wanted};
 pub use l4_spaces::NoMemory;
 use l4_spaces::Spaces;
 use names::{remove, take_over};
-use nodes::{cap_at, node_of, set_plain, set_rights, set_source, set_wanted, standing_of};
-use packed::Packed;
-use slots::Slots;
 use stamps::{SOURCES_WALK, fresh, stamp_for};
+use standings::standing_of;
 use std::alloc::Global;
 use std::marker::Model;
-
-/// A page of a space.
-#[derive(Clone, Copy, Debug, PartialEq, Eq)]
-pub struct Place {
-    /// The number of the space.
-    pub space: u64,
-    /// The page, below 2^22, in units of the size of the machine's pages.
-    pub page: u32,
-}
 
 /// What stands in the trees of mappings.
 #[derive(Clone, Copy, Debug, PartialEq, Eq)]
@@ -240,7 +228,7 @@ impl Links {
     {
         self.nodes.make_room()?;
         self.pages.prepare(place.space, &[place.page])?;
-        let key = self.nodes.insert_reserved(Packed::blank(place));
+        let key = self.nodes.insert_blank(place);
         self.pages.set(place.space, place.page, key);
         Ok(key)
     }

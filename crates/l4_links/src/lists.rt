@@ -3,21 +3,17 @@
 ghost use Rattle.std.specs.Prelude.{◌≡◌, ◌≢◌, ◌<◌, ◌+◌, ◌^◌, ◌++◌, ◌∷◌, [], ℕ, List, Option, Some, None, false};
 ghost use Rattle.l4_fpage.specs.Rights.{common};
 ghost use Rattle.l4_spaces.specs.Tables.{IsPage};
-ghost use Rattle.l4_links.specs.Inside.Keys.{IsKey};
+ghost use Rattle.l4_nodes.specs.Keys.{IsKey};
 ghost use Rattle.l4_links.specs.Inside.Trees.{Sprouts, Rises};
 ghost use Rattle.l4_links.specs.Inside.Orders.{TakesOut, first_of};
-ghost use Rattle.l4_links.specs.Inside.Nodes.{node_at, slot_at, spots, limbs, links, values, AreKeys, IsOrder, IsForest, Parts, TakesSlot, CutsOff, ClosesGap, Comes, child, AddsUnder, Prunes, Clears};
-ghost use Rattle.l4_links.specs.Inside.Joined.{HasRoom};
+ghost use Rattle.l4_nodes.specs.Slots.{node_at, slot_at, spots, HasRoom};
+ghost use Rattle.l4_links.specs.Inside.Nodes.{limbs, links, values, AreKeys, IsOrder, IsForest, Parts, TakesSlot, CutsOff, ClosesGap, Comes, child, AddsUnder, Prunes, Clears};
 ghost use Rattle.l4_links.specs.Inside.Keeping.{IsIndexed};
 
-use crate::Place;
-use crate::keys::Link;
 use crate::names::remove;
-use crate::nodes::{Node, child_depth, empty, is_wanted, node_of, set_next, set_prev, write};
-use crate::packed::Packed;
-use crate::slots::Slots;
 use crate::walks::is_leaf;
 use l4_fpage::Rights;
+use l4_nodes::{Link, Node, Place, Slots, empty, is_wanted, node_of, set_next, set_prev, write};
 use l4_spaces::Spaces;
 
 /// Takes the node out of its list. Its slot stays, as a blank.
@@ -76,6 +72,14 @@ fn close_gap(nodes: &mut Slots, top: usize, next: Link, gone: usize)
     let at = Link::to(top);
     set_next(nodes, at, next);
     set_prev(nodes, next, at);
+}
+
+/// How deep a child of the node stands. No node stands deeper than there are slots.
+fn child_depth(node: &Node, slots: usize) -> usize
+    requires { node.now.depth < slots }
+    ensures { result ≡ node.now.depth + 1 }
+{
+    node.depth + 1
 }
 
 /// The child of a node that stands under the key `parent`: it shows that node's frame, with what that node has of these rights, and
@@ -140,7 +144,7 @@ pub(crate) fn add_under(
     ensures { AddsUnder parent place above.now rights nodes.old.slots nodes.new.slots nodes.old.vacant_key }
 {
     let node = child_of(parent, above, rights, nodes.capacity());
-    let key = nodes.insert_reserved(Packed::of(place, node));
+    let key = nodes.insert_node(place, node);
     let at = Link::to(key);
     set_prev(nodes, above.next, at);
     set_next(nodes, Link::to(parent), at);

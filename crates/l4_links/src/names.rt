@@ -1,12 +1,12 @@
 //! The page tables, which name the key of each page.
 
 ghost use Rattle.std.specs.Prelude.{◌≡◌, ◌≢◌, ℕ, None};
-ghost use Rattle.l4_links.specs.Inside.Nodes.{slot_at, node_at, TakesOver};
+ghost use Rattle.l4_nodes.specs.Slots.{slot_at, node_at};
+ghost use Rattle.l4_links.specs.Inside.Nodes.{TakesOver};
 ghost use Rattle.l4_links.specs.Inside.Keeping.{IsIndexed};
 
-use crate::nodes::{give, place_of};
-use crate::slots::Slots;
 use l4_fpage::Rights;
+use l4_nodes::{Slots, give, place_of};
 use l4_spaces::Spaces;
 
 /// Takes the slot under the key away, if there is one, and its page's name.

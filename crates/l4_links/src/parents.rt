@@ -1,13 +1,13 @@
 //! Pages that others descend from.
 
-ghost use Rattle.std.specs.Prelude.{◌≡◌, ◌≤◌, ◌<◌, ◌+◌, ◌-◌, ◌⊎◌, ℕ, List, length, true, false, None, Some, MatchOption};
+ghost use Rattle.std.specs.Prelude.{◌≡◌, ◌≤◌, ◌<◌, ◌+◌, ◌-◌, ◌*◌, ◌⊎◌, ℕ, List, length, true, false, None, Some, IfSome, MatchOption};
 ghost use Rattle.l4_links.specs.Inside.Nodes.{IsForest};
-ghost use Rattle.l4_links.specs.Inside.Parents.{IsParent, IsParentKey, NoParents, IsFirstParent, NoParentPage, IsParentPage};
+ghost use Rattle.l4_spaces.specs.Tables.{row_block};
+ghost use Rattle.l4_links.specs.Inside.Parents.{IsParent, IsParentKey, NoParents, NoParentsInBlock, IsFirstParent, NoParentPage, IsParentPage};
 
-use crate::nodes::node_of;
-use crate::slots::Slots;
 use crate::walks::is_leaf;
-use l4_spaces::{Row, Spaces};
+use l4_nodes::{Slots, node_of};
+use l4_spaces::{BLOCK, Row, Spaces};
 
 /// Whether something descends from the key.
 #[inline]
@@ -48,8 +48,7 @@ fn parent_at(nodes: &Slots, row: &Row, low: usize) -> Option<usize>
 }
 
 /// The first place of a table from this one on and before the end with a key that something descends from, and the key.
-#[inline(never)]
-fn parent_in(nodes: &Slots, row: &Row, from: usize, end: usize) -> Option<(usize, usize)>
+fn parent_among(nodes: &Slots, row: &Row, from: usize, end: usize) -> Option<(usize, usize)>
     requires forest { (keys : List ℕ) × IsForest nodes.now.slots keys }
     requires within { end ≤ length row.now }
     ensures { MatchOption result (NoParents nodes.now.slots row.now from end) (λ found. IsFirstParent nodes.now.slots row.now from end found.0 found.1) }
@@ -57,6 +56,44 @@ fn parent_in(nodes: &Slots, row: &Row, from: usize, end: usize) -> Option<(usize
     for low in from..end {
         if let Some(key) = parent_at(nodes, row, low) {
             return Some((low, key));
+        }
+    }
+    None
+}
+
+/// The same, of the places of one block.
+#[inline]
+fn parent_in_block(
+    nodes: &Slots,
+    row: &Row,
+    from: usize,
+    end: usize,
+    block: usize,
+) -> Option<(usize, usize)>
+    requires forest { (keys : List ℕ) × IsForest nodes.now.slots keys }
+    requires within { end ≤ length row.now }
+    requires begun { block * row_block ≤ end }
+    ensures none { MatchOption result (NoParentsInBlock nodes.now.slots row.now from end block) (λ found. NoParentsInBlock nodes.now.slots row.now from found.0 block) }
+    ensures some { IfSome result (λ found. IsParentKey nodes.now.slots row.now found.0 found.1 × (from ≤ found.0) × (found.0 < end) × (found.0 < block * row_block + row_block)) }
+{
+    if !row.is_used(block) {
+        return None;
+    }
+    let start = block * BLOCK;
+    let places = (end - start).min(BLOCK);
+    parent_among(nodes, row, from.max(start), start + places)
+}
+
+/// The same, of all places. A block that is not used is stepped over.
+#[inline(never)]
+fn parent_in(nodes: &Slots, row: &Row, from: usize, end: usize) -> Option<(usize, usize)>
+    requires forest { (keys : List ℕ) × IsForest nodes.now.slots keys }
+    requires within { end ≤ length row.now }
+    ensures { MatchOption result (NoParents nodes.now.slots row.now from end) (λ found. IsFirstParent nodes.now.slots row.now from end found.0 found.1) }
+{
+    for block in from / BLOCK..end / BLOCK + 1 {
+        if let Some(found) = parent_in_block(nodes, row, from, end, block) {
+            return Some(found);
         }
     }
     None

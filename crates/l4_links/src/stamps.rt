@@ -4,7 +4,7 @@ ghost use Rattle.std.specs.Prelude.{◌≡◌, ◌≢◌, ◌⊎◌};
 ghost use Rattle.l4_links.specs.Inside.Nodes.{IsSame, AreUnmarked};
 ghost use Rattle.l4_links.specs.Inside.Keeping.{IsFresh, BeginsWalk, sources_walk};
 
-use crate::slots::Slots;
+use l4_nodes::Slots;
 
 /// The number of a walk for sources. A walk that caps rights has the number of their bits, which is less.
 pub(crate) const SOURCES_WALK: u8 = 8;
@@ -25,7 +25,7 @@ fn unmark_all(nodes: &mut Slots)
     ensures same { IsSame nodes.old.slots nodes.new.slots }
     ensures unmarked { AreUnmarked nodes.new.slots }
 {
-    nodes.notes.clear();
+    nodes.clear_notes();
 }
 
 /// The stamp for a walk: the last one, where that walk was for the same, or a fresh one. Where the stamps have run out they begin

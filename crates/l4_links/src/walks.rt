@@ -4,12 +4,12 @@ ghost use Rattle.std.specs.Prelude.{◌≡◌, ◌≢◌, ◌≤◌, ℕ, List, 
 ghost use Rattle.l4_links.specs.Leads.{Leads};
 ghost use Rattle.l4_links.specs.Inside.Trees.{parent_at};
 ghost use Rattle.l4_links.specs.Inside.Stacks.{HasStack};
-ghost use Rattle.l4_links.specs.Inside.Nodes.{node_at, limbs, AreKeys, IsForest, HasMarks, CapsBelow, HasSeen, IsSame, Meets, NoneMet, IsMarked, IsStamped};
+ghost use Rattle.l4_nodes.specs.Slots.{node_at};
+ghost use Rattle.l4_links.specs.Inside.Nodes.{limbs, AreKeys, IsForest, HasMarks, CapsBelow, HasSeen, IsSame, Meets, NoneMet, IsMarked, IsStamped};
 
-use crate::keys::Link;
-use crate::nodes::{Node, cap_at, close, node_of, see};
-use crate::slots::Slots;
+use crate::burial::cap_at;
 use l4_fpage::Rights;
+use l4_nodes::{Link, Node, Slots, close, node_of, see};
 
 /// Where the walk goes on: after the run of a node that it has been over, and else at the next node.
 fn onward(node: &Node, stamp: u32) -> Link

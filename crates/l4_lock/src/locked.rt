@@ -76,6 +76,13 @@ impl Locked {
         Ok((locked, board, watches))
     }
 
+    /// How many frames the kernel booted with.
+    pub fn frames(&self) -> u32
+        ensures { result ≡ self.now.frames }
+    {
+        self.recorder.frames()
+    }
+
     /// The kernel.
     pub fn kernel(&self) -> &Kernel
         ensures { result.now ≡ self.now.kernel }

@@ -1,14 +1,14 @@
 -- Where a message has made way, none of its moves is done.
 use Rattle.std.proofs.Common.{◌≡◌, ℕ, Bool, true, false, List, Option, Some, None, option_map, unwrap_or, subst, refl, sym, ap, ◌∙◌, inl, inr, ◌⊎◌, arith}
-use Rattle.l4_links.specs.declared.Place.{Place as LinkPlace}
+use Rattle.l4_nodes.specs.declared.Place.{Place as LinkPlace}
 use Rattle.l4_links.specs.declared.Standing.{Standing}
 use Rattle.l4_links.specs.declared.Entry.{Entry}
 use Rattle.l4_links.specs.Entries.{Linked, entry_at}
 use Rattle.l4_mapdb.specs.declared.ItemMove.{ItemMove}
 use Rattle.l4_mapdb.specs.Transfer.{PageMove, IsUsed, IsGone}
 use Rattle.l4_mapdb.proofs.Unique.{same_value}
-use Rattle.l4_mapdb.specs.Inside.View.{map_place, mappings_of}
-use Rattle.l4_mapdb.specs.Inside.Kept.{IsClean}
+use Rattle.l4_mapdb.specs.View.{map_place, mappings_of}
+use Rattle.l4_mapdb.specs.Delivering.{IsClean}
 use Rattle.l4_mapdb.specs.Inside.Messages.{IsTargetOf, Cleared}
 use Rattle.l4_mapdb.specs.Inside.Placing.{IsStart, Placed, IsDone, IsTarget, IsBefore, earlier, same}
 

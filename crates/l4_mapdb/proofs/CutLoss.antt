@@ -2,7 +2,7 @@
 use Rattle.std.proofs.Common.{◌≡◌, ◌≢◌, ℕ, ◌^◌, Bool, true, false, List, length, Option, Some, None, option_and_then, option_map, ◌↔◌, ◌⊎◌, inl, inr, IsTrue, refl, sym, ap, ◌∙◌, subst, arith}
 use Rattle.std.proofs.lemmas.Option.{slice_get_within}
 use Rattle.l4_fpage.specs.Rights.{RightsSet, Right, has, no_rights}
-use Rattle.l4_links.specs.declared.Place.{Place as LinkPlace}
+use Rattle.l4_nodes.specs.declared.Place.{Place as LinkPlace}
 use Rattle.l4_links.specs.declared.Standing.{Standing}
 use Rattle.l4_links.specs.declared.Entry.{Entry}
 use Rattle.l4_links.specs.Leads.{step, steps}
@@ -15,7 +15,7 @@ use Rattle.l4_mapdb.specs.Mappings as map
 use Rattle.l4_mapdb.specs.Losing.{LosesRights}
 use Rattle.l4_mapdb.specs.Transfer.{PageMove, IsGone, IsCut}
 use Rattle.l4_mapdb.proofs.Unique.{same_value, same_rights}
-use Rattle.l4_mapdb.specs.Inside.View.{link_place, map_place, place_at, mapping_of, mappings_of}
+use Rattle.l4_mapdb.specs.View.{link_place, map_place, place_at, mapping_of, mappings_of}
 use Rattle.l4_mapdb.specs.Inside.Cutting.{bare, IsGrantedAt, IsOrBelow, Capped, IsGrantBelow}
 use Rattle.l4_mapdb.specs.Inside.Placing.{IsStart, Used, IsTarget, Placed}
 use Rattle.l4_mapdb.specs.Inside.Settling.{left_by, settled_standing, settled_entry, settled}

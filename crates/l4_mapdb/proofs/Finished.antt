@@ -2,7 +2,7 @@
 use Rattle.std.proofs.Common.{◌≡◌, ◌≢◌, ℕ, ◌^◌, Bool, true, false, List, length, Option, Some, None, option_and_then, option_map, inl, inr, refl, sym, ap, ◌∙◌, subst, slice_get, arith}
 use Rattle.std.proofs.lemmas.Option.{slice_get_within}
 use Rattle.l4_fpage.specs.Rights.{no_rights}
-use Rattle.l4_links.specs.declared.Place.{Place as LinkPlace}
+use Rattle.l4_nodes.specs.declared.Place.{Place as LinkPlace}
 use Rattle.l4_links.specs.declared.Standing.{Standing}
 use Rattle.l4_links.specs.declared.Entry.{Entry}
 use Rattle.l4_links.specs.Entries.{Entries, Linked, entry_at, standing_at, HavePlaces, AreTrees, Buries}
@@ -13,8 +13,9 @@ use Rattle.l4_mapdb.specs.Mappings.{Mappings}
 use Rattle.l4_mapdb.specs.Losing.{LosesRights}
 use Rattle.l4_mapdb.specs.Transfer.{PageMove, IsGone, IsCut, Delivers}
 use Rattle.l4_mapdb.proofs.Unique.{same_value}
-use Rattle.l4_mapdb.specs.Inside.View.{link_place, map_place, place_at, mapping_of, mappings_of, IsShown}
-use Rattle.l4_mapdb.specs.Inside.Kept.{IsPlain, IsClean, RootsKnown}
+use Rattle.l4_mapdb.specs.View.{link_place, map_place, place_at, mapping_of, mappings_of}
+use Rattle.l4_mapdb.specs.Inside.View.{IsShown}
+use Rattle.l4_mapdb.specs.Delivering.{IsPlain, IsClean, RootsKnown}
 use Rattle.l4_mapdb.specs.Inside.Cutting.{bare, Capped, IsGrantBelow}
 use Rattle.l4_mapdb.specs.Inside.Messages.{plain, tidied, Tidies, OfItems}
 use Rattle.l4_mapdb.specs.Inside.Placing.{IsStart, Used, IsTarget, Placed}

@@ -2,7 +2,7 @@
 use Rattle.std.proofs.Common.{◌≡◌, ◌≢◌, ℕ, false, List, Option, Some, None, is_some, IsTrue, option_and_then, option_map, refl, sym, ap, ◌∙◌, subst, slice_get, inl, inr}
 use Rattle.std.proofs.lemmas.Bool.{false≢true}
 use Rattle.l4_fpage.specs.Rights.{common, Right, no_rights}
-use Rattle.l4_links.specs.declared.Place.{Place as LinkPlace}
+use Rattle.l4_nodes.specs.declared.Place.{Place as LinkPlace}
 use Rattle.l4_links.specs.declared.Standing.{Standing}
 use Rattle.l4_links.specs.declared.Entry.{Entry}
 use Rattle.l4_links.specs.Leads.{step}
@@ -14,10 +14,11 @@ use Rattle.l4_mapdb.specs.declared.sources.UsedMove.{UsedMove}
 use Rattle.l4_mapdb.specs.Mappings.{Mappings, shown}
 use Rattle.l4_mapdb.specs.Losing.{LosesRights}
 use Rattle.l4_mapdb.specs.Transfer.{PageMove, IsUsed, IsEntangled, IsGranted, IsGone, IsMapped, Stays, ParentLater, Becomes, Moved, IsCut, Delivers}
-use Rattle.l4_mapdb.specs.Inside.View.{map_place, place_at, mapping_of, mappings_of, link_place, IsShown}
-use Rattle.l4_mapdb.specs.Inside.Kept.{IsClean, RootsKnown}
+use Rattle.l4_mapdb.specs.View.{map_place, place_at, mapping_of, mappings_of, link_place}
+use Rattle.l4_mapdb.specs.Inside.View.{IsShown}
+use Rattle.l4_mapdb.specs.Delivering.{IsClean, RootsKnown, IsDelivered}
 use Rattle.l4_mapdb.specs.Inside.Messages.{IsMoved}
-use Rattle.l4_mapdb.specs.Inside.Growing.{AreMaps, child_of, IsGround, IsTargetHere, Mapped, IsDelivered}
+use Rattle.l4_mapdb.specs.Inside.Growing.{AreMaps, child_of, IsGround, IsTargetHere, Mapped}
 use Rattle.l4_mapdb.proofs.Unique.{same_value}
 use Rattle.l4_mapdb.proofs.Moves.{found_of, one_by, is_at}
 use Rattle.l4_mapdb.proofs.Nothing.{left_same}

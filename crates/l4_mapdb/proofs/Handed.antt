@@ -2,7 +2,7 @@
 use Rattle.std.proofs.Common.{◌≡◌, ◌≢◌, ℕ, Bool, true, false, ◌&&◌, length, List, Option, Some, None, IsTrue, option_and_then, option_map, refl, sym, ap, ◌∙◌, subst, slice_get, inl, inr}
 use Rattle.std.specs.FinSet as set
 use Rattle.l4_fpage.specs.Rights.{RightsSet, Right, Read, Write, Execute, has, common, no_rights, Within}
-use Rattle.l4_links.specs.declared.Place.{Place as LinkPlace}
+use Rattle.l4_nodes.specs.declared.Place.{Place as LinkPlace}
 use Rattle.l4_links.specs.declared.Standing.{Standing}
 use Rattle.l4_links.specs.declared.Entry.{Entry}
 use Rattle.l4_links.specs.Entries.{Linked, entry_at, IsAt, HavePlaces}
@@ -13,11 +13,11 @@ use Rattle.l4_mapdb.specs.declared.sources.UsedMove.{UsedMove}
 use Rattle.l4_mapdb.specs.Mappings.{shown}
 use Rattle.l4_mapdb.specs.Losing.{LosesRights}
 use Rattle.l4_mapdb.specs.Transfer.{PageMove, IsUsed, IsEntangled, IsGranted, IsGone, StandsAt, ParentLater, Becomes, Moved, IsCut}
-use Rattle.l4_mapdb.specs.Inside.View.{link_place, map_place, place_at, mapping_of, mappings_of}
-use Rattle.l4_mapdb.specs.Inside.Kept.{IsClean, RootsKnown}
+use Rattle.l4_mapdb.specs.View.{link_place, map_place, place_at, mapping_of, mappings_of}
+use Rattle.l4_mapdb.specs.Delivering.{IsClean, RootsKnown, IsDelivered}
 use Rattle.l4_mapdb.specs.Inside.Messages.{plain, IsMoved}
 use Rattle.l4_mapdb.specs.Inside.Tangles.{AreApart}
-use Rattle.l4_mapdb.specs.Inside.Growing.{IsGround, IsDelivered}
+use Rattle.l4_mapdb.specs.Inside.Growing.{IsGround}
 use Rattle.l4_mapdb.specs.Inside.Granting.{AreGrants, handed_to, IsGiven, Handed}
 use Rattle.l4_mapdb.proofs.Unique.{same_value}
 use Rattle.l4_mapdb.proofs.Single.{KnownMoves, becomes_one}

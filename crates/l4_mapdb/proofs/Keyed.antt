@@ -1,7 +1,7 @@
 -- The used moves by keys are those of the mappings, and what they entangle and take with them is the same.
 use Rattle.std.proofs.Common.{◌≡◌, ℕ, true, false, List, Option, Some, None, is_some, option_map, refl, sym, ap, ◌∙◌, subst, inl, inr, ◌⊎◌}
 use Rattle.l4_fpage.specs.Rights.{common}
-use Rattle.l4_links.specs.declared.Place.{Place as LinkPlace}
+use Rattle.l4_nodes.specs.declared.Place.{Place as LinkPlace}
 use Rattle.l4_links.specs.declared.Standing.{Standing}
 use Rattle.l4_links.specs.declared.Entry.{Entry}
 use Rattle.l4_links.specs.Entries.{Linked, entry_at, standing_at, IsStanding, HavePlaces, AreTrees, IsAt}
@@ -13,7 +13,7 @@ use Rattle.l4_mapdb.specs.Mappings.{shown, IsPresent, IsOrDescends}
 use Rattle.l4_mapdb.specs.Transfer.{PageMove, IsUsed, IsEntangled}
 use Rattle.l4_mapdb.proofs.Unique.{same_value}
 use Rattle.l4_mapdb.specs.declared.sources.UsedMove.{UsedMove}
-use Rattle.l4_mapdb.specs.Inside.View.{link_place, map_place, mapping_of, mappings_of}
+use Rattle.l4_mapdb.specs.View.{link_place, map_place, mapping_of, mappings_of}
 use Rattle.l4_mapdb.specs.Inside.Messages.{plain, IsMoved}
 use Rattle.l4_mapdb.specs.Inside.Tangles.{HasTangle}
 use Rattle.l4_mapdb.proofs.View.{key_shows, shown_by_key, descends_by_key, stands_at}

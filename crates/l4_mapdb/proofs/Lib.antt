@@ -1,12 +1,9 @@
-pub mod Absent
 pub mod Along
 pub mod Apart
 pub mod Waiting
 pub mod Clashing
 pub mod Climbing
-pub mod Ended
 pub mod EntriesLemmas
-pub mod ForestEnds
 pub mod ForestKept
 pub mod ForestMoved
 pub mod Nothing
@@ -19,15 +16,11 @@ pub mod Unique
 pub mod UsedMoves
 pub mod AllDone
 pub mod Begun
-pub mod Buried
 pub mod CapLoops
-pub mod Capped
 pub mod Caps
-pub mod Cut
 pub mod CutLoss
 pub mod Deciding
 pub mod Finished
-pub mod FirstPlaces
 pub mod Gone
 pub mod Handed
 pub mod Grown
@@ -43,7 +36,6 @@ pub mod PageWalk
 pub mod Placed
 pub mod OneGrant
 pub mod Prepared
-pub mod Presence
 pub mod Restored
 pub mod RoomMade
 pub mod RenewSteps
@@ -52,10 +44,7 @@ pub mod Rooming
 pub mod SameRights
 pub mod Sourced
 pub mod Spacing
-pub mod SpaceGone
-pub mod Taken
 pub mod Tangling
 pub mod Tidying
 pub mod Unchanged
 pub mod View
-pub mod Passing

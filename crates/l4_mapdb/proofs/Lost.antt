@@ -1,7 +1,7 @@
 -- Rights that keys lose, and rights that places lose.
 use Rattle.std.proofs.Common.{◌≡◌, ◌≢◌, ℕ, Option, Some, None, IsTrue, ◌↔◌, refl, sym, ap, ◌∙◌, subst, option_and_then, option_map}
 use Rattle.l4_fpage.specs.Rights.{RightsSet, Right, has, no_rights}
-use Rattle.l4_links.specs.declared.Place.{Place as LinkPlace}
+use Rattle.l4_nodes.specs.declared.Place.{Place as LinkPlace}
 use Rattle.l4_links.specs.declared.Standing.{Standing}
 use Rattle.l4_links.specs.declared.Entry.{Entry}
 use Rattle.l4_links.specs.Entries.{Entries, Linked, entry_at, HavePlaces, AreTrees}
@@ -10,7 +10,7 @@ use Rattle.l4_mapdb.specs.declared.Mapping.{Mapping}
 use Rattle.l4_mapdb.specs.Mappings.{shown}
 use Rattle.l4_mapdb.specs.Losing.{IsLeft, LosesRights}
 use Rattle.l4_mapdb.proofs.Unique.{same_rights}
-use Rattle.l4_mapdb.specs.Inside.View.{link_place, map_place, place_at, mapping_of, mappings_of}
+use Rattle.l4_mapdb.specs.View.{link_place, map_place, place_at, mapping_of, mappings_of}
 use Rattle.l4_mapdb.proofs.View.{shown_by_key, stands_at, some_standing}
 
 -- the second is the first without these rights, of which there is one

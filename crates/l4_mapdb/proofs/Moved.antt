@@ -4,7 +4,7 @@ use Rattle.std.proofs.Math.ListN.{get_or-map}
 use Rattle.std.specs.FinSet as set
 use Rattle.l4_spaces.specs.Tables.{IsPage}
 use Rattle.l4_fpage.specs.Rights.{RightsSet, common}
-use Rattle.l4_links.specs.declared.Place.{Place as LinkPlace}
+use Rattle.l4_nodes.specs.declared.Place.{Place as LinkPlace}
 use Rattle.l4_links.specs.declared.Standing.{Standing}
 use Rattle.l4_links.specs.declared.Entry.{Entry}
 use Rattle.l4_links.specs.Entries.{Linked, entry_at, IsAt, HavePlaces}
@@ -16,7 +16,7 @@ use Rattle.l4_mapdb.specs.Transfer.{PageMove, IsGone, StandsAt, ParentLater, Bec
 use Rattle.l4_mapdb.proofs.Single.{KnownMoves, one_grant, becomes_one}
 use Rattle.l4_mapdb.proofs.ForestKept.{decide}
 use Rattle.l4_mapdb.proofs.UsedMoves.{known_moves}
-use Rattle.l4_mapdb.specs.Inside.View.{link_place, map_place, place_at, mapping_of, mappings_of}
+use Rattle.l4_mapdb.specs.View.{link_place, map_place, place_at, mapping_of, mappings_of}
 use Rattle.l4_mapdb.specs.Inside.Placing.{IsStart, Used, IsTarget, HasGone, IsLeftAt, Placed}
 use Rattle.l4_mapdb.specs.Inside.Settling.{left_by, settled_standing, settled_entry, settled}
 use Rattle.l4_mapdb.proofs.View.{key_shows, shown_by_key, some_standing, one_entry}

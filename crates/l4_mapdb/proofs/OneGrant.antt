@@ -1,7 +1,7 @@
 -- A message with one item, which grants: its pages are those of a block, and all of them are handed over at once.
 use Rattle.std.proofs.Common.{◌≡◌, ℕ, zero, suc, ◌+◌, ◌-◌, ◌^◌, ◌⊎◌, false, List, [], ◌∷◌, length, Option, Some, None, refl, sym, ap, ◌∙◌, subst, slice_get, inl, inr, arith}
 use Rattle.l4_fpage.specs.Rights.{Within, common}
-use Rattle.l4_links.specs.declared.Place.{Place as LinkPlace}
+use Rattle.l4_nodes.specs.declared.Place.{Place as LinkPlace}
 use Rattle.l4_links.specs.declared.Standing.{Standing}
 use Rattle.l4_links.specs.declared.Entry.{Entry}
 use Rattle.l4_links.specs.Entries.{Linked, entry_at, IsAt, IsInPages, moved_place, MovesPages, LacksPlace}

@@ -1,7 +1,7 @@
 -- The walk over the pages of an item of the kind whose moves are carried out.
 use Rattle.std.proofs.Common.{◌≡◌, ℕ, ◌+◌, ◌-◌, ◌<◌, ◌≤◌, ◌^◌, Bool, true, false, List, Some, option_map, ◌⊎◌, inl, inr, sym, ap, ◌∙◌, subst, slice_get, arith}
 use Rattle.std.proofs.lemmas.Bool.{cases_lt}
-use Rattle.l4_links.specs.declared.Place.{Place as LinkPlace}
+use Rattle.l4_nodes.specs.declared.Place.{Place as LinkPlace}
 use Rattle.l4_links.specs.declared.Entry.{Entry}
 use Rattle.l4_links.specs.declared.Standing.{Standing}
 use Rattle.l4_links.specs.Entries.{Linked, entry_at, IsAt, HasKey, HavePlaces}
@@ -9,7 +9,7 @@ use Rattle.l4_mapdb.specs.declared.ItemMove.{ItemMove}
 use Rattle.l4_mapdb.specs.Transfer.{PageMove, IsGone}
 use Rattle.l4_mapdb.proofs.Single.{one_grant}
 use Rattle.l4_mapdb.proofs.UsedMoves.{known_moves}
-use Rattle.l4_mapdb.specs.Inside.View.{link_place, map_place, mappings_of}
+use Rattle.l4_mapdb.specs.View.{link_place, map_place, mappings_of}
 use Rattle.l4_mapdb.specs.Inside.Placing.{IsStart, Used, blank_for, HasGone, IsBefore, earlier, same, IsDone, MapsPage, GrantsPage, MovesPage, MovesNone, HasBlank, Placed}
 use Rattle.l4_mapdb.proofs.Placed.{same_link, placed_as, placed_map, placed_grant}
 use Rattle.l4_mapdb.proofs.Sourced.{source_stays, stood, MoveHere, move_here, none_here, blank_here}

@@ -2,7 +2,7 @@
 use Rattle.std.proofs.Common.{◌≡◌, ◌≢◌, ℕ, true, false, List, Option, Some, None, option_and_then, option_map, ◌↔◌, ◌⊎◌, inl, inr, IsTrue, refl, sym, ap, ◌∙◌, subst, slice_get, ◌==◌, arith}
 use Rattle.std.proofs.lemmas.Bool.Decides.{nat_tests}
 use Rattle.l4_fpage.specs.Rights.{RightsSet, common}
-use Rattle.l4_links.specs.declared.Place.{Place as LinkPlace}
+use Rattle.l4_nodes.specs.declared.Place.{Place as LinkPlace}
 use Rattle.l4_links.specs.declared.Standing.{Standing}
 use Rattle.l4_links.specs.declared.Entry.{Entry}
 use Rattle.l4_links.specs.Entries.{Entries, Linked, entry_at, standing_at, IsAt, Sprouts, TakesOver}
@@ -10,7 +10,7 @@ use Rattle.l4_mapdb.specs.declared.Place.{Place}
 use Rattle.l4_mapdb.specs.declared.ItemMove.{ItemMove}
 use Rattle.l4_mapdb.specs.Transfer.{PageMove}
 use Rattle.l4_mapdb.proofs.Single.{KnownMoves, one_target}
-use Rattle.l4_mapdb.specs.Inside.View.{link_place, mappings_of}
+use Rattle.l4_mapdb.specs.View.{link_place, mappings_of}
 use Rattle.l4_mapdb.specs.Inside.Placing.{IsStart, Used, blank_for, HasGone, HasChild, Placed}
 
 -- numbers are the same or not

@@ -1,6 +1,6 @@
 -- What a message has made way for.
 use Rattle.std.proofs.Common.{◌≡◌, ℕ, Bool, true, false, if◌then◌else◌, List, Option, Some, None, option_and_then, option_map, refl, sym, ap, ◌∙◌, subst, inl, inr}
-use Rattle.l4_links.specs.declared.Place.{Place as LinkPlace}
+use Rattle.l4_nodes.specs.declared.Place.{Place as LinkPlace}
 use Rattle.l4_links.specs.declared.Standing.{Standing}
 use Rattle.l4_links.specs.declared.Entry.{Entry}
 use Rattle.l4_links.specs.Leads.{Leads, step, steps}
@@ -14,8 +14,8 @@ use Rattle.l4_mapdb.specs.Causes.{HasCause}
 use Rattle.l4_mapdb.specs.Transfer.{PageMove, IsUsed, IsGone, IsEntangled, TargetsPresent}
 use Rattle.l4_mapdb.proofs.Unique.{same_value}
 use Rattle.l4_mapdb.specs.declared.sources.UsedMove.{UsedMove}
-use Rattle.l4_mapdb.specs.Inside.View.{link_place, map_place, mappings_of}
-use Rattle.l4_mapdb.specs.Inside.Kept.{IsClean}
+use Rattle.l4_mapdb.specs.View.{link_place, map_place, mappings_of}
+use Rattle.l4_mapdb.specs.Delivering.{IsClean}
 use Rattle.l4_mapdb.specs.Inside.Messages.{plain, stand_at, StandAlike, IsMoved, IsWanted, Goes, IsClearedAt, Roomed, IsTargetOf, Cleared, LacksKey}
 use Rattle.l4_mapdb.specs.Inside.Tangles.{HasTangle}
 use Rattle.l4_mapdb.proofs.Moves.{with_place, stand_of, stands_as, found_of, is_at, entry_of, move_at}

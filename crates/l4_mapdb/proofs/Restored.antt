@@ -1,14 +1,14 @@
 -- What was marked and is marked no longer is as it was.
 use Rattle.std.proofs.Common.{◌≡◌, ℕ, ◌^◌, Bool, true, false, List, length, Option, Some, None, option_and_then, option_map, refl, sym, ap, ◌∙◌, subst, inl, inr, ◌⊎◌, arith}
 use Rattle.std.proofs.lemmas.Option.{slice_get_within}
-use Rattle.l4_links.specs.declared.Place.{Place as LinkPlace}
+use Rattle.l4_nodes.specs.declared.Place.{Place as LinkPlace}
 use Rattle.l4_links.specs.declared.Standing.{Standing}
 use Rattle.l4_links.specs.declared.Entry.{Entry}
 use Rattle.l4_links.specs.Entries.{Entries, Linked, entry_at, standing_at, IsStanding, parent_of, IsAt, IsSource, Descends}
 use Rattle.l4_mapdb.specs.declared.ItemMove.{ItemMove}
 use Rattle.l4_mapdb.proofs.Unique.{same_value}
 use Rattle.l4_mapdb.specs.declared.sources.UsedMove.{UsedMove}
-use Rattle.l4_mapdb.specs.Inside.Kept.{IsClean}
+use Rattle.l4_mapdb.specs.Delivering.{IsClean}
 use Rattle.l4_mapdb.specs.Inside.Messages.{plain, stand_at, StandAlike, IsMoved, IsWaiting, Marks, tidied, Tidies, OfItems, Wants, IsFilled}
 use Rattle.l4_mapdb.specs.Inside.Tangles.{Clashes, Tangles, HasTangle, SourcesAre}
 use Rattle.l4_mapdb.proofs.Leading.{leads_along}

@@ -1,6 +1,6 @@
 -- Sources are marked and targets wanted, one used move after another.
 use Rattle.std.proofs.Common.{◌≡◌, ℕ, ◌+◌, ◌<◌, Bool, true, false, ◌||◌, List, Option, Some, None, option_and_then, option_map, refl, sym, ap, ◌∙◌, subst, inl, inr}
-use Rattle.l4_links.specs.declared.Place.{Place as LinkPlace}
+use Rattle.l4_nodes.specs.declared.Place.{Place as LinkPlace}
 use Rattle.l4_links.specs.declared.Standing.{Standing}
 use Rattle.l4_links.specs.declared.Entry.{Entry}
 use Rattle.l4_links.specs.Entries.{Entries, Linked, entry_at, IsStanding, HavePlaces, AreTrees, IsAt, SetsSource, cut_off}
@@ -8,7 +8,7 @@ use Rattle.l4_mapdb.specs.declared.ItemMove.{ItemMove}
 use Rattle.l4_mapdb.specs.declared.Cause.{Cause}
 use Rattle.l4_mapdb.specs.declared.Cause.TheVariants.{Entangled, NoMemory}
 use Rattle.l4_mapdb.specs.declared.sources.UsedMove.{UsedMove}
-use Rattle.l4_mapdb.specs.Inside.Kept.{IsClean}
+use Rattle.l4_mapdb.specs.Delivering.{IsClean}
 use Rattle.l4_mapdb.specs.Inside.Messages.{StandAlike, IsMoved, turn, turn_of, IsNextMove, IsWanted, IsFilled, Wants, Marks, SourcesMarked, Goes, IsClearedAt, Roomed, AreAbsent, LacksKey}
 use Rattle.l4_mapdb.specs.Inside.Tangles.{NoneReplaced}
 use Rattle.l4_mapdb.proofs.Unique.{same_value}

@@ -2,7 +2,7 @@
 use Rattle.std.proofs.Common.{◌≡◌, ℕ, ◌+◌, ◌<◌, ◌≤◌, ◌^◌, true, List, Option, Some, None, IsTrue, option_map, refl, sym, ap, ◌∙◌, subst, inl, inr, arith}
 use Rattle.std.specs.FinSet as set
 use Rattle.std.specs.Ordering.{nat_cmp}
-use Rattle.l4_links.specs.declared.Place.{Place as LinkPlace}
+use Rattle.l4_nodes.specs.declared.Place.{Place as LinkPlace}
 use Rattle.l4_links.specs.declared.Entry.{Entry}
 use Rattle.l4_links.specs.Entries.{Entries, entry_at, IsAt, AddsBlank, SetsWanted}
 use Rattle.l4_mapdb.specs.declared.ItemMove.{ItemMove}

@@ -1,14 +1,15 @@
 -- The used moves out of a page, and what stands at the page while moves are carried out.
 use Rattle.std.proofs.Common.{◌≡◌, ℕ, ◌+◌, ◌-◌, ◌<◌, ◌≤◌, ◌^◌, Bool, true, false, List, Option, Some, None, option_and_then, option_map, inl, inr, IsTrue, refl, sym, ap, ◌∙◌, subst, slice_get, arith}
 use Rattle.l4_fpage.specs.Rights.{RightsSet, common}
-use Rattle.l4_links.specs.declared.Place.{Place as LinkPlace}
+use Rattle.l4_nodes.specs.declared.Place.{Place as LinkPlace}
 use Rattle.l4_links.specs.declared.Standing.{Standing}
 use Rattle.l4_links.specs.declared.Entry.{Entry}
 use Rattle.l4_links.specs.Entries.{Linked, entry_at, IsAt, HavePlaces}
 use Rattle.l4_mapdb.specs.declared.ItemMove.{ItemMove}
 use Rattle.l4_mapdb.specs.Mappings.{shown}
 use Rattle.l4_mapdb.specs.Transfer.{PageMove, IsGone}
-use Rattle.l4_mapdb.specs.Inside.View.{link_place, map_place, mapping_of, mappings_of, IsShown}
+use Rattle.l4_mapdb.specs.View.{link_place, map_place, mapping_of, mappings_of}
+use Rattle.l4_mapdb.specs.Inside.View.{IsShown}
 use Rattle.l4_mapdb.specs.Inside.Placing.{IsStart, Used, blank_for, IsTarget, HasGone, Placed, IsSourceAt, MovesNone, HasBlank}
 use Rattle.l4_mapdb.proofs.View.{key_shows, shown_by_key, some_standing, some_entry, one_entry}
 

@@ -4,7 +4,8 @@ use Rattle.l4_links.specs.declared.Entry.{Entry}
 use Rattle.l4_links.specs.Entries.{Entries, Linked, entry_at, HavePlaces}
 use Rattle.l4_mapdb.specs.declared.Place.{Place}
 use Rattle.l4_mapdb.specs.declared.Mapping.{Mapping}
-use Rattle.l4_mapdb.specs.Inside.View.{map_place, place_at, mapping_of, mappings_of, IsShown}
+use Rattle.l4_mapdb.specs.View.{map_place, place_at, mapping_of, mappings_of}
+use Rattle.l4_mapdb.specs.Inside.View.{IsShown}
 use Rattle.l4_mapdb.proofs.View.{same_view}
 
 same_shown : (a b : Entries) → ((key : ℕ) → entry_at b key ≡ entry_at a key) → (place : Place) (m : Mapping) → IsShown a place m → IsShown b place m

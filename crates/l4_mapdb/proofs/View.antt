@@ -3,7 +3,7 @@ use Rattle.std.proofs.Common.{◌≡◌, ℕ, zero, suc, true, false, cond, List
 use Rattle.std.specs.FinMap.{find, get-from_entries}
 use Rattle.std.specs.List.{cons_option}
 use Rattle.std.specs.Ordering.{eq_by_cmp}
-use Rattle.l4_links.specs.declared.Place.{Place as LinkPlace}
+use Rattle.l4_nodes.specs.declared.Place.{Place as LinkPlace}
 use Rattle.l4_links.specs.declared.Standing.{Standing}
 use Rattle.l4_links.specs.declared.Entry.{Entry}
 use Rattle.l4_links.specs.Leads.{step, steps}
@@ -15,7 +15,8 @@ use Rattle.l4_mapdb.specs.Mappings.{place_cmp, shown, parent_of, Descends, child
 use Rattle.l4_mapdb.proofs.Places.{places_total, same_option, same_mappings}
 use Rattle.l4_mapdb.proofs.EntriesLemmas.{tie, untie}
 use Rattle.l4_mapdb.proofs.Unique.{same_value}
-use Rattle.l4_mapdb.specs.Inside.View.{link_place, map_place, place_at, mapping_of, shown_by, shown_in, mappings_of, IsShown}
+use Rattle.l4_mapdb.specs.View.{link_place, map_place, place_at, mapping_of, shown_by, shown_in, mappings_of}
+use Rattle.l4_mapdb.specs.Inside.View.{IsShown}
 
 pub same_places : (a b : LinkPlace) → map_place a ≡ map_place b → a ≡ b
 same_places a b e = ap link_place e

@@ -1,7 +1,7 @@
 -- A key whose page a message moves, and the blank that waits for what is moved.
 use Rattle.std.proofs.Common.{◌≡◌, ◌≢◌, ◌↔◌, ℕ, Option, Some, None, sym, ◌∙◌, subst}
 use Rattle.l4_fpage.specs.Rights.{RightsSet, common, no_rights}
-use Rattle.l4_links.specs.declared.Place.{Place as LinkPlace}
+use Rattle.l4_nodes.specs.declared.Place.{Place as LinkPlace}
 use Rattle.l4_links.specs.declared.Standing.{Standing}
 use Rattle.l4_links.specs.Entries.{Entries, standing_at, IsAt, IsStanding, IsBlank}
 use Rattle.l4_mapdb.specs.Inside.Placing.{IsSourceAt, HasBlank}

@@ -1,8 +1,6 @@
-pub mod Cuts
 pub mod Cutting
 pub mod Granting
 pub mod Growing
-pub mod Kept
 pub mod Messages
 pub mod Placing
 pub mod Renewing

@@ -1,8 +1,7 @@
 pub mod Mappings
 pub mod Losing
 pub mod Transfer
-pub mod Places
-pub mod Listed
-pub mod Boot
 pub mod Causes
+pub mod View
+pub mod Delivering
 pub mod Inside

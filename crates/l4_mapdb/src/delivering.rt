@@ -6,11 +6,10 @@ ghost use Rattle.l4_links.specs.Entries.{Linked, entry_at};
 ghost use Rattle.l4_mapdb.specs.Mappings.{IsForest};
 ghost use Rattle.l4_mapdb.specs.Transfer.{IsUsed, IsEntangled, TargetsPresent, Delivers};
 ghost use Rattle.l4_mapdb.specs.Causes.{HasCause};
-ghost use Rattle.l4_mapdb.specs.Inside.View.{mappings_of};
-ghost use Rattle.l4_mapdb.specs.Inside.Kept.{IsClean, RootsKnown};
+ghost use Rattle.l4_mapdb.specs.View.{mappings_of};
+ghost use Rattle.l4_mapdb.specs.Delivering.{IsClean, RootsKnown, IsDelivered};
 ghost use Rattle.l4_mapdb.specs.Inside.Messages.{Cleared};
 ghost use Rattle.l4_mapdb.specs.Inside.Placing.{IsStart};
-ghost use Rattle.l4_mapdb.specs.Inside.Growing.{IsDelivered};
 
 use crate::cutting::cut;
 use crate::granting::deliver_grants;
@@ -86,12 +85,7 @@ fn deliver_short(links: &mut Links, from: u64, to: u64, items: &[ItemMove]) -> R
 }
 
 /// Delivers a message. For one that only maps, or grants by a single item, a short way is tried first.
-pub(crate) fn deliver(
-    links: &mut Links,
-    from: u64,
-    to: u64,
-    items: &[ItemMove],
-) -> Result<(), Cause>
+pub fn deliver(links: &mut Links, from: u64, to: u64, items: &[ItemMove]) -> Result<(), Cause>
     requires clean { IsClean links.old }
     requires there { IsTrue (set.contains links.old.spaces to) }
     requires forest { IsForest (mappings_of links.old) }

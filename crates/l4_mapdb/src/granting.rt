@@ -7,11 +7,11 @@ ghost use Rattle.l4_links.specs.Entries.{entry_at, IsAt};
 ghost use Rattle.l4_mapdb.specs.declared.sources.UsedMove.{UsedMove as AUsedMove};
 ghost use Rattle.l4_mapdb.specs.Transfer.{IsUsed};
 ghost use Rattle.l4_mapdb.specs.Causes.{HasCause};
-ghost use Rattle.l4_mapdb.specs.Inside.View.{mappings_of};
-ghost use Rattle.l4_mapdb.specs.Inside.Kept.{IsClean};
+ghost use Rattle.l4_mapdb.specs.View.{mappings_of};
+ghost use Rattle.l4_mapdb.specs.Delivering.{IsClean, IsDelivered};
 ghost use Rattle.l4_mapdb.specs.Inside.Messages.{IsMoved};
 ghost use Rattle.l4_mapdb.specs.Inside.Tangles.{AreApart};
-ghost use Rattle.l4_mapdb.specs.Inside.Growing.{IsGround, IsDelivered};
+ghost use Rattle.l4_mapdb.specs.Inside.Growing.{IsGround};
 ghost use Rattle.l4_mapdb.specs.Inside.Granting.{Handed};
 
 use crate::cutting::end_of;

@@ -6,9 +6,9 @@ ghost use Rattle.std.specs.FinSet as set;
 ghost use Rattle.l4_links.specs.Entries.{entry_at};
 ghost use Rattle.l4_mapdb.specs.Transfer.{IsUsed};
 ghost use Rattle.l4_mapdb.specs.Causes.{HasCause};
-ghost use Rattle.l4_mapdb.specs.Inside.View.{mappings_of};
-ghost use Rattle.l4_mapdb.specs.Inside.Kept.{IsClean};
-ghost use Rattle.l4_mapdb.specs.Inside.Growing.{AreOfKind, IsDelivered};
+ghost use Rattle.l4_mapdb.specs.View.{mappings_of};
+ghost use Rattle.l4_mapdb.specs.Delivering.{IsClean, IsDelivered};
+ghost use Rattle.l4_mapdb.specs.Inside.Growing.{AreOfKind};
 
 use crate::growing::grow_children;
 use crate::preparing::refusal;

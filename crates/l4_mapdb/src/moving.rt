@@ -1,7 +1,7 @@
 //! The used moves of a message are carried out: pages that are mapped get children, pages that are granted another place.
 
 ghost use Rattle.std.specs.Prelude.{MatchOption, ◌≡◌, ◌+◌, ◌^◌, ◌⊎◌, ◌<◌, ◌≤◌, ℕ, List, length, slice_get, Some, true, false};
-ghost use Rattle.l4_links.specs.declared.Place.{Place as ALinkPlace};
+ghost use Rattle.l4_nodes.specs.declared.Place.{Place as ALinkPlace};
 ghost use Rattle.l4_links.specs.Entries.{Linked, IsAt, IsKeyOf};
 ghost use Rattle.l4_mapdb.specs.Inside.Placing.{IsStart, Placed, IsDone, MovesPage, IsSourceAt, MovesNone, HasBlank};
 

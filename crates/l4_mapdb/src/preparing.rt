@@ -6,8 +6,8 @@ ghost use Rattle.l4_links.specs.Entries.{entry_at, IsAt};
 ghost use Rattle.l4_mapdb.specs.declared.sources.UsedMove.{UsedMove as AUsedMove};
 ghost use Rattle.l4_mapdb.specs.Transfer.{IsUsed, IsEntangled, TargetsPresent};
 ghost use Rattle.l4_mapdb.specs.Causes.{HasCause};
-ghost use Rattle.l4_mapdb.specs.Inside.View.{mappings_of};
-ghost use Rattle.l4_mapdb.specs.Inside.Kept.{IsClean};
+ghost use Rattle.l4_mapdb.specs.View.{mappings_of};
+ghost use Rattle.l4_mapdb.specs.Delivering.{IsClean};
 ghost use Rattle.l4_mapdb.specs.Inside.Messages.{IsMoved, Roomed, AreAbsent, LacksKey, Cleared};
 ghost use Rattle.l4_mapdb.specs.Inside.Tangles.{HasTangle};
 

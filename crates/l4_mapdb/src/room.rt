@@ -5,7 +5,7 @@ ghost use Rattle.std.specs.FinSet as set;
 ghost use Rattle.l4_spaces.specs.Tables.{IsPage};
 ghost use Rattle.l4_links.specs.Entries.{entry_at, IsAt};
 ghost use Rattle.l4_mapdb.specs.declared.sources.UsedMove.{UsedMove as AUsedMove};
-ghost use Rattle.l4_mapdb.specs.Inside.Kept.{IsClean};
+ghost use Rattle.l4_mapdb.specs.Delivering.{IsClean};
 ghost use Rattle.l4_mapdb.specs.Inside.Messages.{IsMoved, IsWanted, Wants, Marks, Roomed, AreAbsent};
 
 use crate::ItemMove;

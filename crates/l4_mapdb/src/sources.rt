@@ -24,23 +24,23 @@ pub(crate) struct UsedMove {
     pub grant: bool,
 }
 
-/// The used move of the item of this number out of the page of the key, which the item names.
+/// The used move of the item of this number out of a page that was found with its key, which the item names.
 fn move_of(
     links: &Links,
     from: u64,
     to: u64,
     items: &[ItemMove],
     item: usize,
-    page: u32,
-    key: usize,
+    found: (u32, usize),
 ) -> Option<UsedMove>
     requires there { item < length items.now }
-    requires named { (by : AnItemMove) → slice_get items.now item ≡ Some by → InBlock by.mv.source.first by.mv.source.log page }
-    requires at { IsKeyOf links.now.entries (record { space = from; page = page }) key }
+    requires named { (by : AnItemMove) → slice_get items.now item ≡ Some by → InBlock by.mv.source.first by.mv.source.log found.0 }
+    requires at { IsKeyOf links.now.entries (record { space = from; page = found.0 }) found.1 }
     ensures { MatchOption result
-        ((move : UsedMove) → IsMoved links.now.entries from to items.now move → move.item ≡ item → move.page ≢ page)
-        (λ m. IsMoved links.now.entries from to items.now m × (m.item ≡ item) × (m.page ≡ page)) }
+        ((move : UsedMove) → IsMoved links.now.entries from to items.now move → move.item ≡ item → move.page ≢ found.0)
+        (λ m. IsMoved links.now.entries from to items.now m × (m.item ≡ item) × (m.page ≡ found.0)) }
 {
+    let (page, key) = found;
     let by = &items[item];
     let Some(standing) = links.standing(key) else {
         return None;
@@ -80,7 +80,7 @@ pub(crate) fn move_out(
     let Some(key) = links.find(Place { space: from, page }) else {
         return None;
     };
-    move_of(links, from, to, items, item, page, key)
+    move_of(links, from, to, items, item, (page, key))
 }
 
 /// The greater of two pages.
@@ -113,13 +113,13 @@ fn next_of_item(
     let end = end_of(by.mv.source);
     let mut start = later_page(page, by.mv.source.first);
     loop {
-        let Some((next, key)) = links.next_key_in(from, start, end) else {
+        let Some(found) = links.next_key_in(from, start, end) else {
             return None;
         };
-        if let Some(used) = move_of(links, from, to, items, item, next, key) {
+        if let Some(used) = move_of(links, from, to, items, item, found) {
             return Some(used);
         }
-        start = next + 1;
+        start = found.0 + 1;
     }
 }
 

@@ -2,6 +2,8 @@
 
 ghost use Rattle.std.specs.Prelude.{◌≡◌, ◌≢◌, ◌↔◌, ◌<◌, ◌≤◌, ◌⊎◌, ℕ, length, IsTrue, MatchOption, true, false};
 ghost use Rattle.l4_links.specs.Entries.{entry_at, IsAt, IsStanding, IsSource, Descends};
+ghost use Rattle.l4_mapdb.specs.Transfer.{IsUsed, IsEntangled};
+ghost use Rattle.l4_mapdb.specs.View.{mappings_of};
 ghost use Rattle.l4_mapdb.specs.Inside.Messages.{IsMoved};
 ghost use Rattle.l4_mapdb.specs.Inside.Tangles.{IsTaken, Clashes, ClashesWith, Tangles, TanglesFrom, HasTangle, AboveSource, SourcesAre, AreApart, NoneReplaced};
 ghost use Rattle.l4_mapdb.specs.declared.sources.UsedMove.{UsedMove as AUsedMove};
@@ -183,6 +185,15 @@ pub(crate) fn has_tangle(links: &Links, from: u64, to: u64, items: &[ItemMove]) 
         }
     }
     false
+}
+
+/// Whether the used moves of a message contradict each other (this profile's own). It takes no memory.
+pub fn is_entangled(links: &Links, from: u64, to: u64, items: &[ItemMove]) -> bool
+    ensures { IsTrue result ↔ IsEntangled (IsUsed (mappings_of links.now) from to items.now) (mappings_of links.now) }
+{
+    links.law_places();
+    links.law_trees();
+    has_tangle(links, from, to, items)
 }
 
 /// Whether what stands at the place is a source, or above one.

@@ -3,7 +3,7 @@
 ghost use Rattle.std.specs.Prelude.{◌≡◌, ◌≢◌, ◌<◌, ◌≤◌, ◌+◌, ◌^◌, ◌⊎◌, length, None};
 ghost use Rattle.l4_fpage.specs.Pages.{InBlock};
 ghost use Rattle.l4_links.specs.Entries.{IsKeyOf, entry_at};
-ghost use Rattle.l4_links.specs.declared.Place.{Place as ALinkPlace};
+ghost use Rattle.l4_nodes.specs.declared.Place.{Place as ALinkPlace};
 ghost use Rattle.l4_mapdb.specs.Inside.Messages.{Tidies, InPages, OfItem, OfItems};
 
 use crate::ItemMove;

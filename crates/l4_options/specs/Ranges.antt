@@ -12,7 +12,7 @@ IsFrameCount n = (1 ≤ n) × (n ≤ max_frames)
 
 -- the number of frames that the command line of l4 asks for is one that a machine can have
 abbrev pub IsInRange : Options → Type 0
-IsInRange (Run script strict) = IsFrameCount script.frames
+IsInRange (Run script strict explain) = IsFrameCount script.frames
 IsInRange (History script answers) = IsFrameCount script.frames
 IsInRange (Why frames size thread page) = IsFrameCount frames
 IsInRange (Plan region size) = Unit {0}

@@ -1,14 +1,14 @@
 //! Reads the command line of `l4`.
 ghost use Rattle.std.specs.Prelude.{◌≡◌, IfOk, IfSome, Some};
 ghost use Rattle.l4_options.specs.Ranges.{IsInRange};
-ghost use Rattle.l4_options.specs.Words.{spelled_anew};
+ghost use Rattle.l4_options.specs.Inside.Words.{spelled_anew};
 
 use crate::help::{ABOUT, CHECK, DECODE, HISTORY, PLAN, SCRIPT, WHY};
 use crate::requests::{OptionFault, Options};
 use crate::values::{
-    answers_option, file_argument, frames_of, frames_option, help_text, number_of, reading_of,
-    reading_option, region_of, script_of, size_of, size_option, strict_option, without_hyphens,
-    words_argument, words_of,
+    answers_option, explain_option, file_argument, frames_of, frames_option, help_text, number_of,
+    reading_of, reading_option, region_of, script_of, size_of, size_option, strict_option,
+    without_hyphens, words_argument, words_of,
 };
 use clap::error::ErrorKind;
 use clap::{Arg, ArgAction, ArgMatches, Command, Error};
@@ -65,7 +65,8 @@ fn known<'a>(alloc: Global) -> Result<Command<'a>, AllocError> {
         .arg(file_argument(alloc))?
         .arg(frames_option(alloc))?
         .arg(size_option(alloc))?
-        .arg(strict_option(alloc))?;
+        .arg(strict_option(alloc))?
+        .arg(explain_option(alloc))?;
     let history = Command::new(alloc, "history")
         .about("Writes the steps of a script as l4_steps reads them")
         .after_help(HISTORY)
@@ -141,6 +142,7 @@ fn run_options(alloc: Global, matches: &ArgMatches<'_>) -> Result<Options, Optio
         Ok(script) => Ok(Options::Run {
             script,
             strict: matches.get_flag("strict"),
+            explain: matches.get_flag("explain"),
         }),
         Err(fault) => Err(fault),
     }
@@ -189,7 +191,7 @@ fn decode_options(alloc: Global, matches: &ArgMatches<'_>) -> Result<Options, Op
 }
 
 /// Reads the words of the command line, the program's name first:
-/// `l4 run [FILE] [--frames N] [--strict]`, `l4 history [FILE] [--frames N] [--answers]`, `l4 why THREAD PAGE [--frames N]`,
+/// `l4 run [FILE] [--frames N] [--strict] [--explain]`, `l4 history [FILE] [--frames N] [--answers]`, `l4 why THREAD PAGE [--frames N]`,
 /// `l4 plan SOURCE TARGET COUNT RIGHTS`, `l4 check` with the same words, `l4 decode [--as READING] WORD..`, each with
 /// `--page-size BYTES` where that is wanted, `--help`, `help` or `--version`. N is 256 and BYTES 4096 where they are left out; READING is
 /// message, fpage, window or id.

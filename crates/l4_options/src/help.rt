@@ -169,6 +169,9 @@ page i; thread 2 is root. Numbers are decimal, or hexadecimal after 0x.
   steps K                          K steps so far, served threads' too
   line L refused CODE              the line changed nothing
 
+With --explain each answer has below it what it says in words, behind '# ': a
+message that came as l4 decode tells it, a refusal by what its code means.
+
 The codes, each with the number that it carries; l4 plan, l4 check, l4 decode
 and l4_steps print them too:
 

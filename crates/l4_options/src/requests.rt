@@ -17,10 +17,11 @@ pub struct ScriptOptions {
 /// What the command line of `l4` asks for.
 #[derive(Debug, Drop)]
 pub enum Options {
-    /// To answer a script, to its first refused line alone where that is asked for.
+    /// To answer a script, to its first refused line alone or with each answer in words where that is asked for.
     Run {
         script: ScriptOptions,
         strict: bool,
+        explain: bool,
     },
     /// To write the history of a script, with what each step answers or without.
     History {

@@ -2,7 +2,7 @@
 ghost use Rattle.std.specs.Prelude.{◌≡◌, IfOk, IfSome, codes, option_map};
 ghost use Rattle.clap.specs.Matches.{found_of};
 ghost use Rattle.l4_options.specs.Ranges.{IsFrameCount};
-ghost use Rattle.l4_options.specs.Words.{right_of, rights_of, underscored, spelled_anew, word_at, IsNumberAt, AreRightsAt, IsRegionIn};
+ghost use Rattle.l4_options.specs.Inside.Words.{right_of, rights_of, underscored, spelled_anew, word_at, IsNumberAt, AreRightsAt, IsRegionIn};
 
 use crate::requests::{OptionFault, ScriptOptions};
 use arrayvec::ArrayVec;
@@ -49,6 +49,14 @@ pub(crate) fn strict_option<'a>(alloc: Global) -> Arg<'a> {
     Arg::new(alloc, "strict")
         .long("strict")
         .help("End at the first refused line, with status 1")
+        .action(ArgAction::SetTrue)
+}
+
+/// The option `--explain`.
+pub(crate) fn explain_option<'a>(alloc: Global) -> Arg<'a> {
+    Arg::new(alloc, "explain")
+        .long("explain")
+        .help("What each answer says in words below it, behind #")
         .action(ArgAction::SetTrue)
 }
 
@@ -139,7 +147,7 @@ fn rights_with(read: bool, write: bool, execute: bool) -> Rights
 }
 
 /// Rights: r, w and x in turn, each of them or `-` or `_` in its place.
-#[tactic(auto, unfolding(crate::specs::Words::rights_of))]
+#[tactic(auto, unfolding(crate::specs::Inside::Words::rights_of))]
 fn rights_in(text: &[u8]) -> Option<Rights>
     ensures { result ≡ rights_of text.now }
 {

@@ -4,7 +4,7 @@ use Rattle.std.specs.Ordering.{nat_cmp}
 use Rattle.std.specs.Cmp.{nat_cmp_total}
 use Rattle.std.specs.FinSet as set
 use Rattle.l4_mapdb.specs.Mappings.{Mappings}
-use Rattle.l4_mapdb.specs.Boot.{IsFirst}
+use Rattle.l4_forest.specs.Boot.{IsFirst}
 
 abbrev pub three : set.FinSet nat_cmp
 three = set.insert (set.insert (set.insert set.empty 0) 2) 3

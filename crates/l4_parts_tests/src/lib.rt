@@ -10,6 +10,8 @@ mod mapdb;
 #[cfg(test)]
 mod msg;
 #[cfg(test)]
+mod nodes;
+#[cfg(test)]
 mod plan;
 #[cfg(test)]
 mod plan_check;

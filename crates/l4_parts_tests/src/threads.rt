@@ -76,8 +76,8 @@ fn end(threads: &mut Threads, number: u32) -> Result<(), &'static str> {
 }
 
 #[test]
-fn the_start(rt: HostRuntime) {
-    let threads = Threads::boot();
+fn the_start(rt: HostRuntime) -> Result<(), Fail> {
+    let threads = Threads::boot(rt.alloc())?;
     assert_eq!(rt;
         [threads.space_of(1), threads.space_of(2)],
         [Some(0), Some(1)]
@@ -97,6 +97,7 @@ fn the_start(rt: HostRuntime) {
     assert!(rt; threads.thread(3).is_none());
     assert_eq!(rt; threads.queue().len(), 0);
     threads.law_consistent();
+    Ok(())
 }
 
 #[test]
@@ -117,8 +118,8 @@ fn ids_of_numbers_and_versions(rt: HostRuntime) {
 }
 
 #[test]
-fn a_new_thread(rt: HostRuntime) {
-    let mut threads = Threads::boot();
+fn a_new_thread(rt: HostRuntime) -> Result<(), Fail> {
+    let mut threads = Threads::boot(rt.alloc())?;
     assert_eq!(rt;
         [
             threads.test_create(1, THIRD, THIRD),
@@ -146,6 +147,7 @@ fn a_new_thread(rt: HostRuntime) {
         [Ok(2), Ok(3)]
     );
     assert_eq!(rt; threads.space_of(3), Some(2));
+    Ok(())
 }
 
 /// Lets thread 3 receive from anybody, 1 send to 2, and 2 to 3.
@@ -159,7 +161,7 @@ fn start_calls(threads: &mut Threads) -> Result<(), Fail> {
 
 #[test]
 fn a_transfer_and_an_expiry(rt: HostRuntime) -> Result<(), Fail> {
-    let mut threads = Threads::boot();
+    let mut threads = Threads::boot(rt.alloc())?;
     start_calls(&mut threads)?;
     assert_eq!(rt; threads.queue(), [1, 2].as_slice());
     assert_eq!(rt;
@@ -185,8 +187,8 @@ fn a_transfer_and_an_expiry(rt: HostRuntime) -> Result<(), Fail> {
 }
 
 #[test]
-fn another_pager(rt: HostRuntime) {
-    let mut threads = Threads::boot();
+fn another_pager(rt: HostRuntime) -> Result<(), Fail> {
+    let mut threads = Threads::boot(rt.alloc())?;
     assert_eq!(rt;
         [
             threads.set_pager(1, ROOT, ROOT),
@@ -200,6 +202,7 @@ fn another_pager(rt: HostRuntime) {
         ]
     );
     assert_eq!(rt; threads.pager_of(1), Some(ROOT));
+    Ok(())
 }
 
 /// Creates threads 4 and 3, of which 4 sends to 3, and lets 3 receive from anybody and 1 from 3.
@@ -214,7 +217,7 @@ fn start_more_calls(threads: &mut Threads) -> Result<(), Fail> {
 
 #[test]
 fn a_deletion(rt: HostRuntime) -> Result<(), Fail> {
-    let mut threads = Threads::boot();
+    let mut threads = Threads::boot(rt.alloc())?;
     start_more_calls(&mut threads)?;
     let Err(ThreadFault::Kept) = threads.delete(2, SIGMA0) else {
         return Err("sigma0 is kept".into());

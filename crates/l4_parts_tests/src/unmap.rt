@@ -1,5 +1,5 @@
+use l4_forest::{Forest, ItemMove, Mapping, NoMemory, Place};
 use l4_fpage::{Block, PageSize, Rights};
-use l4_mapdb::{Forest, ItemMove, Mapping, NoMemory, Place};
 use l4_msg::Move;
 use l4_unmap::{UnmapFault, unmap};
 use std::alloc::Global;

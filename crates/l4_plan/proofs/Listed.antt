@@ -22,10 +22,10 @@ use Rattle.l4_msg.specs.Regions.{InSpace, IsSound, IsAllowed, IsPlan, IsCertific
 use Rattle.l4_msg.specs.declared.items.Item.{Item}
 use Rattle.l4_msg.specs.declared.items.Item.TheVariants.{Map}
 use Rattle.l4_msg.specs.declared.regions.Region.{Region}
-use Rattle.l4_plan.specs.Inside.{InLargestSpace, GoesOn, IsAll, listing}
+use Rattle.l4_plan.specs.Inside.Listings.{InLargestSpace, GoesOn, IsAll, listing}
 use Rattle.l4_plan.specs.Largest.{IsLargest}
 use Rattle.l4_plan.specs.Shortest.{IsShortest, IsTooLong}
-use Rattle.l4_plan.specs.Split.{size_of, block_fpage, largest, reached, starts_from, item_at}
+use Rattle.l4_plan.specs.Inside.Split.{size_of, block_fpage, largest, reached, starts_from, item_at}
 use Rattle.l4_plan.proofs.Progress.{Progress, progress_step, progress_end, progress_none, starts_of_walk}
 use Rattle.l4_plan.proofs.Split.{in_largest, largest_is, largest_found, reached_more, starts_more, length_starts}
 

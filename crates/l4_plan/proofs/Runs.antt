@@ -6,9 +6,9 @@ use Rattle.std.proofs.lemmas.Nat.{pow_pos, pow-add}
 use Rattle.l4_fpage.proofs.Powers.{aligned_add, aligned_sub, aligned_down}
 use Rattle.l4_msg.specs.Regions.{moved}
 use Rattle.l4_msg.specs.declared.regions.Region.{Region}
-use Rattle.l4_plan.specs.Inside.{InLargestSpace}
+use Rattle.l4_plan.specs.Inside.Listings.{InLargestSpace}
 use Rattle.l4_plan.specs.Largest.{IsLargest}
-use Rattle.l4_plan.specs.Split.{largest, reached}
+use Rattle.l4_plan.specs.Inside.Split.{largest, reached}
 use Rattle.l4_plan.proofs.Split.{largest_found, reached_more}
 
 -- i steps of 2 ^ log, by twos

@@ -9,9 +9,9 @@ use Rattle.l4_fpage.specs.declared.sizes.PageSize.{PageSize}
 use Rattle.l4_fpage.specs.declared.sizes.PageSize.TheVariants.{Kib1}
 use Rattle.l4_msg.specs.Regions.{InSpace, IsAllowed, moved}
 use Rattle.l4_msg.specs.declared.regions.Region.{Region}
-use Rattle.l4_plan.specs.Inside.{InLargestSpace}
+use Rattle.l4_plan.specs.Inside.Listings.{InLargestSpace}
 use Rattle.l4_plan.specs.Largest.{IsLargest}
-use Rattle.l4_plan.specs.Split.{fits, largest_up_to, largest, reached, starts_from}
+use Rattle.l4_plan.specs.Inside.Split.{fits, largest_up_to, largest, reached, starts_from}
 
 -- what lies in a space lies in the largest one
 pub in_largest : (size : PageSize) (r : Region) → InSpace size r → InLargestSpace r

@@ -3,4 +3,3 @@ pub mod Largest
 pub mod Plan
 pub mod Refusals
 pub mod Shortest
-pub mod Split

@@ -17,8 +17,8 @@ pub struct Pages {
 
 impl Model for Pages {
     ghost use Rattle.std.specs.Prelude.{ℕ, List};
-    ghost use Rattle.l4_plan.specs.Split.{starts_from};
-    ghost use Rattle.l4_plan.specs.Inside.{GoesOn};
+    ghost use Rattle.l4_plan.specs.Inside.Split.{starts_from};
+    ghost use Rattle.l4_plan.specs.Inside.Listings.{GoesOn};
 
     ghost Value = { List ℕ };
 

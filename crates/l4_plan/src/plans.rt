@@ -3,7 +3,7 @@ ghost use Rattle.l4_fpage.specs.declared.sizes.PageSize.{PageSize as APageSize};
 ghost use Rattle.l4_msg.specs.Messages.{CanBeWritten};
 ghost use Rattle.l4_msg.specs.Regions.{AreWholeInParts, NeedsMessages, messages_of, part_of_list, max_plan_items, max_plan_messages};
 ghost use Rattle.l4_msg.specs.declared.regions.Region.{Region as ARegion};
-ghost use Rattle.l4_plan.specs.Inside.{IsAll};
+ghost use Rattle.l4_plan.specs.Inside.Listings.{IsAll};
 ghost use Rattle.l4_plan.specs.Plan.{Sends};
 ghost use Rattle.l4_plan.specs.Shortest.{IsShortest};
 
@@ -46,7 +46,7 @@ pub enum PlanRefusal {
 
 impl Model for Plan {
     ghost use Rattle.l4_plan.specs.Plan.{Listing};
-    ghost use Rattle.l4_plan.specs.Inside.{IsAll, listing};
+    ghost use Rattle.l4_plan.specs.Inside.Listings.{IsAll, listing};
 
     ghost Value = { Listing };
 

@@ -2,8 +2,8 @@ ghost use Rattle.std.specs.Prelude.{◌≡◌, ℕ, ◌+◌, ◌-◌, ◌*◌, �
 ghost use Rattle.l4_msg.specs.Regions.{InSpace};
 ghost use Rattle.l4_plan.specs.Largest.{IsLargest};
 ghost use Rattle.l4_msg.specs.Sizes.{max_items};
-ghost use Rattle.l4_plan.specs.Inside.{InLargestSpace, GoesOn};
-ghost use Rattle.l4_plan.specs.Split.{reached, starts_from, item_at};
+ghost use Rattle.l4_plan.specs.Inside.Listings.{InLargestSpace, GoesOn};
+ghost use Rattle.l4_plan.specs.Inside.Split.{reached, starts_from, item_at};
 
 use arrayvec::ArrayVec;
 use l4_fpage::{Block, Fpage, PageSize};

@@ -6,7 +6,7 @@ use Rattle.l4_msg.specs.Regions.{InSpace}
 use Rattle.l4_msg.specs.declared.regions.Region.{Region}
 use Rattle.l4_plan.proofs.Split.{in_largest, largest_is}
 use Rattle.l4_plan.specs.Largest.{IsLargest, AreStarts}
-use Rattle.l4_plan.specs.Split.{largest}
+use Rattle.l4_plan.specs.Inside.Split.{largest}
 
 pub one_largest : (r : Region) (page j k : ℕ) → IsLargest r page j → IsLargest r page k → j ≡ k
 one_largest r page j k a b = omega (arith, a.greatest k b.allowed, b.greatest j a.allowed)

@@ -8,7 +8,7 @@ use Rattle.l4_fpage.specs.Rights.{all_rights}
 use Rattle.l4_fpage.specs.declared.sizes.PageSize.{PageSize}
 use Rattle.l4_mapdb.specs.declared.Place.{Place}
 use Rattle.l4_mapdb.specs.declared.Mapping.{Mapping}
-use Rattle.l4_mapdb.specs.Boot.{IsFirst}
+use Rattle.l4_forest.specs.Boot.{IsFirst}
 use Rattle.l4_mapdb.specs.Mappings.{Mappings, IsPresent, shown}
 use Rattle.l4_mapdb.proofs.Places.{same_option, same_mappings}
 use Rattle.l4_ipc.specs.Machine.{Machine, IsBoot}
@@ -16,8 +16,8 @@ use Rattle.l4_ipc.proofs.Tracing.{only_trace, run_of}
 use Rattle.l4_record.specs.declared.entries.Entry.{Entry}
 use Rattle.l4_record.specs.History.{steps_of, answers_of, HasEvents}
 use Rattle.l4_chains.specs.declared.links.ChainLink.{ChainLink}
-use Rattle.l4_chains.specs.Chains.{IsProvenance, IsAbsent}
-use Rattle.l4_chains.specs.Inside.Walking.{PassesAll, origin_of, IsWalked}
+use Rattle.l4_chains.specs.Chains.{IsProvenance, IsAbsent, origin_of}
+use Rattle.l4_chains.specs.Inside.Walking.{PassesAll, IsWalked}
 use Rattle.l4_chains.proofs.Walked.{passed_origin, is_provenance}
 use Rattle.l4_provenance.specs.Inside.Arrivals.{CameBy, Arrived}
 use Rattle.l4_provenance.specs.declared.replaying.Arrival.{Arrival}

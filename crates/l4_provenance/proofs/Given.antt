@@ -11,9 +11,8 @@ use Rattle.l4_record.specs.declared.entries.Entry.{Entry}
 use Rattle.l4_chains.specs.declared.faults.ReplayFault.{ReplayFault}
 use Rattle.l4_chains.specs.declared.faults.ReplayFault.TheVariants.{BadFrames, NoMemory, OtherAnswer}
 use Rattle.l4_chains.specs.declared.links.ChainLink.{ChainLink}
-use Rattle.l4_chains.specs.Replays.{IsNotReplayed}
+use Rattle.l4_chains.specs.Replays.{IsNotReplayed, FailsIn}
 use Rattle.l4_chains.specs.Inside.Carrying.{AreParties, AnyCarries, AnyWrites, IsCarried, IsWritten}
-use Rattle.l4_chains.specs.Inside.Redoing.{FailsIn}
 use Rattle.l4_chains.proofs.Written.{any_written, carried_any}
 use Rattle.l4_provenance.specs.Inside.Arrivals.{Arrived}
 use Rattle.l4_provenance.specs.declared.replaying.Arrival.{Arrival}

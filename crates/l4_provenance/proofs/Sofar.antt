@@ -17,7 +17,8 @@ use Rattle.l4_chains.specs.declared.faults.ReplayFault.{ReplayFault}
 use Rattle.l4_chains.specs.declared.faults.ReplayFault.TheVariants.{BadFrames, NoMemory, OtherAnswer}
 use Rattle.l4_chains.specs.declared.links.ChainLink.{ChainLink}
 use Rattle.l4_chains.specs.Chains.{told}
-use Rattle.l4_chains.specs.Inside.Redoing.{FailsAt, FailsIn}
+use Rattle.l4_chains.specs.Inside.Redoing.{FailsAt}
+use Rattle.l4_chains.specs.Replays.{FailsIn}
 use Rattle.l4_chains.specs.Inside.Walking.{entry_event, Does, BringsTold, PassesAll}
 use Rattle.l4_chains.proofs.Carried.{carried_brings, brings_carried, brings_done}
 use Rattle.std.proofs.lemmas.Bool.{false≢true}

@@ -1,6 +1,7 @@
 //! A history once more on a second kernel, and what came to a place in it.
 ghost use Rattle.std.specs.Prelude.{◌≡◌, ◌≤◌, length, IfOk, IfErr};
-ghost use Rattle.l4_chains.specs.Inside.Redoing.{FailsAt, FailsIn};
+ghost use Rattle.l4_chains.specs.Inside.Redoing.{FailsAt};
+ghost use Rattle.l4_chains.specs.Replays.{FailsIn};
 ghost use Rattle.l4_chains.specs.Inside.Walking.{Does};
 ghost use Rattle.l4_ipc.specs.Runs.{Run};
 ghost use Rattle.l4_record.specs.History.{steps_of, answers_of};

@@ -13,8 +13,10 @@ use Rattle.l4_record.proofs.Laws.{no_events, events_more}
 use Rattle.l4_chains.specs.declared.faults.ReplayFault.{ReplayFault}
 use Rattle.l4_chains.specs.declared.faults.ReplayFault.TheVariants.{BadFrames, NoMemory, OtherAnswer}
 use Rattle.l4_chains.specs.declared.links.ChainLink.{ChainLink}
-use Rattle.l4_chains.specs.Inside.Walking.{Does, IsNotDue, Passes, PassesAll, origin_of, IsWalked}
-use Rattle.l4_chains.specs.Inside.Redoing.{FailsAt, FailsIn}
+use Rattle.l4_chains.specs.Inside.Walking.{Does, IsNotDue, Passes, PassesAll, IsWalked}
+use Rattle.l4_chains.specs.Chains.{origin_of}
+use Rattle.l4_chains.specs.Inside.Redoing.{FailsAt}
+use Rattle.l4_chains.specs.Replays.{FailsIn}
 use Rattle.l4_provenance_check.specs.Inside.Following.{NonePasses, Walked}
 
 -- Of the entries some are done, which lead to the machine, and with the links that are left the chain leads on from the place just if all of it leads over all of them.

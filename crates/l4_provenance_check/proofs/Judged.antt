@@ -9,10 +9,9 @@ use Rattle.l4_chains.specs.declared.faults.ReplayFault.{ReplayFault}
 use Rattle.l4_chains.specs.declared.faults.ReplayFault.TheVariants.{BadFrames, NoMemory, OtherAnswer}
 use Rattle.l4_chains.specs.declared.links.ChainLink.{ChainLink}
 use Rattle.l4_chains.specs.Chains.{IsProvenance}
-use Rattle.l4_chains.specs.Replays.{IsNotReplayed}
+use Rattle.l4_chains.specs.Replays.{IsNotReplayed, FailsIn}
 use Rattle.l4_chains.specs.Inside.Walking.{IsWalked}
 use Rattle.l4_chains.proofs.Walked.{is_provenance, of_provenance}
-use Rattle.l4_chains.specs.Inside.Redoing.{FailsIn}
 use Rattle.l4_provenance_check.specs.Inside.Following.{Walked}
 
 module _ (frames : ℕ) (size : PageSize) (boot : Machine) (history : List Entry) (place : Place) (links : List ChainLink)

@@ -2,10 +2,9 @@
 ghost use Rattle.std.specs.Prelude.{◌≡◌, ◌↔◌, ℕ, List, IsTrue, IfOk, IfErr, MatchResult};
 ghost use Rattle.l4_fpage.specs.Pages.{max_frames};
 ghost use Rattle.l4_ipc.specs.Machine.{Machine, IsBoot};
-ghost use Rattle.l4_chains.specs.Chains.{IsProvenance};
-ghost use Rattle.l4_chains.specs.Replays.{IsNotReplayed};
-ghost use Rattle.l4_chains.specs.Inside.Walking.{origin_of, IsWalked};
-ghost use Rattle.l4_chains.specs.Inside.Redoing.{FailsIn};
+ghost use Rattle.l4_chains.specs.Chains.{IsProvenance, origin_of};
+ghost use Rattle.l4_chains.specs.Replays.{IsNotReplayed, FailsIn};
+ghost use Rattle.l4_chains.specs.Inside.Walking.{IsWalked};
 ghost use Rattle.l4_provenance_check.specs.Inside.Following.{Walked};
 
 use crate::passing::{is_at, pass};

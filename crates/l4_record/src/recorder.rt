@@ -91,6 +91,13 @@ impl Recorder {
         Ok((recorder, board, watches))
     }
 
+    /// How many frames the kernel booted with.
+    pub fn frames(&self) -> u32
+        ensures { result ≡ self.now.frames }
+    {
+        self.frames
+    }
+
     /// The kernel.
     pub fn kernel(&self) -> &Kernel
         ensures { result.now ≡ self.now.kernel }

@@ -76,6 +76,8 @@ table_texts =
     ∷ (codes "L1", codes "the history is full: with more than 999,871 steps no call is started")
     ∷ (codes "L3", codes "an ended call of this seat has not been taken")
     ∷ (codes "L4", codes "the seat of this number was given before")
+    ∷ (codes "L6", codes "the history has a transfer that found no memory, and finds it as the history is done again")
+    ∷ (codes "L7", codes "the links aren't how the page came there")
     ∷ (codes "X1", codes "the seat of this number was given and is not here")
     ∷ (codes "X2", codes "the seat of this number was not given, or is here twice")
     ∷ (codes "X3", codes "the seat of this number does not agree with what was kept of it")

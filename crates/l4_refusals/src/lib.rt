@@ -134,7 +134,7 @@ fn check_texts() -> [Text; 6]
 }
 
 /// What a pager's table and a locked kernel refuse, and want of memory.
-fn table_texts() -> [Text; 11]
+fn table_texts() -> [Text; 13]
     ensures { map bytes_of result ≡ table_texts }
 {
     [
@@ -157,6 +157,11 @@ fn table_texts() -> [Text; 11]
         ),
         meaning(b"L3", b"an ended call of this seat has not been taken"),
         meaning(b"L4", b"the seat of this number was given before"),
+        meaning(
+            b"L6",
+            b"the history has a transfer that found no memory, and finds it as the history is done again",
+        ),
+        meaning(b"L7", b"the links aren't how the page came there"),
         meaning(b"X1", b"the seat of this number was given and is not here"),
         meaning(
             b"X2",

@@ -28,7 +28,8 @@ fn reads_frames(rt: HostRuntime) -> Result<(), Fail> {
                     size: PageSize::Kib4,
                     file: None
                 },
-                strict: false
+                strict: false,
+                explain: false
             })
         )
     );

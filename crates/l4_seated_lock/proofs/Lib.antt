@@ -4,3 +4,4 @@ pub mod Keeping
 pub mod Answering
 pub mod Naming
 pub mod Returned
+pub mod Tracing

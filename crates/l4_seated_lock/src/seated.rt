@@ -1,7 +1,9 @@
 //! The locked kernel with its seats.
-ghost use Rattle.std.specs.Prelude.{◌≡◌, ◌≢◌, ◌⊎◌, ◌+◌, ◌≤◌, [], ◌∷◌, ◌++◌, None, Some, IfOk, IfErr, IfSome, IfNone, MatchResult, MatchOption, false};
+ghost use Rattle.std.specs.Prelude.{◌≡◌, ◌≢◌, ◌⊎◌, ◌+◌, ◌≤◌, ◌↔◌, [], ◌∷◌, ◌++◌, None, Some, IsTrue, IfOk, IfErr, IfSome, IfNone, MatchResult, MatchOption, false};
 ghost use Rattle.l4_fpage.specs.Pages.{max_frames};
-ghost use Rattle.l4_ipc.specs.Machine.{IsBoot};
+ghost use Rattle.l4_ipc.specs.Machine.{Machine, IsBoot};
+ghost use Rattle.l4_chains.specs.Chains.{IsProvenance, IsAbsent};
+ghost use Rattle.l4_chains.specs.Replays.{IsNotReplayed};
 ghost use Rattle.l4_record.specs.Laws.{IsWholeRun};
 ghost use Rattle.l4_lock.specs.Books.{book, book_at, reply_waits};
 ghost use Rattle.l4_lock.specs.Closing.{IsShown, Closes, Mismatches, by_history};
@@ -12,8 +14,11 @@ ghost use Rattle.l4_seated_lock.specs.Inside.Places.{RefusesUnseated};
 
 use crate::closing::mismatch;
 use crate::places::position;
-use l4_ipc::{Call, Kernel, PageSize, Refused, Reply};
+use l4_chains::{ChainLink, ReplayFault};
+use l4_ipc::{Call, Kernel, PageSize, Place, Refused, Reply};
 use l4_lock::{Entered, History, LockRefusal, Locked, MAX_ENTRIES, MAX_STEPS, Mismatch, Seat};
+use l4_provenance::provenance;
+use l4_provenance_check::check_provenance;
 use std::alloc::Global;
 use std::marker::Model;
 
@@ -163,6 +168,50 @@ impl SeatedLock {
             return None;
         };
         self.locked.take(&mut self.seats[at])
+    }
+
+    /// How a page of a space came to where it is, by the history: the transfers that brought it there from a page that sigma0 had at boot, one
+    /// after another. None where the page is not present.
+    ///
+    /// The history is done once more on a kernel of its own, and once up to each link: `NoMemory` comes where a growth was refused, and
+    /// `OtherAnswer` where a transfer found no memory as it was entered, and finds it then. `BadFrames` comes for no number
+    /// of frames that a lock is made with.
+    pub fn provenance(
+        &self,
+        alloc: Global,
+        place: Place,
+    ) -> Result<Option<Vec<ChainLink>>, ReplayFault>
+        ensures { MatchResult result
+            (λ found. (boot : Machine) × IsBoot self.now.frames boot × (boot.size ≡ self.now.kernel.size)
+            × MatchOption found (IsAbsent boot self.now.history place) (λ links. IsProvenance boot self.now.history place links.items))
+            (IsNotReplayed self.now.frames self.now.kernel.size self.now.history) }
+    {
+        let size = self.kernel().page_size();
+        provenance(alloc, self.locked.frames(), size, self.history(), place)
+    }
+
+    /// Whether the list of links is that, judged by code that shares none with the finder: no list is where the page is not present. The
+    /// faults are those of `provenance`.
+    pub fn check_provenance(
+        &self,
+        alloc: Global,
+        place: Place,
+        links: &[ChainLink],
+    ) -> Result<bool, ReplayFault>
+        ensures { MatchResult result
+            (λ yes. (boot : Machine) × IsBoot self.now.frames boot × (boot.size ≡ self.now.kernel.size)
+            × (IsTrue yes ↔ IsProvenance boot self.now.history place links.now))
+            (IsNotReplayed self.now.frames self.now.kernel.size self.now.history) }
+    {
+        let size = self.kernel().page_size();
+        check_provenance(
+            alloc,
+            self.locked.frames(),
+            size,
+            self.history(),
+            place,
+            links,
+        )
     }
 
     /// How the seats of these numbers differ from those that were given, as where the lock is closed and they come back: the least number

@@ -7,7 +7,7 @@ use Rattle.std.proofs.lemmas.Bool.Decides.{nat_tests}
 use Rattle.std.proofs.lemmas.Grind.{flat_map-append}
 use Rattle.std.specs.List.{flat_map, AllPairs}
 use Rattle.l4_mapdb.specs.Mappings.{IsPresent}
-use Rattle.l4_mapdb.specs.Places.{NonePresentFrom, IsNextPresent}
+use Rattle.l4_forest.specs.Places.{NonePresentFrom, IsNextPresent}
 use Rattle.l4_fpage.specs.Pages.{space_pages}
 use Rattle.l4_fpage.specs.declared.sizes.PageSize.{PageSize}
 use Rattle.l4_ipc.specs.Machine.{Machine}

@@ -10,8 +10,8 @@ ghost use Rattle.l4_shell.specs.Requests.{is_comment, some_command, asked_at, re
 ghost use Rattle.l4_shell.specs.Sessions.{session, AnswersLine};
 
 use crate::commands::{
-    ScriptFault, fault_parts, ipc_parts, is_fault, is_ipc, is_recv, is_send, other_request,
-    receive_parts, send_parts,
+    ScriptFault, command_name, fault_parts, ipc_parts, is_fault, is_ipc, is_recv, is_send,
+    other_request, receive_parts, send_parts,
 };
 use crate::partners::Partner;
 use crate::refusals::script_code;
@@ -21,7 +21,7 @@ use l4_ipc::Call;
 use l4_record::History;
 use l4_seated::SeatedKernel;
 use l4_servers::Servers;
-use l4_text::{Ending, next_token};
+use l4_text::Ending;
 use std::io::Write;
 
 /// Makes the call of a `recv` line in a place. Answers the thread; None where the tokens can't be read, and then what stands in the place means
@@ -173,7 +173,7 @@ impl Script {
         if is_comment(bytes) {
             return;
         }
-        let Some((name, rest)) = next_token(bytes) else {
+        let Some((name, rest)) = command_name(bytes) else {
             return;
         };
         self.answer_command(line, name, rest, writer);

@@ -1,5 +1,5 @@
 //! What a script line asks for.
-ghost use Rattle.std.specs.Prelude.{◌≡◌, ◌∷◌, false, codes, bytes_eq, option_map};
+ghost use Rattle.std.specs.Prelude.{◌≡◌, ◌∷◌, [], false, codes, bytes_eq, option_map, MatchOption};
 ghost use Rattle.l4_text.specs.Tokens.{tokens_of};
 ghost use Rattle.l4_shell.specs.Commands.{Receive, Send, Ipc, Fault, thread_asked, set_pager_asked, delete_asked, receive_asked, send_asked, ipc_asked, fault_asked, show_asked, parent_asked, delegate_asked, part_asked, unmap_asked, region_asked, serve_asked, steps_asked, pager_command_of, words_of, command_of};
 ghost use Rattle.l4_shell.specs.Requests.{request_of};
@@ -13,7 +13,7 @@ use arrayvec::ArrayVec;
 use l4_ipc::{Call, FaultCall};
 use l4_msg::MAX_WORDS;
 use l4_pager::Entry;
-use l4_text::{next_number, next_token};
+use l4_text::{after_name, next_number, next_token};
 
 /// Why a line can't be read.
 #[derive(Clone, Copy, Debug, PartialEq, Eq)]
@@ -27,6 +27,14 @@ pub(crate) enum ScriptFault {
     /// The input ends before the line's newline (S4).
     CutLine,
 }
+
+const RECV: &[u8] = b"recv";
+
+const SEND: &[u8] = b"send";
+
+const IPC: &[u8] = b"ipc";
+
+const FAULT: &[u8] = b"fault";
 
 const THREAD: &[u8] = b"thread";
 
@@ -345,6 +353,27 @@ pub(crate) fn other_request<'a>(
         return parent(rest).ok_or(ScriptFault::BadTokens);
     }
     pager_command(name, rest)
+}
+
+/// The name of a line's command, and what follows it. Of frequent commands it is seen at once.
+#[inline(always)]
+pub(crate) fn command_name(line: &[u8]) -> Option<(&[u8], &[u8])>
+    ensures { MatchOption result (tokens_of line.now ≡ [])
+        (λ p. tokens_of line.now ≡ p.0.now ∷ tokens_of p.1.now) }
+{
+    if let Some(rest) = after_name(line, *b"recv") {
+        return Some((RECV, rest));
+    }
+    if let Some(rest) = after_name(line, *b"send") {
+        return Some((SEND, rest));
+    }
+    if let Some(rest) = after_name(line, *b"ipc") {
+        return Some((IPC, rest));
+    }
+    if let Some(rest) = after_name(line, *b"fault") {
+        return Some((FAULT, rest));
+    }
+    next_token(line)
 }
 
 /// Whether the name is `recv`. Its bytes are compared at once.

@@ -4,7 +4,7 @@ ghost use Rattle.l4_text.specs.Numbers.{number_of};
 ghost use Rattle.l4_text.specs.Tokens.{tokens_of};
 ghost use Rattle.l4_shell.specs.Commands.{first_by, thread_of, nil_or_thread_of, partner_of, new_space_of};
 
-use l4_text::{next_token, number, quick_number};
+use l4_text::{after_spaced_name, next_token, number, quick_number};
 
 /// The space of a new thread.
 #[derive(Clone, Copy, Debug, PartialEq, Eq)]
@@ -86,9 +86,20 @@ pub(crate) fn next_thread(line: &[u8]) -> Option<(u32, &[u8])>
     Some((thread_number(token)?, rest))
 }
 
-/// The partner that a line's first token names, and what follows the token.
+/// The partner that a line's first token names, and what follows the token. `any` is seen at once where one space stands before it.
 #[inline(always)]
 pub(crate) fn next_partner(line: &[u8]) -> Option<(Partner, &[u8])>
+    ensures { option_map (λ p. (p.0, tokens_of p.1.now)) result ≡ first_by partner_of (tokens_of line.now) }
+{
+    match after_spaced_name(line, *b"any") {
+        Some(rest) => Some((Partner::Any, rest)),
+        None => partner_in_front(line),
+    }
+}
+
+/// The partner that a line's first token names, of whatever form, and what follows the token.
+#[inline(always)]
+fn partner_in_front(line: &[u8]) -> Option<(Partner, &[u8])>
     ensures { option_map (λ p. (p.0, tokens_of p.1.now)) result ≡ first_by partner_of (tokens_of line.now) }
 {
     if let Some((value, rest)) = quick_number(line) {

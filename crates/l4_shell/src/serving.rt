@@ -14,7 +14,7 @@ ghost use Rattle.l4_shell.specs.Inside.Telling.{next_text, ended_later, TellsApp
 use crate::refusals::call_code;
 use crate::session::Session;
 use crate::texts::refused_act_text;
-use l4_answers::{expire_text, put_reply, put_transfer, put_waits};
+use l4_answers::{put_expire, put_reply, put_transfer, put_waits};
 use l4_ipc::{Answer, Kernel, NextStep};
 use l4_record::{Appended, RecordRefusal};
 use l4_text::Output;
@@ -72,7 +72,7 @@ fn tell_next<W: Write>(kernel: &Kernel, next: NextStep, out: &mut Output, writer
             put_reply(receiver, kernel.reply(receiver), out, writer);
         }
         NextStep::Expire(waiter) => {
-            out.put(writer, &expire_text(waiter));
+            put_expire(waiter, out, writer);
             put_reply(waiter, kernel.reply(waiter), out, writer);
         }
     }

@@ -165,6 +165,7 @@ impl Session {
     }
 
     /// Enters a call, and tells its start and the steps that follow it. Answers whether it has ended. Where it is refused, tells why; None then.
+    #[inline(always)]
     fn enter_and_tell<W: Write>(
         &mut self,
         line: u64,

@@ -95,3 +95,11 @@ pub record IsTableIn (s : Tables) (space page end start : ℕ) (keys : List (Opt
   pub from : page < start + table_pages
   pub before : start < end
   pub least : NonePresentIn s space page start
+
+-- how many places of a table, one after another, are a block
+abbrev pub row_block : ℕ
+row_block = 64
+
+-- no place of the table from this one on and below the end has a key
+abbrev pub NoKeys : List (Option ℕ) → ℕ → ℕ → Type 0
+NoKeys keys from end = (low : ℕ) → from ≤ low → low < end → slice_index_or keys low None ≡ None

@@ -11,7 +11,7 @@ mod numbers;
 mod row;
 mod tables;
 
-pub use row::Row;
+pub use row::{BLOCK, Row};
 use std::alloc::{AllocError, AllocFailed, Global};
 use std::fmt;
 use std::marker::Model;

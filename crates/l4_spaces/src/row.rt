@@ -1,6 +1,7 @@
 //! One table: a key or none for each of its pages, in four bytes for all but the largest keys.
 
-ghost use Rattle.std.specs.Prelude.{◌≡◌, ◌≢◌, ◌<◌, ◌≤◌, ℕ, [], length, replicate, None, Some, IfOk, slice_index_or, slice_set, vec_capacity};
+ghost use Rattle.std.specs.Prelude.{◌≡◌, ◌≢◌, ◌<◌, ◌≤◌, ◌+◌, ◌*◌, ℕ, [], length, replicate, false, None, Some, IfOk, slice_index_or, slice_set, vec_capacity};
+ghost use Rattle.l4_spaces.specs.Tables.{row_block, NoKeys};
 
 use std::alloc::{AllocError, Global};
 use std::marker::Model;
@@ -11,6 +12,12 @@ const NO_KEY: u32 = 0x8000_0000;
 /// Stands for a key that four bytes can't hold.
 const LONG_KEY: u32 = NO_KEY + 1;
 
+/// How many places, one after another, are a block.
+pub const BLOCK: usize = 64;
+
+/// How many blocks a table has.
+const BLOCKS: usize = 32;
+
 /// The keys of a table's pages. An absent table has none.
 #[derive(Drop)]
 pub struct Row {
@@ -18,6 +25,8 @@ pub struct Row {
     short: Vec<u32>,
     /// Each other key at its place. The room for all places is taken with the table, but nothing beyond the last such key is written.
     long: Vec<usize>,
+    /// Of each block whether one of its places has had a key, so that walks step over the others.
+    used: [bool; BLOCKS],
 }
 
 impl Model for Row {
@@ -25,13 +34,13 @@ impl Model for Row {
 
     ghost Value = { List (Option ℕ) };
 
-    ghost use Rattle.l4_spaces.specs.Inside.Row.{keys};
+    ghost use Rattle.l4_spaces.specs.Inside.Row.{keys, IsNoted};
 
     ghost view = { λ r. keys r.short.items r.long.items };
 
     ghost use Rattle.std.specs.Prelude.{◌≤◌, length, vec_capacity};
 
-    ghost invariant = { λ r. length r.short.items ≤ vec_capacity r.long };
+    ghost invariant = { λ r. (length r.short.items ≤ vec_capacity r.long) × IsNoted (keys r.short.items r.long.items) r.used };
 }
 
 /// What stands at this place, 0 beyond the end.
@@ -68,6 +77,7 @@ impl Row {
         Row {
             short: Vec::new(alloc),
             long: Vec::new(alloc),
+            used: [false; BLOCKS],
         }
     }
 
@@ -77,7 +87,11 @@ impl Row {
     {
         let short = vec![in alloc; NO_KEY; pages]?;
         let long = Vec::with_capacity(alloc, pages)?;
-        Ok(Row { short, long })
+        Ok(Row {
+            short,
+            long,
+            used: [false; BLOCKS],
+        })
     }
 
     /// Where the memory comes from.
@@ -108,6 +122,14 @@ impl Row {
         Some(long_key(&self.long, low))
     }
 
+    /// Whether a place of the block of this number may have a key. Where one had a key that is gone, it still may.
+    #[inline]
+    pub fn is_used(&self, block: usize) -> bool
+        ensures { result ≡ false → NoKeys self.now (block * row_block) (block * row_block + row_block) }
+    {
+        self.used[block % BLOCKS]
+    }
+
     /// The key of the place, None beyond the end.
     #[inline]
     pub(crate) fn key(&self, low: usize) -> Option<usize>
@@ -125,6 +147,7 @@ impl Row {
         requires within { low < length self.old }
         ensures { self.new ≡ slice_set self.old low (Some key) }
     {
+        self.used[low / BLOCK % BLOCKS] = true;
         if key < NO_KEY as usize {
             self.short[low] = key as u32;
             return;

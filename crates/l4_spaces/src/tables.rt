@@ -2,10 +2,10 @@
 //! for, and what lies beyond it is absent.
 
 ghost use Rattle.std.specs.Prelude.{◌≡◌, ◌≢◌, ◌<◌, ◌≤◌, ◌/◌, ◌%◌, ◌+◌, ◌*◌, ◌⊎◌, ℕ, length, [], ◌∷◌, All, Some, None, OnOk, OnErr, IsOk, IfOk, IsTrue, is_some, IfSome, MatchOption, slice_index_or, true, false};
-ghost use Rattle.l4_spaces.specs.Tables.{table_pages, space_tables, IsPage};
-ghost use Rattle.l4_spaces.specs.Inside.Two.{entry, is_made, IsReady, AreWhole, AreMade, NoKeys, NoneIn, IsFirstIn, IsTableFrom, row};
+ghost use Rattle.l4_spaces.specs.Tables.{table_pages, space_tables, row_block, IsPage, NoKeys};
+ghost use Rattle.l4_spaces.specs.Inside.Two.{entry, is_made, IsReady, AreWhole, AreMade, NoKeysInBlock, NoneIn, IsFirstIn, IsTableFrom, row};
 
-use crate::row::Row;
+use crate::row::{BLOCK, Row};
 use std::alloc::{AllocError, Global};
 
 /// How many pages a table has.
@@ -241,7 +241,7 @@ fn claim_more(
 }
 
 /// The first place from this one on and below the end that has a key, with the key.
-fn next_in_row(row: &Row, from: usize, end: usize) -> Option<(usize, usize)>
+fn next_among(row: &Row, from: usize, end: usize) -> Option<(usize, usize)>
     requires within { end ≤ length row.now }
     ensures none { MatchOption result (NoKeys row.now from end) (λ found. NoKeys row.now from found.0) }
     ensures some { IfSome result (λ found. (from ≤ found.0) × (found.0 < end) × (slice_index_or row.now found.0 None ≡ Some found.1)) }
@@ -249,6 +249,36 @@ fn next_in_row(row: &Row, from: usize, end: usize) -> Option<(usize, usize)>
     for low in from..end {
         if let Some(key) = row.at(low) {
             return Some((low, key));
+        }
+    }
+    None
+}
+
+/// The same, of the places of one block.
+#[inline]
+fn next_in_block(row: &Row, from: usize, end: usize, block: usize) -> Option<(usize, usize)>
+    requires within { end ≤ length row.now }
+    requires begun { block * row_block ≤ end }
+    ensures none { MatchOption result (NoKeysInBlock row.now from end block) (λ found. NoKeysInBlock row.now from found.0 block) }
+    ensures some { IfSome result (λ found. (from ≤ found.0) × (found.0 < end) × (found.0 < block * row_block + row_block) × (slice_index_or row.now found.0 None ≡ Some found.1)) }
+{
+    if !row.is_used(block) {
+        return None;
+    }
+    let start = block * BLOCK;
+    let places = (end - start).min(BLOCK);
+    next_among(row, from.max(start), start + places)
+}
+
+/// The same, of all places. A block that is not used is stepped over.
+fn next_in_row(row: &Row, from: usize, end: usize) -> Option<(usize, usize)>
+    requires within { end ≤ length row.now }
+    ensures none { MatchOption result (NoKeys row.now from end) (λ found. NoKeys row.now from found.0) }
+    ensures some { IfSome result (λ found. (from ≤ found.0) × (found.0 < end) × (slice_index_or row.now found.0 None ≡ Some found.1)) }
+{
+    for block in from / BLOCK..end / BLOCK + 1 {
+        if let Some(found) = next_in_block(row, from, end, block) {
+            return Some(found);
         }
     }
     None

@@ -9,8 +9,8 @@ use Rattle.std.proofs.lemmas.Bool.Decides.{nat_tests}
 use Rattle.std.proofs.lemmas.Option.{none-some}
 use Rattle.l4_text.specs.Lines.{NoNewline}
 use Rattle.l4_text.proofs.LineSteps.{plain_append}
-use Rattle.l4_streams.specs.Strict.{missing, refused_word, IsPlain, EndsSo, ended, IsUpToRefusal, AreUpToRefusal, StopsAtRefusal}
-use Rattle.l4_streams.specs.Inside.Steps.{Seen, further, is_whole, step, stepped}
+use Rattle.l4_streams.specs.Strict.{missing, refused_word, Seen, IsPlain, EndsSo, ended, IsUpToRefusal, AreUpToRefusal, StopsAtRefusal}
+use Rattle.l4_streams.specs.Inside.Steps.{further, is_whole, step, stepped}
 
 missing_more : (word line : List ℕ) (byte : ℕ) → missing word (line ++ byte ∷ []) ≡ further (missing word line) byte
 missing_more [] line byte = refl

@@ -13,6 +13,11 @@ missing (letter ∷ word) (byte ∷ line) = if byte == letter then missing word 
 abbrev pub refused_word : List ℕ
 refused_word = codes "line "
 
+-- what is missing of the word behind the line that hasn't ended, and whether the last byte ended a line that tells of a refused one
+pub record Seen : Type 0 where
+  pub open_line : Option (List ℕ)
+  pub refused : Bool
+
 -- a line of answers that tells of a refused line
 abbrev pub TellsRefusal : List ℕ → Type 0
 TellsRefusal line = missing refused_word line ≡ Some []

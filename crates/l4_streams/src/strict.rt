@@ -17,8 +17,8 @@ pub struct StrictWriter<W: Write> {
 
 impl<W: Write> Model for StrictWriter<W> {
     ghost use Rattle.std.specs.Prelude.{Bool};
-    ghost use Rattle.l4_streams.specs.Strict.{StopsAtRefusal};
-    ghost use Rattle.l4_streams.specs.Inside.Steps.{seen_of, Seen as WasSeen};
+    ghost use Rattle.l4_streams.specs.Strict.{Seen as WasSeen, StopsAtRefusal};
+    ghost use Rattle.l4_streams.specs.Inside.Steps.{seen_of};
 
     ghost Value = { W × (Bool × WasSeen) };
 

@@ -1,10 +1,11 @@
 pub mod Digits
 pub mod DigitTable
-pub mod Eight
+pub mod DecimalTable
 pub mod Ended
 pub mod Gone
 pub mod Hundreds
 pub mod LineSteps
+pub mod Names
 pub mod Newlines
 pub mod OneNumber
 pub mod PairTable

@@ -137,7 +137,7 @@ pub hex_before : (xs : List ℕ) (n w : ℕ) → n ≤ length xs → n ≡ posit
     → HasDigits 16 hex_digit_of xs n w
 hex_before xs n w le place is = has_hex xs n w le (ap (λ k. position_or_len is_space (drop k xs)) place ∙ ends_at_space xs) is
 
-space_front : (x : ℕ) (xs : List ℕ) → x ≡ 32 → tokens_of (x ∷ xs) ≡ tokens_of xs
+pub space_front : (x : ℕ) (xs : List ℕ) → x ≡ 32 → tokens_of (x ∷ xs) ≡ tokens_of xs
 unfolding tokens_of
 space_front x xs is = ap (λ k. filter has_bytes (cond (k == 32) ([] ∷ slice_split is_space xs) (onto_first k (slice_split is_space xs)))) is
 
@@ -190,22 +190,21 @@ one_space x y rest d is h =
       | false ↦ λ _. λ i. cond (not (not (sym is i == 32))) 1 0
     ] refl
 
--- a digit between two spaces is the line's first token
-pub one_digit_first : (line : List ℕ) (a e b d : ℕ) → 3 ≤ length line → get_or line 0 a ≡ 32 → get_or line 2 b ≡ 32 → digit_of (get_or line 1 e) ≡ Some d → d < 2 ^ 32
-    → FirstNumber line (Some d) (take (length line - 2) (drop 2 line))
-one_digit_first [] a e b d three first third h small = absurd (omega (arith, three))
-one_digit_first (x ∷ []) a e b d three first third h small = absurd (omega (arith, three))
-one_digit_first (x ∷ y ∷ []) a e b d three first third h small = absurd (omega (arith, three))
-one_digit_first (x ∷ y ∷ z ∷ zs) a e b d three first third h small =
-    let line : List ℕ = x ∷ y ∷ z ∷ zs in
-    let all : take (length line - 1) (y ∷ z ∷ zs) ≡ y ∷ z ∷ zs = take_rest line 1 in
-    let after : take (length (y ∷ z ∷ zs) - 1) (z ∷ zs) ≡ take (length line - 2) (z ∷ zs) = take_rest (y ∷ z ∷ zs) 1 ∙ sym (take_rest line 2) in
+-- a digit after a space, where the token ends with it, is the line's first token
+pub one_digit_first : (line : List ℕ) (a e d : ℕ) → 2 ≤ length line → get_or line 0 a ≡ 32 → position_or_len is_space (take (length line - 2) (drop 2 line)) ≡ 0
+    → digit_of (get_or line 1 e) ≡ Some d → d < 2 ^ 32 → FirstNumber line (Some d) (take (length line - 2) (drop 2 line))
+one_digit_first [] a e d two first ends h small = absurd (omega (arith, two))
+one_digit_first (x ∷ []) a e d two first ends h small = absurd (omega (arith, two))
+one_digit_first (x ∷ y ∷ zs) a e d two first ends h small =
+    let line : List ℕ = x ∷ y ∷ zs in
+    let all : take (length line - 1) (y ∷ zs) ≡ y ∷ zs = take_rest line 1 in
+    let after : take (length (y ∷ zs) - 1) zs ≡ take (length line - 2) zs = take_rest (y ∷ zs) 1 ∙ sym (take_rest line 2) in
     let own : 0 * 10 + d ≡ d = omega arith in
-    let has : HasDigits 10 digit_of (y ∷ z ∷ zs) 1 d = (
+    let has : HasDigits 10 digit_of (y ∷ zs) 1 d = (
       omega arith,
       ap (λ (o : Option ℕ). option_and_then (λ w. Some (0 * 10 + w)) o) h ∙ ap Some own,
-      (λ i. cond (not (third i == 32)) (1 + position_or_len is_space zs) 0),
+      ap (λ t. position_or_len is_space t) (sym (take_rest line 2)) ∙ ends,
       small,
     ) in
-    let got : FirstNumber (y ∷ z ∷ zs) (Some d) (take (length line - 2) (z ∷ zs)) = subst (λ t. FirstNumber (y ∷ z ∷ zs) (Some d) t) after (decimal_first (y ∷ z ∷ zs) 1 d has (omega arith) (omega arith)) in
-    first_after line 1 (Some d) (take (length line - 2) (z ∷ zs)) (one_space x y (z ∷ zs) d first h) (subst (λ t. FirstNumber t (Some d) (take (length line - 2) (z ∷ zs))) (sym all) got)
+    let got : FirstNumber (y ∷ zs) (Some d) (take (length line - 2) zs) = subst (λ t. FirstNumber (y ∷ zs) (Some d) t) after (decimal_first (y ∷ zs) 1 d has (omega arith) (omega arith)) in
+    first_after line 1 (Some d) (take (length line - 2) zs) (one_space x y zs d first h) (subst (λ t. FirstNumber t (Some d) (take (length line - 2) zs)) (sym all) got)

@@ -13,6 +13,10 @@ most_reads = 16777216
 abbrev pub text_bytes : ℕ
 text_bytes = 160
 
+-- the bytes of an answer's line, at most: three numbers and 64 words
+abbrev pub answer_bytes : ℕ
+answer_bytes = 704
+
 -- the bytes that an output holds back, at most
 abbrev pub held_bytes : ℕ
 held_bytes = 16384

@@ -6,7 +6,7 @@ ghost use Rattle.l4_text.specs.Tokens.{tokens_of, is_space, FirstNumber};
 ghost use Rattle.l4_text.specs.Inside.Reading.{HasDigits, HasToken, IsPacked};
 
 use crate::numbers::{digit, hexadecimal, number};
-use crate::tokens::{next_token, token_len};
+use crate::tokens::{ends_token, next_token, token_len};
 
 /// What stands for a byte beside a number that is packed with a count of bytes.
 const PLACE: u64 = 0x1_0000_0000;
@@ -83,16 +83,20 @@ fn any_number(line: &[u8]) -> Option<(Option<u32>, &[u8])>
     }
 }
 
-/// The number of a line's first token, where it is one digit between two spaces, and what follows the token.
+/// The number of a line's first token, where it is one digit after one space, and what follows the token.
 #[inline(always)]
 fn one_digit(line: &[u8]) -> Option<(u32, &[u8])>
     ensures { IfSome result (λ p. FirstNumber line.now (Some p.0) p.1.now) }
 {
-    if line.len() < 3 || line[0] != b' ' || line[2] != b' ' {
+    if line.len() < 2 || line[0] != b' ' {
+        return None;
+    }
+    let after = &line[2..];
+    if !ends_token(after) {
         return None;
     }
     let value = digit(line[1])?;
-    Some((u32::from(value), &line[2..]))
+    Some((u32::from(value), after))
 }
 
 /// The number of a line's first token where one space stands before it and it is soon read: with 2^32 for each byte up to the token's end.
@@ -123,17 +127,6 @@ pub fn quick_number(line: &[u8]) -> Option<(u32, &[u8])>
         return None;
     }
     Some(((packed % PLACE) as u32, &line[(packed / PLACE) as usize..]))
-}
-
-/// Whether a token in front of a text ends there: it is empty, or begins with a space.
-#[inline(always)]
-fn ends_token(text: &[u8]) -> bool
-    ensures { result ≡ (position_or_len is_space text.now == 0) }
-{
-    if text.is_empty() {
-        return true;
-    }
-    text[0] == b' '
 }
 
 /// The number of a line's first token, where it is `0x` and eight digits after one space, and what follows the token.

@@ -64,22 +64,17 @@ impl<const LIMIT: usize> KeptBytes<LIMIT> {
         self.len += 1;
     }
 
-    /// Appends eight bytes. Each is written by itself, as the compiler puts the writes together, but tests a copy for an overlap.
+    /// Appends the bytes of an array. Each is written by itself, as the compiler puts the writes together, but tests a copy for an overlap.
     #[inline(always)]
-    pub fn push_eight(&mut self, bytes: [u8; 8])
-        requires { length self.old + 8 ≤ LIMIT }
-        ensures { self.new ≡ self.old ++ bytes }
+    pub fn push_array<const COUNT: usize>(&mut self, bytes: [u8; COUNT])
+        requires { length self.old + COUNT ≤ LIMIT }
+        ensures { self.new ≡ self.old ++ bytes.entry }
     {
         let start = self.len as usize;
-        self.cells[start] = bytes[0];
-        self.cells[start + 1] = bytes[1];
-        self.cells[start + 2] = bytes[2];
-        self.cells[start + 3] = bytes[3];
-        self.cells[start + 4] = bytes[4];
-        self.cells[start + 5] = bytes[5];
-        self.cells[start + 6] = bytes[6];
-        self.cells[start + 7] = bytes[7];
-        self.len += 8;
+        for at in 0..COUNT {
+            self.cells[start + at] = bytes[at];
+        }
+        self.len += COUNT as u32;
     }
 
     /// Appends bytes.

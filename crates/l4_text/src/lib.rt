@@ -18,4 +18,4 @@ pub use lines::{Ending, Line, LineReader, Source, next_line};
 pub use numbers::{decimal_number, number, word};
 pub use output::Output;
 pub use texts::Text;
-pub use tokens::{last_three, next_token};
+pub use tokens::{after_name, after_spaced_name, last_three, next_token};

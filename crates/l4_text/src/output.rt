@@ -4,7 +4,7 @@ ghost use Rattle.std.specs.Io.KnownBytes.{Appends};
 ghost use Rattle.std.specs.Prelude.{ℕ, List, Option, true, false};
 ghost use Rattle.l4_text.specs.Streams.{WentOut, HasTold, Tells, IsOutBeforeRead};
 ghost use Rattle.l4_text.specs.Texts.{word_text, words_text};
-ghost use Rattle.l4_text.specs.Sizes.{text_bytes, held_bytes};
+ghost use Rattle.l4_text.specs.Sizes.{text_bytes, answer_bytes, held_bytes};
 
 use crate::faults::RunFault;
 use crate::kept::KeptBytes;
@@ -16,6 +16,9 @@ use std::marker::Model;
 
 /// The most bytes that are held back.
 const MAX_HELD: usize = 16_384;
+
+/// The most bytes of an answer's line.
+const MAX_ANSWER: usize = 704;
 
 /// The most words that a text has room for, each after a space.
 const WORDS_IN_TEXT: usize = MAX_TEXT / 9;
@@ -71,12 +74,12 @@ impl Held {
         self.bytes.is_empty()
     }
 
-    /// Whether there is room for a text.
+    /// Whether there is room for an answer's line.
     fn has_room(&self) -> bool
-        ensures yes { result ≡ true → length self.now + text_bytes ≤ held_bytes }
-        ensures no { result ≡ false → held_bytes < length self.now + text_bytes }
+        ensures yes { result ≡ true → length self.now + answer_bytes ≤ held_bytes }
+        ensures no { result ≡ false → held_bytes < length self.now + answer_bytes }
     {
-        if self.bytes.room() < MAX_TEXT {
+        if self.bytes.room() < MAX_ANSWER {
             return false;
         }
         true
@@ -104,13 +107,13 @@ impl Held {
         self.bytes.extend(bytes);
     }
 
-    /// Holds eight bytes back too.
+    /// Holds the bytes of an array back too.
     #[inline(always)]
-    fn hold_eight(&mut self, bytes: [u8; 8])
-        requires { length self.old + 8 ≤ held_bytes }
-        ensures { self.new ≡ self.old ++ bytes }
+    fn hold_array<const COUNT: usize>(&mut self, bytes: [u8; COUNT])
+        requires { length self.old + COUNT ≤ held_bytes }
+        ensures { self.new ≡ self.old ++ bytes.entry }
     {
-        self.bytes.push_eight(bytes);
+        self.bytes.push_array(bytes);
     }
 
     /// Writes what is held back. After a write that failed it is dropped.
@@ -189,18 +192,9 @@ impl Output {
         }
     }
 
-    /// Whether there is room for a text.
-    #[inline(always)]
-    pub fn has_room(&self) -> bool
-        ensures yes { result ≡ true → length self.now.0 + text_bytes ≤ held_bytes }
-        ensures no { result ≡ false → held_bytes < length self.now.0 + text_bytes }
-    {
-        self.held.has_room()
-    }
-
-    /// Makes room for a text that is then added piece by piece.
+    /// Makes room for an answer's line, which is then added piece by piece.
     pub fn make_room<W: Write>(&mut self, writer: &mut W)
-        ensures room { length self.new.0 + text_bytes ≤ held_bytes }
+        ensures room { length self.new.0 + answer_bytes ≤ held_bytes }
         ensures told { Tells (W.contents writer.old) (W.contents writer.new) self.old self.new [] }
     {
         if !self.held.has_room() {
@@ -226,6 +220,16 @@ impl Output {
         self.held.hold(bytes);
     }
 
+    /// Adds the bytes of an array, for which there is room.
+    #[inline(always)]
+    pub fn add_array<const COUNT: usize>(&mut self, bytes: [u8; COUNT])
+        requires { length self.old.0 + COUNT ≤ held_bytes }
+        ensures value { self.new ≡ (self.old.0 ++ bytes.entry, self.old.1) }
+        ensures len { length self.new.0 ≡ length self.old.0 + COUNT }
+    {
+        self.held.hold_array(bytes);
+    }
+
     /// Adds a number in decimal, without leading zeros.
     #[inline(always)]
     pub fn add_number(&mut self, number: u64)
@@ -237,42 +241,65 @@ impl Output {
             return self.push(b'0' + number as u8);
         }
         if number < 100 {
-            return self.add(&two_digits(number as u8));
+            return self.add_array(two_digits(number as u8));
+        }
+        if number < 1000 {
+            return self.add_hundreds(number as u16);
         }
         self.add_longer(number);
     }
 
-    /// `add_number` for a number of three digits or more.
+    /// `add_number` for a number of three digits.
+    #[inline(always)]
+    fn add_hundreds(&mut self, number: u16)
+        requires long { (100 ≤ number) × (number < 1000) }
+        requires room { length self.old.0 + 3 ≤ held_bytes }
+        ensures value { self.new ≡ (self.old.0 ++ decimal number, self.old.1) }
+        ensures len { length self.new.0 ≡ length self.old.0 + 3 }
+    {
+        let [tens, ones] = two_digits((number % 100) as u8);
+        self.add_array([b'0' + (number / 100) as u8, tens, ones]);
+    }
+
+    /// `add_number` for a number of four digits.
+    fn add_thousands(&mut self, number: u16)
+        requires long { (1000 ≤ number) × (number < 10_000) }
+        requires room { length self.old.0 + 4 ≤ held_bytes }
+        ensures value { self.new ≡ (self.old.0 ++ decimal number, self.old.1) }
+        ensures len { length self.new.0 ≡ length self.old.0 + 4 }
+    {
+        let [thousands, hundreds] = two_digits((number / 100) as u8);
+        let [tens, ones] = two_digits((number % 100) as u8);
+        self.add_array([thousands, hundreds, tens, ones]);
+    }
+
+    /// `add_number` for a number of four digits or more.
     #[inline(never)]
     fn add_longer(&mut self, number: u64)
-        requires long { 100 ≤ number }
+        requires long { 1000 ≤ number }
         requires room { length self.old.0 + 20 ≤ held_bytes }
         ensures value { self.new ≡ (self.old.0 ++ decimal number, self.old.1) }
         ensures len { length self.new.0 ≤ length self.old.0 + 20 }
     {
         if number < 10_000 {
-            return self.add_hundreds(number as u16);
+            return self.add_thousands(number as u16);
         }
         let mut buffer = Buffer::new();
         self.add(buffer.format(number).as_bytes());
     }
 
-    /// `add_number` for a number of three or four digits.
+    /// Adds a number in decimal after a space.
     #[inline(always)]
-    fn add_hundreds(&mut self, number: u16)
-        requires long { (100 ≤ number) × (number < 10_000) }
-        requires room { length self.old.0 + 4 ≤ held_bytes }
-        ensures value { self.new ≡ (self.old.0 ++ decimal number, self.old.1) }
-        ensures len { length self.new.0 ≤ length self.old.0 + 4 }
+    pub fn add_spaced_number(&mut self, number: u64)
+        requires { length self.old.0 + 21 ≤ held_bytes }
+        ensures value { self.new ≡ (self.old.0 ++ 32 ∷ [] ++ decimal number, self.old.1) }
+        ensures len { length self.new.0 ≤ length self.old.0 + 21 }
     {
-        let rest = two_digits((number % 100) as u8);
-        if number < 1000 {
-            self.push(b'0' + (number / 100) as u8);
-            return self.add(&rest);
+        if number < 10 {
+            return self.add_array([b' ', b'0' + number as u8]);
         }
-        let [tens, ones] = rest;
-        let [thousands, hundreds] = two_digits((number / 100) as u8);
-        self.add(&[thousands, hundreds, tens, ones]);
+        self.push(b' ');
+        self.add_number(number);
     }
 
     /// Adds a word in eight hexadecimal digits of lower case.
@@ -281,7 +308,18 @@ impl Output {
         ensures value { self.new ≡ (self.old.0 ++ word_text word, self.old.1) }
         ensures len { length self.new.0 ≡ length self.old.0 + 8 }
     {
-        self.held.hold_eight(word_digits(word));
+        self.held.hold_array(word_digits(word));
+    }
+
+    /// Adds a word in eight hexadecimal digits of lower case after a space.
+    #[inline(always)]
+    pub fn add_spaced_word(&mut self, word: u32)
+        requires { length self.old.0 + 9 ≤ held_bytes }
+        ensures value { self.new ≡ (self.old.0 ++ 32 ∷ [] ++ word_text word, self.old.1) }
+        ensures len { length self.new.0 ≡ length self.old.0 + 9 }
+    {
+        let [a, b, c, d, e, f, g, h] = word_digits(word);
+        self.add_array([b' ', a, b, c, d, e, f, g, h]);
     }
 
     /// Tells a text.
@@ -308,8 +346,7 @@ impl Output {
         ensures len { length self.new.0 ≡ length self.old.0 + 9 * length row.now }
     {
         for word in row {
-            self.push(b' ');
-            self.add_word(*word);
+            self.add_spaced_word(*word);
         }
     }
 

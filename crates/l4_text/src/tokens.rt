@@ -1,4 +1,4 @@
-ghost use Rattle.std.specs.Prelude.{◌≡◌, ◌∷◌, [], ◌≤◌, length, MatchOption, IfSome};
+ghost use Rattle.std.specs.Prelude.{◌≡◌, ◌==◌, ◌∷◌, [], ◌≤◌, length, MatchOption, IfSome};
 ghost use Rattle.std.specs.List.{position, position_or_len};
 ghost use Rattle.l4_text.specs.Tokens.{tokens_of, is_space};
 ghost use Rattle.l4_text.specs.Inside.Reading.{is_no_space};
@@ -34,7 +34,20 @@ pub(crate) fn token_len(line: &[u8]) -> usize
 }
 
 /// The first token of a line, and what follows it. Tokens are parted by spaces, one or more.
+#[inline(always)]
 pub fn next_token(line: &[u8]) -> Option<(&[u8], &[u8])>
+    ensures { MatchOption result (tokens_of line.now ≡ [])
+        (λ p. tokens_of line.now ≡ p.0.now ∷ tokens_of p.1.now) }
+{
+    if line.is_empty() {
+        return None;
+    }
+    cut_token(line)
+}
+
+/// The first token of a line, which may be empty, and what follows it.
+#[inline(never)]
+fn cut_token(line: &[u8]) -> Option<(&[u8], &[u8])>
     ensures { MatchOption result (tokens_of line.now ≡ [])
         (λ p. tokens_of line.now ≡ p.0.now ∷ tokens_of p.1.now) }
 {
@@ -45,6 +58,52 @@ pub fn next_token(line: &[u8]) -> Option<(&[u8], &[u8])>
         return None;
     }
     Some((&rest[..end], &rest[end..]))
+}
+
+/// Whether a token in front of a text ends there: it is empty, or begins with a space.
+#[inline(always)]
+pub(crate) fn ends_token(text: &[u8]) -> bool
+    ensures { result ≡ (position_or_len is_space text.now == 0) }
+{
+    if text.is_empty() {
+        return true;
+    }
+    text[0] == b' '
+}
+
+/// What follows a name in a text that begins with it, where the token ends with the name.
+#[inline(always)]
+pub fn after_name<const COUNT: usize>(text: &[u8], name: [u8; COUNT]) -> Option<&[u8]>
+    requires some { 1 ≤ COUNT }
+    requires token { position_or_len is_space name ≡ COUNT }
+    ensures { IfSome result (λ rest. tokens_of text.now ≡ name.entry ∷ tokens_of rest.now) }
+{
+    if text.len() < COUNT {
+        return None;
+    }
+    for at in 0..COUNT {
+        if text[at] != name[at] {
+            return None;
+        }
+    }
+    let rest = &text[COUNT..];
+    if !ends_token(rest) {
+        return None;
+    }
+    Some(rest)
+}
+
+/// What follows a name that a line's first token is, after one space.
+#[inline(always)]
+pub fn after_spaced_name<const COUNT: usize>(line: &[u8], name: [u8; COUNT]) -> Option<&[u8]>
+    requires some { 1 ≤ COUNT }
+    requires token { position_or_len is_space name ≡ COUNT }
+    ensures { IfSome result (λ rest. tokens_of line.now ≡ name.entry ∷ tokens_of rest.now) }
+{
+    if line.is_empty() || line[0] != b' ' {
+        return None;
+    }
+    after_name(&line[1..], name)
 }
 
 /// The token of three bytes that a line is after its first space, where it is that and no more.

@@ -195,10 +195,10 @@ length-freed_in [] v = refl
 length-freed_in (e ∷ es) v = ap suc (length-freed_in es v)
 
 -- the table after the slice that was lent
-pub freed_back : (es xs new : Entries) (v : ℕ) → xs ≡ es → new ≡ freed_in xs v → refill (length es) es new ≡ freed_in es v
-freed_back es xs new v same frees_all =
+pub freed_back : (es xs new : Entries) (size v : ℕ) → size ≡ length es → xs ≡ es → new ≡ freed_in xs v → refill size es new ≡ freed_in es v
+freed_back es xs new size v long same frees_all =
     let all : new ≡ freed_in es v = frees_all ∙ ap (λ (l : Entries). freed_in l v) same in
-    refill_same es new (ap length all ∙ length-freed_in es v) ∙ all
+    refill_same es new size long (ap length all ∙ length-freed_in es v) ∙ all
 
 -- THE TABLE AFTERWARDS
 

@@ -1,13 +1,17 @@
 -- The numbers of the table, listed once more on their own: where one stands, and what becomes of the list.
-use Rattle.std.proofs.Common.{◌≡◌, ◌≢◌, ℕ, zero, suc, ◌+◌, ◌<◌, ◌≤◌, ◌==◌, ◌||◌, true, false, cond, not, refl, List, [], ◌∷◌, ◌++◌, map, length, Option, Some, None, sym, ap, ◌∙◌, subst, slice_get, arith, inl, inr, eq-eqb}
+use Rattle.std.proofs.Common.{◌≡◌, ◌≢◌, Bool, ℕ, zero, suc, ◌+◌, ◌<◌, ◌≤◌, ◌==◌, ◌||◌, true, false, cond, not, refl, List, [], ◌∷◌, ◌++◌, map, length, Option, Some, None, sym, ap, ◌∙◌, subst, slice_get, arith, inl, inr, eq-eqb}
 use Rattle.std.proofs.lemmas.Bool.{false≢true}
-use Rattle.std.proofs.lemmas.Option.{slice_get_within}
-use Rattle.std.specs.List.{remove, refill, slice_set, slice_index_or}
+use Rattle.std.proofs.lemmas.Option.{slice_get_within, get_or_from_slice_get}
+use Rattle.std.specs.Option.{option_map, option_map_or}
+use Rattle.std.proofs.lemmas.List.{length-append, length-map}
+use Rattle.std.specs.List.{remove, slice_set, slice_index_or}
 use Rattle.l4_threads.specs.declared.Thread.{Thread}
-use Rattle.l4_threads.specs.Inside.Entries.{Entries, found, changed_in, IsAt}
-use Rattle.l4_threads.specs.Inside.Numbers.{hint_count, IsFirst, IsNowhere, AreNumbers}
+use Rattle.l4_threads.specs.Inside.Entries.{Entries, found, changed_in, IsAt, sends_in}
+use Rattle.l4_threads.specs.Threads.{is_sending}
+use Rattle.l4_threads.specs.Inside.Numbers.{hint_count, IsFirst, IsNowhere, IsRoster}
 use Rattle.l4_threads.specs.Queue.{is_in, IsOnce}
-use Rattle.l4_threads.proofs.TableLemmas.{same_or, differ, found_none, numbers-changed_in, written_change}
+use Rattle.l4_threads.specs.Sizes.{max_threads}
+use Rattle.l4_threads.proofs.TableLemmas.{same_or, differ, found_none, found_first, numbers-changed_in, written_change}
 use Rattle.l4_threads.proofs.QueueLemmas.{or_left, or_right, once-push, left_by, left_by_none}
 use Rattle.l4_threads.proofs.BootLemmas.{numbers-push, absent_found}
 
@@ -100,25 +104,44 @@ pub at_within : (es : Entries) (n at : ℕ) → IsAt es n at → at < length es
 at_within es n at first = slice_get_within es at (n, first.thread) first.there
 
 -- the table, and its numbers, where the thread of a number was written over
-abbrev after : Entries → Entries → ℕ → (Thread → Thread) → ℕ × Thread → Entries
-after es xs at f d = refill (length es) es (slice_set xs at ((slice_index_or xs at d).0, f (slice_index_or xs at d).1))
+pub written : (es seen : Entries) (n at : ℕ) (f : Thread → Thread) (x : ℕ × Thread) → es ≡ seen → x ≡ slice_index_or es at x → IsAt seen n at → slice_set es at (x.0, f x.1) ≡ changed_in es n f
+written es seen n at f x same is first = written_change es n at f x is (subst (λ (l : Entries). IsAt l n at) (sym same) first)
 
-pub written : (es seen xs : Entries) (n at : ℕ) (f : Thread → Thread) (d : ℕ × Thread) → es ≡ seen → xs ≡ es → IsAt seen n at → after es xs at f d ≡ changed_in es n f
-written es seen xs n at f d same is first = written_change es xs n at f d is (subst (λ (l : Entries). IsAt l n at) (sym same) first)
-
-pub written_numbers : (es seen xs : Entries) (numbers hints : List ℕ) (n at : ℕ) (f : Thread → Thread) (d : ℕ × Thread) → AreNumbers numbers hints es → es ≡ seen → xs ≡ es → IsAt seen n at
-    → AreNumbers numbers hints (after es xs at f d)
-written_numbers es seen xs numbers hints n at f d are same is first = record {
-  listed = are.listed ∙ sym (ap (λ (es : Entries). map (λ e. e.0) es) (written es seen xs n at f d same is first) ∙ numbers-changed_in es n f);
-  once = are.once;
-  counted = are.counted;
+pub written_numbers : (es seen : Entries) (numbers hints : List ℕ) (capacity n at : ℕ) (f : Thread → Thread) (x : ℕ × Thread) → IsRoster numbers hints es capacity → es ≡ seen → x ≡ slice_index_or es at x → IsAt seen n at
+    → IsRoster numbers hints (slice_set es at (x.0, f x.1)) capacity
+written_numbers es seen numbers hints capacity n at f x kept same is first = record {
+  numbered = record {
+    listed = kept.numbered.listed ∙ sym (ap (λ (es : Entries). map (λ e. e.0) es) (written es seen n at f x same is first) ∙ numbers-changed_in es n f);
+    once = kept.numbered.once;
+    counted = kept.numbered.counted;
+  };
+  few = kept.few;
+  room = kept.room;
 }
 
+-- whether the thread at a place sends
+pub sent_at : (es seen : Entries) (n at : ℕ) (x : ℕ × Thread) (sent : Bool) → sent ≡ is_sending x.1.state → x ≡ slice_index_or es at x → es ≡ seen → IsAt seen n at → sent ≡ sends_in seen n
+sent_at es seen n at x sent says is same first =
+    let it : x ≡ (n, first.thread) = is ∙ ap (λ (l : Entries). slice_index_or l at x) same ∙ get_or_from_slice_get seen at (n, first.thread) x first.there in
+    says ∙ ap (λ (e : ℕ × Thread). is_sending e.1.state) it
+    ∙ sym (ap (λ (o : Option Thread). option_map_or is_sending (option_map (λ thread. thread.state) o) false) (found_first seen n at first.thread first.there first.first))
+
+-- as many entries as numbers
+pub as_many : (es : Entries) (numbers hints : List ℕ) (capacity : ℕ) → IsRoster numbers hints es capacity → length numbers ≡ length es
+as_many es numbers hints capacity kept = ap length kept.numbered.listed ∙ length-map es (λ e. e.0)
+
+pub few_entries : (es : Entries) (numbers hints : List ℕ) (capacity : ℕ) → IsRoster numbers hints es capacity → length es ≤ max_threads
+few_entries es numbers hints capacity kept = let many = as_many es numbers hints capacity kept in let few = kept.few in omega (arith, many, few)
+
 -- with one more number
-pub pushed_numbers : (es : Entries) (numbers hints : List ℕ) (n : ℕ) (t : Thread) (more : List ℕ) → AreNumbers numbers hints es → found es n ≡ None → length more ≡ hint_count
-    → AreNumbers (numbers ++ n ∷ []) more (es ++ (n, t) ∷ [])
-pushed_numbers es numbers hints n t more are free counted = record {
-  listed = ap (λ (l : List ℕ). l ++ n ∷ []) are.listed ∙ sym (numbers-push es (n, t));
-  once = once-push numbers n are.once (ap (λ (l : List ℕ). is_in l n) are.listed ∙ absent_found es n free);
-  counted = counted;
+pub pushed_numbers : (es : Entries) (numbers hints : List ℕ) (capacity n : ℕ) (t : Thread) (more : List ℕ) (larger : ℕ) → IsRoster numbers hints es capacity → found es n ≡ None → length es < max_threads → length more ≡ hint_count → capacity ≤ larger
+    → IsRoster (numbers ++ n ∷ []) more (es ++ (n, t) ∷ []) larger
+pushed_numbers es numbers hints capacity n t more larger kept free less counted grows = record {
+  numbered = record {
+    listed = ap (λ (l : List ℕ). l ++ n ∷ []) kept.numbered.listed ∙ sym (numbers-push es (n, t));
+    once = once-push numbers n kept.numbered.once (ap (λ (l : List ℕ). is_in l n) kept.numbered.listed ∙ absent_found es n free);
+    counted = counted;
+  };
+  few = let many = as_many es numbers hints capacity kept in let one = length-append numbers (n ∷ []) in omega (arith, many, one, less);
+  room = let room = kept.room in omega (arith, room, grows);
 }

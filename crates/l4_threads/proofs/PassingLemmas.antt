@@ -9,7 +9,7 @@ use Rattle.l4_threads.specs.Threads.{Threads, state_of, is_sending, end_call, me
 use Rattle.l4_threads.specs.Enabled.{IsFirstSender}
 use Rattle.l4_threads.specs.Inside.Kept.{threads_of}
 use Rattle.l4_threads.specs.Inside.Entries.{Entries, IsAt, IsTable, found, changed_in, sends_in, is_receiving, in_state}
-use Rattle.l4_threads.specs.Inside.Numbers.{AreNumbers}
+use Rattle.l4_threads.specs.Inside.Numbers.{IsRoster}
 use Rattle.l4_threads.proofs.TableLemmas.{found_first, changed_at, refill_same, length-changed_in, numbers-changed_in}
 use Rattle.l4_threads.specs.Inside.Passing.{taken, HandsOver}
 use Rattle.l4_threads.proofs.QueueLemmas.{left_by, left_by_none}
@@ -85,27 +85,31 @@ sends_what es n at first sends =
       of (Receives r) is h = absurd (false≢true h)
 
 -- the table after the slice that was lent: the receiver's state alone has changed
-pub passed : (es xs new : Entries) (sender receiver «from» at : ℕ) (envelope : Envelope) → IsAt es sender «from» → IsAt es receiver at → xs ≡ es → HandsOver xs «from» at envelope new
-    → (sends : Thread) (sending : Sending) → found es sender ≡ Some sends → sends.state ≡ Sends sending → refill (length es) es new ≡ changed_in es receiver (in_state (taken envelope sending))
-passed es xs new sender receiver «from» at envelope first to same hands sends sending there is =
+pub passed : (es xs new : Entries) (size sender receiver «from» at : ℕ) (envelope : Envelope) → size ≡ length es → IsAt es sender «from» → IsAt es receiver at → xs ≡ es → HandsOver xs «from» at envelope new
+    → (sends : Thread) (sending : Sending) → found es sender ≡ Some sends → sends.state ≡ Sends sending → refill size es new ≡ changed_in es receiver (in_state (taken envelope sending))
+passed es xs new size sender receiver «from» at envelope long first to same hands sends sending there is =
     let both : ◌≡◌ {A = Option Thread} (Some sends) (Some first.thread) = sym there ∙ found_first es sender «from» first.thread first.there first.first in
     let v : sends ≡ first.thread = cc in
     let all : new ≡ changed_in es receiver (in_state (taken envelope sending)) =
     hands sender receiver first.thread to.thread sending (ap (λ (l : Entries). slice_get l «from») same ∙ first.there) (ap (λ (t : Thread). t.state) (sym v) ∙ is) (ap (λ (l : Entries). slice_get l at) same ∙ to.there)
     ∙ ap (λ (l : Entries). slice_set l at (receiver, in_state (taken envelope sending) to.thread)) same
     ∙ changed_at es receiver at to.thread (in_state (taken envelope sending)) to.there to.first in
-    refill_same es new (ap length all ∙ length-changed_in es receiver (in_state (taken envelope sending))) ∙ all
+    refill_same es new size long (ap length all ∙ length-changed_in es receiver (in_state (taken envelope sending))) ∙ all
 
 -- the numbers stay
-pub passed_numbers : (es xs new : Entries) (numbers hints : List ℕ) (sender receiver «from» at : ℕ) (envelope : Envelope) → AreNumbers numbers hints es → IsAt es sender «from» → IsAt es receiver at → xs ≡ es
-    → HandsOver xs «from» at envelope new → sends_in es sender ≡ true → AreNumbers numbers hints (refill (length es) es new)
-passed_numbers es xs new numbers hints sender receiver «from» at envelope are first to same hands sends =
+pub passed_numbers : (es xs new : Entries) (numbers hints : List ℕ) (capacity size sender receiver «from» at : ℕ) (envelope : Envelope) → IsRoster numbers hints es capacity → size ≡ length es → IsAt es sender «from» → IsAt es receiver at → xs ≡ es
+    → HandsOver xs «from» at envelope new → sends_in es sender ≡ true → IsRoster numbers hints (refill size es new) capacity
+passed_numbers es xs new numbers hints capacity size sender receiver «from» at envelope kept long first to same hands sends =
     let what = sends_what es sender «from» first sends in
-    let all = passed es xs new sender receiver «from» at envelope first to same hands first.thread what.0 (found_first es sender «from» first.thread first.there first.first) what.1 in
+    let all = passed es xs new size sender receiver «from» at envelope long first to same hands first.thread what.0 (found_first es sender «from» first.thread first.there first.first) what.1 in
     record {
-      listed = are.listed ∙ sym (ap (λ (l : Entries). map (λ e. e.0) l) all ∙ numbers-changed_in es receiver (in_state (taken envelope what.0)));
-      once = are.once;
-      counted = are.counted;
+      numbered = record {
+        listed = kept.numbered.listed ∙ sym (ap (λ (l : Entries). map (λ e. e.0) l) all ∙ numbers-changed_in es receiver (in_state (taken envelope what.0)));
+        once = kept.numbered.once;
+        counted = kept.numbered.counted;
+      };
+      few = kept.few;
+      room = kept.room;
     }
 
 -- The two threads of an enabled transfer, as they are found.

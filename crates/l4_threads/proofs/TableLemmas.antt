@@ -147,14 +147,11 @@ map-length (e ∷ es) once =
     ∙ omega arith
 
 -- a slice that was lent and keeps its length is what the list has afterwards
-pub refill_same : (es ws : Entries) → length ws ≡ length es → refill (length es) es ws ≡ ws
-refill_same es ws same = grind (arith, common_steps)
+pub refill_same : (es ws : Entries) (size : ℕ) → size ≡ length es → length ws ≡ length es → refill size es ws ≡ ws
+refill_same es ws size all same = ap (λ (n : ℕ). refill n es ws) all ∙ grind (arith, common_steps)
 
--- a write through the lent slice
-pub written_change : (es xs : Entries) (n at : ℕ) (f : Thread → Thread) (d : ℕ × Thread) → xs ≡ es → IsAt es n at
-    → refill (length es) es (slice_set xs at ((slice_index_or xs at d).0, f (slice_index_or xs at d).1)) ≡ changed_in es n f
-written_change es xs n at f d same first =
-    let it : slice_index_or xs at d ≡ (n, first.thread) = ap (λ (l : Entries). slice_index_or l at d) same ∙ get_or_from_slice_get es at (n, first.thread) d first.there in
-    let set : slice_set xs at ((slice_index_or xs at d).0, f (slice_index_or xs at d).1) ≡ changed_in es n f =
-    (λ i. slice_set (same i) at ((it i).0, f (it i).1)) ∙ changed_at es n at first.thread f first.there first.first in
-    ap (refill (length es) es) set ∙ refill_same es (changed_in es n f) (length-changed_in es n f)
+-- the entry at a place is written over
+pub written_change : (es : Entries) (n at : ℕ) (f : Thread → Thread) (x : ℕ × Thread) → x ≡ slice_index_or es at x → IsAt es n at → slice_set es at (x.0, f x.1) ≡ changed_in es n f
+written_change es n at f x is first =
+    let it : x ≡ (n, first.thread) = is ∙ get_or_from_slice_get es at (n, first.thread) x first.there in
+    (λ i. slice_set es at ((it i).0, f (it i).1)) ∙ changed_at es n at first.thread f first.there first.first

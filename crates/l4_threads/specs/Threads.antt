@@ -149,10 +149,6 @@ first_threads = record {
   next_space = 2;
 }
 
--- what stands in a place of the table that is not used
-abbrev pub no_thread : Thread
-no_thread = record { id = nilthread; space = 0; pager = nilthread; state = Running None }
-
 -- What holds of the threads at all times: each thread's id has its number, its space was handed out before, and
 -- the queue's pairs are a strict total order of the senders.
 pub record IsConsistent (t : Threads) : Type 0 where

@@ -256,6 +256,7 @@ impl Activity {
     }
 
     /// The thread runs on, and its Ipc replies this.
+    #[inline(always)]
     pub(crate) fn answer(&mut self, envelope: Envelope, words: &[u32])
         requires { length words.now ≤ max_words }
         ensures { self.new ≡ Running (Some (Ipc (message_of envelope words.now))) }
@@ -265,6 +266,7 @@ impl Activity {
     }
 
     /// The thread runs on, and its Ipc replies the words that the other thread sends behind their tag.
+    #[inline(always)]
     pub(crate) fn take(&mut self, from: &Activity, envelope: Envelope)
         ensures { (sending : ASending) → sending_in from.now ≡ Some sending → self.new ≡ Running (Some (Ipc (message_of envelope (drop 1 sending.words.items)))) }
     {

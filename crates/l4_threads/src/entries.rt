@@ -110,6 +110,7 @@ pub fn free_all(entries: &mut [(u32, Thread)], victim: u32)
 }
 
 /// The Ipc of the thread at one place replies what the thread at the other sends.
+#[inline(always)]
 pub fn hand_over(entries: &mut [(u32, Thread)], from: usize, at: usize, envelope: Envelope)
     requires from { from < length entries.old }
     requires at { at < length entries.old }

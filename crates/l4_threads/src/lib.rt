@@ -192,22 +192,6 @@ pub struct Deleted {
     pub space: Option<u64>,
 }
 
-impl Default for Thread {
-    ghost use Rattle.std.specs.Prelude.{◌≡◌};
-    ghost use Rattle.l4_threads.specs.Threads.{no_thread};
-
-    ghost is_default = { λ thread. thread ≡ no_thread };
-
-    fn default() -> Thread {
-        Thread {
-            id: ThreadId(0),
-            space: 0,
-            pager: ThreadId(0),
-            state: Activity::idle(),
-        }
-    }
-}
-
 impl ThreadId {
     ghost use Rattle.std.specs.Prelude.{◌≡◌, ◌<◌, ◌^◌, MatchOption};
     ghost use Rattle.l4_threads.specs.Threads.{nilthread, anythread, number_of, version_of};

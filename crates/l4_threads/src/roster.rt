@@ -1,5 +1,5 @@
 //! The threads with their numbers, in the order of their creation. A thread is found among the numbers alone.
-ghost use Rattle.std.specs.Prelude.{IsTrue, ◌≡◌, ◌≢◌, ◌==◌, ◌++◌, ◌∷◌, ◌<◌, ◌≤◌, [], length, filter, not, MatchOption, IfSome, Some, None};
+ghost use Rattle.std.specs.Prelude.{IsTrue, ◌≡◌, ◌≢◌, ◌==◌, ◌++◌, ◌∷◌, ◌<◌, ◌≤◌, [], length, filter, not, MatchOption, IfOk, IfSome, Some, None};
 ghost use Rattle.std.specs.Option.{option_copied};
 ghost use Rattle.l4_threads.specs.Inside.Entries.{sends_in};
 ghost use Rattle.l4_threads.specs.Queue.{is_in, IsOnce};
@@ -10,7 +10,7 @@ use crate::entries::{free_all, hand_over};
 use crate::{Envelope, MAX_THREADS, Receiving, Reply, SendPhase, Thread, ThreadId, Wordless};
 use arrayvec::ArrayVec;
 use l4_msg::Item;
-use std::alloc::AllocError;
+use std::alloc::{AllocError, Global};
 use std::marker::Model;
 
 /// How many hints there are.
@@ -19,7 +19,8 @@ const HINTS: usize = 256;
 /// The threads, their numbers once more on their own, and by the remainder of a number where it may stand.
 #[derive(Drop)]
 pub struct Roster {
-    entries: ArrayVec<(u32, Thread), MAX_THREADS>,
+    /// In memory of its own, with room for all threads from the start: a thread is too large to be moved about.
+    entries: Vec<(u32, Thread)>,
     numbers: ArrayVec<u32, MAX_THREADS>,
     hints: [u8; HINTS],
 }
@@ -28,7 +29,8 @@ impl Model for Roster {
     ghost use Rattle.std.specs.Coded.{coded×, coded_ℕ, coded_list};
     ghost use Rattle.l4_threads.specs.contracts.Thread as thread;
     ghost use Rattle.l4_threads.specs.Inside.Entries.{Entries};
-    ghost use Rattle.l4_threads.specs.Inside.Numbers.{AreNumbers};
+    ghost use Rattle.l4_threads.specs.Inside.Numbers.{IsRoster};
+    ghost use Rattle.std.specs.Prelude.{vec_capacity};
 
     ghost Value = { Entries };
 
@@ -36,20 +38,21 @@ impl Model for Roster {
 
     ghost view = { λ r. r.entries.items };
 
-    ghost invariant = { λ r. AreNumbers r.numbers.items r.hints r.entries.items };
+    ghost invariant = { λ r. IsRoster r.numbers.items r.hints r.entries.items (vec_capacity r.entries) };
 }
 
 impl Clone for Roster {
-    ghost use Rattle.std.specs.Prelude.{◌≡◌, ⊤};
+    ghost use Rattle.std.specs.Prelude.{◌≡◌};
 
     ghost is_clone = { λ roster copy. copy ≡ roster };
 
-    ghost is_infallible = { λ _. ⊤ };
-
     fn clone(&self) -> Result<Self, AllocError> {
+        let mut entries = Vec::with_capacity(*self.entries.allocator(), MAX_THREADS)?;
+        entries.extend_with_clones(self.entries.as_slice())?;
+        let numbers = self.numbers.clone()?;
         Ok(Roster {
-            entries: self.entries.clone()?,
-            numbers: self.numbers.clone()?,
+            entries,
+            numbers,
             hints: self.hints,
         })
     }
@@ -95,15 +98,16 @@ impl Roster {
     ghost use Rattle.l4_threads.specs.Endings.{wordless_reply};
     ghost use Rattle.l4_threads.specs.Inside.Passing.{Passes};
 
-    /// No thread.
-    pub fn new() -> Roster
-        ensures { result ≡ [] }
+    /// No thread, and room for all.
+    pub fn new(alloc: Global) -> Result<Roster, AllocError>
+        ensures { IfOk result (λ roster. roster ≡ []) }
     {
-        Roster {
-            entries: ArrayVec::new(),
+        let entries = Vec::with_capacity(alloc, MAX_THREADS)?;
+        Ok(Roster {
+            entries,
             numbers: ArrayVec::new(),
             hints: [0; HINTS],
-        }
+        })
     }
 
     /// The threads with their numbers.
@@ -118,7 +122,7 @@ impl Roster {
     pub fn is_full(&self) -> bool
         ensures { result ≡ (length self.now == max_threads) }
     {
-        self.entries.is_full()
+        self.entries.len() == MAX_THREADS
     }
 
     /// Adds a thread.
@@ -128,11 +132,12 @@ impl Roster {
         ensures { self.new ≡ self.old ++ (number, thread) ∷ [] }
     {
         self.hints[number as usize % HINTS] = self.entries.len() as u8;
-        self.entries.push((number, thread));
+        let _ = self.entries.push((number, thread));
         self.numbers.push(number);
     }
 
     /// Where the thread of this number stands, at its hint or where a walk finds it.
+    #[inline(always)]
     fn place(&self, number: u32) -> Option<usize>
         ensures { MatchOption result (found self.now number ≡ None) (IsAt self.now number) }
     {
@@ -153,38 +158,51 @@ impl Roster {
         Some(&entries[at].1)
     }
 
-    /// The thread of this number runs on with the reply of its call.
-    pub fn run(&mut self, number: u32, reply: Reply)
+    /// The thread of this number runs on with the reply of its call. Whether it was sending.
+    pub fn run(&mut self, number: u32, reply: Reply) -> bool
         requires { found self.old number ≢ None }
-        ensures { self.new ≡ changed_in self.old number (in_state (Running (Some reply))) }
+        ensures sent { result ≡ sends_in self.old number }
+        ensures value { self.new ≡ changed_in self.old number (in_state (Running (Some reply))) }
     {
-        if let Some(at) = self.place(number) {
-            self.entries[at].1.state.run(reply);
-        }
+        let Some(at) = self.place(number) else {
+            return false;
+        };
+        let sent = self.entries[at].1.state.is_sending();
+        self.entries[at].1.state.run(reply);
+        sent
     }
 
-    /// The thread of this number runs on with this reply of its call.
-    pub fn end(&mut self, number: u32, ending: Wordless)
+    /// The thread of this number runs on with this reply of its call. Whether it was sending.
+    pub fn end(&mut self, number: u32, ending: Wordless) -> bool
         requires { found self.old number ≢ None }
-        ensures { self.new ≡ changed_in self.old number (in_state (Running (Some (wordless_reply ending)))) }
+        ensures sent { result ≡ sends_in self.old number }
+        ensures value { self.new ≡ changed_in self.old number (in_state (Running (Some (wordless_reply ending)))) }
     {
-        if let Some(at) = self.place(number) {
-            self.entries[at].1.state.end(ending);
-        }
+        let Some(at) = self.place(number) else {
+            return false;
+        };
+        let sent = self.entries[at].1.state.is_sending();
+        self.entries[at].1.state.end(ending);
+        sent
     }
 
-    /// The thread of this number runs on, and its Ipc replies this.
-    pub fn reply(&mut self, number: u32, envelope: Envelope, words: &[u32])
+    /// The thread of this number runs on, and its Ipc replies this. Whether it was sending.
+    pub fn reply(&mut self, number: u32, envelope: Envelope, words: &[u32]) -> bool
         requires there { found self.old number ≢ None }
         requires words { length words.now ≤ max_words }
-        ensures { self.new ≡ changed_in self.old number (in_state (Running (Some (Ipc (message_of envelope words.now))))) }
+        ensures sent { result ≡ sends_in self.old number }
+        ensures value { self.new ≡ changed_in self.old number (in_state (Running (Some (Ipc (message_of envelope words.now))))) }
     {
-        if let Some(at) = self.place(number) {
-            self.entries[at].1.state.answer(envelope, words);
-        }
+        let Some(at) = self.place(number) else {
+            return false;
+        };
+        let sent = self.entries[at].1.state.is_sending();
+        self.entries[at].1.state.answer(envelope, words);
+        sent
     }
 
     /// The thread of the one number runs on, and its Ipc replies what the other thread sends.
+    #[inline(always)]
     pub fn pass(&mut self, sender: u32, receiver: u32, envelope: Envelope)
         requires there { found self.old receiver ≢ None }
         requires sends { IsTrue (sends_in self.old sender) }
@@ -213,14 +231,18 @@ impl Roster {
         }
     }
 
-    /// The thread of this number receives.
-    pub fn receive(&mut self, number: u32, receiving: Receiving)
+    /// The thread of this number receives. Whether it was sending.
+    pub fn receive(&mut self, number: u32, receiving: Receiving) -> bool
         requires { found self.old number ≢ None }
-        ensures { self.new ≡ changed_in self.old number (in_state (Receives receiving)) }
+        ensures sent { result ≡ sends_in self.old number }
+        ensures value { self.new ≡ changed_in self.old number (in_state (Receives receiving)) }
     {
-        if let Some(at) = self.place(number) {
-            self.entries[at].1.state.receive(receiving);
-        }
+        let Some(at) = self.place(number) else {
+            return false;
+        };
+        let sent = self.entries[at].1.state.is_sending();
+        self.entries[at].1.state.receive(receiving);
+        sent
     }
 
     /// Gives the thread of this number another pager.
@@ -277,14 +299,14 @@ fn leave(queue: &mut ArrayVec<u32, MAX_THREADS>, number: u32)
     }
 }
 
-/// Takes the number out of the queue, where it stands only if that thread sends.
+/// Takes the number out of the queue, where it stands only if that thread sent.
 #[inline(always)]
-pub fn leave_if_sending(queue: &mut ArrayVec<u32, MAX_THREADS>, roster: &Roster, number: u32)
+pub fn leave_if(queue: &mut ArrayVec<u32, MAX_THREADS>, sent: bool, number: u32)
     requires once { IsOnce queue.old.items }
-    requires senders { is_in queue.old.items number ≡ sends_in roster.now number }
+    requires senders { is_in queue.old.items number ≡ sent }
     ensures { queue.new.items ≡ filter (λ m. not (m == number)) queue.old.items }
 {
-    if roster.sends(number) {
+    if sent {
         leave(queue, number);
     }
 }

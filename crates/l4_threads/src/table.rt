@@ -8,14 +8,14 @@ use crate::entries::{
     add_transfer, any_expires, any_receives, ended_by, expires_beside, is_inhabited, lesser,
 };
 use crate::focus::Focus;
-use crate::roster::{Roster, keep_senders, leave_if_sending};
+use crate::roster::{Roster, keep_senders, leave_if};
 use crate::{
     Activity, Deleted, Envelope, MAX_THREADS, Receiving, Reply, SendPhase, Sending, Thread,
     ThreadFault, ThreadId, Wordless,
 };
 use arrayvec::ArrayVec;
 use l4_msg::Item;
-use std::alloc::AllocError;
+use std::alloc::{AllocError, Global};
 use std::marker::Model;
 
 /// The number of the root space.
@@ -50,13 +50,12 @@ impl Model for Threads {
 }
 
 impl Clone for Threads {
-    ghost use Rattle.std.specs.Prelude.{◌≡◌, ⊤};
+    ghost use Rattle.std.specs.Prelude.{◌≡◌};
 
     ghost is_clone = { λ threads copy. copy ≡ threads };
 
-    ghost is_infallible = { λ _. ⊤ };
-
-    /// The same threads with their message registers, and the same queue of senders. What is done with the one is not seen in the other.
+    /// The same threads with their message registers, and the same queue of senders, in memory of their own, as much as `boot` takes. What
+    /// is done with the one is not seen in the other.
     fn clone(&self) -> Result<Self, AllocError> {
         Ok(Threads {
             threads: self.threads.clone()?,
@@ -104,11 +103,12 @@ impl Threads {
     ghost use Rattle.l4_threads.specs.Queue.{pairs_of, IsOnce, is_in};
 
     /// The threads of the start: thread 1, sigma0, in space 0 and without a pager, and thread 2, root, in space 1
-    /// with pager sigma0. Both run, and the next new space is 2.
-    pub fn boot() -> Threads
-        ensures { result ≡ first_threads }
+    /// with pager sigma0. Both run, and the next new space is 2. Room for all threads is taken here, and none later; where that is refused,
+    /// there are none.
+    pub fn boot(alloc: Global) -> Result<Threads, AllocError>
+        ensures { IfOk result (λ threads. threads ≡ first_threads) }
     {
-        let mut threads = Roster::new();
+        let mut threads = Roster::new(alloc)?;
         threads.push(
             1,
             Thread {
@@ -127,12 +127,12 @@ impl Threads {
                 state: Activity::idle(),
             },
         );
-        Threads {
+        Ok(Threads {
             threads,
             queue: ArrayVec::new(),
             next_space: 2,
             focus: Focus::Nobody,
-        }
+        })
     }
 
     /// The least number of a thread that is not below `from`, None where there is none.
@@ -406,8 +406,8 @@ impl Threads {
         requires { IsTrue (may_receive self.old number) }
         ensures { self.new ≡ start_receive self.old number receiving }
     {
-        leave_if_sending(&mut self.queue, &self.threads, number);
-        self.threads.receive(number, receiving);
+        let sent = self.threads.receive(number, receiving);
+        leave_if(&mut self.queue, sent, number);
         self.focus = self.focus.with_waiting(number);
     }
 
@@ -416,8 +416,8 @@ impl Threads {
         requires { IsSome (state_of self.old number) }
         ensures { self.new ≡ end_call self.old number reply }
     {
-        leave_if_sending(&mut self.queue, &self.threads, number);
-        self.threads.run(number, reply);
+        let sent = self.threads.run(number, reply);
+        leave_if(&mut self.queue, sent, number);
         self.focus = self.focus.with_running(number);
     }
 
@@ -426,8 +426,8 @@ impl Threads {
         requires { IsSome (state_of self.old number) }
         ensures { self.new ≡ end_call self.old number (wordless_reply ending) }
     {
-        leave_if_sending(&mut self.queue, &self.threads, number);
-        self.threads.end(number, ending);
+        let sent = self.threads.end(number, ending);
+        leave_if(&mut self.queue, sent, number);
         self.focus = self.focus.with_running(number);
     }
 
@@ -437,13 +437,14 @@ impl Threads {
         requires words { length words.now ≤ max_words }
         ensures { self.new ≡ end_call self.old number (Ipc (message_of envelope words.now)) }
     {
-        leave_if_sending(&mut self.queue, &self.threads, number);
-        self.threads.reply(number, envelope, words);
+        let sent = self.threads.reply(number, envelope, words);
+        leave_if(&mut self.queue, sent, number);
         self.focus = self.focus.with_running(number);
     }
 
     /// An Ipc of the receiver ends with what the sender sends to it: the words behind their tag. The transfer is enabled, and the sender
     /// sends still.
+    #[inline(always)]
     pub fn pass_message(&mut self, sender: u32, receiver: u32, envelope: Envelope)
         requires { IsFirstSender self.old receiver sender }
         ensures { (sending : ASending) → state_of self.old sender ≡ Some (Sends sending)

@@ -2,7 +2,7 @@
 use Rattle.std.proofs.Common.{ℕ, Bool}
 use Rattle.l4_fpage.specs.Rights.{RightsSet}
 use Rattle.l4_mapdb.specs.Mappings.{Mappings}
-use Rattle.l4_mapdb.specs.Losing.{RevokedInBlock, RevokesBlock}
+use Rattle.l4_forest.specs.Losing.{RevokedInBlock, RevokesBlock}
 use Rattle.l4_unmap.specs.Inside.Taking.{GoesWith, Takes, BlockNames}
 use Rattle.l4_mapdb.proofs.Ranges.{loses_along}
 

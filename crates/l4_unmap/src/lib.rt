@@ -6,8 +6,8 @@ ghost use Rattle.l4_mapdb.specs.Mappings.{IsForest};
 ghost use Rattle.l4_fpage.specs.Fpages.{ReadsAs};
 ghost use Rattle.l4_unmap.specs.Unmap.{fpage_count, with_own, UnmapReads, UnmapFails, Unmaps};
 
+use l4_forest::Forest;
 use l4_fpage::{Fpage, PageSize};
-use l4_mapdb::Forest;
 
 /// Why an Unmap is refused.
 #[derive(Clone, Copy, Debug, PartialEq, Eq)]

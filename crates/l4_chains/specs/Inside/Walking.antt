@@ -8,7 +8,7 @@ use Rattle.l4_ipc.specs.Provenance.{Link, Brings, LeavesAlone}
 use Rattle.l4_ipc.specs.Steps.{Steps}
 use Rattle.l4_record.specs.declared.entries.Entry.{Entry}
 use Rattle.l4_chains.specs.declared.links.ChainLink.{ChainLink}
-use Rattle.l4_chains.specs.Chains.{told}
+use Rattle.l4_chains.specs.Chains.{told, origin_of}
 
 -- the entry as an event between these machines
 abbrev pub entry_event : Machine → Entry → Machine → Event
@@ -41,11 +41,6 @@ PassesAll number old [] new first links last = (new ≡ old) × (links ≡ []) �
 PassesAll number old (entry ∷ entries) new first links last =
     (after : Machine) × Does old entry after × (next : Place) × (rest : List ChainLink) × Passes number old entry after first links next rest
     × PassesAll (suc number) after entries new next rest last
-
--- the place at which a chain to the last place begins
-abbrev pub origin_of : List ChainLink → Place → Place
-origin_of [] last = last
-origin_of (link ∷ links) last = link.source
 
 -- the links lead over the whole history to the place, which is present then
 pub record IsWalked (boot : Machine) (history : List Entry) (place : Place) (links : List ChainLink) : Type 0 where

@@ -5,7 +5,7 @@ use Rattle.l4_ipc.specs.SpacePages.{FitIn}
 use Rattle.l4_ipc.specs.Inside.Sound.{IsSound}
 
 abbrev pub seen : Inside → Machine
-seen a = machine a.size a.threads.value a.forest
+seen a = machine a.size a.threads a.forest
 
 pub record IsKept (a : Inside) : Type 0 where
   pub sound : IsSound (seen a)

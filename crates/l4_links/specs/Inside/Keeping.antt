@@ -3,15 +3,16 @@ use Rattle.std.specs.Prelude.{◌≡◌, ◌≢◌, ◌⊎◌, ◌↔◌, ℕ, �
 use Rattle.std.specs.Option.{option_map}
 use Rattle.l4_fpage.specs.Rights.{set_of_bits}
 use Rattle.l4_spaces.specs.Tables.{Tables, key_of, IsSpace, IsPage}
-use Rattle.l4_links.specs.declared.Place.{Place}
+use Rattle.l4_nodes.specs.declared.Place.{Place}
 use Rattle.l4_links.specs.declared.Standing.{Standing}
 use Rattle.l4_links.specs.declared.Entry.{Entry}
-use Rattle.l4_links.specs.declared.nodes.Node.{Node}
-use Rattle.l4_links.specs.declared.nodes.Slot.{Slot}
+use Rattle.l4_nodes.specs.declared.nodes.Node.{Node}
+use Rattle.l4_nodes.specs.declared.nodes.Slot.{Slot}
 use Rattle.l4_links.specs.declared.Links.TheInside.{Inside}
 use Rattle.l4_links.specs.Inside.Trees.{Limb}
 use Rattle.l4_links.specs.Inside.Orders.{first_of}
-use Rattle.l4_links.specs.Inside.Nodes.{Slots, Spot, spots, limbs, values, Worth, AreKeys, IsOf, IsLow, IsForest, IsStamped, AreUnmarked, HasMarks, HasSeen}
+use Rattle.l4_nodes.specs.Slots.{Slots, Spot, spots}
+use Rattle.l4_links.specs.Inside.Nodes.{limbs, values, Worth, AreKeys, IsOf, IsLow, IsForest, IsStamped, AreUnmarked, HasMarks, HasSeen}
 use Rattle.l4_links.specs.Inside.Stacks.{HasStack}
 use Rattle.l4_links.specs.Entries.{Entries, Linked}
 

@@ -2,11 +2,12 @@
 use Rattle.std.specs.Prelude.{◌≡◌, ◌⊎◌, ◌∷◌, [], ℕ, Some, None}
 use Rattle.l4_fpage.specs.Rights.{RightsSet, Within}
 use Rattle.l4_spaces.specs.Tables.{Tables, HasRoom, key_of}
-use Rattle.l4_links.specs.declared.Place.{Place}
-use Rattle.l4_links.specs.declared.nodes.Node.{Node}
-use Rattle.l4_links.specs.declared.nodes.Slot.{Slot}
+use Rattle.l4_nodes.specs.declared.Place.{Place}
+use Rattle.l4_nodes.specs.declared.nodes.Node.{Node}
+use Rattle.l4_nodes.specs.declared.nodes.Slot.{Slot}
 use Rattle.l4_links.specs.Entries.{IsInPages, moved_place}
-use Rattle.l4_links.specs.Inside.Nodes.{Slots, slot_at, node_at, IsOf}
+use Rattle.l4_nodes.specs.Slots.{Slots, slot_at, node_at}
+use Rattle.l4_links.specs.Inside.Nodes.{IsOf}
 
 -- what stands at these pages has no other rights than these
 abbrev pub AreWithin : Place → ℕ → RightsSet → Slots → Type 0

@@ -1,31 +1,15 @@
 -- What the nodes of a slab say of trees and of links.
-use Rattle.std.specs.Prelude.{◌≡◌, ◌≢◌, ℕ, ◌+◌, ◌<◌, ◌≤◌, ◌⊎◌, ◌++◌, ◌∷◌, length, Bool, true, false, List, Option, Some, None, if◌then◌else◌, slice_index_or, option_and_then}
+use Rattle.std.specs.Prelude.{◌≡◌, ◌≢◌, ℕ, ◌+◌, ◌<◌, ◌≤◌, ◌⊎◌, ◌++◌, ◌∷◌, length, Bool, true, false, List, Option, Some, None, if◌then◌else◌, option_and_then}
 use Rattle.std.specs.Option.{option_map}
 use Rattle.l4_fpage.specs.Rights.{RightsSet, common}
-use Rattle.l4_links.specs.declared.Place.{Place}
-use Rattle.l4_links.specs.declared.nodes.Node.{Node}
-use Rattle.l4_links.specs.declared.nodes.Slot.{Slot}
+use Rattle.l4_nodes.specs.declared.Place.{Place}
+use Rattle.l4_nodes.specs.declared.nodes.Node.{Node}
+use Rattle.l4_nodes.specs.declared.nodes.Slot.{Slot}
 use Rattle.l4_links.specs.Leads.{Leads}
-use Rattle.l4_links.specs.Inside.Keys.{IsKey}
+use Rattle.l4_nodes.specs.Keys.{IsKey}
+use Rattle.l4_nodes.specs.Slots.{Slots, Spot, slot_at, node_at, spots, SetsNext, SetsPrev}
 use Rattle.l4_links.specs.Inside.Trees.{Limb, IsTree, Sprouts, parent_at}
 use Rattle.l4_links.specs.Inside.Orders.{Link, IsOnce, IsIn, IsLinked, first_of, position}
-
-abbrev pub Slots : Type 0
-Slots = List (Option Slot)
-
-abbrev pub slot_at : Slots → ℕ → Option Slot
-slot_at slots key = slice_index_or slots key None
-
-abbrev pub node_at : Slots → ℕ → Option Node
-node_at slots key = option_and_then (λ (s : Slot). s.node) (slot_at slots key)
-
--- a slot's page, and whether a message fills it
-pub record Spot : Type 0 where
-  pub place : Place
-  pub wanted : Bool
-
-abbrev pub spots : Slots → ℕ → Option Spot
-spots slots key = option_map {T = Slot} (λ s. record { place = s.place; wanted = s.wanted }) (slot_at slots key)
 
 -- each key that has a slot is one that a node can keep
 abbrev pub AreKeys : Slots → Type 0
@@ -34,10 +18,6 @@ AreKeys slots = (key : ℕ) (s : Spot) → spots slots key ≡ Some s → IsKey 
 -- the key is of the page
 abbrev pub IsOf : Slots → Place → ℕ → Type 0
 IsOf slots place key = option_map {T = Spot} (λ s. s.place) (spots slots key) ≡ Some place
-
-abbrev pub wanted_in : Option Spot → Bool
-wanted_in None = false
-wanted_in (Some s) = s.wanted
 
 -- what is left of a page that is cut off
 abbrev pub left_spot : Option Spot → Option Spot
@@ -102,27 +82,6 @@ pub record IsForest (slots : Slots) (ks : List ℕ) : Type 0 where
   pub order : IsOrder slots ks
   pub tree : IsTree (limbs slots) (position ks)
 
--- the slot has this node now, and all else is as it was
-pub record Writes (key : ℕ) (node : Option Node) (old new : Slots) : Type 0 where
-  pub here : slot_at old key ≢ None → node_at new key ≡ node
-  pub others : (other : ℕ) → other ≢ key → node_at new other ≡ node_at old other
-  pub spots_same : (other : ℕ) → spots new other ≡ spots old other
-
--- the slot under the key is of this page now, and all else is as it was
-pub record SetsPlace (key : ℕ) (place : Place) (old new : Slots) : Type 0 where
-  pub here : slot_at new key ≡ option_map {T = Slot} (λ s. record s { place = place }) (slot_at old key)
-  pub others : (other : ℕ) → other ≢ key → slot_at new other ≡ slot_at old other
-
--- the slot's page is wanted now or not, and all else is as it was
-pub record SetsWanted (key : ℕ) (wanted : Bool) (old new : Slots) : Type 0 where
-  pub here : slot_at new key ≡ option_map {T = Slot} (λ s. record s { wanted = wanted }) (slot_at old key)
-  pub others : (other : ℕ) → other ≢ key → slot_at new other ≡ slot_at old other
-
--- the slot is of this page now, with a note of the rights of the item that grants it, and all else is as it was
-pub record Gives (key : ℕ) (place : Place) (rights : RightsSet) (old new : Slots) : Type 0 where
-  pub here : slot_at new key ≡ option_map {T = Slot} (λ s. record s { place = place; node = option_map (λ (n : Node). record n { granted = Some rights }) s.node }) (slot_at old key)
-  pub others : (other : ℕ) → other ≢ key → slot_at new other ≡ slot_at old other
-
 -- the node has taken the blank's page, with a note of the rights of the item that grants it; the blank has gone, and all else is as it was
 pub record TakesOver (key blank : ℕ) (rights : RightsSet) (old new : Slots) : Type 0 where
   pub page : Slot
@@ -130,17 +89,6 @@ pub record TakesOver (key blank : ℕ) (rights : RightsSet) (old new : Slots) : 
   pub here : slot_at new key ≡ option_map {T = Slot} (λ s. record s { place = page.place; node = option_map (λ (n : Node). record n { granted = Some rights }) s.node }) (slot_at old key)
   pub gone : slot_at new blank ≡ None
   pub others : (other : ℕ) → other ≢ key → other ≢ blank → slot_at new other ≡ slot_at old other
-
--- the node of the key, if it is meant, has this next key
-pub record SetsNext (at next : Option ℕ) (old new : Slots) : Type 0 where
-  pub here : (key : ℕ) → at ≡ Some key → node_at new key ≡ option_map {T = Node} (λ n. record n { next = next }) (node_at old key)
-  pub others : (key : ℕ) → at ≢ Some key → node_at new key ≡ node_at old key
-  pub spots_same : (other : ℕ) → spots new other ≡ spots old other
-
-pub record SetsPrev (at prev : Option ℕ) (old new : Slots) : Type 0 where
-  pub here : (key : ℕ) → at ≡ Some key → node_at new key ≡ option_map {T = Node} (λ n. record n { prev = prev }) (node_at old key)
-  pub others : (key : ℕ) → at ≢ Some key → node_at new key ≡ node_at old key
-  pub spots_same : (other : ℕ) → spots new other ≡ spots old other
 
 -- the key has no node any more, and all other nodes have their values and stand in their trees as they did
 pub record Parts (key : ℕ) (old new : Slots) : Type 0 where
@@ -253,18 +201,6 @@ pub record Caps (key : ℕ) (cap : RightsSet) (old new : Slots) : Type 0 where
   pub others : (other : ℕ) → other ≢ key → node_at new other ≡ node_at old other
   pub spots_same : (other : ℕ) → spots new other ≡ spots old other
 
--- the node has these rights and this link of the stack
-pub record SetsRights (key : ℕ) (rights : RightsSet) (doomed : Option ℕ) (old new : Slots) : Type 0 where
-  pub here : node_at new key ≡ option_map {T = Node} (λ n. record n { rights = rights; doomed = doomed }) (node_at old key)
-  pub others : (other : ℕ) → other ≢ key → node_at new other ≡ node_at old other
-  pub spots_same : (other : ℕ) → spots new other ≡ spots old other
-
--- a walk has come by the node and been over its run, up to this end
-pub record Closes (key stamp : ℕ) (end : Option ℕ) (old new : Slots) : Type 0 where
-  pub here : node_at new key ≡ option_map {T = Node} (λ n. record n { seen = stamp; mark = stamp; end = end }) (node_at old key)
-  pub others : (other : ℕ) → other ≢ key → node_at new other ≡ node_at old other
-  pub spots_same : (other : ℕ) → spots new other ≡ spots old other
-
 -- the place of a key in the list, or the list's end
 abbrev pub place_of : List ℕ → Option ℕ → ℕ
 place_of ks None = length ks
@@ -305,24 +241,6 @@ pub record CapsBelow (top : ℕ) (cap : RightsSet) (old new : Slots) : Type 0 wh
   pub decided : (key : ℕ) → Leads (parent_at (limbs old)) key top ⊎ ¬ (Leads (parent_at (limbs old)) key top)
   pub capped : (key : ℕ) → Leads (parent_at (limbs old)) key top → values new key ≡ option_map (capped_worth cap) (values old key)
   pub kept : (key : ℕ) → ¬ (Leads (parent_at (limbs old)) key top) → values new key ≡ values old key
-
--- a walk has come by the node, and none that is known has been over its run
-pub record Sees (key stamp : ℕ) (old new : Slots) : Type 0 where
-  pub here : node_at new key ≡ option_map {T = Node} (λ n. record n { seen = stamp; mark = 0 }) (node_at old key)
-  pub others : (other : ℕ) → other ≢ key → node_at new other ≡ node_at old other
-  pub spots_same : (other : ℕ) → spots new other ≡ spots old other
-
--- the node is a source now, or none
-pub record SetsSource (key : ℕ) (source : Bool) (old new : Slots) : Type 0 where
-  pub here : node_at new key ≡ option_map {T = Node} (λ n. record n { source = source }) (node_at old key)
-  pub others : (other : ℕ) → other ≢ key → node_at new other ≡ node_at old other
-  pub spots_same : (other : ℕ) → spots new other ≡ spots old other
-
--- the node is neither a source nor granted any more
-pub record SetsPlain (key : ℕ) (old new : Slots) : Type 0 where
-  pub here : node_at new key ≡ option_map {T = Node} (λ n. record n { source = false; granted = None }) (node_at old key)
-  pub others : (other : ℕ) → other ≢ key → node_at new other ≡ node_at old other
-  pub spots_same : (other : ℕ) → spots new other ≡ spots old other
 
 -- the nodes have the same trees, links and values
 pub record IsSame (old new : Slots) : Type 0 where

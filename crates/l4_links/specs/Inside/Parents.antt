@@ -1,9 +1,10 @@
 -- Pages that others descend from, as the tables and the nodes have them.
-use Rattle.std.specs.Prelude.{◌≡◌, ℕ, ◌<◌, ◌≤◌, List, Option, None, Some, slice_index_or}
-use Rattle.l4_spaces.specs.Tables.{Tables, key_of}
+use Rattle.std.specs.Prelude.{◌≡◌, ℕ, ◌+◌, ◌*◌, ◌<◌, ◌≤◌, List, Option, None, Some, slice_index_or}
+use Rattle.l4_spaces.specs.Tables.{Tables, key_of, row_block}
 use Rattle.l4_links.specs.Leads.{Leads}
 use Rattle.l4_links.specs.Inside.Trees.{parent_at}
-use Rattle.l4_links.specs.Inside.Nodes.{Slots, limbs}
+use Rattle.l4_nodes.specs.Slots.{Slots}
+use Rattle.l4_links.specs.Inside.Nodes.{limbs}
 
 -- something descends from the key
 abbrev pub IsParent : Slots → ℕ → Type 0
@@ -16,6 +17,11 @@ IsParentKey slots keys low key = (slice_index_or keys low None ≡ Some key) × 
 -- no place of the table from this one on and below the end has such a key
 abbrev pub NoParents : Slots → List (Option ℕ) → ℕ → ℕ → Type 0
 NoParents slots keys from end = (low key : ℕ) → from ≤ low → low < end → ¬ (IsParentKey slots keys low key)
+
+-- of the places of this block none from this one on and below the end has such a key
+abbrev pub NoParentsInBlock : Slots → List (Option ℕ) → ℕ → ℕ → ℕ → Type 0
+NoParentsInBlock slots keys from end block =
+    (low key : ℕ) → from ≤ low → low < end → block * row_block ≤ low → low < block * row_block + row_block → ¬ (IsParentKey slots keys low key)
 
 -- the first place of the table from this one on that has such a key, which is below the end, and its key
 pub record IsFirstParent (slots : Slots) (keys : List (Option ℕ)) (from end low key : ℕ) : Type 0 where

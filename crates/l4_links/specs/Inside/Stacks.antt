@@ -2,7 +2,8 @@
 use Rattle.std.specs.Prelude.{◌≡◌, ◌≢◌, ◌⊎◌, ⊤, ℕ, List, [], ◌∷◌, Option, Some, None}
 use Rattle.l4_fpage.specs.Rights.{no_rights}
 use Rattle.l4_links.specs.Inside.Orders.{IsIn, IsOnce, first_of}
-use Rattle.l4_links.specs.Inside.Nodes.{Slots, Doom, slot_at, spots, limbs, values, marks, dooms, IsForest}
+use Rattle.l4_nodes.specs.Slots.{Slots, slot_at, spots}
+use Rattle.l4_links.specs.Inside.Nodes.{Doom, limbs, values, marks, dooms, IsForest}
 
 -- each of these keys has no rights, and leads to the one after it
 abbrev pub IsStacked : (ℕ → Option Doom) → List ℕ → Type 0

@@ -1,7 +1,7 @@
 -- Children that the pages of a message get, one after another, where nothing is at its targets. (this profile's own)
 use Rattle.std.specs.Prelude.{◌≡◌, ◌≢◌, ◌⊎◌, ◌<◌, ◌≤◌, ℕ, Bool, List, Some, None, false, true, slice_get}
 use Rattle.l4_fpage.specs.Rights.{RightsSet, common}
-use Rattle.l4_links.specs.declared.Place.{Place as LinkPlace}
+use Rattle.l4_nodes.specs.declared.Place.{Place as LinkPlace}
 use Rattle.l4_links.specs.declared.Standing.{Standing}
 use Rattle.l4_links.specs.declared.Entry.{Entry}
 use Rattle.l4_links.specs.Entries.{Entries, Linked, entry_at, standing_at, IsAt, Descends, HavePlaces, AreTrees, cut_off}
@@ -9,8 +9,8 @@ use Rattle.l4_mapdb.specs.declared.ItemMove.{ItemMove}
 use Rattle.l4_mapdb.specs.declared.sources.UsedMove.{UsedMove}
 use Rattle.l4_mapdb.specs.declared.growing.Stop.{Stop}
 use Rattle.l4_mapdb.specs.Transfer.{IsUsed, IsEntangled, Delivers}
-use Rattle.l4_mapdb.specs.Inside.View.{mappings_of}
-use Rattle.l4_mapdb.specs.Inside.Kept.{IsClean, RootsKnown}
+use Rattle.l4_mapdb.specs.View.{mappings_of}
+use Rattle.l4_mapdb.specs.Delivering.{IsClean, RootsKnown}
 use Rattle.l4_mapdb.specs.Inside.Messages.{IsMoved, turn_of}
 use Rattle.l4_mapdb.specs.Inside.Tangles.{HasTangle}
 
@@ -100,10 +100,3 @@ module _ (start : Linked) (from to : ℕ) (items : List ItemMove) where
   -- a used move that ends what is done for the message; where memory was refused its target has no key
   abbrev pub Stops : Stop → Type 0
   Stops stop = Moves stop.used × (stop.refused ≡ true → (key : ℕ) → ¬ (IsAt start.entries stop.used.target key))
-
--- the message is delivered, and nothing is left of what was done for it
-pub record IsDelivered (from to : ℕ) (items : List ItemMove) (old new : Linked) : Type 0 where
-  pub delivers : Delivers from to items (mappings_of old) (mappings_of new)
-  pub free : ¬ (IsEntangled (IsUsed (mappings_of old) from to items) (mappings_of old))
-  pub clean : IsClean new
-  pub roots : (roots : List ℕ) → RootsKnown old.entries roots → RootsKnown new.entries roots

@@ -1,12 +1,7 @@
 -- What is seen of a text byte by byte.
 use Rattle.std.specs.Prelude.{ℕ, ◌==◌, Bool, true, false, List, [], ◌∷◌, Option, None, Some, option_and_then, option_map, if◌then◌else◌}
-use Rattle.l4_streams.specs.Strict.{missing, refused_word}
+use Rattle.l4_streams.specs.Strict.{missing, refused_word, Seen}
 use Rattle.l4_streams.specs.declared.refusals.Seen.{Seen as Kept}
-
--- what is missing of the word behind the line that hasn't ended, and whether the last byte ended a line that tells of a refused one
-pub record Seen : Type 0 where
-  pub open_line : Option (List ℕ)
-  pub refused : Bool
 
 abbrev pub seen_of : Kept → Seen
 seen_of kept = record { open_line = option_map (λ s. s.now) kept.missing; refused = kept.refused }

@@ -1,7 +1,8 @@
 -- A list of numbers, and where one stands in it. (this profile's own)
-use Rattle.std.specs.Prelude.{◌≡◌, ◌≢◌, ℕ, ◌<◌, List, Some, slice_get, map, length}
+use Rattle.std.specs.Prelude.{◌≡◌, ◌≢◌, ℕ, ◌<◌, ◌≤◌, List, Some, slice_get, map, length}
 use Rattle.l4_threads.specs.Inside.Entries.{Entries}
 use Rattle.l4_threads.specs.Queue.{IsOnce}
+use Rattle.l4_threads.specs.Sizes.{max_threads}
 
 -- the number first stands at this place
 pub record IsFirst (numbers : List ℕ) (n at : ℕ) : Type 0 where
@@ -21,3 +22,9 @@ pub record AreNumbers (numbers hints : List ℕ) (es : Entries) : Type 0 where
   pub listed : numbers ≡ map (λ e. e.0) es
   pub once : IsOnce numbers
   pub counted : length hints ≡ hint_count
+
+-- the table with its numbers, where so many threads have room: all that there can be
+pub record IsRoster (numbers hints : List ℕ) (es : Entries) (capacity : ℕ) : Type 0 where
+  pub numbered : AreNumbers numbers hints es
+  pub few : length numbers ≤ max_threads
+  pub room : max_threads ≤ capacity

@@ -1,10 +1,9 @@
 use Rattle.std.proofs.Common.{◌≡◌, ◌≢◌, ℕ, IsTrue, Some, None, false, refl, sym, ap, ◌∙◌, subst}
 use Rattle.std.specs.FinMap as map
 use Rattle.std.specs.FinSet as set
-use Rattle.l4_links.specs.declared.nodes.Slot.{Slot}
 use Rattle.l4_links.specs.Entries.{Linked, AddsBlank, IsAt}
-use Rattle.l4_links.specs.Inside.Keys.{IsKey}
-use Rattle.l4_links.specs.Inside.Nodes.{Slots, slot_at, node_at, spots}
+use Rattle.l4_nodes.specs.Keys.{IsKey}
+use Rattle.l4_nodes.specs.Slots.{Slots, slot_at, node_at, spots}
 use Rattle.l4_links.specs.Inside.Stacks.{HasStack}
 use Rattle.l4_links.specs.Inside.Keeping.{entries_of, IsSound}
 use Rattle.l4_links.proofs.Kept.{nodes_blank, sound_nodes}
@@ -24,35 +23,35 @@ invariant_of-self-in_err-prepare c =
     }
 
 -- how the slots have changed
-vacant : (c : goal.After-set) → slot_at c.self.inside.nodes.slots c.insert_reserved-key.result ≡ None
-vacant c = ap (λ (s : Slots). slot_at s c.insert_reserved-key.result) (sym c.make_room.ensures.same) ∙ c.insert_reserved-key.ensures.was_vacant
+vacant : (c : goal.After-set) → slot_at c.self.inside.nodes.slots c.insert_blank-key.result ≡ None
+vacant c = ap (λ (s : Slots). slot_at s c.insert_blank-key.result) (sym c.make_room.ensures.same) ∙ c.insert_blank-key.ensures.was_vacant
 
-others : (c : goal.After-set) (o : ℕ) → o ≢ c.insert_reserved-key.result → slot_at c.insert_reserved-key.new.self.slots o ≡ slot_at c.self.inside.nodes.slots o
-others c o ne = c.insert_reserved-key.ensures.others o ne ∙ ap (λ (s : Slots). slot_at s o) c.make_room.ensures.same
+others : (c : goal.After-set) (o : ℕ) → o ≢ c.insert_blank-key.result → slot_at c.insert_blank-key.new.self.slots o ≡ slot_at c.self.inside.nodes.slots o
+others c o ne = c.insert_blank-key.ensures.others o ne ∙ ap (λ (s : Slots). slot_at s o) c.make_room.ensures.same
 
 -- the slot is a blank of the page
-blank_at : (c : goal.After-set) → slot_at c.insert_reserved-key.new.self.slots c.insert_reserved-key.result ≡ Some (record { place = c.args.place; wanted = false; node = None })
-blank_at c = c.insert_reserved-key.ensures.here ∙ ap (λ (s : Slot). Some s) c.blank.ensures
+blank_at : (c : goal.After-set) → slot_at c.insert_blank-key.new.self.slots c.insert_blank-key.result ≡ Some (record { place = c.args.place; wanted = false; node = None })
+blank_at c = c.insert_blank-key.ensures.here
 
 -- which leaves all nodes as they were
-same_nodes : (c : goal.After-set) (k : ℕ) → node_at c.insert_reserved-key.new.self.slots k ≡ node_at c.self.inside.nodes.slots k
-same_nodes c = nodes_blank c.self.inside.nodes.slots c.insert_reserved-key.new.self.slots c.insert_reserved-key.result (record { place = c.args.place; wanted = false; node = None }) refl (vacant c) (blank_at c) (others c)
+same_nodes : (c : goal.After-set) (k : ℕ) → node_at c.insert_blank-key.new.self.slots k ≡ node_at c.self.inside.nodes.slots k
+same_nodes c = nodes_blank c.self.inside.nodes.slots c.insert_blank-key.new.self.slots c.insert_blank-key.result (record { place = c.args.place; wanted = false; node = None }) refl (vacant c) (blank_at c) (others c)
 
 pub invariant_of-self-2 : goal.invariant_of-self-2
 invariant_of-self-2 c = record {
-  sound = sound_nodes c.self.inside.nodes.slots c.insert_reserved-key.new.self.slots (same_nodes c) c.self.inside.first c.self.inside.stamp c.self.inside.walk c.self.invariant.sound;
+  sound = sound_nodes c.self.inside.nodes.slots c.insert_blank-key.new.self.slots (same_nodes c) c.self.inside.first c.self.inside.stamp c.self.inside.walk c.self.invariant.sound;
   indexed =
-      indexed_added c.self.inside.nodes.slots c.insert_reserved-key.new.self.slots c.self.inside.pages c.set.new.self c.args.place c.insert_reserved-key.result (record { place = c.args.place; wanted = false; node = None }) c.self.invariant.indexed
+      indexed_added c.self.inside.nodes.slots c.insert_blank-key.new.self.slots c.self.inside.pages c.set.new.self c.args.place c.insert_blank-key.result (record { place = c.args.place; wanted = false; node = None }) c.self.invariant.indexed
       (λ k at. c.requires.free k (subst (λ (s : Linked). IsAt s.entries c.args.place k) c.self.view_is ((is_at c.self.inside.nodes.slots c.args.place k).0 at)))
-      (subst (λ (k : ℕ). IsKey k) (sym c.insert_reserved-key.ensures.key) c.in_ok-make_room.ensures.few) (vacant c) refl (blank_at c) (others c) (subst (λ (s : Linked). IsTrue (set.contains s.spaces c.args.place.space)) (sym c.self.view_is) c.requires.there) c.requires.fits
-      (c.set.ensures.pages ∙ ap (λ (p : Pages). map.insert p (c.args.place.space, c.args.place.page) c.insert_reserved-key.result) c.prepare.ensures.pages) (c.set.ensures.spaces ∙ c.prepare.ensures.spaces);
-  stack = stack_nodes c.self.inside.nodes.slots c.insert_reserved-key.new.self.slots c.self.inside.doomed (same_nodes c) c.self.invariant.stack;
+      (subst (λ (k : ℕ). IsKey k) (sym c.insert_blank-key.ensures.key) c.in_ok-make_room.ensures.few) (vacant c) refl (blank_at c) (others c) (subst (λ (s : Linked). IsTrue (set.contains s.spaces c.args.place.space)) (sym c.self.view_is) c.requires.there) c.requires.fits
+      (c.set.ensures.pages ∙ ap (λ (p : Pages). map.insert p (c.args.place.space, c.args.place.page) c.insert_blank-key.result) c.prepare.ensures.pages) (c.set.ensures.spaces ∙ c.prepare.ensures.spaces);
+  stack = stack_nodes c.self.inside.nodes.slots c.insert_blank-key.new.self.slots c.self.inside.doomed (same_nodes c) c.self.invariant.stack;
 }
 
 pub returns-clause-ok : goal.returns-clause-ok
 returns-clause-ok c =
-    subst (λ (s : Linked). AddsBlank c.args.place s.entries (entries_of c.insert_reserved-key.new.self.slots) c.insert_reserved-key.result) c.self.view_is
-    (view_blank c.self.inside.nodes.slots c.insert_reserved-key.new.self.slots c.insert_reserved-key.result c.args.place (vacant c) (blank_at c) (others c))
+    subst (λ (s : Linked). AddsBlank c.args.place s.entries (entries_of c.insert_blank-key.new.self.slots) c.insert_blank-key.result) c.self.view_is
+    (view_blank c.self.inside.nodes.slots c.insert_blank-key.new.self.slots c.insert_blank-key.result c.args.place (vacant c) (blank_at c) (others c))
 
 pub returns-clause-blank : goal.returns-clause-blank
-returns-clause-blank c = blank_added c.args.place c.args.self.now.entries (entries_of c.insert_reserved-key.new.self.slots) c.insert_reserved-key.result (returns-clause-ok c)
+returns-clause-blank c = blank_added c.args.place c.args.self.now.entries (entries_of c.insert_blank-key.new.self.slots) c.insert_blank-key.result (returns-clause-ok c)

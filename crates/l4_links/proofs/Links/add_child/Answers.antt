@@ -4,9 +4,10 @@ use Rattle.std.specs.FinSet as set
 use Rattle.l4_spaces.specs.Tables.{key_of}
 use Rattle.l4_fpage.specs.Rights.{common}
 use Rattle.l4_links.specs.Entries.{Linked, AddsChild, IsAt, standing_at}
-use Rattle.l4_links.specs.Inside.Keys.{IsKey}
+use Rattle.l4_nodes.specs.Keys.{IsKey}
 use Rattle.l4_links.specs.Inside.Keeping.{entries_of, standing_of}
-use Rattle.l4_links.specs.Inside.Nodes.{Slots, node_at, AddsUnder}
+use Rattle.l4_nodes.specs.Slots.{Slots, node_at}
+use Rattle.l4_links.specs.Inside.Nodes.{AddsUnder}
 use Rattle.l4_links.proofs.Adding.{blank_of}
 use Rattle.l4_links.proofs.Kept.{nodes_blank, sound_nodes, sound_child}
 use Rattle.l4_links.proofs.Naming.{has_key, is_at, indexed_same, indexed_added}

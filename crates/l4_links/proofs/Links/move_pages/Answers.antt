@@ -1,6 +1,6 @@
 use Rattle.std.proofs.Common.{◌≡◌, ℕ, subst}
 use Rattle.l4_links.specs.Entries.{Linked, MovesPages, Hinders, LacksPlace}
-use Rattle.l4_links.specs.Inside.Nodes.{node_at}
+use Rattle.l4_nodes.specs.Slots.{node_at}
 use Rattle.l4_links.specs.Inside.Keeping.{entries_of}
 use Rattle.l4_links.proofs.Kept.{sound_nodes}
 use Rattle.l4_links.proofs.Moving.{node_moved, view_moves, view_hinders, view_lacks}

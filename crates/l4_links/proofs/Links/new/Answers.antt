@@ -1,5 +1,5 @@
 use Rattle.std.proofs.Common.{ℕ, [], Option, None, refl, subst, sym}
-use Rattle.l4_links.specs.Inside.Nodes.{Slots}
+use Rattle.l4_nodes.specs.Slots.{Slots}
 use Rattle.l4_links.specs.Inside.Stacks.{HasStack}
 use Rattle.l4_links.specs.Inside.Keeping.{IsSound, sources_walk}
 use Rattle.l4_links.proofs.Kept.{sound_empty}

@@ -3,7 +3,8 @@ use Rattle.std.specs.Option.{option_map}
 use Rattle.l4_fpage.specs.Rights.{common}
 use Rattle.l4_links.specs.Leads.{Leads}
 use Rattle.l4_links.specs.Inside.Trees.{Limb, parent_at}
-use Rattle.l4_links.specs.Inside.Nodes.{node_at, limbs, SetsRights}
+use Rattle.l4_nodes.specs.Slots.{node_at, SetsRights}
+use Rattle.l4_links.specs.Inside.Nodes.{limbs}
 use Rattle.l4_links.specs.Entries.{Linked, Sprouts, Descends, standing_at}
 use Rattle.l4_links.specs.Inside.Keeping.{entries_of, standing_of}
 use Rattle.l4_links.proofs.Kept.{parent_stands}

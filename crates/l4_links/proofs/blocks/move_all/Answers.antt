@@ -1,7 +1,8 @@
 use Rattle.std.proofs.Common.{◌∷◌, [], ℕ, refl, sym, ◌∙◌, subst, arith}
 use Rattle.l4_spaces.specs.Tables.{HasRoom}
-use Rattle.l4_links.specs.declared.Place.{Place}
-use Rattle.l4_links.specs.Inside.Nodes.{IsOf, SetsPlace}
+use Rattle.l4_nodes.specs.declared.Place.{Place}
+use Rattle.l4_links.specs.Inside.Nodes.{IsOf}
+use Rattle.l4_nodes.specs.Slots.{SetsPlace}
 use Rattle.l4_links.proofs.Moving.{moves_first, moves_all, moves_more, free_still, room_still, found_at}
 use Rattle.l4_links.proofs.blocks.move_all.Goals as goal
 

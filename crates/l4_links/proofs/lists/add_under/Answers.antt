@@ -1,10 +1,10 @@
 use Rattle.std.proofs.Common.{◌≡◌, ℕ, arith, ap, sym, subst, Option, Some, false, ◌∙◌}
 use Rattle.std.specs.Option.{option_and_then}
-use Rattle.l4_links.specs.declared.nodes.Node.{Node}
-use Rattle.l4_links.specs.declared.nodes.Slot.{Slot}
-use Rattle.l4_links.specs.Inside.Keys.{IsKey}
-use Rattle.l4_links.specs.Inside.Nodes.{slot_at, child, SetsNext, SetsPrev, AddsUnder}
-use Rattle.l4_links.specs.Inside.Packed.{unnoted}
+use Rattle.l4_nodes.specs.declared.nodes.Node.{Node}
+use Rattle.l4_nodes.specs.declared.nodes.Slot.{Slot}
+use Rattle.l4_nodes.specs.Keys.{IsKey}
+use Rattle.l4_nodes.specs.Slots.{slot_at, SetsNext, SetsPrev, unnoted}
+use Rattle.l4_links.specs.Inside.Nodes.{child, AddsUnder}
 use Rattle.l4_links.proofs.Adding.{added}
 use Rattle.l4_links.proofs.Depths.{depth_fits, depth_kept}
 use Rattle.l4_links.proofs.Writes.{node_key}
@@ -19,8 +19,8 @@ child_of-node-requires-clause-depth c =
     let s = c.capacity.ensures in
     omega (arith, d, s)
 
-pub of-requires-clause-depth : goal.of-requires-clause-depth
-of-requires-clause-depth c =
+pub insert_node-key-requires-clause-depth : goal.insert_node-key-requires-clause-depth
+insert_node-key-requires-clause-depth c =
     subst (λ (n : Node). IsKey n.depth) (sym c.child_of-node.ensures)
     (depth_kept c.args.nodes.now.slots c.requires.forest.0 c.args.parent c.args.above.now c.args.nodes.now.vacant_key c.requires.forest.1 c.requires.few c.requires.there c.requires.kept
     (ap (option_and_then (λ (s : Slot). s.node)) c.requires.vacant))
@@ -28,16 +28,15 @@ of-requires-clause-depth c =
 pub returns : goal.returns
 returns c =
     let old = c.args.nodes.now.slots in
-    let put = c.insert_reserved-key.new.self.slots in
-    let key = c.insert_reserved-key.result in
+    let put = c.insert_node-key.new.self.slots in
+    let key = c.insert_node-key.result in
     let filled : slot_at put key ≡ Some (record { place = c.args.place; wanted = false; node = Some (child c.args.parent c.args.above.now c.args.rights) }) =
-    c.insert_reserved-key.ensures.here ∙ ap (λ (s : Slot). Some s) c.of.ensures
-    ∙ ap (λ (n : Node). Some (record { place = c.args.place; wanted = false; node = Some (unnoted n) })) c.child_of-node.ensures in
+    c.insert_node-key.ensures.here ∙ ap (λ (n : Node). Some (record { place = c.args.place; wanted = false; node = Some (unnoted n) })) c.child_of-node.ensures in
     let after : SetsPrev c.args.above.now.next (Some key) put c.set_prev.new.nodes.slots =
     subst (λ (o : Option ℕ). SetsPrev c.args.above.now.next o put c.set_prev.new.nodes.slots) c.to-at.ensures c.set_prev.ensures in
     let before : SetsNext (Some c.args.parent) (Some key) c.set_prev.new.nodes.slots c.set_next.new.nodes.slots =
     subst (λ (o : Option ℕ). SetsNext o (Some key) c.set_prev.new.nodes.slots c.set_next.new.nodes.slots) c.to.ensures
     (subst (λ (o : Option ℕ). SetsNext c.to.result o c.set_prev.new.nodes.slots c.set_next.new.nodes.slots) c.to-at.ensures c.set_next.ensures) in
-    subst (λ (k : ℕ). AddsUnder c.args.parent c.args.place c.args.above.now c.args.rights old c.set_next.new.nodes.slots k) c.insert_reserved-key.ensures.key
+    subst (λ (k : ℕ). AddsUnder c.args.parent c.args.place c.args.above.now c.args.rights old c.set_next.new.nodes.slots k) c.insert_node-key.ensures.key
     (added old put c.set_prev.new.nodes.slots c.set_next.new.nodes.slots c.args.parent key c.args.place c.args.above.now c.args.rights
-    c.requires.there c.insert_reserved-key.ensures.was_vacant filled c.insert_reserved-key.ensures.others after before)
+    c.requires.there c.insert_node-key.ensures.was_vacant filled c.insert_node-key.ensures.others after before)

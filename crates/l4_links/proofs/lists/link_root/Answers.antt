@@ -1,8 +1,7 @@
 use Rattle.std.proofs.Common.{ℕ, Option, Some, None, false, refl, subst}
 use Rattle.l4_fpage.specs.Rights.{RightsSet}
-use Rattle.l4_links.specs.declared.nodes.Node.{Node}
-use Rattle.l4_links.specs.Inside.Nodes.{Writes, SetsPrev}
-use Rattle.l4_links.specs.Inside.Packed.{unnoted}
+use Rattle.l4_nodes.specs.declared.nodes.Node.{Node}
+use Rattle.l4_nodes.specs.Slots.{Writes, SetsPrev, unnoted}
 use Rattle.l4_links.proofs.Writes.{slot_key}
 use Rattle.l4_links.proofs.Roots.{forest_root, rises, no_next}
 use Rattle.l4_links.proofs.Neighbours.{comes_in}

@@ -1,8 +1,8 @@
 use Rattle.std.proofs.Common.{ℕ, arith, refl, sym, subst, Option, Some}
-use Rattle.l4_links.specs.declared.nodes.Node.{Node}
-use Rattle.l4_links.specs.Inside.Keys.{IsKey}
-use Rattle.l4_links.specs.Inside.Nodes.{child, Writes, SetsNext, SetsPrev}
-use Rattle.l4_links.specs.Inside.Packed.{unnoted}
+use Rattle.l4_nodes.specs.declared.nodes.Node.{Node}
+use Rattle.l4_nodes.specs.Keys.{IsKey}
+use Rattle.l4_links.specs.Inside.Nodes.{child}
+use Rattle.l4_nodes.specs.Slots.{Writes, SetsNext, SetsPrev, unnoted}
 use Rattle.l4_links.proofs.Depths.{depth_fits, depth_is_key}
 use Rattle.l4_links.proofs.Writes.{slot_key, node_key}
 use Rattle.l4_links.proofs.Neighbours.{put_in, sprouts, forest_in, comes_in}

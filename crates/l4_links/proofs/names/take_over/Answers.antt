@@ -1,5 +1,5 @@
 use Rattle.std.proofs.Common.{◌≢◌, sym, ap, ◌∙◌, inl}
-use Rattle.l4_links.specs.Inside.Nodes.{node_at}
+use Rattle.l4_nodes.specs.Slots.{node_at}
 use Rattle.l4_links.proofs.Naming.{place_there, place_fits, place_present, taken, indexed_taken}
 use Rattle.l4_links.proofs.names.take_over.Goals as goal
 

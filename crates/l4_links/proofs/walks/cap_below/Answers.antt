@@ -1,5 +1,5 @@
 use Rattle.std.proofs.Common.{ℕ, refl, sym, ◌∙◌, subst, arith, Option, Some, None}
-use Rattle.l4_links.specs.Inside.Nodes.{Closes}
+use Rattle.l4_nodes.specs.Slots.{Closes}
 use Rattle.l4_links.proofs.Writes.{keys_same}
 use Rattle.l4_links.proofs.Walking.{WalkSoFar, walk_first, walk_more, walk_there, walk_ends, walk_at_end, walk_at_key, walked_caps, walked_marks, walked_stamped}
 use Rattle.l4_links.proofs.Stacking.{stack_closed}

@@ -1,6 +1,6 @@
 use Rattle.std.proofs.Common.{ℕ, refl, sym, ◌∙◌, subst, arith, Option, Some, None}
 use Rattle.std.proofs.lemmas.Bool.{false≢true}
-use Rattle.l4_links.specs.Inside.Nodes.{Closes}
+use Rattle.l4_nodes.specs.Slots.{Closes}
 use Rattle.l4_links.proofs.Seeking.{SeekSoFar, seek_first, seek_more, seek_there, seek_ends, seek_found, seek_at_end, seek_at_key, sought_none, sought_seen, stamped_closed}
 use Rattle.l4_links.proofs.walks.has_source.Goals as goal
 

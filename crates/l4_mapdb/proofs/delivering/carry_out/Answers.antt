@@ -1,7 +1,7 @@
 use Rattle.std.proofs.Common.{◌∙◌, length, true}
 use Rattle.l4_links.specs.Entries.{Linked}
 use Rattle.l4_mapdb.specs.Transfer.{IsUsed}
-use Rattle.l4_mapdb.specs.Inside.View.{mappings_of}
+use Rattle.l4_mapdb.specs.View.{mappings_of}
 use Rattle.l4_mapdb.specs.Inside.Messages.{Cleared}
 use Rattle.l4_mapdb.specs.Inside.Placing.{IsStart, Placed, IsDone}
 use Rattle.l4_mapdb.proofs.Begun.{begun}

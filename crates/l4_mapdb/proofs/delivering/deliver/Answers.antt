@@ -1,7 +1,7 @@
 use Rattle.std.proofs.Common.{◌≡◌, IsOk, sym, ◌∙◌, subst}
 use Rattle.std.proofs.lemmas.Result.{on_ok_weaker, on_err_weaker}
 use Rattle.l4_mapdb.specs.Mappings.{Mappings, IsForest}
-use Rattle.l4_mapdb.specs.Inside.View.{mappings_of}
+use Rattle.l4_mapdb.specs.View.{mappings_of}
 use Rattle.l4_mapdb.proofs.Unchanged.{unchanged}
 use Rattle.l4_mapdb.proofs.Grown.{delivered_same}
 use Rattle.l4_mapdb.specs.Transfer.{IsUsed, IsEntangled, TargetsPresent}

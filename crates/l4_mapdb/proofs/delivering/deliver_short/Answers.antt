@@ -1,8 +1,8 @@
 use Rattle.std.proofs.Common.{◌≡◌, ℕ, true, false, sym, ◌∙◌}
 use Rattle.std.proofs.lemmas.Result.{IfOk-weaker, on_err_weaker}
 use Rattle.l4_links.specs.Entries.{entry_at}
-use Rattle.l4_mapdb.specs.Inside.View.{mappings_of}
-use Rattle.l4_mapdb.specs.Inside.Growing.{IsDelivered}
+use Rattle.l4_mapdb.specs.View.{mappings_of}
+use Rattle.l4_mapdb.specs.Delivering.{IsDelivered}
 use Rattle.l4_mapdb.proofs.Unchanged.{unchanged}
 use Rattle.l4_mapdb.proofs.Grown.{delivered_same}
 use Rattle.l4_mapdb.proofs.delivering.deliver_short.Goals.{After-law_places-2, After-deliver_grants}

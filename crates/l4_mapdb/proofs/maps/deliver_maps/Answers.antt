@@ -1,6 +1,6 @@
 use Rattle.std.proofs.Common.{◌≡◌, ℕ, sym, ◌∙◌}
 use Rattle.l4_links.specs.Entries.{entry_at}
-use Rattle.l4_mapdb.specs.Inside.Kept.{IsClean}
+use Rattle.l4_mapdb.specs.Delivering.{IsClean}
 use Rattle.l4_mapdb.specs.Inside.Growing.{IsGround}
 use Rattle.l4_mapdb.proofs.Prepared.{cause_of}
 use Rattle.l4_mapdb.proofs.RoomMade.{lacks_same, lacks_still}

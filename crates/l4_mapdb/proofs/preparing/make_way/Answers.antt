@@ -1,6 +1,6 @@
 use Rattle.std.proofs.Common.{◌∙◌}
 use Rattle.l4_mapdb.specs.Transfer.{IsUsed}
-use Rattle.l4_mapdb.specs.Inside.View.{mappings_of}
+use Rattle.l4_mapdb.specs.View.{mappings_of}
 use Rattle.l4_mapdb.proofs.Keyed.{entangled_keys}
 use Rattle.l4_mapdb.proofs.Prepared.{cleared, cause_of, none_refused, room_rights, room_wanted, room_stay}
 use Rattle.l4_mapdb.proofs.RoomMade.{absent_cleared}

@@ -4,8 +4,8 @@ use Rattle.l4_mapdb.proofs.Moves.{NoneBetween}
 use Rattle.l4_mapdb.proofs.sources.next_of_item.Given as goal
 
 -- no used move of the item stands between the first page that is asked for and this one
-abbrev pub invariant-loop-next : goal.invariant-loop-next
-invariant-loop-next l = record { after : l.page ≤ l.start; begun : (by : ItemMove) → slice_get l.items l.item ≡ Some by → by.mv.source.first ≤ l.start; none : NoneBetween l.links.entries l.from l.to l.items l.item l.page l.start }
+abbrev pub invariant-loop-found : goal.invariant-loop-found
+invariant-loop-found l = record { after : l.page ≤ l.start; begun : (by : ItemMove) → slice_get l.items l.item ≡ Some by → by.mv.source.first ≤ l.start; none : NoneBetween l.links.entries l.from l.to l.items l.item l.page l.start }
 
-abbrev pub decreases-loop-next : goal.decreases-loop-next
-decreases-loop-next l = l.end - l.start
+abbrev pub decreases-loop-found : goal.decreases-loop-found
+decreases-loop-found l = l.end - l.start

@@ -2,7 +2,7 @@ use Rattle.std.proofs.Common.{◌≡◌, IsTrue, sym, ap, ◌∙◌, subst}
 use Rattle.std.specs.Cmp.{nat_cmp_total}
 use Rattle.std.specs.FinSet as set
 use Rattle.l4_mapdb.specs.Mappings.{Mappings}
-use Rattle.l4_mapdb.specs.Boot.{IsFirst}
+use Rattle.l4_forest.specs.Boot.{IsFirst}
 use Rattle.l4_parts_tests.proofs.unmap.mapped.Goals as goal
 
 -- both spaces are there

@@ -1,12 +1,7 @@
-use Rattle.std.proofs.Common.{None, arith}
-use Rattle.l4_shell.specs.Commands.{partner_of}
-use Rattle.l4_shell.proofs.InTurn.{read_number, partner_few, partner_many}
+use Rattle.std.proofs.Common.{sym, ap}
+use Rattle.l4_shell.specs.Commands.{first_by, partner_of}
 use Rattle.l4_shell.proofs.partners.next_partner.Goals as goal
 
-pub returns-then-value-ge262144 : goal.returns-then-value-ge262144
-returns-then-value-ge262144 c =
-    read_number partner_of c.args.line.now c.in-Some.rest.now c.in-Some.value None c.in-Some.ensures (λ token is. partner_many c.in-Some.value token (omega (arith, c.if-value-ge262144.true)) is)
-
 pub returns-in-Some : goal.returns-in-Some
-returns-in-Some c =
-    read_number partner_of c.args.line.now c.in-Some.rest.now c.in-Some.value _ c.in-Some.ensures (λ token is. partner_few c.in-Some.value token (omega (arith, c.if-value-ge262144.false)) is)
+unfolding partner_of
+returns-in-Some c = sym (ap (first_by partner_of) c.in-Some.ensures)

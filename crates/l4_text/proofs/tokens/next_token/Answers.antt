@@ -1,8 +1,6 @@
-use Rattle.l4_text.proofs.Parts.{next_none, next_some}
+use Rattle.std.proofs.Common.{eqb-true, sym, ◌∙◌}
+use Rattle.l4_text.proofs.OneNumber.{no_bytes}
 use Rattle.l4_text.proofs.tokens.next_token.Goals as goal
 
-pub returns-then-end-eq0 : goal.returns-then-end-eq0
-returns-then-end-eq0 c = next_none _ _ _ c.spaces-start.ensures.value c.token_len-end.ensures.value c.if-end-eq0.true
-
-pub returns : goal.returns
-returns c = next_some _ _ _ c.spaces-start.ensures.value c.token_len-end.ensures.value c.if-end-eq0.false
+pub returns-then-is_empty : goal.returns-then-is_empty
+returns-then-is_empty c = no_bytes c.args.line.now (eqb-true _ 0 (sym c.is_empty.ensures ∙ c.if-is_empty.true))

@@ -1,4 +1,4 @@
-use Rattle.std.proofs.Common.{◌≡◌, ◌≤◌, ◌∙◌, refl, sym, subst, rules}
+use Rattle.std.proofs.Common.{◌≡◌, ◌≤◌, refl, sym, subst, rules}
 use Rattle.std.specs.FinSet as set
 use Rattle.l4_mapdb.specs.Mappings.{Mappings}
 use Rattle.l4_threads.specs.Threads.{Threads, first_threads}
@@ -15,7 +15,7 @@ invariant_of-result c =
     let began : c.new_space.new.self ≡ record c.in-Ok.forest { spaces = set.insert c.in-Ok.forest.spaces 1 } = c.in-Ok-new_space.ensures.ok in
     let fit : c.args.frames ≤ max_frames = search rules in
     record {
-      sound = subst (λ (t : Threads). IsSound (machine c.args.size t c.new_space.new.self)) (sym (c.in-Ok-new.ensures.ok ∙ c.boot.ensures))
+      sound = subst (λ (t : Threads). IsSound (machine c.args.size t c.new_space.new.self)) (sym c.in-Ok-boot.ensures)
           (subst (λ (s : Mappings). IsSound (machine c.args.size first_threads s)) (sym began) (sound_boot c.args.size c.args.frames c.in-Ok.forest c.in-Ok.ensures));
       fits = subst (FitIn c.args.size) (sym began) (fits_boot c.args.size c.args.frames c.in-Ok.forest fit c.in-Ok.ensures);
     }
@@ -24,4 +24,4 @@ pub returns-in-Ok-new_space : goal.returns-in-Ok-new_space
 returns-in-Ok-new_space c =
     let some : 1 ≤ c.args.frames = search rules in
     let fit : c.args.frames ≤ max_frames = search rules in
-    (some, fit, refl, record { threads = c.in-Ok-new.ensures.ok ∙ c.boot.ensures; first = c.in-Ok.forest; first_is = c.in-Ok.ensures; mappings = c.in-Ok-new_space.ensures.ok })
+    (some, fit, refl, record { threads = c.in-Ok-boot.ensures; first = c.in-Ok.forest; first_is = c.in-Ok.ensures; mappings = c.in-Ok-new_space.ensures.ok })

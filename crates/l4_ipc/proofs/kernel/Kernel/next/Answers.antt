@@ -1,37 +1,33 @@
-use Rattle.std.proofs.Common.{Ok, ap}
+use Rattle.std.proofs.Common.{Ok, refl}
 use Rattle.l4_ipc.specs.declared.steps.Step.TheVariants.{Transfer, Expire}
 use Rattle.l4_ipc.specs.Machine.{machine}
-use Rattle.l4_threads.specs.Threads.{Threads}
 use Rattle.l4_ipc.specs.NextSteps.{transfer_answer, expire_answer}
 use Rattle.l4_ipc.proofs.SoundKept.{sound_step}
 use Rattle.l4_ipc.proofs.kernel.Kernel.next.Goals as goal
 
 pub invariant_of-self : goal.invariant_of-self
 invariant_of-self c = record {
-  sound = sound_step (machine c.self.inside.size c.self.inside.threads.value c.self.inside.forest) (Transfer c.in-Some.from c.in-Some.to) (Ok (transfer_answer c.in-Some.from c.in-Some.to c.carry_over-outcome.result.0 c.carry_over-outcome.result.1)) (machine c.self.inside.size c.carry_over-outcome.new.threads c.carry_over-outcome.new.forest) (rw c.deref_mut.ensures.value at c.carry_over-outcome.ensures.step) c.self.invariant.sound;
+  sound = sound_step (machine c.self.inside.size c.self.inside.threads c.self.inside.forest) (Transfer c.in-Some.from c.in-Some.to) (Ok (transfer_answer c.in-Some.from c.in-Some.to c.carry_over-outcome.result.0 c.carry_over-outcome.result.1)) (machine c.self.inside.size c.carry_over-outcome.new.threads c.carry_over-outcome.new.forest) (c.carry_over-outcome.ensures.step) c.self.invariant.sound;
   fits = c.carry_over-outcome.ensures.fits c.self.invariant.fits;
 }
 
 pub returns-in-Some : goal.returns-in-Some
-returns-in-Some c = rw (← c.self.view_is) (rw c.deref-threads.ensures at c.in-Some.ensures, rw c.deref_mut.ensures.value at c.carry_over-outcome.ensures.step)
+returns-in-Some c = rw (← c.self.view_is) (c.in-Some.ensures, c.carry_over-outcome.ensures.step)
 
 pub returns-in_default-next_expiry : goal.returns-in_default-next_expiry
-returns-in_default-next_expiry c = rw (← c.self.view_is, c.settle.ensures) (record { no_transfer = rw c.deref-threads.ensures at c.in_default.ensures; no_expiry = rw c.deref-threads.ensures at c.in_default-next_expiry.ensures }, ap (λ (t : Threads). machine c.self.inside.size t c.self.inside.forest) c.deref_mut-in_default-next_expiry.ensures.value)
+returns-in_default-next_expiry c = rw (← c.self.view_is, c.settle.ensures) (record { no_transfer = c.in_default.ensures; no_expiry = c.in_default-next_expiry.ensures }, refl)
 
 pub invariant_of-self-in_default-expire_untold : goal.invariant_of-self-in_default-expire_untold
-invariant_of-self-in_default-expire_untold c = absurd ((c.in_default-expire_untold.ensures.err c.self.inside.size c.self.inside.forest).0 (rw (c.deref_mut-2.ensures.value) (rw c.deref-threads.ensures at c.in-Some-next_expiry.ensures.can_expire)))
+invariant_of-self-in_default-expire_untold c = absurd ((c.in_default-expire_untold.ensures.err c.self.inside.size c.self.inside.forest).0 c.in-Some-next_expiry.ensures.can_expire)
 
 pub returns-in_default-expire_untold : goal.returns-in_default-expire_untold
-returns-in_default-expire_untold c = absurd ((c.in_default-expire_untold.ensures.err c.self.inside.size c.self.inside.forest).0 (rw (c.deref_mut-2.ensures.value) (rw c.deref-threads.ensures at c.in-Some-next_expiry.ensures.can_expire)))
+returns-in_default-expire_untold c = absurd ((c.in_default-expire_untold.ensures.err c.self.inside.size c.self.inside.forest).0 c.in-Some-next_expiry.ensures.can_expire)
 
 pub invariant_of-self-2 : goal.invariant_of-self-2
 invariant_of-self-2 c = record {
-  sound = sound_step (machine c.self.inside.size c.self.inside.threads.value c.self.inside.forest) (Expire c.in-Some-next_expiry.number) (Ok (expire_answer c.in-Some-next_expiry.number)) (machine c.self.inside.size c.expire_untold.new.threads c.self.inside.forest) (rw c.deref_mut-2.ensures.value at (c.in-Ok.ensures.ok c.self.inside.size c.self.inside.forest)) c.self.invariant.sound;
+  sound = sound_step (machine c.self.inside.size c.self.inside.threads c.self.inside.forest) (Expire c.in-Some-next_expiry.number) (Ok (expire_answer c.in-Some-next_expiry.number)) (machine c.self.inside.size c.expire_untold.new.threads c.self.inside.forest) ((c.in-Ok.ensures.ok c.self.inside.size c.self.inside.forest)) c.self.invariant.sound;
   fits = c.self.invariant.fits;
 }
 
 pub returns : goal.returns
-returns c = rw (← c.self.view_is) ((rw c.deref-threads.ensures at c.in_default.ensures, rw c.deref-threads.ensures at c.in-Some-next_expiry.ensures), rw c.deref_mut-2.ensures.value at (c.in-Ok.ensures.ok c.self.inside.size c.self.inside.forest))
-
-pub settle-requires-clause-no_expiry : goal.settle-requires-clause-no_expiry
-settle-requires-clause-no_expiry c = rw c.deref_mut-in_default-next_expiry.ensures.value (rw c.deref-threads.ensures at c.in_default-next_expiry.ensures)
+returns c = rw (← c.self.view_is) ((c.in_default.ensures, c.in-Some-next_expiry.ensures), (c.in-Ok.ensures.ok c.self.inside.size c.self.inside.forest))

@@ -9,13 +9,13 @@ use Rattle.l4_ipc.proofs.kernel.Kernel.start.Goals as goal
 
 pub invariant_of-self : goal.invariant_of-self
 invariant_of-self c =
-    let old = machine c.self.inside.size c.self.inside.threads.value c.self.inside.forest in let new = machine c.self.inside.size c.start.new.threads c.start.new.forest in
+    let old = machine c.self.inside.size c.self.inside.threads c.self.inside.forest in let new = machine c.self.inside.size c.start.new.threads c.start.new.forest in
     let given = written c.start.result c.start.new.answer in
-    let step : Steps old (Start c.args.number c.args.call.now) given new = rw c.deref_mut.ensures.value at c.start.ensures in
+    let step : Steps old (Start c.args.number c.args.call.now) given new = c.start.ensures in
     record { sound = sound_step old (Start c.args.number c.args.call.now) given new step c.self.invariant.sound; fits = fits_start old c.args.number c.args.call.now given new step c.self.invariant.fits }
 
 pub returns-clause-ok : goal.returns-clause-ok
-returns-clause-ok c = rw (← c.self.view_is) (written_ok _ _ c.args.number c.args.call.now c.start.result c.start.new.answer (rw c.deref_mut.ensures.value at c.start.ensures))
+returns-clause-ok c = rw (← c.self.view_is) (written_ok _ _ c.args.number c.args.call.now c.start.result c.start.new.answer c.start.ensures)
 
 pub returns-clause-err : goal.returns-clause-err
-returns-clause-err c = rw (← c.self.view_is) (written_err _ _ c.args.number c.args.call.now c.start.result c.start.new.answer (rw c.deref_mut.ensures.value at c.start.ensures))
+returns-clause-err c = rw (← c.self.view_is) (written_err _ _ c.args.number c.args.call.now c.start.result c.start.new.answer c.start.ensures)

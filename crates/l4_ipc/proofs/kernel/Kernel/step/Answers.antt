@@ -6,31 +6,31 @@ use Rattle.l4_ipc.proofs.SoundKept.{sound_step}
 use Rattle.l4_ipc.proofs.kernel.Kernel.step.Goals as goal
 
 pub transfer-requires : goal.transfer-requires
-transfer-requires c = rw c.deref_mut-in-Transfer.ensures.value c.self.invariant.sound.have_spaces
+transfer-requires c = c.self.invariant.sound.have_spaces
 
 pub invariant_of-self : goal.invariant_of-self
 invariant_of-self c =
-    let old = machine c.self.inside.size c.self.inside.threads.value c.self.inside.forest in let new = machine c.self.inside.size c.start_answered.new.threads c.start_answered.new.forest in
-    let step : Steps old (Start c.in-Start.number c.in-Start.call) c.start_answered.result new = rw c.deref_mut.ensures.value at c.start_answered.ensures in
+    let old = machine c.self.inside.size c.self.inside.threads c.self.inside.forest in let new = machine c.self.inside.size c.start_answered.new.threads c.start_answered.new.forest in
+    let step : Steps old (Start c.in-Start.number c.in-Start.call) c.start_answered.result new = c.start_answered.ensures in
     record { sound = sound_step old (Start c.in-Start.number c.in-Start.call) c.start_answered.result new step c.self.invariant.sound; fits = fits_start old c.in-Start.number c.in-Start.call c.start_answered.result new step c.self.invariant.fits }
 
 pub invariant_of-self-in-Transfer : goal.invariant_of-self-in-Transfer
 invariant_of-self-in-Transfer c = record {
-  sound = sound_step (machine c.self.inside.size c.self.inside.threads.value c.self.inside.forest) (Transfer c.in-Transfer.sender c.in-Transfer.receiver) c.transfer.result (machine c.self.inside.size c.transfer.new.threads c.transfer.new.forest) (rw c.deref_mut-in-Transfer.ensures.value at c.transfer.ensures.step) c.self.invariant.sound;
+  sound = sound_step (machine c.self.inside.size c.self.inside.threads c.self.inside.forest) (Transfer c.in-Transfer.sender c.in-Transfer.receiver) c.transfer.result (machine c.self.inside.size c.transfer.new.threads c.transfer.new.forest) c.transfer.ensures.step c.self.invariant.sound;
   fits = c.transfer.ensures.fits c.self.invariant.fits;
 }
 
 pub invariant_of-self-in-Expire : goal.invariant_of-self-in-Expire
 invariant_of-self-in-Expire c = record {
-  sound = sound_step (machine c.self.inside.size c.self.inside.threads.value c.self.inside.forest) (Expire c.in-Expire.number) c.expire.result (machine c.self.inside.size c.expire.new.threads c.self.inside.forest) (rw c.deref_mut-in-Expire.ensures.value at (c.expire.ensures c.self.inside.size c.self.inside.forest)) c.self.invariant.sound;
+  sound = sound_step (machine c.self.inside.size c.self.inside.threads c.self.inside.forest) (Expire c.in-Expire.number) c.expire.result (machine c.self.inside.size c.expire.new.threads c.self.inside.forest) (c.expire.ensures c.self.inside.size c.self.inside.forest) c.self.invariant.sound;
   fits = c.self.invariant.fits;
 }
 
 pub returns-in-Start : goal.returns-in-Start
-returns-in-Start c = rw (← c.self.view_is, c.in-Start.is) (rw c.deref_mut.ensures.value at c.start_answered.ensures)
+returns-in-Start c = rw (← c.self.view_is, c.in-Start.is) c.start_answered.ensures
 
 pub returns-in-Transfer : goal.returns-in-Transfer
-returns-in-Transfer c = rw (← c.self.view_is, c.in-Transfer.is) (rw c.deref_mut-in-Transfer.ensures.value at c.transfer.ensures.step)
+returns-in-Transfer c = rw (← c.self.view_is, c.in-Transfer.is) c.transfer.ensures.step
 
 pub returns-in-Expire : goal.returns-in-Expire
-returns-in-Expire c = rw (← c.self.view_is, c.in-Expire.is) (rw c.deref_mut-in-Expire.ensures.value at (c.expire.ensures c.self.inside.size c.self.inside.forest))
+returns-in-Expire c = rw (← c.self.view_is, c.in-Expire.is) (c.expire.ensures c.self.inside.size c.self.inside.forest)

@@ -1,7 +1,7 @@
 use Rattle.std.proofs.Common.{◌≡◌, ℕ, ◌-◌, ◌*◌, ◌≤◌, min, sym, ap, ◌∙◌, arith}
 use Rattle.l4_msg.specs.Regions.{part_of_list}
 use Rattle.l4_plan.specs.Plan.{Listing}
-use Rattle.l4_plan.specs.Split.{reached, starts_from}
+use Rattle.l4_plan.specs.Inside.Split.{reached, starts_from}
 use Rattle.l4_plan.proofs.Listed.{goes_on, pages_part_is, no_pages_part, passed_all}
 use Rattle.l4_plan.proofs.plans.Plan.pages_of.Goals as goal
 

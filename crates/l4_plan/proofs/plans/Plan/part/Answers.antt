@@ -3,7 +3,7 @@ use Rattle.std.specs.List.{All}
 use Rattle.l4_msg.specs.Moves.{base_of}
 use Rattle.l4_msg.specs.Regions.{part_of_list}
 use Rattle.l4_plan.specs.Plan.{Listing}
-use Rattle.l4_plan.specs.Split.{reached, starts_from, item_at}
+use Rattle.l4_plan.specs.Inside.Split.{reached, starts_from, item_at}
 use Rattle.l4_plan.proofs.Listed.{length_items, goes_on, part_is, bases_whole, passed_all}
 use Rattle.l4_plan.proofs.plans.Plan.part.Goals as goal
 

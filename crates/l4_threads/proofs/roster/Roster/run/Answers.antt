@@ -1,16 +1,17 @@
-use Rattle.std.proofs.Common.{Some}
+use Rattle.std.proofs.Common.{vec_capacity, Some}
 use Rattle.l4_threads.specs.declared.State.TheVariants.{Running}
 use Rattle.l4_threads.specs.Inside.Entries.{in_state}
-use Rattle.l4_threads.proofs.NumberLemmas.{written, written_numbers}
+use Rattle.l4_threads.proofs.NumberLemmas.{written, written_numbers, sent_at}
 use Rattle.l4_threads.proofs.roster.Roster.run.Goals as goal
 
 pub invariant_of-self : goal.invariant_of-self
 invariant_of-self c =
-    rw c.run.ensures (written_numbers c.self.inside.entries.items c.args.self.now _ c.self.inside.numbers.items c.self.inside.hints c.args.number c.in-Some.at (in_state (Running (Some c.args.reply))) _ c.self.invariant c.self.view_is c.deref_mut.ensures.value c.in-Some.ensures)
+    rw c.run.ensures (written_numbers c.self.inside.entries.items c.args.self.now c.self.inside.numbers.items c.self.inside.hints (vec_capacity c.self.inside.entries) c.args.number c.in-Some.at (in_state (Running (Some c.args.reply))) c.index_mut.result.now c.self.invariant c.self.view_is c.index_mut.ensures.value c.in-Some.ensures)
 
-pub returns-in-Some : goal.returns-in-Some
-returns-in-Some c =
-    rw (c.run.ensures, ← c.self.view_is) (written c.self.inside.entries.items c.args.self.now _ c.args.number c.in-Some.at (in_state (Running (Some c.args.reply))) _ c.self.view_is c.deref_mut.ensures.value c.in-Some.ensures)
+pub returns-clause-value : goal.returns-clause-value
+returns-clause-value c =
+    rw (c.run.ensures, ← c.self.view_is) (written c.self.inside.entries.items c.args.self.now c.args.number c.in-Some.at (in_state (Running (Some c.args.reply))) c.index_mut.result.now c.self.view_is c.index_mut.ensures.value c.in-Some.ensures)
 
-pub returns-in_default : goal.returns-in_default
-returns-in_default c = absurd (c.requires c.in_default.ensures)
+pub returns-clause-sent : goal.returns-clause-sent
+returns-clause-sent c =
+    sent_at c.self.inside.entries.items c.args.self.now c.args.number c.in-Some.at c.index.result.now c.is_sending-sent.result c.is_sending-sent.ensures c.index.ensures c.self.view_is c.in-Some.ensures

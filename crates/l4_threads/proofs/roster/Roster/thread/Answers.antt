@@ -1,9 +1,9 @@
-use Rattle.std.proofs.Common.{ℕ, length, slice_get, Some, sym, ap, subst, ◌<◌, ◌∙◌, arith}
+use Rattle.std.proofs.Common.{ℕ, length, slice_get, Some, sym, ap, subst, ◌<◌, ◌∙◌, arith, vec_capacity}
 use Rattle.std.proofs.lemmas.Option.{get_or_from_slice_get}
 use Rattle.l4_threads.specs.declared.Thread.{Thread}
 use Rattle.l4_threads.specs.Inside.Entries.{Entries}
 use Rattle.l4_threads.proofs.TableLemmas.{found_first}
-use Rattle.l4_threads.proofs.NumberLemmas.{at_within}
+use Rattle.l4_threads.proofs.NumberLemmas.{at_within, few_entries}
 use Rattle.l4_threads.proofs.roster.Roster.thread.Goals as goal
 
 pub returns-in_err-at : goal.returns-in_err-at
@@ -16,8 +16,9 @@ bounds-entries-at c =
 pub offset_bounds-entries-at : goal.offset_bounds-entries-at
 offset_bounds-entries-at c =
     let below = bounds-entries-at c in
-    let few = c.as_slice-entries.ensures.fits in
-    omega arith
+    let all = ap (λ (es : Entries). length es) c.as_slice-entries.ensures.value in
+    let few = few_entries c.self.inside.entries.items c.self.inside.numbers.items c.self.inside.hints (vec_capacity c.self.inside.entries) c.self.invariant in
+    omega (arith, below, all, few)
 
 pub returns : goal.returns
 returns c =

@@ -3,14 +3,14 @@ use Rattle.l4_threads.specs.Endings.{wordless_reply}
 use Rattle.l4_threads.proofs.EndingLemmas.{ending_there, ended_kept, ended_seen}
 use Rattle.l4_threads.proofs.table.Threads.end_wordless.Goals as goal
 
-pub end-requires : goal.end-requires
-end-requires c = ending_there c.self.inside c.args.self.now c.self.view_is c.args.number c.requires
+pub end-sent-requires : goal.end-sent-requires
+end-sent-requires c = ending_there c.self.inside c.args.self.now c.self.view_is c.args.number c.requires
 
 pub invariant_of-self : goal.invariant_of-self
 invariant_of-self c =
-    ended_kept c.self.inside c.args.self.now c.self.view_is c.args.number c.requires c.self.invariant (wordless_reply c.args.ending) _ c.end.ensures c.leave_if_sending.ensures refl c.with_running-self-inside.ensures
+    ended_kept c.self.inside c.args.self.now c.self.view_is c.args.number c.requires c.self.invariant (wordless_reply c.args.ending) _ c.end-sent.ensures.value c.leave_if.ensures refl c.with_running-self-inside.ensures
 
 pub returns : goal.returns
 returns c =
-    rw (c.end.ensures, c.leave_if_sending.ensures)
+    rw (c.end-sent.ensures.value, c.leave_if.ensures)
     (ended_seen c.self.inside c.args.self.now c.self.view_is c.args.number c.requires c.self.invariant (wordless_reply c.args.ending))

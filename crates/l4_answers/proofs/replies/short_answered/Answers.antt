@@ -1,7 +1,0 @@
-use Rattle.std.proofs.Common.{[], ◌∷◌, ◌++◌, sym, ap, codes}
-use Rattle.std.proofs.lemmas.Fmt.{decimal_digit}
-use Rattle.l4_answers.specs.Replies.{newline}
-use Rattle.l4_answers.proofs.replies.short_answered.Goals as goal
-
-pub returns : goal.returns
-returns c = sym (ap (λ t. t ++ codes " fault answered" ++ [] ++ newline) (decimal_digit c.args.number c.requires))

@@ -1,0 +1,49 @@
+-- Chains of moves as C gives and gets them (this profile's own).
+use Rattle.std.specs.Prelude.{ℕ, Bool, true, false, nat_eq, if◌then◌else◌, codes}
+use Rattle.l4_fpage.specs.Rights.{bits_of, set_of_bits}
+use Rattle.l4_chains.specs.declared.links.ChainLink.{ChainLink}
+use Rattle.l4_chains.specs.declared.faults.ReplayFault.{ReplayFault}
+use Rattle.l4_chains.specs.declared.faults.ReplayFault.TheVariants.{BadFrames, NoMemory, OtherAnswer}
+use Rattle.l4_refusals.specs.Texts.{spelled}
+use Rattle.l4_c_values.specs.Told.{told_place}
+use Rattle.l4_c_values.specs.declared.links.Link.{Link}
+use Rattle.l4_c_values.specs.declared.links.ChainResult.{ChainResult}
+
+-- a link as C gets it: grant is 1 where the item gave the page away, and 0 where it shared it
+abbrev pub link_result : ChainLink → Link
+link_result link = record {
+  entry = link.entry;
+  source_space = link.source.space;
+  target_space = link.target.space;
+  source_page = link.source.page;
+  target_page = link.target.page;
+  grant = if link.grant then 1 else 0;
+  source_rights = bits_of link.source_rights;
+  item_rights = bits_of link.item_rights;
+}
+
+-- a link as C gives it: the item gave the page away where grant is not 0
+abbrev pub link_given : Link → ChainLink
+link_given link = record {
+  entry = link.entry;
+  source = record { space = link.source_space; page = link.source_page };
+  target = record { space = link.target_space; page = link.target_page };
+  grant = if nat_eq link.grant 0 then false else true;
+  source_rights = set_of_bits link.source_rights;
+  item_rights = set_of_bits link.item_rights;
+}
+
+-- the number of why a history is not done once more, and the entry that it names, or 0
+abbrev pub fault_code : ReplayFault → ℕ
+fault_code BadFrames = spelled (codes "K6")
+fault_code NoMemory = spelled (codes "NoMemory")
+fault_code (OtherAnswer entry) = spelled (codes "L6")
+
+abbrev pub fault_carries : ReplayFault → ℕ
+fault_carries BadFrames = 0
+fault_carries NoMemory = 0
+fault_carries (OtherAnswer entry) = told_place entry
+
+-- whether a page is there and by how many links, or why that can't be said
+abbrev pub chain_result : ℕ → ℕ → ℕ → ℕ → ChainResult
+chain_result code number there count = record { refusal = code; detail = number; there = there; count = count }

@@ -1,0 +1,114 @@
+//! Chains of moves as C gives and gets them.
+ghost use Rattle.std.specs.Prelude.{◌≡◌};
+ghost use Rattle.l4_c_values.specs.Linked.{link_result, link_given, fault_code, fault_carries, chain_result};
+
+use crate::calls::rights;
+use crate::numbers::{BAD_FRAMES, NO_MEMORY, OTHER_ANSWER};
+use crate::results::place_told;
+use l4_chains::{ChainLink, ReplayFault};
+use l4_ipc::Place;
+
+/// A transfer that moved a page on.
+#[repr(C)]
+#[derive(Clone, Copy)]
+pub struct Link {
+    pub entry: u64,
+    pub source_space: u64,
+    pub target_space: u64,
+    pub source_page: u32,
+    pub target_page: u32,
+    pub grant: u32,
+    pub source_rights: u32,
+    pub item_rights: u32,
+}
+
+/// Whether a page is there, and how many transfers brought it.
+#[repr(C)]
+#[derive(Clone, Copy)]
+pub struct ChainResult {
+    pub refusal: u32,
+    pub detail: u32,
+    pub there: u32,
+    pub count: u64,
+}
+
+/// A link as C gets it.
+pub fn link_told(link: &ChainLink) -> Link
+    ensures { result ≡ link_result link.now }
+{
+    Link {
+        entry: link.entry as u64,
+        source_space: link.source.space,
+        target_space: link.target.space,
+        source_page: link.source.page,
+        target_page: link.target.page,
+        grant: u32::from(link.grant),
+        source_rights: u32::from(link.source_rights.bits()),
+        item_rights: u32::from(link.item_rights.bits()),
+    }
+}
+
+/// A link as C gives it.
+pub fn link_given(link: &Link) -> ChainLink
+    ensures { result ≡ link_given link.now }
+{
+    ChainLink {
+        entry: link.entry as usize,
+        source: Place {
+            space: link.source_space,
+            page: link.source_page,
+        },
+        target: Place {
+            space: link.target_space,
+            page: link.target_page,
+        },
+        grant: link.grant != 0,
+        source_rights: rights(link.source_rights),
+        item_rights: rights(link.item_rights),
+    }
+}
+
+/// The number of why a history is not done once more.
+pub fn fault_number(fault: ReplayFault) -> u32
+    ensures { result ≡ fault_code fault }
+{
+    match fault {
+        ReplayFault::BadFrames => BAD_FRAMES,
+        ReplayFault::NoMemory => NO_MEMORY,
+        ReplayFault::OtherAnswer(_) => OTHER_ANSWER,
+    }
+}
+
+/// The entry that such a fault names, or 0.
+pub fn fault_detail(fault: ReplayFault) -> u32
+    ensures { result ≡ fault_carries fault }
+{
+    match fault {
+        ReplayFault::OtherAnswer(entry) => place_told(entry),
+        _ => 0,
+    }
+}
+
+/// A page that is there by so many links.
+pub fn chain_told(count: usize) -> ChainResult
+    ensures { result ≡ chain_result 0 0 1 count }
+{
+    ChainResult {
+        refusal: 0,
+        detail: 0,
+        there: 1,
+        count: count as u64,
+    }
+}
+
+/// No page, for this refusal or none.
+pub fn no_chain(refusal: u32, detail: u32) -> ChainResult
+    ensures { result ≡ chain_result refusal detail 0 0 }
+{
+    ChainResult {
+        refusal,
+        detail,
+        there: 0,
+        count: 0,
+    }
+}

@@ -1,0 +1,4 @@
+pub mod Explained
+pub mod Inside
+pub mod Marks
+pub mod Words

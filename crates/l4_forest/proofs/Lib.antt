@@ -1,0 +1,11 @@
+pub mod ForestEnds
+pub mod Absent
+pub mod Ended
+pub mod Passing
+pub mod Taken
+pub mod Capped
+pub mod Buried
+pub mod Cut
+pub mod Presence
+pub mod FirstPlaces
+pub mod SpaceGone

@@ -1,0 +1,18 @@
+use Rattle.std.proofs.Common.{refl}
+use Rattle.l4_forest.proofs.Passing.{no_keys, before_key}
+use Rattle.l4_forest.proofs.Capped.{capped_first, capped_more, capped_all}
+use Rattle.l4_forest.proofs.revoking.cap_pages.Goals as goal
+
+pub loop-page-init : goal.loop-page-init
+loop-page-init c = capped_first c.args.space c.args.first c.args.end c.args.with_self c.args.cap c.args.links.now c.requires
+
+pub returns-in_default-clause-caps : goal.returns-in_default-clause-caps
+returns-in_default-clause-caps c =
+    capped_all c.args.space c.args.first c.args.end c.args.with_self c.args.cap c.args.links.now c.loop-page.links c.loop-page.next c.loop-page.invariant
+    (no_keys c.loop-page.links.entries c.args.space c.args.with_self c.loop-page.next c.args.end c.in_default.ensures)
+
+pub loop-page-preserved : goal.loop-page-preserved
+loop-page-preserved c =
+    capped_more c.args.space c.args.first c.args.end c.args.with_self c.args.cap c.args.links.now c.loop-page.links c.cap_key.new.links c.loop-page.next c.in-Some.page c.in-Some.key
+    c.law_places.ensures c.loop-page.invariant c.in-Some.ensures.0.from c.in-Some.ensures.0.before
+    (before_key c.loop-page.links.entries c.args.space c.args.with_self c.loop-page.next c.args.end c.in-Some.page c.in-Some.ensures.0) ((c.in-Some.ensures.1 c.in-Some.key).0 refl) c.cap_key.ensures.caps c.cap_key.ensures.spaces

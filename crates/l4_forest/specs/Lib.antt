@@ -1,0 +1,5 @@
+pub mod Losing
+pub mod Places
+pub mod Listed
+pub mod Boot
+pub mod Inside

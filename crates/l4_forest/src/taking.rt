@@ -1,0 +1,74 @@
+//! Pages that go at once with all that descends from them.
+
+ghost use Rattle.std.specs.Prelude.{◌≡◌, ◌≢◌, ◌≤◌, None, false};
+ghost use Rattle.l4_links.specs.Entries.{entry_at, HaveRights};
+ghost use Rattle.l4_mapdb.specs.Delivering.{IsClean};
+ghost use Rattle.l4_forest.specs.Inside.Cuts.{IsOver, IsCovered, TakesKeys};
+
+use l4_links::Links;
+
+/// Where nothing is marked and there is no blank, what stands has a right. It does nothing.
+fn law_rights(links: &Links)
+    requires { IsClean links.now }
+    ensures { HaveRights links.now.entries }
+{
+    let _ = links;
+}
+
+/// Takes away what stands under the key, where that is meant, and all that descends from it.
+pub(crate) fn take_key(links: &mut Links, top: usize, with_self: bool)
+    requires clean { IsClean links.old }
+    requires there { entry_at links.old.entries top ≢ None }
+    ensures takes { TakesKeys (IsOver links.old.entries with_self top) links.old.entries links.new.entries }
+    ensures spaces { links.new.spaces ≡ links.old.spaces }
+{
+    links.law_trees();
+    law_rights(links);
+    if with_self {
+        links.clear(top);
+        links.take_blank(top);
+        return;
+    }
+    links.cut_below(top);
+}
+
+/// Takes away all that descends from these pages, each of which stays. A page that nothing descends from is passed over in the walk.
+fn cut_pages(links: &mut Links, space: u64, first: u32, end: u32)
+    requires clean { IsClean links.old }
+    requires rising { first ≤ end }
+    ensures takes { TakesKeys (IsCovered links.old.entries space first end false) links.old.entries links.new.entries }
+    ensures spaces { links.new.spaces ≡ links.old.spaces }
+{
+    links.law_places();
+    let mut next = first;
+    loop {
+        let Some((page, key)) = links.next_parent_in(space, next, end) else {
+            return;
+        };
+        take_key(links, key, false);
+        next = page + 1;
+    }
+}
+
+/// Takes away what stands at these pages, where they are meant, and all that descends from them. A page may have gone with an
+/// earlier one.
+pub(crate) fn take_pages(links: &mut Links, space: u64, first: u32, end: u32, with_self: bool)
+    requires clean { IsClean links.old }
+    requires rising { first ≤ end }
+    ensures takes { TakesKeys (IsCovered links.old.entries space first end with_self) links.old.entries links.new.entries }
+    ensures spaces { links.new.spaces ≡ links.old.spaces }
+{
+    if !with_self {
+        cut_pages(links, space, first, end);
+        return;
+    }
+    links.law_places();
+    let mut next = first;
+    loop {
+        let Some((page, key)) = links.next_key_in(space, next, end) else {
+            return;
+        };
+        take_key(links, key, with_self);
+        next = page + 1;
+    }
+}

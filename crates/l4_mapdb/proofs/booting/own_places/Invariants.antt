@@ -1,7 +1,0 @@
-use Rattle.std.proofs.Common.{◌≡◌}
-use Rattle.l4_mapdb.specs.Inside.Kept.{OwnsFirst}
-use Rattle.l4_mapdb.proofs.booting.own_places.Given as goal
-
--- the frames below this one have their places
-abbrev pub invariant-loop-frame : goal.invariant-loop-frame
-invariant-loop-frame l = OwnsFirst l.frame l.links.entries l.roots.items × (l.links.spaces ≡ l.fn.links.spaces)

@@ -1,0 +1,17 @@
+use Rattle.std.proofs.Common.{ap}
+use Rattle.l4_nodes.specs.declared.nodes.Node.{Node}
+use Rattle.l4_nodes.specs.Slots.{Store}
+use Rattle.l4_nodes.proofs.Joining.{closed, node_left}
+use Rattle.l4_nodes.proofs.nodes.close.Goals as goal
+
+pub returns-in_default : goal.returns-in_default
+returns-in_default c =
+    let t = node_left c.nodes.inside.packed.slots c.nodes.inside.notes.items c.args.nodes.now.slots c.args.key (λ (n : Node). record n { seen = c.args.stamp; mark = c.args.stamp; end = c.args.end }) (ap (λ (s : Store). s.slots) c.nodes.view_is) c.in_default.ensures.value in
+    record { here = t.here; others = t.others; spots_same = t.spots_same }
+
+pub returns : goal.returns
+returns c =
+    let t =
+    closed c.nodes.inside.packed.slots c.nodes.inside.notes.items c.put_note.new.notes.items c.args.nodes.now.slots c.args.key c.args.stamp c.args.end c.in-Some.slot.now c.set_closed.new.self (ap (λ (s : Store). s.slots) c.nodes.view_is) c.in-Some.ensures.value
+    (c.set_closed.ensures (record { stamp = c.args.stamp; end = c.args.end })) c.put_note.ensures.here c.put_note.ensures.others in
+    record { here = t.here; others = t.others; spots_same = t.spots_same }

@@ -1,0 +1,60 @@
+//! The keys that a node keeps, in four bytes each.
+
+ghost use Rattle.std.specs.Prelude.{◌≡◌, Some, None};
+ghost use Rattle.l4_nodes.specs.Keys.{IsKey};
+
+use std::marker::Model;
+
+/// The number that stands for no key. All keys are below it.
+pub(crate) const NO_KEY: u32 = u32::MAX;
+
+/// A key, or none.
+#[derive(Clone, Copy)]
+pub struct Link {
+    number: u32,
+}
+
+impl Model for Link {
+    ghost use Rattle.std.specs.Prelude.{ℕ, Option};
+    ghost use Rattle.std.specs.Coded.{coded_ℕ, coded_option};
+
+    ghost Value = { Option ℕ };
+
+    ghost coded = { coded_option coded_ℕ };
+
+    ghost use Rattle.l4_nodes.specs.Inside.Keys.{key_shown, shows_as, gives_back};
+
+    ghost view = { key_shown };
+
+    ghost inverse = { shows_as };
+
+    ghost inverse_ok = { λ a h. gives_back a };
+}
+
+impl Link {
+    /// No key.
+    pub fn none() -> Link
+        ensures { result ≡ None }
+    {
+        Link { number: NO_KEY }
+    }
+
+    /// The key.
+    pub fn to(key: usize) -> Link
+        requires { IsKey key }
+        ensures { result ≡ Some key }
+    {
+        Link { number: key as u32 }
+    }
+
+    /// The key, if there is one.
+    #[inline]
+    pub fn key(self) -> Option<usize>
+        ensures { result ≡ self }
+    {
+        if self.number == NO_KEY {
+            return None;
+        }
+        Some(self.number as usize)
+    }
+}

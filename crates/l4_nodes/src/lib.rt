@@ -1,0 +1,24 @@
+//! The nodes of all pages, each in its slot of a slab under a key: what a slot holds, how it is kept in thirty-six bytes, and the writes
+//! to one of them. Nodes name each other by keys; what order and which trees they stand in is said above.
+#![tactic(auto)]
+
+mod keys;
+mod nodes;
+mod packed;
+mod slots;
+
+pub use keys::Link;
+pub use nodes::{
+    Node, Slot, close, empty, give, is_wanted, node_of, place_of, see, set_next, set_place,
+    set_plain, set_prev, set_rights, set_source, set_wanted, write,
+};
+pub use slots::Slots;
+
+/// A page of a space.
+#[derive(Clone, Copy, Debug, PartialEq, Eq)]
+pub struct Place {
+    /// The number of the space.
+    pub space: u64,
+    /// The page, below 2^22, in units of the size of the machine's pages.
+    pub page: u32,
+}

@@ -1,0 +1,17 @@
+use Rattle.std.proofs.Common.{◌≡◌, ◌↔◌, ℕ, List, IsTrue, MatchResult}
+use Rattle.l4_fpage.specs.declared.sizes.PageSize.{PageSize}
+use Rattle.l4_ipc.specs.Machine.{Machine, IsBoot}
+use Rattle.l4_record.specs.declared.entries.Entry.{Entry}
+use Rattle.l4_chains.specs.Chains.{IsProvenance}
+use Rattle.l4_chains.specs.Replays.{IsNotReplayed}
+use Rattle.l4_seated_lock.proofs.Tracing.{of_lock}
+use Rattle.l4_seated_lock.proofs.seated.SeatedLock.check_provenance.Goals as goal
+
+pub returns : goal.returns
+returns c =
+    of_lock
+    (λ (frames : ℕ) (size : PageSize) (history : List Entry). MatchResult c.check_provenance.result
+    (λ yes. (boot : Machine) × IsBoot frames boot × (boot.size ≡ size) × (IsTrue yes ↔ IsProvenance boot history c.args.place c.args.links.now))
+    (IsNotReplayed frames size history))
+    c.self.inside.locked c.args.self.now c.self.view_is c.frames.result c.frames.ensures c.kernel.result.now c.kernel.ensures c.page_size-size.result c.page_size-size.ensures
+    c.history.result.now.entries c.history.ensures c.check_provenance.ensures

@@ -1,0 +1,46 @@
+-- A table of the two decimal digits of each number below 100.
+use Rattle.std.proofs.Common.{◌≡◌, ℕ, zero, suc, ◌+◌, ◌*◌, ◌/◌, ◌%◌, ◌<◌, ◌==◌, Bool, true, ◌&&◌, List, [], ◌∷◌, get_or, slice_index_or, refl, subst, arith, inl, inr, eqb-true}
+use Rattle.std.proofs.lemmas.Bool.{cases_lt, and_parts}
+use Rattle.std.proofs.lemmas.Nat.{le_bytes_2}
+use Rattle.std.specs.Int.{to_le_bytes, w16}
+
+-- the digits of each number as one number, the second digit's byte the higher
+abbrev pub decimal_table : List ℕ
+decimal_table =
+    12336 ∷ 12592 ∷ 12848 ∷ 13104 ∷ 13360 ∷ 13616 ∷ 13872 ∷ 14128 ∷ 14384 ∷ 14640 ∷ 12337 ∷ 12593 ∷ 12849 ∷ 13105 ∷ 13361 ∷ 13617 ∷ 13873 ∷ 14129 ∷ 14385 ∷ 14641
+    ∷ 12338 ∷ 12594 ∷ 12850 ∷ 13106 ∷ 13362 ∷ 13618 ∷ 13874 ∷ 14130 ∷ 14386 ∷ 14642 ∷ 12339 ∷ 12595 ∷ 12851 ∷ 13107 ∷ 13363 ∷ 13619 ∷ 13875 ∷ 14131 ∷ 14387 ∷ 14643
+    ∷ 12340 ∷ 12596 ∷ 12852 ∷ 13108 ∷ 13364 ∷ 13620 ∷ 13876 ∷ 14132 ∷ 14388 ∷ 14644 ∷ 12341 ∷ 12597 ∷ 12853 ∷ 13109 ∷ 13365 ∷ 13621 ∷ 13877 ∷ 14133 ∷ 14389 ∷ 14645
+    ∷ 12342 ∷ 12598 ∷ 12854 ∷ 13110 ∷ 13366 ∷ 13622 ∷ 13878 ∷ 14134 ∷ 14390 ∷ 14646 ∷ 12343 ∷ 12599 ∷ 12855 ∷ 13111 ∷ 13367 ∷ 13623 ∷ 13879 ∷ 14135 ∷ 14391 ∷ 14647
+    ∷ 12344 ∷ 12600 ∷ 12856 ∷ 13112 ∷ 13368 ∷ 13624 ∷ 13880 ∷ 14136 ∷ 14392 ∷ 14648 ∷ 12345 ∷ 12601 ∷ 12857 ∷ 13113 ∷ 13369 ∷ 13625 ∷ 13881 ∷ 14137 ∷ 14393 ∷ 14649 ∷ []
+
+abbrev pub digits_of : ℕ → ℕ
+digits_of number = (48 + number / 10) + 256 * (48 + number % 10)
+
+-- whether the table has the digits of all numbers below a bound
+abbrev has_digits : List ℕ → ℕ → ℕ → Bool
+has_digits table other zero = true
+has_digits table other (suc n) = (slice_index_or table n other == digits_of n) && has_digits table other n
+
+digits_in : (table : List ℕ) (other n number : ℕ) → has_digits table other n ≡ true → number < n → slice_index_or table number other ≡ digits_of number
+digits_in table other zero number h less = absurd (omega (arith, less))
+digits_in table other (suc n) number h less =
+    let parts = and_parts (slice_index_or table n other == digits_of n) (has_digits table other n) h in
+    elim (cases_lt number n) [
+      | inl below ↦ digits_in table other n number parts.1 below
+      | inr last ↦
+          let at : n ≡ number = omega (arith, less, last) in
+          subst (λ k. slice_index_or table k other ≡ digits_of k) at (eqb-true (slice_index_or table n other) (digits_of n) parts.0)
+    ]
+
+pub digits_at : (other number : ℕ) → number < 100 → slice_index_or decimal_table number other ≡ digits_of number
+digits_at other number less = digits_in decimal_table other 100 number refl less
+
+two_small : (a b : ℕ) → a < 256 → b < 256 → (i : ℕ) → get_or (a ∷ b ∷ []) i 0 < 256
+two_small a b la lb zero = la
+two_small a b la lb (suc zero) = lb
+two_small a b la lb (suc (suc i)) = omega arith
+
+-- the two bytes of such a number are the digits
+pub decimal_bytes : (number n : ℕ) → number < 100 → n ≡ digits_of number → to_le_bytes w16 n ≡ (48 + number / 10) ∷ (48 + number % 10) ∷ []
+decimal_bytes number n less is =
+    le_bytes_2 ((48 + number / 10) ∷ (48 + number % 10) ∷ []) n refl (two_small (48 + number / 10) (48 + number % 10) (omega (arith, less)) (omega arith)) (omega (arith, is))
