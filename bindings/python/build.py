@@ -18,7 +18,7 @@ from pathlib import Path
 from typing import Any, Dict, List, Optional
 
 HERE = Path(__file__).resolve().parent
-GET = "make install-library PREFIX=.. builds it; then set L4_LIB_DIR to PREFIX/lib, or PKG_CONFIG_PATH to PREFIX/lib/pkgconfig"
+GET = "make install-library PREFIX=$HOME/l4 builds it; then set L4_LIB_DIR to $HOME/l4/lib, or PKG_CONFIG_PATH to $HOME/l4/lib/pkgconfig"
 
 
 class Unbuilt(Exception):

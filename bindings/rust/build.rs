@@ -45,7 +45,7 @@ fn main() {
             println!("cargo:rustc-link-lib=static=l4");
         }
         Err(why) => {
-            eprintln!("l4: {why}. Run `make install-library PREFIX=..`, and set L4_LIB_DIR or PKG_CONFIG_PATH");
+            eprintln!("l4: {why}. Run `make install-library PREFIX=$HOME/l4`, and set L4_LIB_DIR=$HOME/l4/lib or PKG_CONFIG_PATH=$HOME/l4/lib/pkgconfig");
             exit(1);
         }
     }

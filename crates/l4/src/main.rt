@@ -76,8 +76,10 @@ fn answer_script<R: AllocGlobal + Files + Input + Print + Eprint>(
     );
     if writer.has_refused() {
         // what a line says goes out with the call after it
-        let _ = writer.flush();
-        return REFUSED;
+        return match writer.into_inner().flush() {
+            Ok(()) => REFUSED,
+            Err(_) => stopped(rt, RunFault::Write, STANDARD_INPUT),
+        };
     }
     match answered {
         Ok(_) => 0,
@@ -111,43 +113,45 @@ fn tell_history<R: AllocGlobal + Files + Input + Print + Eprint>(
     }
 }
 
-/// The status of a page that was found or a plan that was made or proved, of one that was not, or of a fault of a stream.
-fn judged(rt: &impl Eprint, outcome: Result<bool, RunFault>) -> u8 {
+/// The status of a page that was found or a plan that was made or proved, of one that was not, or of a fault of a stream, where this file
+/// was read, or standard input.
+fn judged(rt: &impl Eprint, outcome: Result<bool, RunFault>, file: Option<&str>) -> u8 {
     match outcome {
         Ok(true) => 0,
         Ok(false) => NOT_FOUND,
-        Err(fault) => stopped(rt, fault, STANDARD_INPUT),
+        Err(fault) => stopped(rt, fault, file.unwrap_or(STANDARD_INPUT)),
     }
 }
 
-/// Tells how a page came to where it is, by the script on standard input.
+/// Tells how a page came to where it is, by a script.
 #[inline(never)]
 fn tell_why<R: AllocGlobal + Files + Input + Print + Eprint>(
     rt: &R,
-    frames: u32,
-    size: PageSize,
+    script: &ScriptOptions,
     asked: ThreadPage,
 ) -> u8
-    requires { IsFrameCount frames }
+    requires { IsFrameCount script.now.frames }
 {
-    let mut reader: ScriptReader<R::Reader, R::File> = ScriptReader::Standard(rt.reader());
-    judged(
-        rt,
-        why(
-            rt.alloc(),
-            frames,
-            size,
-            asked,
-            &mut reader,
-            &mut io::writer(rt),
-        ),
-    )
+    let file = script.file.as_deref();
+    let mut reader = match opened(rt, file) {
+        Ok(reader) => reader,
+        Err(status) => return status,
+    };
+    let told = why(
+        rt.alloc(),
+        script.frames,
+        script.size,
+        asked,
+        &mut reader,
+        &mut io::writer(rt),
+    );
+    judged(rt, told, file)
 }
 
 /// Plans a region.
 #[inline(never)]
 fn plan<R: Print + Eprint>(rt: &R, region: &Region, size: PageSize) -> u8 {
-    judged(rt, plan_lines(region, size, &mut io::writer(rt)))
+    judged(rt, plan_lines(region, size, &mut io::writer(rt)), None)
 }
 
 /// Checks the plan on standard input.
@@ -161,6 +165,7 @@ fn check<R: Files + Input + Print + Eprint>(rt: &R, region: &Region, size: PageS
             &mut ScriptReader::<R::Reader, R::File>::Standard(rt.reader()),
             &mut io::writer(rt),
         ),
+        None,
     )
 }
 
@@ -186,12 +191,11 @@ fn obey<R: AllocGlobal + Files + Input + Print + Eprint>(rt: &R, words: &[String
         Ok(Options::History { script, answers }) => tell_history(rt, &script, answers),
         Ok(
             Options::Why {
-                frames,
-                size,
+                script,
                 thread,
                 page,
             },
-        ) => tell_why(rt, frames, size, ThreadPage { thread, page }),
+        ) => tell_why(rt, &script, ThreadPage { thread, page }),
         Ok(Options::Plan { region, size }) => plan(rt, &region, size),
         Ok(Options::Check { region, size }) => check(rt, &region, size),
         Ok(

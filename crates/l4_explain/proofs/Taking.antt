@@ -413,6 +413,7 @@ known contents (Some size) w line failed was = λ tells. of_bytes (contents w) f
         lines = was.has.lines;
         rest = line;
         explained = was.before;
+        one = shape.1;
         whole = ap unmarked was.same ∙ behind_lines size was.before line was.has ∙ ap (λ t. flat_map ended was.has.lines ++ t) (line_told line shape);
         explains = was.has.explains;
         told = append-nil text ∙ was.same;
@@ -428,6 +429,7 @@ known contents (Some size) w line failed was = λ tells. of_bytes (contents w) f
         lines = was.has.lines ++ was.body ∷ [];
         rest = [];
         explained = was.before ++ (ended was.body ++ marked was.words);
+        one = inl tt;
         whole =
             ap unmarked was.same ∙ behind_lines size was.before (ended was.body ++ was.front) was.has
             ∙ ap (λ t. flat_map ended was.has.lines ++ t)

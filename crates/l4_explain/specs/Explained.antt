@@ -1,5 +1,5 @@
 -- Answers with what each line says in words (this profile's own).
-use Rattle.std.specs.Prelude.{ℕ, ◌≡◌, ◌||◌, Bool, true, false, List, [], ◌∷◌, ◌++◌, Option, None, Some, is_some, option_and_then, if◌then◌else◌}
+use Rattle.std.specs.Prelude.{ℕ, ◌≡◌, ◌⊎◌, ◌||◌, Bool, true, false, List, [], ◌∷◌, ◌++◌, Option, None, Some, is_some, option_and_then, if◌then◌else◌}
 use Rattle.std.specs.List.{flat_map}
 use Rattle.l4_fpage.specs.declared.sizes.PageSize.{PageSize}
 use Rattle.l4_text.specs.Lines.{NoNewline}
@@ -16,12 +16,13 @@ ExplainsLines size [] text = text ≡ []
 ExplainsLines size (line ∷ lines) text =
     (words : List ℕ) × (more : List ℕ) × NoNewline line × Explains size line words × ExplainsLines size lines more × (text ≡ ended line ++ (marked words ++ more))
 
--- WHAT GOES OUT OF ANSWERS: each whole line with what it says below it, and then the line that hasn't ended or of which nothing was said
+-- WHAT GOES OUT OF ANSWERS: each whole line with what it says below it, and then the one line that hasn't ended or of which nothing was said
 -- yet. After a write that failed some of it is still owed.
 pub record IsExplained (size : PageSize) (answers text owed : List ℕ) : Type 0 where
   pub lines : List (List ℕ)
   pub rest : List ℕ
   pub explained : List ℕ
+  pub one : NoNewline rest ⊎ ((body : List ℕ) × NoNewline body × (rest ≡ ended body))
   pub whole : answers ≡ flat_map ended lines ++ rest
   pub explains : ExplainsLines size lines explained
   pub told : text ++ owed ≡ explained ++ rest

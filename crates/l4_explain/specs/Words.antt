@@ -60,7 +60,7 @@ unfoldable pub transfer_says : List ℕ → List ℕ
 transfer_says outcome =
     if bytes_eq outcome (codes "done") then codes "the message of the first thread went to the second"
     else (if bytes_eq outcome (codes "no-window") then codes "the message didn't go: the receiver takes no pages"
-    else (if bytes_eq outcome (codes "entangled") then codes "the message didn't go: its items contradict each other"
+    else (if bytes_eq outcome (codes "entangled") then codes "the message didn't go: its items contradict each other, or would replace a page that they move or one above it"
     else (if bytes_eq outcome (codes "no-memory") then codes "the message didn't go: there was no memory for its pages"
     else [])))
 
@@ -71,8 +71,8 @@ parent_says space = if bytes_eq space (codes "none") then codes "the page has no
 -- N fault failed CODE
 unfoldable pub failed_says : List ℕ → List ℕ
 failed_says code =
-    if bytes_eq code (codes "4") then codes "there is no such pager"
-    else (if bytes_eq code (codes "5") then codes "the pager was deleted before it answered"
+    if bytes_eq code (codes "4") then codes "there is no such pager, it is the thread itself, or it was deleted before the fault reached it"
+    else (if bytes_eq code (codes "5") then codes "the pager took the fault, and was deleted before it answered"
     else (if bytes_eq code (codes "9") then codes "the pages of the pager's answer couldn't be given"
     else []))
 
@@ -87,10 +87,10 @@ fault_says ending code =
 -- N ipc TAG ERROR nil
 unfoldable pub ipc_says : List ℕ → List ℕ
 ipc_says error =
-    if bytes_eq error (codes "0") then codes "the call has ended, and no message came"
+    if bytes_eq error (codes "0") then codes "the call has ended without an error, and brought no message"
     else (if bytes_eq error (codes "2") then codes "the wait to send has ended: its timeout is zero"
     else (if bytes_eq error (codes "3") then codes "the wait to receive has ended: its timeout is zero"
-    else (if bytes_eq error (codes "4") then codes "there is no thread to send to, or it was deleted"
+    else (if bytes_eq error (codes "4") then codes "there is no other thread of this id to send to, or it was deleted"
     else (if bytes_eq error (codes "5") then codes "there is no thread to receive from, or it was deleted"
     else (if bytes_eq error (codes "8") then codes "the receiver couldn't be given the pages of the message"
     else (if bytes_eq error (codes "9") then codes "the pages of a message to this thread couldn't be given"
@@ -126,7 +126,7 @@ code_says code =
     if bytes_eq code (codes "S1") then codes "there is no such command"
     else (if bytes_eq code (codes "S2") then codes "too few tokens, too many, or one that can't be read"
     else (if bytes_eq code (codes "S3") then codes "the line has more than 4,096 bytes"
-    else (if bytes_eq code (codes "S4") then codes "the input ends before the line does"
+    else (if bytes_eq code (codes "S4") then codes "the input ends before the line does: its newline is missing"
     else (text_in texts (spelled code)).1)))
 
 -- the text, or else another

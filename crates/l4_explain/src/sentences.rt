@@ -19,7 +19,7 @@ fn transfer_says(outcome: &[u8]) -> &'static [u8]
         return b"the message didn't go: the receiver takes no pages";
     }
     if is(outcome, b"entangled") {
-        return b"the message didn't go: its items contradict each other";
+        return b"the message didn't go: its items contradict each other, or would replace a page that they move or one above it";
     }
     if is(outcome, b"no-memory") {
         return b"the message didn't go: there was no memory for its pages";
@@ -44,10 +44,10 @@ fn failed_says(code: &[u8]) -> &'static [u8]
     ensures { result.now ≡ failed_says code.now }
 {
     if is(code, b"4") {
-        return b"there is no such pager";
+        return b"there is no such pager, it is the thread itself, or it was deleted before the fault reached it";
     }
     if is(code, b"5") {
-        return b"the pager was deleted before it answered";
+        return b"the pager took the fault, and was deleted before it answered";
     }
     if is(code, b"9") {
         return b"the pages of the pager's answer couldn't be given";
@@ -78,7 +78,7 @@ fn ipc_says(error: &[u8]) -> &'static [u8]
     ensures { result.now ≡ ipc_says error.now }
 {
     if is(error, b"0") {
-        return b"the call has ended, and no message came";
+        return b"the call has ended without an error, and brought no message";
     }
     if is(error, b"2") {
         return b"the wait to send has ended: its timeout is zero";
@@ -87,7 +87,7 @@ fn ipc_says(error: &[u8]) -> &'static [u8]
         return b"the wait to receive has ended: its timeout is zero";
     }
     if is(error, b"4") {
-        return b"there is no thread to send to, or it was deleted";
+        return b"there is no other thread of this id to send to, or it was deleted";
     }
     if is(error, b"5") {
         return b"there is no thread to receive from, or it was deleted";
@@ -187,7 +187,7 @@ fn code_says(code: &[u8]) -> &'static [u8]
         return b"the line has more than 4,096 bytes";
     }
     if is(code, b"S4") {
-        return b"the input ends before the line does";
+        return b"the input ends before the line does: its newline is missing";
     }
     text_of(spelled(code)).line
 }

@@ -14,7 +14,7 @@ IsFrameCount n = (1 ≤ n) × (n ≤ max_frames)
 abbrev pub IsInRange : Options → Type 0
 IsInRange (Run script strict explain) = IsFrameCount script.frames
 IsInRange (History script answers) = IsFrameCount script.frames
-IsInRange (Why frames size thread page) = IsFrameCount frames
+IsInRange (Why script thread page) = IsFrameCount script.frames
 IsInRange (Plan region size) = Unit {0}
 IsInRange (Check region size) = Unit {0}
 IsInRange (Decode words reading size) = Unit {0}

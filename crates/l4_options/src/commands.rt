@@ -6,9 +6,9 @@ ghost use Rattle.l4_options.specs.Inside.Words.{spelled_anew};
 use crate::help::{ABOUT, CHECK, DECODE, HISTORY, PLAN, SCRIPT, WHY};
 use crate::requests::{OptionFault, Options};
 use crate::values::{
-    answers_option, explain_option, file_argument, frames_of, frames_option, help_text, number_of,
-    reading_of, reading_option, region_of, script_of, size_of, size_option, strict_option,
-    without_hyphens, words_argument, words_of,
+    answers_option, explain_option, file_argument, frames_option, help_text, number_of, reading_of,
+    reading_option, region_of, script_of, size_of, size_option, strict_option, without_hyphens,
+    words_argument, words_of,
 };
 use clap::error::ErrorKind;
 use clap::{Arg, ArgAction, ArgMatches, Command, Error};
@@ -53,6 +53,7 @@ fn of_page<'a>(alloc: Global) -> Result<Command<'a>, AllocError> {
         .after_help(WHY)
         .arg(needed_word(alloc, "thread", "THREAD", "The number of the thread"))?
         .arg(needed_word(alloc, "page", "PAGE", "The number of the page"))?
+        .arg(file_argument(alloc))?
         .arg(frames_option(alloc))?
         .arg(size_option(alloc))
 }
@@ -165,10 +166,9 @@ fn history_options(alloc: Global, matches: &ArgMatches<'_>) -> Result<Options, O
 fn why_options(alloc: Global, matches: &ArgMatches<'_>) -> Result<Options, OptionFault>
     ensures { IfOk result IsInRange }
 {
-    match frames_of(alloc, matches) {
-        Ok(frames) => Ok(Options::Why {
-            frames,
-            size: size_of(alloc, matches)?,
+    match script_of(alloc, matches) {
+        Ok(script) => Ok(Options::Why {
+            script,
             thread: number_of(alloc, matches, "thread", "THREAD")?,
             page: number_of(alloc, matches, "page", "PAGE")?,
         }),
@@ -191,7 +191,7 @@ fn decode_options(alloc: Global, matches: &ArgMatches<'_>) -> Result<Options, Op
 }
 
 /// Reads the words of the command line, the program's name first:
-/// `l4 run [FILE] [--frames N] [--strict] [--explain]`, `l4 history [FILE] [--frames N] [--answers]`, `l4 why THREAD PAGE [--frames N]`,
+/// `l4 run [FILE] [--frames N] [--strict] [--explain]`, `l4 history [FILE] [--frames N] [--answers]`, `l4 why THREAD PAGE [FILE] [--frames N]`,
 /// `l4 plan SOURCE TARGET COUNT RIGHTS`, `l4 check` with the same words, `l4 decode [--as READING] WORD..`, each with
 /// `--page-size BYTES` where that is wanted, `--help`, `help` or `--version`. N is 256 and BYTES 4096 where they are left out; READING is
 /// message, fpage, window or id.

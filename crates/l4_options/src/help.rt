@@ -25,7 +25,8 @@ the region, and is no list shorter?
   proved too-long            every list has more than 1,984 items
   fault CODE                 what is wrong with the plan, with a number (C1 to C6:
                              see l4 --help)
-  line L refused CODE        line L can't be read (S2 to S4)
+  line L refused CODE        line L isn't as 'l4 plan' writes it (S2 to S4), or is
+                             a tag of another number of items than follow it
 
 Exit status: 0 if it is proved, 1 if not, 2 if the command line is not
 understood, 3 if a read or a write failed.";
@@ -40,15 +41,16 @@ these steps.
   l4 history < script | l4_steps
 
 With --answers the lines that l4_steps answers to a step stand below it, behind
-'# ', so that l4_steps skips them. A refused line of the script leaves no step.
+'# ', so that l4_steps skips them. A refused line of the script leaves no step,
+and nothing tells of it: 'l4 run --strict' does.
 
 Exit status: as that of 'l4 run'.";
 
 pub(crate) const WHY: &str = "\
-The script is read on standard input and carried out as 'l4 run' does. In place
-of its answers it is told, once it has ended, how page PAGE of the space of
-thread THREAD came there: from a page that sigma0 had at boot, by one transfer
-after another.
+The script is read from FILE, or on standard input, and carried out as 'l4 run'
+does. In place of its answers it is told, once it has ended, how page PAGE of the
+space of thread THREAD came there: from a page that sigma0 had at boot, by one
+transfer after another. Nothing tells of a refused line: 'l4 run --strict' does.
 
   sigma0 page P              sigma0's page, which has frame P
   entry E transfer S R KIND SOURCE TARGET RIGHTS RIGHTS
@@ -93,8 +95,9 @@ Exit status: 0, or 2 if the command line is not understood, 3 if a write failed.
 
 pub(crate) const SCRIPT: &str = "\
 The script is read from FILE, or on standard input, and each line is answered on
-standard output. Tokens are parted by spaces. Empty lines, and lines that begin
-with #, are skipped.
+standard output. Each line ends with a newline, the last one too. Tokens are
+parted by spaces, not by tabs. Empty lines, and lines that begin with #, are
+skipped.
 
   thread N SPACE PAGER   root creates thread N, in a new space (SPACE is new) or
                          in the space of a thread; PAGER is a thread or nil
@@ -145,26 +148,31 @@ with #, are skipped.
                          them: transfers and waits that ended
 
 N is a thread's number, below 262144. Thread 1 is sigma0, which holds frame i at
-page i; thread 2 is root. Numbers are decimal, or hexadecimal after 0x.
+page i; thread 2 is root. Numbers are decimal, or hexadecimal after 0x; in what
+is answered TAG and WORD are hexadecimal without it.
 
   N ipc TAG ERROR FROM WORD..      an ipc of N ended
   N fault hit                      the page is there with these rights
   N fault answered                 the pager of N has answered the fault
-  N fault failed CODE              there is no such pager (4), it was deleted before
-                                   it answered (5), or its answer's pages couldn't be
-                                   given (9)
+  N fault failed CODE              there is no such pager, it is N itself, or it was
+                                   deleted before the fault reached it (4); it took
+                                   the fault, and was deleted before it answered (5);
+                                   its answer's pages couldn't be given (9)
   N unmap ok                       an unmap of N ended
   N control ok                     root's call ended (N is 2)
   N gone                           N was deleted while its call went on
   transfer S R done                a message went from S to R. With another word
                                    in the last place it didn't: no-window (R takes
                                    no pages), entangled (its items contradict each
-                                   other) or no-memory
+                                   other, or would replace a page that they move or
+                                   one above it) or no-memory
   expire N                         a wait of N with a timeout of zero ended
   N waits                          the call goes on until a later line ends it
   page P frame F RIGHTS            a page that show lists; then shown K, how many
   parent SPACE PAGE                the page's parent (parent none: it has none;
-                                   absent: it isn't present)
+                                   absent: it isn't present), by the number of its
+                                   space: sigma0's is 0, root's 1, a new one's the
+                                   next
   region ok                        the table has one region more
   steps K                          K steps so far, served threads' too
   line L refused CODE              the line changed nothing
@@ -193,7 +201,7 @@ and l4_steps print them too:
   L1         the history is full: after 999871 steps no call is started
   K1         nobody waits so: this transfer or expiry can't be done now
   K2         there is no thread of this number
-  K3         the thread's last call goes on
+  K3         the thread's last call goes on (root's, for thread, setpager, delete)
   K4         a timeout is neither never nor zero
   K6         a machine has 1 to 4096 frames
   P1         a page of the region is one of another region of the table
@@ -221,7 +229,7 @@ and l4_steps print them too:
   S1         there is no such command
   S2         too few tokens, too many, or one that can't be read
   S3         the line has more than 4096 bytes
-  S4         the input ends before the line does
+  S4         the input ends before the line does: its newline is missing
   NoMemory   there was no memory for it
 
 Exit status: 0 at the end of the script, 1 if a refused line ended it (with

@@ -28,10 +28,9 @@ pub enum Options {
         script: ScriptOptions,
         answers: bool,
     },
-    /// To tell how a page of a thread's space came there, by a script over such a machine.
+    /// To tell how a page of a thread's space came there, by a script.
     Why {
-        frames: u32,
-        size: PageSize,
+        script: ScriptOptions,
         thread: u32,
         page: u32,
     },

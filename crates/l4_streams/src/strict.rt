@@ -48,6 +48,18 @@ impl<W: Write> StrictWriter<W> {
     {
         self.strict && self.seen.is_refused()
     }
+
+    /// The writer that it stands over.
+    pub fn into_inner(self) -> W
+        ensures { result ≡ self.0 }
+    {
+        let StrictWriter {
+            writer,
+            strict: _,
+            seen: _,
+        } = self;
+        writer
+    }
 }
 
 impl<W: Write> Write for StrictWriter<W> {
