@@ -248,21 +248,30 @@ fn foreign_seat(alloc: Global) -> Result<Seat, LockRefusal> {
     other.seat(ROOT)
 }
 
+/// A lock that threads may share, and a seat of another lock.
+fn lock_and_seat(alloc: Global) -> Result<(KernelLock, Seat), LockRefusal> {
+    let (lock, _) = KernelLock::new(alloc, FRAMES, PageSize::Kib4, 1)?;
+    Ok((lock, foreign_seat(alloc)?))
+}
+
+/// Tells what was taken out of a lock, and lets a seat of another lock enter a call.
+fn show_unlocked(rt: &impl Print, locked: &mut Locked, seat: &mut Seat) -> io::Result<()> {
+    show_parts(rt, "done unlock", locked.history(), locked.kernel())?;
+    if !enter_foreign(rt, locked, seat)? && !enter_foreign(rt, locked, seat)? {
+        return Err(stop());
+    }
+    Ok(())
+}
+
 /// Takes a kernel out of a lock that threads may share, and lets a seat of another lock enter a call. Answers whether there was memory for
 /// the locks.
 fn unlock<R: AllocGlobal + Input + Print>(rt: &R) -> io::Result<bool> {
-    let Ok((lock, _watches)) = KernelLock::new(rt.alloc(), FRAMES, PageSize::Kib4, 1) else {
-        return refused(rt, "unlock");
-    };
-    let Ok(mut seat) = foreign_seat(rt.alloc()) else {
+    let Ok((lock, mut seat)) = lock_and_seat(rt.alloc()) else {
         return refused(rt, "unlock");
     };
     end_memory(rt)?;
     let mut locked = lock.unlock();
-    show_parts(rt, "done unlock", locked.history(), locked.kernel())?;
-    if !enter_foreign(rt, &mut locked, &mut seat)? && !enter_foreign(rt, &mut locked, &mut seat)? {
-        return Err(stop());
-    }
+    show_unlocked(rt, &mut locked, &mut seat)?;
     Ok(true)
 }
 

@@ -38,14 +38,20 @@ fn asked(call: usize) -> (u32, Call) {
     }
 }
 
-/// Tells the history, the seats and the kernel.
-fn show(rt: &impl Print, lock: &SeatedLock) -> io::Result<()> {
-    show_history(rt, lock.history())?;
-    for number in 1..=SEATS {
+/// Tells of each seat that was given.
+fn show_seats(rt: &impl Print, lock: &SeatedLock) -> io::Result<()> {
+    for number in 1..SEATS + 1 {
         if let Some(seat) = lock.seat(number) {
             show_seat(rt, seat)?;
         }
     }
+    Ok(())
+}
+
+/// Tells the history, the seats and the kernel.
+fn show(rt: &impl Print, lock: &SeatedLock) -> io::Result<()> {
+    show_history(rt, lock.history())?;
+    show_seats(rt, lock)?;
     kernel::show(rt, lock.kernel())
 }
 
