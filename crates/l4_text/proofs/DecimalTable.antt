@@ -1,8 +1,8 @@
 -- A table of the two decimal digits of each number below 100.
-use Rattle.std.proofs.Common.{◌≡◌, ℕ, zero, suc, ◌+◌, ◌*◌, ◌/◌, ◌%◌, ◌<◌, ◌==◌, Bool, true, ◌&&◌, List, [], ◌∷◌, get_or, slice_index_or, refl, subst, arith, inl, inr, eqb-true}
-use Rattle.std.proofs.lemmas.Bool.{cases_lt, and_parts}
+use Rattle.std.proofs.Common.{◌≡◌, ℕ, zero, suc, ◌+◌, ◌*◌, ◌/◌, ◌%◌, ◌<◌, List, [], ◌∷◌, get_or, slice_index_or, refl, arith}
 use Rattle.std.proofs.lemmas.Nat.{le_bytes_2}
 use Rattle.std.specs.Int.{to_le_bytes, w16}
+use Rattle.l4_text.proofs.Tables.{entry_in}
 
 -- the digits of each number as one number, the second digit's byte the higher
 abbrev pub decimal_table : List ℕ
@@ -16,24 +16,8 @@ decimal_table =
 abbrev pub digits_of : ℕ → ℕ
 digits_of number = (48 + number / 10) + 256 * (48 + number % 10)
 
--- whether the table has the digits of all numbers below a bound
-abbrev has_digits : List ℕ → ℕ → ℕ → Bool
-has_digits table other zero = true
-has_digits table other (suc n) = (slice_index_or table n other == digits_of n) && has_digits table other n
-
-digits_in : (table : List ℕ) (other n number : ℕ) → has_digits table other n ≡ true → number < n → slice_index_or table number other ≡ digits_of number
-digits_in table other zero number h less = absurd (omega (arith, less))
-digits_in table other (suc n) number h less =
-    let parts = and_parts (slice_index_or table n other == digits_of n) (has_digits table other n) h in
-    elim (cases_lt number n) [
-      | inl below ↦ digits_in table other n number parts.1 below
-      | inr last ↦
-          let at : n ≡ number = omega (arith, less, last) in
-          subst (λ k. slice_index_or table k other ≡ digits_of k) at (eqb-true (slice_index_or table n other) (digits_of n) parts.0)
-    ]
-
 pub digits_at : (other number : ℕ) → number < 100 → slice_index_or decimal_table number other ≡ digits_of number
-digits_at other number less = digits_in decimal_table other 100 number refl less
+digits_at other number less = entry_in digits_of decimal_table other 100 number refl less
 
 two_small : (a b : ℕ) → a < 256 → b < 256 → (i : ℕ) → get_or (a ∷ b ∷ []) i 0 < 256
 two_small a b la lb zero = la

@@ -12,4 +12,5 @@ pub mod PairTable
 pub mod Parts
 pub mod Rows
 pub mod Spelled
+pub mod Tables
 pub mod Telling

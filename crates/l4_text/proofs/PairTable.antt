@@ -1,9 +1,9 @@
 -- A table of the two hexadecimal digits of each byte.
-use Rattle.std.proofs.Common.{◌≡◌, ℕ, zero, suc, ◌+◌, ◌*◌, ◌/◌, ◌%◌, ◌^◌, ◌<◌, ◌==◌, Bool, true, false, cond, nat_lt, ◌&&◌, List, [], ◌∷◌, get_or, slice_index_or, ◌∙◌, refl, subst, arith, inl, inr, eqb-true}
-use Rattle.std.proofs.lemmas.Bool.{cases_lt, and_parts}
+use Rattle.std.proofs.Common.{◌≡◌, ℕ, zero, suc, ◌+◌, ◌*◌, ◌/◌, ◌%◌, ◌^◌, ◌<◌, true, false, cond, nat_lt, List, [], ◌∷◌, get_or, slice_index_or, ◌∙◌, refl, arith}
 use Rattle.std.proofs.lemmas.Nat.{le_bytes_8}
 use Rattle.std.specs.Int.{to_le_bytes, w64}
 use Rattle.l4_text.specs.Texts.{hex_digit, word_text}
+use Rattle.l4_text.proofs.Tables.{entry_in}
 
 -- the digits of each byte as one number, the second digit's byte the higher
 abbrev pub pair_table : List ℕ
@@ -28,24 +28,8 @@ pair_table =
 abbrev pub pair_of : ℕ → ℕ
 pair_of byte = hex_digit (byte / 16) + 256 * hex_digit (byte % 16)
 
--- whether the table has the digits of all bytes below a bound
-abbrev has_pairs : List ℕ → ℕ → ℕ → Bool
-has_pairs table other zero = true
-has_pairs table other (suc n) = (slice_index_or table n other == pair_of n) && has_pairs table other n
-
-pair_in : (table : List ℕ) (other n byte : ℕ) → has_pairs table other n ≡ true → byte < n → slice_index_or table byte other ≡ pair_of byte
-pair_in table other zero byte h less = absurd (omega (arith, less))
-pair_in table other (suc n) byte h less =
-    let parts = and_parts (slice_index_or table n other == pair_of n) (has_pairs table other n) h in
-    elim (cases_lt byte n) [
-      | inl below ↦ pair_in table other n byte parts.1 below
-      | inr last ↦
-          let at : n ≡ byte = omega (arith, less, last) in
-          subst (λ k. slice_index_or table k other ≡ pair_of k) at (eqb-true (slice_index_or table n other) (pair_of n) parts.0)
-    ]
-
 pub pair_at : (other byte : ℕ) → byte < 256 → slice_index_or pair_table byte other ≡ pair_of byte
-pair_at other byte less = pair_in pair_table other 256 byte refl less
+pair_at other byte less = entry_in pair_of pair_table other 256 byte refl less
 
 -- ---- the digits of a word
 

@@ -1,4 +1,4 @@
-use Rattle.std.proofs.Common.{◌≡◌, length, take, eqb-true, sym, ap, ◌∙◌, arith, rules}
+use Rattle.std.proofs.Common.{◌≡◌, length, take, eqb-true, sym, ap, ◌∙◌, rules}
 use Rattle.std.proofs.Math.Seq.{take-length}
 use Rattle.l4_text.proofs.Names.{after_is}
 use Rattle.l4_text.proofs.tokens.after_name.Goals as goal
