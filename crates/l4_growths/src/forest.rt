@@ -2,6 +2,7 @@
 ghost use Rattle.std.specs.Prelude.{◌≡◌, OnOk, IsTrue};
 ghost use Rattle.std.specs.FinSet as set;
 ghost use Rattle.l4_mapdb.specs.Mappings.{Mappings};
+ghost use Rattle.l4_forest.specs.Boot.{IsFirst};
 
 use crate::{end_memory, stop};
 use l4_forest::{Cause, Forest, ItemMove, Place};
@@ -107,26 +108,33 @@ fn take_back<R: Input + Print>(rt: &R, forest: &mut Forest) -> io::Result<()> {
 }
 
 /// Maps pages into tables that are there and into others, grants one of them, and takes them back. Memory for four spaces is taken at once,
-/// so the fifth is the one that is refused. Answers whether there was memory for a forest.
+/// so the fifth is the one that is refused.
+fn tell_pages<R: Input + Print>(rt: &R, forest: &mut Forest) -> io::Result<()>
+    requires { IsFirst 8 forest.old }
+{
+    show(rt, "done new_forest", forest)?;
+    begin(rt, forest, 1)?;
+    begin(rt, forest, 2)?;
+    begin(rt, forest, 3)?;
+    let two = [item(4, 6, 1, false)];
+    map(rt, forest, 0, 2, &two)?;
+    let eight = [item(0, 1020, 2, false), item(0, 2048, 2, false)];
+    map(rt, forest, 0, 2, &eight)?;
+    let on = [item(6, 9, 0, false)];
+    map(rt, forest, 2, 3, &on)?;
+    let granted = [item(6, 70, 0, true)];
+    map(rt, forest, 2, 3, &granted)?;
+    begin(rt, forest, 4)?;
+    take_back(rt, forest)
+}
+
+/// Makes a forest and does that. Answers whether there was memory for it.
 fn tell_once<R: AllocGlobal + Input + Print>(rt: &R) -> io::Result<bool> {
     let Ok(mut forest) = Forest::new(rt.alloc(), FRAMES) else {
         println!(rt; "refused new_forest\n.")?;
         return Ok(false);
     };
-    show(rt, "done new_forest", &forest)?;
-    begin(rt, &mut forest, 1)?;
-    begin(rt, &mut forest, 2)?;
-    begin(rt, &mut forest, 3)?;
-    let two = [item(4, 6, 1, false)];
-    map(rt, &mut forest, 0, 2, &two)?;
-    let eight = [item(0, 1020, 2, false), item(0, 2048, 2, false)];
-    map(rt, &mut forest, 0, 2, &eight)?;
-    let on = [item(6, 9, 0, false)];
-    map(rt, &mut forest, 2, 3, &on)?;
-    let granted = [item(6, 70, 0, true)];
-    map(rt, &mut forest, 2, 3, &granted)?;
-    begin(rt, &mut forest, 4)?;
-    take_back(rt, &mut forest)?;
+    tell_pages(rt, &mut forest)?;
     Ok(true)
 }
 

@@ -1,5 +1,5 @@
 //! The locked kernel.
-ghost use Rattle.std.specs.Prelude.{◌≡◌};
+ghost use Rattle.std.specs.Prelude.{◌≡◌, IfOk};
 
 use crate::kernel::{create, receive, send};
 use crate::{end_memory, kernel, stop};
@@ -275,22 +275,43 @@ fn unlock<R: AllocGlobal + Input + Print>(rt: &R) -> io::Result<bool> {
     Ok(true)
 }
 
-/// Lets two seats exchange words, takes a reply and closes the lock. Answers whether there was memory for a lock.
+/// A lock with its board and a watch of it.
+fn watched_lock(alloc: Global) -> Result<(Locked, Board, Watch), LockRefusal>
+    ensures { IfOk result (λ made. made.2.board ≡ made.1) }
+{
+    let (locked, board, mut watches) = Locked::new(alloc, FRAMES, PageSize::Kib4, 1)?;
+    match watches.pop() {
+        Some(watch) => Ok((locked, board, watch)),
+        None => Err(LockRefusal::NoMemory),
+    }
+}
+
+/// Lets two seats exchange words, for which the list has room, and takes a reply.
+fn tell_calls<R: Input + Print>(
+    rt: &R,
+    locked: &mut Locked,
+    seats: &mut Vec<Seat>,
+    board: &Board,
+    watch: &mut Watch,
+) -> io::Result<()>
+    requires { watch.old.board ≡ board.now }
+{
+    let (root, third) = both_seats(rt, locked, board, watch)?;
+    if seats.push(root).is_err() || seats.push(third).is_err() {
+        return Err(stop());
+    }
+    exchange(rt, locked, seats.as_mut_slice(), board, watch)
+}
+
+/// Makes a lock, does that and closes it. Answers whether there was memory for a lock.
 fn tell_once<R: AllocGlobal + Input + Print>(rt: &R) -> io::Result<bool> {
     let Ok(mut seats) = Vec::with_capacity(rt.alloc(), 2) else {
         return refused(rt, "new_lock");
     };
-    let Ok((mut locked, board, mut watches)) = Locked::new(rt.alloc(), FRAMES, PageSize::Kib4, 1)
-    else {
+    let Ok((mut locked, board, mut watch)) = watched_lock(rt.alloc()) else {
         return refused(rt, "new_lock");
     };
-    let Some(mut watch) = watches.pop() else {
-        return Err(stop());
-    };
-    let (root, third) = both_seats(rt, &mut locked, &board, &mut watch)?;
-    seats.push_reserved(root);
-    seats.push_reserved(third);
-    exchange(rt, &mut locked, seats.as_mut_slice(), &board, &mut watch)?;
+    tell_calls(rt, &mut locked, &mut seats, &board, &mut watch)?;
     close(rt, locked, seats)?;
     Ok(true)
 }

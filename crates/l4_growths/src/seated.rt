@@ -70,22 +70,26 @@ fn lacks(lock: &SeatedLock) -> bool {
     }
 }
 
-/// A lock whose seats are given and whose calls are entered up to this one, where there is memory for all of it.
+/// Gives all seats, and enters the calls up to this one.
+fn enter_up_to(lock: &mut SeatedLock, last: usize) -> Result<(), LockRefusal> {
+    for number in 1..=SEATS {
+        lock.give(number)?;
+    }
+    for call in 0..=last {
+        enter_once(lock, call)?;
+    }
+    Ok(())
+}
+
+/// A lock in which that was done, where there is memory for all of it.
 fn entered(alloc: Global, last: usize) -> io::Result<SeatedLock> {
     let Ok(mut lock) = SeatedLock::new(alloc, FRAMES, PageSize::Kib4) else {
         return Err(stop());
     };
-    for number in 1..=SEATS {
-        if lock.give(number).is_err() {
-            return Err(stop());
-        }
+    match enter_up_to(&mut lock, last) {
+        Ok(()) => Ok(lock),
+        Err(_) => Err(stop()),
     }
-    for call in 0..=last {
-        if enter_once(&mut lock, call).is_err() {
-            return Err(stop());
-        }
-    }
-    Ok(lock)
 }
 
 fn enter_once(lock: &mut SeatedLock, call: usize) -> Result<(), LockRefusal> {
@@ -191,20 +195,25 @@ fn trace<R: AllocGlobal + Input + Print>(rt: &R, lock: &mut SeatedLock) -> io::R
     check(rt, lock, links.as_slice())
 }
 
-/// Gives seats, enters calls that bring a page to where it is, and looks how it came there. Answers whether there was memory for a lock.
+/// Gives seats, enters calls that bring a page to where it is, and looks how it came there.
+fn tell_calls<R: AllocGlobal + Input + Print>(rt: &R, lock: &mut SeatedLock) -> io::Result<()> {
+    show_done(rt, "new_seated", lock)?;
+    for number in 1..=SEATS {
+        give(rt, lock, number)?;
+    }
+    for call in 0..CALLS {
+        enter(rt, lock, call)?;
+    }
+    trace(rt, lock)
+}
+
+/// Makes a lock and does that. Answers whether there was memory for it.
 fn tell_once<R: AllocGlobal + Input + Print>(rt: &R) -> io::Result<bool> {
     let Ok(mut lock) = SeatedLock::new(rt.alloc(), FRAMES, PageSize::Kib4) else {
         println!(rt; "refused new_seated\n.")?;
         return Ok(false);
     };
-    show_done(rt, "new_seated", &lock)?;
-    for number in 1..=SEATS {
-        give(rt, &mut lock, number)?;
-    }
-    for call in 0..CALLS {
-        enter(rt, &mut lock, call)?;
-    }
-    trace(rt, &mut lock)?;
+    tell_calls(rt, &mut lock)?;
     Ok(true)
 }
 

@@ -6,6 +6,7 @@ use l4_ipc::{Call, Fpage, MAX_WORDS, PageSize, Rights, Step, ThreadId, Timeout};
 use l4_lock::{History, KernelLock, Locked, Seat, Unclosed, Watch};
 use std::alloc::Global;
 use std::process::Abort;
+use std::sync::Wait;
 
 /// The page frames of the tests' kernels.
 pub const FRAMES: u32 = 256;
@@ -22,6 +23,35 @@ pub fn id(number: u32) -> ThreadId {
         Some(id) => id,
         None => ThreadId::nil(),
     }
+}
+
+/// A lock that no call was entered in.
+pub fn new_lock(rt: &impl Abort, alloc: Global) -> KernelLock {
+    KernelLock::new(alloc, FRAMES, PageSize::Kib4, 0)
+        .expect(rt, "a lock")
+        .0
+}
+
+/// The same for one thread alone.
+pub fn new_locked(rt: &impl Abort, alloc: Global) -> Locked {
+    Locked::new(alloc, FRAMES, PageSize::Kib4, 0)
+        .expect(rt, "a lock")
+        .0
+}
+
+/// The seat of this number.
+pub fn seat<R: Wait + Abort>(rt: &R, lock: &KernelLock, number: u32) -> Seat {
+    lock.seat(rt, number).expect(rt, "a seat")
+}
+
+/// The seat of this number, for one thread alone.
+pub fn seat_of(rt: &impl Abort, locked: &mut Locked, number: u32) -> Seat {
+    locked.seat(number).expect(rt, "a seat")
+}
+
+/// A list of two seats.
+pub fn both(rt: &impl Abort, alloc: Global, seats: [Seat; 2]) -> Vec<Seat> {
+    Vec::from_array(alloc, seats).expect(rt, "memory")
 }
 
 /// A lock that no call was entered in, and a watch of its board.

@@ -1,6 +1,6 @@
 //! A fault waits for its pager, which another thread serves.
 
-use crate::calls::{FRAMES, ROOT, SIGMA0, create, create_for, receive, send, starts_of};
+use crate::calls::{ROOT, SIGMA0, create, create_for, new_lock, receive, seat, send, starts_of};
 use l4_ipc::{Call, Kernel, Mapping, PageSize, Reply, Rights};
 use l4_lock::{History, KernelLock, Seat};
 use l4_pager::{Entry, Gate, RegionPager, serve};
@@ -130,20 +130,16 @@ fn page_of_fault(kernel: &Kernel) -> Option<Mapping> {
 }
 
 /// Makes the two threads, and gives the pager its frame.
-fn prepare<R: Threads + Wait + Sync>(
+fn prepare<R: Threads + Wait + Sync + Abort>(
     rt: &R,
     lock: &KernelLock,
     root: &mut Seat,
     sigma0: &mut Seat,
     pager: &mut Seat,
-) -> bool {
-    if lock.call(rt, root, create(PAGER)).is_err() {
-        return false;
-    }
-    if lock.call(rt, root, create_for(FAULTER, PAGER)).is_err() {
-        return false;
-    }
-    hand_out(rt, lock, sigma0, pager)
+) {
+    assert!(rt; lock.call(rt, root, create(PAGER)).is_ok());
+    assert!(rt; lock.call(rt, root, create_for(FAULTER, PAGER)).is_ok());
+    assert!(rt; hand_out(rt, lock, sigma0, pager));
 }
 
 /// Runs the two threads to their end. Answers their seats.
@@ -176,22 +172,27 @@ fn judge(rt: &impl Abort, history: &History, kernel: &Kernel) {
     assert_eq!(rt; mapping.rights, Rights::R.union(Rights::X));
 }
 
+/// Judges what a lock that is closed with its seats leaves.
+fn judge_closed(rt: &impl Abort, lock: KernelLock, seats: Vec<Seat>) {
+    match lock.unlock().close(seats) {
+        Ok((history, kernel)) => judge(rt, &history, &kernel),
+        Err(_) => panic!(rt; "not closed"),
+    }
+}
+
 #[test]
 fn fault_waits_for_pager(rt: HostRuntime) {
-    let (lock, _) = KernelLock::new(rt.alloc(), FRAMES, PageSize::Kib4, 0).expect(&rt, "a lock");
-    let mut sigma0 = lock.seat(&rt, SIGMA0).expect(&rt, "a seat");
-    let mut root = lock.seat(&rt, ROOT).expect(&rt, "a seat");
-    let mut pager = lock.seat(&rt, PAGER).expect(&rt, "a seat");
-    let faulter = lock.seat(&rt, FAULTER).expect(&rt, "a seat");
-    assert!(rt; prepare(&rt, &lock, &mut root, &mut sigma0, &mut pager));
+    let lock = new_lock(&rt, rt.alloc());
+    let mut sigma0 = seat(&rt, &lock, SIGMA0);
+    let mut root = seat(&rt, &lock, ROOT);
+    let mut pager = seat(&rt, &lock, PAGER);
+    prepare(&rt, &lock, &mut root, &mut sigma0, &mut pager);
+    let faulter = seat(&rt, &lock, FAULTER);
     let lock = Arc::new(rt.alloc(), lock).expect(&rt, "memory");
     let (pager, faulter) = run(&rt, &lock, pager, faulter);
     let seats = Vec::from_array(rt.alloc(), [sigma0, root, pager, faulter]).expect(&rt, "memory");
-    let Ok(lock) = Arc::try_unwrap(lock) else {
-        panic!(rt; "the threads have ended")
-    };
-    match lock.unlock().close(seats) {
-        Ok((history, kernel)) => judge(&rt, &history, &kernel),
-        Err(_) => panic!(rt; "not closed"),
+    match Arc::try_unwrap(lock) {
+        Ok(lock) => judge_closed(&rt, lock, seats),
+        Err(_) => panic!(rt; "the threads have ended"),
     }
 }

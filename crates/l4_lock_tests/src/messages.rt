@@ -1,8 +1,9 @@
 //! Ten messages from one thread to another, while a third watches.
 ghost use Rattle.std.specs.Prelude.{◌≡◌};
 
-use crate::calls::{ROOT, closed, create, receive, send, starts_of, watched};
+use crate::calls::{ROOT, both, closed, create, receive, seat, send, starts_of, watched};
 use l4_lock::{Board, KernelLock, Seat, Watch};
+use std::process::Abort;
 use std::sync::Wait;
 use std::thread::{Threads, join, sleep};
 use std::time::{Clock, Duration};
@@ -89,17 +90,30 @@ fn exchange<R: Threads + Wait + Clock + Sync>(
     (sent, received, watched)
 }
 
-#[test]
-fn ten_messages(rt: HostRuntime) {
-    let (lock, mut watch) = watched(&rt, rt.alloc());
-    let mut root = lock.seat(&rt, ROOT).expect(&rt, "a seat");
-    let mut partner = lock.seat(&rt, PARTNER).expect(&rt, "a seat");
-    assert!(rt; lock.call(&rt, &mut root, create(PARTNER)).is_ok());
-    let all = exchange(&rt, &lock, &mut root, &mut partner, &mut watch);
+/// Makes the partner, and has all three act.
+fn check_exchange<R: Threads + Wait + Clock + Sync + Abort>(
+    rt: &R,
+    lock: &KernelLock,
+    root: &mut Seat,
+    partner: &mut Seat,
+    watch: &mut Watch,
+)
+    requires { watch.old.board ≡ lock.now }
+{
+    assert!(rt; lock.call(rt, root, create(PARTNER)).is_ok());
+    let all = exchange(rt, lock, root, partner, watch);
     assert!(rt; all.0, "each message is sent");
     assert!(rt; all.1, "each message is received");
     assert!(rt; all.2, "the watch sees the last entry and never falls");
-    let seats = Vec::from_array(rt.alloc(), [root, partner]).expect(&rt, "memory");
+}
+
+#[test]
+fn ten_messages(rt: HostRuntime) {
+    let (lock, mut watch) = watched(&rt, rt.alloc());
+    let mut root = seat(&rt, &lock, ROOT);
+    let mut partner = seat(&rt, &lock, PARTNER);
+    check_exchange(&rt, &lock, &mut root, &mut partner, &mut watch);
+    let seats = both(&rt, rt.alloc(), [root, partner]);
     let history = closed(&rt, lock, seats);
     assert_eq!(rt; history.len() as u64, ENTRIES);
     assert_eq!(rt; starts_of(&history, ROOT), 11);

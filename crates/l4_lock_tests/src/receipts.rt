@@ -1,8 +1,8 @@
 //! Receipts of long messages, which are stored by entries of the history where they fill pieces of memory.
 ghost use Rattle.std.specs.Prelude.{◌≤◌};
 
-use crate::calls::{FRAMES, ROOT, create, receive, send};
-use l4_ipc::{Call, PageSize, Reply};
+use crate::calls::{ROOT, both, create, new_locked, receive, seat_of, send};
+use l4_ipc::{Call, Reply};
 use l4_lock::{Locked, Receipt, Seat};
 use std::process::Abort;
 
@@ -64,32 +64,37 @@ fn has_received(receipt: &Receipt, round: u32) -> bool {
         && reply.words.as_slice() == &message(round)[1..]
 }
 
-/// Each receipt has its message, in both seats and for the lock that closes with them.
-#[test]
-fn long_messages(rt: HostRuntime) {
-    let (mut locked, _, _) = Locked::new(rt.alloc(), FRAMES, PageSize::Kib4, 0).expect(
-        &rt, "a lock",
-    );
-    let mut root = locked.seat(ROOT).expect(&rt, "a seat");
-    let mut third = locked.seat(THIRD).expect(&rt, "a seat");
-    assert!(rt; locked.enter(&mut root, create(THIRD)).is_ok());
+/// Makes the third thread, and sends all messages.
+fn exchange_all(rt: &impl Abort, locked: &mut Locked, root: &mut Seat, third: &mut Seat) {
+    assert!(rt; locked.enter(root, create(THIRD)).is_ok());
     for round in 0..ROUNDS {
-        exchange(&rt, &mut locked, &mut root, &mut third, round);
+        exchange(rt, locked, root, third, round);
     }
+}
+
+/// Judges the receipts of both seats.
+fn check_receipts(rt: &impl Abort, root: &Seat, third: &Seat) {
     assert_eq!(rt; root.receipts().len(), ROUNDS as usize + 1);
     assert_eq!(rt; third.receipts().len(), ROUNDS as usize);
     for round in 0..ROUNDS {
         let sent = root
             .receipts()
             .get(round as usize + 1)
-            .expect(&rt, "a receipt");
+            .expect(rt, "a receipt");
         assert!(rt; has_sent(&sent, round));
-        let received = third
-            .receipts()
-            .get(round as usize)
-            .expect(&rt, "a receipt");
+        let received = third.receipts().get(round as usize).expect(rt, "a receipt");
         assert!(rt; has_received(&received, round));
     }
-    let seats = Vec::from_array(rt.alloc(), [root, third]).expect(&rt, "memory");
+}
+
+/// Each receipt has its message, in both seats and for the lock that closes with them.
+#[test]
+fn long_messages(rt: HostRuntime) {
+    let mut locked = new_locked(&rt, rt.alloc());
+    let mut root = seat_of(&rt, &mut locked, ROOT);
+    let mut third = seat_of(&rt, &mut locked, THIRD);
+    exchange_all(&rt, &mut locked, &mut root, &mut third);
+    check_receipts(&rt, &root, &third);
+    let seats = both(&rt, rt.alloc(), [root, third]);
     assert!(rt; locked.close(seats).is_ok());
 }

@@ -1,6 +1,6 @@
 //! Sigma0 as a loop of a gate, on a thread of its own.
 
-use crate::calls::{FRAMES, ROOT, SIGMA0, id, send};
+use crate::calls::{FRAMES, ROOT, SIGMA0, both, id, new_lock, seat, send};
 use arrayvec::ArrayVec;
 use l4_ipc::{Call, Fpage, Kernel, MAX_WORDS, PageSize, Rights, Timeout};
 use l4_lock::{KernelLock, LockRefusal, Seat};
@@ -88,24 +88,36 @@ fn judge(rt: &impl Abort, kernel: &Kernel) {
     assert!(rt; kernel.mapping(ROOT_SPACE, 0).is_none());
 }
 
-#[test]
-fn sigma0_is_served_by_a_gate(rt: HostRuntime) {
-    let (lock, _) = KernelLock::new(rt.alloc(), FRAMES, PageSize::Kib4, 0).expect(&rt, "a lock");
-    let sigma0 = lock.seat(&rt, SIGMA0).expect(&rt, "a seat");
-    let mut root = lock.seat(&rt, ROOT).expect(&rt, "a seat");
-    let ((sigma0, answers), asked) = join(
-        &rt,
-        || play(&rt, &lock, sigma0),
-        || ask(&rt, &lock, &mut root),
-    );
+/// Has sigma0 and root act. Answers sigma0's seat.
+fn serve_root<R: Threads + Wait + Sync + Abort>(
+    rt: &R,
+    lock: &KernelLock,
+    sigma0: Seat,
+    root: &mut Seat,
+) -> Seat {
+    let ((sigma0, answers), asked) = join(rt, || play(rt, lock, sigma0), || ask(rt, lock, root));
     assert_eq!(rt; asked, Ok(()));
     assert_eq!(rt; answers, REQUESTS);
-    let seats = Vec::from_array(rt.alloc(), [sigma0, root]).expect(&rt, "memory");
+    sigma0
+}
+
+/// Judges the history and the kernel of a lock that is closed with its seats.
+fn judge_closed(rt: &impl Abort, lock: KernelLock, seats: Vec<Seat>) {
     match lock.unlock().close(seats) {
         Ok((history, kernel)) => {
             assert_eq!(rt; history.len(), ENTRIES);
-            judge(&rt, &kernel);
+            judge(rt, &kernel);
         }
         Err(_) => panic!(rt; "not closed"),
     }
+}
+
+#[test]
+fn sigma0_is_served_by_a_gate(rt: HostRuntime) {
+    let lock = new_lock(&rt, rt.alloc());
+    let sigma0 = seat(&rt, &lock, SIGMA0);
+    let mut root = seat(&rt, &lock, ROOT);
+    let sigma0 = serve_root(&rt, &lock, sigma0, &mut root);
+    let seats = both(&rt, rt.alloc(), [sigma0, root]);
+    judge_closed(&rt, lock, seats);
 }

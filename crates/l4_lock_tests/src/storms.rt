@@ -1,8 +1,7 @@
 //! Many threads send to one.
 
-use crate::calls::{FRAMES, ROOT, closed, create, receive, send, starts_of};
-use l4_ipc::PageSize;
-use l4_lock::{KernelLock, Seat};
+use crate::calls::{ROOT, closed, create, new_lock, receive, seat, send, starts_of};
+use l4_lock::{History, KernelLock, Seat};
 use std::alloc::{AllocError, Global};
 use std::process::Abort;
 use std::sync::{Arc, Wait};
@@ -52,34 +51,53 @@ fn start_all<R: Threads + Wait + Abort + Copy + Send + Drop + 'static>(
 ) -> Vec<JoinHandle<Seat>> {
     let mut working = Vec::new(alloc);
     for number in FIRST..=RECEIVER {
-        let seat = lock.seat(rt, number).expect(rt, "a seat");
-        let handle = start(rt, lock, seat).expect(rt, "a thread");
+        let handle = start(rt, lock, seat(rt, lock, number)).expect(rt, "a thread");
         working.push(handle).expect(rt, "memory");
     }
     working
 }
 
+/// Root makes all threads.
+fn make_all<R: Wait + Abort>(rt: &R, lock: &KernelLock, root: &mut Seat) {
+    for number in FIRST..=RECEIVER {
+        assert!(rt; lock.call(rt, root, create(number)).is_ok());
+    }
+}
+
+/// The seats of the threads that have ended.
+fn join_all<R: Threads + Wait + Abort + Copy + Send + Drop + 'static>(
+    rt: &R,
+    alloc: Global,
+    lock: &Arc<KernelLock, Global>,
+) -> Vec<Seat> {
+    let mut seats = Vec::new(alloc);
+    for handle in start_all(rt, alloc, lock) {
+        seats.push(handle.join(rt)).expect(rt, "memory");
+    }
+    seats
+}
+
+/// Judges what each thread started.
+fn check_starts(rt: &impl Abort, history: &History) {
+    assert_eq!(rt; history.len(), 2108);
+    assert_eq!(rt; starts_of(history, ROOT), 8);
+    for number in FIRST..RECEIVER {
+        assert_eq!(rt; starts_of(history, number), 100, "of thread {number}");
+    }
+    assert_eq!(rt; starts_of(history, RECEIVER), 700);
+}
+
 #[test]
 fn seven_hundred_messages(rt: HostRuntime) {
-    let (lock, _) = KernelLock::new(rt.alloc(), FRAMES, PageSize::Kib4, 0).expect(&rt, "a lock");
-    let mut root = lock.seat(&rt, ROOT).expect(&rt, "a seat");
-    for number in FIRST..=RECEIVER {
-        assert!(rt; lock.call(&rt, &mut root, create(number)).is_ok());
-    }
+    let lock = new_lock(&rt, rt.alloc());
+    let mut root = seat(&rt, &lock, ROOT);
+    make_all(&rt, &lock, &mut root);
     let lock = Arc::new(rt.alloc(), lock).expect(&rt, "memory");
-    let mut seats = Vec::new(rt.alloc());
-    for handle in start_all(&rt, rt.alloc(), &lock) {
-        seats.push(handle.join(&rt)).expect(&rt, "memory");
-    }
+    let mut seats = join_all(&rt, rt.alloc(), &lock);
     seats.push(root).expect(&rt, "memory");
     let history = match Arc::try_unwrap(lock) {
         Ok(lock) => closed(&rt, lock, seats),
         Err(_) => panic!(rt; "the threads have ended"),
     };
-    assert_eq!(rt; history.len(), 2108);
-    assert_eq!(rt; starts_of(&history, ROOT), 8);
-    for number in FIRST..RECEIVER {
-        assert_eq!(rt; starts_of(&history, number), 100, "of thread {number}");
-    }
-    assert_eq!(rt; starts_of(&history, RECEIVER), 700);
+    check_starts(&rt, &history);
 }

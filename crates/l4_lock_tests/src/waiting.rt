@@ -1,9 +1,12 @@
 //! Calls that were left waiting, and threads that are deleted as they wait.
 ghost use Rattle.std.specs.Prelude.{◌≡◌};
 
-use crate::calls::{FRAMES, ROOT, closed, create, delete, receive, watched};
+use crate::calls::{
+    ROOT, both, closed, create, delete, new_locked, receive, seat, seat_of, watched,
+};
 use l4_ipc::{PageSize, Refused, Reply};
 use l4_lock::{Board, Entered, KernelLock, LockRefusal, Locked, Seat, Watch};
+use std::process::Abort;
 use std::sync::Wait;
 use std::thread::{Threads, join, sleep};
 use std::time::{Clock, Duration};
@@ -36,39 +39,33 @@ fn is_refused(entered: Result<Entered, LockRefusal>, refusal: LockRefusal) -> bo
     }
 }
 
-/// The seat of a thread that is deleted as it waits gets Gone, once, and a new thread with its number starts anew.
-#[test]
-fn gone_once(rt: HostRuntime) {
-    let mut locked = Locked::new(rt.alloc(), FRAMES, PageSize::Kib4, 0)
-        .expect(&rt, "a lock")
-        .0;
-    let mut root = locked.seat(ROOT).expect(&rt, "a seat");
-    let mut third = locked.seat(THIRD).expect(&rt, "a seat");
-    assert!(rt; ends(locked.enter(&mut root, create(THIRD)), Reply::Controlled));
-    assert!(rt; waits(locked.enter(&mut third, receive())));
-    assert!(rt; locked.take(&mut third).is_none());
-    assert!(rt; ends(locked.enter(&mut root, delete(THIRD)), Reply::Controlled));
-    assert!(rt; ends(locked.enter(&mut root, create(THIRD)), Reply::Controlled));
-    assert!(rt;
-        is_refused(
-            locked.enter(&mut third, receive()),
-            LockRefusal::ReplyWaiting
-        )
-    );
-    assert_eq!(rt; locked.take(&mut third), Some(Reply::Gone));
-    assert_eq!(rt; locked.take(&mut third), None);
-    assert!(rt; waits(locked.enter(&mut third, receive())));
-    assert!(rt;
-        is_refused(
-            locked.enter(&mut third, receive()),
-            LockRefusal::Kernel(Refused::Busy)
-        )
-    );
+/// Replaces the third thread as it waits: its seat gets Gone, and then serves the new thread of its number.
+fn replace_once(rt: &impl Abort, locked: &mut Locked, root: &mut Seat, third: &mut Seat) {
+    assert!(rt; ends(locked.enter(root, create(THIRD)), Reply::Controlled));
+    assert!(rt; waits(locked.enter(third, receive())));
+    assert!(rt; locked.take(third).is_none());
+    assert!(rt; ends(locked.enter(root, delete(THIRD)), Reply::Controlled));
+    assert!(rt; ends(locked.enter(root, create(THIRD)), Reply::Controlled));
+    assert!(rt; is_refused(locked.enter(third, receive()), LockRefusal::ReplyWaiting));
+    assert_eq!(rt; locked.take(third), Some(Reply::Gone));
+    assert_eq!(rt; locked.take(third), None);
+    assert!(rt; waits(locked.enter(third, receive())));
+    let busy = LockRefusal::Kernel(Refused::Busy);
+    assert!(rt; is_refused(locked.enter(third, receive()), busy));
     assert_eq!(rt;
         (third.starts(), third.waiting(), third.receipts().len()),
         (2, 1, 1)
     );
     assert_eq!(rt; locked.history().len(), 5);
+}
+
+/// The seat of a thread that is deleted as it waits gets Gone, once, and a new thread with its number starts anew.
+#[test]
+fn gone_once(rt: HostRuntime) {
+    let mut locked = new_locked(&rt, rt.alloc());
+    let mut root = seat_of(&rt, &mut locked, ROOT);
+    let mut third = seat_of(&rt, &mut locked, THIRD);
+    replace_once(&rt, &mut locked, &mut root, &mut third);
 }
 
 /// Waits until the board shows this number. Answers whether it does.
@@ -112,35 +109,49 @@ fn wait_and_replace<R: Threads + Wait + Clock + Sync>(
     )
 }
 
+/// Has both act, and judges what the seats tell.
+fn check_gone<R: Threads + Wait + Clock + Sync + Abort>(
+    rt: &R,
+    lock: &KernelLock,
+    root: &mut Seat,
+    third: &mut Seat,
+    watch: &mut Watch,
+)
+    requires { watch.old.board ≡ lock.now }
+{
+    assert!(rt; lock.call(rt, root, create(THIRD)).is_ok());
+    let (reply, replaced) = wait_and_replace(rt, lock, root, third, watch);
+    assert_eq!(rt; reply, Ok(Reply::Gone));
+    assert!(rt; replaced);
+}
+
 #[test]
 fn gone_on_threads(rt: HostRuntime) {
     let (lock, mut watch) = watched(&rt, rt.alloc());
-    let mut root = lock.seat(&rt, ROOT).expect(&rt, "a seat");
-    let mut third = lock.seat(&rt, THIRD).expect(&rt, "a seat");
-    assert!(rt; lock.call(&rt, &mut root, create(THIRD)).is_ok());
-    let (reply, replaced) = wait_and_replace(&rt, &lock, &mut root, &mut third, &mut watch);
-    assert_eq!(rt; reply, Ok(Reply::Gone));
-    assert!(rt; replaced);
-    let seats = Vec::from_array(rt.alloc(), [root, third]).expect(&rt, "memory");
+    let mut root = seat(&rt, &lock, ROOT);
+    let mut third = seat(&rt, &lock, THIRD);
+    check_gone(&rt, &lock, &mut root, &mut third, &mut watch);
+    let seats = both(&rt, rt.alloc(), [root, third]);
     assert_eq!(rt; closed(&rt, lock, seats).len(), 4);
+}
+
+/// Tries what a lock refuses, with a seat of its own and one of another lock.
+fn check_refusals(rt: &impl Abort, locked: &mut Locked, third: &mut Seat, foreign: &mut Seat) {
+    assert!(rt; matches!(locked.seat(THIRD), Err(LockRefusal::SeatTaken)));
+    let unknown = LockRefusal::Kernel(Refused::UnknownThread);
+    assert!(rt; is_refused(locked.enter(third, receive()), unknown));
+    assert!(rt; is_refused(locked.enter(foreign, receive()), unknown));
+    assert!(rt; locked.history().is_empty());
 }
 
 /// What a lock refuses.
 #[test]
 fn refusals(rt: HostRuntime) {
-    let mut locked = Locked::new(rt.alloc(), FRAMES, PageSize::Kib4, 0)
-        .expect(&rt, "a lock")
-        .0;
-    let mut other = Locked::new(rt.alloc(), FRAMES, PageSize::Kib4, 0)
-        .expect(&rt, "a lock")
-        .0;
-    let mut third = locked.seat(THIRD).expect(&rt, "a seat");
-    let mut foreign = other.seat(ROOT).expect(&rt, "a seat");
-    assert!(rt; matches!(locked.seat(THIRD), Err(LockRefusal::SeatTaken)));
-    let unknown = LockRefusal::Kernel(Refused::UnknownThread);
-    assert!(rt; is_refused(locked.enter(&mut third, receive()), unknown));
-    assert!(rt; is_refused(locked.enter(&mut foreign, receive()), unknown));
-    assert!(rt; locked.history().is_empty());
+    let mut other = new_locked(&rt, rt.alloc());
+    let mut foreign = seat_of(&rt, &mut other, ROOT);
+    let mut locked = new_locked(&rt, rt.alloc());
+    let mut third = seat_of(&rt, &mut locked, THIRD);
+    check_refusals(&rt, &mut locked, &mut third, &mut foreign);
 }
 
 /// How many frames a lock may have.

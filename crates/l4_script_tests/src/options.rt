@@ -1,23 +1,64 @@
 use l4_fpage::{PageSize, Rights};
 use l4_msg::Region;
 use l4_options::{OptionFault, Options, ScriptOptions, StepOptions, options, step_options};
+use std::alloc::Global;
 use std::test::Fail;
 
+/// The frames and the pages of the script that is to be run by these words, if they ask for that.
+fn run_of(alloc: Global, words: &[&str]) -> Option<(u32, PageSize)> {
+    match options(alloc, words) {
+        Ok(Options::Run { script, .. }) => Some((script.frames, script.size)),
+        _ => None,
+    }
+}
+
+/// Those of the list of steps that is to be done.
+fn steps_of(alloc: Global, words: &[&str]) -> Option<(u32, PageSize)> {
+    match step_options(alloc, words) {
+        Ok(StepOptions::Run { frames, size }) => Some((frames, size)),
+        _ => None,
+    }
+}
+
+/// The size of the pages that a plan or a check of one is asked for.
+fn plan_size_of(alloc: Global, words: &[&str]) -> Option<PageSize> {
+    match options(alloc, words) {
+        Ok(Options::Plan { size, .. }) => Some(size),
+        Ok(Options::Check { size, .. }) => Some(size),
+        _ => None,
+    }
+}
+
+/// Whether this word can't be a number of frames.
+fn is_refused_as_frames(alloc: Global, word: &str) -> bool {
+    let words = ["l4", "run", "--frames", word];
+    matches!(
+        options(alloc, words.as_slice()),
+        Err(OptionFault::Frames(_))
+    )
+}
+
 #[test]
-fn reads_frames(rt: HostRuntime) -> Result<(), Fail> {
+fn reads_frames(rt: HostRuntime) {
     for (word, frames) in [("1", 1), ("4096", 4096), ("007", 7)] {
         let words = ["l4", "run", "--frames", word];
-        let Ok(Options::Run { script, .. }) = options(rt.alloc(), words.as_slice()) else {
-            return Err("not understood".into());
-        };
-        assert_eq!(rt; script.frames, frames);
+        assert_eq!(rt;
+            run_of(rt.alloc(), words.as_slice()),
+            Some((frames, PageSize::Kib4))
+        );
         let words = ["l4_steps", "--frames", word];
-        let Ok(StepOptions::Run { frames: got, .. }) = step_options(rt.alloc(), words.as_slice())
-        else {
-            return Err("not understood".into());
-        };
-        assert_eq!(rt; got, frames);
+        assert_eq!(rt;
+            steps_of(rt.alloc(), words.as_slice()),
+            Some((frames, PageSize::Kib4))
+        );
     }
+    for word in ["0", "4097", "+5", "0x10", ""] {
+        assert!(rt; is_refused_as_frames(rt.alloc(), word), "{word}");
+    }
+}
+
+#[test]
+fn reads_a_plain_run(rt: HostRuntime) {
     let words = ["l4", "run"];
     assert!(rt;
         matches!(
@@ -33,54 +74,24 @@ fn reads_frames(rt: HostRuntime) -> Result<(), Fail> {
             })
         )
     );
-    for word in ["0", "4097", "+5", "0x10", ""] {
-        let words = ["l4", "run", "--frames", word];
-        assert!(rt;
-            matches!(
-                options(rt.alloc(), words.as_slice()),
-                Err(OptionFault::Frames(_))
-            ),
-            "{word}"
-        );
-    }
-    Ok(())
 }
 
 #[test]
-fn reads_page_sizes(rt: HostRuntime) -> Result<(), Fail> {
+fn reads_page_sizes(rt: HostRuntime) {
     for (word, size) in [
         ("4096", PageSize::Kib4),
         ("1024", PageSize::Kib1),
         ("01024", PageSize::Kib1),
     ] {
         let words = ["l4", "run", "--frames=5", "--page-size", word];
-        let Ok(Options::Run { script, .. }) = options(rt.alloc(), words.as_slice()) else {
-            return Err("not understood".into());
-        };
-        assert!(rt; script.frames == 5 && script.size == size);
+        assert_eq!(rt; run_of(rt.alloc(), words.as_slice()), Some((5, size)));
         let words = ["l4_steps", "--page-size", word];
-        let Ok(
-            StepOptions::Run {
-                frames: 256,
-                size: got,
-            },
-        ) = step_options(rt.alloc(), words.as_slice())
-        else {
-            return Err("not understood".into());
-        };
-        assert!(rt; got == size);
+        assert_eq!(rt; steps_of(rt.alloc(), words.as_slice()), Some((256, size)));
         let words = ["l4", "plan", "16", "32", "1", "rwx", "--page-size", word];
-        let Ok(Options::Plan { size: got, .. }) = options(rt.alloc(), words.as_slice()) else {
-            return Err("not understood".into());
-        };
-        assert!(rt; got == size);
+        assert_eq!(rt; plan_size_of(rt.alloc(), words.as_slice()), Some(size));
         let words = ["l4", "check", "--page-size", word, "16", "32", "1", "rwx"];
-        let Ok(Options::Check { size: got, .. }) = options(rt.alloc(), words.as_slice()) else {
-            return Err("not understood".into());
-        };
-        assert!(rt; got == size);
+        assert_eq!(rt; plan_size_of(rt.alloc(), words.as_slice()), Some(size));
     }
-    Ok(())
 }
 
 #[test]

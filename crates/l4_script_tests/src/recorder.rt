@@ -82,50 +82,58 @@ fn make_third(rt: &impl Abort, recorder: &mut Recorder, appended: &mut Appended)
 }
 
 /// A thread that was left waiting gets a message, and enters another call: nobody but the kernel keeps its reply.
-#[test]
-fn message(rt: HostRuntime) {
-    let (mut recorder, mut appended) = recorder(&rt, rt.alloc());
-    make_third(&rt, &mut recorder, &mut appended);
+fn check_message(rt: &impl Abort, recorder: &mut Recorder, appended: &mut Appended) {
+    make_third(rt, recorder, appended);
     assert!(rt; recorder.kernel().reply(THIRD).is_none());
-    assert!(rt; recorder.enter(ROOT, &send(), &mut appended).is_ok());
+    assert!(rt; recorder.enter(ROOT, &send(), appended).is_ok());
     assert!(rt; is_message(recorder.kernel().reply(THIRD)));
-    assert!(rt; recorder.enter(THIRD, &receive(), &mut appended).is_ok());
+    assert!(rt; recorder.enter(THIRD, &receive(), appended).is_ok());
     assert_eq!(rt; recorder.history().len(), 5);
 }
 
-/// What a call appended is told: whose calls ended in its start, and the steps that came next.
 #[test]
-fn appended(rt: HostRuntime) {
-    let (mut recorder, mut told) = recorder(&rt, rt.alloc());
-    assert!(rt; recorder.enter(ROOT, &create(), &mut told).is_ok());
+fn message(rt: HostRuntime) {
+    let (mut recorder, mut appended) = recorder(&rt, rt.alloc());
+    check_message(&rt, &mut recorder, &mut appended);
+}
+
+/// What a call appended is told: whose calls ended in its start, and the steps that came next.
+fn check_appended(rt: &impl Abort, recorder: &mut Recorder, told: &mut Appended) {
+    assert!(rt; recorder.enter(ROOT, &create(), told).is_ok());
     assert!(rt;
         told.start.ended.as_slice() == [ROOT].as_slice() && told.next.as_slice().is_empty()
     );
-    assert!(rt; recorder.enter(THIRD, &receive(), &mut told).is_ok());
+    assert!(rt; recorder.enter(THIRD, &receive(), told).is_ok());
     assert!(rt; told.start.ended.is_empty() && told.next.as_slice().is_empty());
-    assert!(rt; recorder.enter(ROOT, &send(), &mut told).is_ok());
+    assert!(rt; recorder.enter(ROOT, &send(), told).is_ok());
     assert!(rt; told.start.ended.is_empty());
     let transfer = NextStep::Transfer(ROOT, THIRD, Outcome::Done, true);
     assert!(rt; told.next.as_slice() == [transfer].as_slice());
-    assert!(rt; recorder.enter(THIRD, &receive(), &mut told).is_ok());
-    assert!(rt;
-        recorder
-            .enter(ROOT, &Call::delete(THIRD_ID), &mut told)
-            .is_ok()
-    );
+    assert!(rt; recorder.enter(THIRD, &receive(), told).is_ok());
+    assert!(rt; recorder.enter(ROOT, &Call::delete(THIRD_ID), told).is_ok());
     assert!(rt; told.start.ended.as_slice() == [ROOT, THIRD].as_slice());
 }
 
+#[test]
+fn appended(rt: HostRuntime) {
+    let (mut recorder, mut told) = recorder(&rt, rt.alloc());
+    check_appended(&rt, &mut recorder, &mut told);
+}
+
 /// A call of a number that names no thread is refused, and one of a thread that waits.
+fn check_refused(rt: &impl Abort, recorder: &mut Recorder, appended: &mut Appended) {
+    make_third(rt, recorder, appended);
+    let unknown = Err(RecordRefusal::Kernel(Refused::UnknownThread));
+    assert_eq!(rt; recorder.enter(NOBODY, &receive(), appended), unknown);
+    let busy = Err(RecordRefusal::Kernel(Refused::Busy));
+    assert_eq!(rt; recorder.enter(THIRD, &receive(), appended), busy);
+    assert_eq!(rt; recorder.history().len(), 2);
+}
+
 #[test]
 fn refused(rt: HostRuntime) {
     let (mut recorder, mut appended) = recorder(&rt, rt.alloc());
-    make_third(&rt, &mut recorder, &mut appended);
-    let unknown = Err(RecordRefusal::Kernel(Refused::UnknownThread));
-    assert_eq!(rt; recorder.enter(NOBODY, &receive(), &mut appended), unknown);
-    let busy = Err(RecordRefusal::Kernel(Refused::Busy));
-    assert_eq!(rt; recorder.enter(THIRD, &receive(), &mut appended), busy);
-    assert_eq!(rt; recorder.history().len(), 2);
+    check_refused(&rt, &mut recorder, &mut appended);
 }
 
 /// No recorder has no frames.
