@@ -414,23 +414,36 @@ fn a_hundred_thousand_steps(rt: HostRuntime) -> Result<(), Fail> {
     Ok(())
 }
 
-/// Whether this step comes next, is done with this outcome, and ends the calls of these threads.
-fn comes_next(kernel: &mut Kernel, want: &Step, outcome: Outcome, ended: &[u32]) -> bool {
+/// Whether this comes next and is told so: as a step that is done with this outcome and ends the calls of these threads, and without a list.
+fn comes_next(
+    kernel: &mut Kernel,
+    step: &Step,
+    told: NextStep,
+    outcome: Outcome,
+    ended: &[u32],
+) -> bool {
     match kernel.next() {
         Some(next) => {
             let answer = next.answer();
-            next.step() == *want && answer.outcome == outcome && answer.ended.as_slice() == ended
+            next == told
+                && next.step() == *step
+                && answer.outcome == outcome
+                && answer.ended.as_slice() == ended
         }
         None => false,
     }
 }
 
-/// Whether this step comes next, and is done and told so.
-fn tells_next(kernel: &mut Kernel, want: NextStep) -> bool {
-    match kernel.next() {
-        Some(next) => next == want,
-        None => false,
-    }
+/// Whether thread 2's message to thread 3 comes next, and ends both calls.
+fn comes_to_third(kernel: &mut Kernel) -> bool {
+    let told = NextStep::Transfer(2, 3, Outcome::Done, true);
+    comes_next(kernel, &Step::Transfer(2, 3), told, Outcome::Done, &[2, 3])
+}
+
+/// Whether the end of sigma0's wait comes next.
+fn expires_for_sigma0(kernel: &mut Kernel) -> bool {
+    let told = NextStep::Expire(1);
+    comes_next(kernel, &Step::Expire(1), told, Outcome::Expired, &[1])
 }
 
 /// Whether this is what comes next.
@@ -446,9 +459,11 @@ fn steps_that_come_next(rt: HostRuntime) -> Result<(), Fail> {
     step_all(&mut kernel, &[send(2, THIRD, &[0x1, 7]), expiring]).expect(&rt, "two calls");
     assert!(rt; is_refused(&mut kernel, &Step::Expire(2), Refused::NotEnabled));
     assert!(rt; is_next(&kernel, Some(Step::Transfer(2, 3))));
-    assert!(rt; comes_next(&mut kernel, &Step::Transfer(2, 3), Outcome::Done, &[2, 3]));
-    assert!(rt; tells_next(&mut kernel, NextStep::Expire(1)));
+    assert!(rt; comes_to_third(&mut kernel));
+    assert!(rt; is_next(&kernel, Some(Step::Expire(1))));
+    assert!(rt; expires_for_sigma0(&mut kernel));
     assert!(rt; is_next(&kernel, None));
+    assert!(rt; kernel.next().is_none());
     Ok(())
 }
 
@@ -468,7 +483,7 @@ fn writes(kernel: &mut Kernel, start: &Step, answer: &mut Answer, ended: &[u32])
 fn check_starts(rt: &impl Abort, kernel: &mut Kernel, answer: &mut Answer) {
     assert!(rt; writes(kernel, &send(2, THIRD, &[0x1, 7]), answer, &[]));
     assert!(rt; !writes(kernel, &unmap(2, 0, &[0x1_00c7]), answer, &[]));
-    assert!(rt; comes_next(kernel, &Step::Transfer(2, 3), Outcome::Done, &[2, 3]));
+    assert!(rt; comes_to_third(kernel));
     assert!(rt; writes(kernel, &unmap(3, 0, &[0x1_00c7]), answer, &[3]));
     assert!(rt; writes(kernel, &create(2, FOURTH, THIRD), answer, &[2]));
     assert!(rt; writes(kernel, &receive(3, FOURTH, COMPLETE), answer, &[]));

@@ -49,8 +49,8 @@ pub fn seat_of(rt: &impl Abort, locked: &mut Locked, number: u32) -> Seat {
     locked.seat(number).expect(rt, "a seat")
 }
 
-/// A list of two seats.
-pub fn both(rt: &impl Abort, alloc: Global, seats: [Seat; 2]) -> Vec<Seat> {
+/// A list of these seats.
+pub fn list<const N: usize>(rt: &impl Abort, alloc: Global, seats: [Seat; N]) -> Vec<Seat> {
     Vec::from_array(alloc, seats).expect(rt, "memory")
 }
 

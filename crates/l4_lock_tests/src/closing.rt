@@ -1,6 +1,6 @@
 //! Seats that come back, and those that don't.
 
-use crate::calls::{ROOT, both, closed, create, new_lock, seat, unclosed};
+use crate::calls::{ROOT, closed, create, list, new_lock, seat, unclosed};
 use l4_ipc::Reply;
 use l4_lock::{KernelLock, Mismatch, Seat, Unclosed};
 use l4_pager::Gate;
@@ -52,7 +52,7 @@ fn foreign(rt: HostRuntime) {
     let lock = new_lock(&rt, rt.alloc());
     let root = used_seat(&rt, &lock);
     let other = new_lock(&rt, rt.alloc());
-    let seats = both(&rt, rt.alloc(), [root, seat(&rt, &other, THIRD)]);
+    let seats = list(&rt, rt.alloc(), [root, seat(&rt, &other, THIRD)]);
     let mut left = unclosed(&rt, lock.unlock(), seats);
     check_left(&rt, &left, Mismatch::Foreign(THIRD), 2);
     take_last(&rt, &mut left, THIRD);
@@ -65,8 +65,7 @@ fn receipt(rt: HostRuntime) {
     let lock = new_lock(&rt, rt.alloc());
     let root = used_seat(&rt, &lock);
     let other = new_lock(&rt, rt.alloc());
-    let mut seats = Vec::new(rt.alloc());
-    seats.push(seat(&rt, &other, ROOT)).expect(&rt, "memory");
+    let seats = list(&rt, rt.alloc(), [seat(&rt, &other, ROOT)]);
     let mut left = unclosed(&rt, lock.unlock(), seats);
     check_left(&rt, &left, Mismatch::Receipt(ROOT), 1);
     take_last(&rt, &mut left, ROOT);
@@ -87,7 +86,6 @@ fn seat_of_a_gate(rt: HostRuntime) {
     let lock = new_lock(&rt, rt.alloc());
     let root = seat_behind_a_gate(&rt, &lock);
     assert_eq!(rt; root.receipts().len(), 1);
-    let mut seats = Vec::new(rt.alloc());
-    seats.push(root).expect(&rt, "memory");
+    let seats = list(&rt, rt.alloc(), [root]);
     assert_eq!(rt; closed(&rt, lock, seats).len(), 1);
 }

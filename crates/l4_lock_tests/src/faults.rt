@@ -1,6 +1,8 @@
 //! A fault waits for its pager, which another thread serves.
 
-use crate::calls::{ROOT, SIGMA0, create, create_for, new_lock, receive, seat, send, starts_of};
+use crate::calls::{
+    ROOT, SIGMA0, create, create_for, list, new_lock, receive, seat, send, starts_of,
+};
 use l4_ipc::{Call, Kernel, Mapping, PageSize, Reply, Rights};
 use l4_lock::{History, KernelLock, Seat};
 use l4_pager::{Entry, Gate, RegionPager, serve};
@@ -190,7 +192,7 @@ fn fault_waits_for_pager(rt: HostRuntime) {
     let faulter = seat(&rt, &lock, FAULTER);
     let lock = Arc::new(rt.alloc(), lock).expect(&rt, "memory");
     let (pager, faulter) = run(&rt, &lock, pager, faulter);
-    let seats = Vec::from_array(rt.alloc(), [sigma0, root, pager, faulter]).expect(&rt, "memory");
+    let seats = list(&rt, rt.alloc(), [sigma0, root, pager, faulter]);
     match Arc::try_unwrap(lock) {
         Ok(lock) => judge_closed(&rt, lock, seats),
         Err(_) => panic!(rt; "the threads have ended"),

@@ -1,7 +1,7 @@
 //! Ten messages from one thread to another, while a third watches.
 ghost use Rattle.std.specs.Prelude.{◌≡◌};
 
-use crate::calls::{ROOT, both, closed, create, receive, seat, send, starts_of, watched};
+use crate::calls::{ROOT, closed, create, list, receive, seat, send, starts_of, watched};
 use l4_lock::{Board, KernelLock, Seat, Watch};
 use std::process::Abort;
 use std::sync::Wait;
@@ -113,7 +113,7 @@ fn ten_messages(rt: HostRuntime) {
     let mut root = seat(&rt, &lock, ROOT);
     let mut partner = seat(&rt, &lock, PARTNER);
     check_exchange(&rt, &lock, &mut root, &mut partner, &mut watch);
-    let seats = both(&rt, rt.alloc(), [root, partner]);
+    let seats = list(&rt, rt.alloc(), [root, partner]);
     let history = closed(&rt, lock, seats);
     assert_eq!(rt; history.len() as u64, ENTRIES);
     assert_eq!(rt; starts_of(&history, ROOT), 11);

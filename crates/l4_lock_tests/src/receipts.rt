@@ -1,7 +1,7 @@
 //! Receipts of long messages, which are stored by entries of the history where they fill pieces of memory.
 ghost use Rattle.std.specs.Prelude.{◌≤◌};
 
-use crate::calls::{ROOT, both, create, new_locked, receive, seat_of, send};
+use crate::calls::{ROOT, create, list, new_locked, receive, seat_of, send};
 use l4_ipc::{Call, Reply};
 use l4_lock::{Locked, Receipt, Seat};
 use std::process::Abort;
@@ -95,6 +95,6 @@ fn long_messages(rt: HostRuntime) {
     let mut third = seat_of(&rt, &mut locked, THIRD);
     exchange_all(&rt, &mut locked, &mut root, &mut third);
     check_receipts(&rt, &root, &third);
-    let seats = both(&rt, rt.alloc(), [root, third]);
+    let seats = list(&rt, rt.alloc(), [root, third]);
     assert!(rt; locked.close(seats).is_ok());
 }

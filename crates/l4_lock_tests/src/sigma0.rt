@@ -1,6 +1,6 @@
 //! Sigma0 as a loop of a gate, on a thread of its own.
 
-use crate::calls::{FRAMES, ROOT, SIGMA0, both, id, new_lock, seat, send};
+use crate::calls::{FRAMES, ROOT, SIGMA0, id, list, new_lock, seat, send};
 use arrayvec::ArrayVec;
 use l4_ipc::{Call, Fpage, Kernel, MAX_WORDS, PageSize, Rights, Timeout};
 use l4_lock::{KernelLock, LockRefusal, Seat};
@@ -118,6 +118,6 @@ fn sigma0_is_served_by_a_gate(rt: HostRuntime) {
     let sigma0 = seat(&rt, &lock, SIGMA0);
     let mut root = seat(&rt, &lock, ROOT);
     let sigma0 = serve_root(&rt, &lock, sigma0, &mut root);
-    let seats = both(&rt, rt.alloc(), [sigma0, root]);
+    let seats = list(&rt, rt.alloc(), [sigma0, root]);
     judge_closed(&rt, lock, seats);
 }

@@ -2,7 +2,7 @@
 ghost use Rattle.std.specs.Prelude.{◌≡◌};
 
 use crate::calls::{
-    ROOT, both, closed, create, delete, new_locked, receive, seat, seat_of, watched,
+    ROOT, closed, create, delete, list, new_locked, receive, seat, seat_of, watched,
 };
 use l4_ipc::{PageSize, Refused, Reply};
 use l4_lock::{Board, Entered, KernelLock, LockRefusal, Locked, Seat, Watch};
@@ -131,7 +131,7 @@ fn gone_on_threads(rt: HostRuntime) {
     let mut root = seat(&rt, &lock, ROOT);
     let mut third = seat(&rt, &lock, THIRD);
     check_gone(&rt, &lock, &mut root, &mut third, &mut watch);
-    let seats = both(&rt, rt.alloc(), [root, third]);
+    let seats = list(&rt, rt.alloc(), [root, third]);
     assert_eq!(rt; closed(&rt, lock, seats).len(), 4);
 }
 

@@ -20,10 +20,17 @@ fn steps_of(alloc: Global, words: &[&str]) -> Option<(u32, PageSize)> {
     }
 }
 
-/// The size of the pages that a plan or a check of one is asked for.
+/// The size of the pages that a plan is asked for.
 fn plan_size_of(alloc: Global, words: &[&str]) -> Option<PageSize> {
     match options(alloc, words) {
         Ok(Options::Plan { size, .. }) => Some(size),
+        _ => None,
+    }
+}
+
+/// The size of the pages of which a plan is to be checked.
+fn check_size_of(alloc: Global, words: &[&str]) -> Option<PageSize> {
+    match options(alloc, words) {
         Ok(Options::Check { size, .. }) => Some(size),
         _ => None,
     }
@@ -90,7 +97,7 @@ fn reads_page_sizes(rt: HostRuntime) {
         let words = ["l4", "plan", "16", "32", "1", "rwx", "--page-size", word];
         assert_eq!(rt; plan_size_of(rt.alloc(), words.as_slice()), Some(size));
         let words = ["l4", "check", "--page-size", word, "16", "32", "1", "rwx"];
-        assert_eq!(rt; plan_size_of(rt.alloc(), words.as_slice()), Some(size));
+        assert_eq!(rt; check_size_of(rt.alloc(), words.as_slice()), Some(size));
     }
 }
 
