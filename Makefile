@@ -1,8 +1,13 @@
-# make            proves the crates and builds the programs l4 and l4_steps, and the C library
-# make test       the gate: everything from nothing, and then the scripts and lists on the built programs
-# make install    puts the programs, the C library with its header and packages, and the manual pages under PREFIX (/usr/local if it
-#                 isn't given); make install-library the C library alone
-# make web        builds web/plan.html, a page with the proved planner and checker that is opened as a file
+# make try            builds l4 and l4_steps without proofs in out/unproved, and runs a script (SCRIPT=FILE)
+# make                proves the crates and builds the programs l4 and l4_steps, and the C library
+# make check          runs the tests on what has been built, and proves nothing; TEST=NAME runs one group or folder of tests
+# make test-programs  proves and builds what only tests run: l4_judge, l4_growths, and l4 and l4_steps as Rattle's own compiler builds them
+# make test           the gate: everything from nothing, and then all tests on the programs that this leaves
+# make bed            builds the bed for L4 programs in bed/out, over the C library; make check-bed runs its checks
+# make install        puts the programs, the C library with its header and packages, the bed and the manual pages under PREFIX (/usr/local
+#                     if it isn't given); make install-library the C library alone, and make install-bed the bed alone
+# make web            builds web/l4.html, a page with the proved program that is opened as a file
+# make tidy           removes what the proofs left and keeps what is built; the next change is then proved from nothing
 PREFIX ?= /usr/local
 VERSION = 0.1.0
 
@@ -10,10 +15,23 @@ VERSION = 0.1.0
 HEAP = $(dir $(firstword $(shell rt doc)))c/liblibc_c.a
 OUT = crates/l4_c/out
 SONAME = libl4.so.0
-MODULE = crates/l4_web/out/l4_web.wasm
+MODULE = crates/l4_page/out/l4_page.wasm
 SOURCES = crates.txt $(shell find crates -path '*/out' -prune -o \( -name '*.rt' -o -name '*.antt' \) -print)
 
 all: programs library
+
+# A program without proofs is built again when a source has changed.
+SCRIPT ?= examples/first.script
+UNPROVED = out/unproved
+
+try:
+	@echo 'building l4 and l4_steps without proofs, which takes about a minute'
+	@$(MAKE) -s -j 2 $(UNPROVED)/l4 $(UNPROVED)/l4_steps
+	$(UNPROVED)/l4 run $(SCRIPT)
+	@echo 'Nothing has been proved yet: these programs are in $(UNPROVED). `make` proves the crates and builds the proved programs.'
+
+$(UNPROVED)/%: $(SOURCES)
+	tests/proofs/build-unproved $* $@
 
 programs:
 	cd crates/l4 && rt run -- --version
@@ -24,7 +42,7 @@ library: $(OUT)/libl4.a $(OUT)/$(SONAME)
 # BUILT=yes takes the archive if it is there, and else builds it over the libraries that `rt ci` has just left.
 ifdef BUILT
 $(OUT)/libl4_c.a:
-	tests/static-library l4_c || (cd crates/l4_c && rt lib)
+	tests/proofs/static-library l4_c || (cd crates/l4_c && rt lib)
 else
 $(OUT)/libl4_c.a: $(SOURCES)
 	cd crates/l4_c && rt lib
@@ -44,40 +62,62 @@ $(OUT)/$(SONAME): $(OUT)/libl4.a $(OUT)/exports
 	$(CC) -shared -o $@ -Wl,-soname,$(SONAME) -Wl,--version-script=$(OUT)/exports -Wl,--whole-archive $< -Wl,--no-whole-archive
 
 # The page has its module and its scripts in it, so that it can be opened as a file.
-web: web/plan.html
+web: web/l4.html
 
 ifdef BUILT
 $(MODULE):
-	tests/static-library l4_web wasm || (cd crates/l4_web && rt check && ../../tests/static-library l4_web wasm)
+	web/build-module
 else
-$(MODULE): $(SOURCES)
-	cd crates/l4_web && rt check
-	tests/static-library l4_web wasm
+$(MODULE): $(SOURCES) web/build-module web/heap.c
+	cd crates/l4_page && rt check
+	web/build-module
 endif
 
-web/plan.html: web/plan.in.html web/planner.js web/plan.js $(MODULE)
-	base64 $(MODULE) > $(MODULE).base64
-	sed -e '/^@MODULE@$$/{r $(MODULE).base64' -e 'd}' -e '/^@PLANNER@$$/{r web/planner.js' -e 'd}' -e '/^@PAGE@$$/{r web/plan.js' -e 'd}' $< > $@
+web/l4.html: $(MODULE) web/make-page $(wildcard web/*.mjs bindings/python/l4/views/* examples/*.script)
+	web/make-page $(MODULE)
+
+check:
+	@tests/run $(TEST)
+
+# `rt run --backend rattle` leaves its build in the place of the one by LLVM, which is put back.
+test-programs: programs
+	cd crates/l4_judge && rt run < stdin
+	cd crates/l4_growths && rt run < /dev/null > /dev/null
+	for name in l4 l4_steps; do \
+	    cd crates/$$name/out && mkdir -p kept && cp -p $$name $$name.o $$name.stamp kept/ || exit; \
+	    (cd .. && rt run --backend rattle -- --version); status=$$?; \
+	    mv $$name $$name.by-rattle && mv kept/* . && rmdir kept && [ $$status = 0 ] && cd ../../.. || exit; \
+	done
+
+# The bed builds its own programs with a C compiler for 32-bit x86.
+bed: library
+	$(MAKE) -C bed
+
+check-bed: library
+	L4=$(wildcard $(abspath crates/l4/out/l4)) L4_STEPS=$(wildcard $(abspath crates/l4_steps/out/l4_steps)) $(MAKE) -C bed check
 
 test:
 	bash .ci/run
 
-install: programs install-library
-	install -D -m 755 crates/l4/out/l4 $(DESTDIR)$(PREFIX)/bin/l4
-	install -D -m 755 crates/l4_steps/out/l4_steps $(DESTDIR)$(PREFIX)/bin/l4_steps
-	install -D -m 644 man/l4.1 $(DESTDIR)$(PREFIX)/share/man/man1/l4.1
-	install -D -m 644 man/l4_steps.1 $(DESTDIR)$(PREFIX)/share/man/man1/l4_steps.1
+# What is built stays: the programs with their stamps, the C library and the page's module.
+tidy:
+	rm -rf crates/*/out/incremental crates/*/out/rlib
+
+# PREFIX and DESTDIR may contain spaces, so recipes read them as the shell's variables.
+export PREFIX DESTDIR VERSION
+
+install: programs install-library install-bed
+	install -D -m 755 crates/l4/out/l4 "$$DESTDIR$$PREFIX/bin/l4"
+	install -D -m 755 crates/l4_steps/out/l4_steps "$$DESTDIR$$PREFIX/bin/l4_steps"
+	install -D -m 644 man/l4.1 "$$DESTDIR$$PREFIX/share/man/man1/l4.1"
+	install -D -m 644 man/l4_steps.1 "$$DESTDIR$$PREFIX/share/man/man1/l4_steps.1"
 
 install-library: library
-	@install -D -m 644 $(OUT)/libl4.a $(DESTDIR)$(PREFIX)/lib/libl4.a
-	@install -m 755 $(OUT)/$(SONAME) $(DESTDIR)$(PREFIX)/lib/$(SONAME)
-	@ln -sf $(SONAME) $(DESTDIR)$(PREFIX)/lib/libl4.so
-	@install -D -m 644 include/l4.h $(DESTDIR)$(PREFIX)/include/l4.h
-	@install -d $(DESTDIR)$(PREFIX)/lib/pkgconfig $(DESTDIR)$(PREFIX)/lib/cmake/l4
-	@sed 's|@PREFIX@|$(abspath $(PREFIX))|; s|@VERSION@|$(VERSION)|' packages/l4.pc.in > $(DESTDIR)$(PREFIX)/lib/pkgconfig/l4.pc
-	@install -m 644 packages/l4-config.cmake $(DESTDIR)$(PREFIX)/lib/cmake/l4/l4-config.cmake
-	@sed 's|@VERSION@|$(VERSION)|' packages/l4-config-version.cmake.in > $(DESTDIR)$(PREFIX)/lib/cmake/l4/l4-config-version.cmake
-	@install -D -m 644 man/l4.3 $(DESTDIR)$(PREFIX)/share/man/man3/l4.3
-	@echo 'libl4 $(VERSION) is in $(DESTDIR)$(abspath $(PREFIX))'
+	@packages/install $(OUT)/libl4.a $(OUT)/$(SONAME)
 
-.PHONY: all programs library web test install install-library
+# The bed is left out where it cannot be built: bed/missing prints what is missing.
+install-bed: library
+	@missing=$$(bed/missing); if [ -n "$$missing" ]; then echo "l4_bed is not installed: $$missing"; \
+	else $(MAKE) -s -C bed install; fi
+
+.PHONY: all try programs library web bed check check-bed test-programs test tidy install install-library install-bed

@@ -1,40 +1,81 @@
 /*
- * An L4 X.2 kernel core in user space, for C99 and C++. Link with the one archive libl4.a (pkg-config --cflags --libs l4), or with the
- * shared library libl4.so.
+ * An L4 X.2 kernel core in user space, for C99 and C++. Link with the archive libl4.a:
  *
- * WHAT EACH CALL OWES AND IS OWED
+ *     cc program.c $(pkg-config --cflags --libs l4)
  *
- * A handle (l4_kernel, l4_lock, l4_sigma0, l4_pager) is one pointer into what C can't look into. Begin it as L4_EMPTY. From then on it is the
- * library's: never write into it, and never use a copy of it once the first has been used again. It may be moved in memory between
- * calls. A handle that is empty, before its making and after its freeing, is refused by B1, and freeing it does nothing.
+ * or with the shared library libl4.so:
  *
- * Every pointer that a call is given is aligned, points to what its type says for the whole call, and is never NULL: also a pointer
- * beside a count or a room of 0, which may then be any aligned address. What a call writes (a handle, and what is passed without
- * const) overlaps nothing else that the call is given.
+ *     cc program.c $(pkg-config --cflags --libs l4-shared) -Wl,-rpath,$(pkg-config --variable=libdir l4-shared)
  *
- * One call at a time for a handle, also for those calls that only ask. Nothing is global: calls on two handles don't meet, and may be
- * made from two threads. A handle may be handed from thread to thread, by a lock, a join or the like. No call may be made from a signal
- * handler, or between fork and exec in a process with threads.
+ * Without pkg-config, name the folder PREFIX that `make install-library PREFIX=..` installed into:
  *
- * Memory comes from the program's malloc, realloc and free, which are of one allocator, and align a block to each power of two up to
- * 16 that divides its size. Want of memory is an answer like others (NoMemory), and the handle goes on.
+ *     cc program.c -IPREFIX/include PREFIX/lib/libl4.a
+ *     cc program.c -IPREFIX/include -LPREFIX/lib -ll4 -Wl,-rpath,PREFIX/lib
  *
- * Results are values. The first member of each, refusal, is L4_OK or says why the call did nothing. After a refusal of a step nothing
- * has changed, and the other members are 0, but for detail, the number that some refusals carry.
+ * HANDLES
  *
- * Threads go by their numbers (uint32_t thread) as callers, and by whole thread ids (number in bits 31 to 14, version below) as
- * partners, as in the kernel's own words. Pages have L4_PAGE_BYTES bytes and are counted from 0, below L4_SPACE_PAGES in a space;
- * rights are the sum of L4_READ, L4_WRITE and L4_EXECUTE, and further bits mean nothing.
+ * A handle (l4_kernel, l4_lock, l4_sigma0, l4_pager) is a struct with one private pointer, which owns an object of the library or is empty.
+ * Initialize it with L4_EMPTY, and let only the library write to it. A function that makes an object needs an empty handle. The function
+ * that frees the object leaves the handle empty. Every object that is made must be freed once, or its memory leaks.
  *
- * WHAT A SIZE OF PAGES CHANGES
+ * Any other call on an empty handle, which holds no object yet or whose object was freed, returns B1. Freeing an empty handle is allowed
+ * and has no effect. You may move a handle in memory between calls. A copy of a handle becomes invalid as soon as the original is used
+ * again.
  *
- * A call whose name ends in _sized does what the call without that ending does, by pages of page_bytes bytes: L4_PAGE_BYTES, as without
- * it, or L4_SMALL_PAGE_BYTES. Any other number is refused by B4, before all else. Small pages are counted below L4_SMALL_SPACE_PAGES in a
- * space. A kernel and a table keep the size that they were made with: l4_page_size_of tells a kernel's, and the tables, plans and checks
- * that go with it are to be of the same. Frames have the size of pages, and are 4,096 at most in either size.
+ * Every call may write to its handle, including a query such as l4_mapping_of. So no handle parameter is const, and a handle must be in
+ * writable memory.
  *
- * Words go by bytes, so their form is the same: an fpage of 2^s bytes has 2^(s - 12) pages, or 2^(s - 10) small ones. So one of 1 or 2 KiB
- * has none, or 1 or 2 small ones, and a region, a fault's page and a plan's pages have other numbers where the same bytes are meant.
+ * POINTERS
+ *
+ * Every pointer argument must be aligned, must not be NULL, and must point to live objects of its type for the whole call. The exception is
+ * an array whose length (count or room) is 0: the call does not read or write through its pointer, which may then be NULL. Memory that a
+ * call writes (a handle, and every argument without const) must not overlap any other argument of that call.
+ *
+ * THREADS OF THE PROGRAM
+ *
+ * Make one call at a time on a handle; this includes queries. The library has no global state, so calls on two different handles are
+ * independent, and two threads may make them at the same time. You may pass a handle from thread to thread with a lock, a join or another
+ * means of synchronization. Do not call the library from a signal handler, or between fork and exec in a process that has several threads.
+ *
+ * MEMORY
+ *
+ * The library uses the program's malloc, realloc and free. These must belong to one allocator, and must align each block to every power of
+ * two up to 16 that divides its size. Running out of memory is an ordinary error (NoMemory): the handle stays valid.
+ *
+ * RESULTS
+ *
+ * Results are returned by value. The first member of each, refusal, is L4_OK or a number that says why the call was refused. A function
+ * that makes an object, l4_pager_add and l4_lock_give return this number itself. When a step is refused, nothing has changed, and every
+ * other member is 0, except detail: the number that some refusals carry. The comment at each function lists its refusals in the order in
+ * which they are tested.
+ *
+ * RESERVED MEMBERS
+ *
+ * Structs that may get further members have spare ones, named reserved, so that their layout can stay. The library writes them as 0. In a
+ * struct that you pass (l4_call, l4_link) they must be 0: initialize the whole struct to 0 before you fill it in.
+ *
+ * THREAD NUMBERS, THREAD IDS, PAGES AND RIGHTS
+ *
+ * A caller is named by its thread number (uint32_t thread), and a partner by its thread id, as in the kernel's own words. A thread id has
+ * the thread number, 1 to 262,143, in bits 31 to 14, and the version, 1 to 16,383, in bits 13 to 0. The low six bits of a version are not
+ * all zero. sigma0 and root have version 1.
+ *
+ * A page has L4_PAGE_BYTES bytes. The pages of a space are numbered from 0 to L4_SPACE_PAGES - 1. A parameter that is a page number accepts
+ * every number from 0 to 4,294,967,295; a page beyond the space is never present. Rights are the sum of L4_READ, L4_WRITE and L4_EXECUTE;
+ * other bits are ignored.
+ *
+ * PAGE SIZES
+ *
+ * A function whose name ends in _sized does the same as the function without that ending, for pages of page_bytes bytes. This is
+ * L4_PAGE_BYTES, the size that the function without the ending uses, or L4_SMALL_PAGE_BYTES. Any other number returns B4, before every
+ * other refusal. The small pages of a space are numbered from 0 to L4_SMALL_SPACE_PAGES - 1.
+ *
+ * A kernel and a table keep the page size with which they were made. Use tables, plans and checks of the same size as their kernel;
+ * l4_page_size_of returns that size. Frames have the size of pages. In either size a machine has at most 4,096 frames.
+ *
+ * Message words, fpages and addresses are in bytes, so their form does not depend on the page size: an fpage of 2^s bytes has 2^(s - 12)
+ * pages, or 2^(s - 10) small pages. An fpage of 1 or 2 KiB therefore has no page, or 1 or 2 small pages. The page numbers of a region, of a
+ * fault and of a plan differ between the sizes where the same bytes are meant.
  */
 #ifndef L4_H
 #define L4_H
@@ -46,16 +87,27 @@
 extern "C" {
 #endif
 
-/* A page has 2^L4_PAGE_LOG bytes. */
+/* The version of this header. L4_VERSION is one number, which is larger for a later version. */
+#define L4_VERSION_MAJOR UINT32_C(0)
+#define L4_VERSION_MINOR UINT32_C(1)
+#define L4_VERSION_PATCH UINT32_C(0)
+#define L4_VERSION (L4_VERSION_MAJOR * 1000000 + L4_VERSION_MINOR * 1000 + L4_VERSION_PATCH)
+
+/* Returns the version of the library: the L4_VERSION of the header with which it was built. A program that loads the shared library can
+ * compare the two. Versions fit together if their first numbers are equal and, where these are 0, their second numbers are equal too; the
+ * library must not be older than the header. */
+uint32_t l4_version(void);
+
+/* The size of a page: 2^L4_PAGE_LOG bytes. */
 #define L4_PAGE_LOG 12
 #define L4_PAGE_BYTES (UINT32_C(1) << L4_PAGE_LOG)
 
-/* A small page has 2^L4_SMALL_PAGE_LOG bytes. */
+/* The size of a small page: 2^L4_SMALL_PAGE_LOG bytes. */
 #define L4_SMALL_PAGE_LOG 10
 #define L4_SMALL_PAGE_BYTES (UINT32_C(1) << L4_SMALL_PAGE_LOG)
 
-/* The greatest number of threads, of words of a message, of its map and grant items, of a plan's items and messages, of pages that show
- * that a plan is too long, of frames, of pages of a space, of small pages of one, and of regions of a pager's table. */
+/* Limits, in this order: threads; words of a message; map and grant items of a message; items of a plan; messages of a plan; pages that
+ * prove a region to need a longer plan (L4_TOO_MANY); frames; pages of a space; small pages of a space; regions of a pager's table. */
 #define L4_MAX_THREADS 64
 #define L4_MAX_WORDS 64
 #define L4_MAX_ITEMS 31
@@ -67,8 +119,8 @@ extern "C" {
 #define L4_SMALL_SPACE_PAGES UINT32_C(4194304)
 #define L4_MAX_REGIONS 64
 
-/* The ids of nobody and of anybody, and a timeout of zero (0 is never): the send timeout in bits 31 to 16, the receive timeout in bits
- * 15 to 0 of a call's timeouts. */
+/* The thread ids nilthread (nobody) and anythread (anybody), and the timeout of zero. A timeout of 0 means never. The timeouts member of a
+ * call has the send timeout in bits 31 to 16 and the receive timeout in bits 15 to 0. */
 #define L4_NILTHREAD UINT32_C(0)
 #define L4_ANYTHREAD UINT32_C(0xFFFFFFFF)
 #define L4_ZERO_TIMEOUT UINT32_C(0x400)
@@ -78,61 +130,64 @@ extern "C" {
 #define L4_WRITE UINT32_C(2)
 #define L4_EXECUTE UINT32_C(1)
 
-/* REFUSALS. A number is the first two bytes of the code that the programs print: 0x4B31 is "K1". The number that a refusal carries is in detail. */
+/* REFUSALS
+ *
+ * The value of each constant is the first two bytes of the code that the programs print: 0x4B31 is "K1". The number that some refusals
+ * carry is in the member detail. */
 #define L4_OK UINT32_C(0)
-#define L4_B1 UINT32_C(0x4231) /* the handle is empty */
-#define L4_B2 UINT32_C(0x4232) /* the handle isn't empty: free it before it is made anew */
-#define L4_B3 UINT32_C(0x4233) /* there is no such kind of call */
-#define L4_B4 UINT32_C(0x4234) /* a page has 4,096 or 1,024 bytes */
-#define L4_K1 UINT32_C(0x4B31) /* nobody waits so: the transfer or expiry can't be done now */
-#define L4_K2 UINT32_C(0x4B32) /* there is no thread of this number */
-#define L4_K3 UINT32_C(0x4B33) /* the thread's last call goes on */
-#define L4_K4 UINT32_C(0x4B34) /* a timeout is neither never nor zero */
-#define L4_K6 UINT32_C(0x4B36) /* a machine has 1 to 4,096 frames */
-#define L4_M1 UINT32_C(0x4D31) /* the message tag counts more than 63 words after it */
-#define L4_M2 UINT32_C(0x4D32) /* the tag counts an odd number of words for the items */
-#define L4_M3 UINT32_C(0x4D33) /* the item (detail, from 0) has an unknown kind or is no fpage */
-#define L4_M4 UINT32_C(0x4D34) /* the item (detail, from 0) is a string or CtrlXfer item, which are left out here */
-#define L4_M5 UINT32_C(0x4D35) /* a flag of the tag is set */
-#define L4_M6 UINT32_C(0x4D36) /* the receive window is no fpage */
-#define L4_M7 UINT32_C(0x4D37) /* there is no tag, or there are fewer words than it counts */
-#define L4_H1 UINT32_C(0x4831) /* the caller isn't in root's space */
-#define L4_H2 UINT32_C(0x4832) /* no thread can have this id */
-#define L4_H3 UINT32_C(0x4833) /* there is a thread of this number */
-#define L4_H4 UINT32_C(0x4834) /* no thread has this id */
-#define L4_H5 UINT32_C(0x4835) /* there are 64 threads, or no number is left for a space */
-#define L4_H6 UINT32_C(0x4836) /* sigma0, root and the caller itself can't be deleted */
-#define L4_U1 UINT32_C(0x5531) /* the word (detail, from 0) of an Unmap is no fpage */
-#define L4_U2 UINT32_C(0x5532) /* an Unmap has fewer words than its control word says */
-#define L4_N1 UINT32_C(0x4E31) /* the region has no page */
-#define L4_N2 UINT32_C(0x4E32) /* the region goes beyond the pages of a space */
-#define L4_N3 UINT32_C(0x4E33) /* the region has no rights */
-#define L4_N4 UINT32_C(0x4E34) /* no 1,984 map items, as many as 64 messages hold, move just the region */
-#define L4_N5 UINT32_C(0x4E35) /* the plan has more messages than one */
+#define L4_B1 UINT32_C(0x4231) /* the handle is empty: it was never created, or it was freed */
+#define L4_B2 UINT32_C(0x4232) /* the handle is not empty: free it before you use it again */
+#define L4_B3 UINT32_C(0x4233) /* the kind of call is unknown */
+#define L4_B4 UINT32_C(0x4234) /* the page size must be 4,096 or 1,024 bytes */
+#define L4_K1 UINT32_C(0x4B31) /* the step is not enabled: this transfer or expiry cannot happen now */
+#define L4_K2 UINT32_C(0x4B32) /* there is no thread with this number */
+#define L4_K3 UINT32_C(0x4B33) /* the thread's previous call has not ended yet */
+#define L4_K4 UINT32_C(0x4B34) /* a timeout is neither never (0) nor zero (0x400) */
+#define L4_K6 UINT32_C(0x4B36) /* the number of frames must be from 1 to 4,096 */
+#define L4_M1 UINT32_C(0x4D31) /* the tag counts more than 63 words, untyped and typed together */
+#define L4_M2 UINT32_C(0x4D32) /* the tag counts an odd number of typed words, but every item has two */
+#define L4_M3 UINT32_C(0x4D33) /* the item (detail, from 0) has an unknown kind, or its fpage is invalid */
+#define L4_M4 UINT32_C(0x4D34) /* the item (detail, from 0) is a string or CtrlXfer item, which the kernel does not support */
+#define L4_M5 UINT32_C(0x4D35) /* a flag is set in the tag, but the kernel supports no flags */
+#define L4_M6 UINT32_C(0x4D36) /* the receive window is not a valid fpage */
+#define L4_M7 UINT32_C(0x4D37) /* the tag is missing, or fewer words follow it than it counts */
+#define L4_H1 UINT32_C(0x4831) /* the caller is not in root's address space */
+#define L4_H2 UINT32_C(0x4832) /* the id is not a valid thread id */
+#define L4_H3 UINT32_C(0x4833) /* a thread with this number already exists */
+#define L4_H4 UINT32_C(0x4834) /* there is no thread with this id */
+#define L4_H5 UINT32_C(0x4835) /* there are already 64 threads, or all space numbers are used up */
+#define L4_H6 UINT32_C(0x4836) /* sigma0, root and the caller itself cannot be deleted */
+#define L4_U1 UINT32_C(0x5531) /* a word (detail, from 0) passed to Unmap is not a valid fpage */
+#define L4_U2 UINT32_C(0x5532) /* Unmap got fewer words than its control word requires */
+#define L4_N1 UINT32_C(0x4E31) /* the region has no pages */
+#define L4_N2 UINT32_C(0x4E32) /* the source or target pages go beyond the end of a space */
+#define L4_N3 UINT32_C(0x4E33) /* the region has no rights: request at least one of r, w and x */
+#define L4_N4 UINT32_C(0x4E34) /* the region needs more than 1,984 map items, the most that 64 messages can hold */
+#define L4_N5 UINT32_C(0x4E35) /* the plan has more than one message */
 #define L4_N6 UINT32_C(0x4E36) /* the plan has no message with this number */
-#define L4_C1 UINT32_C(0x4331) /* the item (detail, from 0) of a plan is none of the region's */
-#define L4_C2 UINT32_C(0x4332) /* no item moves the page (detail) */
-#define L4_C3 UINT32_C(0x4333) /* the page at this place (detail, from 0) isn't one of the region's */
-#define L4_C4 UINT32_C(0x4334) /* one map item could move the page at this place (detail, from 0) together with an earlier one */
-#define L4_C5 UINT32_C(0x4335) /* more than 1,984 items, or not one page an item; or not 1,985 pages */
-#define L4_C6 UINT32_C(0x4336) /* the region is refused by N1, N2 or N3 */
-#define L4_P1 UINT32_C(0x5031) /* a page of the region is one of another region of the table */
-#define L4_P2 UINT32_C(0x5032) /* no region of the table has the page with this access */
-#define L4_P3 UINT32_C(0x5033) /* the table has 64 regions */
-#define L4_P4 UINT32_C(0x5034) /* the region has no page, a page or source page beyond the space, or no right */
-#define L4_L1 UINT32_C(0x4C31) /* the history is full: with more than 999,871 steps no call is started */
-#define L4_L3 UINT32_C(0x4C33) /* an ended call of this seat has not been taken */
-#define L4_L4 UINT32_C(0x4C34) /* the seat of this number was given before */
-#define L4_L6 UINT32_C(0x4C36) /* the history has a transfer (entry detail, from 0) that found no memory, and finds it as the history is done again */
-#define L4_L7 UINT32_C(0x4C37) /* the links aren't how the page came there */
-#define L4_X1 UINT32_C(0x5831) /* the seat of this number (detail) was given and is not here */
-#define L4_X2 UINT32_C(0x5832) /* the seat of this number (detail) was not given, or is here twice */
-#define L4_X3 UINT32_C(0x5833) /* the seat of this number (detail) does not agree with what was kept of it */
-#define L4_NO_MEMORY UINT32_C(0x4E6F) /* there was no memory for it */
+#define L4_C1 UINT32_C(0x4331) /* the item (detail, from 0) does not fit the region */
+#define L4_C2 UINT32_C(0x4332) /* no item of the plan moves the page (detail) */
+#define L4_C3 UINT32_C(0x4333) /* the page at this position (detail, from 0) in the list is not in the region */
+#define L4_C4 UINT32_C(0x4334) /* one map item could move the page at this position (detail, from 0) and an earlier one */
+#define L4_C5 UINT32_C(0x4335) /* the plan has more than 1,984 items, or not one page per item; or a too-long claim does not list 1,985 pages */
+#define L4_C6 UINT32_C(0x4336) /* the region itself is refused with N1, N2 or N3 */
+#define L4_P1 UINT32_C(0x5031) /* the region overlaps another region in the table */
+#define L4_P2 UINT32_C(0x5032) /* no region in the table covers this page with the requested access */
+#define L4_P3 UINT32_C(0x5033) /* the table is full: it has 64 regions */
+#define L4_P4 UINT32_C(0x5034) /* the region has no pages or no rights, or one of its pages or source pages is beyond the end of the space */
+#define L4_L1 UINT32_C(0x4C31) /* the history is full: no call can start once it has more than 999,871 steps */
+#define L4_L3 UINT32_C(0x4C33) /* the reply to an earlier call of this seat has not been taken yet */
+#define L4_L4 UINT32_C(0x4C34) /* the seat of this number was already handed out */
+#define L4_L6 UINT32_C(0x4C36) /* a transfer (entry detail, from 0) that ran out of memory in the history succeeded when the history was replayed */
+#define L4_L7 UINT32_C(0x4C37) /* the given links do not match the way the page got there */
+#define L4_X1 UINT32_C(0x5831) /* the seat of this number (detail) was handed out, but was not returned */
+#define L4_X2 UINT32_C(0x5832) /* the seat of this number (detail) was never handed out, or was returned twice */
+#define L4_X3 UINT32_C(0x5833) /* the seat of this number (detail) does not match the lock's records */
+#define L4_NO_MEMORY UINT32_C(0x4E6F) /* there was not enough memory */
 
-/* The printed code of a refusal ("K1", "NoMemory"), and a line of text that says what it means. Of its bytes the first `room` - 1 at
- * most are written to out, and a 0 after them; nothing where the room is 0. The answer is the length of the whole text, without the 0:
- * below 160, and 0 for a number that is no refusal. */
+/* Write the printed code of a refusal ("K1", "NoMemory"), or a line of text that explains it, to out. At most the first `room` - 1 bytes
+ * are written, and a 0 after them; nothing is written if room is 0. Both functions return the length of the whole text without the 0. It is
+ * below 160, and 0 for a number that is not a refusal. */
 size_t l4_refusal_code(uint32_t refusal, char *out, size_t room);
 size_t l4_refusal_text(uint32_t refusal, char *out, size_t room);
 
@@ -142,24 +197,26 @@ typedef struct l4_kernel {
     void *hidden;
 } l4_kernel;
 
-/* An empty handle, as an initializer. */
+/* Initializes an empty handle. */
 #define L4_EMPTY {NULL}
 
-/* Makes a kernel as it boots, with 1 to 4,096 frames: sigma0 is thread 1 in space 0, which shows each frame at the page of its number
- * with all rights, and root is thread 2 in space 1, which shows none. The handle is empty, and holds the kernel from then on; after a
- * refusal it is as before. Refusals in this order: B2, K6, NoMemory. */
+/* Boots a kernel with 1 to 4,096 frames. sigma0 is thread 1 in space 0, where frame i is mapped at page i with all rights. root is thread 2
+ * in space 1, which is empty. The handle must be empty; it then owns the kernel, and you free it with l4_free. After a refusal the handle
+ * is unchanged. Refusals in this order: B2, K6, NoMemory. */
 uint32_t l4_boot(l4_kernel *kernel, uint32_t frames);
 
-/* The same with pages and frames of so many bytes, for as long as there is the kernel. Refusals in this order: B4, B2, K6, NoMemory. */
+/* Boots a kernel as l4_boot does, with pages and frames of page_bytes bytes for the kernel's whole life. Refusals in this order: B4, B2,
+ * K6, NoMemory. */
 uint32_t l4_boot_sized(l4_kernel *kernel, uint32_t frames, uint32_t page_bytes);
 
-/* Makes a copy of a kernel: the same threads with what each is doing and its message registers, the same queue of senders, the same
- * spaces, and the same pages, in memory of its own. What is done with the one is not seen in the other. The second handle is empty, and
- * holds the copy from then on; after a refusal it is as before. The first is as before in either case. A copy takes memory for the most
- * pages that were ever present at once. Refusals in this order: B1 of the kernel, B2 of the copy, NoMemory. */
+/* Copies a kernel into a second, empty handle. The copy has the same threads with what each is doing and its message registers, the same
+ * queue of senders, the same spaces and the same mappings, in memory of its own. Changes to one kernel are not visible in the other. You
+ * free the copy with l4_free. After a refusal the second handle is unchanged; the first is unchanged in either case. A copy takes as much
+ * memory as the largest number of pages that were ever present at once needs. Refusals in this order: B1 for the kernel, B2 for the copy,
+ * NoMemory. */
 uint32_t l4_copy(l4_kernel *kernel, l4_kernel *copy);
 
-/* Frees a kernel with all its memory. The handle is empty then. */
+/* Frees a kernel and all its memory, and leaves the handle empty. */
 void l4_free(l4_kernel *kernel);
 
 /* Kinds of calls. */
@@ -170,11 +227,11 @@ void l4_free(l4_kernel *kernel);
 #define L4_SET_PAGER UINT32_C(5)
 #define L4_DELETE UINT32_C(6)
 
-/* A call of a thread. Only the members of its kind are read; begin with all 0. */
+/* A call of a thread. Set every member to 0 first, then kind and the members of that kind: the library reads only those. */
 typedef struct l4_call {
     uint32_t kind;
-    /* L4_IPC: a send phase unless to is L4_NILTHREAD, then a receive phase unless from is; the window as an acceptor word. The words
-     * are the message registers from the tag on. */
+    /* L4_IPC: a send phase to the thread id `to`, unless that is L4_NILTHREAD, and then a receive phase from the thread id `from`, unless
+     * that is L4_NILTHREAD. The acceptor word names the receive window. The words of the call are the message registers, the tag first. */
     uint32_t to;
     uint32_t from;
     uint32_t timeouts;
@@ -183,42 +240,46 @@ typedef struct l4_call {
     uint32_t address;
     uint32_t ip;
     uint32_t access;
-    /* L4_UNMAP: bit 6 means the caller's own pages too; bits 5 to 0 are k, and the words 0 to k are fpages with the rights to take. */
+    /* L4_UNMAP: bit 6 set means that the caller's own pages lose the rights too. Bits 5 to 0 are k: the words 0 to k of the call are fpages
+     * with the rights to take. */
     uint32_t control;
-    /* L4_CREATE: a new thread of this id in the space of the thread `space`, or in a new one where that is its own id.
-     * L4_SET_PAGER: the thread id has this pager from now on. L4_DELETE: the thread id goes. */
+    /* L4_CREATE: creates a thread with this id and this pager (or L4_NILTHREAD), in the space of the thread id `space`, or in a new space
+     * if `space` is the same id. L4_SET_PAGER: sets the pager of the thread `id`. L4_DELETE: deletes the thread `id`. */
     uint32_t id;
     uint32_t space;
     uint32_t pager;
+    uint32_t reserved[4]; /* must be 0 */
 } l4_call;
 
-/* What a step did. */
-#define L4_STARTED UINT32_C(1)    /* a call was entered */
-#define L4_DELIVERED UINT32_C(2)  /* a transfer: the message was delivered, and its used moves were done */
+/* Outcomes of a step. */
+#define L4_STARTED UINT32_C(1)    /* a call was started */
+#define L4_DELIVERED UINT32_C(2)  /* a transfer: the message was delivered, and its map and grant items were executed */
 #define L4_NO_WINDOW UINT32_C(3)  /* a transfer: the message has items and the receiver's window is nil; both calls failed */
-#define L4_ENTANGLED UINT32_C(4)  /* a transfer: the message's moves contradict each other; both calls failed */
-#define L4_WANTS_MEMORY UINT32_C(5) /* a transfer: a growth was refused; both calls failed, and no page moved */
-#define L4_EXPIRED UINT32_C(6)    /* a wait with a timeout of zero ended */
+#define L4_ENTANGLED UINT32_C(4)  /* a transfer: the message's items conflict; both calls failed */
+#define L4_WANTS_MEMORY UINT32_C(5) /* a transfer: an allocation failed; both calls failed, and no page moved */
+#define L4_EXPIRED UINT32_C(6)    /* a wait with a timeout of zero expired */
 
-/* What a step did, and the threads whose calls ended in it: of a transfer the sender and then the receiver; of a Delete the caller and
- * then the others by rising number. */
+/* The outcome of a step, and the numbers of the threads whose calls ended in it. After a transfer these are the sender and then the
+ * receiver; after a Delete, the caller and then the others by rising number. */
 typedef struct l4_answer {
     uint32_t refusal;
     uint32_t detail;
     uint32_t outcome;
     uint32_t ended_count;
     uint32_t ended[L4_MAX_THREADS];
+    uint32_t reserved[2];
 } l4_answer;
 
-/* Starts a call of a thread. An Ipc and an Unmap read `count` words at words; other calls none. Words beyond the first 64 mean nothing.
- * Refusals in this order: B1, B3, K2, K3, K4, then those of the message (M7, M1, M5, M2, M4 or M3) and of the window (M6), of an Unmap
- * (U2, U1), or of a control of threads (H1 to H6; NoMemory of a Create in a new space). */
+/* Starts a call of a thread. The call ends at once if it needs no partner or can have none; otherwise the thread waits. An Ipc and an Unmap
+ * read `count` words at words, of which those beyond the first 64 are ignored; other calls read none. Refusals in this order: B1, B3, K2,
+ * K3, K4; then those of the message (M7, M1, M5, M2, M4 or M3) and of the window (M6), of an Unmap (U2, U1), or of a Create, SetPager or
+ * Delete (H1 to H6; NoMemory for a Create in a new space). */
 l4_answer l4_start(l4_kernel *kernel, uint32_t thread, const l4_call *call, const uint32_t *words, size_t count);
 
-/* The message of the sender goes to the receiver. Refusals in this order: B1, K1. */
+/* Delivers the sender's message to the receiver. Refusals in this order: B1, K1. */
 l4_answer l4_transfer(l4_kernel *kernel, uint32_t sender, uint32_t receiver);
 
-/* The thread's wait with a timeout of zero ends. Refusals in this order: B1, K1. */
+/* Ends the thread's wait that has a timeout of zero. Refusals in this order: B1, K1. */
 l4_answer l4_expire(l4_kernel *kernel, uint32_t thread);
 
 /* Kinds of enabled steps. */
@@ -226,7 +287,8 @@ l4_answer l4_expire(l4_kernel *kernel, uint32_t thread);
 #define L4_TRANSFER UINT32_C(1) /* from thread to receiver */
 #define L4_EXPIRE UINT32_C(2)   /* of thread */
 
-/* A step that is enabled, and once it was done, what it did (else outcome and ended_count are 0), and the threads whose calls ended. */
+/* An enabled step. Once the step has been executed, outcome says what it did, and ended has the threads whose calls ended in it; before
+ * that, outcome and ended_count are 0. */
 typedef struct l4_step {
     uint32_t refusal;
     uint32_t kind;
@@ -235,36 +297,37 @@ typedef struct l4_step {
     uint32_t outcome;
     uint32_t ended_count;
     uint32_t ended[2];
+    uint32_t reserved[2];
 } l4_step;
 
-/* The step that comes next where no call is started: the enabled transfer whose sender waits longest, and where there is none the
- * enabled expiry of the least number; L4_NONE where no step is enabled. Refusals: B1. */
+/* Returns the step that is executed next if no call is started: the enabled transfer whose sender has waited longest, or, if no transfer is
+ * enabled, the enabled expiry of the lowest thread number. The kind is L4_NONE if no step is enabled. Refusals: B1. */
 l4_step l4_enabled(l4_kernel *kernel);
 
-/* Does that step. Refusals: B1. */
+/* Executes the step that l4_enabled returns. Refusals: B1. */
 l4_step l4_next(l4_kernel *kernel);
 
-/* A call that was started, and how many steps followed it. */
+/* A call that was started, and the number of steps that followed it. */
 typedef struct l4_entered {
     l4_answer start;
     uint32_t step_count;
 } l4_entered;
 
-/* Starts a call as l4_start does, and then does the steps that come next until there is none. The first `room` of them are written to
- * steps; there are at most 64. After a refusal nothing is written. Refusals as of l4_start. */
+/* Starts a call as l4_start does, and then executes the next step until no step is enabled. The first `room` steps are written to steps;
+ * there are at most 64. After a refusal nothing is written. Refusals: those of l4_start. */
 l4_entered l4_enter(l4_kernel *kernel, uint32_t thread, const l4_call *call, const uint32_t *words, size_t count, l4_step *steps, size_t room);
 
 /* Kinds of replies. */
 #define L4_REPLY_IPC UINT32_C(1)
-#define L4_REPLY_HIT UINT32_C(2)       /* a fault: the page is there with the rights that the access needs */
+#define L4_REPLY_HIT UINT32_C(2)       /* a fault: the page is present with the rights that the access needs */
 #define L4_REPLY_ANSWERED UINT32_C(3)  /* a fault that the pager answered */
-#define L4_REPLY_FAILED UINT32_C(4)    /* a fault that failed: error says why */
+#define L4_REPLY_FAILED UINT32_C(4)    /* a fault that failed: error has the ErrorCode */
 #define L4_REPLY_UNMAPPED UINT32_C(5)
 #define L4_REPLY_CONTROLLED UINT32_C(6)
 #define L4_REPLY_GONE UINT32_C(7)
 
-/* How a call ended; L4_NONE where there is no reply. Of an Ipc: the tag of its message (0x8000 where the call failed), the ErrorCode or
- * 0, the sender's id or L4_NILTHREAD, how many words follow the tag, at most 63, and those. */
+/* How a call ended. The kind is L4_NONE if there is no reply. For an Ipc: the tag of the received message (0x8000 if the call failed), the
+ * ErrorCode or 0, the sender's thread id or L4_NILTHREAD, the number of words after the tag (at most 63), and these words. */
 typedef struct l4_reply {
     uint32_t refusal;
     uint32_t kind;
@@ -273,47 +336,57 @@ typedef struct l4_reply {
     uint32_t from;
     uint32_t word_count;
     uint32_t words[L4_MAX_WORDS];
+    uint32_t reserved[2];
 } l4_reply;
 
-/* The reply of the last ended call of a thread that runs. Refusals: B1. */
+/* Returns the reply of the thread's last call, which has ended. The kind is L4_NONE if the thread waits, does not exist, or has made no
+ * call yet. Refusals: B1. */
 l4_reply l4_reply_of(l4_kernel *kernel, uint32_t thread);
 
-/* The number of a thread's space; there is 0 where there is no such thread. */
+/* Write the line of text that `l4 run` prints for a reply of a thread, such as "3 ipc 00000080 0 1 00020008 000100c7", or for a step, such as
+ * "transfer 1 3 done", to out. The text is empty if the kind is L4_NONE. At most the first `room` - 1 bytes are written, and a 0 after
+ * them; nothing is written if room is 0. Both functions return the length of the whole text without the 0. A line has no newline, and at
+ * most 656 bytes, or 160 for a step. */
+size_t l4_reply_text(uint32_t thread, const l4_reply *reply, char *out, size_t room);
+size_t l4_step_text(const l4_step *step, char *out, size_t room);
+
+/* The number of a space; `there` is 0 if there is none. */
 typedef struct l4_space {
     uint32_t refusal;
     uint32_t there;
     uint64_t space;
 } l4_space;
 
-/* The space of a thread. Refusals: B1. */
+/* Returns the space of a thread; `there` is 0 if no thread has this number. Refusals: B1. */
 l4_space l4_space_of(l4_kernel *kernel, uint32_t thread);
 
-/* The least number of a space that is not below `space`; there is 0 where there is none. Begun at 0, and then at the number found and 1,
- * it lists all spaces. Refusals: B1. */
+/* Returns the lowest number of a space that is not below `space`; `there` is 0 if there is none. To list all spaces, start at 0, and
+ * continue at the number found plus 1. Refusals: B1. */
 l4_space l4_next_space(l4_kernel *kernel, uint64_t space);
 
-/* The number of a thread; there is 0 where there is none. */
+/* The number of a thread; `there` is 0 if there is none. */
 typedef struct l4_thread {
     uint32_t refusal;
     uint32_t there;
     uint32_t thread;
 } l4_thread;
 
-/* The least number of a thread that is not below `thread`. Begun at 0, and then at the number found and 1, it lists all threads.
- * Refusals: B1. */
+/* Returns the lowest number of a thread that is not below `thread`. To list all threads, start at 0, and continue at the number found plus
+ * 1. Refusals: B1. */
 l4_thread l4_next_thread(l4_kernel *kernel, uint32_t thread);
 
-/* How many bytes a page of a kernel has: L4_PAGE_BYTES or L4_SMALL_PAGE_BYTES. */
+/* The size of a kernel's pages in bytes: L4_PAGE_BYTES or L4_SMALL_PAGE_BYTES. */
 typedef struct l4_page_size {
     uint32_t refusal;
     uint32_t page_bytes;
 } l4_page_size;
 
-/* The size that a kernel's pages and frames have had since it was booted. Refusals: B1. */
+/* Returns the size of the pages and frames with which the kernel was booted. Refusals: B1. */
 l4_page_size l4_page_size_of(l4_kernel *kernel);
 
-/* What a page of a space shows; there is 0 where it isn't present. The parent is the page that it was mapped from, or the parent that a
- * granted page brought with it. */
+/* A mapping: the frame and the rights of a page, and its parent. `there` is 0 if the page is not present. The parent is the page from which
+ * this page was mapped; a granted page keeps the parent that it had before the grant. has_parent is 0 for sigma0's boot pages, also after a
+ * grant of them. */
 typedef struct l4_mapping {
     uint32_t refusal;
     uint32_t there;
@@ -322,22 +395,24 @@ typedef struct l4_mapping {
     uint32_t has_parent;
     uint32_t parent_page;
     uint64_t parent_space;
+    uint32_t reserved[2];
 } l4_mapping;
 
-/* What a page of a space shows. Refusals: B1. */
+/* Returns the mapping of a page of a space; `there` is 0 if the page is not present, which includes a space or page that does not exist.
+ * Refusals: B1. */
 l4_mapping l4_mapping_of(l4_kernel *kernel, uint64_t space, uint32_t page);
 
-/* A page; there is 0 where there is none. */
+/* The number of a page; `there` is 0 if there is none. */
 typedef struct l4_page {
     uint32_t refusal;
     uint32_t there;
     uint32_t page;
 } l4_page;
 
-/* The least present page of a space that is not below `page`. Refusals: B1. */
+/* Returns the lowest present page of a space that is not below `page`. Refusals: B1. */
 l4_page l4_next_page(l4_kernel *kernel, uint64_t space, uint32_t page);
 
-/* The pages from `source` on go to the pages from `target` on, `count` pages, with these rights. */
+/* A region: `count` pages from the page `source` on, which go to the pages from `target` on with these rights. */
 typedef struct l4_region {
     uint32_t source;
     uint32_t target;
@@ -345,10 +420,10 @@ typedef struct l4_region {
     uint32_t rights;
 } l4_region;
 
-/* WHAT A PAGER AND SIGMA0 ARE SENT. No handle is needed. */
+/* MESSAGES TO A PAGER AND TO SIGMA0. These functions need no handle. */
 
-/* A page fault: its address and the instruction that tried the access, in bytes, and the rights that the access needs; there is 0
- * where the message is none. */
+/* A page fault: its address and the address of the instruction that tried the access, both in bytes, and the rights that the access needs.
+ * `there` is 0 if the message is not a page fault. */
 typedef struct l4_fault {
     uint32_t refusal;
     uint32_t detail;
@@ -358,12 +433,12 @@ typedef struct l4_fault {
     uint32_t access;
 } l4_fault;
 
-/* The page fault that a message of this many words tells, from the tag on: a fault's label is 0xFFE0 to 0xFFE7, with two untyped words
- * and no item. Words after the message mean nothing. Refusals: those of the message (M7, M1, M5, M2, M4 or M3). */
+/* Reads a message of `count` words, the tag first, as a page fault. A page fault has a label of 0xFFE0 to 0xFFE7, two untyped words and no
+ * item. Words after the message are ignored. Refusals: those of the message (M7, M1, M5, M2, M4 or M3). */
 l4_fault l4_read_fault(const uint32_t *words, size_t count);
 
-/* A request for frames: the word of the fpage whose pages' frames are asked for, without rights, and the memory attributes, of which 0
- * asks for the machine's own; there is 0 where the message is none. */
+/* A request for frames: the word, without rights, of the fpage whose pages' frames are requested, and the memory attributes. Attributes of
+ * 0 request the machine's default attributes. `there` is 0 if the message is not a request. */
 typedef struct l4_request {
     uint32_t refusal;
     uint32_t detail;
@@ -372,37 +447,37 @@ typedef struct l4_request {
     uint32_t attributes;
 } l4_request;
 
-/* The request for frames that a message of this many words is, from the tag on: a request's label is 0xFFA0, with two untyped words, of
- * which the first is an fpage, and no item. Words after the message mean nothing. Refusals: those of the message (M7, M1, M5, M2, M4 or
- * M3). */
+/* Reads a message of `count` words, the tag first, as a request for frames. A request has the label 0xFFA0, two untyped words, of which the
+ * first is an fpage, and no item. Words after the message are ignored. Refusals: those of the message (M7, M1, M5, M2, M4 or M3). */
 l4_request l4_read_request(const uint32_t *words, size_t count);
 
-/* THE TABLES OF PAGERS */
+/* PAGERS' TABLES */
 
-/* Which pages of its own a pager gives for the pages of those whom it serves: at most 64 regions, no target page of which is one of
- * two. Source pages may be shared. */
+/* A pager's table: which of its own pages the pager maps for the pages of the threads that it serves. It has at most 64 regions, whose
+ * target pages do not overlap. Source pages may be shared. */
 typedef struct l4_pager {
     void *hidden;
 } l4_pager;
 
-/* Makes a table without a region. The handle is empty, and holds the table from then on; after a refusal it is as before. Refusals in
- * this order: B2, NoMemory. */
+/* Makes a table without regions. The handle must be empty; it then owns the table, and you free it with l4_pager_free. After a refusal the
+ * handle is unchanged. Refusals in this order: B2, NoMemory. */
 uint32_t l4_pager_new(l4_pager *pager);
 
-/* The same with pages of so many bytes, as the kernel has whose faults the table answers. Refusals in this order: B4, B2, NoMemory. */
+/* Makes a table as l4_pager_new does, for pages of page_bytes bytes: those of the kernel whose faults the table answers. Refusals in this
+ * order: B4, B2, NoMemory. */
 uint32_t l4_pager_new_sized(l4_pager *pager, uint32_t page_bytes);
 
-/* Frees a table. The handle is empty then. */
+/* Frees a table, and leaves the handle empty. */
 void l4_pager_free(l4_pager *pager);
 
-/* Adds a region at the end. After a refusal nothing has changed. Refusals in this order: B1, P4, P1, P3. */
+/* Adds a region at the end of the table. After a refusal nothing has changed. Refusals in this order: B1, P4, P1, P3. */
 uint32_t l4_pager_add(l4_pager *pager, const l4_region *region);
 
-/* The source page of a target page, where its region's rights hold those that the access needs; an access that needs none is held by
- * each region. Refusals in this order: B1, P2. */
+/* Finds the source page of a target page whose region has all the rights that the access needs. An access that needs no right finds the
+ * page in any region. Refusals in this order: B1, P2. */
 l4_page l4_pager_find(l4_pager *pager, uint32_t page, uint32_t access);
 
-/* The words of a message that answers another, from the tag on. */
+/* The words of an answer message, the tag first. */
 typedef struct l4_message {
     uint32_t refusal;
     uint32_t detail;
@@ -410,45 +485,50 @@ typedef struct l4_message {
     uint32_t words[L4_MAX_WORDS];
 } l4_message;
 
-/* What the pager answers a message of this many words, from the tag on: to a page fault, the tag and two words of one map item, the
- * source page with its region's rights, for the fault's page; a nil map item where l4_pager_find refuses the page, and to any other
- * message. Words after the message mean nothing. Refusals in this order: B1, then those of the message (M7, M1, M5, M2, M4 or M3). */
+/* Computes the pager's answer to a message of `count` words, the tag first. The answer to a page fault is one map item, in the two words
+ * after the tag: the source page, with its region's rights, for the page of the fault. It is a nil map item if l4_pager_find refuses the
+ * page; so is the answer to any other message. Words after the message are ignored. Refusals in this order: B1, then those of the message
+ * (M7, M1, M5, M2, M4 or M3). */
 l4_message l4_pager_answer(l4_pager *pager, const uint32_t *words, size_t count);
 
 /* SIGMA0'S TABLE */
 
-/* Which space owns which frame. A frame that is given to a space is that space's for good. */
+/* sigma0's table: which space owns which frame. A frame that a space has been given stays that space's. */
 typedef struct l4_sigma0 {
     void *hidden;
 } l4_sigma0;
 
-/* Makes a table of 1 to 4,096 frames that no space owns. The handle is empty, and holds the table from then on; after a refusal it is as
- * before. Refusals in this order: B2, K6, NoMemory. */
+/* Makes a table of 1 to 4,096 frames, none of which has an owner. The handle must be empty; it then owns the table, and you free it with
+ * l4_sigma0_free. After a refusal the handle is unchanged. Refusals in this order: B2, K6, NoMemory. */
 uint32_t l4_sigma0_new(l4_sigma0 *sigma0, uint32_t frames);
 
-/* The same with pages and frames of so many bytes, as the kernel has. Refusals in this order: B4, B2, K6, NoMemory. */
+/* Makes a table as l4_sigma0_new does, for pages and frames of page_bytes bytes, as the kernel has. Refusals in this order: B4, B2, K6,
+ * NoMemory. */
 uint32_t l4_sigma0_new_sized(l4_sigma0 *sigma0, uint32_t frames, uint32_t page_bytes);
 
-/* Frees a table. The handle is empty then. */
+/* Frees a table, and leaves the handle empty. */
 void l4_sigma0_free(l4_sigma0 *sigma0);
 
-/* What sigma0 answers a message from a space, of this many words from the tag on. A request without attributes asks for the frames of
- * its fpage's pages, and a page fault for the frame of its page; the frame of a page has the page's number. Where there are all of
- * these, and each is nobody's or the space's, they are the space's from then on, and the answer is one map item of them with all rights,
- * to the pages of the same numbers; anything else is answered by a nil map item, and changes nothing. Words after the message mean
- * nothing. After a refusal nothing has changed. Refusals in this order: B1, then those of the message (M7, M1, M5, M2, M4 or M3). */
+/* Computes sigma0's answer to a message of `count` words, the tag first, from a thread in this space. A request with attributes of 0 asks
+ * for the frames of its fpage's pages, and a page fault asks for the frame of its page; the frame of a page has the page's number. If all
+ * of these frames exist, and each has no owner or is owned by this space, then the space owns them from then on. The answer is then one map
+ * item of all of them, with all rights, to the pages of the same numbers. The answer to anything else is a nil map item, and nothing
+ * changes.
+ *
+ * Words after the message are ignored. After a refusal nothing has changed. Refusals in this order: B1, then those of the message (M7, M1,
+ * M5, M2, M4 or M3). */
 l4_message l4_sigma0_answer(l4_sigma0 *sigma0, uint64_t space, const uint32_t *words, size_t count);
 
-/* PLANS. No handle is needed. */
+/* PLANS. These functions need no handle. */
 
-/* A plan: how many items it has, and how many messages send them. All messages but the last have 31 items. */
+/* The size of a plan: the number of its items, and of the messages that send them. Every message but the last has 31 items. */
 typedef struct l4_plan {
     uint32_t refusal;
     uint32_t items;
     uint32_t messages;
 } l4_plan;
 
-/* A message of a plan: its words, from the tag on, and with each item a page of its own; and how many messages the plan has. */
+/* One message of a plan: its words, the tag first; one page for each item; and the number of messages of the whole plan. */
 typedef struct l4_part {
     uint32_t refusal;
     uint32_t messages;
@@ -458,102 +538,108 @@ typedef struct l4_part {
     uint32_t pages[L4_MAX_ITEMS];
 } l4_part;
 
-/* The shortest list of map items that moves exactly the region; no list of fewer items or messages does. Refusals in this order: N1,
- * N2, N3, N4. */
+/* Plans a region: the shortest list of map items that moves exactly the region. No list has fewer items, and none needs fewer messages.
+ * Refusals in this order: N1, N2, N3, N4. */
 l4_plan l4_plan_region(const l4_region *region);
 
-/* The same with pages of so many bytes. Refusals in this order: B4, N1, N2, N3, N4. */
+/* Plans a region of pages of page_bytes bytes. Refusals in this order: B4, N1, N2, N3, N4. */
 l4_plan l4_plan_region_sized(const l4_region *region, uint32_t page_bytes);
 
-/* The message with this number, from 0, of that plan. Refusals in this order: N1, N2, N3, N4, N6; after N6 `messages` is right. */
+/* Returns the message of that plan with this number, from 0. Refusals in this order: N1, N2, N3, N4, N6. After N6, the member messages has
+ * the number of messages. */
 l4_part l4_plan_message(const l4_region *region, uint32_t number);
 
-/* The same with pages of so many bytes. B4 comes before all other refusals. */
+/* Does the same as l4_plan_message for pages of page_bytes bytes. B4 comes before every other refusal. */
 l4_part l4_plan_message_sized(const l4_region *region, uint32_t number, uint32_t page_bytes);
 
-/* Writes the pages of that plan's items, one an item, which show that no list is shorter; or after N4 the 1,985 pages that show that each
- * list has more than 1,984 items. As many are written as there is room for, and the answer is how many there are; 0 after N1, N2 or N3. */
+/* Writes one page for each item of that plan; together these pages prove that no list is shorter. After N4 it writes the 1,985 pages that
+ * prove that every list has more than 1,984 items. It writes at most `room` pages, and returns how many there are: 0 after N1, N2 or N3. */
 uint32_t l4_plan_pages(const l4_region *region, uint32_t *pages, size_t room);
 
-/* The same with pages of so many bytes; 0 after B4 too. */
+/* Does the same as l4_plan_pages for pages of page_bytes bytes. It returns 0 after B4 too. */
 uint32_t l4_plan_pages_sized(const l4_region *region, uint32_t *pages, size_t room, uint32_t page_bytes);
 
-/* Why a claim about a region doesn't hold; L4_OK where it is proved. */
+/* The result of a check: L4_OK if the claim about the region is proved, or why it does not hold. */
 typedef struct l4_verdict {
     uint32_t refusal;
     uint32_t detail;
 } l4_verdict;
 
-/* Checks that the items of these words, two words an item, message after message without their tags, move exactly the region, and that
- * these pages, one an item, show that no list of map items that does is shorter. Refusals in this order: M1 (more than 3,968 words), M2
- * (an odd number), M4 or M3; C6, C1, C2, C5, C3, C4. */
+/* Checks a plan, whoever made it: that its items move exactly the region, and that its pages, one for each item, prove that no list of map
+ * items that does so is shorter. The words are those of the items, two for each, message after message without the tags. Refusals in this
+ * order: M1 (more than 3,968 words), M2 (an odd number of words), M4 or M3; C6, C1, C2, C5, C3, C4. */
 l4_verdict l4_check_plan(const l4_region *region, const uint32_t *words, size_t count, const uint32_t *pages, size_t page_count);
 
-/* The same with pages of so many bytes. B4 comes before all other refusals. */
+/* Does the same as l4_check_plan for pages of page_bytes bytes. B4 comes before every other refusal. */
 l4_verdict l4_check_plan_sized(const l4_region *region, const uint32_t *words, size_t count, const uint32_t *pages, size_t page_count, uint32_t page_bytes);
 
-/* Checks that these are 1,985 pages which show that each list of map items that moves exactly the region has more than 1,984. Refusals
- * in this order: C6, C5, C3, C4. */
+/* Checks that 1,985 pages prove the following: every list of map items that moves exactly the region has more than 1,984 items. Refusals in
+ * this order: C6, C5, C3, C4. */
 l4_verdict l4_check_too_long(const l4_region *region, const uint32_t *pages, size_t page_count);
 
-/* The same with pages of so many bytes. B4 comes before all other refusals. */
+/* Does the same as l4_check_too_long for pages of page_bytes bytes. B4 comes before every other refusal. */
 l4_verdict l4_check_too_long_sized(const l4_region *region, const uint32_t *pages, size_t page_count, uint32_t page_bytes);
 
 /* LOCKED KERNELS */
 
-/* A kernel that keeps the history of its steps, and seats: the seat of a number is what calls of that thread are entered by, and keeps a
- * receipt of each that has ended. It is what threads of a program share, behind a lock of the program's own, and has none itself: one
- * call at a time, as for every handle. A call that is left waiting ends while others are entered; a caller waits for that as the program
- * likes (on a condition of its lock), and takes the reply. */
+/* A locked kernel: a kernel that keeps the history of its steps, and has seats. A seat is the right to make the calls of one thread number;
+ * it keeps a receipt of every call that has ended. Use it to share one kernel among the threads of a program.
+ *
+ * There is no lock inside. Protect the handle with a lock of your own: one call at a time, as for every handle. If l4_lock_enter leaves a
+ * call waiting, a later call of another seat may end it. Let the waiting thread sleep, for instance on a condition variable of your lock,
+ * and then fetch the reply with l4_lock_take.
+ *
+ * The history has room for 1,000,000 entries. Once it has more than 999,871, l4_lock_enter refuses every call with L1, for good: entries
+ * are never removed. Every other function still works. */
 typedef struct l4_lock {
     void *hidden;
 } l4_lock;
 
-/* Makes a kernel as it boots, as l4_boot does, with an empty history and no seat given. The handle is empty, and holds it from then on;
- * after a refusal it is as before. Refusals in this order: B2, K6, NoMemory. */
+/* Boots a locked kernel as l4_boot does, with an empty history and no seats. The handle must be empty; it then owns the kernel, and you
+ * free it with l4_lock_free or l4_lock_close. After a refusal the handle is unchanged. Refusals in this order: B2, K6, NoMemory. */
 uint32_t l4_lock_new(l4_lock *lock, uint32_t frames);
 
-/* The same with pages and frames of so many bytes. Refusals in this order: B4, B2, K6, NoMemory. */
+/* Does the same as l4_lock_new for pages and frames of page_bytes bytes. Refusals in this order: B4, B2, K6, NoMemory. */
 uint32_t l4_lock_new_sized(l4_lock *lock, uint32_t frames, uint32_t page_bytes);
 
-/* Frees it with its history and all receipts, whatever goes on in it. The handle is empty then. */
+/* Frees a locked kernel with its history and all receipts, even if calls still wait. The handle is empty then. */
 void l4_lock_free(l4_lock *lock);
 
-/* The seat of a number is given, once, also before there is a thread of the number. After a refusal nothing has changed. Refusals in this
- * order: B1, L4, NoMemory. */
+/* Gives out the seat of a thread number. Each seat is given once, and the thread need not exist yet. After a refusal nothing has changed.
+ * Refusals in this order: B1, L4, NoMemory. */
 uint32_t l4_lock_give(l4_lock *lock, uint32_t seat);
 
-/* A call that was entered: the reply with which it has ended, or L4_NONE as the reply's kind where it was left waiting. */
+/* The result of entering a call: its reply if the call has ended. The reply's kind is L4_NONE if the call waits. */
 typedef struct l4_seated {
     uint32_t refusal;
     uint32_t detail;
     l4_reply reply;
 } l4_seated;
 
-/* Enters a call of the seat's thread as l4_enter does: its start and the steps that come next, until there is none, are entries of the
- * history from then on. After a refusal nothing has changed. Refusals in this order: B1, B3, L3, L1, NoMemory, K2 where the seat was not
+/* Enters a call of the seat's thread as l4_enter does. The start of the call, and the steps that are executed until no step is enabled, are
+ * appended to the history. After a refusal nothing has changed. Refusals in this order: B1, B3, L3, L1, NoMemory, K2 if the seat was not
  * given, and then those of l4_start from K2 on. */
 l4_seated l4_lock_enter(l4_lock *lock, uint32_t seat, const l4_call *call, const uint32_t *words, size_t count);
 
-/* The reply of a call of the seat that was left waiting and has ended since, once; L4_NONE where there is none. It takes no memory.
- * Refusals: B1. */
+/* Takes the reply of a call of the seat that was left waiting and has since ended. Each reply can be taken once; the kind is L4_NONE if
+ * there is none. This call allocates no memory. Refusals: B1. */
 l4_reply l4_lock_take(l4_lock *lock, uint32_t seat);
 
-/* A count. */
+/* A number of entries. */
 typedef struct l4_count {
     uint32_t refusal;
     uint64_t count;
 } l4_count;
 
-/* How many entries the history has: at most 1,000,000. Refusals: B1. */
+/* Returns the number of entries of the history: at most 1,000,000. Refusals: B1. */
 l4_count l4_lock_length(l4_lock *lock);
 
-/* A further kind of steps: a call was entered. */
+/* One more kind of step: a call was started. */
 #define L4_START UINT32_C(3)
 
-/* An entry of the history: the seat whose call this step starts or follows, the step (L4_START of thread, L4_TRANSFER from thread to
- * receiver, L4_EXPIRE of thread; L4_NONE beyond the end), what it did, and the threads whose calls ended in it. Of a start, the call with
- * its words, as it would be entered again; else both are 0. */
+/* An entry of the history: a step with its outcome, the threads whose calls ended in it, and the seat whose call this step starts or
+ * follows. The kind is L4_START (of thread), L4_TRANSFER (from thread to receiver), L4_EXPIRE (of thread), or L4_NONE beyond the end of the
+ * history. For a start, call and words have the call as it can be entered again; for other kinds both are 0. */
 typedef struct l4_entry {
     uint32_t refusal;
     uint32_t seat;
@@ -568,11 +654,11 @@ typedef struct l4_entry {
     l4_call call;
 } l4_entry;
 
-/* The entry at a place, from 0. Refusals: B1. */
+/* Returns the entry at a place of the history, from 0. Refusals: B1. */
 l4_entry l4_lock_entry(l4_lock *lock, size_t place);
 
-/* How many calls a seat has started, each of which the history has once, and how many receipts it has; there is 0 where it was not
- * given. */
+/* The counts of a seat: how many calls it has started, each of which is in the history once, and how many receipts it has. `there` is 0 if
+ * the seat was not given. */
 typedef struct l4_seat {
     uint32_t refusal;
     uint32_t there;
@@ -580,11 +666,11 @@ typedef struct l4_seat {
     uint64_t receipts;
 } l4_seat;
 
-/* What a seat has done. Refusals: B1. */
+/* Returns the counts of a seat. Refusals: B1. */
 l4_seat l4_lock_seat_of(l4_lock *lock, uint32_t seat);
 
-/* A receipt of a seat, of a call that has ended: the places of the entries that started and ended it, the call with its words, and its
- * reply; there is 0 where there is none. */
+/* A receipt of a seat, for a call that has ended: the places of the entries that started and ended it, the call with its words, and its
+ * reply. `there` is 0 if there is none. */
 typedef struct l4_receipt {
     uint32_t refusal;
     uint32_t there;
@@ -596,12 +682,12 @@ typedef struct l4_receipt {
     l4_reply reply;
 } l4_receipt;
 
-/* The receipt of a seat at a place, from 0, in the order in which it got them. Refusals: B1. */
+/* Returns the receipt of a seat at a place, from 0. Receipts are in the order in which the seat got them. Refusals: B1. */
 l4_receipt l4_lock_receipt(l4_lock *lock, uint32_t seat, size_t place);
 
-/* A transfer that moved a page on: the place of its entry in the history, from 0; the sender's page and the receiver's, with the numbers of
- * their spaces; whether the item gave the page away (grant is 1) or shared it (0); the rights that the sender's page had just before,
- * and those that the item named. */
+/* A link of a page's provenance: one transfer that moved the page. It has the place of the transfer's entry in the history, from 0; the
+ * sender's page and the receiver's page, with the numbers of their spaces; grant, which is 1 if the item granted the page and 0 if it
+ * mapped it; the rights of the sender's page just before the transfer; and the rights that the item named. */
 typedef struct l4_link {
     uint64_t entry;
     uint64_t source_space;
@@ -611,9 +697,10 @@ typedef struct l4_link {
     uint32_t grant;
     uint32_t source_rights;
     uint32_t item_rights;
+    uint32_t reserved; /* must be 0 */
 } l4_link;
 
-/* How many links brought a page to where it is; there is 0 where it isn't present. */
+/* The number of links of a page's provenance; `there` is 0 if the page is not present. */
 typedef struct l4_chain {
     uint32_t refusal;
     uint32_t detail;
@@ -621,23 +708,164 @@ typedef struct l4_chain {
     uint64_t count;
 } l4_chain;
 
-/* How a page of a space came to where it is: the transfers that brought it there from a page that sigma0 had at boot, each from the page to
- * which the one before it went. The first `room` of them are written to links; count is how many there are, so a second call with that
- * much room gets all of them. A page that sigma0 has had since boot has none. Nothing is written where the page isn't present, or after a
- * refusal, and the lock is as before in either case. It takes the time of the whole history, and once more of its part before each link,
- * and the memory of a second kernel. Refusals in this order: B1; NoMemory, or L6 with an entry. */
+/* Finds the provenance of a page of a space: the transfers that brought it there, one after another, from a page that sigma0 had at boot.
+ * Each link starts at the page at which the link before it ended. A page that sigma0 has had since boot has no links.
+ *
+ * The first `room` links are written to links. count is the number of links, so you can call again with that much room to get them all.
+ * Nothing is written if the page is not present, or after a refusal. The locked kernel is unchanged in every case. The call replays the
+ * whole history once, and the part before each link once more, on a second kernel: it takes that time, and the memory of a second kernel.
+ * Refusals in this order: B1; NoMemory, or L6 with an entry. */
 l4_chain l4_lock_provenance(l4_lock *lock, uint64_t space, uint32_t page, l4_link *links, size_t room);
 
-/* Checks that just these links are how a page of a space came to where it is; they never are where it isn't present. A grant is any number
- * but 0. It shares no code with what finds them, does the history once more on a second kernel, and changes nothing. Refusals in this
- * order: B1; NoMemory, or L6 with an entry; L7. */
+/* Checks that exactly these links are the provenance of a page of a space. No list of links is, if the page is not present. Any value of
+ * grant other than 0 means a grant. The check shares no code with l4_lock_provenance, replays the history once on a second kernel, and
+ * changes nothing. Refusals in this order: B1; NoMemory, or L6 with an entry; L7. */
 l4_verdict l4_lock_check_provenance(l4_lock *lock, uint64_t space, uint32_t page, const l4_link *links, size_t count);
 
-/* The seats of these numbers come back. Where just those come back that were given, each once, it is freed with its history, and the handle
- * is empty: then the history has as many starts of each seat's thread as the seat counted, and each receipt was right about it. Else
- * nothing has changed. Refusals in this order: B1; X1 with the least number whose seat is missing, X2 with the least that was not given
- * or comes back twice. X3 never comes, as no seat is ever in other hands. */
+/* Takes back the seats of these numbers, and frees the locked kernel with its history if exactly the seats that were given come back, each
+ * once. The handle is empty then. Success confirms that the history has as many starts of each seat's thread as the seat counted, and that
+ * every receipt was right about the history. Otherwise nothing has changed. Refusals in this order: B1; X1 with the lowest number of a
+ * missing seat; X2 with the lowest number of a seat that was not given or comes back twice. X3 is never returned, because seats never leave
+ * the library. */
 l4_verdict l4_lock_close(l4_lock *lock, const uint32_t *seats, size_t count);
+
+/* CONSTRUCTORS AND READERS. These functions are inline, and do not call the library unless they take a handle. */
+
+/* The thread ids of sigma0 and root. */
+#define L4_SIGMA0_ID UINT32_C(0x4001)
+#define L4_ROOT_ID UINT32_C(0x8001)
+
+/* Returns the thread id of a thread number, 1 to 262,143, and a version, 1 to 16,383. */
+static inline uint32_t l4_id(uint32_t number, uint32_t version) {
+    return number << 14 | (version & 0x3FFF);
+}
+
+/* Returns the thread number of a thread id. */
+static inline uint32_t l4_id_number(uint32_t id) {
+    return id >> 14;
+}
+
+/* Returns the version of a thread id. */
+static inline uint32_t l4_id_version(uint32_t id) {
+    return id & 0x3FFF;
+}
+
+/* Returns 1 if a thread can have this id, and 0 if it cannot: its number is 0, the low six bits of its version are all zero, or it is
+ * L4_ANYTHREAD. */
+static inline int l4_id_is_valid(uint32_t id) {
+    return id >> 14 != 0 && (id & 0x3F) != 0 && id != L4_ANYTHREAD;
+}
+
+/* Returns the timeouts member of a call. Each timeout is 0, which means never, or L4_ZERO_TIMEOUT. */
+static inline uint32_t l4_timeouts(uint32_t send, uint32_t receive) {
+    return send << 16 | receive;
+}
+
+/* The fpage that names no page, and the one that names all pages of a space, without rights. As a receive window, L4_COMPLETE_FPAGE accepts
+ * pages anywhere. */
+#define L4_NIL_FPAGE UINT32_C(0)
+#define L4_COMPLETE_FPAGE UINT32_C(0x10)
+
+/* Returns the fpage of 2^log bytes with these rights, where log is 10 to 32. The base is rounded down to a multiple of the size. Any other
+ * log gives L4_NIL_FPAGE. */
+static inline uint32_t l4_fpage(uint32_t base, uint32_t log, uint32_t rights) {
+    if (log == 32)
+        return L4_COMPLETE_FPAGE | (rights & 7);
+    if (log < 10 || log > 31)
+        return L4_NIL_FPAGE;
+    return base >> log << log | log << 4 | (rights & 7);
+}
+
+/* Returns the fpage of one page of L4_PAGE_BYTES bytes, from its page number, with these rights. */
+static inline uint32_t l4_fpage_of_page(uint32_t page, uint32_t rights) {
+    return l4_fpage(page << L4_PAGE_LOG, L4_PAGE_LOG, rights);
+}
+
+/* Returns 1 if the word is a valid fpage, and 0 if it is not. */
+static inline int l4_fpage_is_valid(uint32_t fpage) {
+    uint32_t size = fpage >> 4 & 63;
+    return size == 0 || (size == 1 && fpage >> 10 == 0) || (size >= 10 && size <= 32);
+}
+
+/* Returns the log of the size of a valid fpage: 10 to 32, or 0 for an fpage that names no page. */
+static inline uint32_t l4_fpage_log(uint32_t fpage) {
+    uint32_t size = fpage >> 4 & 63;
+    return size == 1 ? 32 : size;
+}
+
+/* Returns the address at which a valid fpage begins. */
+static inline uint32_t l4_fpage_base(uint32_t fpage) {
+    uint32_t log = l4_fpage_log(fpage);
+    return log >= 10 && log <= 31 ? fpage >> log << log : 0;
+}
+
+/* Returns the rights of a valid fpage. */
+static inline uint32_t l4_fpage_rights(uint32_t fpage) {
+    return l4_fpage_log(fpage) == 0 ? 0 : fpage & 7;
+}
+
+/* Writes the two words of an item that maps the pages of an fpage, or grants them, at the send base, an address that is a multiple of 1,024.
+ * Set bit 0 of the first word if another item follows in the message; the kernel ignores that bit. */
+static inline void l4_map_item(uint32_t words[2], uint32_t send_base, uint32_t fpage) {
+    words[0] = (send_base >> 10 << 10) | 8;
+    words[1] = fpage;
+}
+
+static inline void l4_grant_item(uint32_t words[2], uint32_t send_base, uint32_t fpage) {
+    words[0] = (send_base >> 10 << 10) | 10;
+    words[1] = fpage;
+}
+
+/* Return 1 if the first word of an item is that of a map item, or of a grant item, and 0 if it is not. */
+static inline int l4_item_is_map(uint32_t first) {
+    return (first >> 1 & 7) == 4;
+}
+
+static inline int l4_item_is_grant(uint32_t first) {
+    return (first >> 1 & 7) == 5;
+}
+
+/* Returns the send base of an item from its first word. */
+static inline uint32_t l4_item_base(uint32_t first) {
+    return first >> 10 << 10;
+}
+
+/* Returns the tag of a message: its label, of 16 bits, its number of untyped words, and its number of words of items, two for each. */
+static inline uint32_t l4_tag(uint32_t label, uint32_t untyped, uint32_t typed) {
+    return label << 16 | (typed & 63) << 6 | (untyped & 63);
+}
+
+/* Return the parts of a tag. */
+static inline uint32_t l4_tag_label(uint32_t tag) {
+    return tag >> 16;
+}
+
+static inline uint32_t l4_tag_untyped(uint32_t tag) {
+    return tag & 63;
+}
+
+static inline uint32_t l4_tag_typed(uint32_t tag) {
+    return tag >> 6 & 63;
+}
+
+/* Returns 1 if the tag is that of an Ipc that failed, whose ErrorCode is then in the reply's error, and 0 if it is not. */
+static inline int l4_tag_is_error(uint32_t tag) {
+    return (tag & 0x8000) != 0;
+}
+
+/* Returns the acceptor word whose receive window is this fpage. */
+static inline uint32_t l4_acceptor(uint32_t fpage) {
+    return fpage >> 4 << 4;
+}
+
+/* Returns the lowest number, not below `thread`, of a thread in this space. To list the threads of a space, start at 0, and continue at the
+ * number found plus 1. Refusals: B1. */
+static inline l4_thread l4_next_thread_in(l4_kernel *kernel, uint64_t space, uint32_t thread) {
+    l4_thread next = l4_next_thread(kernel, thread);
+    while (next.there && l4_space_of(kernel, next.thread).space != space)
+        next = l4_next_thread(kernel, next.thread + 1);
+    return next;
+}
 
 #ifdef __cplusplus
 }

@@ -1,9 +1,11 @@
-//! Finds the archive libl4.a: in the folder that L4_LIB_DIR names, and else where pkg-config has it.
+//! Finds the archive libl4.a: in the folder that L4_LIB_DIR names, or else in the folder that pkg-config names. If it is missing, the crate
+//! does not compile, but `cargo doc` works. If DOCS_RS is set, the archive is not looked for, so crates that use this one have documentation
+//! too; their programs cannot be linked then.
 use std::env;
 use std::path::PathBuf;
-use std::process::{exit, Command};
+use std::process::Command;
 
-/// The folder that pkg-config names for the library l4.
+/// Returns the folder that pkg-config names for the library l4.
 fn asked() -> Result<PathBuf, String> {
     let program = env::var_os("PKG_CONFIG").unwrap_or_else(|| "pkg-config".into());
     let output = Command::new(&program)
@@ -18,6 +20,7 @@ fn asked() -> Result<PathBuf, String> {
     }
 }
 
+/// Returns the folder that has the archive.
 fn folder() -> Result<PathBuf, String> {
     let folder = match env::var_os("L4_LIB_DIR") {
         Some(folder) => PathBuf::from(folder),
@@ -32,8 +35,12 @@ fn folder() -> Result<PathBuf, String> {
 
 fn main() {
     println!("cargo:rerun-if-changed=build.rs");
-    for name in ["L4_LIB_DIR", "PKG_CONFIG", "PKG_CONFIG_PATH"] {
+    println!("cargo:rustc-check-cfg=cfg(l4_missing)");
+    for name in ["DOCS_RS", "L4_LIB_DIR", "PKG_CONFIG", "PKG_CONFIG_PATH"] {
         println!("cargo:rerun-if-env-changed={name}");
+    }
+    if env::var_os("DOCS_RS").is_some() {
+        return;
     }
     match folder() {
         Ok(folder) => {
@@ -45,8 +52,8 @@ fn main() {
             println!("cargo:rustc-link-lib=static=l4");
         }
         Err(why) => {
-            eprintln!("l4: {why}. Run `make install-library PREFIX=$HOME/l4`, and set L4_LIB_DIR=$HOME/l4/lib or PKG_CONFIG_PATH=$HOME/l4/lib/pkgconfig");
-            exit(1);
+            println!("cargo:rustc-cfg=l4_missing");
+            println!("cargo:rustc-env=L4_MISSING={why}. Run `make install-library PREFIX=$HOME/l4`, and set L4_LIB_DIR=$HOME/l4/lib or PKG_CONFIG_PATH=$HOME/l4/lib/pkgconfig");
         }
     }
 }

@@ -1,20 +1,28 @@
 """An L4 X.2 kernel core in user space, whose every answer is proved.
 
-Steps of many threads go in; replies, mappings and refusals come out, by the rules of the L4 eXperimental Kernel Reference Manual, Version
-X.2 (32-bit, no string items). This package is the way from Python to the library libl4, over ctypes.
+Your program makes calls for many threads and executes steps; the kernel returns replies, mappings and refusals, by the rules of the L4
+eXperimental Kernel Reference Manual, Version X.2 (32-bit, no string items). This package calls the library libl4 with ctypes.
 
-A `Kernel` boots with two threads: sigma0, thread 1 in space 0, shows each frame at the page of its number with all rights; root, thread 2
-in space 1, shows none and may create threads. A thread starts a `Call`; a call that waits ends in a later step, and its end is a `Reply`.
-What the kernel refuses is raised as `Refused`, with its code and a text; a number that has too many bits, too many words and the like
-raise ValueError, where they are given.
+A `Kernel` boots with two threads. sigma0 is thread 1 in space 0, where frame i is mapped at page i with all rights. root is thread 2 in
+space 1, which is empty; root may create threads. A thread starts a `Call`. A call that must wait ends in a later step, and its result is a
+`Reply`.
 
-Threads go by their numbers where they act, and by whole `ThreadId`s as partners, as in the kernel's own words; the one where the other is
-due is a TypeError. Pages have 4,096 bytes and are counted from 0, below 1,048,576 in a space. Spaces have numbers of 64 bits that are
-never used twice.
+The package raises `Refused`, with a code and a text, if the kernel refuses a call. It raises ValueError for a number with too many bits or
+a message with too many words, and TypeError for a value of the wrong type, at the place where you pass the value.
 
-What takes `page_bytes` goes by pages of 1,024 bytes where that is given: they are counted below 4,194,304. A kernel and a table keep the
-size that they were made with, and the tables and plans that go with a kernel are to be of its `page_bytes`. Words go by bytes, so their
-form is the same.
+A caller is named by its thread number, and a partner by its `ThreadId`, as in the kernel's own words. A number in place of an id, or an id
+in place of a number, raises TypeError. A page has 4,096 bytes. The pages of a space are numbered from 0 to 1,048,575; a parameter that is a
+page number accepts 0 to 4,294,967,295, and a page beyond the space is never present. A space has a number of 64 bits, which is never used
+again.
+
+A parameter `page_bytes` chooses the page size: 4,096, which is the default, or 1,024. Small pages are numbered from 0 to 4,194,303. A
+kernel and a table keep the size with which they were made. Make the tables and plans for a kernel with the kernel's `page_bytes`. Message
+words are in bytes, so their form is the same in both sizes.
+
+`Kernel`, `Pager`, `Sigma0` and `SharedKernel` own memory of the library. They free it when they are closed, or with the last reference to
+them. Several threads may use one of these objects: its calls run one at a time. In a process that was forked while its parent had several
+threads, every call of the library raises RuntimeError. In other forked processes everything works, and each process has its own copy of
+every object.
 """
 from . import draw
 from .calls import Call

@@ -1,4 +1,4 @@
-"""The command line: answers a list of steps, draws the mappings that it leaves, or shows the run of a script in a browser."""
+"""The command line: executes a step list and prints its answers or a drawing, or shows the run of a script in a browser."""
 from __future__ import annotations
 
 import argparse
@@ -17,25 +17,25 @@ from .words import PAGE_BYTES, SMALL_PAGE_BYTES
 def parse(words: Optional[List[str]]) -> argparse.Namespace:
     parser = argparse.ArgumentParser(
         prog="python -m l4",
-        description="Does a list of steps, read on standard input (l4_steps --help has the language), or shows a script (l4 --help) in a browser.",
+        description="Executes a step list from standard input (l4_steps --help describes the language), or shows a script (l4 --help) in a browser.",
     )
-    parser.add_argument("--frames", type=int, default=256, help="the frames of the machine, from 1 to 4096 [default: %(default)s]")
-    parser.add_argument("--page-size", type=int, choices=(PAGE_BYTES, SMALL_PAGE_BYTES), default=PAGE_BYTES, help="the bytes of a page [default: %(default)s]")
+    parser.add_argument("--frames", type=int, default=256, help="number of frames of the machine, 1 to 4096 [default: %(default)s]")
+    parser.add_argument("--page-size", type=int, choices=(PAGE_BYTES, SMALL_PAGE_BYTES), default=PAGE_BYTES, help="size of a page in bytes [default: %(default)s]")
     commands = parser.add_subparsers(dest="command", required=True)
     commands.add_parser("steps", help="answer each line as l4_steps does")
-    tree = commands.add_parser("tree", help="then draw the mapping tree of a frame, as DOT text")
+    tree = commands.add_parser("tree", help="execute the list, then print the mapping tree of a frame as DOT text")
     tree.add_argument("frame", type=int)
-    space = commands.add_parser("space", help="then draw the mappings of a space, as DOT text")
+    space = commands.add_parser("space", help="execute the list, then print the mappings of a space as DOT text")
     space.add_argument("space", type=int)
-    lab = commands.add_parser("lab", help="show the run of a script in a browser, until it is interrupted")
-    lab.add_argument("script", nargs="?", help="a file; it can be changed on the page")
-    lab.add_argument("--port", type=int, default=0, help="the port of 127.0.0.1 where the page is [default: one that is free]")
-    lab.add_argument("--no-open", action="store_true", help="don't open a browser")
+    lab = commands.add_parser("lab", help="show the run of a script in a browser until interrupted")
+    lab.add_argument("script", nargs="?", help="a file with a script, which you can edit on the page")
+    lab.add_argument("--port", type=int, default=0, help="port of 127.0.0.1 for the page [default: a free one]")
+    lab.add_argument("--no-open", action="store_true", help="do not open a browser")
     return parser.parse_args(words)
 
 
 def run(options: argparse.Namespace) -> None:
-    """Does the steps, and what the command says with them."""
+    """Executes the step list on standard input, and prints what the command asks for."""
     with Kernel(options.frames, options.page_size) as kernel:
         for line in replay(kernel, sys.stdin.buffer):
             if options.command == "steps":
@@ -47,7 +47,7 @@ def run(options: argparse.Namespace) -> None:
 
 
 def show(options: argparse.Namespace) -> None:
-    """Serves the lab's page until it is interrupted."""
+    """Serves the lab's page until the program is interrupted."""
     Kernel(options.frames, options.page_size).close()
     script = read_script(options.script) if options.script else ""
     with Lab(script, options.frames, options.page_size, options.port) as lab:

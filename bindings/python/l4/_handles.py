@@ -1,4 +1,4 @@
-"""What the library makes, and frees once."""
+"""Objects that own memory of the library."""
 from __future__ import annotations
 
 import threading
@@ -14,14 +14,25 @@ Self = TypeVar("Self", bound="Handle")
 
 
 def _free(free: Callable[..., None], handle: Structure, lock: Any) -> None:
-    """Frees what the handle holds, which is empty then."""
+    """Frees what the handle owns, and leaves the handle empty."""
     if not Forks.among_threads:
         with lock:
             free(byref(handle))
 
 
-class Handle:
-    """What the library makes: freed by `close`, at the end of a `with`, or with its last reference. It can't be copied."""
+class Unique:
+    """An object that the modules copy and pickle cannot duplicate: they raise TypeError."""
+
+    def __reduce__(self) -> Any:
+        raise TypeError(f"a {type(self).__name__} can't be pickled, nor copied by the module copy")
+
+
+class Handle(Unique):
+    """An object that owns memory of the library.
+
+    It is freed once: by `close`, at the end of a `with` block, or with its last reference. It cannot be copied with the module copy.
+    Several threads may use it: calls run one at a time.
+    """
 
     def __init__(self, handle: Structure, make: Callable[..., int], free: Callable[..., None], *values: int) -> None:
         Forks.check()
@@ -29,17 +40,17 @@ class Handle:
         if refusal:
             raise Refused(refusal)
         self._handle = handle
-        # one call at a time for a handle, and other threads run while a call does
+        # a handle takes one call at a time; ctypes lets other threads run during the call
         self._lock = threading.RLock()
         self._free = weakref.finalize(self, _free, free, handle, self._lock)
 
     def close(self) -> None:
-        """Frees it with all its memory; nothing where that was done. From then on each call raises ValueError."""
+        """Frees the object and all its memory. Has no effect if it is closed already. Every later call raises ValueError."""
         self._free()
 
     @property
     def closed(self) -> bool:
-        """Whether it was freed."""
+        """Returns whether the object was freed."""
         return not self._free.alive
 
     def __enter__(self: Self) -> Self:
@@ -48,22 +59,25 @@ class Handle:
     def __exit__(self, *_: object) -> None:
         self.close()
 
-    def __reduce__(self) -> Any:
-        raise TypeError(f"a {type(self).__name__} can't be copied")
+    @property
+    def _name(self) -> str:
+        """Returns the name of the object in errors."""
+        return type(self).__name__
 
     @property
     def _turn(self) -> Any:
-        """The lock, which a call holds; in a forked process another thread may hold it for good."""
+        """Returns the lock that every call holds. Raises RuntimeError in a process that was forked while its parent had several threads,
+        since one of them may have held the lock."""
         Forks.check()
         return self._lock
 
     def _ask(self, function: Callable[..., Any], *values: Any) -> Any:
-        """What the library answers."""
+        """Calls the library function with this handle, and returns its result."""
         with self._turn:
             return function(byref(self._handle), *values)
 
     def _told(self, told: Any) -> Any:
-        """What the library answered; ValueError where the handle is empty."""
+        """Returns a result of the library; raises ValueError if the handle is empty."""
         if told.refusal == _library.L4_B1:
-            raise ValueError(f"the {type(self).__name__} is closed")
+            raise ValueError(f"the {self._name} is closed")
         return told

@@ -1,6 +1,6 @@
-"""The functions of the C header, over the shared library libl4.so.
+"""The functions of the C header, from the shared library libl4.so.
 
-The structs, constants and functions are laid out by hand; tests/bindings compares them with what a C compiler reads in include/l4.h.
+The structs, constants and functions are written by hand; tests/embedding/bindings compares them with what a C compiler reads in include/l4.h.
 """
 from __future__ import annotations
 
@@ -11,6 +11,11 @@ import threading
 from ctypes import POINTER, Structure, c_char_p, c_size_t, c_uint32, c_uint64, c_void_p
 from pathlib import Path
 from typing import Any, Dict, List, Sequence, Tuple
+
+L4_VERSION_MAJOR = 0
+L4_VERSION_MINOR = 1
+L4_VERSION_PATCH = 0
+L4_VERSION = 1000
 
 L4_PAGE_LOG = 12
 L4_PAGE_BYTES = 4096
@@ -114,12 +119,17 @@ L4_REPLY_GONE = 7
 
 L4_START = 3
 
-# the room for a text of a refusal, which is longer than each of them
+L4_SIGMA0_ID = 0x4001
+L4_ROOT_ID = 0x8001
+L4_NIL_FPAGE = 0
+L4_COMPLETE_FPAGE = 0x10
+
+# the buffer size for the text of a refusal: larger than every text
 TEXT_ROOM = 160
 
 
 def numbers(names: str) -> List[Tuple[str, Any]]:
-    """Members of 32 bits each."""
+    """Returns fields of 32 bits with these names."""
     return [(name, c_uint32) for name in names.split()]
 
 
@@ -128,15 +138,15 @@ class l4_kernel(Structure):
 
 
 class l4_call(Structure):
-    _fields_ = numbers("kind to from timeouts acceptor address ip access control id space pager")
+    _fields_ = numbers("kind to from timeouts acceptor address ip access control id space pager") + [("reserved", c_uint32 * 4)]
 
 
 class l4_answer(Structure):
-    _fields_ = numbers("refusal detail outcome ended_count") + [("ended", c_uint32 * L4_MAX_THREADS)]
+    _fields_ = numbers("refusal detail outcome ended_count") + [("ended", c_uint32 * L4_MAX_THREADS), ("reserved", c_uint32 * 2)]
 
 
 class l4_step(Structure):
-    _fields_ = numbers("refusal kind thread receiver outcome ended_count") + [("ended", c_uint32 * 2)]
+    _fields_ = numbers("refusal kind thread receiver outcome ended_count") + [("ended", c_uint32 * 2), ("reserved", c_uint32 * 2)]
 
 
 class l4_entered(Structure):
@@ -144,7 +154,7 @@ class l4_entered(Structure):
 
 
 class l4_reply(Structure):
-    _fields_ = numbers("refusal kind tag error from word_count") + [("words", c_uint32 * L4_MAX_WORDS)]
+    _fields_ = numbers("refusal kind tag error from word_count") + [("words", c_uint32 * L4_MAX_WORDS), ("reserved", c_uint32 * 2)]
 
 
 class l4_space(Structure):
@@ -160,7 +170,7 @@ class l4_page_size(Structure):
 
 
 class l4_mapping(Structure):
-    _fields_ = numbers("refusal there frame rights has_parent parent_page") + [("parent_space", c_uint64)]
+    _fields_ = numbers("refusal there frame rights has_parent parent_page") + [("parent_space", c_uint64), ("reserved", c_uint32 * 2)]
 
 
 class l4_page(Structure):
@@ -241,7 +251,7 @@ class l4_receipt(Structure):
 
 class l4_link(Structure):
     _fields_ = [("entry", c_uint64), ("source_space", c_uint64), ("target_space", c_uint64)] + numbers(
-        "source_page target_page grant source_rights item_rights"
+        "source_page target_page grant source_rights item_rights reserved"
     )
 
 
@@ -288,10 +298,13 @@ REGION = POINTER(l4_region)
 LOCK = POINTER(l4_lock)
 LINKS = POINTER(l4_link)
 
-# each function's result and parameters
+# the result and the parameters of each function
 FUNCTIONS: Dict[str, Tuple[Any, List[Any]]] = {
+    "l4_version": (c_uint32, []),
     "l4_refusal_code": (c_size_t, [c_uint32, c_char_p, c_size_t]),
     "l4_refusal_text": (c_size_t, [c_uint32, c_char_p, c_size_t]),
+    "l4_reply_text": (c_size_t, [c_uint32, POINTER(l4_reply), c_char_p, c_size_t]),
+    "l4_step_text": (c_size_t, [POINTER(l4_step), c_char_p, c_size_t]),
     "l4_boot": (c_uint32, [KERNEL, c_uint32]),
     "l4_boot_sized": (c_uint32, [KERNEL, c_uint32, c_uint32]),
     "l4_copy": (c_uint32, [KERNEL, KERNEL]),
@@ -347,15 +360,43 @@ FUNCTIONS: Dict[str, Tuple[Any, List[Any]]] = {
 }
 
 
+# what to do if the library cannot be used
+GET = "Run l4_build.py to copy the library beside the package's modules, or set L4_LIBRARY to its file"
+
+
+def version_text(version: int) -> str:
+    """Returns the text of a version number, such as "0.1.0"."""
+    return f"{version // 1_000_000}.{version // 1_000 % 1_000}.{version % 1_000}"
+
+
+def check_version(file: str, shared: ctypes.CDLL) -> None:
+    """Raises ImportError if the library has another version than this module needs, since its structs may have another layout."""
+
+    def line(number: int) -> int:
+        return number - number % (1_000 if number < 1_000_000 else 1_000_000)
+
+    function = getattr(shared, "l4_version", None)
+    if function is None:
+        raise ImportError(f"{file} is not the library of this package: it has no function l4_version. {GET}")
+    function.restype, function.argtypes = c_uint32, []
+    version = function()
+    if line(version) != line(L4_VERSION) or version < L4_VERSION:
+        raise ImportError(f"{file} is libl4 {version_text(version)}, but this package needs libl4 {version_text(L4_VERSION)}. {GET}")
+
+
 def load() -> ctypes.CDLL:
-    """The shared library that L4_LIBRARY names, or else the one beside this file."""
+    """Loads the shared library that L4_LIBRARY names, or else the one beside this file. Raises ImportError if it cannot be loaded, has another
+    version, or lacks a function of the header."""
     file = os.environ.get("L4_LIBRARY") or str(Path(__file__).resolve().parent / "libl4.so")
     try:
         shared = ctypes.CDLL(file)
     except OSError as fault:
-        raise ImportError(f"{file} can't be loaded: {fault}. build.py puts it there, and L4_LIBRARY names another") from fault
+        raise ImportError(f"{file} can't be loaded: {fault}. {GET}") from fault
+    check_version(file, shared)
     for name, (result, parameters) in FUNCTIONS.items():
-        function = getattr(shared, name)
+        function = getattr(shared, name, None)
+        if function is None:
+            raise ImportError(f"{file} is not the library of this package: it has no function {name}. {GET}")
         function.restype = result
         function.argtypes = parameters
     return shared
@@ -365,7 +406,7 @@ library = load()
 
 
 class Forks:
-    """The library may not be called in a process that was forked while it had other threads."""
+    """Detects a process that was forked while its parent had several threads. The library must not be called in such a process."""
 
     thread_count = 1
     among_threads = False
@@ -380,9 +421,12 @@ class Forks:
 
     @classmethod
     def check(cls) -> None:
-        """RuntimeError in such a process."""
+        """Raises RuntimeError in such a process."""
         if cls.among_threads:
-            raise RuntimeError("the process was forked while it had other threads")
+            raise RuntimeError(
+                "l4 cannot be used in this process, which was forked while its parent had several threads. Start the process with the "
+                "spawn method, as multiprocessing.get_context('spawn') does, or fork before you start threads"
+            )
 
 
 if hasattr(os, "register_at_fork"):
@@ -390,37 +434,38 @@ if hasattr(os, "register_at_fork"):
 
 
 def number(value: int, what: str, bits: int = 32) -> int:
-    """The value, which the library takes as it is: ctypes would cut off what is above these bits."""
+    """Returns the value if it fits this number of bits, since ctypes would cut off the higher bits. Raises TypeError for a value that is
+    not a number, and ValueError for one that does not fit."""
     try:
         value = operator.index(value)
     except TypeError:
         raise TypeError(f"{what} is a number: {value!r}") from None
     if not 0 <= value < 1 << bits:
-        raise ValueError(f"{what} has {bits} bits: {value}")
+        raise ValueError(f"{what} is from 0 to {(1 << bits) - 1}: {value}")
     return value
 
 
 def of_type(value: Any, kind: type, what: str) -> Any:
-    """The value; TypeError where it isn't of this type."""
+    """Returns the value; raises TypeError if it is not of this type."""
     if not isinstance(value, kind):
         raise TypeError(f"{what} is a {kind.__name__}: {value!r}")
     return value
 
 
 def array(values: Sequence[int]) -> Any:
-    """The values as C takes them, at an address of their own also where there are none."""
+    """Returns the values as a C array, which has an address even if there are no values."""
     return (c_uint32 * max(len(values), 1))(*values)
 
 
 def refusal_code(refusal: int) -> str:
-    """The printed code of a refusal; nothing for a number that is none."""
+    """Returns the printed code of a refusal, or an empty text for a number that is not a refusal."""
     text = ctypes.create_string_buffer(TEXT_ROOM)
     library.l4_refusal_code(refusal, text, TEXT_ROOM)
     return text.value.decode()
 
 
 def refusal_text(refusal: int) -> str:
-    """The line of text of a refusal; nothing for a number that is none."""
+    """Returns the text of a refusal, or an empty text for a number that is not a refusal."""
     text = ctypes.create_string_buffer(TEXT_ROOM)
     library.l4_refusal_text(refusal, text, TEXT_ROOM)
     return text.value.decode()

@@ -9,7 +9,7 @@ from ._library import number, of_type
 from ._shown import hexadecimal
 from .words import Fpage, Message, Rights, ThreadId, Timeout, timeouts, words_of
 
-# each kind with its name in a list of steps
+# the name of each kind in a step list
 _NAMES = {
     _library.L4_IPC: "ipc",
     _library.L4_FAULT: "fault",
@@ -19,7 +19,7 @@ _NAMES = {
     _library.L4_DELETE: "delete",
 }
 
-# the members of each kind
+# the members of l4_call that each kind uses
 _MEMBERS = {
     _library.L4_IPC: "to from timeouts acceptor",
     _library.L4_FAULT: "address ip access",
@@ -33,19 +33,19 @@ _TIMEOUTS = {0: "", _library.L4_ZERO_TIMEOUT: " at once"}
 
 
 def _id(value: ThreadId, what: str) -> int:
-    """The word of a thread id; TypeError for a bare number, which may be a thread's number."""
+    """Returns the word of a thread id. Raises TypeError for a plain number, which may be meant as a thread number."""
     if not isinstance(value, ThreadId):
         raise TypeError(f"{what} is a ThreadId, as ThreadId.of(3) is thread 3's: {value!r}")
     return value.word
 
 
 def _window(window: Optional[Fpage]) -> int:
-    """The acceptor word of a receive window."""
+    """Returns the acceptor word of a receive window."""
     return 0 if window is None else int(of_type(window, Fpage, "a window").word)
 
 
 def _fpage_text(word: int) -> str:
-    """The fpage of a word, in words."""
+    """Returns the fpage of a word as text."""
     try:
         return str(Fpage.read(word))
     except ValueError:
@@ -54,9 +54,10 @@ def _fpage_text(word: int) -> str:
 
 @dataclass(frozen=True, repr=False)
 class Call:
-    """A call of a thread, which `Kernel.start` and `Kernel.enter` begin; one of the functions below makes it.
+    """A call of a thread, which `Kernel.start` and `Kernel.enter` begin. The class methods below make calls.
 
-    It is shown as in a list of steps, with each word in hexadecimal, and then in words:
+    A call is immutable, belongs to no kernel, and can be started many times. `repr` shows it as in a step list, with its words in
+    hexadecimal, and then as text:
 
     >>> Call.send(ThreadId.of(3), Message((0x80, 0x20008, 0x100c7)))
     <Call ipc 0x0000c001 0x00000000 0x00000000 0x00000000 0x00000080 0x00020008 0x000100c7: send to thread 3: label 0x0000; map 4 KiB at \
@@ -74,16 +75,16 @@ class Call:
 
     @classmethod
     def told(cls, given: _library.l4_call, words: Tuple[int, ...]) -> Call:
-        """The call that the library tells of a history or a receipt."""
+        """Returns the call that the library reports in a history or a receipt."""
         members = {name: getattr(given, name) for name in _MEMBERS[given.kind].split()}
         return cls._of_kind(given.kind, members, words)
 
     @classmethod
     def ipc(cls, to: ThreadId, source: ThreadId, timeout_word: int, acceptor: int, message: Message) -> Call:
-        """An Ipc by its words: a send phase unless `to` is nil, then a receive phase unless `source` is.
+        """Makes an Ipc from its words: a send phase unless `to` is nil, and then a receive phase unless `source` is nil.
 
-        Refused, in this order, by K4 for its timeouts, M7, M1, M5, M2, M4 or M3 for its message, and M6 for its window (bits 31 to 4 of
-        `acceptor`); the calls below have good timeouts and windows.
+        The kernel refuses it, in this order, with K4 for its timeouts; M7, M1, M5, M2, M4 or M3 for its message; and M6 for its window
+        (bits 31 to 4 of `acceptor`). The timeouts and windows of the methods below are always valid.
         """
         words = of_type(message, Message, "what is sent").words
         partners = {"to": _id(to, "whom an Ipc is sent to"), "from": _id(source, "whom an Ipc receives from")}
@@ -91,14 +92,15 @@ class Call:
 
     @classmethod
     def send(cls, to: ThreadId, message: Message, timeout: Timeout = Timeout.NEVER) -> Call:
-        """Sends the message, and receives nothing (L4 X.2 manual, Send)."""
+        """Sends a message to a thread, without a receive phase (L4 X.2 manual, Send)."""
         return cls.ipc(to, ThreadId.NIL, timeouts(timeout, Timeout.NEVER), 0, message)
 
     @classmethod
     def receive(cls, source: ThreadId = ThreadId.ANY, window: Optional[Fpage] = None, timeout: Timeout = Timeout.NEVER) -> Call:
-        """Receives a message of this thread, or of anybody, and accepts pages in the window (L4 X.2 manual, Receive and Wait).
+        """Receives a message from the thread `source`, or from any thread (L4 X.2 manual, Receive and Wait).
 
-        No window is the nil fpage; its rights mean nothing.
+        The window says where the caller accepts pages; its rights are ignored. Without a window it is nil, and no message with items can be
+        delivered.
         """
         return cls.ipc(ThreadId.NIL, source, timeouts(Timeout.NEVER, timeout), _window(window), Message())
 
@@ -111,7 +113,7 @@ class Call:
         send: Timeout = Timeout.NEVER,
         receive: Timeout = Timeout.NEVER,
     ) -> Call:
-        """Sends the message to a thread and receives that thread's answer (L4 X.2 manual, Call)."""
+        """Sends a message to a thread, and then receives that thread's answer (L4 X.2 manual, Call)."""
         return cls.ipc(to, to, timeouts(send, receive), _window(window), message)
 
     @classmethod
@@ -123,57 +125,61 @@ class Call:
         send: Timeout = Timeout.NEVER,
         receive: Timeout = Timeout.NEVER,
     ) -> Call:
-        """Sends the message to a thread and receives anybody's message (L4 X.2 manual, ReplyWait)."""
+        """Sends a message to a thread, and then receives a message from any thread (L4 X.2 manual, ReplyWait)."""
         return cls.ipc(to, ThreadId.ANY, timeouts(send, receive), _window(window), message)
 
     @classmethod
     def fault(cls, address: int, ip: int, access: Rights) -> Call:
-        """A page fault at the address by the instruction at `ip`, both in bytes, by an access that needs these rights.
+        """Reports a page fault at `address`, by the instruction at `ip`, both in bytes, for an access that needs these rights.
 
-        Where the page isn't there with them, it goes to the thread's pager as a message (L4 X.2 manual, Page Fault Protocol).
+        If the page is not present with these rights, the kernel sends the fault to the thread's pager as a message (L4 X.2 manual, Page
+        Fault Protocol).
         """
         needed = of_type(access, Rights, "what an access needs").value
         return cls._of_kind(_library.L4_FAULT, {"address": address, "ip": ip, "access": needed})
 
     @classmethod
     def unmap(cls, fpages: Iterable[Fpage], own: bool = False) -> Call:
-        """Takes the rights that 1 to 64 fpages name from all that was mapped from the caller's pages in them, and with `own` from those
-        pages too (L4 X.2 manual, Unmap)."""
+        """Revokes the rights that the fpages name from every page that was mapped from the caller's pages in them (L4 X.2 manual, Unmap).
+
+        If `own` is true, the caller's pages lose these rights too. Raises ValueError if there are no fpages, or more than 64.
+        """
         words = tuple(of_type(fpage, Fpage, "what is unmapped").word for fpage in fpages)
         if not words:
-            raise ValueError("an Unmap has an fpage")
-        return cls.unmap_words(own << 6 | (len(words) - 1) & 0x3F, words)
+            raise ValueError("an Unmap needs at least one fpage")
+        return cls.unmap_words(bool(own) << 6 | (len(words) - 1) & 0x3F, words)
 
     @classmethod
     def unmap_words(cls, control: int, words: Iterable[int]) -> Call:
-        """An Unmap by its words: bit 6 of `control` means the caller's own pages too, and bits 5 to 0 are k where the words 0 to k are
-        fpages. Refused, in this order, by U2 and U1."""
+        """Makes an Unmap from its words. Bit 6 of `control` means that the caller's own pages lose the rights too; bits 5 to 0 are k,
+        and the words 0 to k are fpages. The kernel refuses it, in this order, with U2 and U1."""
         return cls._of_kind(_library.L4_UNMAP, {"control": control}, words_of(words, "a word of an Unmap"))
 
     @classmethod
     def create(cls, thread_id: ThreadId, space: ThreadId, pager: ThreadId = ThreadId.NIL) -> Call:
-        """Makes a thread of this id, in the space of the thread `space` or, where that is the id itself, in a new space (L4 X.2 manual,
-        ThreadControl). Refused by H1 to H5, and by NoMemory where the space is new."""
+        """Creates a thread with this id, in the space of the thread `space`, or in a new space if `space` is the same id (L4 X.2 manual,
+        ThreadControl). The kernel refuses it with H1 to H5, and with NoMemory for a new space."""
         given = {"id": _id(thread_id, "the thread"), "space": _id(space, "the thread of the space"), "pager": _id(pager, "the pager")}
         return cls._of_kind(_library.L4_CREATE, given)
 
     @classmethod
     def set_pager(cls, thread_id: ThreadId, pager: ThreadId) -> Call:
-        """Gives a thread another pager (L4 X.2 manual, ThreadControl). Refused by H1 and H4."""
+        """Sets the pager of a thread (L4 X.2 manual, ThreadControl). The kernel refuses it with H1 and H4."""
         return cls._of_kind(_library.L4_SET_PAGER, {"id": _id(thread_id, "the thread"), "pager": _id(pager, "the pager")})
 
     @classmethod
     def delete(cls, thread_id: ThreadId) -> Call:
-        """Ends a thread, and its space with its last one (L4 X.2 manual, ThreadControl). Refused by H1, H4 and H6."""
+        """Deletes a thread, and its space if the thread is the last one in it (L4 X.2 manual, ThreadControl). The kernel refuses it with
+        H1, H4 and H6."""
         return cls._of_kind(_library.L4_DELETE, {"id": _id(thread_id, "the thread")})
 
     @property
     def words(self) -> Tuple[int, ...]:
-        """The words of its message, or of its Unmap."""
+        """Returns the words of the call's message or Unmap."""
         return self._words
 
     def given(self) -> _library.l4_call:
-        """What the library reads."""
+        """Returns the struct that the library reads."""
         return _library.l4_call(**dict(self._members))
 
     def __str__(self) -> str:
@@ -193,7 +199,7 @@ class Call:
 
     @property
     def line(self) -> str:
-        """The call as in a list of steps, with each word in hexadecimal."""
+        """Returns the call as in a step list, with each word in hexadecimal."""
         (_, kind), *members = self._members
         words = [*(value for _, value in members), *self._words]
         return f"{_NAMES[kind]} {hexadecimal(words)}"
@@ -203,7 +209,7 @@ class Call:
 
 
 def _ipc_text(to: int, source: int, timeout_word: int, acceptor: int, words: Tuple[int, ...]) -> str:
-    """An Ipc, in words."""
+    """Returns an Ipc as text."""
     waits = [_TIMEOUTS.get(bits, f" with timeout {bits:#06x}") for bits in (timeout_word >> 16, timeout_word & 0xFFFF)]
     parts = []
     if to != _library.L4_NILTHREAD:

@@ -1,4 +1,4 @@
-"""Drawings of mappings: trees as DOT text, which Graphviz draws, or as SVG, which notebooks show, and tables as HTML."""
+"""Drawings of mappings: trees as DOT text for Graphviz or as SVG for notebooks, and tables as HTML."""
 from __future__ import annotations
 
 from dataclasses import dataclass
@@ -7,23 +7,23 @@ from typing import Dict, List, Tuple
 from ._shown import table
 from .kernel import Kernel, Mapping, Place
 
-#: The greatest number of mappings that are drawn as SVG, or stand in a table.
+#: The largest number of mappings that are drawn as SVG, or listed in a table.
 MOST_SHOWN = 256
 
-# of a box in SVG, and of the room between two
+# the size of a box in SVG, and the gaps between two boxes
 _WIDTH, _HEIGHT, _GAP, _DROP = 104, 66, 12, 30
 
 
 @dataclass(frozen=True)
 class Tree:
-    """Mappings, each below the one that it was mapped from.
+    """A tree of mappings, each below the one from which it was mapped.
 
-    `str` gives it as DOT text. A notebook shows it as SVG; of more than 256 mappings that has the first.
+    `str` returns DOT text. A notebook shows the tree as SVG, which has at most the first 256 mappings.
     """
 
     name: str
     mappings: Tuple[Mapping, ...]
-    #: Mappings of other spaces, which are drawn with dashed lines.
+    #: Mappings of other spaces, drawn with dashed lines.
     beside: Tuple[Mapping, ...] = ()
 
     def __str__(self) -> str:
@@ -32,7 +32,7 @@ class Tree:
         return "\n".join([f"digraph {self.name} {{", "    node [shape=box];", *nodes, *edges, "}"]) + "\n"
 
     def svg(self) -> str:
-        """The tree as SVG. Each box has the attributes `data-space` and `data-page`."""
+        """Returns the tree as SVG. Each box has the attributes `data-space` and `data-page`."""
         everything, aside = (*self.beside, *self.mappings), {mapping.place for mapping in self.beside}
         shown = {mapping.place: mapping for mapping in everything[:MOST_SHOWN]}
         spots = _spots(shown)
@@ -51,7 +51,7 @@ class Tree:
 
 @dataclass(frozen=True)
 class Table:
-    """The mappings of a space, which a notebook shows as a table; of more than 256 it has the first."""
+    """The mappings of a space, which a notebook shows as an HTML table with at most the first 256 mappings."""
 
     space: int
     mappings: Tuple[Mapping, ...]
@@ -73,19 +73,19 @@ def _name(place: Place) -> str:
 
 
 def _lines(mapping: Mapping) -> List[str]:
-    """What stands in the box of a mapping."""
+    """Returns the lines of text in the box of a mapping."""
     place = mapping.place
     return [f"space {place.space}", f"page {place.page}", f"frame {mapping.frame}", str(mapping.rights)]
 
 
 def _node(mapping: Mapping, mark: str = "") -> str:
-    """The node of a mapping."""
+    """Returns the DOT node of a mapping."""
     label = "\\n".join(_lines(mapping))
     return f'    {_name(mapping.place)} [label="{label}"{mark}];'
 
 
 def _spots(shown: Dict[Place, Mapping]) -> Dict[Place, Tuple[float, int]]:
-    """The column and row of each mapping: leaves side by side, and each parent above the middle of its children."""
+    """Returns the column and row of each mapping: leaves side by side, and each parent above the middle of its children."""
     children: Dict[Place, List[Place]] = {place: [] for place in shown}
     for place, mapping in shown.items():
         if mapping.parent in children:
@@ -108,7 +108,7 @@ def _spots(shown: Dict[Place, Mapping]) -> Dict[Place, Tuple[float, int]]:
 
 
 def _corner(spot: Tuple[float, int]) -> Tuple[int, int]:
-    """The left upper corner of the box at this column and row."""
+    """Returns the upper left corner of the box at this column and row."""
     return int(spot[0] * (_WIDTH + _GAP)) + 2, spot[1] * (_HEIGHT + _DROP) + 2
 
 
@@ -126,7 +126,8 @@ def _box(mapping: Mapping, spot: Tuple[float, int], is_beside: bool) -> str:
 
 
 def frame(kernel: Kernel, number: int) -> Tree:
-    """The mapping tree of a frame: sigma0's page, and what was mapped from it in all spaces. ValueError where there is no such frame."""
+    """Returns the mapping tree of a frame: all its mappings in every space, each below its parent. The root is sigma0's boot page, or
+    the page to which that was granted. Raises ValueError if there is no such frame."""
     if not 0 <= number < kernel.frames:
         raise ValueError(f"there is no frame {number}: the machine has {kernel.frames}, from 0 on")
     everything = (mapping for space in kernel.spaces() for mapping in kernel.mappings(space))
@@ -134,15 +135,15 @@ def frame(kernel: Kernel, number: int) -> Tree:
 
 
 def _mappings(kernel: Kernel, number: int) -> Tuple[Mapping, ...]:
-    """The mappings of a space that is there."""
+    """Returns the mappings of a space. Raises ValueError if there is no such space."""
     if number not in kernel.spaces():
         raise ValueError(f"there is no space {number}, but {', '.join(map(str, kernel.spaces()))}")
     return tuple(kernel.mappings(number))
 
 
 def space(kernel: Kernel, number: int) -> Tree:
-    """The mappings of a space, with the pages of other spaces that they were mapped from, which have dashed lines. ValueError where there
-    is no such space."""
+    """Returns the mappings of a space, with the pages of other spaces from which they were mapped; these have dashed lines. Raises
+    ValueError if there is no such space."""
     shown = _mappings(kernel, number)
     parents: Dict[Place, Mapping] = {}
     for mapping in shown:
@@ -155,5 +156,5 @@ def space(kernel: Kernel, number: int) -> Tree:
 
 
 def pages(kernel: Kernel, number: int) -> Table:
-    """The mappings of a space as a table. ValueError where there is no such space."""
+    """Returns the mappings of a space as a table. Raises ValueError if there is no such space."""
     return Table(number, _mappings(kernel, number))

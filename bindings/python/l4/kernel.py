@@ -1,4 +1,4 @@
-"""Kernels, their steps, and what there is to be seen."""
+"""Kernels, their steps, and queries about their state."""
 from __future__ import annotations
 
 import enum
@@ -20,21 +20,21 @@ class Outcome(enum.Enum):
 
     #: A call was started.
     STARTED = _library.L4_STARTED
-    #: A transfer: the message was delivered, and its used moves were done.
+    #: A transfer: the message was delivered, and its map and grant items were executed.
     DELIVERED = _library.L4_DELIVERED
     #: A transfer: the message has items and the receiver's window is nil; both calls failed.
     NO_WINDOW = _library.L4_NO_WINDOW
-    #: A transfer: the message's moves contradict each other; both calls failed.
+    #: A transfer: the message's items conflict; both calls failed.
     ENTANGLED = _library.L4_ENTANGLED
-    #: A transfer: a growth was refused; both calls failed, and no page moved.
+    #: A transfer: an allocation failed; both calls failed, and no page moved.
     WANTS_MEMORY = _library.L4_WANTS_MEMORY
-    #: A wait with a timeout of zero ended.
+    #: A wait with a timeout of zero expired.
     EXPIRED = _library.L4_EXPIRED
 
 
 @dataclass(frozen=True)
 class Transfer:
-    """The step in which the sender's message goes to the receiver, both by their numbers."""
+    """The step that delivers the sender's message to the receiver; both are thread numbers."""
 
     sender: int
     receiver: int
@@ -42,20 +42,20 @@ class Transfer:
 
 @dataclass(frozen=True)
 class Expire:
-    """The step in which the thread's wait with a timeout of zero ends."""
+    """The step that ends the thread's wait with a timeout of zero."""
 
     thread: int
 
 
-#: A step that is done without a call's being started.
+#: A step that does not start a call.
 Step = Union[Transfer, Expire]
 
 
 @dataclass(frozen=True)
 class Answer:
-    """What a step did, and the numbers of the threads whose calls ended in it.
+    """The outcome of a step, and the numbers of the threads whose calls ended in it.
 
-    Of a transfer they are the sender and then the receiver; of a Delete the caller and then the others by rising number.
+    After a transfer these are the sender and then the receiver; after a Delete, the caller and then the others by rising number.
     """
 
     outcome: Outcome
@@ -64,7 +64,7 @@ class Answer:
 
 @dataclass(frozen=True)
 class Done:
-    """A step that was done, with what it did and the numbers of the threads whose calls ended in it."""
+    """An executed step, its outcome, and the numbers of the threads whose calls ended in it."""
 
     step: Step
     outcome: Outcome
@@ -82,19 +82,19 @@ class Entered:
 class ReplyKind(enum.Enum):
     """How a call ended."""
 
-    #: An Ipc ended, with a message or without, or failed.
+    #: An Ipc ended with or without a message, or failed.
     IPC = _library.L4_REPLY_IPC
-    #: A fault: the page is there with the rights that the access needs.
+    #: A fault: the page is present with the rights that the access needs.
     HIT = _library.L4_REPLY_HIT
     #: A fault that the pager answered.
     ANSWERED = _library.L4_REPLY_ANSWERED
     #: A fault that failed.
     FAILED = _library.L4_REPLY_FAILED
-    #: An Unmap was done.
+    #: An Unmap was executed.
     UNMAPPED = _library.L4_REPLY_UNMAPPED
-    #: A control of threads was done.
+    #: A Create, SetPager or Delete was executed.
     CONTROLLED = _library.L4_REPLY_CONTROLLED
-    #: The thread is gone.
+    #: The thread was deleted.
     GONE = _library.L4_REPLY_GONE
 
 
@@ -110,10 +110,10 @@ _ENDS = {
 
 @dataclass(frozen=True, repr=False)
 class Reply:
-    """How a thread's last call ended.
+    """The result of a thread's last call.
 
-    `error` is the ErrorCode of an Ipc or a fault that failed, else 0. The rest is of an Ipc: `tag` is the message's (0x8000 where the
-    call failed), `sender` is who sent it, or `ThreadId.NIL`, and `words` are those after the tag, at most 63.
+    `error` is the ErrorCode of an Ipc or a fault that failed, and otherwise 0. The other members are for an Ipc: `tag` is the message's tag
+    (0x8000 if the call failed), `sender` is the sender's thread id or `ThreadId.NIL`, and `words` are the words after the tag, at most 63.
 
     >>> Reply(ReplyKind.IPC, 0x70001, 0, ThreadId.SIGMA0, (5,))
     <Reply ipc 0x00070001 0x00000005: message of thread 1: label 0x0007; 1 untyped>
@@ -126,29 +126,29 @@ class Reply:
     words: Tuple[int, ...] = ()
 
     def check(self) -> Reply:
-        """The reply itself; IpcFailed where it has an ErrorCode."""
+        """Returns the reply itself; raises IpcFailed if it has an ErrorCode."""
         if self.error:
             raise IpcFailed(self.error)
         return self
 
     @property
     def message(self) -> Message:
-        """The message, the tag first, as a pager's table and sigma0's are asked to answer it."""
+        """Returns the message, the tag first. Pass it to `Pager.answer` or `Sigma0.answer` to compute the answer."""
         return Message((self.tag, *self.words))
 
     @property
     def label(self) -> int:
-        """The message's label."""
+        """Returns the message's label."""
         return self.tag >> 16
 
     @property
     def untyped(self) -> Tuple[int, ...]:
-        """The message's words before its items."""
+        """Returns the message's untyped words, which come before its items."""
         return self.words[: self.tag & 0x3F]
 
     @property
     def items(self) -> Tuple[Item, ...]:
-        """The message's items."""
+        """Returns the message's items."""
         return items_of(self.words[self.tag & 0x3F :])
 
     def __str__(self) -> str:
@@ -165,7 +165,7 @@ class Reply:
 
 @dataclass(frozen=True, order=True)
 class Place:
-    """A page of a space, both by their numbers."""
+    """A page of a space, by the numbers of both."""
 
     space: int
     page: int
@@ -173,7 +173,11 @@ class Place:
 
 @dataclass(frozen=True)
 class Mapping:
-    """What a present page shows; the parent is the page that it was mapped from, None for sigma0's own."""
+    """The frame and the rights of a present page, and its parent.
+
+    The parent is the page from which the page was mapped; a granted page keeps the parent that it had before the grant. It is None for
+    sigma0's boot pages, also after a grant of them.
+    """
 
     place: Place
     frame: int
@@ -182,7 +186,7 @@ class Mapping:
 
 
 def reply_of(told: _library.l4_reply) -> Optional[Reply]:
-    """The reply that the library tells; None where there is none."""
+    """Returns the reply that the library reports, or None if there is none."""
     if told.kind == _library.L4_NONE:
         return None
     words = tuple(told.words[: told.word_count])
@@ -190,7 +194,7 @@ def reply_of(told: _library.l4_reply) -> Optional[Reply]:
 
 
 def step_of(kind: int, thread: int, receiver: int) -> Optional[Step]:
-    """The step of this kind and of these threads; None where there is none."""
+    """Returns the step of this kind and of these threads, or None if there is none."""
     if kind == _library.L4_TRANSFER:
         return Transfer(thread, receiver)
     return Expire(thread) if kind == _library.L4_EXPIRE else None
@@ -212,13 +216,14 @@ def _answer(told: _library.l4_answer) -> Answer:
 
 
 class Kernel(Handle):
-    """A kernel with its threads, spaces and mappings, as it boots with 1 to 4,096 frames; other numbers are refused by K6.
+    """A kernel with its threads, spaces and mappings.
 
-    Its pages and frames have 4,096 bytes, or 1,024 where that is asked for; other numbers of bytes are refused by B4.
+    `Kernel(frames, page_bytes)` boots a machine with 1 to 4,096 frames; its pages and frames have 4,096 or 1,024 bytes. The refusals, in
+    this order, are B4 for any other page size, K6 for any other number of frames, and NoMemory. sigma0 is thread 1 in space 0, where frame
+    i is mapped at page i with all rights. root is thread 2 in space 1, which is empty.
 
-    sigma0 is thread 1 in space 0, which shows each frame at the page of its number with all rights; root is thread 2 in space 1, which
-    shows none. Threads go by their numbers here. A kernel may be used from several threads, one call after another. It is freed by
-    `close`, at the end of a `with`, or with its last reference; from then on each call raises ValueError.
+    The methods name threads by their numbers. Several threads of a program may use one kernel: calls run one at a time. The kernel is freed
+    by `close`, at the end of a `with` block, or with its last reference. Every call after `close` raises ValueError.
 
     >>> from l4 import Call, Fpage, Item, Message, Rights, ThreadId
     >>> with Kernel(256) as kernel:
@@ -235,10 +240,10 @@ class Kernel(Handle):
         self._frames = given[0]
 
     def copy(self) -> Kernel:
-        """The same machine, in memory of its own.
+        """Returns a copy of the kernel, in memory of its own.
 
-        It has each thread with what it is doing and its message registers, the queue of senders, each space, and what each page shows. What
-        is done with the one is not seen in the other, so a run can be taken both ways. Refused by NoMemory.
+        The copy has each thread with what it is doing and its message registers, the queue of senders, every space, and every mapping.
+        Changes to one kernel are not visible in the other, so you can try two continuations of one run. Refused with NoMemory.
 
         >>> from l4 import Call, Message, ThreadId, Timeout
         >>> kernel = Kernel(1)
@@ -256,16 +261,16 @@ class Kernel(Handle):
 
     @property
     def frames(self) -> int:
-        """The number of frames, with which it was booted."""
+        """Returns the number of frames with which the kernel was booted."""
         return self._frames
 
     @property
     def page_bytes(self) -> int:
-        """The bytes of a page and of a frame, with which it was booted."""
+        """Returns the size in bytes of a page and of a frame, with which the kernel was booted."""
         return self._told(self._ask(library.l4_page_size_of)).page_bytes
 
     def _begin(self, function: Callable[..., Any], thread: int, call: Call, *rest: Any) -> Any:
-        """What the library answers to the call."""
+        """Passes a call to the library, and returns its result."""
         words = of_type(call, Call, "what a thread starts").words
         given = (byref(call.given()), _library.array(words), len(words))
         return self._ask(function, number(thread, "a thread number"), *given, *rest)
@@ -273,14 +278,14 @@ class Kernel(Handle):
     def start(self, thread: int, call: Call) -> Answer:
         """Starts a call of a thread.
 
-        A call that needs no partner, or finds that there can be none, ends at once, and any other waits. Refused, in this order, by K2,
-        K3, K4, then by those of the message and the window (M7, M1, M5, M2, M4 or M3; M6), of an Unmap (U2, U1), or of a control of
-        threads (H1 to H6; NoMemory of a Create in a new space).
+        The call ends at once if it needs no partner or can have none; otherwise the thread waits. Refused, in this order, with K2, K3, K4;
+        then with those of the message (M7, M1, M5, M2, M4 or M3) and the window (M6), of an Unmap (U2, U1), or of a Create, SetPager or
+        Delete (H1 to H6; NoMemory for a Create in a new space).
         """
         return _answer(self._told(self._begin(library.l4_start, thread, call)))
 
     def enter(self, thread: int, call: Call) -> Entered:
-        """Starts a call as `start` does, and then does the steps that come next until there is none."""
+        """Starts a call as `start` does, and then executes the next step until no step is enabled. Refused as `start` is."""
         steps = (_library.l4_step * MAX_THREADS)()
         told = self._begin(library.l4_enter, thread, call, steps, MAX_THREADS)
         start = _answer(self._told(told.start))
@@ -288,43 +293,46 @@ class Kernel(Handle):
         return Entered(start, tuple(step for step in done if step))
 
     def transfer(self, sender: int, receiver: int) -> Answer:
-        """The message of the sender goes to the receiver.
+        """Delivers the sender's message to the receiver.
 
-        Refused by K1 where the sender doesn't wait to send to the receiver, or the receiver not for a message of the sender.
+        Refused with K1 if the sender does not wait to send to this receiver, or the receiver does not wait for a message from this sender.
         """
         partners = number(sender, "a thread number"), number(receiver, "a thread number")
         return _answer(self._told(self._ask(library.l4_transfer, *partners)))
 
     def expire(self, thread: int) -> Answer:
-        """The thread's wait with a timeout of zero ends. Refused by K1 where it doesn't wait so."""
+        """Ends the thread's wait with a timeout of zero. Refused with K1 if the thread has no such wait."""
         return _answer(self._told(self._ask(library.l4_expire, number(thread, "a thread number"))))
 
     def enabled(self) -> Optional[Step]:
-        """The step that comes next where no call is started; None where no step is enabled.
+        """Returns the step that is executed next if no call is started, or None if no step is enabled.
 
-        It is the enabled transfer whose sender waits longest, and where there is none the enabled expiry of the least number.
+        This is the enabled transfer whose sender has waited longest or, if no transfer is enabled, the enabled expiry of the lowest thread
+        number.
         """
         return _step(self._told(self._ask(library.l4_enabled)))
 
     def next(self) -> Optional[Done]:
-        """Does the step that `enabled` names; None where there is none, and then nothing changes."""
+        """Executes the step that `enabled` returns. Returns None, and changes nothing, if there is none."""
         return _done(self._told(self._ask(library.l4_next)))
 
     def steps(self) -> Iterator[Done]:
-        """Does the steps that come next, one after another, until there is none."""
+        """Executes the next step again and again, until no step is enabled, and yields each."""
         return iter(self.next, None)
 
     def reply(self, thread: int) -> Optional[Reply]:
-        """The reply of the last ended call of a thread that runs; None where it waits, isn't there, or made no call yet."""
+        """Returns the reply of the thread's last call, which has ended. Returns None if the thread waits, does not exist, or has made no
+        call yet."""
         return reply_of(self._told(self._ask(library.l4_reply_of, number(thread, "a thread number"))))
 
     def space_of(self, thread: int) -> Optional[int]:
-        """The number of a thread's space; None where there is no such thread."""
+        """Returns the number of a thread's space, or None if there is no such thread."""
         told = self._told(self._ask(library.l4_space_of, number(thread, "a thread number")))
         return told.space if told.there else None
 
     def mapping(self, space: int, page: int) -> Optional[Mapping]:
-        """What a page of a space shows; None where it isn't present, also where there is no such space or page."""
+        """Returns the mapping of a page of a space, or None if the page is not present. `page` is from 0 to 4,294,967,295; a page of a
+        space that does not exist, or beyond the space, is not present."""
         place = number(space, "a space", 64), number(page, "a page")
         told = self._told(self._ask(library.l4_mapping_of, *place))
         if not told.there:
@@ -333,15 +341,15 @@ class Kernel(Handle):
         return Mapping(Place(space, page), told.frame, Rights.of_bits(told.rights), parent)
 
     def next_page(self, space: int, page: int) -> Optional[int]:
-        """The least present page of a space that is not below `page`; None where there is none."""
+        """Returns the lowest present page of a space that is not below `page`, or None if there is none."""
         place = number(space, "a space", 64), number(page, "a page")
         told = self._told(self._ask(library.l4_next_page, *place))
         return told.page if told.there else None
 
     def mappings(self, space: int) -> Iterator[Mapping]:
-        """The present pages of a space with what they show, by rising number.
+        """Yields the mappings of a space's present pages, by rising page number.
 
-        Steps may be done in between: a page is given where it is present as its turn comes.
+        You may execute steps in between: a page is yielded if it is present when its turn comes.
         """
         page = self.next_page(space, 0)
         while page is not None:
@@ -351,17 +359,17 @@ class Kernel(Handle):
             page = self.next_page(space, page + 1) if page + 1 < SMALL_SPACE_PAGES else None
 
     def threads(self) -> Tuple[int, ...]:
-        """The numbers of the threads, by rising number."""
+        """Returns the numbers of the threads, by rising number."""
         with self._turn:
             return tuple(self._listed(library.l4_next_thread, "thread"))
 
     def spaces(self) -> Tuple[int, ...]:
-        """The numbers of the spaces, by rising number."""
+        """Returns the numbers of the spaces, by rising number."""
         with self._turn:
             return tuple(self._listed(library.l4_next_space, "space"))
 
     def _listed(self, function: Callable[..., Any], member: str) -> Iterator[int]:
-        """The numbers that the library finds, each from the one after the last on."""
+        """Yields the numbers that the library function finds, each search starting after the number found last."""
         told = self._told(self._ask(function, 0))
         while told.there:
             found = getattr(told, member)

@@ -1,4 +1,4 @@
-"""Lists of steps, one step or question a line, in the language of the program l4_steps; `l4_steps --help` has it."""
+"""Step lists in the language of the program l4_steps, one step or query per line; `l4_steps --help` describes the language."""
 from __future__ import annotations
 
 import re
@@ -9,7 +9,7 @@ from .kernel import Answer, Expire, Kernel, Outcome, Reply, ReplyKind, Step, Tra
 from .refusals import Refused
 from .words import MAX_WORDS, Message, Rights, ThreadId
 
-#: The greatest number of bytes of a line.
+#: The largest number of bytes of a line.
 MAX_LINE = 4096
 
 _NUMBER = re.compile(rb"0x[0-9A-Fa-f]{1,8}|[0-9]{1,10}")
@@ -25,7 +25,7 @@ _OUTCOMES = {
 
 
 class Unread(Exception):
-    """A line that is no step and no question, or no whole line; its number is the first of `args`."""
+    """A line that is not a valid step or query, or is not a whole line. `args` has the line number and the reason."""
 
     def __init__(self, line: int, why: str) -> None:
         super().__init__(line, why)
@@ -35,7 +35,7 @@ class Unread(Exception):
 
 
 class _NoLine(Exception):
-    """What a line says is no step and no question."""
+    """Raised for a line that is not a valid step or query."""
 
 
 def _number(token: bytes) -> int:
@@ -48,7 +48,7 @@ def _number(token: bytes) -> int:
 
 
 def _call(kind: bytes, numbers: List[int]) -> Call:
-    """The call of this kind."""
+    """Returns the call of this kind."""
     if kind == b"ipc" and 4 <= len(numbers) <= 4 + MAX_WORDS:
         return Call.ipc(*map(ThreadId, numbers[:2]), *numbers[2:4], Message(tuple(numbers[4:])))
     if kind == b"fault" and len(numbers) == 3 and numbers[2] < 8:
@@ -76,7 +76,7 @@ def _reply(reply: Optional[Reply], none: str) -> str:
 
 
 def _answer(kernel: Kernel, step: Callable[[], Answer]) -> List[str]:
-    """The lines that answer the step."""
+    """Executes the step, and returns the lines that answer it."""
     try:
         answer = step()
     except Refused as refused:
@@ -102,7 +102,7 @@ def _pages(kernel: Kernel, space: int) -> List[str]:
 
 
 def _question(kernel: Kernel, name: bytes, numbers: List[int]) -> List[str]:
-    """The lines that answer a question."""
+    """Returns the lines that answer a query."""
     if name == b"enabled" and not numbers:
         return [_step(kernel.enabled())]
     if len(numbers) != 1:
@@ -118,7 +118,7 @@ def _question(kernel: Kernel, name: bytes, numbers: List[int]) -> List[str]:
 
 
 def _line(kernel: Kernel, line: bytes) -> List[str]:
-    """The lines that answer this one."""
+    """Returns the lines that answer this one."""
     tokens = [token for token in line.split(b" ") if token]
     if not tokens or line.startswith(b"#"):
         return []
@@ -136,18 +136,18 @@ def _line(kernel: Kernel, line: bytes) -> List[str]:
 
 
 def replay(kernel: Kernel, lines: Iterable[bytes]) -> Iterator[str]:
-    """Does the steps of a list's lines, each with its newline, and gives the lines that answer them.
+    """Executes the steps of a list, one line after another, and yields the lines that answer them. Each line ends with its newline.
 
-    Unread is raised at the first line that is no step and no question, has no newline, or has more than 4,096 bytes before it.
+    Raises Unread at the first line that is not a valid step or query, has no newline, or has more than 4,096 bytes before it.
     """
     for place, line in enumerate(lines, 1):
         whole = line.endswith(b"\n")
         line = line[:-1] if whole else line
         if len(line) > MAX_LINE:
-            raise Unread(place, f"has more than {MAX_LINE} bytes")
+            raise Unread(place, f"is longer than {MAX_LINE} bytes")
         if not whole:
-            raise Unread(place, "has no newline at its end")
+            raise Unread(place, "does not end with a newline")
         try:
             yield from _line(kernel, line)
         except _NoLine:
-            raise Unread(place, "is no step and no question") from None
+            raise Unread(place, "is not a valid step or query") from None

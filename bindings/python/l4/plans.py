@@ -14,11 +14,11 @@ from .words import PAGE_BYTES, Item, Message, Rights, items_of
 
 @dataclass(frozen=True)
 class Plan:
-    """The shortest list of map items that moves exactly a region of pages of so many bytes, in the fewest messages.
+    """The shortest list of map items that moves exactly a region, in the fewest messages. `Region.plan` makes it.
 
-    It has `item_count` items, 1 to 1,984, and `message_count` messages, 1 to 64, of which all but the last have 31 items. With each item
-    goes a page: one map item could move no two of them, which shows that no list is shorter. It holds no item: each message is asked for
-    as it is needed.
+    It has `item_count` items, 1 to 1,984, and `message_count` messages, 1 to 64; every message but the last has 31 items. With each item
+    goes one page, and no single map item could move two of these pages: this proves that no list is shorter. A plan stores no items. Each
+    message is computed when you request it.
 
     >>> plan = Region(0, 1, 40, Rights.ALL).plan()
     >>> plan.item_count, [len(message.words) for message in plan.messages()]
@@ -31,45 +31,46 @@ class Plan:
     message_count: int
 
     def message(self, k: int) -> Message:
-        """The message with this number, from 0, with label 0 and no untyped words. Refused by N6 where the plan has none with it."""
+        """Returns the message with this number, from 0. It has label 0 and no untyped words. Refused with N6 if the plan has no message
+        with this number."""
         told = library.l4_plan_message_sized(byref(self.region.given()), number(k, "a message's number"), self.page_bytes)
         if told.refusal:
             raise Refused(told.refusal)
         return Message(tuple(told.words[: told.word_count]))
 
     def only(self) -> Message:
-        """The message that sends all items. Refused by N5 where there are several."""
+        """Returns the message that sends all items. Refused with N5 if the plan has several messages."""
         if self.message_count > 1:
             raise Refused(_library.L4_N5)
         return self.message(0)
 
     def messages(self) -> Iterator[Message]:
-        """The messages, in order."""
+        """Yields the messages, in order."""
         return map(self.message, range(self.message_count))
 
     def words(self) -> Tuple[int, ...]:
-        """The words of the items, two an item, in order."""
+        """Returns the words of the items, two for each, in order."""
         return tuple(word for message in self.messages() for word in message.words[1:])
 
     def items(self) -> Tuple[Item, ...]:
-        """The items, in order."""
+        """Returns the items, in order."""
         return items_of(self.words())
 
     def pages(self) -> Tuple[int, ...]:
-        """A page of each item, in the items' order."""
+        """Returns one page for each item, in the items' order."""
         return _first_pages(self.region, self.page_bytes)
 
     def __str__(self) -> str:
         return f"{counted(self.item_count, 'item')} in {counted(self.message_count, 'message')}"
 
     def _repr_html_(self) -> str:
-        """The items with their words and pages, as a table for a notebook."""
+        """Returns the items with their words and pages, as a table for a notebook."""
         rows = ((hexadecimal(item.words(False)), item, page) for item, page in zip(self.items(), self.pages()))
         return table(str(self), ("words", "item", "page"), rows)
 
 
 def _first_pages(region: Region, page_bytes: int) -> Tuple[int, ...]:
-    """The pages of the items of a region's plan, or those that show that it is too long."""
+    """Returns the pages of the items of a region's plan, or those that prove that the plan is too long."""
     room = array([0] * _library.L4_TOO_MANY)
     count = library.l4_plan_pages_sized(byref(region.given()), room, len(room), page_bytes)
     return tuple(room[:count])
@@ -77,7 +78,7 @@ def _first_pages(region: Region, page_bytes: int) -> Tuple[int, ...]:
 
 @dataclass(frozen=True)
 class Region:
-    """The pages from `source` on go to the pages from `target` on, `count` pages, with these rights."""
+    """A region: `count` pages from the page `source` on, which go to the pages from `target` on with these rights."""
 
     source: int
     target: int
@@ -90,14 +91,14 @@ class Region:
         of_type(self.rights, Rights, "what may be done with a region")
 
     def given(self) -> _library.l4_region:
-        """What the library reads."""
+        """Returns the struct that the library reads."""
         Forks.check()
         return _library.l4_region(self.source, self.target, self.count, self.rights.value)
 
     def plan(self, page_bytes: int = PAGE_BYTES) -> Plan:
-        """The shortest list of map items that moves exactly the region of pages of so many bytes, 4,096 or 1,024.
+        """Returns the shortest list of map items that moves exactly the region, for pages of 4,096 or 1,024 bytes.
 
-        Refused, in this order, by B4, N1, N2, N3 and N4; the last is a TooLong, with the pages that show it.
+        Refused, in this order, with B4, N1, N2, N3 and N4. N4 is raised as TooLong, which has the pages that prove it.
 
         >>> plan = Region(4, 12, 12, Rights.ALL).plan()
         >>> [hex(word) for word in plan.only().words], plan.pages()
@@ -112,10 +113,10 @@ class Region:
         return Plan(self, page_bytes, told.items, told.messages)
 
     def check(self, words: Sequence[int], pages: Sequence[int], page_bytes: int = PAGE_BYTES) -> None:
-        """Checks that the items of these words, two words an item, move exactly the region, and that these pages, one an item, show that
-        no list of map items that does is shorter.
+        """Checks a plan, whoever made it: that its items move exactly the region, and that its pages, one for each item, prove that no list
+        of map items that does so is shorter. `words` has the words of the items, two for each.
 
-        Refused, in this order, by B4; M1 (more than 3,968 words), M2 (an odd number), M4 or M3; C6, C1, C2, C5, C3, C4.
+        Refused, in this order, with B4; M1 (more than 3,968 words), M2 (an odd number), M4 or M3; C6, C1, C2, C5, C3, C4.
         """
         words = [number(word, "a word") for word in words]
         pages = [number(page, "a page") for page in pages]
@@ -125,9 +126,9 @@ class Region:
             raise Refused(told.refusal, told.detail)
 
     def check_too_long(self, pages: Sequence[int], page_bytes: int = PAGE_BYTES) -> None:
-        """Checks that these are 1,985 pages which show that each list of map items that moves exactly the region has more than 1,984.
+        """Checks that 1,985 pages prove the following: every list of map items that moves exactly the region has more than 1,984 items.
 
-        Refused, in this order, by B4, C6, C5, C3, C4.
+        Refused, in this order, with B4, C6, C5, C3, C4.
         """
         pages = [number(page, "a page") for page in pages]
         given = array(pages), len(pages), number(page_bytes, "the number of bytes")

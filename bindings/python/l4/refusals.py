@@ -1,4 +1,4 @@
-"""Why a call did nothing, and why an Ipc failed."""
+"""The exceptions for refused calls and failed Ipcs."""
 from __future__ import annotations
 
 from typing import Optional, Sequence
@@ -22,10 +22,10 @@ _DETAILED = {
 
 
 class Refused(Exception):
-    """A call did nothing: a refused step changes nothing.
+    """A refused call. A refused step changes nothing.
 
-    `code` is what the programs print, such as "K1"; `text` says what it means; `detail` is the number that some refusals carry (an
-    item, a word, an entry or a place of a list, from 0, a page or a seat), else None.
+    `code` is the code that the programs print, such as "K1", and `text` explains it. `detail` is the number that some refusals carry (an
+    item, a word, an entry or a place of a list, from 0; a page; or a seat), and otherwise None.
     """
 
     code: str
@@ -43,7 +43,7 @@ class Refused(Exception):
 
 
 class TooLong(Refused):
-    """N4: each list of map items that moves exactly the region has more than 1,984, as these 1,985 pages show."""
+    """N4: every list of map items that moves exactly the region has more than 1,984 items. `pages` has the 1,985 pages that prove it."""
 
     pages: Sequence[int]
 
@@ -64,10 +64,12 @@ _ERRORS = {
 
 
 class IpcFailed(Exception):
-    """An Ipc failed with this ErrorCode (L4 X.2 manual, IPC: ErrorCode).
+    """An Ipc that failed with this ErrorCode (L4 X.2 manual, IPC: ErrorCode).
 
-    2 and 3: the send or receive phase waited for no time. 4 and 5: there is nobody to send to, or to receive from. 8 and 9: the message
-    could not be delivered, since the receiver has no window for its items, they contradict each other, or there was no memory.
+    - 2 and 3: the zero timeout of the send phase or of the receive phase expired.
+    - 4 and 5: there is no thread to send to, or to receive from.
+    - 8 and 9: the message that was sent, or was to be received, could not be delivered: the receiver has no window for its items, the items
+      conflict, or there was no memory.
     """
 
     error: int

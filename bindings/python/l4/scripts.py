@@ -1,7 +1,7 @@
-"""Scripts in the language of `l4 run`, over a kernel and the tables of its pagers; `l4 --help` has the language.
+"""Scripts in the language of `l4 run`, over a kernel and the tables of its pagers; `l4 --help` describes the language.
 
-What `l4 run` proves of a script's answers is not proved here: this does the same by the library's calls, step by step, so that what there
-is to be seen can be asked after each step.
+What `l4 run` proves about a script's answers is not proved here. This module gives the same answers through the library's functions, step
+by step, so that the state can be queried after each step.
 """
 from __future__ import annotations
 
@@ -17,13 +17,13 @@ from .refusals import Refused
 from .tables import Pager, Sigma0
 from .words import MAX_WORDS, PAGE_BYTES, Message, Rights, ThreadId
 
-#: The greatest number of bytes of a line.
+#: The largest number of bytes of a line.
 MAX_LINE = 4096
 
-#: With more steps than these no call is started (L1).
+#: After more steps than this, every call is refused (L1).
 MOST_STEPS = 999_871
 
-# how often served threads may act on a line, and the space of a thread that isn't there
+# how many calls of served threads may follow a line, and the space of a thread that does not exist
 _MOST_ACTS = 256
 _NO_SPACE = (1 << 64) - 1
 
@@ -48,9 +48,9 @@ _ENDS = {
 
 @dataclass(frozen=True)
 class Event:
-    """What happened on a line: a call that a thread started, a step that followed, or an answer alone.
+    """An event on a line: a call that a thread started, a step that followed, or only an answer.
 
-    `texts` are the lines of its answer. With a transfer goes the message that was sent.
+    `texts` has the lines of its answer. A transfer also has the message that was sent.
     """
 
     line: int
@@ -63,7 +63,7 @@ class Event:
 
 
 class _Bad(Exception):
-    """Why a line is refused: its code, with the number that the code carries."""
+    """A refused line: its code, with the number that the code carries."""
 
 
 class _Tokens:
@@ -117,7 +117,7 @@ class _Tokens:
 
 
 def _id(thread: int) -> ThreadId:
-    """The id of this thread in a script, which may be one that no thread can have."""
+    """Returns the id of this thread in a script, which may be an id that no thread can have."""
     return ThreadId(thread << 14 | 1)
 
 
@@ -157,11 +157,11 @@ class Script:
         #: The call that each thread started last.
         self.calls: Dict[int, Call] = {}
         self._seats = {1, 2}
-        # the thread whose call the line entered, while that goes on
+        # the thread whose call the line entered, while that call waits
         self._waiting: Optional[int] = None
 
     def run(self, text: str) -> Iterator[Event]:
-        """What happens on the lines of a text; a last one without its newline is refused (S4)."""
+        """Yields the events of the lines of a text. A last line without its newline is refused (S4)."""
         *lines, last = text.split("\n")
         for line in lines:
             if line:
@@ -172,7 +172,7 @@ class Script:
             yield from self.line(last, is_cut=True)
 
     def line(self, line: str, is_cut: bool = False) -> Iterator[Event]:
-        """What happens on a line, given without its newline: each event is done as it is asked for."""
+        """Yields the events of a line, which is given without its newline. Each event happens when it is requested."""
         self.line_count += 1
         try:
             yield from self._carry_out(line, is_cut)
@@ -245,7 +245,7 @@ class Script:
         return self._enter(number, _ipc(to, ThreadId.NIL, plan.message(part).words))
 
     def _plan(self, tokens: _Tokens) -> Plan:
-        """The plan of the region that the line's last tokens name."""
+        """Returns the plan of the region that the last tokens of the line name."""
         source, target, count, rights = tokens.number(), tokens.number(), tokens.number(), tokens.rights()
         tokens.end()
         return Region(source, target, count, rights).plan(self.page_bytes)
@@ -305,12 +305,12 @@ class Script:
         return space
 
     def _pager(self, number: int) -> Pager:
-        """The table of this thread."""
+        """Returns the table of this thread."""
         if number not in self.pagers:
             self.pagers[number] = Pager(self.page_bytes)
         return self.pagers[number]
 
-    # the call of a line, and those of the served threads after it
+    # the call of a line, and the calls of served threads that follow it
 
     def _enter(self, number: int, call: Call, serves: bool = False) -> Iterator[Event]:
         if number not in self._seats:
@@ -345,7 +345,7 @@ class Script:
         return Event(self.line_count, self._ended(answer.ended), number, call, is_step=True)
 
     def _go_on(self) -> Iterator[Event]:
-        """Does the steps that come next."""
+        """Executes the next step until no step is enabled."""
         for done in self.kernel.steps():
             self.steps += 1
             if isinstance(done.step, Transfer):
@@ -357,19 +357,19 @@ class Script:
                 yield Event(self.line_count, (f"expire {done.step.thread}", *self._ended(done.ended)), done.step.thread, is_step=True)
 
     def _sent(self, sender: int, receiver: int) -> Message:
-        """The message that was sent: of an Ipc its call's, and of a fault what its pager got."""
+        """Returns the message that was sent: the message of an Ipc's call, or the one that a pager received for a fault."""
         reply, words = self.kernel.reply(receiver), self.calls[sender].words
         return Message(words) if words or reply is None else reply.message
 
     def _ended(self, threads: Iterable[int]) -> Tuple[str, ...]:
-        """How the calls of these threads ended."""
+        """Returns how the calls of these threads ended, as text."""
         texts = tuple(f"{thread} {_reply_text(self.kernel.reply(thread))}" for thread in threads)
         if self._waiting in threads:
             self._waiting = None
         return texts
 
     def _act(self, number: int) -> Call:
-        """The call that a served thread enters."""
+        """Returns the next call of a served thread."""
         reply = self.kernel.reply(number)
         if reply is None or reply.kind is not ReplyKind.IPC or reply.error:
             return _ipc(ThreadId.NIL, ThreadId.ANY)
@@ -381,7 +381,7 @@ class Script:
         return _ipc(reply.sender, ThreadId.ANY, answer.words, timeout_word=0x400 << 16)
 
     def _forget_ended(self) -> None:
-        """Forgets what threads had that are gone."""
+        """Removes what is kept for threads that no longer exist."""
         there = set(self.kernel.threads())
         self.served &= there
         self.pagers = {thread: pager for thread, pager in self.pagers.items() if thread in there}

@@ -8,21 +8,21 @@ from itertools import count
 from typing import Any, Callable, Iterable, Iterator, List, Optional, Tuple, Union
 
 from . import _library
-from ._handles import Handle
-from ._library import library, number, of_type
+from ._handles import Handle, Unique
+from ._library import Forks, library, number, of_type
 from .calls import Call
 from .kernel import Expire, Outcome, Place, Reply, Transfer, reply_of, step_of
 from .refusals import Refused
 from .words import PAGE_BYTES, Rights
 
 
-# the room for links that is enough for most pages
+# room for as many links as most pages have
 _LINK_ROOM = 16
 
 
 @dataclass(frozen=True)
 class Start:
-    """The step in which the thread enters a call."""
+    """The step in which a thread starts a call."""
 
     thread: int
     call: Call
@@ -30,8 +30,11 @@ class Start:
 
 @dataclass(frozen=True)
 class Entry:
-    """An entry of a history: the number whose call the step starts or follows, the step, what it did, and the numbers of the threads whose
-    calls ended in it. As a string it is a line of a list of steps, as the program `l4_steps` reads it."""
+    """An entry of a history: a step, its outcome, and the numbers of the threads whose calls ended in it.
+
+    `seat` is the thread number whose call the step starts or follows. `str` returns a line of a step list, as the program `l4_steps` reads
+    it.
+    """
 
     seat: int
     step: Union[Start, Transfer, Expire]
@@ -48,7 +51,8 @@ class Entry:
 
 @dataclass(frozen=True)
 class Receipt:
-    """A seat's evidence of a call that has ended: the call, the places of the entries that started and ended it, from 0, and its reply."""
+    """A seat's receipt for a call that has ended: the call, the places in the history, from 0, of the entries that started and ended it,
+    and its reply."""
 
     call: Call
     start: int
@@ -58,9 +62,12 @@ class Receipt:
 
 @dataclass(frozen=True)
 class Link:
-    """A transfer that moved a page on: the place of its entry in the history, from 0, the numbers of the threads that sent and received, the
-    sender's page and the receiver's, whether the item gave the page away or shared it, the rights that the sender's page had just before,
-    and those that the item named. As a string it is a line of what the program `l4 why` writes."""
+    """One transfer that moved a page.
+
+    It has the place of the transfer's entry in the history, from 0; the thread numbers of the sender and the receiver; the sender's page
+    and the receiver's page; `grant`, which is true if the item granted the page and false if it mapped it; the rights of the sender's page
+    just before the transfer; and the rights that the item named. `str` returns a line of the output of `l4 why`.
+    """
 
     entry: int
     sender: int
@@ -77,7 +84,7 @@ class Link:
         return f"entry {self.entry} transfer {self.sender} {self.receiver} {kind} {pages}"
 
     def given(self) -> _library.l4_link:
-        """The link as the library takes it."""
+        """Returns the struct that the library reads."""
         source, target = self.source, self.target
         spaces = number(source.space, "a space", 64), number(target.space, "a space", 64)
         pages = number(source.page, "a page"), number(target.page, "a page")
@@ -107,21 +114,43 @@ def _receipt(told: _library.l4_receipt) -> Optional[Receipt]:
 
 
 class _Lock(Handle):
-    """What the library makes; each call is one turn of its lock."""
+    """A locked kernel of the library. Each call holds the lock, and a condition variable of the lock wakes the threads that wait."""
+
+    def __init__(self, frames: int, page_bytes: int) -> None:
+        super().__init__(_library.l4_lock(), library.l4_lock_new_sized, library.l4_lock_free, frames, page_bytes)
+        self._entered = threading.Condition(self._lock)
+
+    @property
+    def _name(self) -> str:
+        return SharedKernel.__name__
+
+    @property
+    def entered(self) -> threading.Condition:
+        """Returns the condition variable. Raises RuntimeError if `Handle._turn` does."""
+        Forks.check()
+        return self._entered
+
+    def close(self) -> None:
+        """Frees the kernel, even if calls wait, and wakes the threads that wait for them."""
+        super().close()
+        if not Forks.among_threads:
+            with self._entered:
+                self._entered.notify_all()
 
     def answer(self, function: Callable[..., Any], *values: Any) -> Any:
-        """What the library answers; ValueError where it was closed."""
+        """Calls the library function, and returns its result. Raises ValueError if the kernel is closed."""
         return self._told(self._ask(function, *values))
 
-    def condition(self) -> threading.Condition:
-        """A condition of the lock by which its turns are."""
-        return threading.Condition(self._lock)
 
+class SharedKernel(Unique):
+    """A kernel that threads share. It keeps the history of its steps, and gives out one `Seat` for each thread number that makes calls.
 
-class SharedKernel:
-    """A kernel that threads share: it keeps the history of its steps, and gives a `Seat` to each number that enters calls.
+    `SharedKernel(frames, page_bytes)` boots as `Kernel` does, with the same refusals. While the call of one seat waits, other threads can
+    run and other seats can make calls. The history has room for 1,000,000 entries. Once it has more than 999,871, every further call of a
+    seat is refused with L1, for good; queries and `close` still work.
 
-    It boots as a `Kernel` does. While a call of a seat waits, other threads go on, and other seats may enter calls.
+    The memory is freed by `close`, at the end of a `with` block, or with the last reference to the kernel and its seats. From then on, every
+    call raises ValueError; so does each call that still waits then.
 
     >>> from l4 import Call, Message, SharedKernel, ThreadId
     >>> kernel = SharedKernel(1)
@@ -138,32 +167,45 @@ class SharedKernel:
 
     def __init__(self, frames: int = 256, page_bytes: int = PAGE_BYTES) -> None:
         given = number(frames, "the number of frames"), number(page_bytes, "the number of bytes")
-        self._lock = _Lock(_library.l4_lock(), library.l4_lock_new_sized, library.l4_lock_free, *given)
-        self._entered = self._lock.condition()
+        self._lock = _Lock(*given)
         self._steps = 0
 
+    def __enter__(self) -> SharedKernel:
+        return self
+
+    def __exit__(self, *_: object) -> None:
+        self._lock.close()
+
+    @property
+    def closed(self) -> bool:
+        """Returns whether the kernel was freed."""
+        return self._lock.closed
+
     def seat(self, number_of_thread: int) -> Seat:
-        """The seat of a number, once, also before there is a thread of the number. Refused by L4, NoMemory."""
+        """Gives out the seat of a thread number. Each seat is given once, and the thread need not exist yet. Refused with L4 or
+        NoMemory."""
         return Seat(self, number(number_of_thread, "a thread number"))
 
     def steps(self) -> int:
-        """How many steps the history had as a call was entered last. It never falls, and waits for nobody."""
+        """Returns the number of steps in the history when the last call was entered. It never decreases, and the method never waits."""
         return self._steps
 
     def history(self) -> Tuple[Entry, ...]:
-        """All steps since boot."""
-        with self._entered:
+        """Returns all steps since boot."""
+        with self._lock.entered:
             return tuple(_until_none(_entry(self._lock.answer(library.l4_lock_entry, place)) for place in count()))
 
     def provenance(self, space: int, page: int) -> Optional[List[Link]]:
-        """How a page of a space came to where it is: the transfers that brought it there from a page that sigma0 had at boot, one after
-        another; a page that sigma0 has had since boot has none. None where the page is not present.
+        """Finds how a page of a space got to where it is.
 
-        The history is done once more on a second kernel, while calls of seats wait. Refused by NoMemory, and by L6 where a transfer of the
+        Returns the transfers that brought the page there, one after another, from a page that sigma0 had at boot. A page that sigma0 has
+        had since boot has no transfers. Returns None if the page is not present.
+
+        The history is replayed on a second kernel; calls of seats wait meanwhile. Refused with NoMemory, and with L6 if a transfer of the
         history found no memory.
         """
         place = number(space, "a space", 64), number(page, "a page")
-        with self._entered:
+        with self._lock.entered:
             room = _LINK_ROOM
             while True:
                 links = (_library.l4_link * room)()
@@ -178,10 +220,10 @@ class SharedKernel:
             return [_link(link, self._lock.answer(library.l4_lock_entry, link.entry)) for link in links[: told.count]]
 
     def check_provenance(self, space: int, page: int, links: Iterable[Link]) -> None:
-        """Checks that just these links are how a page of a space came to where it is, by code that shares none with `provenance`.
+        """Checks that exactly these links are how a page of a space got to where it is. The check shares no code with `provenance`.
 
-        Refused by L7 where they aren't, which no links are where the page is not present, and as `provenance` is. A link's sender and
-        receiver are those of its entry, and are not judged.
+        Refused with L7 if they are not; no links are, if the page is not present. Refused also as `provenance` is. The sender and the
+        receiver of a link follow from its entry, and are not checked.
         """
         place = number(space, "a space", 64), number(page, "a page")
         given = [of_type(link, Link, "a link").given() for link in links]
@@ -190,12 +232,13 @@ class SharedKernel:
             raise Refused(told.refusal, told.detail)
 
     def close(self, seats: Iterable[Seat]) -> Tuple[Entry, ...]:
-        """The history, where just the seats come back that were given; from then on each call raises ValueError.
+        """Takes back the seats, frees the kernel, and returns the history, if exactly the seats that were given come back. Every later call
+        raises ValueError, and so does each call that still waits.
 
-        Refused by X1 where a seat is missing, and by X2 where one is another kernel's or comes twice; then nothing has changed.
+        Refused with X1 if a seat is missing, and with X2 if a seat belongs to another kernel or comes twice. Nothing has changed then.
         """
         seats = [of_type(seat, Seat, "what comes back") for seat in seats]
-        with self._entered:
+        with self._lock.entered:
             for seat in seats:
                 if seat.kernel is not self:
                     raise Refused(_library.L4_X2, seat.number)
@@ -204,11 +247,12 @@ class SharedKernel:
             told = self._lock.answer(library.l4_lock_close, _library.array(numbers), len(numbers))
             if told.refusal:
                 raise Refused(told.refusal, told.detail)
+            self._lock.close()
         return history
 
 
-class Seat:
-    """The right to enter calls of one thread, which `SharedKernel.seat` gives. One thread at a time uses it."""
+class Seat(Unique):
+    """The right to make the calls of one thread number, from `SharedKernel.seat`. Use a seat from one thread at a time."""
 
     def __init__(self, kernel: SharedKernel, number_of_thread: int) -> None:
         refusal = kernel._lock._ask(library.l4_lock_give, number_of_thread)
@@ -221,48 +265,59 @@ class Seat:
 
     @property
     def kernel(self) -> SharedKernel:
-        """Whose seat it is."""
+        """Returns the kernel that gave the seat."""
         return self._kernel
 
     @property
     def number(self) -> int:
-        """The number of its thread."""
+        """Returns the seat's thread number."""
         return self._number
 
     def call(self, call: Call) -> Reply:
-        """Enters a call and waits until it has ended; the kernel is free meanwhile.
+        """Makes a call, and waits until it has ended. Other seats can make calls meanwhile.
 
-        Refused, in this order, by L3 (where an exception ended an earlier wait), L1, NoMemory, K2 where there is no such thread, and as
-        `Kernel.start`.
+        An exception that ends the wait, such as KeyboardInterrupt, does not end the call. Get its reply with `take`. Raises ValueError if
+        the kernel is closed meanwhile.
+
+        Refused, in this order, with L3 (an earlier call has ended, whose reply you must `take` first), L1, NoMemory, K2 if there is no such
+        thread, and as `Kernel.start` is.
         """
         words = of_type(call, Call, "what a thread starts").words
         given = (byref(call.given()), _library.array(words), len(words))
-        kernel = self._kernel
-        with kernel._entered:
+        kernel, entered = self._kernel, self._kernel._lock.entered
+        with entered:
             told = kernel._lock.answer(library.l4_lock_enter, self._number, *given)
             if told.refusal:
                 raise Refused(told.refusal, told.detail)
             kernel._steps = kernel._lock.answer(library.l4_lock_length).count
-            kernel._entered.notify_all()
+            entered.notify_all()
             reply = reply_of(told.reply)
             while reply is None:
-                kernel._entered.wait()
-                reply = reply_of(kernel._lock.answer(library.l4_lock_take, self._number))
+                entered.wait()
+                reply = self.take()
             return reply
+
+    def take(self) -> Optional[Reply]:
+        """Takes the reply of a call whose wait was ended by an exception, such as KeyboardInterrupt.
+
+        Returns None if the call still waits, or if there is no such reply. Each reply can be taken once; `receipts` keeps it. This method
+        never waits for the end of a call.
+        """
+        return reply_of(self._kernel._lock.answer(library.l4_lock_take, self._number))
 
     @property
     def starts(self) -> int:
-        """How many calls it has started."""
+        """Returns the number of calls that the seat has started."""
         return self._kernel._lock.answer(library.l4_lock_seat_of, self._number).starts
 
     @property
     def receipts(self) -> Tuple[Receipt, ...]:
-        """Its receipts, in the order in which it got them."""
+        """Returns the seat's receipts, in the order in which it got them."""
         ask = self._kernel._lock.answer
-        with self._kernel._entered:
+        with self._kernel._lock.entered:
             return tuple(_until_none(_receipt(ask(library.l4_lock_receipt, self._number, place)) for place in count()))
 
 
 def _until_none(values: Iterator[Any]) -> Iterator[Any]:
-    """The values up to the first None."""
+    """Yields the values before the first None."""
     return iter(values.__next__, None)

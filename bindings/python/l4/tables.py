@@ -1,4 +1,4 @@
-"""The tables of pagers, and sigma0's."""
+"""The tables of pagers, and sigma0's table."""
 from __future__ import annotations
 
 from ctypes import byref
@@ -20,10 +20,11 @@ def _answer(told: Any) -> Message:
 
 
 class Pager(Handle):
-    """Which pages of its own a pager gives for the pages of those whom it serves.
+    """A pager's table: which of its own pages the pager maps for the pages of the threads that it serves.
 
-    There are at most 64 regions, no target page of which is one of two; source pages may be shared. Pages have as many bytes as the
-    kernel's whose faults the table answers: 4,096 or 1,024, and other numbers are refused by B4.
+    It has at most 64 regions, whose target pages do not overlap; source pages may be shared. `Pager(page_bytes)` makes an empty table for
+    pages of 4,096 or 1,024 bytes, as the kernel whose faults it answers has. Any other number is refused with B4. The table owns memory of
+    the library, and is freed as a `Kernel` is.
 
     >>> pager = Pager()
     >>> pager.add(Region(100, 4, 4, Rights.READ))
@@ -40,7 +41,7 @@ class Pager(Handle):
         self._regions: List[Region] = []
 
     def add(self, region: Region) -> None:
-        """Adds a region at the end. Refused, in this order, by P4, P1 and P3, and then nothing has changed."""
+        """Adds a region at the end. Refused, in this order, with P4, P1 and P3; nothing has changed then."""
         given = byref(of_type(region, Region, "what a table gets").given())
         with self._turn:
             told = self._told(_library.l4_verdict(self._ask(library.l4_pager_add, given), 0))
@@ -50,18 +51,18 @@ class Pager(Handle):
 
     @property
     def regions(self) -> Tuple[Region, ...]:
-        """The regions, in the order in which they were added."""
+        """Returns the regions, in the order in which they were added."""
         return tuple(self._regions)
 
     def _repr_html_(self) -> str:
-        """The regions, as a table for a notebook."""
+        """Returns the regions as a table for a notebook."""
         rows = ((region.target, region.source, region.count, region.rights) for region in self.regions)
         return table("regions", ("first page", "source page", "pages", "rights"), rows)
 
     def find(self, page: int, access: Rights) -> int:
-        """The source page of a target page, where its region's rights hold those that the access needs.
+        """Returns the source page of a target page whose region has all the rights that the access needs.
 
-        An access that needs none is held by each region. Refused by P2.
+        An access that needs no right finds the page in any region. Refused with P2.
         """
         needed = of_type(access, Rights, "what an access needs").value
         told = self._told(self._ask(library.l4_pager_find, number(page, "a page"), needed))
@@ -70,20 +71,21 @@ class Pager(Handle):
         return told.page
 
     def answer(self, message: Message) -> Message:
-        """What the pager answers a message.
+        """Returns the pager's answer to a message.
 
-        To a page fault it is one map item, the source page with its region's rights for the fault's page; a nil map item where `find`
-        refuses the page, and to any other message. Refused by M7, M1, M5, M2, M4 or M3.
+        The answer to a page fault is one map item: the source page, with its region's rights, for the page of the fault. It is a nil map
+        item if `find` refuses the page; so is the answer to any other message. Refused with M7, M1, M5, M2, M4 or M3.
         """
         words = of_type(message, Message, "what is answered").words
         return _answer(self._told(self._ask(library.l4_pager_answer, array(words), len(words))))
 
 
 class Sigma0(Handle):
-    """Which space owns which of 1 to 4,096 frames: sigma0's table. Other numbers are refused by K6.
+    """sigma0's table: which space owns which frame.
 
-    A frame that is given to a space is that space's for good. Frames have as many bytes as the kernel's: 4,096 or 1,024, and other numbers
-    are refused by B4.
+    A frame that a space has been given stays that space's. `Sigma0(frames, page_bytes)` makes a table of 1 to 4,096 frames without owners,
+    for pages of 4,096 or 1,024 bytes, as the kernel has. Any other page size is refused with B4, and any other number of frames with K6.
+    The table owns memory of the library, and is freed as a `Kernel` is.
 
     >>> sigma0 = Sigma0(256)
     >>> fault = Message.of(0xffe4, [0x5678, 0x400100])
@@ -98,12 +100,12 @@ class Sigma0(Handle):
         super().__init__(_library.l4_sigma0(), library.l4_sigma0_new_sized, library.l4_sigma0_free, *given)
 
     def answer(self, space: int, message: Message) -> Message:
-        """What sigma0 answers a message from a space.
+        """Returns sigma0's answer to a message from a thread in this space.
 
-        A request without attributes asks for the frames of its fpage's pages, and a page fault for the frame of its page; the frame of a
-        page has the page's number. Where there are all of these, and each is nobody's or the space's, they are the space's from then on,
-        and the answer is one map item of them with all rights, to the pages of the same numbers; anything else is answered by a nil map
-        item, and changes nothing. Refused by M7, M1, M5, M2, M4 or M3.
+        A request with attributes of 0 asks for the frames of its fpage's pages, and a page fault asks for the frame of its page; the frame
+        of a page has the page's number. If all of these frames exist, and each has no owner or is owned by this space, then the space owns
+        them from then on. The answer is then one map item of all of them, with all rights, to the pages of the same numbers. The answer to
+        anything else is a nil map item, and nothing changes. Refused with M7, M1, M5, M2, M4 or M3.
         """
         words = of_type(message, Message, "what is answered").words
         given = number(space, "a space", 64), array(words), len(words)

@@ -1,4 +1,4 @@
-"""The words of the kernel's interface: thread ids, rights, fpages, items, messages and calls."""
+"""The words of the kernel's interface: thread ids, rights, fpages, items and messages."""
 from __future__ import annotations
 
 import enum
@@ -9,47 +9,47 @@ from . import _library
 from ._library import number, of_type
 from ._shown import bytes_of, hexadecimal
 
-#: The bytes of a page, and of a small one.
+#: The size in bytes of a page, and of a small page.
 PAGE_BYTES = _library.L4_PAGE_BYTES
 SMALL_PAGE_BYTES = _library.L4_SMALL_PAGE_BYTES
-#: The pages of a space, and its small pages.
+#: The number of pages of a space, and of small pages.
 SPACE_PAGES = _library.L4_SPACE_PAGES
 SMALL_SPACE_PAGES = _library.L4_SMALL_SPACE_PAGES
-#: The greatest number of frames of a machine.
+#: The largest number of frames of a machine.
 MAX_FRAMES = _library.L4_MAX_FRAMES
-#: The greatest number of threads of a kernel.
+#: The largest number of threads of a kernel.
 MAX_THREADS = _library.L4_MAX_THREADS
-#: The greatest number of words of a message, the tag among them, and of fpages of an Unmap.
+#: The largest number of words of a message, including the tag, and of fpages of an Unmap.
 MAX_WORDS = _library.L4_MAX_WORDS
 
-# the binary logarithms of the bytes of a page
+# the binary logarithm of each page size
 _PAGE_LOGS = {PAGE_BYTES: _library.L4_PAGE_LOG, SMALL_PAGE_BYTES: _library.L4_SMALL_PAGE_LOG}
 
-# what an fpage has as its log where it names no bytes, and where it names all of a space
+# the log of the nil fpage, and of the complete one
 _NIL_LOG = 0
 _SPACE_LOG = 32
 
 
 def _page_log(page_bytes: int) -> int:
     if page_bytes not in _PAGE_LOGS:
-        raise ValueError(f"a page has {PAGE_BYTES} or {SMALL_PAGE_BYTES} bytes: {page_bytes}")
+        raise ValueError(f"the page size is {PAGE_BYTES} or {SMALL_PAGE_BYTES} bytes, not {page_bytes}")
     return _PAGE_LOGS[page_bytes]
 
 
 @dataclass(frozen=True, order=True, repr=False)
 class ThreadId:
-    """A thread id: a thread number in bits 31 to 14, and a version in bits 13 to 0 (L4 X.2 manual, ThreadId).
+    """A thread id: the thread number in bits 31 to 14, and the version in bits 13 to 0 (L4 X.2 manual, ThreadId).
 
-    Each word is one, also one that no thread can have; `ThreadId.of` makes only those that a thread can have. An id is no number, and a
-    number no id: where the one is due, the other is a TypeError.
+    Every word is a ThreadId, also one that no thread can have; `ThreadId.of` makes only ids that a thread can have. A ThreadId in place of
+    a number, or a number in place of a ThreadId, raises TypeError.
 
     >>> ThreadId.of(3), str(ThreadId.of(3)), ThreadId.of(3).number
     (ThreadId(0x0000c001), 'thread 3', 3)
     """
 
-    #: The id of nobody: a call has no phase with it.
+    #: nilthread, the id of no thread: a call has no phase with it.
     NIL: ClassVar[ThreadId]
-    #: The id that stands for anybody.
+    #: anythread, which stands for any thread.
     ANY: ClassVar[ThreadId]
     #: The id of sigma0, thread 1 in space 0.
     SIGMA0: ClassVar[ThreadId]
@@ -63,21 +63,25 @@ class ThreadId:
 
     @classmethod
     def of(cls, thread: int, version: int = 1) -> ThreadId:
-        """The id of the thread of this number, from 1 to 262,143, with a version below 16,384 whose low six bits aren't all zero."""
+        """Returns the id of the thread with this number, from 1 to 262,143, and this version, from 1 to 16,383, whose low six bits are
+        not all zero. Raises ValueError for other numbers, and for the one pair whose word is `ThreadId.ANY`."""
         if not (0 < thread < 1 << 18 and 0 < version < 1 << 14 and version & 0x3F):
-            raise ValueError(f"no thread can have number {thread} and version {version}")
+            raise ValueError(
+                f"no thread can have number {thread} and version {version}: numbers are 1 to 262143, "
+                "versions are 1 to 16383, and the low six bits of a version are not all zero"
+            )
         if thread << 14 | version == _library.L4_ANYTHREAD:
-            raise ValueError("this id stands for anybody")
+            raise ValueError("this number and version are the id anythread, which no thread can have")
         return cls(thread << 14 | version)
 
     @property
     def number(self) -> int:
-        """The thread number, below 262,144."""
+        """Returns the thread number, below 262,144."""
         return self.word >> 14
 
     @property
     def version(self) -> int:
-        """The version, below 16,384."""
+        """Returns the version, below 16,384."""
         return self.word & 0x3FFF
 
     def __str__(self) -> str:
@@ -96,7 +100,7 @@ ThreadId.ROOT = ThreadId.of(2)
 
 
 class Rights(enum.Flag):
-    """What may be done with a page: a set out of the rights to read, to write and to execute (L4 X.2 manual, Fpages).
+    """A set of the rights to read, to write and to execute a page (L4 X.2 manual, Fpages).
 
     >>> str(Rights.READ | Rights.EXECUTE)
     'r-x'
@@ -110,7 +114,7 @@ class Rights(enum.Flag):
 
     @classmethod
     def of_bits(cls, word: int) -> Rights:
-        """The rights that the low three bits of a word name: read is 4, write 2, execute 1. The other bits mean nothing."""
+        """Returns the rights in the low three bits of a word: read is 4, write 2, execute 1. The other bits are ignored."""
         return cls(word & 7)
 
     def __str__(self) -> str:
@@ -120,10 +124,11 @@ class Rights(enum.Flag):
 
 @dataclass(frozen=True, repr=False)
 class Fpage:
-    """A flexpage: 2^log bytes at `base`, in bytes, with rights (L4 X.2 manual, Fpages).
+    """A flexpage: 2^log bytes from the byte `base` on, with rights (L4 X.2 manual, Fpages).
 
-    `log` is 10 to 31, and `base` a multiple of 2^log; with base 0, a log of 0 is the nil fpage, which has no bytes, and one of 32 the
-    complete one. As a receive window it says where a receiver accepts pages; its rights mean nothing there.
+    `log` is 10 to 31, and `base` is a multiple of 2^log. With base 0, a log of 0 is the nil fpage, which has no bytes, and a log of 32 is
+    the complete fpage. Other values raise ValueError. As a receive window, an fpage says where a receiver accepts pages; its rights are
+    ignored there.
 
     >>> Fpage.page(16, Rights.ALL)
     <Fpage 0x000100c7: 4 KiB at 0x10000 rwx>
@@ -137,23 +142,24 @@ class Fpage:
         number(self.base, "the base of an fpage")
         of_type(self.rights, Rights, "what may be done with an fpage")
         if number(self.log, "the log of an fpage") not in (_NIL_LOG, _SPACE_LOG) and not 10 <= self.log <= 31:
-            raise ValueError(f"no fpage has 2^{self.log} bytes")
+            raise ValueError(f"no fpage has 2^{self.log} bytes: the log is 10 to 31, 0 (nil) or 32 (complete)")
         if self.base and (self.log == _NIL_LOG or self.base % (1 << self.log)):
             raise ValueError(f"an fpage of 2^{self.log} bytes doesn't start at {self.base:#x}")
 
     @classmethod
     def nil(cls) -> Fpage:
-        """No bytes."""
+        """Returns the nil fpage, which has no bytes."""
         return cls(0, _NIL_LOG)
 
     @classmethod
     def complete(cls, rights: Rights = Rights.NONE) -> Fpage:
-        """All bytes of a space."""
+        """Returns the complete fpage, which has all bytes of a space."""
         return cls(0, _SPACE_LOG, rights)
 
     @classmethod
     def pages(cls, first: int, log: int, rights: Rights, page_bytes: int = PAGE_BYTES) -> Fpage:
-        """2^log pages from the page `first`, a multiple of 2^log, on: all pages of a space where `log` is 20, or 22 of small ones."""
+        """Returns the fpage of 2^log pages from the page `first` on, which must be a multiple of 2^log. With a log of 20 (22 for small
+        pages) it has all pages of a space. Raises ValueError if there is no such fpage."""
         page_log = _page_log(page_bytes)
         if not 0 <= log <= _SPACE_LOG - page_log:
             raise ValueError(f"no fpage has 2^{log} pages")
@@ -161,7 +167,7 @@ class Fpage:
 
     @classmethod
     def page(cls, page: int, rights: Rights, page_bytes: int = PAGE_BYTES) -> Fpage:
-        """One page, below 1,048,576, or below 4,194,304 where pages are small.
+        """Returns the fpage of one page, below 1,048,576, or below 4,194,304 for small pages. Raises ValueError for other pages.
 
         >>> hex(Fpage.page(16, Rights.ALL, SMALL_PAGE_BYTES).word)
         '0x40a7'
@@ -170,26 +176,27 @@ class Fpage:
 
     @classmethod
     def read(cls, word: int) -> Fpage:
-        """The fpage that a word names; ValueError where it names none.
+        """Returns the fpage that a word names. Raises ValueError if it names none, or does not have 32 bits.
 
-        A base that is no multiple of the size is rounded down, bit 3 means nothing, and a size field of 0 is nil, one of 32 complete,
-        with any base.
+        A base that is not a multiple of the size is rounded down, and bit 3 is ignored. A size field of 0 means nil, and one of 32 means
+        complete, with any base.
 
         >>> Fpage.read(0x100c7) == Fpage.page(16, Rights.ALL)
         True
         """
+        word = number(word, "the word of an fpage")
         log, base, rights = word >> 4 & 0x3F, word & 0xFFFFFC00, Rights.of_bits(word)
         if log == _NIL_LOG:
             return cls.nil()
         if log == _SPACE_LOG or (log == 1 and base == 0):
             return cls.complete(rights)
         if not 10 <= log <= 31:
-            raise ValueError(f"the word is no fpage: {word:#x}")
+            raise ValueError(f"the word is not an fpage: {word:#x}")
         return cls(base >> log << log, log, rights)
 
     @property
     def word(self) -> int:
-        """The word, which is read as this fpage and no other. The complete fpage is written with a size field of 1."""
+        """Returns the word, which is read as this fpage and no other. The complete fpage is written with a size field of 1."""
         if self.log == _NIL_LOG:
             return 0
         size = 1 if self.log == _SPACE_LOG else self.log
@@ -205,11 +212,11 @@ class Fpage:
 
     @property
     def page_range(self) -> range:
-        """The pages all of whose bytes it names."""
+        """Returns the pages of 4,096 bytes that lie wholly inside the fpage."""
         return self.range_of(PAGE_BYTES)
 
     def range_of(self, page_bytes: int) -> range:
-        """The pages of so many bytes all of whose bytes it names.
+        """Returns the pages of `page_bytes` bytes that lie wholly inside the fpage.
 
         >>> Fpage.page(5, Rights.ALL).range_of(SMALL_PAGE_BYTES)
         range(20, 24)
@@ -221,9 +228,10 @@ class Fpage:
 
 @dataclass(frozen=True, repr=False)
 class Item:
-    """What a message hands over: the pages of an fpage, shared (map) or given away (grant) (L4 X.2 manual, IPC: map item, grant item).
+    """A map or grant item of a message: the pages of an fpage, which the receiver shares (map) or takes over (grant) (L4 X.2 manual, IPC:
+    map item, grant item).
 
-    The send base, in bytes, a multiple of 1,024, says where they land in a larger receive window.
+    The send base, in bytes and a multiple of 1,024, says where the pages land in a larger receive window.
 
     >>> Item.map(Fpage.page(16, Rights.READ), 0x20000)
     <Item 0x00020008 0x000100c4: map 4 KiB at 0x10000 r--, send base 0x20000>
@@ -240,24 +248,25 @@ class Item:
 
     @classmethod
     def map(cls, fpage: Fpage, base: int = 0) -> Item:
-        """Shares the pages."""
+        """Returns an item that maps the pages: sender and receiver share them."""
         return cls(fpage, base, False)
 
     @classmethod
     def grant(cls, fpage: Fpage, base: int = 0) -> Item:
-        """Gives the pages away."""
+        """Returns an item that grants the pages: the sender loses them."""
         return cls(fpage, base, True)
 
     @classmethod
     def read(cls, first: int, second: int) -> Item:
-        """The item of two words; ValueError for strings, CtrlXfer items, and words that are none."""
-        kind = first >> 1 & 7
+        """Returns the item of two words. Raises ValueError for strings, CtrlXfer items, and words that are not an item."""
+        kind = number(first, "the first word of an item") >> 1 & 7
         if kind not in (4, 5):
-            raise ValueError(f"the words are no map or grant item: {first:#x} {second:#x}")
+            raise ValueError(f"the words are not a map or grant item: {first:#x} {second:#x}")
         return cls(Fpage.read(second), first & 0xFFFFFC00, kind == 5)
 
     def words(self, more: bool) -> Tuple[int, int]:
-        """The two words; `more`, their lowest bit, says that another item follows."""
+        """Returns the two words. `more`, their lowest bit, says that another item follows. Raises TypeError if it is not a bool."""
+        of_type(more, bool, "the parameter more of an item's words")
         return self.base | (10 if self.is_grant else 8) | more, self.fpage.word
 
     def __str__(self) -> str:
@@ -268,12 +277,12 @@ class Item:
 
 
 def items_of(words: Sequence[int]) -> Tuple[Item, ...]:
-    """The items of the typed words of a message."""
+    """Returns the items of the typed words of a message."""
     return tuple(Item.read(first, second) for first, second in zip(words[::2], words[1::2]))
 
 
 def words_of(words: Iterable[int], what: str) -> Tuple[int, ...]:
-    """At most 64 words."""
+    """Returns the words as a tuple. Raises ValueError for more than 64 words, and for a word that does not have 32 bits."""
     words = tuple(number(word, what) for word in words)
     if len(words) > MAX_WORDS:
         raise ValueError(f"more than {MAX_WORDS} words: {len(words)}")
@@ -281,7 +290,7 @@ def words_of(words: Iterable[int], what: str) -> Tuple[int, ...]:
 
 
 def _item_text(first: int, second: int) -> str:
-    """The item of two words, in words."""
+    """Returns the item of two words as text."""
     try:
         return str(Item.read(first, second))
     except ValueError:
@@ -289,7 +298,7 @@ def _item_text(first: int, second: int) -> str:
 
 
 def _message_text(tag: int, words: Sequence[int]) -> str:
-    """The words after a message's tag, and the tag, in words."""
+    """Returns the tag of a message and the words after it as text."""
     untyped, typed, flags = tag & 0x3F, tag >> 6 & 0x3F, tag >> 12 & 0xF
     found = words[untyped : untyped + typed]
     parts = [f"label {tag >> 16:#06x}", f"flags {flags:#x}" if flags else "", f"{untyped} untyped" if untyped else ""]
@@ -303,9 +312,9 @@ def _message_text(tag: int, words: Sequence[int]) -> str:
 
 @dataclass(frozen=True, repr=False)
 class Message:
-    """The words of a message, from its tag on: at most 64 (L4 X.2 manual, IPC: message registers).
+    """The words of a message, the tag first: at most 64 (L4 X.2 manual, IPC: message registers).
 
-    Such words may be refused by the kernel; `Message.of` makes only those that aren't.
+    The kernel may refuse such words. `Message.of` makes only messages that it does not refuse.
 
     >>> Message((0x70081, 5, 0x20008, 0x100c7))
     <Message 0x00070081 0x00000005 0x00020008 0x000100c7: label 0x0007; 1 untyped; map 4 KiB at 0x10000 rwx, send base 0x20000>
@@ -318,7 +327,8 @@ class Message:
 
     @classmethod
     def of(cls, label: int = 0, untyped: Iterable[int] = (), items: Iterable[Item] = ()) -> Message:
-        """A message with a label of 16 bits, untyped words, and items: at most 63 words after the tag, two of them for each item.
+        """Returns a message with a label of 16 bits, untyped words, and items. At most 63 words follow the tag, two of them for each item.
+        Raises ValueError for more.
 
         >>> message = Message.of(7, [5], [Item.map(Fpage.page(16, Rights.ALL), 0x20000)])
         >>> [hex(word) for word in message.words]
@@ -341,14 +351,14 @@ class Message:
 class Timeout(enum.Enum):
     """How long a phase of an Ipc waits for its partner."""
 
-    #: Until the partner comes.
+    #: It waits until the partner is ready.
     NEVER = 0
-    #: Not at all: where the partner isn't there, the wait may be ended by `Kernel.expire`.
+    #: It does not wait: `Kernel.expire` may end the phase if the partner is not ready.
     ZERO = _library.L4_ZERO_TIMEOUT
 
 
 def timeouts(send: Timeout, receive: Timeout) -> int:
-    """The timeouts word of a send phase and a receive phase, in bits 31 to 16 and 15 to 0."""
+    """Returns the timeouts word: the send timeout in bits 31 to 16, and the receive timeout in bits 15 to 0."""
     return of_type(send, Timeout, "a timeout").value << 16 | of_type(receive, Timeout, "a timeout").value
 
 

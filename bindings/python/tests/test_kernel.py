@@ -3,8 +3,6 @@ import copy
 import gc
 import os
 import pickle
-import subprocess
-import sys
 import threading
 import time
 import unittest
@@ -192,7 +190,7 @@ class Kernels(unittest.TestCase):
         self.refuses("U2", None, kernel.start, 1, Call.unmap_words(1, [0x17]))
         kernel.start(2, Call.receive())
         self.refuses("K3", None, kernel.start, 2, Call.delete(THREAD))
-        with self.assertRaisesRegex(Refused, "^M3 1: the item has an unknown kind or is no fpage$"):
+        with self.assertRaisesRegex(Refused, "^M3 1: the item has an unknown kind, or its fpage is invalid$"):
             kernel.start(1, Call.send(ThreadId.ROOT, Message((0x100, 8, 0, 14, 0))))
 
     def test_refusals_are_pickled(self):
@@ -330,35 +328,6 @@ class Kernels(unittest.TestCase):
         kernel._ask(slow)
         closing.join()
         self.assertEqual((held, kernel._handle.hidden), ([True], None))
-
-    @unittest.skipUnless(hasattr(os, "fork"), "no fork")
-    def test_a_child_of_a_process_with_threads_is_refused(self):
-        program = """
-import os, signal, threading, l4
-kernel = l4.Kernel(1)
-if os.fork() == 0:
-    signal.alarm(20)
-    os._exit(kernel.space_of(2) != 1)
-assert os.wait()[1] == 0
-release = threading.Event()
-threading.Thread(target=kernel._ask, args=(lambda _handle: release.wait(),)).start()
-if os.fork() == 0:
-    signal.alarm(20)
-    refused = 0
-    start = lambda: kernel.start(1, l4.Call.receive())
-    for call in (start, kernel.spaces, kernel.enabled, l4.Kernel, l4.Region(4, 12, 12, l4.Rights.ALL).plan):
-        try:
-            call()
-        except RuntimeError:
-            refused += 1
-    kernel.close()
-    os._exit(refused != 5)
-status = os.wait()[1]
-release.set()
-assert status == 0
-"""
-        done = subprocess.run([sys.executable, "-W", "ignore", "-c", program], stderr=subprocess.PIPE, text=True)
-        self.assertEqual((done.returncode, done.stderr), (0, ""))
 
 
 if __name__ == "__main__":

@@ -9,12 +9,11 @@ import tempfile
 import threading
 import unittest
 from pathlib import Path
-from xml.etree import ElementTree
 
-from l4.lab import MOST_BYTES, Lab, read_script
+from l4.lab import Lab, read_script
+from l4.lab_answers import MOST_BYTES
 
 EXAMPLES = Path(__file__).resolve().parents[3] / "examples"
-SVG = "{http://www.w3.org/2000/svg}"
 FIRST = (EXAMPLES / "first.script").read_text()
 
 
@@ -42,59 +41,87 @@ class Labs(unittest.TestCase):
         self.assertEqual(status, wanted, body[:200])
         return json.loads(body)
 
-    def view(self, script=FIRST, **question):
-        return self.ask("/view", script=script, **question)
+    def run_of(self, script=FIRST, **question):
+        return self.ask("/run", script=script, **question)
+
+    def view(self, script=FIRST, at=1 << 20, **question):
+        return self.ask("/view", script=script, at=at, **question)
 
     def test_a_run_is_shown_after_each_step(self):
-        self.assertEqual(json.loads(self.send("GET", "/start")[1]), {"script": FIRST, "frames": 256, "page_bytes": 4096})
-        seen = [(view["step"], view["step_count"], view["spaces"], len(view["pages"]["pages"])) for view in (self.view(step=step, space=2) for step in range(5))]
-        self.assertEqual(seen, [(0, 4, [0, 1], 256), (1, 4, [0, 1, 2], 0), (2, 4, [0, 1, 2], 0), (3, 4, [0, 1, 2], 0), (4, 4, [0, 1, 2], 1)])
-        waiting = self.view(step=3)
-        self.assertEqual(waiting["senders"], [{"thread": 1, "to": "thread 3"}])
-        self.assertEqual([thread["waits"] != "" for thread in waiting["threads"]], [True, False, True])
+        start = {"script": FIRST, "frames": 256, "pageBytes": 4096, "mostBytes": MOST_BYTES}
+        self.assertEqual(json.loads(self.send("GET", "/start")[1]), start)
+        boot, came = [0, 256, 0, "rwx", None, None], [32, 1, 16, "rwx", 0, 16]
+        seen = [(view["at"], view["count"], [it["runs"] for it in view["now"]["spaces"]]) for view in (self.view(at=at) for at in range(5))]
+        states = [[[boot], []], [[boot], [], []], [[boot], [], []], [[boot], [], []], [[boot], [], [came]]]
+        self.assertEqual(seen, [(at, 4, state) for at, state in enumerate(states)])
+        self.assertEqual([self.view(at=at)["old"] for at in range(1, 5)], [self.view(at=at)["now"] for at in range(4)])
+
+    def test_the_steps_of_a_run(self):
+        run = self.run_of()
+        self.assertEqual(
+            [(step["text"], step["answers"], step["line"], step["at"]) for step in run["steps"]],
+            [("start 2 create 0x0000c001 0x0000c001 0x00000000", ["started", "2 control ok"], 1, 1),
+             ("start 3 ipc 0x00000000 0xffffffff 0x00000000 0x00000010", ["started"], 2, 2),
+             ("start 1 ipc 0x0000c001 0x00000000 0x00000000 0x00000000 0x00000080 0x00020008 0x000100c7", ["started"], 3, 3),
+             ("transfer 1 3", ["done", "1 ipc 00000000 0 nil", "3 ipc 00000080 0 1 00020008 000100c7"], 3, 4)])
+        self.assertEqual(run["steps"][3]["says"], "label 0x0000; map 4 KiB at 0x10000 rwx, send base 0x20000")
+        self.assertEqual((run["refusals"], run["notes"]), ({"count": 0, "first": []}, []))
+        expired = self.run_of("ipc 2 nil any 0x400 0\n")["steps"][1]
+        self.assertEqual((expired["text"], expired["answers"]), ("expire 2", ["expired", "2 ipc 00008000 3 nil"]))
 
     def test_the_last_step_shows_all_answers(self):
-        view = self.view(space=2, page=32, frame=16)
+        view = self.view()
         answers = [text for line in view["lines"] for text in line["answers"]]
         self.assertEqual(answers, ["2 control ok", "3 waits", "transfer 1 3 done", "1 ipc 00000000 0 nil", "3 ipc 00000080 0 1 00020008 000100c7",
                                    "page 32 frame 16 rwx", "shown 1"])
-        self.assertEqual(view["pages"]["pages"], [{"page": 32, "frame": 16, "rights": "rwx", "parent": {"space": 0, "page": 16}}])
-        self.assertEqual(view["why"], ["space 2 page 32 shows frame 16 rwx", "space 0 page 16 shows frame 16 rwx"])
-        boxes = [(box.get("data-space"), box.get("data-page")) for box in ElementTree.fromstring(view["tree"]).iter(f"{SVG}g")]
-        self.assertEqual(boxes, [("0", "16"), ("2", "32")])
-        arrows = [arrow.find(f"{SVG}text").text for arrow in ElementTree.fromstring(view["chart"]).iter(f"{SVG}g")]
-        self.assertEqual(arrows, ["label 0x0000; map 4 KiB at 0x10000 rwx, send base 0x20000"])
-        self.assertEqual(view["steps"][3], {"step": 4, "line": 3, "text": "transfer 1 3 done"})
+        self.assertEqual([(line["number"], line["at"], line["isLater"]) for line in view["lines"]], [(1, 1, False), (2, 2, False), (3, 4, False), (4, 4, False)])
+        later = [line["isLater"] for line in self.view(at=2)["lines"]]
+        self.assertEqual(later, [False, False, True, True])
 
-    def test_a_page_fault_waits_for_its_pager(self):
-        view = self.view("thread 3 new 2\nfault 3 0x5678 0 r--\n")
-        self.assertEqual(view["senders"], [{"thread": 3, "to": "thread 2"}])
-        told = self.view("thread 3 new 2\nfault 3 0x5678 0 r--\nrecv 2 any 0\n")
-        waits = [thread["waits"] for thread in told["threads"]]
-        self.assertEqual((told["senders"], waits), ([], ["", "", "receive what its pager answers to the fault at 0x5678 by 0x0, which needs r--"]))
-        self.assertIn("label 0xffe4; 2 untyped", told["chart"])
-        both = self.view("recv 2 any 0\nipc 1 2 2 0 0x10 0x70000\nrecv 2 any 0\n")
-        waits = [thread["waits"] for thread in both["threads"]]
-        self.assertEqual(waits, ["receive from thread 2, window complete ---", "receive from any, window nil"])
+    def test_why_a_page_is_there(self):
+        script = "thread 3 new nil\nrecv 3 any 0x10\nsend 1 3 0x80 0x20008 0x100c7\nrecv 2 any 0x10\nsend 3 2 0x80 0x700a 0x200c6\n"
+        told = self.ask("/why", script=script, at=7, space=1, page=7)
+        links = ["entry 3 transfer 1 3 map 16 32 rwx rwx", "entry 6 transfer 3 2 grant 32 7 rwx rw-"]
+        self.assertEqual(told, {"lines": ["sigma0 page 16", *links, "page 7"], "steps": [None, 4, 7, None]})
+        self.assertEqual(self.ask("/why", script=script, at=4, space=2, page=32)["lines"], ["sigma0 page 16", links[0], "page 32"])
+        self.assertEqual(self.ask("/why", script=script, at=2, space=2, page=32)["lines"], ["absent"])
+        self.assertEqual(self.ask("/why", script=script, at=3, space=2, page=32)["steps"], [4])
+        served = "thread 4 new 1\nserve 1\nfault 4 0x5000 0 r--\nfault 4 0x6000 0 r--\n"
+        self.assertEqual(self.ask("/why", script=served, at=1 << 20, space=2, page=6)["lines"][1][:5], "entry")
 
-    def test_messages_that_are_not_delivered_are_shown(self):
-        view = self.view("recv 2 any 0\nsend 1 2 0x80 0x20008 0x100c7\n")
-        self.assertIn("no-window: label 0x0000; map 4 KiB", view["chart"])
+    def test_refused_lines_have_their_meaning(self):
+        refusals = self.run_of("frob\nsend 1 3 x\nrecv 2 any 0\nsend 1 2 0x1000\nsend 1 2 0")["refusals"]
+        self.assertEqual(refusals["count"], 4)
+        told = [(it["line"], it["at"], it["code"]) for it in refusals["first"]]
+        self.assertEqual(told, [(1, 0, "S1"), (2, 0, "S2"), (4, 1, "M5"), (5, 1, "S4")])
+        self.assertEqual(refusals["first"][0]["means"], "the command is unknown")
+        self.assertIn("flag", refusals["first"][2]["means"])
+
+    def test_regions_and_served_threads(self):
+        view = self.view("thread 4 new nil\nregion 4 4 100 4 r-x\nserve 4\n")
+        self.assertEqual(view["regions"], [{"thread": 4, "first": 4, "source": 100, "count": 4, "rights": "r-x"}])
+        self.assertEqual(view["served"], [4])
+
+    def test_words_say_what_they_mean(self):
+        message = self.ask("/decode", words=[0x80, 0x20008, 0x100C7], reading="message", pageBytes=4096)
+        self.assertEqual(message["lines"], ["label 0x0000; map 4 KiB at 0x10000 rwx, send base 0x20000"])
+        self.assertEqual(self.ask("/decode", words=[0x10], reading="window", pageBytes=4096)["lines"], ["complete ---"])
+        self.assertEqual(self.ask("/decode", words=[0x42], reading="fpage", pageBytes=4096)["lines"], ["no fpage in 0x00000042"])
+        for question in ({"words": []}, {"words": [-1]}, {"words": [1 << 32]}, {"words": [0] * 66}, {"words": 3}, {"words": [0], "reading": "id"}):
+            self.ask("/decode", 400, **{"reading": "message", **question})
 
     def test_plans(self):
         plan = self.ask("/plan", source=4, target=12, count=12, rights=7)
         self.assertEqual((plan["text"], plan["verdict"], plan["pages"]), ("2 items in 1 message", "proved 2", [4, 8]))
-        kinds = [group.get("class") for group in ElementTree.fromstring(plan["blocks"]).iter(f"{SVG}g")]
-        self.assertEqual((kinds.count("block"), kinds.count("witness")), (4, 2))
+        self.assertEqual([(item["place"], item["pages"], item["page"]) for item in plan["items"]], [(0, 4, 4), (4, 8, 8)])
         long = self.ask("/plan", source=0, target=1, count=1985, rights=7)
-        self.assertEqual((long["verdict"], len(long["pages"]), long["blocks"]), ("proved too-long", 256, ""))
-        self.assertIn("and 1,728 items more", self.ask("/plan", source=0, target=1, count=1984, rights=7)["blocks"])
-        self.assertEqual(self.ask("/plan", source=4, target=12, count=0, rights=7)["text"], "N1: the region has no page")
+        self.assertEqual((long["verdict"], len(long["pages"]), long["items"]), ("proved too-long", 256, []))
+        self.assertEqual(self.ask("/plan", source=4, target=12, count=0, rights=7)["text"], "N1: the region has no pages")
         self.assertEqual(self.ask("/plan", 400, source=4, target=12, count=1, rights=8), {"error": "rights is a number below 8"})
 
     def test_another_site_is_refused(self):
         own = f"127.0.0.1:{self.lab.server_port}"
-        body, json_type = json.dumps({"script": ""}), "application/json"
+        body, json_type = json.dumps({"script": "", "at": 0}), "application/json"
         for headers in (
             {"Host": "evil.example"},
             {"Host": f"evil.example:{self.lab.server_port}"},
@@ -103,24 +130,25 @@ class Labs(unittest.TestCase):
             {"Origin": f"https://{own}"},
             {"Origin": f"http://localhost:{self.lab.server_port}"},
         ):
-            for method, path in (("GET", "/"), ("GET", "/start"), ("POST", "/view"), ("POST", "/plan")):
+            for method, path in (("GET", "/"), ("GET", "/start"), ("GET", "/views/main.mjs"), ("POST", "/run"), ("POST", "/view"), ("POST", "/plan")):
                 self.assertEqual(self.send(method, path, body if method == "POST" else None, Content_Type=json_type, **headers)[0], 403)
         self.assertEqual(self.send("POST", "/view", body, Content_Type=json_type, Origin=f"http://{own}")[0], 200)
         self.assertEqual(self.send("POST", "/view", body, Content_Type="text/plain")[0], 400)
 
     def test_requests_that_are_no_questions_get_an_answer(self):
-        for path in ("/no", "/../lab.py", "/lab.py", "/%2e%2e/lab.py", "/view"):
+        for path in ("/no", "/../lab.py", "/lab.py", "/%2e%2e/lab.py", "/view", "/views/page.html", "/views/../lab.py"):
             self.assertEqual(self.send("GET", path)[0], 404)
         self.assertEqual(self.send("POST", "/start", "{}", Content_Type="application/json")[0], 404)
         for body in (b"", b"{", b"[]", b"3", b"null", b"\xff", b"[" * 100000, b'{"script": 5}', b'{"script": "\\ud800"}', b'{"frames": 1}', b"9" * 5000):
             self.assertEqual(self.send("POST", "/view", body, Content_Type="application/json")[0], 400, body[:20])
-        for question in ({"frames": 0}, {"frames": 4097}, {"frames": -1}, {"frames": True}, {"frames": "5"}, {"frames": 1e9}, {"page_bytes": 2048}, {"step": -1},
-                         {"step": None}, {"space": -1}, {"space": 1 << 64}, {"first": 1 << 32}, {"frame": -1}, {"page": 1 << 32}):
-            self.ask("/view", 400, script="", **question)
-        # what isn't there is no fault
-        view = self.view(step=99, space=77, first=(1 << 32) - 1, frame=4000, page=4000)
-        self.assertEqual((view["step"], view["pages"]["space"], view["why"], view["tree"].count("<g ")), (4, 0, [], 0))
-        self.assertEqual(self.view("", step=5)["step_count"], 0)
+        for question in ({"frames": 0}, {"frames": 4097}, {"frames": -1}, {"frames": True}, {"frames": "5"}, {"frames": 1e9}, {"pageBytes": 2048}, {"at": -1}, {"at": None}):
+            self.ask("/view", 400, **{"script": "", "at": 0, **question})
+        for question in ({"space": -1}, {"space": 1 << 64}, {"page": 1 << 32}, {"page": None}):
+            self.ask("/why", 400, **{"script": "", "at": 0, "space": 0, "page": 0, **question})
+        # what is not there is no error
+        self.assertEqual(self.view(at=99)["at"], 4)
+        self.assertEqual(self.ask("/why", script=FIRST, at=99, space=77, page=4000)["lines"], ["absent"])
+        self.assertEqual(self.view("", at=5)["count"], 0)
 
     def test_raw_bytes_get_an_answer_or_nothing(self):
         head = f"Host: 127.0.0.1:{self.lab.server_port}\r\n".encode()
@@ -137,27 +165,27 @@ class Labs(unittest.TestCase):
 
     def test_large_scripts_stay_within_bounds(self):
         long = "recv 2 any 0x400\nipc 1 2 nil 0 0 0\n" * 6000
-        view = self.view(long)
-        self.assertEqual((len(view["notes"]), len(view["lines"]), len(view["steps"])), (1, 200, 200))
+        view, run = self.view(long), self.run_of(long)
+        self.assertEqual((len(view["notes"]), len(view["lines"]), len(run["steps"])), (1, 200, 15_000))
         self.assertRegex(view["notes"][0], "^The lab stops on line [0-9,]+, after 20,000 events")
         self.assertLess(len(json.dumps(view)), 1 << 20)
-        self.assertEqual(self.ask("/view", 400, script="#" * (MOST_BYTES + 1))["error"], "the lab takes scripts of up to 262,144 bytes; l4 run takes any")
+        self.assertEqual(self.ask("/view", 400, at=0, script="#" * (MOST_BYTES + 1))["error"], "the lab takes scripts of up to 262,144 bytes; l4 run takes any")
         lines = self.view("x" * MOST_BYTES)["lines"]
         self.assertEqual((len(lines), lines[0]["answers"], len(lines[0]["text"])), (1, ["line 1 refused S4"], 302))
-        self.assertEqual(self.view("\n" * MOST_BYTES)["line_count"], MOST_BYTES + 1)
+        self.assertEqual(self.run_of("\n" * MOST_BYTES)["lineCount"], MOST_BYTES)
         shows = self.view("show 1 0 4096\n" * 1000, frames=4096)
-        self.assertEqual((len(shows["notes"]), shows["pages"]["next"], len(shows["lines"][49]["answers"])), (1, 256, 0))
-        self.assertEqual([len(line["answers"]) for line in self.view("show 1 0 4096\n", frames=4096)["lines"]], [65, 0])
+        self.assertEqual((len(shows["notes"]), len(shows["lines"][49]["answers"])), (1, 0))
+        self.assertEqual([len(line["answers"]) for line in self.view("show 1 0 4096\n", frames=4096)["lines"]], [65])
 
     def test_the_page_takes_what_the_server_takes(self):
-        self.assertIn(f'maxlength="{MOST_BYTES}"', self.send("GET", "/")[1].decode())
+        self.assertEqual(json.loads(self.send("GET", "/start")[1])["mostBytes"], MOST_BYTES)
         self.assertEqual(self.ask("/view", 400, script="steps\n" * 2_000_000)["error"], "a request has up to 2,097,152 bytes")
 
     def test_64_threads_with_4096_frames(self):
         script = "".join(f"thread {thread} new nil\nrecv {thread} 1 0x10\ndelegate 1 {thread} 0 0 4096 rwx\n" for thread in range(3, 65))
-        view = self.view(script, frames=4096, space=63, first=3900, page=4000, frame=4000)
-        self.assertEqual((len(view["spaces"]), len(view["threads"]), len(view["pages"]["pages"]), view["pages"]["next"]), (64, 64, 196, None))
-        self.assertEqual((len(view["why"]), len(view["notes"])), (2, 1))
+        view = self.view(script, frames=4096)
+        self.assertEqual((len(view["now"]["spaces"]), view["now"]["isWhole"], len(view["notes"])), (64, False, 1))
+        self.assertEqual(view["now"]["spaces"][2]["runs"], [[0, 4096, 0, "rwx", 0, 0]])
         self.assertLess(len(json.dumps(view)), 1 << 20)
 
     def test_files_are_read_up_to_what_the_lab_takes(self):

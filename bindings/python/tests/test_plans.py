@@ -72,7 +72,7 @@ class Plans(unittest.TestCase):
         with self.assertRaises(TooLong) as caught:
             region.plan()
         refused = caught.exception
-        self.assertEqual(str(refused), "N4: no 1,984 map items, as many as 64 messages hold, move just the region")
+        self.assertEqual(str(refused), "N4: the region needs more than 1,984 map items, the most that 64 messages can hold")
         self.assertEqual(len(refused.pages), 1985)
         region.check_too_long(refused.pages)
         self.refuses("C5", None, region.check_too_long, refused.pages[1:])

@@ -1,4 +1,7 @@
 """Threads share a kernel."""
+import copy
+import pickle
+import signal
 import threading
 import time
 import unittest
@@ -16,6 +19,13 @@ def wait_for(kernel, steps):
     """Other threads act until the history has so many steps."""
     while kernel.steps() < steps:
         time.sleep(0.001)
+
+
+def interrupt(kernel, steps):
+    """Interrupts the main thread, as Ctrl-C does, once the history has so many steps."""
+    wait_for(kernel, steps)
+    time.sleep(0.05)
+    signal.pthread_kill(threading.main_thread().ident, signal.SIGINT)
 
 
 class Parties:
@@ -156,6 +166,89 @@ class Shared(unittest.TestCase):
         with self.assertRaisesRegex(Refused, "^X2 3: "):
             kernel.close([root, third, third])
         self.assertEqual(kernel.close([third, root]), ())
+
+    def test_a_call_goes_on_after_its_wait_was_interrupted(self):
+        handler = signal.signal(signal.SIGINT, signal.default_int_handler)
+        self.addCleanup(signal.signal, signal.SIGINT, handler)
+        kernel = SharedKernel(1)
+        sigma0, root = kernel.seat(1), kernel.seat(2)
+        self.assertIsNone(root.take())
+        threading.Thread(target=interrupt, args=(kernel, 1)).start()
+        with self.assertRaises(KeyboardInterrupt):
+            root.call(Call.receive())
+        self.assertIsNone(root.take())
+        with self.assertRaisesRegex(Refused, "^K3: "):
+            root.call(Call.receive())
+        sigma0.call(Call.send(ThreadId.ROOT, Message.of(untyped=[5])))
+        with self.assertRaisesRegex(Refused, "^L3: "):
+            root.call(Call.receive())
+        self.assertEqual(root.take().untyped, (5,))
+        self.assertIsNone(root.take())
+        self.assertEqual(root.call(create(3)).kind, ReplyKind.CONTROLLED)
+        self.assertEqual([receipt.reply.kind for receipt in root.receipts], [ReplyKind.IPC, ReplyKind.CONTROLLED])
+        self.assertEqual(len(kernel.close([root, sigma0])), 4)
+
+    def wakes_waiting_threads(self, close):
+        """Two threads wait for calls while this one closes the kernel."""
+        kernel, texts = SharedKernel(1), []
+        seats = kernel.seat(1), kernel.seat(2)
+
+        def wait(seat):
+            try:
+                seat.call(Call.receive())
+            except ValueError as error:
+                texts.append(str(error))
+
+        # a thread that is never woken does not keep the process
+        threads = [threading.Thread(target=wait, args=[seat], daemon=True) for seat in seats]
+        for thread in threads:
+            thread.start()
+        wait_for(kernel, 2)
+        close(kernel, seats)
+        for thread in threads:
+            thread.join(10)
+        self.assertEqual(texts, ["the SharedKernel is closed"] * 2)
+
+    def test_closing_wakes_waiting_threads(self):
+        self.wakes_waiting_threads(lambda kernel, seats: self.assertEqual(len(kernel.close(seats)), 2))
+
+    def test_the_end_of_a_block_wakes_waiting_threads(self):
+        def leave(kernel, _seats):
+            with kernel:
+                pass
+
+        self.wakes_waiting_threads(leave)
+
+    def test_a_closed_kernel_is_named_in_errors(self):
+        with SharedKernel(1) as kernel:
+            root = kernel.seat(2)
+            self.assertFalse(kernel.closed)
+        other = SharedKernel(1)
+        other.close([])
+        self.assertEqual((kernel.closed, other.closed), (True, True))
+        with kernel:
+            pass
+        for step, *values in (
+            (kernel.seat, 3),
+            (kernel.history,),
+            (kernel.provenance, 0, 0),
+            (kernel.check_provenance, 0, 0, []),
+            (kernel.close, [root]),
+            (other.close, []),
+            (root.call, Call.receive()),
+            (root.take,),
+            (getattr, root, "starts"),
+            (getattr, root, "receipts"),
+        ):
+            with self.assertRaisesRegex(ValueError, "^the SharedKernel is closed$"):
+                step(*values)
+
+    def test_kernels_and_seats_are_not_copied(self):
+        kernel = SharedKernel(1)
+        for value, name in ((kernel, "SharedKernel"), (kernel.seat(2), "Seat")):
+            for way in (copy.copy, copy.deepcopy, pickle.dumps):
+                with self.assertRaisesRegex(TypeError, f"^a {name} can't be pickled, nor copied"):
+                    way(value)
 
     def test_what_is_given(self):
         with self.assertRaisesRegex(Refused, "^K6"):

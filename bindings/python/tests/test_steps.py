@@ -40,7 +40,7 @@ pages all;start 1 ipc 0 0 0 0 {words};start 1 unmap 0 {words}"""
             with self.subTest(line):
                 answers = replay(Kernel(), f"space 1\n{line}\nspace 2\n".encode().splitlines(True))
                 self.assertEqual(next(answers), "space 0")
-                with self.assertRaisesRegex(Unread, "^line 2 is no step and no question$"):
+                with self.assertRaisesRegex(Unread, "^line 2 is not a valid step or query$"):
                     next(answers)
 
     def test_drawings(self):
@@ -56,7 +56,7 @@ pages all;start 1 ipc 0 0 0 0 {words};start 1 unmap 0 {words}"""
     def test_frames(self):
         self.assertEqual(l4("--frames", "1", "steps", lines=b"pages 0\n"), (0, b"page 0 frame 0 rwx none\nshown 1\n", b""))
         status, out, err = l4("--frames", "0", "steps")
-        self.assertEqual((status, out, err), (2, b"", b"error: K6: a machine has 1 to 4,096 frames\n"))
+        self.assertEqual((status, out, err), (2, b"", b"error: K6: the number of frames must be from 1 to 4,096\n"))
 
     def test_page_size(self):
         fault = b"start 1 fault 0x5678 0 4\n"

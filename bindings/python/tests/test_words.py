@@ -117,6 +117,9 @@ class Words(unittest.TestCase):
                     Fpage.read(word)
         self.assertEqual(Fpage.read(0x17), Fpage.complete(Rights.ALL))
         self.assertEqual(Fpage.read(0xFFFFCCF).word, 0xFFFF0C7)
+        for word in (1 << 40 | 0x100C7, -1):
+            with self.assertRaisesRegex(ValueError, "^the word of an fpage is from 0 to 4294967295: "):
+                Fpage.read(word)
 
     def test_fpages_know_their_pages(self):
         self.assertEqual(Fpage.pages(8, 2, Rights.ALL).page_range, range(8, 12))
@@ -153,9 +156,12 @@ class Words(unittest.TestCase):
                 first, second = item.words(more)
                 self.assertEqual(first & 1, more)
                 self.assertEqual(Item.read(first, second), item)
-        for words in ((0, 0x50C7), (14, 0x50C7), (8, 0x1020)):
+        for words in ((0, 0x50C7), (14, 0x50C7), (8, 0x1020), (1 << 32 | 8, 0x50C7), (8, 1 << 32 | 0x50C7)):
             with self.assertRaises(ValueError):
                 Item.read(*words)
+        for more in (7, 1, None):
+            with self.assertRaisesRegex(TypeError, f"is a bool: {more}$"):
+                Item.map(fpage).words(more)
         with self.assertRaises(ValueError):
             Item.map(fpage, 0x7FF)
 
@@ -177,7 +183,8 @@ class Words(unittest.TestCase):
     def given(self, call):
         """What the library reads, without what is 0."""
         given = call.given()
-        return {name: getattr(given, name) for name, _ in given._fields_ if getattr(given, name)}
+        self.assertEqual(list(given.reserved), [0] * 4)
+        return {name: getattr(given, name) for name, _ in given._fields_ if name != "reserved" and getattr(given, name)}
 
     def test_calls_are_the_words_that_c_gives(self):
         to, message = ThreadId.of(3), Message.of(0, [5])
@@ -201,6 +208,9 @@ class Words(unittest.TestCase):
         call = Call.unmap([fpage] * 64, own=True)
         self.assertEqual((self.given(call), call.words), ({"kind": 3, "control": 0x7F}, (0x10C2,) * 64))
         self.assertEqual(self.given(Call.unmap([fpage])), {"kind": 3})
+        for own in (2, 64, "yes"):
+            self.assertEqual(Call.unmap([fpage], own=own), Call.unmap([fpage], own=True))
+        self.assertEqual(Call.unmap([fpage], own=0), Call.unmap([fpage]))
         for fpages in ([], [fpage] * 65):
             with self.assertRaises(ValueError):
                 Call.unmap(fpages)

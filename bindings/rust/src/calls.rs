@@ -7,16 +7,17 @@ use std::fmt;
 
 /// How long a phase of an Ipc waits for its partner.
 #[derive(Clone, Copy, PartialEq, Eq, Hash, Debug, Default)]
+#[non_exhaustive]
 pub enum Timeout {
-    /// Until the partner comes.
+    /// It waits until the partner is ready.
     #[default]
     Never,
-    /// Not at all: where the partner isn't there, the wait may be ended by [`Kernel::expire`](crate::Kernel::expire).
+    /// It does not wait: [`Kernel::expire`](crate::Kernel::expire) may end the phase if the partner is not ready.
     Zero,
 }
 
 impl Timeout {
-    /// The timeout as a half of the timeouts word.
+    /// Returns the timeout as one half of the timeouts word.
     const fn bits(self) -> u32 {
         match self {
             Timeout::Never => 0,
@@ -24,28 +25,28 @@ impl Timeout {
         }
     }
 
-    /// The timeouts word of a send phase and a receive phase, in bits 31 to 16 and 15 to 0.
+    /// Returns the timeouts word: the send timeout in bits 31 to 16, and the receive timeout in bits 15 to 0.
     pub const fn word(send: Timeout, receive: Timeout) -> u32 {
         send.bits() << 16 | receive.bits()
     }
 }
 
-/// Any Ipc, by its words: what isn't one is refused by the kernel (L4 X.2 manual, Ipc).
+/// Any Ipc, by its words, which the kernel may refuse (L4 X.2 manual, Ipc).
 #[derive(Clone, Copy, PartialEq, Eq, Debug)]
 pub struct Ipc {
-    /// To whom the send phase goes; there is none with [`ThreadId::NIL`].
+    /// The partner of the send phase. There is no send phase with [`ThreadId::NIL`].
     pub to: ThreadId,
-    /// From whom the receive phase takes a message; there is none with [`ThreadId::NIL`].
+    /// The partner of the receive phase. There is no receive phase with [`ThreadId::NIL`].
     pub from: ThreadId,
     /// The timeouts, as [`Timeout::word`] makes them.
     pub timeouts: u32,
-    /// The receive window: bits 31 to 4 as of an fpage's word.
+    /// The receive window: bits 31 to 4 as in an fpage's word.
     pub acceptor: u32,
-    /// What the send phase sends.
+    /// The message of the send phase.
     pub message: Message,
 }
 
-/// An Unmap has 1 to 64 fpages.
+/// The error for an Unmap that does not have 1 to 64 fpages.
 #[derive(Clone, Copy, PartialEq, Eq, Debug)]
 pub struct FpageCount;
 
@@ -58,6 +59,8 @@ impl fmt::Display for FpageCount {
 impl Error for FpageCount {}
 
 /// A call of a thread, which [`Kernel::start`](crate::Kernel::start) and [`Kernel::enter`](crate::Kernel::enter) begin.
+///
+/// A call is a plain value. It belongs to no kernel, and can be started many times.
 ///
 /// ```
 /// use l4::{Call, Rights, ThreadId};
@@ -72,7 +75,7 @@ pub struct Call {
 }
 
 impl Call {
-    /// A call of this kind with no word set.
+    /// Returns a call of this kind whose other members are 0.
     fn of_kind(kind: u32) -> Call {
         Call {
             given: ffi::l4_call {
@@ -88,12 +91,13 @@ impl Call {
                 id: 0,
                 space: 0,
                 pager: 0,
+                reserved: [0; 4],
             },
             words: Message::EMPTY,
         }
     }
 
-    /// The call that the library tells of a history or a receipt.
+    /// Returns the call that the library reports in a history or a receipt.
     pub(crate) fn told(given: &ffi::l4_call, words: &[u32]) -> Call {
         Call {
             given: *given,
@@ -101,20 +105,22 @@ impl Call {
         }
     }
 
-    /// Its name and numbers as in a list of steps.
+    /// Returns its name and numbers as in a step list.
     pub(crate) fn line(&self) -> String {
         let (name, mut words) = self.members();
         words.extend(self.words.words());
         format!("{name} {}", Hexadecimal(&words))
     }
 
-    /// What the library reads.
+    /// Returns what the library reads.
     pub(crate) fn given(&self) -> (&ffi::l4_call, &[u32]) {
         (&self.given, self.words.words())
     }
 
-    /// An Ipc by its words. Refused, in this order, by K4 for its timeouts, M7, M1, M5, M2, M4 or M3 for its message, and M6 for its
-    /// window; the calls below have good timeouts and windows.
+    /// Makes an Ipc from its words.
+    ///
+    /// The kernel refuses it, in this order, with K4 for its timeouts; M7, M1, M5, M2, M4 or M3 for its message; and M6 for its window. The
+    /// timeouts and windows of the functions below are always valid.
     pub fn ipc(ipc: &Ipc) -> Call {
         let mut call = Call::of_kind(ffi::L4_IPC);
         call.given.to = ipc.to.word();
@@ -125,7 +131,7 @@ impl Call {
         call
     }
 
-    /// Sends the message, and receives nothing (L4 X.2 manual, Send).
+    /// Sends a message to a thread, without a receive phase (L4 X.2 manual, Send).
     pub fn send(to: ThreadId, message: &Message, timeout: Timeout) -> Call {
         Call::ipc(&Ipc {
             to,
@@ -136,8 +142,9 @@ impl Call {
         })
     }
 
-    /// Receives a message of this thread, or of anybody where that is [`ThreadId::ANY`], and accepts pages in the window, whose rights
-    /// mean nothing (L4 X.2 manual, Receive and Wait).
+    /// Receives a message from a thread, or from any thread with [`ThreadId::ANY`] (L4 X.2 manual, Receive and Wait).
+    ///
+    /// The window says where the caller accepts pages; its rights are ignored.
     pub fn receive(from: ThreadId, window: Fpage, timeout: Timeout) -> Call {
         Call::ipc(&Ipc {
             to: ThreadId::NIL,
@@ -148,8 +155,8 @@ impl Call {
         })
     }
 
-    /// Sends the message to a thread and receives that thread's answer (L4 X.2 manual, Call).
-    // The manual's name of it.
+    /// Sends a message to a thread, and then receives that thread's answer (L4 X.2 manual, Call).
+    // The name is the manual's.
     #[allow(clippy::self_named_constructors)]
     pub fn call(
         to: ThreadId,
@@ -167,7 +174,7 @@ impl Call {
         })
     }
 
-    /// Sends the message to a thread and receives anybody's message (L4 X.2 manual, ReplyWait).
+    /// Sends a message to a thread, and then receives a message from any thread (L4 X.2 manual, ReplyWait).
     pub fn reply_and_wait(
         to: ThreadId,
         message: &Message,
@@ -184,8 +191,10 @@ impl Call {
         })
     }
 
-    /// A page fault at the address by the instruction at `ip`, both in bytes, by an access that needs these rights. Where the page
-    /// isn't there with them, it goes to the thread's pager as a message (L4 X.2 manual, Page Fault Protocol).
+    /// Reports a page fault at `address`, by the instruction at `ip`, both in bytes, for an access that needs these rights.
+    ///
+    /// If the page is not present with these rights, the kernel sends the fault to the thread's pager as a message (L4 X.2 manual, Page
+    /// Fault Protocol).
     pub fn fault(address: u32, ip: u32, access: Rights) -> Call {
         let mut call = Call::of_kind(ffi::L4_FAULT);
         call.given.address = address;
@@ -194,16 +203,24 @@ impl Call {
         call
     }
 
-    /// Takes the rights that 1 to 64 fpages name from all that was mapped from the caller's pages in them, and with `own` from those
-    /// pages too (L4 X.2 manual, Unmap).
+    /// Revokes the rights that the fpages name from every page that was mapped from the caller's pages in them (L4 X.2 manual, Unmap). With
+    /// `own`, the caller's pages lose these rights too.
+    ///
+    /// # Errors
+    ///
+    /// [`FpageCount`] if there are no fpages, or more than 64.
     pub fn unmap(own: bool, fpages: &[Fpage]) -> Result<Call, FpageCount> {
         let last = fpages.len().checked_sub(1).ok_or(FpageCount)? as u32;
         let words: Vec<u32> = fpages.iter().map(|fpage| fpage.word()).collect();
         Call::unmap_words(u32::from(own) << 6 | last & 0x3f, &words).map_err(|_| FpageCount)
     }
 
-    /// An Unmap by its words: bit 6 of `control` means the caller's own pages too, and bits 5 to 0 are k where the words 0 to k are
-    /// fpages. Refused, in this order, by U2 and U1.
+    /// Makes an Unmap from its words. Bit 6 of `control` means that the caller's own pages lose the rights too; bits 5 to 0 are k, and the
+    /// words 0 to k are fpages. The kernel refuses it, in this order, with U2 and U1.
+    ///
+    /// # Errors
+    ///
+    /// [`TooManyWords`] for more than 64 words.
     pub fn unmap_words(control: u32, words: &[u32]) -> Result<Call, TooManyWords> {
         let mut call = Call::of_kind(ffi::L4_UNMAP);
         call.given.control = control;
@@ -211,8 +228,8 @@ impl Call {
         Ok(call)
     }
 
-    /// Makes a thread of this id, in the space of the thread `space` or, where that is the id itself, in a new space (L4 X.2 manual,
-    /// ThreadControl). Refused by H1 to H5, and by NoMemory where the space is new.
+    /// Creates a thread with this id, in the space of the thread `space`, or in a new space if `space` is the same id (L4 X.2 manual,
+    /// ThreadControl). The kernel refuses it with H1 to H5, and with NoMemory for a new space.
     pub fn create(id: ThreadId, space: ThreadId, pager: ThreadId) -> Call {
         let mut call = Call::of_kind(ffi::L4_CREATE);
         call.given.id = id.word();
@@ -221,7 +238,7 @@ impl Call {
         call
     }
 
-    /// Gives a thread another pager (L4 X.2 manual, ThreadControl). Refused by H1 and H4.
+    /// Sets the pager of a thread (L4 X.2 manual, ThreadControl). The kernel refuses it with H1 and H4.
     pub fn set_pager(id: ThreadId, pager: ThreadId) -> Call {
         let mut call = Call::of_kind(ffi::L4_SET_PAGER);
         call.given.id = id.word();
@@ -229,14 +246,15 @@ impl Call {
         call
     }
 
-    /// Ends a thread, and its space with its last one (L4 X.2 manual, ThreadControl). Refused by H1, H4 and H6.
+    /// Deletes a thread, and its space if the thread is the last one in it (L4 X.2 manual, ThreadControl). The kernel refuses it with H1,
+    /// H4 and H6.
     pub fn delete(id: ThreadId) -> Call {
         let mut call = Call::of_kind(ffi::L4_DELETE);
         call.given.id = id.word();
         call
     }
 
-    /// Its name and numbers as in a list of steps, without its words.
+    /// Returns its name and numbers as in a step list, without its words.
     fn members(&self) -> (&'static str, Vec<u32>) {
         let it = &self.given;
         match it.kind {
@@ -249,7 +267,7 @@ impl Call {
         }
     }
 
-    /// An Ipc in words.
+    /// Writes an Ipc as text.
     fn write_ipc(&self, out: &mut fmt::Formatter<'_>) -> fmt::Result {
         let (to, from) = (
             ThreadId::of_word(self.given.to),
@@ -278,7 +296,7 @@ impl Call {
         Ok(())
     }
 
-    /// An Unmap in words.
+    /// Writes an Unmap as text.
     fn write_unmap(&self, out: &mut fmt::Formatter<'_>) -> fmt::Result {
         let own = if self.given.control & 0x40 == 0 {
             ""
@@ -297,7 +315,7 @@ impl Call {
     }
 }
 
-/// The fpage of a word, in words.
+/// Returns the fpage of a word as text.
 fn fpage_text(word: u32) -> String {
     match Fpage::read(word) {
         Ok(fpage) => fpage.to_string(),
@@ -305,7 +323,7 @@ fn fpage_text(word: u32) -> String {
     }
 }
 
-/// The call in words.
+/// Writes the call as text.
 impl fmt::Display for Call {
     fn fmt(&self, out: &mut fmt::Formatter<'_>) -> fmt::Result {
         let it = &self.given;
@@ -331,7 +349,7 @@ impl fmt::Display for Call {
     }
 }
 
-/// As in a list of steps, with each word in hexadecimal, and then in words.
+/// Writes the call as in a step list, with each word in hexadecimal, and then as text.
 impl fmt::Debug for Call {
     fn fmt(&self, out: &mut fmt::Formatter<'_>) -> fmt::Result {
         write!(out, "Call({}: {self})", self.line())

@@ -1,12 +1,12 @@
-//! The functions of the C header, and the one place where they are called. Whoever uses this module from within the crate can't break
-//! what the header asks: a handle is owned, slices are live, and nothing that is written overlaps what is read.
+//! The functions of the C header, and the only place that calls them. Code of this crate that uses this module cannot break the conditions
+//! of the header: a handle has one owner, slices are live, and memory that is written overlaps nothing that is read.
 #![allow(unsafe_code, non_camel_case_types)]
 
 use std::cell::UnsafeCell;
 use std::ffi::{c_char, c_void};
 use std::ptr;
 
-/// Declares structs as C lays them out, and lists each member with its offset for the test.
+/// Declares structs with C's layout, and lists each member with its offset for the test.
 macro_rules! structs {
     ($($(#[$note:meta])* struct $name:ident { $($member:ident: $kind:ty,)* })*) => {
         $(
@@ -63,6 +63,10 @@ macro_rules! functions {
 }
 
 constants! {
+    L4_VERSION_MAJOR = 0;
+    L4_VERSION_MINOR = 1;
+    L4_VERSION_PATCH = 0;
+    L4_VERSION = 1000;
     L4_PAGE_LOG = 12;
     L4_PAGE_BYTES = 4096;
     L4_SMALL_PAGE_LOG = 10;
@@ -156,6 +160,10 @@ constants! {
     L4_REPLY_CONTROLLED = 6;
     L4_REPLY_GONE = 7;
     L4_START = 3;
+    L4_SIGMA0_ID = 0x4001;
+    L4_ROOT_ID = 0x8001;
+    L4_NIL_FPAGE = 0;
+    L4_COMPLETE_FPAGE = 0x10;
 }
 
 structs! {
@@ -177,6 +185,7 @@ structs! {
         id: u32,
         space: u32,
         pager: u32,
+        reserved: [u32; 4],
     }
 
     struct l4_answer {
@@ -185,6 +194,7 @@ structs! {
         outcome: u32,
         ended_count: u32,
         ended: [u32; L4_MAX_THREADS as usize],
+        reserved: [u32; 2],
     }
 
     struct l4_step {
@@ -195,6 +205,7 @@ structs! {
         outcome: u32,
         ended_count: u32,
         ended: [u32; 2],
+        reserved: [u32; 2],
     }
 
     struct l4_entered {
@@ -210,6 +221,7 @@ structs! {
         from: u32,
         word_count: u32,
         words: [u32; L4_MAX_WORDS as usize],
+        reserved: [u32; 2],
     }
 
     struct l4_space {
@@ -237,6 +249,7 @@ structs! {
         has_parent: u32,
         parent_page: u32,
         parent_space: u64,
+        reserved: [u32; 2],
     }
 
     struct l4_page {
@@ -360,6 +373,7 @@ structs! {
         grant: u32,
         source_rights: u32,
         item_rights: u32,
+        reserved: u32,
     }
 
     struct l4_chain {
@@ -371,8 +385,11 @@ structs! {
 }
 
 functions! {
+    fn l4_version() -> u32;
     fn l4_refusal_code(refusal: u32, out: *mut c_char, room: usize) -> usize;
     fn l4_refusal_text(refusal: u32, out: *mut c_char, room: usize) -> usize;
+    fn l4_reply_text(thread: u32, reply: *const l4_reply, out: *mut c_char, room: usize) -> usize;
+    fn l4_step_text(step: *const l4_step, out: *mut c_char, room: usize) -> usize;
     fn l4_boot(kernel: *mut l4_kernel, frames: u32) -> u32;
     fn l4_boot_sized(kernel: *mut l4_kernel, frames: u32, page_bytes: u32) -> u32;
     fn l4_copy(kernel: *mut l4_kernel, copy: *mut l4_kernel) -> u32;
@@ -436,6 +453,7 @@ const NO_STEP: l4_step = l4_step {
     outcome: 0,
     ended_count: 0,
     ended: [0; 2],
+    reserved: [0; 2],
 };
 
 /// No link.
@@ -448,25 +466,52 @@ const NO_LINK: l4_link = l4_link {
     grant: 0,
     source_rights: 0,
     item_rights: 0,
+    reserved: 0,
 };
 
-/// The room for links that is enough for most pages.
+/// Room for as many links as most pages have.
 const LINK_ROOM: usize = 16;
 
-/// A handle as the header declares it: one pointer into what nobody looks into, or none.
+/// Whether a library of this version has the functions and structs that this crate declares.
+fn fits(version: u32) -> bool {
+    let line = |number: u32| number - number % if number < 1_000_000 { 1_000 } else { 1_000_000 };
+    line(version) == line(L4_VERSION) && version >= L4_VERSION
+}
+
+/// Panics if the archive has a version that does not fit this crate, since its structs may have another layout.
+fn check_version() {
+    // SAFETY: the function has no parameters, and the header states no condition for it.
+    let version = unsafe { l4_version() };
+    let text = |number: u32| {
+        format!(
+            "{}.{}.{}",
+            number / 1_000_000,
+            number / 1_000 % 1_000,
+            number % 1_000
+        )
+    };
+    assert!(
+        fits(version),
+        "this crate needs libl4 {}, but the archive is libl4 {}",
+        text(L4_VERSION),
+        text(version)
+    );
+}
+
+/// A handle as the header declares it: one private pointer, or none.
 pub(crate) trait Hidden {
-    /// Before its making, and after its freeing.
+    /// The handle before its object is made, and after the object is freed.
     const EMPTY: Self;
 
-    /// Frees what the handle holds, and leaves it empty.
+    /// Frees the handle's object, and leaves the handle empty.
     ///
     /// # Safety
     ///
-    /// The handle is live, and no call on it is under way.
+    /// The handle must be live, and no call on it may be in progress.
     unsafe fn free(handle: *mut Self);
 }
 
-/// Names the functions that free what handles hold.
+/// Names the functions that free the objects of handles.
 macro_rules! hidden {
     ($($handle:ident $free:ident;)*) => {
         $(impl Hidden for $handle {
@@ -489,19 +534,20 @@ hidden! {
     l4_lock l4_lock_free;
 }
 
-/// A handle that holds something from its making to its drop. The library writes the handle also as it is asked, so the handle stands
-/// in a cell, and no two threads share it.
+/// A handle that owns an object from its creation to its drop. The library may write to the handle in every call, including queries. So the
+/// handle is in a cell, and no two threads share it.
 pub(crate) struct Handle<T: Hidden> {
     cell: UnsafeCell<T>,
 }
 
-// SAFETY: the header lets a handle go from thread to thread, and what it holds belongs to no thread: its memory comes from malloc, and
-// nothing is global. It is not Sync (UnsafeCell, and a raw pointer in it): there is one call at a time for a handle.
+// SAFETY: the header allows handing a handle from thread to thread, and its object belongs to no thread: its memory comes from malloc, and
+// the library has no global state. It is not Sync (UnsafeCell, and a raw pointer in it): a handle takes one call at a time.
 unsafe impl<T: Hidden> Send for Handle<T> {}
 
 impl<T: Hidden> Handle<T> {
-    /// What is made in an empty handle, or the number of the refusal.
+    /// Makes an object in an empty handle, or returns the number of the refusal.
     fn made(make: impl FnOnce(*mut T) -> u32) -> Result<Handle<T>, u32> {
+        check_version();
         let handle = Handle {
             cell: UnsafeCell::new(T::EMPTY),
         };
@@ -514,21 +560,21 @@ impl<T: Hidden> Handle<T> {
 
 impl<T: Hidden> Drop for Handle<T> {
     fn drop(&mut self) {
-        // SAFETY: the handle is live and borrowed alone, and freeing leaves it empty; nobody has it after its drop.
+        // SAFETY: the handle is live and borrowed exclusively, and freeing leaves it empty; nothing refers to it after its drop.
         unsafe { T::free(self.cell.get()) }
     }
 }
 
 impl Handle<l4_kernel> {
-    /// A kernel as it boots, with pages of so many bytes, or the number of the refusal.
+    /// Boots a kernel with pages of this many bytes, or returns the number of the refusal.
     pub(crate) fn boot(frames: u32, page_bytes: u32) -> Result<Handle<l4_kernel>, u32> {
-        // SAFETY: the handle that `made` gives is empty, live and nobody else's.
+        // SAFETY: the handle that `made` passes is empty, live and not shared.
         Handle::made(|handle| unsafe { l4_boot_sized(handle, frames, page_bytes) })
     }
 
-    /// The same machine in a handle of its own, or the number of the refusal.
+    /// Copies the kernel into a handle of its own, or returns the number of the refusal.
     pub(crate) fn copy(&self) -> Result<Handle<l4_kernel>, u32> {
-        // SAFETY: as in `enabled`; the handle that `made` gives is empty, live and nobody else's, so it isn't this one.
+        // SAFETY: as in `enabled`; the handle that `made` passes is empty, live and not shared, so it is not this one.
         Handle::made(|copy| unsafe { l4_copy(self.cell.get(), copy) })
     }
 
@@ -549,7 +595,8 @@ impl Handle<l4_kernel> {
     }
 
     pub(crate) fn enabled(&self) -> l4_step {
-        // SAFETY: the handle is live, and no other call is under way: only this thread has it, as it is not Sync, and calls don't nest.
+        // SAFETY: the handle is live, and no other call is in progress: only this thread has it, since it is not Sync, and calls do not
+        // nest.
         unsafe { l4_enabled(self.cell.get()) }
     }
 
@@ -558,7 +605,7 @@ impl Handle<l4_kernel> {
         unsafe { l4_next(self.cell.get()) }
     }
 
-    /// The steps that are done stand in the array, as many as the answer counts: there are at most 64, as many as it has room for.
+    /// Writes the executed steps to the array, as many as the result counts. There are at most 64, and the array has room for 64.
     pub(crate) fn enter(
         &mut self,
         thread: u32,
@@ -567,7 +614,7 @@ impl Handle<l4_kernel> {
     ) -> (l4_entered, [l4_step; L4_MAX_THREADS as usize]) {
         let mut steps = [NO_STEP; L4_MAX_THREADS as usize];
         let (count, room) = (words.len(), steps.len());
-        // SAFETY: as in `start`; the steps are this function's own, and their room is their length.
+        // SAFETY: as in `start`; the steps belong to this function, and their room is their length.
         let entered = unsafe {
             l4_enter(
                 self.cell.get(),
@@ -619,7 +666,7 @@ impl Handle<l4_kernel> {
 }
 
 impl Handle<l4_lock> {
-    /// A locked kernel as it boots, with pages of so many bytes, or the number of the refusal.
+    /// Boots a locked kernel with pages of this many bytes, or returns the number of the refusal.
     pub(crate) fn lock(frames: u32, page_bytes: u32) -> Result<Handle<l4_lock>, u32> {
         // SAFETY: as in `boot`.
         Handle::made(|handle| unsafe { l4_lock_new_sized(handle, frames, page_bytes) })
@@ -660,12 +707,12 @@ impl Handle<l4_lock> {
         unsafe { l4_lock_receipt(self.cell.get(), seat, place) }
     }
 
-    /// The links of a page stand in the list, as many as the answer counts.
+    /// Returns the links of a page, as many as the result counts.
     pub(crate) fn provenance(&self, space: u64, page: u32) -> (l4_chain, Vec<l4_link>) {
         let mut links = vec![NO_LINK; LINK_ROOM];
         loop {
             let room = links.len();
-            // SAFETY: as in `enabled`; the links are this function's own, and their room is their length.
+            // SAFETY: as in `enabled`; the links belong to this function, and their room is their length.
             let told = unsafe {
                 l4_lock_provenance(self.cell.get(), space, page, links.as_mut_ptr(), room)
             };
@@ -690,7 +737,7 @@ impl Handle<l4_lock> {
 }
 
 impl Handle<l4_pager> {
-    /// A table of pages of so many bytes without a region, or the number of the refusal.
+    /// Makes a pager's table without regions, for pages of this many bytes, or returns the number of the refusal.
     pub(crate) fn pager(page_bytes: u32) -> Result<Handle<l4_pager>, u32> {
         // SAFETY: as in `boot`.
         Handle::made(|handle| unsafe { l4_pager_new_sized(handle, page_bytes) })
@@ -713,7 +760,7 @@ impl Handle<l4_pager> {
 }
 
 impl Handle<l4_sigma0> {
-    /// A table of frames of so many bytes that no space owns, or the number of the refusal.
+    /// Makes a table of frames of this many bytes without owners, or returns the number of the refusal.
     pub(crate) fn sigma0(frames: u32, page_bytes: u32) -> Result<Handle<l4_sigma0>, u32> {
         // SAFETY: as in `boot`.
         Handle::made(|handle| unsafe { l4_sigma0_new_sized(handle, frames, page_bytes) })
@@ -726,27 +773,32 @@ impl Handle<l4_sigma0> {
 }
 
 pub(crate) fn read_fault(words: &[u32]) -> l4_fault {
+    check_version();
     // SAFETY: the words live as long as their borrow, a slice's pointer is aligned and never null, and no handle is needed.
     unsafe { l4_read_fault(words.as_ptr(), words.len()) }
 }
 
 pub(crate) fn read_request(words: &[u32]) -> l4_request {
+    check_version();
     // SAFETY: as in `read_fault`.
     unsafe { l4_read_request(words.as_ptr(), words.len()) }
 }
 
 pub(crate) fn plan_region(region: &l4_region, page_bytes: u32) -> l4_plan {
+    check_version();
     // SAFETY: the region lives as long as its borrow, and no handle is needed.
     unsafe { l4_plan_region_sized(region, page_bytes) }
 }
 
 pub(crate) fn plan_message(region: &l4_region, number: u32, page_bytes: u32) -> l4_part {
+    check_version();
     // SAFETY: as in `plan_region`.
     unsafe { l4_plan_message_sized(region, number, page_bytes) }
 }
 
-/// The first pages of the items of a region's plan, or those that show that it is too long; none where the region is refused otherwise.
+/// Returns the pages of a plan's items, or those that prove that the plan is too long; none if the region is refused for another reason.
 pub(crate) fn plan_pages(region: &l4_region, page_bytes: u32) -> Vec<u32> {
+    check_version();
     let mut pages = vec![0; L4_TOO_MANY as usize];
     let room = pages.len();
     // SAFETY: the region lives as long as its borrow, and the room is that of the pages, which are borrowed alone.
@@ -761,6 +813,7 @@ pub(crate) fn check_plan(
     pages: &[u32],
     page_bytes: u32,
 ) -> l4_verdict {
+    check_version();
     // SAFETY: the region and the slices live as long as their borrows; a slice's pointer is aligned and never null.
     unsafe {
         l4_check_plan_sized(
@@ -775,6 +828,7 @@ pub(crate) fn check_plan(
 }
 
 pub(crate) fn check_too_long(region: &l4_region, pages: &[u32], page_bytes: u32) -> l4_verdict {
+    check_version();
     // SAFETY: as in `check_plan`.
     unsafe { l4_check_too_long_sized(region, pages.as_ptr(), pages.len(), page_bytes) }
 }
@@ -839,11 +893,9 @@ mod tests {
         let all = parameters
             .iter()
             .map(|(kind, parameter)| format!("{} {parameter}", in_c(kind)).replace("* ", "*"));
-        format!(
-            "{} {name}({});",
-            in_c(result),
-            all.collect::<Vec<_>>().join(", ")
-        )
+        let all = all.collect::<Vec<_>>().join(", ");
+        let all = if all.is_empty() { "void" } else { &all };
+        format!("{} {name}({all});", in_c(result))
     }
 
     /// The header's lines that declare functions.
@@ -857,6 +909,16 @@ mod tests {
     }
 
     #[test]
+    fn versions_fit_from_this_one_on() {
+        let versions = [999, 1_000, 1_001, 1_999, 2_000, 1_000_000, 1_001_000];
+        assert_eq!(
+            versions.map(fits),
+            [false, true, true, true, false, false, false]
+        );
+        check_version();
+    }
+
+    #[test]
     fn functions_are_the_headers() {
         let here: BTreeSet<String> = FUNCTIONS
             .iter()
@@ -866,7 +928,7 @@ mod tests {
     }
 
     #[test]
-    #[ignore = "tests/bindings runs it, with the layout that a C compiler gives in L4_LAYOUT"]
+    #[ignore = "tests/embedding/bindings runs it, with the layout that a C compiler gives in L4_LAYOUT"]
     fn structs_and_constants_are_the_headers() {
         let file = env::var_os("L4_LAYOUT").expect("L4_LAYOUT names a file");
         let text = fs::read_to_string(file).expect("the layout can be read");

@@ -1,33 +1,34 @@
-//! Kernels, their steps, and what there is to be seen.
+//! Kernels, their steps, and queries about their state.
 use crate::ffi;
 use crate::refusals::unknown;
 use crate::{Call, PageSize, Refusal, Reply, Rights, MAX_THREADS};
 use std::{fmt, iter};
 
-/// A step that is done without a call's being started.
+/// A step that does not start a call.
 #[derive(Clone, Copy, PartialEq, Eq, Hash, Debug)]
+#[non_exhaustive]
 pub enum Step {
-    /// The message of the sender goes to the receiver.
+    /// Delivers the sender's message to the receiver.
     Transfer {
-        /// The number of the thread that sends.
+        /// The thread number of the sender.
         sender: u32,
-        /// The number of the thread that receives.
+        /// The thread number of the receiver.
         receiver: u32,
     },
-    /// The thread's wait with a timeout of zero ends.
+    /// Ends the thread's wait with a timeout of zero.
     Expire {
-        /// The number of the thread.
+        /// The thread number.
         thread: u32,
     },
 }
 
 impl Step {
-    /// The step that the library tells; None where there is none.
+    /// Returns the step that the library reports, or `None` if there is none.
     fn of(told: &ffi::l4_step) -> Option<Step> {
         Step::named(told.kind, told.thread, told.receiver)
     }
 
-    /// The step of this kind and of these threads; None where there is none.
+    /// Returns the step of this kind and of these threads, or `None` if there is none.
     pub(crate) fn named(kind: u32, thread: u32, receiver: u32) -> Option<Step> {
         match kind {
             ffi::L4_NONE => None,
@@ -43,18 +44,19 @@ impl Step {
 
 /// What a step did.
 #[derive(Clone, Copy, PartialEq, Eq, Hash, Debug)]
+#[non_exhaustive]
 pub enum Outcome {
     /// A call was started.
     Started,
-    /// A transfer: the message was delivered, and its used moves were done.
+    /// A transfer: the message was delivered, and its map and grant items were executed.
     Delivered,
     /// A transfer: the message has items and the receiver's window is nil; both calls failed.
     NoWindow,
-    /// A transfer: the message's moves contradict each other; both calls failed.
+    /// A transfer: the message's items conflict; both calls failed.
     Entangled,
-    /// A transfer: a growth was refused; both calls failed, and no page moved.
+    /// A transfer: an allocation failed; both calls failed, and no page moved.
     WantsMemory,
-    /// A wait with a timeout of zero ended.
+    /// A wait with a timeout of zero expired.
     Expired,
 }
 
@@ -72,13 +74,13 @@ impl Outcome {
     }
 }
 
-/// What a step did, and whose calls ended in it.
+/// The outcome of a step, and the threads whose calls ended in it.
 #[derive(Clone, PartialEq, Eq, Debug)]
 pub struct Answer {
-    /// What it did.
+    /// What the step did.
     pub outcome: Outcome,
-    /// The numbers of the threads whose calls ended: of a transfer the sender and then the receiver; of a Delete the caller and then the
-    /// others by rising number.
+    /// The numbers of the threads whose calls ended: after a transfer, the sender and then the receiver; after a Delete, the caller and
+    /// then the others by rising number.
     pub ended: Vec<u32>,
 }
 
@@ -94,12 +96,12 @@ impl Answer {
     }
 }
 
-/// A step that was done, with what it did and whose calls ended in it, the sender's before the receiver's.
+/// An executed step, its outcome, and the threads whose calls ended in it: the sender before the receiver.
 #[derive(Clone, PartialEq, Eq, Debug)]
 pub struct Done {
     /// The step.
     pub step: Step,
-    /// What it did.
+    /// What the step did.
     pub outcome: Outcome,
     /// The numbers of the threads whose calls ended.
     pub ended: Vec<u32>,
@@ -118,7 +120,7 @@ impl Done {
 /// A call that was started, and the steps that followed it.
 #[derive(Clone, PartialEq, Eq, Debug)]
 pub struct Entered {
-    /// What the start of the call did.
+    /// The outcome of the start.
     pub start: Answer,
     /// The steps, in order; at most 64.
     pub steps: Vec<Done>,
@@ -133,35 +135,41 @@ pub struct Place {
     pub page: u32,
 }
 
-/// What a present page shows.
+/// The frame and the rights of a present page, and its parent.
 #[derive(Clone, Copy, PartialEq, Eq, Hash, Debug)]
 pub struct Mapping {
     /// The page.
     pub place: Place,
-    /// The number of the frame, below that of the machine's frames.
+    /// The number of the frame, below the machine's number of frames.
     pub frame: u32,
-    /// What may be done with it.
+    /// The rights of the page.
     pub rights: Rights,
-    /// The page that it was mapped from, or the parent that a granted page brought with it; None for sigma0's own.
+    /// The page from which this page was mapped; a granted page keeps the parent that it had before the grant. `None` for sigma0's boot
+    /// pages, also after a grant of them.
     pub parent: Option<Place>,
 }
 
-/// A kernel with its threads, spaces and mappings. It is freed as it is dropped.
+/// A kernel with its threads, spaces and mappings.
 ///
-/// Threads go by their numbers here. A refused step changes nothing.
+/// It owns its memory, and frees it when it is dropped. It is [`Send`] but not [`Sync`]: one thread at a time uses it. Threads that share a
+/// kernel use a [`SharedKernel`](crate::SharedKernel). The methods name threads by their numbers. A refused step changes nothing.
 pub struct Kernel {
     handle: ffi::Handle<ffi::l4_kernel>,
 }
 
 impl Kernel {
-    /// A kernel as it boots, with 1 to 4,096 frames: sigma0 is thread 1 in space 0, which shows each frame at the page of its number
-    /// with all rights, and root is thread 2 in space 1, which shows none. Refused, in this order, by K6 and NoMemory.
-    /// Pages and frames have 4 KiB.
+    /// Boots a kernel with 1 to 4,096 frames, and with pages of 4 KiB.
+    ///
+    /// sigma0 is thread 1 in space 0, where frame i is mapped at page i with all rights. root is thread 2 in space 1, which is empty.
+    ///
+    /// # Errors
+    ///
+    /// In this order: K6, NoMemory.
     pub fn boot(frames: u32) -> Result<Kernel, Refusal> {
         Kernel::boot_sized(frames, PageSize::Kib4)
     }
 
-    /// The same with pages and frames of this size.
+    /// Boots a kernel as [`boot`](Kernel::boot) does, with pages and frames of this size. The errors are the same.
     ///
     /// ```
     /// use l4::{Call, Fpage, Item, Kernel, Message, PageSize, Rights, ThreadId, Timeout};
@@ -182,9 +190,16 @@ impl Kernel {
         }
     }
 
-    /// The same machine, in memory of its own: each thread with what it is doing and its message registers, the queue of senders, each
-    /// space, and what each page shows. What is done with the one is not seen in the other, so a run can be taken both ways. Refused by
+    /// Returns a copy of the kernel, in memory of its own.
+    ///
+    /// The copy has each thread with what it is doing and its message registers, the queue of senders, every space, and every mapping.
+    /// Changes to one kernel are not visible in the other, so you can try two continuations of one run.
+    ///
+    /// # Errors
+    ///
     /// NoMemory.
+    ///
+    /// # Examples
     ///
     /// ```
     /// use l4::{Call, Fpage, Kernel, Message, ThreadId, Timeout};
@@ -204,20 +219,24 @@ impl Kernel {
         }
     }
 
-    /// The size of its pages and frames, which it was booted with.
+    /// Returns the size of the pages and frames with which the kernel was booted.
     pub fn page_size(&self) -> PageSize {
         PageSize::of_bytes(self.handle.page_size().page_bytes)
     }
 
-    /// Starts a call of a thread: a call that needs no partner, or finds that there can be none, ends at once, and any other waits. Refused,
-    /// in this order, by K2, K3, K4, then by those of the message and the window (M7, M1, M5, M2, M4 or M3; M6), of an Unmap (U2, U1),
-    /// or of a control of threads (H1 to H6; NoMemory of a Create in a new space).
+    /// Starts a call of a thread. The call ends at once if it needs no partner or can have none; otherwise the thread waits.
+    ///
+    /// # Errors
+    ///
+    /// In this order: K2, K3, K4; then those of the message (M7, M1, M5, M2, M4 or M3) and of the window (M6), of an Unmap (U2, U1), or of
+    /// a Create, SetPager or Delete (H1 to H6; NoMemory for a Create in a new space).
     pub fn start(&mut self, thread: u32, call: &Call) -> Result<Answer, Refusal> {
         let (given, words) = call.given();
         Answer::of(&self.handle.start(thread, given, words))
     }
 
-    /// Starts a call as [`start`](Kernel::start) does, and then does the steps that come next until there is none. Refused as `start`.
+    /// Starts a call as [`start`](Kernel::start) does, and then executes the next step until no step is enabled. The errors are those of
+    /// `start`.
     ///
     /// ```
     /// use l4::{Call, Fpage, Kernel, Message, Step, ThreadId, Timeout};
@@ -238,24 +257,33 @@ impl Kernel {
         })
     }
 
-    /// The message of the sender goes to the receiver. Refused by K1 where the sender doesn't wait to send to the receiver, or the
-    /// receiver not for a message of the sender.
+    /// Delivers the sender's message to the receiver.
+    ///
+    /// # Errors
+    ///
+    /// K1 if the sender does not wait to send to this receiver, or the receiver does not wait for a message from this sender.
     pub fn transfer(&mut self, sender: u32, receiver: u32) -> Result<Answer, Refusal> {
         Answer::of(&self.handle.transfer(sender, receiver))
     }
 
-    /// The thread's wait with a timeout of zero ends. Refused by K1 where it doesn't wait so.
+    /// Ends the thread's wait with a timeout of zero.
+    ///
+    /// # Errors
+    ///
+    /// K1 if the thread has no such wait.
     pub fn expire(&mut self, thread: u32) -> Result<Answer, Refusal> {
         Answer::of(&self.handle.expire(thread))
     }
 
-    /// The step that comes next where no call is started: the enabled transfer whose sender waits longest, and where there is none the
-    /// enabled expiry of the least number; None where no step is enabled.
+    /// Returns the step that is executed next if no call is started, or `None` if no step is enabled.
+    ///
+    /// This is the enabled transfer whose sender has waited longest or, if no transfer is enabled, the enabled expiry of the lowest thread
+    /// number.
     pub fn enabled(&self) -> Option<Step> {
         Step::of(&self.handle.enabled())
     }
 
-    /// Does the step that [`enabled`](Kernel::enabled) names; None where there is none, and then nothing changes.
+    /// Executes the step that [`enabled`](Kernel::enabled) returns. Returns `None`, and changes nothing, if there is none.
     ///
     /// ```
     /// use l4::{Call, Fpage, Kernel, Outcome, ThreadId, Timeout};
@@ -266,18 +294,19 @@ impl Kernel {
     /// }
     /// # Ok::<(), l4::Refusal>(())
     /// ```
-    // A kernel is no iterator: calls that are started in between bring new steps.
+    // A kernel is not an iterator: calls that are started in between enable new steps.
     #[allow(clippy::should_implement_trait)]
     pub fn next(&mut self) -> Option<Done> {
         Done::of(&self.handle.next())
     }
 
-    /// The reply of the last ended call of a thread that runs; None where the thread waits, isn't there, or made no call yet.
+    /// Returns the reply of the thread's last call, which has ended. Returns `None` if the thread waits, does not exist, or has made no
+    /// call yet.
     pub fn reply(&self, thread: u32) -> Option<Reply> {
         Reply::of(&self.handle.reply_of(thread))
     }
 
-    /// The numbers of the threads, by rising number.
+    /// Returns the numbers of the threads, by rising number.
     ///
     /// ```
     /// use l4::{Call, Kernel, ThreadId};
@@ -295,7 +324,7 @@ impl Kernel {
         iter::successors(next(0), |thread| next(thread + 1)).collect()
     }
 
-    /// The numbers of the spaces, by rising number.
+    /// Returns the numbers of the spaces, by rising number.
     pub fn spaces(&self) -> Vec<u64> {
         let next = |from| {
             let told = self.handle.next_space(from);
@@ -304,13 +333,14 @@ impl Kernel {
         iter::successors(next(0), |space| next(space + 1)).collect()
     }
 
-    /// The number of a thread's space; None where there is no such thread.
+    /// Returns the number of a thread's space, or `None` if there is no such thread.
     pub fn space_of(&self, thread: u32) -> Option<u64> {
         let told = self.handle.space_of(thread);
         (told.there != 0).then_some(told.space)
     }
 
-    /// What a page of a space shows; None where it isn't present, also where there is no such space or page.
+    /// Returns the mapping of a page of a space, or `None` if the page is not present. `page` is any number: a page of a space that does
+    /// not exist, or beyond the space, is not present.
     pub fn mapping(&self, space: u64, page: u32) -> Option<Mapping> {
         let told = self.handle.mapping_of(space, page);
         let parent = Place {
@@ -325,13 +355,13 @@ impl Kernel {
         })
     }
 
-    /// The least present page of a space that is not below `page`; None where there is none.
+    /// Returns the lowest present page of a space that is not below `page`, or `None` if there is none.
     pub fn next_page(&self, space: u64, page: u32) -> Option<u32> {
         let told = self.handle.next_page(space, page);
         (told.there != 0).then_some(told.page)
     }
 
-    /// The present pages of a space with what they show, by rising number.
+    /// Returns an iterator over the mappings of a space's present pages, by rising page number.
     ///
     /// ```
     /// let kernel = l4::Kernel::boot(3)?;
@@ -353,11 +383,11 @@ impl fmt::Debug for Kernel {
     }
 }
 
-/// The present pages of a space, which [`Kernel::mappings`] gives.
+/// An iterator over the mappings of a space, from [`Kernel::mappings`].
 #[derive(Clone, Debug)]
 pub struct Mappings<'kernel> {
     kernel: &'kernel Kernel,
-    /// The first page that wasn't looked at.
+    /// The first page that the iterator has not examined.
     place: Place,
 }
 

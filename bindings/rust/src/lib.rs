@@ -1,17 +1,17 @@
 //! An L4 X.2 kernel core in user space, whose every answer is proved.
 //!
-//! Steps of many threads go in; replies, mappings and refusals come out, by the rules of the L4 eXperimental Kernel Reference Manual,
-//! Version X.2 (32-bit, no string items). This crate is the way from Rust to the static library `libl4.a`.
+//! Your program makes calls for many threads and executes steps; the kernel returns replies, mappings and refusals, by the rules of the
+//! L4 eXperimental Kernel Reference Manual, Version X.2 (32-bit, no string items). This crate calls the static library `libl4.a`.
 //!
-//! A [`Kernel`] boots with two threads: sigma0, thread 1 in space 0, shows each frame at the page of its number with all rights; root,
-//! thread 2 in space 1, shows none and may create threads. A thread starts a [`Call`]; a call that waits ends in a later [`Step`], and
-//! its end is a [`Reply`].
+//! A [`Kernel`] boots with two threads. sigma0 is thread 1 in space 0, where frame i is mapped at page i with all rights. root is thread 2
+//! in space 1, which is empty; root may create threads. A thread starts a [`Call`]. A call that must wait ends in a later [`Step`], and its
+//! result is a [`Reply`].
 //!
 //! ```
 //! use l4::{Call, Fpage, Item, Kernel, Message, Rights, ThreadId, Timeout, PAGE_BYTES};
 //!
 //! let mut kernel = Kernel::boot(256)?;
-//! // root waits for anybody's message, and accepts pages everywhere
+//! // root receives a message from any thread, and accepts pages everywhere
 //! kernel.start(2, &Call::receive(ThreadId::ANY, Fpage::complete(Rights::NONE), Timeout::Never))?;
 //! // sigma0 maps its page 16 to page 32
 //! let page = Fpage::page(16, Rights::ALL)?;
@@ -26,31 +26,59 @@
 //!
 //! # Numbers
 //!
-//! Threads go by their numbers (`u32`) where they act, and by whole [`ThreadId`]s as partners, as in the kernel's own words. Pages have
-//! [`PAGE_BYTES`] bytes and are counted from 0, below [`SPACE_PAGES`] in a space. Spaces have numbers (`u64`) that are never used twice.
+//! A caller is named by its thread number (`u32`), and a partner by its [`ThreadId`], as in the kernel's own words. A page has
+//! [`PAGE_BYTES`] bytes. The pages of a space are numbered from 0 to [`SPACE_PAGES`] - 1; a parameter that is a page number accepts every
+//! `u32`, and a page beyond the space is never present. A space has a number (`u64`) that is never used again.
 //!
-//! # What a size of pages changes
+//! # Page sizes
 //!
-//! Each call whose name ends in `_sized` does by pages of a given [`PageSize`] what the call without that ending does by 4 KiB. With
-//! [`PageSize::Kib1`] pages are counted below 4,194,304. A [`Kernel`], a [`Pager`] and a [`Sigma0`] keep the size that they were made with;
-//! the tables and plans that go with a kernel are to be of its [`page_size`](Kernel::page_size). Words go by bytes, so their form is the
-//! same, and [`PageSize::fpage`] and [`PageSize::range`] go between bytes and pages.
+//! A function whose name ends in `_sized` does the same as the function without that ending, for pages of a given [`PageSize`] in place of
+//! 4 KiB. With [`PageSize::Kib1`], the pages of a space are numbered from 0 to 4,194,303. A [`Kernel`], a [`Pager`] and a [`Sigma0`] keep
+//! the size with which they were made. Make the tables and plans for a kernel with its [`page_size`](Kernel::page_size). Message words are
+//! in bytes, so their form is the same in both sizes. [`PageSize::fpage`] and [`PageSize::range`] convert between pages and bytes.
 //!
-//! # What can't happen
+//! # Ownership and threads
 //!
-//! What the C header calls the caller's fault (a freed handle, a null pointer, two calls on a kernel at one time) can't be said in safe
-//! code: a kernel is freed as it is dropped, and is [`Send`] but not [`Sync`]; threads share a [`SharedKernel`], which is both. All `unsafe`
-//! stands in one private module.
+//! Safe code cannot break the conditions of the C header: no freed handle, no null pointer, no two calls on one kernel at the same time. A
+//! [`Kernel`] frees its memory when it is dropped. It is [`Send`] but not [`Sync`]. Threads share a [`SharedKernel`], which is both. All
+//! `unsafe` code is in one private module.
 //!
 //! ```compile_fail
 //! fn shared<T: Sync>() {}
 //! shared::<l4::Kernel>();
 //! ```
 //!
-//! Memory comes from the program's `malloc`, `realloc` and `free`. Want of memory is an answer like others, and the kernel goes on.
+//! The library uses the program's `malloc`, `realloc` and `free`. Running out of memory is an ordinary error ([`Refusal::NoMemory`]): the
+//! kernel stays valid.
+//!
+//! # Later versions
+//!
+//! [`Refusal`], [`Reply`], [`Outcome`], [`Step`], [`Timeout`] and [`PageSize`] may get more variants in a later version. They are marked
+//! `#[non_exhaustive]`, so a `match` on one of them needs an arm `_` in another crate.
 #![warn(missing_docs)]
 #![deny(unsafe_code)]
 #![warn(clippy::undocumented_unsafe_blocks)]
+
+// `cargo doc` sets `doc`, needs no archive, and links nothing.
+#[cfg(all(l4_missing, not(doc)))]
+compile_error!(env!("L4_MISSING"));
+
+/// For an enum that may grow: in another crate, a match of all variants compiles with an arm for others, and does not without one.
+#[cfg(doctest)]
+macro_rules! grows {
+    ($name:ident: $($variant:ident)*) => {
+        #[doc = grows!(@example "```" $name "_ => {}" $($variant)*)]
+        #[doc = grows!(@example "```compile_fail" $name "" $($variant)*)]
+        struct $name;
+    };
+    (@example $fence:literal $name:ident $last:literal $($variant:ident)*) => {
+        concat!(
+            $fence, "\nfn known(it: l4::", stringify!($name), ") { match it { ",
+            $("l4::", stringify!($name), "::", stringify!($variant), " { .. } => {} ",)*
+            $last, " } }\n```"
+        )
+    };
+}
 
 mod calls;
 mod ffi;
@@ -73,32 +101,41 @@ pub use shared::{Entry, Link, Receipt, Recorded, Seat, SharedKernel, Unclosed};
 pub use tables::{Pager, Sigma0};
 pub use words::{BadFpage, Fpage, Item, Message, PageSize, Rights, ThreadId, TooManyWords};
 
-/// The bytes of a page of 4 KiB.
+/// The size in bytes of a page of 4 KiB.
 pub const PAGE_BYTES: u32 = ffi::L4_PAGE_BYTES;
 
-/// The pages of 4 KiB of a space: they are numbered from 0 to `SPACE_PAGES - 1`.
+/// The number of pages of 4 KiB of a space, which are numbered from 0 to `SPACE_PAGES - 1`.
 pub const SPACE_PAGES: u32 = ffi::L4_SPACE_PAGES;
 
-/// The greatest number of frames of a machine.
+/// The largest number of frames of a machine.
 pub const MAX_FRAMES: u32 = ffi::L4_MAX_FRAMES;
 
-/// The greatest number of threads of a kernel.
+/// The largest number of threads of a kernel.
 pub const MAX_THREADS: usize = ffi::L4_MAX_THREADS as usize;
 
-/// The greatest number of regions of a pager's table.
+/// The largest number of regions of a pager's table.
 pub const MAX_REGIONS: usize = ffi::L4_MAX_REGIONS as usize;
 
-/// The greatest number of words of a message, the tag among them, and of fpages of an Unmap.
+/// The largest number of words of a message, including the tag, and of fpages of an Unmap.
 pub const MAX_WORDS: usize = ffi::L4_MAX_WORDS as usize;
 
-/// The greatest number of map and grant items of a message.
+/// The largest number of map and grant items of a message.
 pub const MAX_ITEMS: usize = ffi::L4_MAX_ITEMS as usize;
 
-/// The greatest number of items of a plan.
+/// The largest number of items of a plan.
 pub const MAX_PLAN_ITEMS: usize = ffi::L4_MAX_PLAN_ITEMS as usize;
 
-/// The greatest number of messages of a plan.
+/// The largest number of messages of a plan.
 pub const MAX_PLAN_MESSAGES: usize = ffi::L4_MAX_PLAN_MESSAGES as usize;
 
-/// The number of pages that show that a region needs more items than a plan has.
+/// The number of pages that prove that a region needs more items than a plan can have.
 pub const TOO_MANY: usize = ffi::L4_TOO_MANY as usize;
+
+#[cfg(doctest)]
+mod growth {
+    grows!(Reply: Ipc Hit Answered Failed Unmapped Controlled Gone);
+    grows!(Outcome: Started Delivered NoWindow Entangled WantsMemory Expired);
+    grows!(Step: Transfer Expire);
+    grows!(Timeout: Never Zero);
+    grows!(PageSize: Kib4 Kib1);
+}

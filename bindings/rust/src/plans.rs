@@ -4,21 +4,23 @@ use crate::{Item, Message, PageSize, Refusal, Rights};
 use std::error::Error;
 use std::fmt;
 
-/// The pages from `source` on go to the pages from `target` on, `count` pages, with these rights.
+/// A region: `count` pages from the page `source` on, which go to the pages from `target` on with these rights.
 #[derive(Clone, Copy, PartialEq, Eq, Hash, Debug)]
 pub struct Region {
     /// The first page that is sent.
     pub source: u32,
-    /// The page where it lands.
+    /// The page to which the first page goes.
     pub target: u32,
     /// The number of pages.
     pub count: u32,
-    /// The rights that go with them.
+    /// The rights that the pages get.
     pub rights: Rights,
 }
 
-/// The shortest list of map items that moves exactly a region, in the fewest messages, and with each item a page that shows that no list
-/// is shorter. It holds no item: each message is asked for as it is needed.
+/// The shortest list of map items that moves exactly a region, in the fewest messages. [`Region::plan`] makes it.
+///
+/// With each item goes one page, and no single map item could move two of these pages: this proves that no list is shorter. A plan stores
+/// no items. Each message is computed when you request it.
 ///
 /// ```
 /// use l4::{Region, Rights, MAX_ITEMS};
@@ -38,17 +40,21 @@ pub struct Plan {
 }
 
 impl Plan {
-    /// How many items there are, 1 to 1,984.
+    /// Returns the number of items, 1 to 1,984.
     pub fn item_count(&self) -> usize {
         self.items as usize
     }
 
-    /// How many messages send them, 1 to 64: no fewer do. All but the last have 31 items.
+    /// Returns the number of messages, 1 to 64. Fewer messages cannot send the items. Every message but the last has 31 items.
     pub fn message_count(&self) -> usize {
         self.messages as usize
     }
 
-    /// The message with this number, from 0, with label 0 and no untyped words. Refused by N6 where the plan has none with it.
+    /// Returns the message with this number, from 0. It has label 0 and no untyped words.
+    ///
+    /// # Errors
+    ///
+    /// N6 if the plan has no message with this number.
     pub fn message(&self, number: u32) -> Result<Message, Refusal> {
         let told = ffi::plan_message(&self.region.given(), number, self.page_size.bytes());
         match told.refusal {
@@ -60,7 +66,11 @@ impl Plan {
         }
     }
 
-    /// The message that sends all items. Refused by N5 where there are several.
+    /// Returns the message that sends all items.
+    ///
+    /// # Errors
+    ///
+    /// N5 if the plan has several messages.
     pub fn only(&self) -> Result<Message, Refusal> {
         if self.messages > 1 {
             return Err(Refusal::SeveralMessages);
@@ -68,7 +78,7 @@ impl Plan {
         self.message(0)
     }
 
-    /// The messages, in order.
+    /// Returns an iterator over the messages, in order.
     pub fn messages(&self) -> impl ExactSizeIterator<Item = Message> + '_ {
         (0..self.messages).map(|number| {
             self.message(number)
@@ -76,13 +86,13 @@ impl Plan {
         })
     }
 
-    /// The words of the items, two an item, in order.
+    /// Returns an iterator over the words of the items, two for each, in order.
     pub fn item_words(&self) -> impl Iterator<Item = u32> + '_ {
         self.messages()
             .flat_map(|message| message.words()[1..].to_vec())
     }
 
-    /// The items, in order.
+    /// Returns an iterator over the items, in order.
     pub fn items(&self) -> impl Iterator<Item = Item> + '_ {
         self.messages().flat_map(|message| {
             let pairs = message.words()[1..].chunks_exact(2);
@@ -92,23 +102,23 @@ impl Plan {
         })
     }
 
-    /// A page of each item: one map item could move no two of them.
+    /// Returns one page for each item. No single map item could move two of these pages.
     pub fn pages(&self) -> Vec<u32> {
         ffi::plan_pages(&self.region.given(), self.page_size.bytes())
     }
 }
 
-/// Why there is no plan for a region.
+/// The error for a region that has no plan.
 #[derive(Clone, PartialEq, Eq)]
 pub enum NoPlan {
-    /// The region is refused, by N1, N2 or N3.
+    /// The region is refused with N1, N2 or N3.
     Refused(Refusal),
-    /// Each list of map items that moves exactly the region has more than 1,984, as these 1,985 pages show (N4).
+    /// Every list of map items that moves exactly the region has more than 1,984 items, as these 1,985 pages prove (N4).
     TooLong(Vec<u32>),
 }
 
 impl NoPlan {
-    /// The refusal, N1 to N4.
+    /// Returns the refusal, N1 to N4.
     pub fn refusal(&self) -> Refusal {
         match self {
             NoPlan::Refused(refusal) => *refusal,
@@ -116,12 +126,12 @@ impl NoPlan {
         }
     }
 
-    /// The printed code.
+    /// Returns the printed code.
     pub fn code(&self) -> &'static str {
         self.refusal().code()
     }
 
-    /// A line of text that says what it means.
+    /// Returns a line of text that explains the refusal.
     pub fn text(&self) -> &'static str {
         self.refusal().text()
     }
@@ -146,7 +156,7 @@ impl fmt::Debug for NoPlan {
 
 impl Error for NoPlan {}
 
-/// The verdict that the library tells.
+/// Returns the result of a check that the library reports.
 fn judged(told: &ffi::l4_verdict) -> Result<(), Refusal> {
     match told.refusal {
         ffi::L4_OK => Ok(()),
@@ -155,7 +165,7 @@ fn judged(told: &ffi::l4_verdict) -> Result<(), Refusal> {
 }
 
 impl Region {
-    /// What the library reads.
+    /// Returns the struct that the library reads.
     pub(crate) fn given(&self) -> ffi::l4_region {
         ffi::l4_region {
             source: self.source,
@@ -165,7 +175,13 @@ impl Region {
         }
     }
 
-    /// The shortest list of map items that moves exactly the region. Refused, in this order, by N1, N2, N3 and N4.
+    /// Returns the shortest list of map items that moves exactly the region, for pages of 4 KiB.
+    ///
+    /// # Errors
+    ///
+    /// In this order: N1, N2, N3, N4.
+    ///
+    /// # Examples
     ///
     /// ```
     /// use l4::{Region, Rights};
@@ -179,7 +195,7 @@ impl Region {
         self.plan_sized(PageSize::Kib4)
     }
 
-    /// The same with pages of this size.
+    /// Plans as [`plan`](Region::plan) does, for pages of this size.
     ///
     /// ```
     /// use l4::{PageSize, Region, Rights};
@@ -204,9 +220,14 @@ impl Region {
         }
     }
 
-    /// Checks that the items of these words, two words an item, move exactly the region, and that these pages, one an item, show that no
-    /// list of map items that does is shorter. Refused, in this order, by M1 (more than 3,968 words), M2 (an odd number), M4 or M3; C6,
-    /// C1, C2, C5, C3, C4.
+    /// Checks a plan, whoever made it, for pages of 4 KiB: that its items move exactly the region, and that its pages, one for each item,
+    /// prove that no list of map items that does so is shorter. `words` has the words of the items, two for each.
+    ///
+    /// # Errors
+    ///
+    /// In this order: M1 (more than 3,968 words), M2 (an odd number of words), M4 or M3; C6, C1, C2, C5, C3, C4.
+    ///
+    /// # Examples
     ///
     /// ```
     /// use l4::{Refusal, Region, Rights};
@@ -219,18 +240,22 @@ impl Region {
         self.check_sized(words, pages, PageSize::Kib4)
     }
 
-    /// The same with pages of this size.
+    /// Checks as [`check`](Region::check) does, for pages of this size.
     pub fn check_sized(&self, words: &[u32], pages: &[u32], size: PageSize) -> Result<(), Refusal> {
         judged(&ffi::check_plan(&self.given(), words, pages, size.bytes()))
     }
 
-    /// Checks that these are 1,985 pages which show that each list of map items that moves exactly the region has more than 1,984.
-    /// Refused, in this order, by C6, C5, C3, C4.
+    /// Checks that 1,985 pages prove the following: every list of map items that moves exactly the region has more than 1,984 items. Pages
+    /// have 4 KiB.
+    ///
+    /// # Errors
+    ///
+    /// In this order: C6, C5, C3, C4.
     pub fn check_too_long(&self, pages: &[u32]) -> Result<(), Refusal> {
         self.check_too_long_sized(pages, PageSize::Kib4)
     }
 
-    /// The same with pages of this size.
+    /// Checks as [`check_too_long`](Region::check_too_long) does, for pages of this size.
     pub fn check_too_long_sized(&self, pages: &[u32], size: PageSize) -> Result<(), Refusal> {
         judged(&ffi::check_too_long(&self.given(), pages, size.bytes()))
     }

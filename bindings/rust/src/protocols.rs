@@ -1,8 +1,8 @@
-//! What a pager and sigma0 are sent.
+//! The messages that a pager and sigma0 receive.
 use crate::ffi;
 use crate::{Fpage, Message, Refusal, Rights};
 
-/// A page fault, as the kernel tells it to a pager (L4 X.2 manual, page fault protocol).
+/// A page fault, as the kernel sends it to a pager (L4 X.2 manual, page fault protocol).
 ///
 /// ```
 /// use l4::{Message, PageFault, Rights};
@@ -24,8 +24,13 @@ pub struct PageFault {
 }
 
 impl PageFault {
-    /// The fault that a message tells; None where it tells none: a fault's label is 0xffe0 to 0xffe7, with two untyped words and no item.
-    /// Words that are no message are refused by M7, M1, M5, M2, M4 or M3.
+    /// Reads a message as a page fault. Returns `None` if it is not one.
+    ///
+    /// A page fault has a label of 0xffe0 to 0xffe7, two untyped words and no item.
+    ///
+    /// # Errors
+    ///
+    /// M7, M1, M5, M2, M4 or M3 for words that are not a message.
     pub fn read(message: &Message) -> Result<Option<PageFault>, Refusal> {
         let told = ffi::read_fault(message.words());
         if told.refusal != ffi::L4_OK {
@@ -52,13 +57,18 @@ impl PageFault {
 pub struct FrameRequest {
     /// The fpage, without rights.
     pub fpage: Fpage,
-    /// The memory attributes; 0 asks for the machine's own.
+    /// The memory attributes; 0 requests the machine's default attributes.
     pub attributes: u32,
 }
 
 impl FrameRequest {
-    /// The request that a message is; None where it is none: a request's label is 0xffa0, with two untyped words, of which the first is an
-    /// fpage, and no item. Words that are no message are refused by M7, M1, M5, M2, M4 or M3.
+    /// Reads a message as a request for frames. Returns `None` if it is not one.
+    ///
+    /// A request has the label 0xffa0, two untyped words, of which the first is an fpage, and no item.
+    ///
+    /// # Errors
+    ///
+    /// M7, M1, M5, M2, M4 or M3 for words that are not a message.
     pub fn read(message: &Message) -> Result<Option<FrameRequest>, Refusal> {
         let told = ffi::read_request(message.words());
         if told.refusal != ffi::L4_OK {

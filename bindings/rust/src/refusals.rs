@@ -1,27 +1,28 @@
-//! Why a call did nothing.
+//! The reasons for which a call is refused.
 use crate::ffi;
 use std::error::Error;
 use std::fmt;
 
-/// Declares the refusals, each with its constant, its code and its line of text.
+/// Declares the refusals, each with its constant, its code and its text.
 macro_rules! refusals {
     ($($name:ident $(($detail:ident))? = $constant:ident $code:literal $text:literal;)*) => {
-        /// Why a call did nothing: a refused step changes nothing. The codes are those that the programs print.
+        /// A reason for which a call was refused. A refused step changes nothing. The codes are those that the programs print.
         ///
         /// ```
         /// use l4::{Kernel, Refusal};
         /// let refused = Kernel::boot(0).unwrap_err();
         /// assert_eq!(refused, Refusal::FrameCount);
-        /// assert_eq!(refused.to_string(), "K6: a machine has 1 to 4,096 frames");
-        /// assert_eq!(format!("{refused:?}"), "FrameCount (K6: a machine has 1 to 4,096 frames)");
+        /// assert_eq!(refused.to_string(), "K6: the number of frames must be from 1 to 4,096");
+        /// assert_eq!(format!("{refused:?}"), "FrameCount (K6: the number of frames must be from 1 to 4,096)");
         /// ```
         #[derive(Clone, Copy, PartialEq, Eq, Hash)]
+        #[non_exhaustive]
         pub enum Refusal {
             $(#[doc = concat!($code, ": ", $text, ".")] $name $(($detail))?,)*
         }
 
         impl Refusal {
-            /// The refusal of a number of the library's, with the number that it carries.
+            /// Returns the refusal for a number of the library, with the number that it carries.
             pub(crate) fn of(number: u32, detail: u32) -> Refusal {
                 match number {
                     $(ffi::$constant => Refusal::$name $((detail as $detail))?,)*
@@ -29,28 +30,28 @@ macro_rules! refusals {
                 }
             }
 
-            /// The printed code, such as `K1`.
+            /// Returns the printed code, such as `K1`.
             pub fn code(self) -> &'static str {
                 match self {
                     $(Refusal::$name { .. } => $code,)*
                 }
             }
 
-            /// A line of text that says what it means.
+            /// Returns a line of text that explains the refusal.
             pub fn text(self) -> &'static str {
                 match self {
                     $(Refusal::$name { .. } => $text,)*
                 }
             }
 
-            /// The name of the variant.
+            /// Returns the name of the variant.
             fn name(self) -> &'static str {
                 match self {
                     $(Refusal::$name { .. } => stringify!($name),)*
                 }
             }
 
-            /// The number that some refusals carry: an item, a word, an entry or a place of a list, from 0, a page or a seat.
+            /// Returns the number that some refusals carry: an item, a word, an entry or a place of a list, from 0; a page; or a seat.
             pub fn detail(self) -> Option<u32> {
                 match self {
                     $(refusals!(@pattern $name detail $($detail)?) => refusals!(@value detail $($detail)?),)*
@@ -60,6 +61,11 @@ macro_rules! refusals {
 
         #[cfg(test)]
         const NUMBERS: &[u32] = &[$(ffi::$constant),*];
+
+        #[cfg(doctest)]
+        mod growth {
+            grows!(Refusal: $($name)*);
+        }
     };
     (@pattern $name:ident $bound:ident $detail:ident) => { Refusal::$name($bound) };
     (@pattern $name:ident $bound:ident) => { Refusal::$name };
@@ -68,54 +74,54 @@ macro_rules! refusals {
 }
 
 refusals! {
-    NotEnabled = L4_K1 "K1" "nobody waits so: the transfer or expiry can't be done now";
-    NoSuchThread = L4_K2 "K2" "there is no thread of this number";
-    StillWaiting = L4_K3 "K3" "the thread's last call goes on";
-    TimeoutValue = L4_K4 "K4" "a timeout is neither never nor zero";
-    FrameCount = L4_K6 "K6" "a machine has 1 to 4,096 frames";
-    WordCount = L4_M1 "M1" "the message tag counts more than 63 words after it";
-    OddItemWords = L4_M2 "M2" "the tag counts an odd number of words for the items";
-    BadItem(u32) = L4_M3 "M3" "the item has an unknown kind or is no fpage";
-    UnsupportedItem(u32) = L4_M4 "M4" "the item is a string or CtrlXfer item, which are left out here";
-    Flags = L4_M5 "M5" "a flag of the tag is set";
-    BadWindow = L4_M6 "M6" "the receive window is no fpage";
-    TooFewWords = L4_M7 "M7" "there is no tag, or there are fewer words than it counts";
-    NotRoot = L4_H1 "H1" "the caller isn't in root's space";
-    BadThreadId = L4_H2 "H2" "no thread can have this id";
-    ThreadExists = L4_H3 "H3" "there is a thread of this number";
-    NoSuchId = L4_H4 "H4" "no thread has this id";
-    TooManyThreads = L4_H5 "H5" "there are 64 threads, or no number is left for a space";
-    Undeletable = L4_H6 "H6" "sigma0, root and the caller itself can't be deleted";
-    BadUnmapWord(u32) = L4_U1 "U1" "the word of an Unmap is no fpage";
-    TooFewUnmapWords = L4_U2 "U2" "an Unmap has fewer words than its control word says";
-    EmptyRegion = L4_N1 "N1" "the region has no page";
-    RegionBeyondSpace = L4_N2 "N2" "the region goes beyond the pages of a space: 1,048,576, or 4,194,304 of 1,024 bytes";
-    RegionWithoutRights = L4_N3 "N3" "the region has no rights";
-    TooLong = L4_N4 "N4" "no 1,984 map items, as many as 64 messages hold, move just the region";
-    SeveralMessages = L4_N5 "N5" "the plan has more messages than one";
+    NotEnabled = L4_K1 "K1" "the step is not enabled: this transfer or expiry cannot happen now";
+    NoSuchThread = L4_K2 "K2" "there is no thread with this number";
+    StillWaiting = L4_K3 "K3" "the thread's previous call has not ended yet";
+    TimeoutValue = L4_K4 "K4" "a timeout is neither never (0) nor zero (0x400)";
+    FrameCount = L4_K6 "K6" "the number of frames must be from 1 to 4,096";
+    WordCount = L4_M1 "M1" "the tag counts more than 63 words, untyped and typed together";
+    OddItemWords = L4_M2 "M2" "the tag counts an odd number of typed words, but every item has two";
+    BadItem(u32) = L4_M3 "M3" "the item has an unknown kind, or its fpage is invalid";
+    UnsupportedItem(u32) = L4_M4 "M4" "the item is a string or CtrlXfer item, which the kernel does not support";
+    Flags = L4_M5 "M5" "a flag is set in the tag, but the kernel supports no flags";
+    BadWindow = L4_M6 "M6" "the receive window is not a valid fpage";
+    TooFewWords = L4_M7 "M7" "the tag is missing, or fewer words follow it than it counts";
+    NotRoot = L4_H1 "H1" "the caller is not in root's address space";
+    BadThreadId = L4_H2 "H2" "the id is not a valid thread id";
+    ThreadExists = L4_H3 "H3" "a thread with this number already exists";
+    NoSuchId = L4_H4 "H4" "there is no thread with this id";
+    TooManyThreads = L4_H5 "H5" "there are already 64 threads, or all space numbers are used up";
+    Undeletable = L4_H6 "H6" "sigma0, root and the caller itself cannot be deleted";
+    BadUnmapWord(u32) = L4_U1 "U1" "a word passed to Unmap is not a valid fpage";
+    TooFewUnmapWords = L4_U2 "U2" "Unmap got fewer words than its control word requires";
+    EmptyRegion = L4_N1 "N1" "the region has no pages";
+    RegionBeyondSpace = L4_N2 "N2" "the source or target pages go beyond the end of a space: 1,048,576 pages, or 4,194,304 of 1,024 bytes";
+    RegionWithoutRights = L4_N3 "N3" "the region has no rights: request at least one of r, w and x";
+    TooLong = L4_N4 "N4" "the region needs more than 1,984 map items, the most that 64 messages can hold";
+    SeveralMessages = L4_N5 "N5" "the plan has more than one message";
     NoSuchMessage = L4_N6 "N6" "the plan has no message with this number";
-    ForeignItem(u32) = L4_C1 "C1" "the item of a plan is none of the region's: a grant, other rights, or a page that goes elsewhere";
-    PageNotMoved(u32) = L4_C2 "C2" "no item moves the page";
-    ForeignPage(u32) = L4_C3 "C3" "the page at this place of the list isn't one of the region's";
-    PageNotApart(u32) = L4_C4 "C4" "one map item could move the page at this place together with an earlier one, so the pages don't show that no list is shorter";
-    PageCount = L4_C5 "C5" "more than 1,984 items, or not one page an item; or not 1,985 pages";
-    RefusedRegion = L4_C6 "C6" "the region is refused by N1, N2 or N3";
-    RegionsOverlap = L4_P1 "P1" "a page of the region is one of another region of the table";
-    NotServed = L4_P2 "P2" "no region of the table has the page with this access";
-    FullTable = L4_P3 "P3" "the table has 64 regions";
-    BadRegion = L4_P4 "P4" "the region has no page, a page or source page beyond the space, or no right";
-    HistoryFull = L4_L1 "L1" "the history is full: with more than 999,871 steps no call is started";
-    ReplyWaiting = L4_L3 "L3" "an ended call of this seat has not been taken";
-    SeatTaken = L4_L4 "L4" "the seat of this number was given before";
-    MemoryFoundSince(u32) = L4_L6 "L6" "the history has a transfer that found no memory, and finds it as the history is done again";
-    OtherProvenance = L4_L7 "L7" "the links aren't how the page came there";
-    SeatMissing(u32) = L4_X1 "X1" "the seat of this number was given and is not here";
-    SeatForeign(u32) = L4_X2 "X2" "the seat of this number was not given, or is here twice";
-    SeatWrong(u32) = L4_X3 "X3" "the seat of this number does not agree with what was kept of it";
-    NoMemory = L4_NO_MEMORY "NoMemory" "there was no memory for it";
+    ForeignItem(u32) = L4_C1 "C1" "the item does not fit the region: it is a grant, has other rights, moves a page outside it, or moves a page to the wrong target";
+    PageNotMoved(u32) = L4_C2 "C2" "no item of the plan moves the page";
+    ForeignPage(u32) = L4_C3 "C3" "the page at this position in the list is not in the region";
+    PageNotApart(u32) = L4_C4 "C4" "one map item could move the page at this position and an earlier one, so the pages do not prove that no plan is shorter";
+    PageCount = L4_C5 "C5" "the plan has more than 1,984 items, or not one page per item; or a too-long claim does not list 1,985 pages";
+    RefusedRegion = L4_C6 "C6" "the region itself is refused with N1, N2 or N3";
+    RegionsOverlap = L4_P1 "P1" "the region overlaps another region in the table";
+    NotServed = L4_P2 "P2" "no region in the table covers this page with the requested access";
+    FullTable = L4_P3 "P3" "the table is full: it has 64 regions";
+    BadRegion = L4_P4 "P4" "the region has no pages or no rights, or one of its pages or source pages is beyond the end of the space";
+    HistoryFull = L4_L1 "L1" "the history is full: no call can start once it has more than 999,871 steps";
+    ReplyWaiting = L4_L3 "L3" "the reply to an earlier call of this seat has not been taken yet";
+    SeatTaken = L4_L4 "L4" "the seat of this number was already handed out";
+    MemoryFoundSince(u32) = L4_L6 "L6" "a transfer that ran out of memory in the history succeeded when the history was replayed";
+    OtherProvenance = L4_L7 "L7" "the given links do not match the way the page got there";
+    SeatMissing(u32) = L4_X1 "X1" "the seat of this number was handed out, but was not returned";
+    SeatForeign(u32) = L4_X2 "X2" "the seat of this number was never handed out, or was returned twice";
+    SeatWrong(u32) = L4_X3 "X3" "the seat of this number does not match the lock's records";
+    NoMemory = L4_NO_MEMORY "NoMemory" "there was not enough memory";
 }
 
-/// The code, the number that the refusal carries, and the text.
+/// Writes the code, the number that the refusal carries, and the text.
 impl fmt::Display for Refusal {
     fn fmt(&self, out: &mut fmt::Formatter<'_>) -> fmt::Result {
         match self.detail() {
@@ -133,7 +139,7 @@ impl fmt::Debug for Refusal {
 
 impl Error for Refusal {}
 
-/// A number that no library gives which goes with this crate.
+/// Panics for a number that no library of this crate's version returns.
 pub(crate) fn unknown(what: &str, number: u32) -> ! {
     panic!("libl4 gives a {what} that this crate doesn't know: {number:#x}")
 }
@@ -156,7 +162,7 @@ mod tests {
         assert_eq!(Refusal::of(ffi::L4_C2, 16), Refusal::PageNotMoved(16));
         assert_eq!(
             Refusal::PageNotMoved(16).to_string(),
-            "C2 16: no item moves the page"
+            "C2 16: no item of the plan moves the page"
         );
         assert_eq!(Refusal::NotEnabled.detail(), None);
         assert_eq!(ffi::refusal_code(0x1234), "");

@@ -6,36 +6,36 @@ use crate::{Item, Message, ThreadId};
 use std::error::Error;
 use std::fmt;
 
-/// Why an Ipc failed (L4 X.2 manual, IPC: ErrorCode).
+/// The reason for which an Ipc failed (L4 X.2 manual, IPC: ErrorCode).
 #[derive(Clone, Copy, PartialEq, Eq, Hash)]
 pub struct ErrorCode(u32);
 
 impl ErrorCode {
-    /// The send phase waited for no time.
+    /// The zero timeout of the send phase expired.
     pub const SEND_TIMEOUT: ErrorCode = ErrorCode(2);
 
-    /// The receive phase waited for no time.
+    /// The zero timeout of the receive phase expired.
     pub const RECEIVE_TIMEOUT: ErrorCode = ErrorCode(3);
 
-    /// There is nobody to send to.
+    /// There is no thread to send to.
     pub const SEND_PARTNER: ErrorCode = ErrorCode(4);
 
-    /// There is nobody to receive from.
+    /// There is no thread to receive from.
     pub const RECEIVE_PARTNER: ErrorCode = ErrorCode(5);
 
-    /// The message that was sent could not be delivered: the receiver has no window for its items, they contradict each other, or there
-    /// was no memory.
+    /// The message that was sent could not be delivered: the receiver has no window for its items, the items conflict, or there was no
+    /// memory.
     pub const SEND_OVERFLOW: ErrorCode = ErrorCode(8);
 
-    /// The message that was to be received could not be delivered, for the same reasons.
+    /// The message that was to be received could not be delivered, for one of the same reasons.
     pub const RECEIVE_OVERFLOW: ErrorCode = ErrorCode(9);
 
-    /// The number.
+    /// Returns the number.
     pub const fn number(self) -> u32 {
         self.0
     }
 
-    /// A line of text that says what it means.
+    /// Returns a line of text that explains the error.
     pub fn text(self) -> &'static str {
         match self {
             ErrorCode::SEND_TIMEOUT => "the send phase waited for no time",
@@ -65,36 +65,37 @@ impl fmt::Display for ErrorCode {
 
 impl Error for ErrorCode {}
 
-/// How an Ipc ended: with the message that it received, without one where it had no receive phase, or with an error.
+/// The result of an Ipc: the message that it received, no message if it had no receive phase, or an error.
 #[derive(Clone, PartialEq, Eq)]
 pub struct Received {
-    /// The tag of the message; 0x8000 where the call failed, 0 where nothing was to be received.
+    /// The tag of the message: 0x8000 if the call failed, and 0 if it had no receive phase.
     pub tag: u32,
-    /// Why the call failed.
+    /// The error, if the call failed.
     pub error: Option<ErrorCode>,
-    /// Who sent it; [`ThreadId::NIL`] where nobody did.
+    /// The sender's thread id, or [`ThreadId::NIL`] if there is no message.
     pub from: ThreadId,
     /// The words after the tag, at most 63.
     pub words: Vec<u32>,
 }
 
 impl Received {
-    /// The message's label, of the tag's bits 31 to 16.
+    /// Returns the message's label, which is in bits 31 to 16 of the tag.
     pub fn label(&self) -> u16 {
         (self.tag >> 16) as u16
     }
 
-    /// How many words stand before the items.
+    /// Returns the number of words before the items.
     fn untyped_count(&self) -> usize {
         ((self.tag & 0x3f) as usize).min(self.words.len())
     }
 
-    /// The untyped words.
+    /// Returns the untyped words.
     pub fn untyped(&self) -> &[u32] {
         &self.words[..self.untyped_count()]
     }
 
-    /// The message, the tag first, as a pager's table and sigma0's are asked to answer it.
+    /// Returns the message, the tag first. Pass it to [`Pager::answer`](crate::Pager::answer) or [`Sigma0::answer`](crate::Sigma0::answer)
+    /// to compute the answer.
     pub fn message(&self) -> Message {
         let words: Vec<u32> = std::iter::once(self.tag)
             .chain(self.words.iter().copied())
@@ -102,7 +103,7 @@ impl Received {
         Message::of_words(&words).unwrap_or(Message::EMPTY)
     }
 
-    /// The items.
+    /// Returns an iterator over the items.
     pub fn items(&self) -> impl Iterator<Item = Item> + '_ {
         self.words[self.untyped_count()..]
             .chunks_exact(2)
@@ -110,7 +111,7 @@ impl Received {
     }
 }
 
-/// As `message of thread 1: label 0x0007; ..`, or why there is none.
+/// Writes `message of thread 1: label 0x0007; ..`, or why there is no message.
 impl fmt::Display for Received {
     fn fmt(&self, out: &mut fmt::Formatter<'_>) -> fmt::Result {
         match (self.error, self.from) {
@@ -134,27 +135,28 @@ impl fmt::Debug for Received {
     }
 }
 
-/// How a thread's last call ended.
+/// The result of a thread's last call.
 #[derive(Clone, PartialEq, Eq, Debug)]
+#[non_exhaustive]
 pub enum Reply {
-    /// An Ipc ended so.
+    /// An Ipc ended with this result.
     Ipc(Received),
-    /// A fault: the page is there with the rights that the access needs.
+    /// A fault: the page is present with the rights that the access needs.
     Hit,
     /// A fault that the pager answered.
     Answered,
-    /// A fault that failed so.
+    /// A fault that failed with this error.
     Failed(ErrorCode),
-    /// An Unmap was done.
+    /// An Unmap was executed.
     Unmapped,
-    /// A control of threads was done.
+    /// A Create, SetPager or Delete was executed.
     Controlled,
-    /// The thread is gone.
+    /// The thread was deleted.
     Gone,
 }
 
 impl Reply {
-    /// The reply that the library tells; None where there is none.
+    /// Returns the reply that the library reports, or `None` if there is none.
     pub(crate) fn of(told: &ffi::l4_reply) -> Option<Reply> {
         Some(match told.kind {
             ffi::L4_NONE => return None,
@@ -174,7 +176,7 @@ impl Reply {
         })
     }
 
-    /// What an Ipc received, or why it failed; None for other calls.
+    /// Returns what an Ipc received, or why it failed. Returns `None` for other calls.
     ///
     /// ```
     /// use l4::{Call, ErrorCode, Fpage, Kernel, ThreadId, Timeout};

@@ -1,16 +1,17 @@
 //! A kernel that threads share, with its history and its seats.
 use crate::ffi::{self, Handle};
 use crate::{Call, Outcome, PageSize, Place, Refusal, Reply, Rights, Step};
+use std::error::Error;
 use std::fmt;
 use std::sync::atomic::{AtomicU64, Ordering};
 use std::sync::{Arc, Condvar, Mutex, MutexGuard, PoisonError};
 
-/// A step of a history: the start of a call, or a step that came next.
-// Each second or third entry of a history is a start.
+/// A step of a history: the start of a call, or a transfer or expiry.
+// Every second or third entry of a history is a start.
 #[allow(clippy::large_enum_variant)]
 #[derive(Clone, PartialEq, Eq, Debug)]
 pub enum Recorded {
-    /// The thread entered a call.
+    /// The thread started a call.
     Start {
         /// The number of the thread.
         thread: u32,
@@ -21,21 +22,21 @@ pub enum Recorded {
     Next(Step),
 }
 
-/// An entry of a history. It prints as a line of a list of steps, as the program `l4_steps` reads it.
+/// An entry of a history. It prints as a line of a step list, as the program `l4_steps` reads it.
 #[derive(Clone, PartialEq, Eq, Debug)]
 pub struct Entry {
-    /// The number whose call this step starts or follows.
+    /// The thread number whose call this step starts or follows.
     pub seat: u32,
     /// The step.
     pub step: Recorded,
-    /// What it did.
+    /// What the step did.
     pub outcome: Outcome,
     /// The numbers of the threads whose calls ended in it.
     pub ended: Vec<u32>,
 }
 
 impl Entry {
-    /// The entry that the library tells; None beyond the end.
+    /// Returns the entry that the library reports, or `None` beyond the end.
     fn of(told: &ffi::l4_entry) -> Option<Entry> {
         let step = match told.kind {
             ffi::L4_NONE => return None,
@@ -66,12 +67,12 @@ impl fmt::Display for Entry {
     }
 }
 
-/// A seat's evidence of a call that has ended.
+/// A seat's receipt for a call that has ended.
 #[derive(Clone, PartialEq, Eq, Debug)]
 pub struct Receipt {
     /// The call.
     pub call: Call,
-    /// The place of the entry that started it, from 0.
+    /// The place in the history, from 0, of the entry that started it.
     pub start: u64,
     /// The place of the entry that ended it.
     pub end: u64,
@@ -79,29 +80,29 @@ pub struct Receipt {
     pub reply: Reply,
 }
 
-/// A transfer that moved a page on. It prints as a line of what the program `l4 why` writes.
+/// A transfer that moved a page. It prints as a line of the output of `l4 why`.
 #[derive(Clone, Copy, PartialEq, Eq, Debug)]
 pub struct Link {
-    /// The place of its entry in the history, from 0.
+    /// The place of the transfer's entry in the history, from 0.
     pub entry: u64,
-    /// The number of the thread that sent the page.
+    /// The thread number of the sender.
     pub sender: u32,
-    /// The number of the thread that received it.
+    /// The thread number of the receiver.
     pub receiver: u32,
     /// The sender's page.
     pub source: Place,
     /// The receiver's page.
     pub target: Place,
-    /// The item gave the page away, else it shared it.
+    /// Whether the item granted the page; otherwise it mapped the page.
     pub grant: bool,
-    /// The rights that the sender's page had just before.
+    /// The rights of the sender's page just before the transfer.
     pub source_rights: Rights,
     /// The rights that the item named.
     pub item_rights: Rights,
 }
 
 impl Link {
-    /// The link that the library tells, with the parties of its entry.
+    /// Returns the link that the library reports, with the sender and the receiver of its entry.
     fn of(told: &ffi::l4_link, entry: &ffi::l4_entry) -> Link {
         Link {
             entry: told.entry,
@@ -121,7 +122,7 @@ impl Link {
         }
     }
 
-    /// The link as the library is given it.
+    /// Returns the struct that the library reads.
     fn given(&self) -> ffi::l4_link {
         ffi::l4_link {
             entry: self.entry,
@@ -132,6 +133,7 @@ impl Link {
             grant: self.grant.into(),
             source_rights: self.source_rights.bits(),
             item_rights: self.item_rights.bits(),
+            reserved: 0,
         }
     }
 }
@@ -153,7 +155,8 @@ impl fmt::Display for Link {
     }
 }
 
-/// What threads share: the locked kernel, whom to wake as calls are entered, and the length of the history.
+/// What threads share: the locked kernel, the condition variable that wakes waiting threads when a call is entered, and the history's
+/// length.
 struct Shared {
     lock: Mutex<Handle<ffi::l4_lock>>,
     entered: Condvar,
@@ -161,13 +164,17 @@ struct Shared {
 }
 
 impl Shared {
-    /// The locked kernel. No code panics while it has it, so it is whole also where a thread has panicked.
+    /// Locks the kernel. No code panics while it holds the lock, so the kernel is intact even if a thread has panicked.
     fn lock(&self) -> MutexGuard<'_, Handle<ffi::l4_lock>> {
         self.lock.lock().unwrap_or_else(PoisonError::into_inner)
     }
 }
 
-/// A kernel that threads share: it keeps the history of its steps, and gives a [`Seat`] to each number that enters calls.
+/// A kernel that threads share. It keeps the history of its steps, and gives out one [`Seat`] for each thread number that makes calls.
+///
+/// While the call of one seat waits, other threads can run and other seats can make calls. The history has room for 1,000,000 entries. Once
+/// it has more than 999,871, every further call of a seat is refused with L1, for good; queries and [`close`](SharedKernel::close) still
+/// work. The memory is freed when the kernel and all its seats are dropped.
 ///
 /// ```
 /// use l4::{Call, Fpage, Message, SharedKernel, ThreadId, Timeout};
@@ -188,12 +195,12 @@ pub struct SharedKernel {
 }
 
 impl SharedKernel {
-    /// A kernel as it boots with pages of 4 KiB. Refused as [`Kernel::boot`](crate::Kernel::boot).
+    /// Boots a kernel with pages of 4 KiB. The errors are those of [`Kernel::boot`](crate::Kernel::boot).
     pub fn new(frames: u32) -> Result<SharedKernel, Refusal> {
         SharedKernel::new_sized(frames, PageSize::Kib4)
     }
 
-    /// The same by pages of this size.
+    /// Boots a kernel with pages of this size. The errors are the same.
     pub fn new_sized(frames: u32, size: PageSize) -> Result<SharedKernel, Refusal> {
         match Handle::lock(frames, size.bytes()) {
             Ok(handle) => Ok(SharedKernel {
@@ -207,7 +214,11 @@ impl SharedKernel {
         }
     }
 
-    /// The seat of a number, once, also before there is a thread of the number. Refused by L4, NoMemory.
+    /// Gives out the seat of a thread number. Each seat is given once, and the thread need not exist yet.
+    ///
+    /// # Errors
+    ///
+    /// In this order: L4, NoMemory.
     pub fn seat(&self, number: u32) -> Result<Seat, Refusal> {
         match self.shared.lock().give(number) {
             ffi::L4_OK => Ok(Seat {
@@ -218,12 +229,12 @@ impl SharedKernel {
         }
     }
 
-    /// How many steps the history had as a call was entered last. It never falls, and waits for nobody.
+    /// Returns the number of steps in the history when the last call was entered. It never decreases, and the method never waits.
     pub fn steps(&self) -> u64 {
         self.shared.steps.load(Ordering::SeqCst)
     }
 
-    /// The history: all steps since boot.
+    /// Returns the history: all steps since boot.
     pub fn history(&self) -> Vec<Entry> {
         let lock = self.shared.lock();
         (0..)
@@ -231,11 +242,15 @@ impl SharedKernel {
             .collect()
     }
 
-    /// How a page of a space came to where it is: the transfers that brought it there from a page that sigma0 had at boot, one after another;
-    /// a page that sigma0 has had since boot has none. `None` where the page is not present.
+    /// Finds how a page of a space got to where it is.
     ///
-    /// The history is done once more on a second kernel, while calls of seats wait. Refused by NoMemory, and by L6 where a transfer of the
-    /// history found no memory.
+    /// Returns the transfers that brought the page there, one after another, from a page that sigma0 had at boot. A page that sigma0 has
+    /// had since boot has no transfers. Returns `None` if the page is not present. The history is replayed on a second kernel; calls of
+    /// seats wait meanwhile.
+    ///
+    /// # Errors
+    ///
+    /// NoMemory, or L6 if a transfer of the history found no memory.
     pub fn provenance(&self, space: u64, page: u32) -> Result<Option<Vec<Link>>, Refusal> {
         let lock = self.shared.lock();
         let (told, links) = lock.provenance(space, page);
@@ -248,9 +263,14 @@ impl SharedKernel {
         Ok((told.there != 0).then(|| links.collect()))
     }
 
-    /// Checks that just these links are how a page of a space came to where it is, by code that shares none with
-    /// [`provenance`](SharedKernel::provenance). Refused by L7 where they aren't, which no links are where the page is not present, and as
-    /// it is. A link's sender and receiver are those of its entry, and are not judged.
+    /// Checks that exactly these links are how a page of a space got to where it is. The check shares no code with
+    /// [`provenance`](SharedKernel::provenance).
+    ///
+    /// The sender and the receiver of a link follow from its entry, and are not checked.
+    ///
+    /// # Errors
+    ///
+    /// NoMemory or L6, as for `provenance`; L7 if these links are not how the page got there. No links are, if the page is not present.
     pub fn check_provenance(&self, space: u64, page: u32, links: &[Link]) -> Result<(), Refusal> {
         let given: Vec<_> = links.iter().map(Link::given).collect();
         let verdict = self.shared.lock().check_provenance(space, page, &given);
@@ -260,9 +280,13 @@ impl SharedKernel {
         }
     }
 
-    /// Ends the sharing, where just the seats come back that were given: it gives the history, of which each receipt was right. X1 where a
-    /// seat is missing, and X2 where one is another kernel's; then all is handed back.
-    // What is handed back is large, and rarely.
+    /// Takes back the seats, frees the kernel, and returns the history, if exactly the seats that were given come back. Success confirms
+    /// that every receipt was right about the history.
+    ///
+    /// # Errors
+    ///
+    /// X1 if a seat is missing, and X2 if a seat belongs to another kernel. The error then hands back the kernel and all seats.
+    // The error is large, and rare.
     #[allow(clippy::result_large_err)]
     pub fn close(self, seats: Vec<Seat>) -> Result<Vec<Entry>, Unclosed> {
         let other = seats
@@ -296,10 +320,22 @@ impl fmt::Debug for SharedKernel {
     }
 }
 
-/// A shared kernel that was not closed, with all that was handed in.
+/// The error of [`SharedKernel::close`]: the kernel was not closed, and everything is handed back.
+///
+/// ```
+/// use l4::SharedKernel;
+/// fn close_without_its_seat() -> Result<(), Box<dyn std::error::Error + Send + Sync>> {
+///     let kernel = SharedKernel::new(1)?;
+///     let _root = kernel.seat(2)?;
+///     kernel.close(Vec::new())?;
+///     Ok(())
+/// }
+/// let text = "the kernel was not closed: X1 2: the seat of this number was handed out, but was not returned";
+/// assert_eq!(close_without_its_seat().unwrap_err().to_string(), text);
+/// ```
 #[derive(Debug)]
 pub struct Unclosed {
-    /// Why.
+    /// Why the kernel was not closed.
     pub refusal: Refusal,
     /// The kernel.
     pub kernel: SharedKernel,
@@ -307,20 +343,32 @@ pub struct Unclosed {
     pub seats: Vec<Seat>,
 }
 
-/// The right to enter calls of one thread.
+impl fmt::Display for Unclosed {
+    fn fmt(&self, out: &mut fmt::Formatter<'_>) -> fmt::Result {
+        write!(out, "the kernel was not closed: {}", self.refusal)
+    }
+}
+
+impl Error for Unclosed {}
+
+/// The right to make the calls of one thread number, from [`SharedKernel::seat`].
 pub struct Seat {
     shared: Arc<Shared>,
     number: u32,
 }
 
 impl Seat {
-    /// The number of its thread.
+    /// Returns the seat's thread number.
     pub fn number(&self) -> u32 {
         self.number
     }
 
-    /// Enters a call and waits until it has ended; the kernel is free meanwhile. Refused, in this order, by L1, NoMemory, K2 where there is no
-    /// such thread, and as [`Kernel::start`](crate::Kernel::start).
+    /// Makes a call, and waits until it has ended. Other seats can make calls meanwhile. Nothing else ends the wait: the kernel cannot be
+    /// closed without this seat.
+    ///
+    /// # Errors
+    ///
+    /// In this order: L1, NoMemory, K2 if there is no such thread, and those of [`Kernel::start`](crate::Kernel::start).
     pub fn call(&mut self, call: &Call) -> Result<Reply, Refusal> {
         let (given, words) = call.given();
         let mut lock = self.shared.lock();
@@ -346,12 +394,12 @@ impl Seat {
         }
     }
 
-    /// How many calls it has started.
+    /// Returns the number of calls that the seat has started.
     pub fn starts(&self) -> u64 {
         self.shared.lock().seat_of(self.number).starts
     }
 
-    /// Its receipts, in the order in which it got them.
+    /// Returns the seat's receipts, in the order in which it got them.
     pub fn receipts(&self) -> Vec<Receipt> {
         let lock = self.shared.lock();
         (0..)
@@ -366,7 +414,7 @@ impl fmt::Debug for Seat {
     }
 }
 
-/// The receipt that the library tells; None where there is none.
+/// Returns the receipt that the library reports, or `None` if there is none.
 fn receipt_of(told: &ffi::l4_receipt) -> Option<Receipt> {
     Some(Receipt {
         call: Call::told(&told.call, &told.words[..told.word_count as usize]),

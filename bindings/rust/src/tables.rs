@@ -1,9 +1,9 @@
-//! The tables of pagers, and sigma0's.
+//! The tables of pagers, and sigma0's table.
 use crate::ffi;
 use crate::{Message, PageSize, Refusal, Region, Rights};
 use std::fmt;
 
-/// The message that the library tells, or why it was refused.
+/// Returns the message that the library reports, or the refusal.
 fn answered(told: &ffi::l4_message) -> Result<Message, Refusal> {
     match told.refusal {
         ffi::L4_OK => {
@@ -14,8 +14,10 @@ fn answered(told: &ffi::l4_message) -> Result<Message, Refusal> {
     }
 }
 
-/// Which pages of its own a pager gives for the pages of those whom it serves: at most 64 regions, no target page of which is one of
-/// two. Source pages may be shared. It is freed as it is dropped.
+/// A pager's table: which of its own pages the pager maps for the pages of the threads that it serves.
+///
+/// It has at most 64 regions, whose target pages do not overlap; source pages may be shared. It owns its memory, and frees it when it is
+/// dropped.
 ///
 /// ```
 /// use l4::{Message, Pager, Refusal, Region, Rights};
@@ -33,12 +35,16 @@ pub struct Pager {
 }
 
 impl Pager {
-    /// A table of pages of 4 KiB without a region. Refused by NoMemory.
+    /// Makes a table without regions, for pages of 4 KiB.
+    ///
+    /// # Errors
+    ///
+    /// NoMemory.
     pub fn new() -> Result<Pager, Refusal> {
         Pager::new_sized(PageSize::Kib4)
     }
 
-    /// The same with pages of this size, as the kernel has whose faults it answers.
+    /// Makes a table for pages of this size: that of the kernel whose faults it answers. The errors are the same.
     ///
     /// ```
     /// use l4::{Message, PageSize, Pager, Region, Rights};
@@ -55,7 +61,11 @@ impl Pager {
         }
     }
 
-    /// Adds a region at the end. Refused, in this order, by P4, P1 and P3, and then nothing has changed.
+    /// Adds a region at the end. After an error nothing has changed.
+    ///
+    /// # Errors
+    ///
+    /// In this order: P4, P1, P3.
     pub fn add(&mut self, region: &Region) -> Result<(), Refusal> {
         match self.handle.add(&region.given()) {
             ffi::L4_OK => Ok(()),
@@ -63,8 +73,12 @@ impl Pager {
         }
     }
 
-    /// The source page of a target page, where its region's rights hold those that the access needs; an access that needs none is held
-    /// by each region. Refused by P2.
+    /// Returns the source page of a target page whose region has all the rights that the access needs. An access that needs no right finds
+    /// the page in any region.
+    ///
+    /// # Errors
+    ///
+    /// P2 if no region has the page with this access.
     pub fn find(&self, page: u32, access: Rights) -> Result<u32, Refusal> {
         let told = self.handle.find(page, access.bits());
         match told.refusal {
@@ -73,8 +87,14 @@ impl Pager {
         }
     }
 
-    /// What the pager answers a message: to a page fault one map item, the source page with its region's rights for the fault's page; a
-    /// nil map item where [`find`](Pager::find) refuses the page, and to any other message. Refused by M7, M1, M5, M2, M4 or M3.
+    /// Returns the pager's answer to a message.
+    ///
+    /// The answer to a page fault is one map item: the source page, with its region's rights, for the page of the fault. It is a nil map
+    /// item if [`find`](Pager::find) refuses the page; so is the answer to any other message.
+    ///
+    /// # Errors
+    ///
+    /// M7, M1, M5, M2, M4 or M3 for words that are not a message.
     pub fn answer(&self, message: &Message) -> Result<Message, Refusal> {
         answered(&self.handle.answer(message.words()))
     }
@@ -86,8 +106,9 @@ impl fmt::Debug for Pager {
     }
 }
 
-/// Which space owns which frame: sigma0's table. A frame that is given to a space is that space's for good. It is freed as it is
-/// dropped.
+/// sigma0's table: which space owns which frame.
+///
+/// A frame that a space has been given stays that space's. The table owns its memory, and frees it when it is dropped.
 ///
 /// ```
 /// use l4::{Message, Sigma0};
@@ -103,12 +124,16 @@ pub struct Sigma0 {
 }
 
 impl Sigma0 {
-    /// A table of 1 to 4,096 frames of 4 KiB that no space owns. Refused, in this order, by K6 and NoMemory.
+    /// Makes a table of 1 to 4,096 frames of 4 KiB, none of which has an owner.
+    ///
+    /// # Errors
+    ///
+    /// In this order: K6, NoMemory.
     pub fn new(frames: u32) -> Result<Sigma0, Refusal> {
         Sigma0::new_sized(frames, PageSize::Kib4)
     }
 
-    /// The same with pages and frames of this size, as the kernel has.
+    /// Makes a table for pages and frames of this size, as the kernel has. The errors are the same.
     ///
     /// ```
     /// use l4::{Message, PageSize, Sigma0};
@@ -124,10 +149,16 @@ impl Sigma0 {
         }
     }
 
-    /// What sigma0 answers a message from a space. A request without attributes asks for the frames of its fpage's pages, and a page
-    /// fault for the frame of its page; the frame of a page has the page's number. Where there are all of these, and each is nobody's or
-    /// the space's, they are the space's from then on, and the answer is one map item of them with all rights, to the pages of the same
-    /// numbers; anything else is answered by a nil map item, and changes nothing. Refused by M7, M1, M5, M2, M4 or M3.
+    /// Returns sigma0's answer to a message from a thread in this space.
+    ///
+    /// A request with attributes of 0 asks for the frames of its fpage's pages, and a page fault asks for the frame of its page; the frame
+    /// of a page has the page's number. If all of these frames exist, and each has no owner or is owned by this space, then the space owns
+    /// them from then on. The answer is then one map item of all of them, with all rights, to the pages of the same numbers. The answer to
+    /// anything else is a nil map item, and nothing changes.
+    ///
+    /// # Errors
+    ///
+    /// M7, M1, M5, M2, M4 or M3 for words that are not a message.
     pub fn answer(&mut self, space: u64, message: &Message) -> Result<Message, Refusal> {
         answered(&self.handle.answer(space, message.words()))
     }

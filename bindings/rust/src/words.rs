@@ -5,7 +5,7 @@ use std::error::Error;
 use std::fmt;
 use std::ops::{BitAnd, BitOr, Range, Sub};
 
-/// Words, each as `0x` and eight digits.
+/// Writes words, each as `0x` and eight digits.
 pub(crate) struct Hexadecimal<'words>(pub(crate) &'words [u32]);
 
 impl fmt::Display for Hexadecimal<'_> {
@@ -18,15 +18,17 @@ impl fmt::Display for Hexadecimal<'_> {
     }
 }
 
-/// A thread id: a thread number in bits 31 to 14, and a version in bits 13 to 0 (L4 X.2 manual, ThreadId).
+/// A thread id: the thread number in bits 31 to 14, and the version in bits 13 to 0 (L4 X.2 manual, ThreadId).
+///
+/// A thread's version is 1 to 16,383, and its low six bits are not all zero.
 #[derive(Clone, Copy, PartialEq, Eq, PartialOrd, Ord, Hash)]
 pub struct ThreadId(u32);
 
 impl ThreadId {
-    /// The id of nobody: a call has no phase with it.
+    /// nilthread, the id of no thread: a call has no phase with it.
     pub const NIL: ThreadId = ThreadId(crate::ffi::L4_NILTHREAD);
 
-    /// The id that stands for anybody.
+    /// anythread, which stands for any thread.
     pub const ANY: ThreadId = ThreadId(crate::ffi::L4_ANYTHREAD);
 
     /// The id of sigma0, thread 1 in space 0.
@@ -35,8 +37,13 @@ impl ThreadId {
     /// The id of root, thread 2 in space 1.
     pub const ROOT: ThreadId = ThreadId(2 << 14 | 1);
 
-    /// The id of the thread `number`, from 1 to 262,143, with a version from 1 to 16,383 whose low six bits aren't all zero. Refused by
-    /// H2 for other numbers, and for the one pair whose word stands for anybody.
+    /// Returns the id of the thread `number`, from 1 to 262,143, with a version from 1 to 16,383 whose low six bits are not all zero.
+    ///
+    /// # Errors
+    ///
+    /// H2 for other numbers, and for the one pair whose word is [`ThreadId::ANY`].
+    ///
+    /// # Examples
     ///
     /// ```
     /// use l4::{Refusal, ThreadId};
@@ -54,28 +61,28 @@ impl ThreadId {
         }
     }
 
-    /// The id of a word, which may be one that no thread can have.
+    /// Returns the id of a word, which may be an id that no thread can have.
     pub const fn of_word(word: u32) -> ThreadId {
         ThreadId(word)
     }
 
-    /// The word.
+    /// Returns the word.
     pub const fn word(self) -> u32 {
         self.0
     }
 
-    /// The thread number, below 262,144.
+    /// Returns the thread number, below 262,144.
     pub const fn number(self) -> u32 {
         self.0 >> 14
     }
 
-    /// The version, below 16,384.
+    /// Returns the version, below 16,384.
     pub const fn version(self) -> u32 {
         self.0 & 0x3fff
     }
 }
 
-/// As `thread 3`, with its version where that isn't 1, or as `nil` or `any`.
+/// Writes `thread 3`, with the version if it is not 1, or `nil` or `any`.
 impl fmt::Display for ThreadId {
     fn fmt(&self, out: &mut fmt::Formatter<'_>) -> fmt::Result {
         match (*self, self.number(), self.version()) {
@@ -93,7 +100,7 @@ impl fmt::Debug for ThreadId {
     }
 }
 
-/// What may be done with a page: a set out of the rights to read, to write and to execute (L4 X.2 manual, Fpages).
+/// A set of the rights to read, to write and to execute a page (L4 X.2 manual, Fpages).
 ///
 /// ```
 /// use l4::Rights;
@@ -108,40 +115,40 @@ impl Rights {
     /// No right.
     pub const NONE: Rights = Rights(0);
 
-    /// To read.
+    /// The right to read.
     pub const READ: Rights = Rights(crate::ffi::L4_READ as u8);
 
-    /// To write.
+    /// The right to write.
     pub const WRITE: Rights = Rights(crate::ffi::L4_WRITE as u8);
 
-    /// To execute.
+    /// The right to execute.
     pub const EXECUTE: Rights = Rights(crate::ffi::L4_EXECUTE as u8);
 
-    /// All three.
+    /// All three rights.
     pub const ALL: Rights = Rights(7);
 
-    /// The rights that the low three bits of a word name: read is 4, write 2, execute 1. The other bits mean nothing.
+    /// Returns the rights in the low three bits of a word: read is 4, write 2, execute 1. The other bits are ignored.
     pub const fn of_bits(word: u32) -> Rights {
         Rights((word & 7) as u8)
     }
 
-    /// The bits, below 8: read is 4, write 2, execute 1.
+    /// Returns the bits, below 8: read is 4, write 2, execute 1.
     pub const fn bits(self) -> u32 {
         self.0 as u32
     }
 
-    /// Whether each of the other rights is one of these.
+    /// Returns whether this set has every right of the other.
     pub const fn contains(self, other: Rights) -> bool {
         self.0 & other.0 == other.0
     }
 
-    /// Whether there is no right.
+    /// Returns whether the set is empty.
     pub const fn is_empty(self) -> bool {
         self.0 == 0
     }
 }
 
-/// The rights of either.
+/// Returns the rights of either set.
 impl BitOr for Rights {
     type Output = Rights;
 
@@ -150,7 +157,7 @@ impl BitOr for Rights {
     }
 }
 
-/// The rights of both.
+/// Returns the rights of both sets.
 impl BitAnd for Rights {
     type Output = Rights;
 
@@ -159,7 +166,7 @@ impl BitAnd for Rights {
     }
 }
 
-/// The rights that the other lacks.
+/// Returns the rights that the other set lacks.
 impl Sub for Rights {
     type Output = Rights;
 
@@ -168,7 +175,7 @@ impl Sub for Rights {
     }
 }
 
-/// As `rwx`, with a `-` for each that lacks.
+/// Writes `rwx`, with a `-` for each right that is missing.
 impl fmt::Display for Rights {
     fn fmt(&self, out: &mut fmt::Formatter<'_>) -> fmt::Result {
         for (right, letter) in [
@@ -188,8 +195,10 @@ impl fmt::Debug for Rights {
     }
 }
 
-/// There is no such fpage: a word's size field is 1 with a base that isn't 0, 2 to 9, or 33 to 63; or an fpage was asked for that has
-/// too few or too many bytes, doesn't start at a multiple of its size, or goes beyond a space.
+/// The error for an fpage that does not exist.
+///
+/// A word names no fpage if its size field is 2 to 9 or 33 to 63, or is 1 with a base other than 0. An fpage that you request must have an
+/// allowed size, must start at a multiple of its size, and must lie inside a space.
 #[derive(Clone, Copy, PartialEq, Eq, Debug)]
 pub struct BadFpage;
 
@@ -209,7 +218,7 @@ const SPACE_SIZE: u8 = 32;
 
 /// A flexpage: no bytes, all bytes of a space, or 2^log bytes from a multiple of 2^log on, with rights (L4 X.2 manual, Fpages).
 ///
-/// As a receive window it says where a receiver accepts pages; its rights mean nothing there.
+/// As a receive window, an fpage says where a receiver accepts pages; its rights are ignored there.
 ///
 /// ```
 /// use l4::{Fpage, Rights};
@@ -225,14 +234,14 @@ pub struct Fpage {
 }
 
 impl Fpage {
-    /// No bytes.
+    /// The nil fpage, which has no bytes.
     pub const NIL: Fpage = Fpage {
         base: 0,
         log: NIL_SIZE,
         rights: Rights::NONE,
     };
 
-    /// All bytes of a space.
+    /// Returns the complete fpage, which has all bytes of a space.
     pub const fn complete(rights: Rights) -> Fpage {
         Fpage {
             base: 0,
@@ -241,7 +250,11 @@ impl Fpage {
         }
     }
 
-    /// 2^log bytes from the byte `base` on. There is none where `log` isn't from 10 to 31, or `base` is no multiple of 2^log.
+    /// Returns the fpage of 2^log bytes from the byte `base` on.
+    ///
+    /// # Errors
+    ///
+    /// [`BadFpage`] if `log` is not 10 to 31, or `base` is not a multiple of 2^log.
     pub fn bytes(base: u32, log: u8, rights: Rights) -> Result<Fpage, BadFpage> {
         let aligned = (10..SPACE_SIZE).contains(&log) && base & ((1 << log) - 1) == 0;
         if aligned {
@@ -251,19 +264,35 @@ impl Fpage {
         }
     }
 
-    /// 2^log pages of 4 KiB from the page `first` on; all pages of a space where `log` is 20. There is none where `log` is above 20,
-    /// `first` is no multiple of 2^log, or it isn't below 1,048,576. [`PageSize::fpage`] has those of another size.
+    /// Returns the fpage of 2^log pages of 4 KiB from the page `first` on. With a `log` of 20 it has all pages of a space.
+    /// [`PageSize::fpage`] does the same for both page sizes.
+    ///
+    /// # Errors
+    ///
+    /// [`BadFpage`] if `log` is above 20, or `first` is not a multiple of 2^log or not below 1,048,576.
     pub fn pages(first: u32, log: u8, rights: Rights) -> Result<Fpage, BadFpage> {
         PageSize::Kib4.fpage(first, log, rights)
     }
 
-    /// One page of 4 KiB, below 1,048,576.
+    /// Returns the fpage of one page of 4 KiB.
+    ///
+    /// # Errors
+    ///
+    /// [`BadFpage`] if `page` is not below 1,048,576.
     pub fn page(page: u32, rights: Rights) -> Result<Fpage, BadFpage> {
         Fpage::pages(page, 0, rights)
     }
 
-    /// The fpage that a word names. A base that is no multiple of the size is rounded down, bit 3 means nothing, and a size field of 0
-    /// is nil, one of 32 complete, with any base.
+    /// Returns the fpage that a word names.
+    ///
+    /// A base that is not a multiple of the size is rounded down, and bit 3 is ignored. A size field of 0 means nil, and one of 32 means
+    /// complete, with any base.
+    ///
+    /// # Errors
+    ///
+    /// [`BadFpage`] if the word names no fpage.
+    ///
+    /// # Examples
     ///
     /// ```
     /// use l4::{BadFpage, Fpage, Rights};
@@ -286,7 +315,7 @@ impl Fpage {
         }
     }
 
-    /// The word, which is read as this fpage and no other. The complete fpage is written with a size field of 1.
+    /// Returns the word, which is read as this fpage and no other. The complete fpage is written with a size field of 1.
     pub const fn word(self) -> u32 {
         let size = if self.log == SPACE_SIZE {
             1
@@ -296,24 +325,24 @@ impl Fpage {
         self.base | size << 4 | self.rights.bits()
     }
 
-    /// Whether it names no bytes.
+    /// Returns whether it is the nil fpage.
     pub const fn is_nil(self) -> bool {
         self.log == NIL_SIZE
     }
 
-    /// The rights.
+    /// Returns the rights.
     pub const fn rights(self) -> Rights {
         self.rights
     }
 
-    /// The pages of 4 KiB all of whose bytes it names; none for the nil fpage and for one of 1 or 2 KiB. [`PageSize::range`] has those
-    /// of another size.
+    /// Returns the pages of 4 KiB that lie wholly inside the fpage: none for the nil fpage and for one of 1 or 2 KiB. [`PageSize::range`]
+    /// does the same for both page sizes.
     pub const fn page_range(self) -> Range<u32> {
         PageSize::Kib4.range(self)
     }
 }
 
-/// As `4 KiB at 0x10000 rwx`, `complete rwx` or `nil`.
+/// Writes `4 KiB at 0x10000 rwx`, `complete rwx` or `nil`.
 impl fmt::Display for Fpage {
     fn fmt(&self, out: &mut fmt::Formatter<'_>) -> fmt::Result {
         match self.log {
@@ -336,7 +365,7 @@ impl fmt::Debug for Fpage {
     }
 }
 
-/// The size of a kernel's pages and frames, which is chosen as it boots.
+/// The size of a kernel's pages and frames, which is chosen when the kernel boots.
 ///
 /// ```
 /// use l4::{PageSize, Rights};
@@ -347,6 +376,7 @@ impl fmt::Debug for Fpage {
 /// # Ok::<(), l4::BadFpage>(())
 /// ```
 #[derive(Clone, Copy, PartialEq, Eq, Hash, Debug, Default)]
+#[non_exhaustive]
 pub enum PageSize {
     /// 4,096 bytes.
     #[default]
@@ -356,7 +386,7 @@ pub enum PageSize {
 }
 
 impl PageSize {
-    /// The binary logarithm of a page's bytes.
+    /// Returns the binary logarithm of the page size in bytes.
     const fn log(self) -> u8 {
         match self {
             PageSize::Kib4 => ffi::L4_PAGE_LOG as u8,
@@ -364,7 +394,7 @@ impl PageSize {
         }
     }
 
-    /// The size of pages of so many bytes, as the library tells it.
+    /// Returns the page size of this many bytes, as the library reports it.
     pub(crate) fn of_bytes(bytes: u32) -> PageSize {
         match bytes {
             ffi::L4_PAGE_BYTES => PageSize::Kib4,
@@ -373,18 +403,21 @@ impl PageSize {
         }
     }
 
-    /// The bytes of a page.
+    /// Returns the page size in bytes.
     pub const fn bytes(self) -> u32 {
         1 << self.log()
     }
 
-    /// The pages of a space: they are numbered from 0 to one less.
+    /// Returns the number of pages of a space. They are numbered from 0.
     pub const fn space_pages(self) -> u32 {
         1 << (SPACE_SIZE - self.log())
     }
 
-    /// 2^log pages from the page `first` on; all pages of a space where these are as many. There is none where 2^log is more, `first` is
-    /// no multiple of 2^log, or it isn't one of the space's.
+    /// Returns the fpage of 2^log pages from the page `first` on. If this is the number of pages of a space, it has all of them.
+    ///
+    /// # Errors
+    ///
+    /// [`BadFpage`] if 2^log is more than the pages of a space, or `first` is not a multiple of 2^log or not a page of a space.
     pub fn fpage(self, first: u32, log: u8, rights: Rights) -> Result<Fpage, BadFpage> {
         let all = SPACE_SIZE - self.log();
         if log == all && first == 0 {
@@ -396,7 +429,7 @@ impl PageSize {
         Fpage::bytes(first * self.bytes(), log + self.log(), rights)
     }
 
-    /// The pages all of whose bytes the fpage names; none for the nil fpage and for one that is smaller than a page.
+    /// Returns the pages that lie wholly inside the fpage: none for the nil fpage and for one that is smaller than a page.
     pub const fn range(self, fpage: Fpage) -> Range<u32> {
         let first = fpage.base / self.bytes();
         if fpage.log < self.log() {
@@ -406,8 +439,8 @@ impl PageSize {
     }
 }
 
-/// What a message hands over: the pages of an fpage, shared (map) or given away (grant), with a send base that says where they land in
-/// a larger receive window (L4 X.2 manual, IPC: map item, grant item).
+/// A map or grant item of a message: the pages of an fpage, which the receiver shares (map) or takes over (grant). The send base says where
+/// they land in a larger receive window (L4 X.2 manual, IPC: map item, grant item).
 #[derive(Clone, Copy, PartialEq, Eq, Hash)]
 pub struct Item {
     is_grant: bool,
@@ -416,7 +449,8 @@ pub struct Item {
 }
 
 impl Item {
-    /// Shares the fpage's pages, with a send base in bytes, of which the low ten bits mean nothing.
+    /// Returns an item that maps the fpage's pages: sender and receiver share them. The low ten bits of the send base, in bytes, are
+    /// ignored.
     pub const fn map(fpage: Fpage, base: u32) -> Item {
         Item {
             is_grant: false,
@@ -425,7 +459,7 @@ impl Item {
         }
     }
 
-    /// Gives the fpage's pages away, with a send base in bytes, of which the low ten bits mean nothing.
+    /// Returns an item that grants the fpage's pages: the sender loses them. The low ten bits of the send base, in bytes, are ignored.
     pub const fn grant(fpage: Fpage, base: u32) -> Item {
         Item {
             is_grant: true,
@@ -434,8 +468,13 @@ impl Item {
         }
     }
 
-    /// The item of two words. Refused as the first item of a message is: by M4 for strings and CtrlXfer items, and by M3 for words that
-    /// are none.
+    /// Returns the item of two words.
+    ///
+    /// # Errors
+    ///
+    /// Those of the first item of a message: M4 for a string or CtrlXfer item, and M3 for words that are not an item.
+    ///
+    /// # Examples
     ///
     /// ```
     /// use l4::{Item, Refusal};
@@ -455,29 +494,29 @@ impl Item {
         }
     }
 
-    /// The two words; `more`, their lowest bit, says that another item follows.
+    /// Returns the two words. `more`, their lowest bit, says that another item follows.
     pub const fn words(self, more: bool) -> [u32; 2] {
         let kind = if self.is_grant { 10 } else { 8 };
         [self.base | kind | more as u32, self.fpage.word()]
     }
 
-    /// The fpage, with the rights that go with its pages.
+    /// Returns the fpage, with the rights that the pages get.
     pub const fn fpage(self) -> Fpage {
         self.fpage
     }
 
-    /// The send base in bytes, a multiple of 1,024.
+    /// Returns the send base in bytes, a multiple of 1,024.
     pub const fn base(self) -> u32 {
         self.base
     }
 
-    /// Whether the pages are given away.
+    /// Returns whether the item grants the pages.
     pub const fn is_grant(self) -> bool {
         self.is_grant
     }
 }
 
-/// As `map 4 KiB at 0x10000 rwx, send base 0x20000`, or `grant ..`.
+/// Writes `map 4 KiB at 0x10000 rwx, send base 0x20000`, or `grant ..`.
 impl fmt::Display for Item {
     fn fmt(&self, out: &mut fmt::Formatter<'_>) -> fmt::Result {
         let kind = if self.is_grant { "grant" } else { "map" };
@@ -491,7 +530,7 @@ impl fmt::Debug for Item {
     }
 }
 
-/// A message has more than 64 words, the tag among them.
+/// The error for a message of more than 64 words, including the tag.
 #[derive(Clone, Copy, PartialEq, Eq, Debug)]
 pub struct TooManyWords;
 
@@ -503,7 +542,7 @@ impl fmt::Display for TooManyWords {
 
 impl Error for TooManyWords {}
 
-/// The words of a message, from its tag on: at most 64 (L4 X.2 manual, IPC: message registers).
+/// The words of a message, the tag first: at most 64 (L4 X.2 manual, IPC: message registers).
 ///
 /// ```
 /// let message = l4::Message::of_words(&[0x70081, 5, 0x20008, 0x100c7])?;
@@ -517,13 +556,19 @@ pub struct Message {
 }
 
 impl Message {
-    /// No word, not even a tag.
+    /// A message without words, and so without a tag.
     pub(crate) const EMPTY: Message = Message {
         words: [0; MAX_WORDS],
         count: 0,
     };
 
-    /// A message with a label, untyped words, and items. At most 63 words follow the tag, two of them for each item.
+    /// Makes a message with a label, untyped words, and items. At most 63 words follow the tag, two of them for each item.
+    ///
+    /// # Errors
+    ///
+    /// [`TooManyWords`] for more words.
+    ///
+    /// # Examples
     ///
     /// ```
     /// use l4::{Fpage, Item, Message, Rights, TooManyWords};
@@ -551,7 +596,11 @@ impl Message {
         Ok(message)
     }
 
-    /// A message of these words, the tag first, which the kernel may refuse; no word is no tag.
+    /// Makes a message of these words, the tag first. The kernel may refuse it. A message without words has no tag.
+    ///
+    /// # Errors
+    ///
+    /// [`TooManyWords`] for more than 64 words.
     pub fn of_words(words: &[u32]) -> Result<Message, TooManyWords> {
         let mut message = Message::EMPTY;
         message
@@ -563,7 +612,7 @@ impl Message {
         Ok(message)
     }
 
-    /// The words, the tag first.
+    /// Returns the words, the tag first.
     pub fn words(&self) -> &[u32] {
         &self.words[..self.count]
     }
@@ -577,7 +626,7 @@ impl PartialEq for Message {
 
 impl Eq for Message {}
 
-/// A message in words: its label, how many untyped words there are, and its items.
+/// Writes a message as text: its label, the number of untyped words, and its items.
 pub(crate) fn write_message(out: &mut fmt::Formatter<'_>, tag: u32, words: &[u32]) -> fmt::Result {
     let (untyped, typed, flags) = (
         (tag & 0x3f) as usize,
@@ -612,7 +661,7 @@ pub(crate) fn write_message(out: &mut fmt::Formatter<'_>, tag: u32, words: &[u32
     Ok(())
 }
 
-/// As `label 0x0007; 1 untyped; map ..`.
+/// Writes `label 0x0007; 1 untyped; map ..`.
 impl fmt::Display for Message {
     fn fmt(&self, out: &mut fmt::Formatter<'_>) -> fmt::Result {
         match self.words().split_first() {

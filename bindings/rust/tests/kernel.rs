@@ -439,7 +439,7 @@ fn a_region_may_need_too_many_items() {
     let refused = region.plan().unwrap_err();
     assert_eq!(
         refused.to_string(),
-        "N4: no 1,984 map items, as many as 64 messages hold, move just the region"
+        "N4: the region needs more than 1,984 map items, the most that 64 messages can hold"
     );
     let NoPlan::TooLong(pages) = refused else {
         panic!("{refused:?}");
@@ -516,7 +516,7 @@ fn refusals_are_errors() {
     let refused: Box<dyn std::error::Error + Send + Sync> = Refusal::BadItem(1).into();
     assert_eq!(
         refused.to_string(),
-        "M3 1: the item has an unknown kind or is no fpage"
+        "M3 1: the item has an unknown kind, or its fpage is invalid"
     );
     assert_eq!(Refusal::NoMemory.code(), "NoMemory");
 }

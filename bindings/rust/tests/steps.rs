@@ -13,7 +13,7 @@ const FRAMES: u32 = 256;
 /// The greatest number of bytes of a line.
 const MAX_LINE: usize = 4096;
 
-/// What answers a line: the text, or nothing where it is no step and no question.
+/// What answers a line: the text, or nothing if it is not a valid step or query.
 type Answered = Option<String>;
 
 fn number(token: &str) -> Option<u32> {
@@ -71,6 +71,7 @@ fn reply_text(reply: Option<Reply>, none: &str) -> String {
         Some(Reply::Unmapped) => "unmapped".into(),
         Some(Reply::Controlled) => "controlled".into(),
         Some(Reply::Gone) => "gone".into(),
+        Some(other) => panic!("no list has this reply: {other:?}"),
     }
 }
 
@@ -91,6 +92,7 @@ fn answer_text(kernel: &Kernel, answered: Result<Answer, Refusal>) -> String {
         Outcome::Entangled => "entangled",
         Outcome::WantsMemory => "no-memory",
         Outcome::Expired => "expired",
+        other => panic!("no list has this outcome: {other:?}"),
     };
     let mut text = format!("{outcome}\n");
     for thread in answer.ended {
@@ -111,6 +113,7 @@ fn step_text(step: Option<Step>) -> String {
         }
         Some(Step::Expire { thread }) => format!("enabled expire {thread}\n"),
         None => "enabled none\n".into(),
+        Some(other) => panic!("no list has this step: {other:?}"),
     }
 }
 
@@ -178,17 +181,17 @@ fn replay(list: &str) -> (String, String) {
     for (place, line) in list.split_inclusive('\n').enumerate() {
         let whole = line.strip_suffix('\n');
         let why = if line.len() > MAX_LINE + usize::from(whole.is_some()) {
-            "has more than 4096 bytes"
+            "is longer than 4096 bytes"
         } else if let Some(line) = whole {
             match answer_line(&mut kernel, line) {
                 Some(text) => {
                     out += &text;
                     continue;
                 }
-                None => "is no step and no question",
+                None => "is not a valid step or query",
             }
         } else {
-            "has no newline at its end"
+            "does not end with a newline"
         };
         return (out, format!("error: line {} {why}\n", place + 1));
     }

@@ -5,23 +5,26 @@
 //! opened, 3 where a read or a write failed, 4 for want of memory.
 #![tactic(auto)]
 
+mod reports;
+
 ghost use Rattle.std.specs.Prelude.{◌≡◌, IfErr};
 ghost use Rattle.l4_options.specs.Ranges.{IsFrameCount};
 
 use l4_decode::{Reading, decode};
-use l4_explain::ExplainingWriter;
 use l4_fpage::PageSize;
 use l4_history::{answered_history, history};
 use l4_msg::Region;
 use l4_options::{
-    Options, STANDARD_INPUT, ScriptOptions, command_words, misread, not_opened, options, show,
-    status_of, stopped,
+    Options, ScriptOptions, WatchedReader, WatchedWriter, cause, command_words, misread,
+    not_opened, options, show, status_of, stopped, warn_of_cut_line,
 };
-use l4_plan_lines::{check_lines, plan_lines};
-use l4_shell::{RunFault, run};
-use l4_streams::{ScriptReader, StrictWriter};
-use l4_why::{ThreadPage, why};
-use std::io::Write;
+use l4_plan::plan;
+use l4_plan_lines::{answer_lines, plan_lines};
+use l4_sinks::{Style, answer_script};
+use l4_text::{RunFault, ScriptReader};
+use l4_why::{Presence, ThreadPage, why};
+use reports::{report_no_plan, report_no_thread, report_unproved};
+use std::io::{Read, Write};
 use std::process::ExitCode;
 use std::rt::Files;
 use std::{fs, io};
@@ -35,21 +38,38 @@ const REFUSED: u8 = 1;
 fn opened<R: Files + Input + Eprint>(
     rt: &R,
     file: Option<&str>,
-) -> Result<ScriptReader<R::Reader, R::File>, u8>
+) -> Result<WatchedReader<ScriptReader<R::Reader, R::File>>, u8>
     ensures { IfErr result (λ status. status ≡ 2) }
 {
     let Some(name) = file else {
-        return Ok(ScriptReader::Standard(rt.reader()));
+        return Ok(WatchedReader::new(ScriptReader::Standard(rt.reader())));
     };
     match fs::open(rt, name) {
-        Ok(file) => Ok(ScriptReader::File(file)),
+        Ok(file) => Ok(WatchedReader::new(ScriptReader::File(file))),
         Err(error) => Err(not_opened(rt, name, error)),
+    }
+}
+
+/// The status of a script that was read from this file, or standard input, to its end, or of the fault that stopped it.
+fn ended<R: Read, W: Write>(
+    rt: &impl Eprint,
+    outcome: Result<u64, RunFault>,
+    file: Option<&str>,
+    reader: &WatchedReader<R>,
+    writer: &WatchedWriter<W>,
+) -> u8 {
+    match outcome {
+        Ok(_) => {
+            warn_of_cut_line(rt, reader, file);
+            0
+        }
+        Err(fault) => stopped(rt, fault, file, cause(fault, reader, writer)),
     }
 }
 
 /// Answers a script, to its first refused line alone or with each answer in words where that is asked for.
 #[inline(never)]
-fn answer_script<R: AllocGlobal + Files + Input + Print + Eprint>(
+fn run<R: AllocGlobal + Files + Input + Print + Eprint>(
     rt: &R,
     script: &ScriptOptions,
     strict: bool,
@@ -62,28 +82,24 @@ fn answer_script<R: AllocGlobal + Files + Input + Print + Eprint>(
         Ok(reader) => reader,
         Err(status) => return status,
     };
-    let size = if explain { Some(script.size) } else { None };
-    let Ok(explained) = ExplainingWriter::new(rt.alloc(), io::writer(rt), size) else {
-        return stopped(rt, RunFault::Memory, STANDARD_INPUT);
-    };
-    let mut writer = StrictWriter::new(explained, strict);
-    let answered = run(
+    let mut output = WatchedWriter::new(io::writer(rt));
+    let (_, answered) = answer_script(
         rt.alloc(),
         script.frames,
         script.size,
+        Style { strict, explain },
         &mut reader,
-        &mut writer,
+        &mut output,
     );
-    if writer.has_refused() {
-        // what a line says goes out with the call after it
-        return match writer.into_inner().flush() {
-            Ok(()) => REFUSED,
-            Err(_) => stopped(rt, RunFault::Write, STANDARD_INPUT),
-        };
-    }
     match answered {
-        Ok(_) => 0,
-        Err(fault) => stopped(rt, fault, file.unwrap_or(STANDARD_INPUT)),
+        Ok(end) => {
+            warn_of_cut_line(rt, &reader, file);
+            if end.refused {
+                return REFUSED;
+            }
+            0
+        }
+        Err(fault) => stopped(rt, fault, file, cause(fault, &reader, &output)),
     }
 }
 
@@ -101,26 +117,25 @@ fn tell_history<R: AllocGlobal + Files + Input + Print + Eprint>(
         Ok(reader) => reader,
         Err(status) => return status,
     };
-    let writer = &mut io::writer(rt);
+    let mut writer = WatchedWriter::new(io::writer(rt));
     let told = if answers {
-        answered_history(rt.alloc(), script.frames, script.size, &mut reader, writer)
+        answered_history(
+            rt.alloc(),
+            script.frames,
+            script.size,
+            &mut reader,
+            &mut writer,
+        )
     } else {
-        history(rt.alloc(), script.frames, script.size, &mut reader, writer)
+        history(
+            rt.alloc(),
+            script.frames,
+            script.size,
+            &mut reader,
+            &mut writer,
+        )
     };
-    match told {
-        Ok(_) => 0,
-        Err(fault) => stopped(rt, fault, file.unwrap_or(STANDARD_INPUT)),
-    }
-}
-
-/// The status of a page that was found or a plan that was made or proved, of one that was not, or of a fault of a stream, where this file
-/// was read, or standard input.
-fn judged(rt: &impl Eprint, outcome: Result<bool, RunFault>, file: Option<&str>) -> u8 {
-    match outcome {
-        Ok(true) => 0,
-        Ok(false) => NOT_FOUND,
-        Err(fault) => stopped(rt, fault, file.unwrap_or(STANDARD_INPUT)),
-    }
+    ended(rt, told, file, &reader, &writer)
 }
 
 /// Tells how a page came to where it is, by a script.
@@ -137,44 +152,70 @@ fn tell_why<R: AllocGlobal + Files + Input + Print + Eprint>(
         Ok(reader) => reader,
         Err(status) => return status,
     };
+    let mut writer = WatchedWriter::new(io::writer(rt));
     let told = why(
         rt.alloc(),
         script.frames,
         script.size,
         asked,
         &mut reader,
-        &mut io::writer(rt),
+        &mut writer,
     );
-    judged(rt, told, file)
+    let found = match told {
+        Ok(found) => found,
+        Err(fault) => return stopped(rt, fault, file, cause(fault, &reader, &writer)),
+    };
+    warn_of_cut_line(rt, &reader, file);
+    match found {
+        Presence::Present => 0,
+        Presence::Absent => NOT_FOUND,
+        Presence::NoThread => {
+            report_no_thread(rt);
+            NOT_FOUND
+        }
+    }
 }
 
 /// Plans a region.
 #[inline(never)]
-fn plan<R: Print + Eprint>(rt: &R, region: &Region, size: PageSize) -> u8 {
-    judged(rt, plan_lines(region, size, &mut io::writer(rt)), None)
+fn write_plan<R: Print + Eprint>(rt: &R, region: &Region, size: PageSize) -> u8 {
+    let mut writer = WatchedWriter::new(io::writer(rt));
+    match plan_lines(region, size, &mut writer) {
+        Ok(true) => 0,
+        Ok(false) => {
+            if let Err(refusal) = plan(region, size) {
+                report_no_plan(rt, &refusal);
+            }
+            NOT_FOUND
+        }
+        Err(fault) => stopped(rt, fault, None, writer.error()),
+    }
 }
 
 /// Checks the plan on standard input.
 #[inline(never)]
 fn check<R: Files + Input + Print + Eprint>(rt: &R, region: &Region, size: PageSize) -> u8 {
-    judged(
-        rt,
-        check_lines(
-            region,
-            size,
-            &mut ScriptReader::<R::Reader, R::File>::Standard(rt.reader()),
-            &mut io::writer(rt),
-        ),
-        None,
-    )
+    let mut reader = WatchedReader::new(ScriptReader::<R::Reader, R::File>::Standard(rt.reader()));
+    let mut writer = WatchedWriter::new(io::writer(rt));
+    match answer_lines(region, size, &mut reader, &mut writer) {
+        Ok(answer) => {
+            if answer.is_proved() {
+                return 0;
+            }
+            report_unproved(rt, &answer, reader.is_empty());
+            NOT_FOUND
+        }
+        Err(fault) => stopped(rt, fault, None, cause(fault, &reader, &writer)),
+    }
 }
 
 /// Says what words mean.
 #[inline(never)]
 fn tell_words<R: Print + Eprint>(rt: &R, words: &[u32], reading: Reading, size: PageSize) -> u8 {
-    match decode(words, reading, size, &mut io::writer(rt)) {
+    let mut writer = WatchedWriter::new(io::writer(rt));
+    match decode(words, reading, size, &mut writer) {
         Ok(()) => 0,
-        Err(fault) => stopped(rt, fault, STANDARD_INPUT),
+        Err(fault) => stopped(rt, fault, None, writer.error()),
     }
 }
 
@@ -187,7 +228,7 @@ fn obey<R: AllocGlobal + Files + Input + Print + Eprint>(rt: &R, words: &[String
                 strict,
                 explain,
             },
-        ) => answer_script(rt, &script, strict, explain),
+        ) => run(rt, &script, strict, explain),
         Ok(Options::History { script, answers }) => tell_history(rt, &script, answers),
         Ok(
             Options::Why {
@@ -196,7 +237,7 @@ fn obey<R: AllocGlobal + Files + Input + Print + Eprint>(rt: &R, words: &[String
                 page,
             },
         ) => tell_why(rt, &script, ThreadPage { thread, page }),
-        Ok(Options::Plan { region, size }) => plan(rt, &region, size),
+        Ok(Options::Plan { region, size }) => write_plan(rt, &region, size),
         Ok(Options::Check { region, size }) => check(rt, &region, size),
         Ok(
             Options::Decode {

@@ -1,11 +1,14 @@
-//! The texts of the kernel's answers: steps, replies, pages and the codes of refusals.
+//! The kernel's answers: what takes them, and their texts.
 #![tactic(auto)]
 
-mod lines;
 mod pages;
 mod refusals;
 mod replies;
+mod sink;
 
-pub use pages::{add_page, add_place, parent_text, put_page, shown_text};
-pub use refusals::{Code, add_code, add_refused, refused_code};
-pub use replies::{expire_text, put_expire, put_reply, put_transfer, put_waits, reply_words};
+pub use pages::{add_page, add_place, put_page, put_parent, put_shown};
+pub use refusals::{
+    Code, add_code, put_refused_act, put_refused_line, put_region, put_steps, refused_code,
+};
+pub use replies::{put_expire, put_reply, put_transfer, put_waits, reply_words};
+pub use sink::{Silent, Sink};

@@ -4,7 +4,6 @@ ghost use Rattle.l4_answers.specs.Pages.{rights_text, page_words, page_text, sho
 ghost use Rattle.l4_text.specs.Streams.{Tells};
 ghost use Rattle.l4_text.specs.Sizes.{text_bytes, held_bytes};
 
-use crate::lines::number_line;
 use l4_fpage::Rights;
 use l4_mapdb::{Mapping, Place};
 use l4_text::{Output, Text};
@@ -60,11 +59,23 @@ pub fn put_page<W: Write>(page: u32, mapping: &Mapping, out: &mut Output, writer
     add_page_line(out, page, mapping);
 }
 
-/// `shown K`
-pub fn shown_text(count: u32) -> Text
-    ensures { result ≡ shown_text count }
+/// Adds `shown K`, and ends the line.
+#[inline(always)]
+fn add_shown(out: &mut Output, count: u32)
+    requires { length out.old.0 + 40 ≤ held_bytes }
+    ensures { out.new ≡ (out.old.0 ++ shown_text count, out.old.1) }
 {
-    number_line(b"shown ", count)
+    out.add_array(*b"shown ");
+    out.add_number(u64::from(count));
+    out.push(b'\n');
+}
+
+/// Tells `shown K`.
+pub fn put_shown<W: Write>(count: u32, out: &mut Output, writer: &mut W)
+    ensures { Tells (W.contents writer.old) (W.contents writer.new) out.old out.new (shown_text count) }
+{
+    out.make_room(writer);
+    add_shown(out, count);
 }
 
 /// Adds a place's space and page, or `none`.
@@ -83,18 +94,29 @@ pub fn add_place(text: &mut Text, place: Option<Place>)
     }
 }
 
-/// `parent SPACE PAGE`, `parent none` or `absent`, of what a page shows.
-pub fn parent_text(mapping: Option<Mapping>) -> Text
-    ensures { result ≡ parent_text mapping }
+/// Adds `parent SPACE PAGE`, `parent none` or `absent`, and ends the line.
+fn add_parent(out: &mut Output, mapping: Option<Mapping>)
+    requires { length out.old.0 + 80 ≤ held_bytes }
+    ensures { out.new ≡ (out.old.0 ++ parent_text mapping, out.old.1) }
 {
-    let mut text = Text::new();
     let Some(mapping) = mapping else {
-        text.add(b"absent");
-        text.push(b'\n');
-        return text;
+        return out.add_array(*b"absent\n");
     };
-    text.add(b"parent ");
-    add_place(&mut text, mapping.parent);
-    text.push(b'\n');
-    text
+    match mapping.parent {
+        Some(place) => {
+            out.add_array(*b"parent ");
+            out.add_number(place.space);
+            out.add_spaced_number(u64::from(place.page));
+            out.push(b'\n');
+        }
+        None => out.add_array(*b"parent none\n"),
+    }
+}
+
+/// Tells `parent SPACE PAGE`, `parent none` or `absent`, of what a page shows.
+pub fn put_parent<W: Write>(mapping: Option<Mapping>, out: &mut Output, writer: &mut W)
+    ensures { Tells (W.contents writer.old) (W.contents writer.new) out.old out.new (parent_text mapping) }
+{
+    out.make_room(writer);
+    add_parent(out, mapping);
 }

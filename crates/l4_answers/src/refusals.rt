@@ -1,13 +1,17 @@
 //! The codes of refusals.
 ghost use Rattle.std.specs.Prelude.{◌≡◌, ◌≤◌, ◌+◌, ◌++◌, length};
 ghost use Rattle.l4_answers.specs.Refusals.{Refusal, plainly, at_place, message_refusal, thread_refusal, unmap_refusal, kernel_refusal, number_text, refused_text};
-ghost use Rattle.l4_text.specs.Sizes.{text_bytes};
+ghost use Rattle.l4_answers.specs.Replies.{newline};
+ghost use Rattle.l4_answers.specs.Reports.{refused_act_text, region_text, steps_text};
+ghost use Rattle.l4_text.specs.Streams.{Tells};
+ghost use Rattle.l4_text.specs.Sizes.{text_bytes, held_bytes};
 
 use l4_ipc::{Lower, Refused};
 use l4_msg::MsgFault;
-use l4_text::Text;
+use l4_text::{Output, Text};
 use l4_threads::ThreadFault;
 use l4_unmap::UnmapFault;
+use std::io::Write;
 use std::marker::Model;
 
 /// Why a line is refused: a code, and the number that some codes carry.
@@ -49,6 +53,20 @@ impl Code {
             name,
             number: Some(number),
         }
+    }
+
+    /// The code without its number.
+    pub fn name(&self) -> &'static [u8]
+        ensures { result.now ≡ self.now.name }
+    {
+        self.name
+    }
+
+    /// The number that the code carries.
+    pub fn number(&self) -> Option<u32>
+        ensures { result ≡ self.now.number }
+    {
+        self.number
     }
 }
 
@@ -127,14 +145,80 @@ pub fn add_code(text: &mut Text, code: &Code)
     add_code_number(text, code.number);
 }
 
-/// Adds `line L refused CODE`, or `line L refused CODE I`, and ends the line.
-pub fn add_refused(text: &mut Text, line: u64, code: &Code)
-    requires { length text.old + 64 ≤ text_bytes }
-    ensures { text.new ≡ text.old ++ refused_text line code.now }
+/// Adds a code, and the number that it carries, to what is held back, and ends the line.
+fn add_code_line(out: &mut Output, code: &Code)
+    requires { length out.old.0 + 30 ≤ held_bytes }
+    ensures { out.new ≡ (out.old.0 ++ code.now.name ++ number_text code.now.number ++ newline, out.old.1) }
 {
-    text.add(b"line ");
-    text.add_number(line);
-    text.add(b" refused ");
-    add_code(text, code);
-    text.push(b'\n');
+    out.add(code.name);
+    if let Some(number) = code.number {
+        out.add_spaced_number(u64::from(number));
+    }
+    out.push(b'\n');
+}
+
+/// Adds `line L refused CODE`, or with its number, and ends the line.
+#[inline(always)]
+fn add_refused_line(out: &mut Output, line: u64, code: &Code)
+    requires { length out.old.0 + 80 ≤ held_bytes }
+    ensures { out.new ≡ (out.old.0 ++ refused_text line code.now, out.old.1) }
+{
+    out.add_array(*b"line ");
+    out.add_number(line);
+    out.add_array(*b" refused ");
+    add_code_line(out, code);
+}
+
+/// Tells `line L refused CODE`, or `line L refused CODE I`.
+pub fn put_refused_line<W: Write>(line: u64, code: &Code, out: &mut Output, writer: &mut W)
+    ensures { Tells (W.contents writer.old) (W.contents writer.new) out.old out.new (refused_text line code.now) }
+{
+    out.make_room(writer);
+    add_refused_line(out, line, code);
+}
+
+/// Adds `N refused CODE`, and ends the line.
+#[inline(always)]
+fn add_refused_act(out: &mut Output, thread: u32, code: &Code)
+    requires { length out.old.0 + 80 ≤ held_bytes }
+    ensures { out.new ≡ (out.old.0 ++ refused_act_text thread code.now, out.old.1) }
+{
+    out.add_number(u64::from(thread));
+    out.add_array(*b" refused ");
+    add_code_line(out, code);
+}
+
+/// Tells `N refused CODE`, of a served thread's call.
+pub fn put_refused_act<W: Write>(thread: u32, code: &Code, out: &mut Output, writer: &mut W)
+    ensures { Tells (W.contents writer.old) (W.contents writer.new) out.old out.new (refused_act_text thread code.now) }
+{
+    out.make_room(writer);
+    add_refused_act(out, thread, code);
+}
+
+/// Tells `region ok`.
+pub fn put_region<W: Write>(out: &mut Output, writer: &mut W)
+    ensures { Tells (W.contents writer.old) (W.contents writer.new) out.old out.new region_text }
+{
+    out.make_room(writer);
+    out.add_array(*b"region ok\n");
+}
+
+/// Adds `steps K`, and ends the line.
+#[inline(always)]
+fn add_steps(out: &mut Output, count: u64)
+    requires { length out.old.0 + 40 ≤ held_bytes }
+    ensures { out.new ≡ (out.old.0 ++ steps_text count, out.old.1) }
+{
+    out.add_array(*b"steps ");
+    out.add_number(count);
+    out.push(b'\n');
+}
+
+/// Tells `steps K`.
+pub fn put_steps<W: Write>(count: u64, out: &mut Output, writer: &mut W)
+    ensures { Tells (W.contents writer.old) (W.contents writer.new) out.old out.new (steps_text count) }
+{
+    out.make_room(writer);
+    add_steps(out, count);
 }

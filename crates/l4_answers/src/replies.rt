@@ -8,9 +8,8 @@ ghost use Rattle.l4_text.specs.Texts.{words_text};
 ghost use Rattle.l4_text.specs.Streams.{Tells};
 ghost use Rattle.l4_text.specs.Sizes.{answer_bytes, held_bytes};
 
-use crate::lines::number_line;
 use l4_ipc::Outcome;
-use l4_text::{Output, Text};
+use l4_text::Output;
 use l4_threads::{IpcReply, Reply, ThreadId};
 use std::io::Write;
 
@@ -55,20 +54,23 @@ pub fn put_transfer<W: Write>(
     add_transfer(out, sender, receiver, outcome);
 }
 
-/// `expire N`
-pub fn expire_text(number: u32) -> Text
-    ensures { result ≡ expire_text number }
+/// Adds `expire N`, and ends the line.
+#[inline(always)]
+fn add_expire(out: &mut Output, number: u32)
+    requires { length out.old.0 + 40 ≤ held_bytes }
+    ensures { out.new ≡ (out.old.0 ++ expire_text number, out.old.1) }
 {
-    number_line(b"expire ", number)
+    out.add_array(*b"expire ");
+    out.add_number(u64::from(number));
+    out.push(b'\n');
 }
 
 /// Tells `expire N`.
-#[cold]
-#[inline(never)]
 pub fn put_expire<W: Write>(number: u32, out: &mut Output, writer: &mut W)
     ensures { Tells (W.contents writer.old) (W.contents writer.new) out.old out.new (expire_text number) }
 {
-    out.put(writer, &expire_text(number));
+    out.make_room(writer);
+    add_expire(out, number);
 }
 
 /// Adds a thread's number, and these bytes.

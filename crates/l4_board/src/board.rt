@@ -1,4 +1,4 @@
-//! The board: one word that shows the length of the history to whoever watches it.
+//! The board: one word that shows the length of the history to all watches.
 ghost use Rattle.std.specs.Prelude.{◌≡◌, ◌+◌, ◌≤◌, ℕ, false, true, [], IfOk, vec_len};
 ghost use Rattle.std.specs.List.{All};
 ghost use Rattle.l4_board.specs.Board.{IsNewWatch, publishing, watching};
@@ -8,16 +8,16 @@ use std::alloc::{AllocError, Global};
 use std::marker::Model;
 use std::sync::Arc;
 
-/// What a seat at the board knows: whether it is the publisher's, how often it has looked, and the number that it has seen.
-/// No value of it is made.
+/// The view of one participant: whether it is the publisher, how often it has looked, and the number that it has
+/// seen. It exists in contracts only.
 pub struct View {
     pub publishes: bool,
     pub looks: u64,
     pub seen: u64,
 }
 
-/// The rule that the board is kept to, whoever does what to it: the word is the number that the publisher showed last, only the publisher
-/// stores it, and nobody has seen a greater one. No value of it is made.
+/// The rule of the board: the word is the last published number, only the publisher stores it, and no watch has seen
+/// a greater one. It exists in contracts only.
 pub struct BoardRule;
 
 impl TableRule<(), View, ()> for BoardRule {
@@ -56,7 +56,7 @@ impl Play<(), View> for Look {
     ghost then = { Looks };
 }
 
-/// The board. Whoever has it can look, by a watch of it. Contracts see which board it is.
+/// A handle of the board. It lets you look, with a watch of this board. Contracts see which board it is.
 #[derive(Drop)]
 pub struct Board {
     table: Arc<Table<(), View, (), BoardRule, Global>>,
@@ -76,7 +76,7 @@ impl Model for Board {
     ghost invariant = { λ b. (arc_value b.table).shared.table_id.words ≡ 1 };
 }
 
-/// A place at a board from which to look. Contracts see its board, how often it has looked, and the number that it saw last.
+/// The right to look at a board. Contracts see its board, how often it has looked, and the number that it saw last.
 #[derive(Drop)]
 pub struct Watch {
     seat: Seat<(), View>,
@@ -95,7 +95,8 @@ impl Model for Watch {
     ghost invariant = { λ w. w.seat.me.0.publishes ≡ false };
 }
 
-/// The one place at a board from which to publish. Contracts see its board and the number that it showed last.
+/// The right to publish on a board. There is one for each board. Contracts see its board and the last published
+/// number.
 #[derive(Drop)]
 pub struct Publisher {
     board: Board,
@@ -116,10 +117,10 @@ impl Model for Publisher {
 }
 
 impl Board {
-    /// What the board's word is now: the length of the history when it was last published. It is not below what this watch has seen,
-    /// and is what the watch has seen from then on. It waits for nobody and takes no memory.
+    /// Returns the board's word: the length of the history when it was last published. It is never below what this
+    /// watch has seen before. It does not wait, and needs no memory.
     ///
-    /// The watch is of this board, as those are that came with it.
+    /// Condition: the watch belongs to this board, as those do that were created with it.
     pub fn look(&self, watch: &mut Watch) -> u64
         requires { watch.old.board ≡ self.now }
         ensures rises { watch.old.seen ≤ result }
@@ -128,7 +129,7 @@ impl Board {
         self.table.shared.load::<Look>(&mut watch.seat, 0)
     }
 
-    /// Another handle of the board.
+    /// Returns another handle of the board.
     pub fn again(&self) -> Result<Board, AllocError>
         ensures { IfOk result (λ b. b ≡ self.now) }
     {
@@ -136,7 +137,7 @@ impl Board {
         Ok(Board { table })
     }
 
-    /// A new watch, which has looked at nothing.
+    /// Returns a new watch, which has not looked yet.
     pub fn watch(&self) -> Watch
         ensures { IsNewWatch self.now result }
     {
@@ -144,7 +145,7 @@ impl Board {
         Watch { seat }
     }
 
-    /// As many new watches.
+    /// Returns this number of new watches.
     pub fn watches(&self, alloc: Global, count: usize) -> Result<Vec<Watch>, AllocError>
         ensures { IfOk result (λ v. (vec_len v ≡ count) × All (IsNewWatch self.now) v.items) }
     {
@@ -158,7 +159,7 @@ impl Board {
 }
 
 impl Publisher {
-    /// A new board, whose word is 0.
+    /// Returns the publisher of a new board, whose word is 0.
     pub fn new(alloc: Global) -> Result<Publisher, AllocError>
         ensures { IfOk result (λ p. p.shown ≡ 0) }
     {
@@ -170,14 +171,14 @@ impl Publisher {
         })
     }
 
-    /// The board.
+    /// Returns a handle of the board.
     pub fn board(&self) -> Result<Board, AllocError>
         ensures { IfOk result (λ b. b ≡ self.now.board) }
     {
         self.board.again()
     }
 
-    /// Shows a number that is not below the last one.
+    /// Publishes a number that is not below the last one.
     pub fn publish(&mut self, number: u64)
         requires { self.old.shown ≤ number }
         ensures { self.new ≡ publishing self.old.board number }

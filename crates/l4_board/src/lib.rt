@@ -1,4 +1,5 @@
-//! The board: one word that shows a number that never falls, from the one who publishes it to all who watch.
+//! The board: one word with a number that never falls, from one publisher to all watches.
+//!
 #![tactic(auto)]
 
 mod board;

@@ -1,5 +1,5 @@
 -- The answers to questions, as they are told to C (this profile's own).
-use Rattle.std.specs.Prelude.{◌≡◌, ◌⊎◌, ℕ, codes, Option, None, Some}
+use Rattle.std.specs.Prelude.{◌≡◌, ◌⊎◌, ℕ, [], codes, Option, None, Some}
 use Rattle.l4_fpage.specs.Pages.{page_bytes}
 use Rattle.l4_fpage.specs.Rights.{bits_of}
 use Rattle.l4_threads.specs.Threads.{space_of}
@@ -10,7 +10,7 @@ use Rattle.l4_mapdb.specs.declared.Mapping.{Mapping}
 use Rattle.l4_mapdb.specs.declared.Place.{Place}
 use Rattle.l4_ipc.specs.Machine.{Machine}
 use Rattle.l4_refusals.specs.Texts.{spelled}
-use Rattle.l4_c_values.specs.Told.{no_page_result, page_result}
+use Rattle.l4_c_values.specs.Told.{filled, no_page_result, page_result}
 use Rattle.l4_c_values.specs.Replied.{plain_result, reply_result}
 use Rattle.l4_c_values.specs.declared.results.ReplyResult.{ReplyResult}
 use Rattle.l4_c_values.specs.declared.results.SizeResult.{SizeResult}
@@ -42,6 +42,7 @@ mapping_with mapping None = record {
   has_parent = 0;
   parent_page = 0;
   parent_space = 0;
+  reserved = filled 2 [];
 }
 mapping_with mapping (Some place) = record {
   refusal = 0;
@@ -51,10 +52,11 @@ mapping_with mapping (Some place) = record {
   has_parent = 1;
   parent_page = place.page;
   parent_space = place.space;
+  reserved = filled 2 [];
 }
 
 abbrev pub no_mapping_result : ℕ → MappingResult
-no_mapping_result code = record { refusal = code; there = 0; frame = 0; rights = 0; has_parent = 0; parent_page = 0; parent_space = 0 }
+no_mapping_result code = record { refusal = code; there = 0; frame = 0; rights = 0; has_parent = 0; parent_page = 0; parent_space = 0; reserved = filled 2 [] }
 
 abbrev pub mapping_result : Option Mapping → MappingResult
 mapping_result None = no_mapping_result 0

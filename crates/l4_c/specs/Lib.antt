@@ -10,3 +10,4 @@ pub mod Planned
 pub mod Served
 pub mod Traced
 pub mod Written
+pub mod Versions

@@ -83,6 +83,7 @@ fn mapping_there(mapping: &Mapping) -> MappingResult
         has_parent,
         parent_page,
         parent_space,
+        reserved: [0; 2],
     }
 }
 
@@ -98,6 +99,7 @@ fn no_mapping(refusal: u32) -> MappingResult
         has_parent: 0,
         parent_page: 0,
         parent_space: 0,
+        reserved: [0; 2],
     }
 }
 

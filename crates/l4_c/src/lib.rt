@@ -19,6 +19,7 @@ mod sizes;
 mod stepping;
 mod texts;
 mod tracing;
+mod versions;
 
 pub use asking::{l4_mapping_of, l4_next_page, l4_page_size_of, l4_space_of};
 pub use checking::{
@@ -45,5 +46,6 @@ pub use reading::{FaultResult, RequestResult, l4_read_fault, l4_read_request};
 pub use regions::RegionGiven;
 pub use replies::l4_reply_of;
 pub use stepping::{l4_enabled, l4_expire, l4_next, l4_start, l4_transfer};
-pub use texts::{l4_refusal_code, l4_refusal_text};
+pub use texts::{l4_refusal_code, l4_refusal_text, l4_reply_text, l4_step_text};
 pub use tracing::{l4_lock_check_provenance, l4_lock_provenance};
+pub use versions::l4_version;

@@ -1,8 +1,10 @@
-//! Refusals in words.
-ghost use Rattle.std.specs.Prelude.{◌≡◌, ◌<◌, length};
+//! Refusals, replies and steps in words.
+ghost use Rattle.std.specs.Prelude.{◌≡◌, ◌<◌, ◌≤◌, length};
 ghost use Rattle.l4_refusals.specs.Texts.{texts, text_in};
+ghost use Rattle.l4_c_values.specs.Lines.{reply_given, reply_line, step_line};
 ghost use Rattle.l4_c.specs.Written.{written};
 
+use l4_c_values::{NextResult, ReplyResult, reply_line, step_line};
 use l4_refusals::text_of;
 
 /// Writes what fits of the text, and a 0 after it. It gives the length of the text.
@@ -41,4 +43,26 @@ pub extern "C" fn l4_refusal_text(refusal: u32, out: &mut [u8]) -> usize
     ensures room { length out.new ≡ length out.old }
 {
     write_text(text_of(refusal).line, out)
+}
+
+/// A thread's reply in a line of text.
+#[unsafe(no_mangle)]
+pub extern "C" fn l4_reply_text(thread: u32, reply: &ReplyResult, out: &mut [u8]) -> usize
+    ensures length { result ≡ length (reply_line thread (reply_given reply.now)) }
+    ensures written { out.new ≡ written (reply_line thread (reply_given reply.now)) out.old }
+    ensures short { result ≤ 656 }
+    ensures room { length out.new ≡ length out.old }
+{
+    write_text(reply_line(thread, reply).as_slice(), out)
+}
+
+/// A step in a line of text.
+#[unsafe(no_mangle)]
+pub extern "C" fn l4_step_text(step: &NextResult, out: &mut [u8]) -> usize
+    ensures length { result ≡ length (step_line step.now) }
+    ensures written { out.new ≡ written (step_line step.now) out.old }
+    ensures short { result ≤ 160 }
+    ensures room { length out.new ≡ length out.old }
+{
+    write_text(step_line(step).as_slice(), out)
 }

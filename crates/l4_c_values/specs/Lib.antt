@@ -1,4 +1,5 @@
 pub mod Called
+pub mod Lines
 pub mod Linked
 pub mod Recorded
 pub mod Replied

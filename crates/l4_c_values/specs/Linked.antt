@@ -20,6 +20,7 @@ link_result link = record {
   grant = if link.grant then 1 else 0;
   source_rights = bits_of link.source_rights;
   item_rights = bits_of link.item_rights;
+  reserved = 0;
 }
 
 -- a link as C gives it: the item gave the page away where grant is not 0

@@ -76,6 +76,7 @@ no_call kind = record {
   id = 0;
   space = 0;
   pager = 0;
+  reserved = filled 4 [];
 }
 
 -- a call as C gives it, and its words

@@ -7,7 +7,7 @@ use Rattle.l4_c_values.specs.declared.results.ReplyResult.{ReplyResult}
 
 -- a reply of this kind, with this ErrorCode, and no message
 abbrev pub plain_result : ℕ → ℕ → ℕ → ReplyResult
-plain_result code kind error = record { refusal = code; kind = kind; tag = 0; error = error; «from» = 0; word_count = 0; words = filled 64 [] }
+plain_result code kind error = record { refusal = code; kind = kind; tag = 0; error = error; «from» = 0; word_count = 0; words = filled 64 []; reserved = filled 2 [] }
 
 abbrev pub reply_result : Option Reply → ReplyResult
 reply_result None = plain_result 0 0 0
@@ -19,6 +19,7 @@ reply_result (Some (Ipc reply)) = record {
   «from» = reply.«from».0;
   word_count = length reply.words.items;
   words = filled 64 reply.words.items;
+  reserved = filled 2 [];
 }
 reply_result (Some Hit) = plain_result 0 2 0
 reply_result (Some Answered) = plain_result 0 3 0

@@ -35,7 +35,7 @@ outcome_number Expired = 6
 
 -- a refusal, and no outcome
 abbrev pub refusal_result : ℕ → ℕ → StepResult
-refusal_result code number = record { refusal = code; detail = number; outcome = 0; ended_count = 0; ended = filled 64 [] }
+refusal_result code number = record { refusal = code; detail = number; outcome = 0; ended_count = 0; ended = filled 64 []; reserved = filled 2 [] }
 
 -- an answer: its outcome, and the threads whose calls ended
 abbrev pub answer_result : Answer → StepResult
@@ -45,6 +45,7 @@ answer_result answer = record {
   outcome = outcome_number answer.outcome;
   ended_count = length answer.ended.items;
   ended = filled 64 answer.ended.items;
+  reserved = filled 2 [];
 }
 
 -- what a step gave
@@ -69,7 +70,7 @@ receiver_of (Expire n) = 0
 
 -- no step comes next, or why that can't be said
 abbrev pub no_step_result : ℕ → NextResult
-no_step_result code = record { refusal = code; kind = 0; thread = 0; receiver = 0; outcome = 0; ended_count = 0; ended = filled 2 [] }
+no_step_result code = record { refusal = code; kind = 0; thread = 0; receiver = 0; outcome = 0; ended_count = 0; ended = filled 2 []; reserved = filled 2 [] }
 
 -- the step that comes next; no Start does
 abbrev pub next_result : Step → NextResult
@@ -81,6 +82,7 @@ next_result step = record {
   outcome = 0;
   ended_count = 0;
   ended = filled 2 [];
+  reserved = filled 2 [];
 }
 
 -- a step that came next, and what it did
@@ -93,6 +95,7 @@ done_result step answer = record {
   outcome = outcome_number answer.outcome;
   ended_count = length answer.ended.items;
   ended = filled 2 answer.ended.items;
+  reserved = filled 2 [];
 }
 
 -- no page, for this refusal

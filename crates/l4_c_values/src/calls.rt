@@ -27,6 +27,7 @@ pub struct CallGiven {
     pub id: u32,
     pub space: u32,
     pub pager: u32,
+    pub reserved: [u32; 4],
 }
 
 /// The first words, as many as a message has.

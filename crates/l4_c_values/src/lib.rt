@@ -2,6 +2,7 @@
 #![tactic(auto)]
 
 mod calls;
+mod lines;
 mod links;
 mod numbers;
 mod recorded;
@@ -9,6 +10,7 @@ mod replies;
 mod results;
 
 pub use calls::{CallGiven, DELETE, delete, rights, write_call};
+pub use lines::{Line, MAX_LINE, reply_line, step_line};
 pub use links::{
     ChainResult, Link, chain_told, fault_detail, fault_number, link_given, link_told, no_chain,
 };

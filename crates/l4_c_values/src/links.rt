@@ -20,6 +20,7 @@ pub struct Link {
     pub grant: u32,
     pub source_rights: u32,
     pub item_rights: u32,
+    pub reserved: u32,
 }
 
 /// Whether a page is there, and how many transfers brought it.
@@ -45,6 +46,7 @@ pub fn link_told(link: &ChainLink) -> Link
         grant: u32::from(link.grant),
         source_rights: u32::from(link.source_rights.bits()),
         item_rights: u32::from(link.item_rights.bits()),
+        reserved: 0,
     }
 }
 

@@ -9,25 +9,25 @@ use l4_msg::MsgFault;
 use l4_threads::ThreadFault;
 use l4_unmap::UnmapFault;
 
-/// B1: the handle is empty.
+/// B1: the handle is empty: it was never created, or it was freed.
 pub const EMPTY: u32 = 0x4231;
 
-/// B2: the handle isn't empty.
+/// B2: the handle is not empty: free it before you use it again.
 pub const HELD: u32 = 0x4232;
 
-/// B3: there is no such kind of call.
+/// B3: the kind of call is unknown.
 pub const NO_SUCH_CALL: u32 = 0x4233;
 
-/// B4: a page has 4,096 or 1,024 bytes.
+/// B4: the page size must be 4,096 or 1,024 bytes.
 pub const NO_SUCH_SIZE: u32 = 0x4234;
 
-/// K6: a machine has 1 to 4,096 frames.
+/// K6: the number of frames must be from 1 to 4,096.
 pub const BAD_FRAMES: u32 = 0x4b36;
 
-/// L6: the history has a transfer that found no memory, and finds it as the history is done again.
+/// L6: a transfer that ran out of memory in the history succeeded when the history was replayed.
 pub const OTHER_ANSWER: u32 = 0x4c36;
 
-/// L7: the links aren't how the page came there.
+/// L7: the given links do not match the way the page got there.
 pub const OTHER_CHAIN: u32 = 0x4c37;
 
 /// NoMemory.

@@ -137,6 +137,7 @@ fn no_call(kind: u32) -> CallGiven
         id: 0,
         space: 0,
         pager: 0,
+        reserved: [0; 4],
     }
 }
 

@@ -18,6 +18,7 @@ fn plain(refusal: u32, kind: u32, error: u32) -> ReplyResult
         from: 0,
         word_count: 0,
         words: [0; MAX_WORDS],
+        reserved: [0; 2],
     }
 }
 
@@ -33,6 +34,7 @@ fn ipc_told(reply: &IpcReply) -> ReplyResult
         from: reply.from.0,
         word_count: reply.words.len() as u32,
         words: padded(reply.words.as_slice()),
+        reserved: [0; 2],
     }
 }
 

@@ -1,5 +1,5 @@
 //! What calls give to C.
-ghost use Rattle.std.specs.Prelude.{◌≡◌, ◌≤◌, length};
+ghost use Rattle.std.specs.Prelude.{◌≡◌, ◌≤◌, [], length};
 ghost use Rattle.l4_ipc.specs.NextSteps.{step_of, answer_of};
 ghost use Rattle.l4_c_values.specs.Told.{no_page_result, page_result};
 ghost use Rattle.l4_c_values.specs.Told.{told_place, filled, outcome_number, refusal_result, answer_result, step_result, no_step_result, next_result, done_result};
@@ -16,6 +16,7 @@ pub struct StepResult {
     pub outcome: u32,
     pub ended_count: u32,
     pub ended: [u32; MAX_THREADS],
+    pub reserved: [u32; 2],
 }
 
 /// A step that comes next, and what it did once it was done.
@@ -29,6 +30,7 @@ pub struct NextResult {
     pub outcome: u32,
     pub ended_count: u32,
     pub ended: [u32; 2],
+    pub reserved: [u32; 2],
 }
 
 /// A call that was entered.
@@ -50,6 +52,7 @@ pub struct ReplyResult {
     pub from: u32,
     pub word_count: u32,
     pub words: [u32; MAX_WORDS],
+    pub reserved: [u32; 2],
 }
 
 /// The space of a thread.
@@ -80,6 +83,7 @@ pub struct MappingResult {
     pub has_parent: u32,
     pub parent_page: u32,
     pub parent_space: u64,
+    pub reserved: [u32; 2],
 }
 
 /// A page.
@@ -101,6 +105,7 @@ pub fn refused(refusal: u32, detail: u32) -> StepResult
         outcome: 0,
         ended_count: 0,
         ended: [0; MAX_THREADS],
+        reserved: [0; 2],
     }
 }
 
@@ -116,6 +121,7 @@ pub fn no_step(refusal: u32) -> NextResult
         outcome: 0,
         ended_count: 0,
         ended: [0; 2],
+        reserved: [0; 2],
     }
 }
 
@@ -169,7 +175,7 @@ fn transfer_told(
     ended_count: u32,
     ended: [u32; 2],
 ) -> NextResult
-    ensures { result ≡ record { refusal = 0; kind = 1; thread = sender; receiver = receiver; outcome = outcome_number outcome; ended_count = ended_count; ended = ended } }
+    ensures { result ≡ record { refusal = 0; kind = 1; thread = sender; receiver = receiver; outcome = outcome_number outcome; ended_count = ended_count; ended = ended; reserved = filled 2 [] } }
 {
     NextResult {
         refusal: 0,
@@ -179,6 +185,7 @@ fn transfer_told(
         outcome: outcome_number(outcome),
         ended_count,
         ended,
+        reserved: [0; 2],
     }
 }
 
@@ -201,6 +208,7 @@ pub fn done_told(next: NextStep) -> NextResult
             outcome: outcome_number(Outcome::Expired),
             ended_count: 1,
             ended: [thread, 0],
+            reserved: [0; 2],
         },
     }
 }
@@ -238,6 +246,7 @@ pub fn answered(answer: &Answer) -> StepResult
         outcome: outcome_number(answer.outcome),
         ended_count: answer.ended.len() as u32,
         ended: padded(answer.ended.as_slice()),
+        reserved: [0; 2],
     }
 }
 

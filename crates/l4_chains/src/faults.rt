@@ -1,13 +1,13 @@
-//! Why a history can't be replayed.
+//! The reasons why a history cannot be replayed.
 
-/// Why a history can't be replayed on a kernel of one's own.
+/// The reason why a history cannot be replayed on a second kernel.
 #[derive(Clone, Copy, Debug, PartialEq, Eq)]
 pub enum ReplayFault {
-    /// There are fewer than 1 or more than 4,096 frames.
+    /// The number of frames is not from 1 to 4,096.
     BadFrames,
-    /// A growth was refused.
+    /// An allocation failed.
     NoMemory,
-    /// The step of the entry of this number, from 0, got another answer than the history says: so goes a transfer that found no memory
-    /// when it was recorded, and finds it now.
+    /// The step of the entry with this number, from 0, got another answer than the history says. This happens to a
+    /// transfer that ran out of memory when it was recorded, and finds memory now.
     OtherAnswer(usize),
 }

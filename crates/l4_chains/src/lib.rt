@@ -1,4 +1,4 @@
-//! Chains of moves as data: what the finder of provenance gives, and its checker judges.
+//! Chains of moves as data. The finder of provenance returns them, and its checker checks them.
 #![tactic(auto)]
 
 mod faults;

@@ -11,7 +11,8 @@ pub struct ChainLink {
     pub source: Place,
     /// The receiver's page.
     pub target: Place,
-    /// The item gave the page away, else it shared it.
+    /// Whether the item granted the page. Otherwise it mapped it.
+    ///
     pub grant: bool,
     /// The rights that the sender's page had just before.
     pub source_rights: Rights,

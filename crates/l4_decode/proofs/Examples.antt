@@ -56,15 +56,15 @@ pub nil_page : fpage_text Kib4 0x00005007 ≡ codes "nil"
 unfolding digits fpage_text is_fpage is_complete place_of complete_text extent_text pages_text bytes_text granted_of no_fpage_text hex_text
 nil_page = refl
 
-pub too_small : fpage_text Kib4 0x00001020 ≡ codes "no fpage: its size field is 2"
+pub too_small : fpage_text Kib4 0x00001020 ≡ codes "not an fpage: its size field is 2"
 unfolding digits fpage_text is_fpage is_complete place_of complete_text extent_text pages_text bytes_text granted_of no_fpage_text hex_text
 too_small = refl
 
-pub too_large : fpage_text Kib4 0x00000217 ≡ codes "no fpage: its size field is 33"
+pub too_large : fpage_text Kib4 0x00000217 ≡ codes "not an fpage: its size field is 33"
 unfolding digits fpage_text is_fpage is_complete place_of complete_text extent_text pages_text bytes_text granted_of no_fpage_text hex_text
 too_large = refl
 
-pub complete_with_a_base : fpage_text Kib4 0x00000410 ≡ codes "no fpage: its size field is 1"
+pub complete_with_a_base : fpage_text Kib4 0x00000410 ≡ codes "not an fpage: its size field is 1"
 unfolding digits fpage_text is_fpage is_complete place_of complete_text extent_text pages_text bytes_text granted_of no_fpage_text hex_text
 complete_with_a_base = refl
 
@@ -78,11 +78,11 @@ pub anywhere : window_text Kib4 0x00000010 ≡ codes "complete, pages 0 to 10485
 unfolding digits window_text taken_of is_fpage is_complete place_of complete_text extent_text pages_text refusal_text
 anywhere = refl
 
-pub no_window : window_text Kib4 0 ≡ codes "nil, takes no items"
+pub no_window : window_text Kib4 0 ≡ codes "nil, accepts no items"
 unfolding digits window_text taken_of is_fpage is_complete place_of complete_text extent_text pages_text refusal_text
 no_window = refl
 
-pub bad_window : window_text Kib4 0x00000020 ≡ codes "refused M6: the receive window is no fpage"
+pub bad_window : window_text Kib4 0x00000020 ≡ codes "refused M6: the receive window is not a valid fpage"
 unfolding digits window_text taken_of is_fpage is_complete place_of complete_text extent_text pages_text refusal_text
 bad_window = refl
 
@@ -100,11 +100,23 @@ pub anybody : id_text (record { 0 = 0xffff_ffff }) ≡ codes "anythread"
 unfolding digits id_text bad_text
 anybody = refl
 
-pub local_mark : id_text (record { 0 = 0x0000c040 }) ≡ codes "thread 3, version 64, which no thread can have"
+pub local_mark : id_text (record { 0 = 0x0000c040 }) ≡ codes "local thread id, not supported"
 unfolding digits id_text bad_text
 local_mark = refl
 
-pub number_for_an_id : id_text (record { 0 = 3 }) ≡ codes "thread 0, version 3, which no thread can have"
+pub local_zero : id_text (record { 0 = 0x0000c000 }) ≡ codes "local thread id, not supported"
+unfolding digits id_text bad_text
+local_zero = refl
+
+pub any_of_the_space : id_text (record { 0 = 0xffff_ffc0 }) ≡ codes "anylocalthread, not supported"
+unfolding digits id_text bad_text
+any_of_the_space = refl
+
+pub beside_anythread : id_text (record { 0 = 0xffff_fffe }) ≡ codes "thread 262143, version 16382"
+unfolding digits id_text bad_text
+beside_anythread = refl
+
+pub number_for_an_id : id_text (record { 0 = 3 }) ≡ codes "thread 0, version 3, not a valid thread id"
 unfolding digits id_text bad_text
 number_for_an_id = refl
 
@@ -144,32 +156,32 @@ pub grant_item : item_text Kib4 0x0000500a 0x000050c7 ≡ codes "grant, send bas
 unfolding digits item_text carrying_text fpage_text is_fpage is_complete place_of complete_text extent_text pages_text granted_of no_fpage_text hex_text
 grant_item = refl
 
-pub item_of_no_fpage : item_text Kib4 0x00000008 0x00001020 ≡ codes "map, send base 0x00000000, C 0, no fpage: its size field is 2"
+pub item_of_no_fpage : item_text Kib4 0x00000008 0x00001020 ≡ codes "map, send base 0x00000000, C 0, not an fpage: its size field is 2"
 unfolding digits item_text carrying_text fpage_text is_fpage is_complete place_of complete_text extent_text pages_text granted_of no_fpage_text hex_text
 item_of_no_fpage = refl
 
-pub string : item_text Kib4 0x00000006 0 ≡ codes "string item, left out here"
+pub string : item_text Kib4 0x00000006 0 ≡ codes "string item, not supported"
 unfolding digits item_text carrying_text fpage_text is_fpage is_complete place_of complete_text extent_text pages_text granted_of no_fpage_text hex_text
 string = refl
 
-pub ctrl_xfer : item_text Kib4 0x0000000c 0 ≡ codes "CtrlXfer item, left out here"
+pub ctrl_xfer : item_text Kib4 0x0000000c 0 ≡ codes "CtrlXfer item, not supported"
 unfolding digits item_text carrying_text fpage_text is_fpage is_complete place_of complete_text extent_text pages_text granted_of no_fpage_text hex_text
 ctrl_xfer = refl
 
-pub unknown_kind : item_text Kib4 0x0000000e 0 ≡ codes "no item: its kind is 7"
+pub unknown_kind : item_text Kib4 0x0000000e 0 ≡ codes "unknown item: its kind is 7"
 unfolding digits item_text carrying_text fpage_text is_fpage is_complete place_of complete_text extent_text pages_text granted_of no_fpage_text hex_text
 unknown_kind = refl
 
 -- MESSAGES
 
-pub message_of_one_item : decoded_text Kib4 (0x00000080 ∷ 0x00020008 ∷ 0x000100c7 ∷ []) (Plain 0 1)
+pub message_of_one_item : decoded_text [] Kib4 (0x00000080 ∷ 0x00020008 ∷ 0x000100c7 ∷ []) (Plain 0 1)
     ≡ codes "tag 0x00000080: label 0x0000, flags 0, untyped 0, typed 2" ++ 10 ∷ []
     ++ codes "item 0 0x00020008 0x000100c7: map, send base 0x00020000, C 0, page 16, rwx" ++ 10 ∷ []
     ++ codes "message: untyped 0, items 1" ++ 10 ∷ []
 unfolding digits decoded_text each_line words_lines word_line items_lines item_line item_head item_text carrying_text fpage_text is_fpage is_complete place_of complete_text extent_text pages_text granted_of no_fpage_text tag_line meaning_line tag_text protocol_text access_text label_text hex_text whole_text fault_text request_text place_text refusal_text
 message_of_one_item = refl
 
-pub message_of_a_fault : decoded_text Kib4 (0xffe40002 ∷ 0x00005678 ∷ 0x00400100 ∷ []) (Fault (record { address = 0x5678; ip = 0x400100; access = set_of_bits 4 }))
+pub message_of_a_fault : decoded_text [] Kib4 (0xffe40002 ∷ 0x00005678 ∷ 0x00400100 ∷ []) (Fault (record { address = 0x5678; ip = 0x400100; access = set_of_bits 4 }))
     ≡ codes "tag 0xffe40002: label 0xffe4 (page fault, r--), flags 0, untyped 2, typed 0" ++ 10 ∷ []
     ++ codes "word 1 0x00005678: untyped, 22136" ++ 10 ∷ []
     ++ codes "word 2 0x00400100: untyped, 4194560" ++ 10 ∷ []
@@ -177,30 +189,30 @@ pub message_of_a_fault : decoded_text Kib4 (0xffe40002 ∷ 0x00005678 ∷ 0x0040
 unfolding digits decoded_text each_line words_lines word_line items_lines item_line item_head item_text carrying_text fpage_text is_fpage is_complete place_of complete_text extent_text pages_text granted_of no_fpage_text tag_line meaning_line tag_text protocol_text access_text label_text hex_text whole_text fault_text request_text place_text refusal_text
 message_of_a_fault = refl
 
-pub message_with_an_odd_word : decoded_text Kib4 (0x00000040 ∷ 0 ∷ []) (Refused OddTyped)
+pub message_with_an_odd_word : decoded_text [] Kib4 (0x00000040 ∷ 0 ∷ []) (Refused OddTyped)
     ≡ codes "tag 0x00000040: label 0x0000, flags 0, untyped 0, typed 1" ++ 10 ∷ []
     ++ codes "word 1 0x00000000: half an item, 0" ++ 10 ∷ []
-    ++ codes "refused M2: the tag counts an odd number of words for the items" ++ 10 ∷ []
+    ++ codes "refused M2: the tag counts an odd number of typed words, but every item has two" ++ 10 ∷ []
 unfolding digits decoded_text each_line words_lines word_line items_lines item_line item_head item_text carrying_text fpage_text is_fpage is_complete place_of complete_text extent_text pages_text granted_of no_fpage_text tag_line meaning_line tag_text protocol_text access_text label_text hex_text whole_text fault_text request_text place_text refusal_text
 message_with_an_odd_word = refl
 
-pub message_with_a_word_behind : decoded_text Kib4 (0 ∷ 7 ∷ []) (Plain 0 0)
+pub message_with_a_word_behind : decoded_text [] Kib4 (0 ∷ 7 ∷ []) (Plain 0 0)
     ≡ codes "tag 0x00000000: label 0x0000, flags 0, untyped 0, typed 0" ++ 10 ∷ []
-    ++ codes "word 1 0x00000007: behind the message, 7" ++ 10 ∷ []
+    ++ codes "word 1 0x00000007: ignored, 7" ++ 10 ∷ []
     ++ codes "message: untyped 0, items 0" ++ 10 ∷ []
 unfolding digits decoded_text each_line words_lines word_line items_lines item_line item_head item_text carrying_text fpage_text is_fpage is_complete place_of complete_text extent_text pages_text granted_of no_fpage_text tag_line meaning_line tag_text protocol_text access_text label_text hex_text whole_text fault_text request_text place_text refusal_text
 message_with_a_word_behind = refl
 
-pub message_with_a_bad_item : decoded_text Kib4 (0x00000080 ∷ 0x0000000e ∷ 0 ∷ []) (Refused (BadItem 0))
+pub message_with_a_bad_item : decoded_text [] Kib4 (0x00000080 ∷ 0x0000000e ∷ 0 ∷ []) (Refused (BadItem 0))
     ≡ codes "tag 0x00000080: label 0x0000, flags 0, untyped 0, typed 2" ++ 10 ∷ []
-    ++ codes "item 0 0x0000000e 0x00000000: no item: its kind is 7" ++ 10 ∷ []
-    ++ codes "refused M3 0: the item has an unknown kind or is no fpage" ++ 10 ∷ []
+    ++ codes "item 0 0x0000000e 0x00000000: unknown item: its kind is 7" ++ 10 ∷ []
+    ++ codes "refused M3 0: the item has an unknown kind, or its fpage is invalid" ++ 10 ∷ []
 unfolding digits decoded_text each_line words_lines word_line items_lines item_line item_head item_text carrying_text fpage_text is_fpage is_complete place_of complete_text extent_text pages_text granted_of no_fpage_text tag_line meaning_line tag_text protocol_text access_text label_text hex_text whole_text fault_text request_text place_text refusal_text
 message_with_a_bad_item = refl
 
-pub message_that_is_short : decoded_text Kib4 (0x00000080 ∷ 0x00020008 ∷ []) (Refused Short)
+pub message_that_is_short : decoded_text [] Kib4 (0x00000080 ∷ 0x00020008 ∷ []) (Refused Short)
     ≡ codes "tag 0x00000080: label 0x0000, flags 0, untyped 0, typed 2" ++ 10 ∷ []
     ++ codes "word 1 0x00020008: half an item, 131080" ++ 10 ∷ []
-    ++ codes "refused M7: there is no tag, or there are fewer words than it counts" ++ 10 ∷ []
+    ++ codes "refused M7: the tag is missing, or fewer words follow it than it counts" ++ 10 ∷ []
 unfolding digits decoded_text each_line words_lines word_line items_lines item_line item_head item_text carrying_text fpage_text is_fpage is_complete place_of complete_text extent_text pages_text granted_of no_fpage_text tag_line meaning_line tag_text protocol_text access_text label_text hex_text whole_text fault_text request_text place_text refusal_text
 message_that_is_short = refl

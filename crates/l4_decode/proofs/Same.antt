@@ -84,7 +84,7 @@ one_meaning words (Plain u k) (Plain v l) (m, reads, is) (n, others, that) =
     λ i. Plain (untyped i) (items i)
 
 pub one_text : (size : PageSize) (reading : Reading) (words s t : List ℕ) → IsDecoded size reading words s → IsDecoded size reading words t → s ≡ t
-one_text size Message words s t (m, a, first) (n, b, second) = first ∙ ap (decoded_text size words) (one_meaning words m n a b) ∙ sym second
+one_text size Message words s t (m, a, first) (n, b, second) = first ∙ ap (decoded_text [] size words) (one_meaning words m n a b) ∙ sym second
 one_text size Each words s t a b = a ∙ sym b
 one_text size Fpage words s t a b = a ∙ sym b
 one_text size Window words s t a b = a ∙ sym b

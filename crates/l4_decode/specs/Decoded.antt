@@ -28,13 +28,13 @@ behind words = length words - 1 - untyped_there words - typed_there words
 unfoldable pub word_line : List ℕ → ℕ → ℕ → List ℕ
 word_line kind place word = codes "word " ++ decimal place ++ codes " " ++ hex_text word ++ codes ": " ++ kind ++ codes ", " ++ decimal word ++ 10 ∷ []
 
--- so many words from a place on
-unfoldable pub words_lines : List ℕ → List ℕ → ℕ → ℕ → List ℕ
-words_lines kind words from count = each_text (λ k. word_line kind (from + k) (slice_index words (from + k))) count
+-- so many words from a place on, each line behind a mark
+unfoldable pub words_lines : List ℕ → List ℕ → List ℕ → ℕ → ℕ → List ℕ
+words_lines mark kind words from count = each_text (λ k. mark ++ word_line kind (from + k) (slice_index words (from + k))) count
 
--- so many items from a place on, two words each
-unfoldable pub items_lines : PageSize → List ℕ → ℕ → ℕ → List ℕ
-items_lines size words from count = each_text (λ k. item_line size k (slice_index words (from + 2 * k)) (slice_index words (from + 2 * k + 1))) count
+-- so many items from a place on, two words each, each line behind a mark
+unfoldable pub items_lines : List ℕ → PageSize → List ℕ → ℕ → ℕ → List ℕ
+items_lines mark size words from count = each_text (λ k. mark ++ item_line size k (slice_index words (from + 2 * k)) (slice_index words (from + 2 * k + 1))) count
 
 -- the places of the first typed word, of the first that is no whole item's, and of the first behind the message
 abbrev pub typed_place : List ℕ → ℕ
@@ -46,17 +46,20 @@ half_place words = typed_place words + typed_there words / 2 * 2
 abbrev pub end_place : List ℕ → ℕ
 end_place words = typed_place words + typed_there words
 
--- the lines of the words, one by one: the tag, the untyped words, the items and, where the typed words are odd in number, the last of them;
+-- the lines of the words, one by one, each behind a mark: the tag, the untyped words, the items and, where the typed words are odd in number, the last of them;
 -- then what stands behind the message
-unfoldable pub each_line : PageSize → List ℕ → List ℕ
-each_line size words =
+unfoldable pub each_line : List ℕ → PageSize → List ℕ → List ℕ
+each_line mark size words =
     if length words == 0 then []
-    else (tag_line (tag_of words) ++ words_lines (codes "untyped") words 1 (untyped_there words) ++ items_lines size words (typed_place words) (typed_there words / 2)
-    ++ words_lines (codes "half an item") words (half_place words) (typed_there words % 2) ++ words_lines (codes "behind the message") words (end_place words) (behind words))
+    else (mark ++ tag_line (tag_of words) ++ words_lines mark (codes "untyped") words 1 (untyped_there words) ++ items_lines mark size words (typed_place words) (typed_there words / 2)
+    ++ words_lines mark (codes "half an item") words (half_place words) (typed_there words % 2) ++ words_lines mark (codes "ignored") words (end_place words) (behind words))
 
--- THE TEXT OF A MESSAGE: a line for each of its words or items, and what they mean as a whole
-unfoldable pub decoded_text : PageSize → List ℕ → Meaning → List ℕ
-decoded_text size words meaning = each_line size words ++ (whole_text size meaning ++ 10 ∷ [])
+-- THE TEXT OF A MESSAGE: a line for each of its words or items, and what they mean as a whole, each line behind a mark
+unfoldable pub decoded_text : List ℕ → PageSize → List ℕ → Meaning → List ℕ
+decoded_text mark size words meaning = each_line mark size words ++ (mark ++ (whole_text size meaning ++ 10 ∷ []))
+
+abbrev pub IsMessageText : List ℕ → PageSize → List ℕ → List ℕ → Type 0
+IsMessageText mark size words text = (meaning : Meaning) × Means words meaning × (text ≡ decoded_text mark size words meaning)
 
 -- the lines of one word
 unfoldable pub word_text : PageSize → Reading → ℕ → List ℕ
@@ -72,7 +75,7 @@ words_text size reading words = each_text (λ k. word_text size reading (slice_i
 
 -- WHAT IS WRITTEN: words that are read as a message mean one thing together, and any others are read one by one
 abbrev pub IsDecoded : PageSize → Reading → List ℕ → List ℕ → Type 0
-IsDecoded size Message words text = (meaning : Meaning) × Means words meaning × (text ≡ decoded_text size words meaning)
+IsDecoded size Message words text = IsMessageText [] size words text
 IsDecoded size Each words text = text ≡ words_text size Each words
 IsDecoded size Fpage words text = text ≡ words_text size Fpage words
 IsDecoded size Window words text = text ≡ words_text size Window words

@@ -55,7 +55,7 @@ unfoldable pub granted_of : ℕ → RightsSet → List ℕ
 granted_of log rights = if log == 0 then [] else (codes ", " ++ rights_text rights)
 
 unfoldable pub no_fpage_text : ℕ → List ℕ
-no_fpage_text log = codes "no fpage: its size field is " ++ decimal log
+no_fpage_text log = codes "not an fpage: its size field is " ++ decimal log
 
 unfoldable pub fpage_text : PageSize → ℕ → List ℕ
 fpage_text size word =
@@ -67,12 +67,12 @@ fpage_line size word = meaning_line (codes "fpage ") word (fpage_text size word)
 
 -- THE TEXT OF A RECEIVE WINDOW, whose rights mean nothing
 unfoldable pub taken_text : PageSize → Fpage → List ℕ
-taken_text size Nil = codes "nil, takes no items"
+taken_text size Nil = codes "nil, accepts no items"
 taken_text size (Complete rights) = complete_text size
 taken_text size (Sized e) = extent_text size e.base e.log
 
 unfoldable pub taken_of : PageSize → ℕ → ℕ → List ℕ
-taken_of size log base = if log == 0 then codes "nil, takes no items" else place_of size log base
+taken_of size log base = if log == 0 then codes "nil, accepts no items" else place_of size log base
 
 -- the word that an acceptor's is read as: its low four bits mean nothing
 abbrev pub window_word : ℕ → ℕ

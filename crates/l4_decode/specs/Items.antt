@@ -25,9 +25,9 @@ unfoldable pub item_text : PageSize → ℕ → ℕ → List ℕ
 item_text size first second =
     if kind_of first == 4 then carrying_text (codes "map") size first second
     else (if kind_of first == 5 then carrying_text (codes "grant") size first second
-    else (if kind_of first == 6 then codes "CtrlXfer item, left out here"
-    else (if kind_of first == 7 then codes "no item: its kind is 7"
-    else codes "string item, left out here")))
+    else (if kind_of first == 6 then codes "CtrlXfer item, not supported"
+    else (if kind_of first == 7 then codes "unknown item: its kind is 7"
+    else codes "string item, not supported")))
 
 -- the number of an item, from 0, and its words
 unfoldable pub item_head : ℕ → ℕ → ℕ → List ℕ

@@ -1,7 +1,7 @@
 //! What is written of words.
 ghost use Rattle.std.specs.Prelude.{◌≡◌, ℕ, ◌≤◌, ◌<◌, ◌+◌, ◌*◌, ◌++◌, ◌∷◌, [], List, length, IfOk, IfErr};
 ghost use Rattle.std.specs.Io.KnownBytes.{Appends};
-ghost use Rattle.l4_decode.specs.Decoded.{word_line, words_lines, items_lines, each_line, word_text, words_text, IsDecoded};
+ghost use Rattle.l4_decode.specs.Decoded.{word_line, words_lines, items_lines, each_line, word_text, words_text, IsMessageText, IsDecoded};
 ghost use Rattle.l4_decode.specs.Meanings.{Means, whole_text};
 ghost use Rattle.l4_text.specs.Streams.{Tells, WentOut};
 
@@ -50,22 +50,24 @@ fn word_line(kind: &[u8], place: usize, word: u32) -> Text
     text
 }
 
-/// Tells the lines of words, from a place among all words on.
+/// Tells the lines of words: from a place among all words on, so many.
 #[tactic(auto, unfolding(crate::specs::Decoded::words_lines))]
 fn tell_words<W: Write>(
     kind: &[u8],
     words: &[u32],
-    from: usize,
-    count: usize,
+    places: (usize, usize),
+    mark: &[u8],
     out: &mut Output,
     writer: &mut W,
 )
     requires kind { length kind.now ≤ 20 }
-    requires there { from + count ≤ length words.now }
-    ensures { Tells (W.contents writer.old) (W.contents writer.new) out.old out.new (words_lines kind.now words.now from count) }
+    requires there { places.0 + places.1 ≤ length words.now }
+    requires short { length mark.now ≤ 2 }
+    ensures { Tells (W.contents writer.old) (W.contents writer.new) out.old out.new (words_lines mark.now kind.now words.now places.0 places.1) }
 {
+    let (from, count) = places;
     for k in 0..count {
-        out.put(writer, &word_line(kind, from + k, words[from + k]));
+        out.put_marked(writer, mark, &word_line(kind, from + k, words[from + k]));
     }
 }
 
@@ -76,22 +78,25 @@ fn tell_items<W: Write>(
     from: usize,
     count: usize,
     size: PageSize,
+    mark: &[u8],
     out: &mut Output,
     writer: &mut W,
 )
     requires there { from + 2 * count ≤ length words.now }
-    ensures { Tells (W.contents writer.old) (W.contents writer.new) out.old out.new (items_lines size words.now from count) }
+    requires short { length mark.now ≤ 2 }
+    ensures { Tells (W.contents writer.old) (W.contents writer.new) out.old out.new (items_lines mark.now size words.now from count) }
 {
     for k in 0..count {
         let at = from + 2 * k;
-        tell_item(k, (words[at], words[at + 1]), size, out, writer);
+        tell_item(k, (words[at], words[at + 1]), size, mark, out, writer);
     }
 }
 
 /// Tells the lines of the words of a message, one by one.
 #[tactic(auto, unfolding(crate::specs::Decoded::each_line))]
-fn tell_each<W: Write>(words: &[u32], size: PageSize, out: &mut Output, writer: &mut W)
-    ensures { Tells (W.contents writer.old) (W.contents writer.new) out.old out.new (each_line size words.now) }
+fn tell_each<W: Write>(words: &[u32], size: PageSize, mark: &[u8], out: &mut Output, writer: &mut W)
+    requires { length mark.now ≤ 2 }
+    ensures { Tells (W.contents writer.old) (W.contents writer.new) out.old out.new (each_line mark.now size words.now) }
 {
     if words.is_empty() {
         return;
@@ -102,27 +107,28 @@ fn tell_each<W: Write>(words: &[u32], size: PageSize, out: &mut Output, writer: 
     let typed = usize::from(tag.typed).min(after - untyped);
     let half = 1 + untyped + typed / 2 * 2;
     let end = 1 + untyped + typed;
-    out.put(writer, &tag_line(words[0]));
-    tell_words(b"untyped", words, 1, untyped, out, writer);
-    tell_items(words, 1 + untyped, typed / 2, size, out, writer);
-    tell_words(b"half an item", words, half, typed % 2, out, writer);
-    tell_words(
-        b"behind the message",
-        words,
-        end,
-        words.len() - end,
-        out,
-        writer,
-    );
+    out.put_marked(writer, mark, &tag_line(words[0]));
+    tell_words(b"untyped", words, (1, untyped), mark, out, writer);
+    tell_items(words, 1 + untyped, typed / 2, size, mark, out, writer);
+    tell_words(b"half an item", words, (half, typed % 2), mark, out, writer);
+    let ignored = words.len() - end;
+    tell_words(b"ignored", words, (end, ignored), mark, out, writer);
 }
 
-/// Tells what words mean as a message.
-fn tell_message<W: Write>(words: &[u32], size: PageSize, out: &mut Output, writer: &mut W)
-    ensures { (text : List ℕ) × IsDecoded size Reading.Message words.now text
+/// Writes what words mean as a message, each line behind a mark of at most two bytes.
+pub fn put_message<W: Write>(
+    words: &[u32],
+    size: PageSize,
+    mark: &[u8],
+    out: &mut Output,
+    writer: &mut W,
+)
+    requires { length mark.now ≤ 2 }
+    ensures { (text : List ℕ) × IsMessageText mark.now size words.now text
         × Tells (W.contents writer.old) (W.contents writer.new) out.old out.new text }
 {
-    tell_each(words, size, out, writer);
-    out.put(writer, &meaning_line(&meaning_of(words), size));
+    tell_each(words, size, mark, out, writer);
+    out.put_marked(writer, mark, &meaning_line(&meaning_of(words), size));
 }
 
 /// Tells what one word means.
@@ -172,7 +178,7 @@ fn tell<W: Write>(words: &[u32], reading: Reading, size: PageSize, out: &mut Out
         × Tells (W.contents writer.old) (W.contents writer.new) out.old out.new text }
 {
     match reading {
-        Reading::Message => tell_message(words, size, out, writer),
+        Reading::Message => put_message(words, size, b"", out, writer),
         Reading::Each | Reading::Fpage | Reading::Window | Reading::Id => {
             tell_alone(words, reading, size, out, writer)
         }

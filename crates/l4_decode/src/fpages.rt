@@ -96,7 +96,7 @@ fn add_taken(text: &mut Text, window: &Fpage, size: PageSize)
     ensures len { length text.new ≤ length text.old + 92 }
 {
     match window {
-        Fpage::Nil => text.add(b"nil, takes no items"),
+        Fpage::Nil => text.add(b"nil, accepts no items"),
         Fpage::Complete(_) | Fpage::Sized(_) => add_place(text, window, size),
     }
 }
@@ -128,7 +128,7 @@ fn add_no_fpage(text: &mut Text, word: u32)
     ensures value { text.new ≡ text.old ++ no_fpage_text (size_field word) }
     ensures len { length text.new ≤ length text.old + 60 }
 {
-    text.add(b"no fpage: its size field is ");
+    text.add(b"not an fpage: its size field is ");
     add_count(text, word / 16 % 64);
 }
 

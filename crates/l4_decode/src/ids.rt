@@ -15,7 +15,7 @@ fn add_bad(text: &mut Text, id: ThreadId)
     ensures len { length text.new ≤ length text.old + 30 }
 {
     if id.is_bad() {
-        text.add(b", which no thread can have");
+        text.add(b", not a valid thread id");
     }
 }
 
@@ -31,6 +31,12 @@ fn add_id(text: &mut Text, id: ThreadId)
     }
     if id.0 == 0xffff_ffff {
         return text.add(b"anythread");
+    }
+    if id.0 == 0xffff_ffc0 {
+        return text.add(b"anylocalthread, not supported");
+    }
+    if id.0 % 64 == 0 {
+        return text.add(b"local thread id, not supported");
     }
     text.add(b"thread ");
     text.add_number(u64::from(id.number()));

@@ -37,9 +37,9 @@ fn add_item(text: &mut Text, first: u32, second: u32, size: PageSize)
     match first / 2 % 8 {
         4 => add_carrying(text, b"map", first, second, size),
         5 => add_carrying(text, b"grant", first, second, size),
-        6 => text.add(b"CtrlXfer item, left out here"),
-        7 => text.add(b"no item: its kind is 7"),
-        _ => text.add(b"string item, left out here"),
+        6 => text.add(b"CtrlXfer item, not supported"),
+        7 => text.add(b"unknown item: its kind is 7"),
+        _ => text.add(b"string item, not supported"),
     }
 }
 
@@ -69,17 +69,19 @@ fn item_end(first: u32, second: u32, size: PageSize) -> Text
     text
 }
 
-/// Tells the line of an item.
+/// Tells the line of an item, behind a mark.
 #[tactic(auto, unfolding(crate::specs::Items::item_line))]
 pub(crate) fn tell_item<W: Write>(
     number: usize,
     words: (u32, u32),
     size: PageSize,
+    mark: &[u8],
     out: &mut Output,
     writer: &mut W,
 )
-    ensures { Tells (W.contents writer.old) (W.contents writer.new) out.old out.new (item_line size number words.0 words.1) }
+    requires { length mark.now ≤ 2 }
+    ensures { Tells (W.contents writer.old) (W.contents writer.new) out.old out.new (mark.now ++ item_line size number words.0 words.1) }
 {
-    out.put(writer, &item_head(number, words.0, words.1));
+    out.put_marked(writer, mark, &item_head(number, words.0, words.1));
     out.put(writer, &item_end(words.0, words.1, size));
 }

@@ -11,6 +11,6 @@ mod refusals;
 mod spelling;
 mod tags;
 
-pub use decoding::{Reading, decode};
+pub use decoding::{Reading, decode, put_message};
 pub use laws::{decoded_is_unique, told_as_read};
 pub use meanings::{Meaning, meaning_of};

@@ -5,10 +5,10 @@ ghost use Rattle.std.specs.Prelude.{◌≡◌, IfOk};
 use crate::{Forest, NoMemory};
 
 impl Forest {
-    /// The same mappings and spaces, in memory of their own. What is done with the one is not seen in the other.
+    /// Copies the mappings and spaces. The copy has its own memory, and shares nothing with the original.
     ///
-    /// It takes memory for the most pages that were ever present at once, and not for what there is room for. Where that is refused, nothing
-    /// has changed.
+    /// Returns `NoMemory` if an allocation failed; then nothing has changed. A copy takes memory for the greatest
+    /// number of pages that were ever present at once.
     pub fn copy(&self) -> Result<Forest, NoMemory>
         ensures { IfOk result (λ copy. copy ≡ self.now) }
     {

@@ -1,6 +1,6 @@
-//! The mapping database: which page of which space shows which frame, with which rights, and from which page
-//! it was mapped. It begins with the pages of the root space, takes messages, revokes, and ends spaces; each call touches only the nodes
-//! and pages that it is about.
+//! The mapping database: the frame, the rights and the parent of each present page of each space. It starts with the
+//! pages of sigma0, applies messages, revokes rights, and ends spaces. Each call touches only the nodes and pages
+//! that it concerns.
 #![tactic(auto)]
 
 ghost use Rattle.std.specs.Prelude.{◌≡◌, ◌↔◌, ◌≢◌, ◌≤◌, ◌∷◌, [], IsTrue, IsOk, OnOk, OnErr, IfOk, IfErr, MatchOption, Some, None};
@@ -23,7 +23,7 @@ pub use l4_spaces::NoMemory;
 use std::alloc::Global;
 use std::marker::Model;
 
-/// The mappings of all spaces, and the spaces that there are.
+/// The mappings of all spaces, and the set of spaces.
 #[derive(Drop)]
 pub struct Forest {
     links: Links,
@@ -54,8 +54,8 @@ impl Forest {
     ghost use Rattle.l4_mapdb.specs.Causes.{HasCause};
     ghost use Rattle.l4_forest.specs.Losing.{Revokes, RevokesBlock, EndsSpace};
 
-    /// The mappings at the start: space 0 shows each frame below `frames` at the page of its number
-    /// with all rights, and there is no other space. `frames` is from 1 to 4,096.
+    /// Returns the initial mappings: in space 0, each frame below `frames` is mapped at the page of its number with
+    /// all rights. There is no other space. `frames` is from 1 to 4,096. Returns `NoMemory` if an allocation failed.
     pub fn new(alloc: Global, frames: u32) -> Result<Forest, NoMemory>
         requires some { 1 ≤ frames }
         requires fit { frames ≤ max_frames }
@@ -69,7 +69,7 @@ impl Forest {
         Ok(Forest { links, roots })
     }
 
-    /// Begins an empty space. Nothing changes if it is there.
+    /// Adds an empty space. Changes nothing if the space exists. Returns `NoMemory` if an allocation failed.
     pub fn new_space(&mut self, space: u64) -> Result<(), NoMemory>
         ensures ok { OnOk result (self.new ≡ record self.old { spaces = set.insert self.old.spaces space }) }
         ensures err { OnErr result (self.new ≡ self.old) }
@@ -79,14 +79,14 @@ impl Forest {
         self.links.add_space(space)
     }
 
-    /// The least number of a space that is not below `from`, None where there is none.
+    /// Returns the least number of a space that is at least `from`, or `None`.
     pub fn next_space(&self, from: u64) -> Option<u64>
         ensures { MatchOption result (NoSpaceFrom self.now from) (IsNextSpace self.now from) }
     {
         self.links.next_space(from)
     }
 
-    /// What the page of the space shows, None if it is not present.
+    /// Returns the mapping at a page of a space, or `None` if the page is not present.
     #[inline]
     pub fn at(&self, space: u64, page: u32) -> Option<Mapping>
         ensures shown { result ≡ shown self.now (record { space = space; page = page }) }
@@ -95,14 +95,15 @@ impl Forest {
         reading::shown_at(&self.links, Place { space, page })
     }
 
-    /// What holds of the mappings at all times: they are trees, one for each frame that is shown. It does nothing.
+    /// Ghost function: gives a proof the invariant that the mappings are trees, one for each frame that is mapped. It
+    /// compiles to nothing.
     pub fn law_forest(&self)
         ensures { IsForest self.now }
     {
         let _ = &self.links;
     }
 
-    /// The least present page of the space that is not below `page`, None where there is none.
+    /// Returns the least present page of a space that is at least `page`, or `None`.
     pub fn next_present(&self, space: u64, page: u32) -> Option<u32>
         ensures { MatchOption result (NonePresentFrom self.now space page) (IsNextPresent self.now space page) }
     {
@@ -110,23 +111,27 @@ impl Forest {
         self.links.next_key(space, page)
     }
 
-    /// Whether the used moves of a message from the one space to the other contradict each other: two
-    /// have the same target, a granted page is moved twice, or a present target is moved too or is an
-    /// ancestor of a page that is (this profile's own). It takes no memory.
+    /// Returns whether the used moves of a message from one space to the other conflict: two have the same target, a
+    /// granted page is moved twice, or a present target is itself a source or an ancestor of one (this profile's
+    /// own). Needs no memory.
     pub fn is_entangled(&self, from: u64, to: u64, moves: &[ItemMove]) -> bool
         ensures { IsTrue result ↔ IsEntangled (IsUsed self.now from to moves.now) self.now }
     {
         is_entangled(&self.links, from, to, moves)
     }
 
-    /// Moves what a message maps and grants from the one space to the other, and these are two spaces that are there, or one. Used are
-    /// the moves of pages that are present and share a right with their item. All is read before anything is changed. Each present
-    /// target of a used move goes with all its descendants. A mapped page shows the source's frame with the common rights, and has the
-    /// source as parent. A granted page takes its source's place, with the common rights: it has its parent and its children, and all that
-    /// descends from it loses the rights that the source had and it has not (L4 X.2 manual, IPC: map item, grant item).
+    /// Applies the map and grant items of a message from one space to another, or within one space. Both spaces
+    /// exist. A move is used if its source page is present and shares a right with the item; all is read before
+    /// anything changes.
     ///
-    /// `Entangled` comes where the used moves contradict each other, and else `NoMemory` may come, but only where a used target is not
-    /// present. After either, every mapping is as before.
+    /// - Each present target of a used move is removed, with everything that descends from it.
+    /// - A mapped page has the source's frame, the common rights, and the source as parent.
+    /// - A granted page takes its source's place, with the common rights: it has the source's parent and children.
+    ///   Everything that descends from it loses the rights that the grant dropped (L4 X.2 manual, IPC: map item,
+    ///   grant item).
+    ///
+    /// Errors: `Entangled` if the used moves conflict; else `NoMemory` if an allocation failed, which can happen only
+    /// if a used target is not present. After either error, every mapping is as before.
     pub fn map_all(&mut self, from: u64, to: u64, moves: &[ItemMove]) -> Result<(), Cause>
         requires from_there { IsTrue (set.contains self.old.spaces from) }
         requires to_there { IsTrue (set.contains self.old.spaces to) }
@@ -150,9 +155,8 @@ impl Forest {
         Ok(())
     }
 
-    /// Takes the rights from all that descends from the page of the space, and from that page too
-    /// where that is asked. A place goes with its last right. Nothing changes if the page is not
-    /// present.
+    /// Takes rights from everything that descends from a page, and with `with_self` from the page itself. A place
+    /// without rights is removed. Changes nothing if the page is not present.
     pub fn revoke(&mut self, from: Place, rights: Rights, with_self: bool)
         ensures revokes { Revokes from rights with_self self.old self.new }
         ensures absent { shown self.old from ≡ None → self.new ≡ self.old }
@@ -169,8 +173,8 @@ impl Forest {
         revoking::revoke_key(&mut self.links, key, rights, with_self);
     }
 
-    /// Takes the rights from all that descends from a page of the block in the space, and from these pages too
-    /// where that is asked. A place goes with its last right. Nothing changes if no page of the block is present.
+    /// Takes rights from everything that descends from the pages of a block, and with `with_self` from these pages
+    /// themselves. A place without rights is removed. Changes nothing if no page of the block is present.
     pub fn revoke_block(&mut self, space: u64, block: Block, rights: Rights, with_self: bool)
         ensures { RevokesBlock space block.first block.log rights with_self self.old self.new }
     {
@@ -180,7 +184,8 @@ impl Forest {
         revoking::revoke_pages(&mut self.links, space, block.first, end, rights, with_self);
     }
 
-    /// Ends a space: its places go with all that descends from them, and the space is there no longer. Nothing changes if it isn't there.
+    /// Removes a space: its places, and everything that descends from them, are removed. Changes nothing if the space
+    /// does not exist.
     pub fn end_space(&mut self, space: u64)
         ensures ends { EndsSpace space self.old self.new }
         ensures absent { ¬ (IsTrue (set.contains self.old.spaces space)) → self.new ≡ self.old }
@@ -193,7 +198,8 @@ impl Forest {
         self.links.law_trees();
     }
 
-    /// The place without a parent that shows the frame, None if there is none.
+    /// Returns the place without a parent where the frame is mapped, or `None`.
+    ///
     pub fn root(&self, frame: u32) -> Option<Place>
         ensures { MatchOption result ((place : Place) → ¬ (IsRoot self.now frame place)) (IsRoot self.now frame) }
     {

@@ -38,8 +38,7 @@ impl Flags for RightBits {
     }
 }
 
-/// What may be done with a page: a set out of the rights to read, to write and to execute
-/// (L4 X.2 manual, Fpages).
+/// The rights to a page: a set of read, write and execute (L4 X.2 manual, Fpages).
 #[derive(Clone, Copy, PartialEq, Eq, Debug)]
 pub struct Rights {
     set: RightBits,
@@ -61,24 +60,23 @@ impl Model for Rights {
 }
 
 impl Rights {
-    /// To read.
+    /// The right to read.
     pub const R: Rights = Rights { set: RightBits(4) };
 
-    /// To write.
+    /// The right to write.
     pub const W: Rights = Rights { set: RightBits(2) };
 
-    /// To execute.
+    /// The right to execute.
     pub const X: Rights = Rights { set: RightBits(1) };
 
-    /// The three rights, each alone: to read, to write and to execute.
+    /// Returns the three rights, each alone: read, write, execute.
     pub fn each() -> [Rights; 3]
         ensures { result ≡ set_of_bits 4 ∷ set_of_bits 2 ∷ set_of_bits 1 ∷ [] }
     {
         [Rights::R, Rights::W, Rights::X]
     }
 
-    /// The rights that the low three bits name: read is 4, write 2, execute 1. The other bits mean
-    /// nothing.
+    /// Returns the rights that the low three bits name: read is 4, write 2, execute 1. The other bits are ignored.
     pub fn of_bits(bits: u8) -> Rights
         ensures { result ≡ set_of_bits bits }
     {
@@ -87,28 +85,28 @@ impl Rights {
         }
     }
 
-    /// All three rights.
+    /// Returns all three rights.
     pub fn all() -> Rights
         ensures { result ≡ all_rights }
     {
         Rights { set: RightBits(7) }
     }
 
-    /// The bits of the set, below 8: read is 4, write 2, execute 1.
+    /// Returns the bits of the set, below 8: read is 4, write 2, execute 1.
     pub fn bits(&self) -> u8
         ensures { result ≡ bits_of self.now }
     {
         self.set.bits()
     }
 
-    /// Whether no right is in the set.
+    /// Returns whether the set is empty.
     pub fn is_empty(&self) -> bool
         ensures { result ≡ is_none self.now }
     {
         self.set.is_empty()
     }
 
-    /// Whether each right of the other set is in this one.
+    /// Returns whether this set contains every right of the other one.
     pub fn contains(self, other: Rights) -> bool
         ensures lacks { result ≡ is_none (without other self) }
         ensures within { IsTrue result ↔ Within other self }
@@ -116,7 +114,7 @@ impl Rights {
         self.set.contains(other.set)
     }
 
-    /// The rights of both.
+    /// Returns the rights that are in both sets.
     pub fn intersection(self, other: Rights) -> Rights
         ensures { result ≡ common self other }
     {
@@ -125,7 +123,7 @@ impl Rights {
         }
     }
 
-    /// The rights of either.
+    /// Returns the rights that are in either set.
     pub fn union(self, other: Rights) -> Rights
         ensures { result ≡ either self other }
     {
@@ -134,7 +132,7 @@ impl Rights {
         }
     }
 
-    /// The rights of this set that the other lacks.
+    /// Returns the rights of this set that are not in the other one.
     pub fn difference(self, other: Rights) -> Rights
         ensures { result ≡ without self other }
     {

@@ -3,9 +3,8 @@ ghost use Rattle.l4_fpage.specs.Pages.{IsBlock, InBlock, LiesIn, most_pages};
 
 use crate::{MOST_PAGES, MOST_SPACE_LOG, PageSize};
 
-/// A block of pages: 2^log of them, `log` from 0 to 22, the first page a multiple of 2^log, all of
-/// them below 2^22, of which a space with pages of 4,096 bytes has those below 2^20 (this profile's
-/// own).
+/// A block of 2^log pages, with `log` from 0 to 22. Its first page is a multiple of 2^log, and all its pages are
+/// below 2^22. A space with pages of 4,096 bytes has only those below 2^20 (this profile's own).
 #[derive(Clone, Copy, PartialEq, Eq, Debug)]
 pub struct Block {
     pub first: u32,
@@ -14,8 +13,8 @@ pub struct Block {
 }
 
 impl Block {
-    /// The block of 2^log pages from the page `first` on; `None` where `log` is above 22, `first`
-    /// is no multiple of 2^log, or a page of it is not below 2^22.
+    /// Returns the block of 2^log pages that begins at page `first`. Returns `None` if `log` is above 22, if `first`
+    /// is not a multiple of 2^log, or if a page of the block is not below 2^22.
     pub fn new(first: u32, log: u8) -> Option<Block>
         ensures valid { IsSome result ↔ IsBlock first log }
         ensures first { IfSome result (λ b. b.first ≡ first) }
@@ -30,22 +29,22 @@ impl Block {
         None
     }
 
-    /// Whether a space with pages of this size has all pages of the block.
+    /// Returns whether a space with pages of this size has all pages of the block.
     pub fn lies_in(&self, size: PageSize) -> bool
         ensures { IsTrue result ↔ LiesIn size self.now.first self.now.log }
     {
         self.first + (1 << self.log) <= size.space_pages()
     }
 
-    /// Whether the block holds this page.
+    /// Returns whether the block contains this page.
     pub fn contains(&self, page: u32) -> bool
         ensures { IsTrue result ↔ InBlock self.now.first self.now.log page }
     {
         page >= self.first && page - self.first < 1 << self.log
     }
 
-    /// The pages that both blocks hold. Two blocks are nested or disjoint: these are the pages of
-    /// one of the two, or none.
+    /// Returns the pages that are in both blocks. Two blocks are nested or disjoint, so the result is one of the two,
+    /// or `None`.
     pub fn intersection(self, other: Block) -> Option<Block>
         ensures nested { IfSome result (λ b. (b ≡ self) ⊎ (b ≡ other)) }
         ensures both { IfSome result (λ b. (page : ℕ) → InBlock b.first b.log page ↔ (InBlock self.first self.log page × InBlock other.first other.log page)) }
@@ -64,7 +63,7 @@ impl Block {
         None
     }
 
-    /// The smallest block that holds both pages.
+    /// Returns the smallest block that contains both pages.
     pub fn join(a: u32, b: u32) -> Block
         requires a { a < most_pages }
         requires b { b < most_pages }

@@ -3,7 +3,7 @@ ghost use Rattle.l4_fpage.specs.Pages.{InBlock, LiesIn, page_bytes, page_log, sp
 
 use crate::{Block, PageSize, Rights};
 
-/// The word is no fpage: its size field is 1 with a base that is not 0, 2 to 9, or 33 to 63.
+/// The word is not a valid fpage: its size field is 1 with a base other than 0, or 2 to 9, or 33 to 63.
 #[derive(Clone, Copy, PartialEq, Eq, Debug)]
 pub struct BadFpage;
 
@@ -30,8 +30,8 @@ pub enum Fpage {
 impl Fpage {
     ghost use Rattle.l4_fpage.specs.Fpages.{bytes_of, rights_of, HasPage, HoldsPage, ReadsAs, IsMalformed, fpage_word};
 
-    /// The fpage of a block's pages, which have this size: the complete one for the block of the whole
-    /// space.
+    /// Returns the fpage of a block, for pages of this size. For the block of the whole space, it is the complete
+    /// fpage.
     pub fn of_block(block: Block, size: PageSize, rights: Rights) -> Fpage
         requires { LiesIn size block.first block.log }
         ensures bytes { bytes_of result ≡ Some (record { base = block.first * page_bytes size; log = block.log + page_log size }) }
@@ -48,10 +48,11 @@ impl Fpage {
         })
     }
 
-    /// The fpage that a word names (L4 X.2 manual, Fpages). A base that is no multiple of the size
-    /// is rounded down, bit 3 means nothing, a size field of 0 is nil with any base, and one of 32
-    /// complete with any base (this profile's own). `BadFpage` comes for any other size field below
-    /// 10 or above 32, but for 1 with base 0, which is complete.
+    /// Reads the fpage that a word names (L4 X.2 manual, Fpages). This profile's own rules: a base that is not a
+    /// multiple of the size is rounded down; bit 3 is ignored; a size field of 0 is nil, and one of 32 is complete,
+    /// with any base.
+    ///
+    /// Returns `BadFpage` for any other size field below 10 or above 32, except 1 with base 0, which is complete.
     pub fn read(word: u32) -> Result<Fpage, BadFpage>
         ensures ok { IfOk result (ReadsAs word) }
         ensures err { IsErr result ↔ IsMalformed word }
@@ -73,8 +74,8 @@ impl Fpage {
         }
     }
 
-    /// The word of the fpage, which is read as this fpage and no other. The complete fpage is
-    /// written with a size field of 1, and bit 3 is zero.
+    /// Returns the word of the fpage. `read` reads it as this fpage. The complete fpage has a size field of 1, and
+    /// bit 3 is zero.
     pub fn word(&self) -> u32
         ensures value { result ≡ fpage_word self.now }
         ensures reads { ReadsAs result self.now }
@@ -90,7 +91,7 @@ impl Fpage {
         }
     }
 
-    /// The rights that the fpage names, none for the nil fpage.
+    /// Returns the rights that the fpage names. The nil fpage names none.
     pub fn rights(&self) -> Rights
         ensures { result ≡ rights_of self.now }
     {
@@ -101,8 +102,8 @@ impl Fpage {
         }
     }
 
-    /// The block of the pages of this size all of whose bytes the fpage names; `None` where it names
-    /// no whole page: for the nil fpage, and for one that is smaller than a page.
+    /// Returns the block of pages of this size that the fpage covers. Returns `None` if it covers no whole page: for
+    /// the nil fpage, and for an fpage smaller than a page.
     pub fn pages(&self, size: PageSize) -> Option<Block>
         ensures none { IsSome result ↔ MatchOption (bytes_of self.now) ⊥ (λ b. page_log size ≤ b.log) }
         ensures exact { IfSome result (λ block. MatchOption (bytes_of self.now) ⊥ (λ b. (block.first ≡ b.base / page_bytes size) × (block.log ≡ b.log - page_log size))) }

@@ -1,26 +1,26 @@
-/// The size of a machine's pages and frames, which is chosen as it boots (this profile's own).
+/// The size of a machine's pages and frames, chosen at boot (this profile's own).
 #[derive(Clone, Copy, PartialEq, Eq, Debug)]
 pub enum PageSize {
     /// 4,096 bytes: a space has 2^20 pages.
     Kib4,
-    /// 1,024 bytes, the least that an fpage has: a space has 2^22 pages.
+    /// 1,024 bytes, the smallest size of an fpage: a space has 2^22 pages.
     Kib1,
 }
 
-/// The binary logarithm of the pages of a space, at most: those of 1,024 bytes.
+/// The binary logarithm of the greatest number of pages in a space, which is reached with pages of 1,024 bytes.
 pub const MOST_SPACE_LOG: u8 = 22;
 
-/// The pages of a space, at most: 4,194,304.
+/// The greatest number of pages in a space: 4,194,304.
 pub const MOST_PAGES: u32 = 1 << MOST_SPACE_LOG;
 
-/// The frames of a machine, at most, whatever the size of its pages (this profile's own).
+/// The greatest number of frames in a machine, for either page size (this profile's own).
 pub const MAX_FRAMES: u32 = 4096;
 
 impl PageSize {
     ghost use Rattle.std.specs.Prelude.{◌≡◌, ◌*◌, ◌/◌, ◌≤◌, ◌<◌, IsSome, IfSome, MatchOption};
     ghost use Rattle.l4_fpage.specs.Pages.{page_log, page_bytes, space_log, space_pages, most_pages};
 
-    /// The binary logarithm of the bytes of a page: 12 or 10.
+    /// Returns the binary logarithm of the page size in bytes: 12 or 10.
     #[inline]
     pub fn log(self) -> u8
         ensures value { result ≡ page_log self }
@@ -33,7 +33,7 @@ impl PageSize {
         }
     }
 
-    /// The binary logarithm of the pages of a space: 20 or 22.
+    /// Returns the binary logarithm of the number of pages in a space: 20 or 22.
     #[inline]
     pub fn space_log(self) -> u8
         ensures value { result ≡ space_log self }
@@ -45,7 +45,7 @@ impl PageSize {
         }
     }
 
-    /// The pages of a space, numbered from 0: 1,048,576 or 4,194,304.
+    /// Returns the number of pages in a space: 1,048,576 or 4,194,304. Pages are numbered from 0.
     #[inline]
     pub fn space_pages(self) -> u32
         ensures value { result ≡ space_pages self }
@@ -54,7 +54,7 @@ impl PageSize {
         1 << self.space_log()
     }
 
-    /// The page of an address in bytes.
+    /// Returns the page that contains an address, given in bytes.
     #[inline]
     pub fn page_of(self, address: u32) -> u32
         ensures value { result ≡ address / page_bytes self }
@@ -63,7 +63,8 @@ impl PageSize {
         address >> self.log()
     }
 
-    /// The address of a page's first byte.
+    /// Returns the address of a page's first byte.
+    ///
     #[inline]
     pub fn address_of(self, page: u32) -> u32
         requires { page < space_pages self }

@@ -1,8 +1,8 @@
 //! Makes calls whose growth can be refused, and calls that take no memory, and tells after each all that is to be seen.
 //!
-//! Where a call is refused, that is told with all that is to be seen then, and the same call is made once more. tests/memory lets each growth
+//! Where a call is refused, that is told with all that is to be seen then, and the same call is made once more. tests/programs/memory lets each growth
 //! fail in turn: what follows a refusal has to be what was told before it, and the rest what is told with ample memory. In front of each
-//! row of calls that take no memory stands a read, from which on tests/memory refuses every growth.
+//! row of calls that take no memory stands a read, from which on tests/programs/memory refuses every growth.
 #![tactic(auto)]
 
 mod forest;

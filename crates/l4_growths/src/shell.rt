@@ -4,6 +4,7 @@ use crate::stop;
 use l4_ipc::PageSize;
 use l4_options::{OptionFault, Options, StepOptions, options, step_options};
 use l4_shell::{RunFault, run};
+use l4_sinks::Teller;
 use std::io;
 
 const FRAMES: u32 = 8;
@@ -19,7 +20,7 @@ fn run_once<R: AllocGlobal + Print>(rt: &R) -> io::Result<bool> {
         FRAMES,
         PageSize::Kib4,
         &mut script,
-        &mut io::writer(rt),
+        &mut Teller::new(io::writer(rt), false, None),
     ) {
         Ok(lines) => {
             println!(rt; "done script {lines} left {}\n.", script.len())?;

@@ -11,7 +11,7 @@ use std::marker::Model;
 use std::mem::replace;
 use std::ptr::null_mut;
 
-/// A kernel behind a pointer, or none at null.
+/// A pointer to a kernel, or null.
 #[repr(C)]
 #[derive(Drop)]
 pub struct KernelHandle {
@@ -29,7 +29,7 @@ impl Model for KernelHandle {
 }
 
 impl KernelHandle {
-    /// The handle of no kernel.
+    /// Returns an empty handle.
     fn empty() -> KernelHandle
         ensures { result.value ≡ None }
     {
@@ -59,7 +59,7 @@ impl KernelHandle {
         }
     }
 
-    /// Takes the kernel out.
+    /// Moves the kernel out of the handle, and leaves the handle empty. Returns `None` if the handle is empty.
     pub fn take(&mut self, alloc: Global) -> Option<Box<Kernel>>
         ensures taken { MatchOption result (self.old.value ≡ None) (λ kernel. self.old.value ≡ Some kernel.value) }
         ensures empty { self.new.value ≡ None }
@@ -70,7 +70,7 @@ impl KernelHandle {
         }
     }
 
-    /// Puts a kernel in.
+    /// Puts a kernel into the handle, which must be empty.
     pub fn put(&mut self, kernel: Box<Kernel>)
         requires { self.old.value ≡ None }
         ensures { self.new.value ≡ Some kernel.value }

@@ -1,4 +1,5 @@
-//! What C holds of a kernel, of a locked one and of the tables: one pointer, which is null before the making and after the freeing.
+//! The handles that C holds for a kernel, for a locked kernel and for the tables. Each is one pointer. It is null before the object is
+//! created and after it is freed.
 #![tactic(auto)]
 
 mod kernels;

@@ -11,7 +11,7 @@ use std::marker::Model;
 use std::mem::replace;
 use std::ptr::null_mut;
 
-/// A locked kernel with its seats behind a pointer, or none at null.
+/// A pointer to a locked kernel with its seats, or null.
 #[repr(C)]
 #[derive(Drop)]
 pub struct LockHandle {
@@ -27,7 +27,7 @@ impl Model for LockHandle {
 }
 
 impl LockHandle {
-    /// The handle of no locked kernel.
+    /// Returns an empty handle.
     fn empty() -> LockHandle
         ensures { result.value ≡ None }
     {
@@ -57,7 +57,7 @@ impl LockHandle {
         }
     }
 
-    /// Takes the locked kernel out.
+    /// Moves the locked kernel out of the handle, and leaves the handle empty. Returns `None` if the handle is empty.
     pub fn take(&mut self, alloc: Global) -> Option<Box<SeatedLock>>
         ensures taken { MatchOption result (self.old.value ≡ None) (λ lock. self.old.value ≡ Some lock.value) }
         ensures empty { self.new.value ≡ None }
@@ -68,7 +68,7 @@ impl LockHandle {
         }
     }
 
-    /// Puts a locked kernel in.
+    /// Puts a locked kernel into the handle, which must be empty.
     pub fn put(&mut self, lock: Box<SeatedLock>)
         requires { self.old.value ≡ None }
         ensures { self.new.value ≡ Some lock.value }

@@ -11,7 +11,7 @@ use std::marker::Model;
 use std::mem::replace;
 use std::ptr::null_mut;
 
-/// A table behind a pointer, or none at null.
+/// A pointer to a pager's table, or null.
 #[repr(C)]
 #[derive(Drop)]
 pub struct PagerHandle {
@@ -27,7 +27,7 @@ impl Model for PagerHandle {
 }
 
 impl PagerHandle {
-    /// The handle of no table.
+    /// Returns an empty handle.
     fn empty() -> PagerHandle
         ensures { result.value ≡ None }
     {
@@ -57,7 +57,7 @@ impl PagerHandle {
         }
     }
 
-    /// Takes the table out.
+    /// Moves the table out of the handle, and leaves the handle empty. Returns `None` if the handle is empty.
     pub fn take(&mut self, alloc: Global) -> Option<Box<RegionPager>>
         ensures taken { MatchOption result (self.old.value ≡ None) (λ table. self.old.value ≡ Some table.value) }
         ensures empty { self.new.value ≡ None }
@@ -68,7 +68,7 @@ impl PagerHandle {
         }
     }
 
-    /// Puts a table in.
+    /// Puts a table into the handle, which must be empty.
     pub fn put(&mut self, table: Box<RegionPager>)
         requires { self.old.value ≡ None }
         ensures { self.new.value ≡ Some table.value }

@@ -10,7 +10,7 @@ use std::marker::Model;
 use std::mem::replace;
 use std::ptr::null_mut;
 
-/// A table behind a pointer, or none at null.
+/// A pointer to sigma0's table, or null.
 #[repr(C)]
 #[derive(Drop)]
 pub struct Sigma0Handle {
@@ -26,7 +26,7 @@ impl Model for Sigma0Handle {
 }
 
 impl Sigma0Handle {
-    /// The handle of no table.
+    /// Returns an empty handle.
     fn empty() -> Sigma0Handle
         ensures { result.value ≡ None }
     {
@@ -56,7 +56,7 @@ impl Sigma0Handle {
         }
     }
 
-    /// Takes the table out.
+    /// Moves the table out of the handle, and leaves the handle empty. Returns `None` if the handle is empty.
     pub fn take(&mut self, alloc: Global) -> Option<Box<Sigma0>>
         ensures taken { MatchOption result (self.old.value ≡ None) (λ table. self.old.value ≡ Some table.value) }
         ensures empty { self.new.value ≡ None }
@@ -67,7 +67,7 @@ impl Sigma0Handle {
         }
     }
 
-    /// Puts a table in.
+    /// Puts a table into the handle, which must be empty.
     pub fn put(&mut self, table: Box<Sigma0>)
         requires { self.old.value ≡ None }
         ensures { self.new.value ≡ Some table.value }

@@ -1,4 +1,4 @@
-//! The history of a script as a list of steps.
+//! The history of a script as a step list: the output of `l4 history`.
 #![tactic(auto)]
 
 mod telling;

@@ -1,4 +1,4 @@
-//! Scripts from a reader, and the lists of their steps to a writer.
+//! Reads a script, and writes the step list of its history.
 ghost use Rattle.std.specs.Prelude.{◌≡◌, ◌≤◌, ℕ, List, true, false};
 ghost use Rattle.std.specs.List.{flat_map};
 ghost use Rattle.l4_fpage.specs.Pages.{max_frames};
@@ -39,11 +39,13 @@ fn tell_answered<W: Write>(kernel: &mut Kernel, history: &History, out: &mut Out
     }
 }
 
-/// Carries out the script that the reader gives as `run` of `l4_shell` does, and writes in place of its answers the steps of its history,
-/// each as a line that `run` of `l4_step_lines` reads. Answers the number of the script's lines.
+/// Executes the script of the reader as `run` of `l4_shell` does. Instead of its answers, writes the steps of its history, each as a line
+/// that `run` of `l4_step_lines` reads. Writes nothing before the last line was read. Returns the number of the script's lines.
 ///
-/// All goes out after the last line was read. The faults are those of `run`: before a `Read` the history of the lines before it goes out;
-/// after `Write` a beginning of it went out; `Memory` comes where there is none for a kernel, and then nothing was read or written.
+/// The caller must pass 1 to 4,096 frames.
+///
+/// Returns the faults of `run`. `Read`: a read failed, and the history of the preceding lines was written. `Write`: a write failed, and a
+/// prefix of the history was written. `Memory`: the kernel's allocation failed, and nothing was read or written.
 pub fn history<R: Read, W: Write>(
     alloc: Global,
     frames: u32,
@@ -67,8 +69,8 @@ pub fn history<R: Read, W: Write>(
     }
 }
 
-/// The same with each step's answer below it, as `run` of `l4_step_lines` gives it, behind `# `. The steps are done once more for it, on a
-/// kernel of its own.
+/// Does what `history` does, and writes the answer of `run` of `l4_step_lines` below each step, after `# `. For the answers, it executes
+/// the steps again, on a separate kernel.
 pub fn answered_history<R: Read, W: Write>(
     alloc: Global,
     frames: u32,

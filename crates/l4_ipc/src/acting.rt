@@ -339,7 +339,7 @@ fn not_running(threads: &Threads, number: u32) -> Option<Refused>
     Some(Refused::Busy)
 }
 
-/// Starts a call, and writes what that did in the place of another answer.
+/// Starts a call, and overwrites the answer that it is lent.
 #[inline(always)]
 pub fn start(
     threads: &mut Threads,
@@ -370,7 +370,7 @@ pub fn start(
     }
 }
 
-/// Starts a call, and gives what that did.
+/// Starts a call, and returns its answer.
 pub fn start_answered(
     threads: &mut Threads,
     forest: &mut Forest,
@@ -390,7 +390,7 @@ pub fn start_answered(
     }
 }
 
-/// Does a transfer that is enabled, and tells what it did, and whether the sender's call ended.
+/// Executes an enabled transfer. Returns its outcome, and whether the sender's call ended.
 #[inline(always)]
 pub fn carry_over(
     threads: &mut Threads,
@@ -429,7 +429,7 @@ pub fn carry_over(
     (outcome, ends)
 }
 
-/// The answer of a transfer.
+/// Returns the answer of a transfer.
 pub fn transfer_answer(sender: u32, receiver: u32, outcome: Outcome, ends: bool) -> Answer
     ensures { result ≡ transfer_answer sender receiver outcome ends }
 {
@@ -438,7 +438,7 @@ pub fn transfer_answer(sender: u32, receiver: u32, outcome: Outcome, ends: bool)
     Answer { outcome, ended }
 }
 
-/// Does a transfer.
+/// Executes a transfer, or refuses it if it is not enabled.
 pub fn transfer(
     threads: &mut Threads,
     forest: &mut Forest,
@@ -470,7 +470,7 @@ fn expiry(state: &Activity) -> Ending
     Ending::Failed(false, 0)
 }
 
-/// Ends a wait with a timeout of zero, and tells no more.
+/// Expires a zero timeout, without an answer.
 pub fn expire_untold(threads: &mut Threads, number: u32) -> Result<(), Refused>
     ensures ok { IfOk result (λ _. (size : APageSize) (s : Mappings) → Steps (machine size threads.old s) (Expires number) (Ok (expire_answer number)) (machine size threads.new s)) }
     ensures err { IfErr result (λ e. (size : APageSize) (s : Mappings) → Steps (machine size threads.old s) (Expires number) (Err e) (machine size threads.new s)) }
@@ -486,7 +486,7 @@ pub fn expire_untold(threads: &mut Threads, number: u32) -> Result<(), Refused>
     Ok(())
 }
 
-/// The answer of a wait that ended.
+/// Returns the answer of an expiry.
 pub fn expire_answer(number: u32) -> Answer
     ensures { result ≡ expire_answer number }
 {
@@ -496,7 +496,7 @@ pub fn expire_answer(number: u32) -> Answer
     }
 }
 
-/// Ends a wait with a timeout of zero.
+/// Expires a zero timeout, or refuses it if it is not enabled.
 pub fn expire(threads: &mut Threads, number: u32) -> Result<Answer, Refused>
     ensures { (size : APageSize) (s : Mappings) → Steps (machine size threads.old s) (Expires number) result (machine size threads.new s) }
 {

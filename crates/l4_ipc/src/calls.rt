@@ -6,15 +6,15 @@ use l4_threads::ThreadId;
 /// An Ipc: a send phase unless `to` is nilthread, and then a receive phase unless `from` is nilthread (L4 X.2 manual, Ipc).
 #[derive(Clone, Debug, PartialEq, Eq, Drop)]
 pub struct IpcCall {
-    /// To whom the message is sent.
+    /// The thread that the message is sent to.
     pub to: ThreadId,
-    /// Whose message is received: a thread's, or anythread for anybody's.
+    /// The thread whose message is received, or anythread.
     pub from: ThreadId,
     /// The send timeout in bits 31 to 16 and the receive timeout in bits 15 to 0: 0 is never and 0x0400 is zero.
     pub timeouts: u32,
     /// The receive window, as an acceptor word.
     pub acceptor: u32,
-    /// The message registers from MR0, the tag, on; those beyond the message are ignored.
+    /// The message registers from MR0, the tag. Registers beyond the message are ignored.
     pub words: ArrayVec<u32, MAX_WORDS>,
 }
 
@@ -32,52 +32,52 @@ pub struct FaultCall {
 /// An Unmap (L4 X.2 manual, Unmap).
 #[derive(Clone, Debug, PartialEq, Eq, Drop)]
 pub struct UnmapCall {
-    /// Bit 6 is f, which means the caller's own pages too, and bits 5 to 0 are k.
+    /// Bit 6 is f, which includes the caller's own pages. Bits 5 to 0 are k.
     pub control: u32,
-    /// The message registers; MR0 to MRk are fpages with the rights to revoke.
+    /// The message registers. MR0 to MRk are fpages with the rights to revoke.
     pub words: ArrayVec<u32, MAX_WORDS>,
 }
 
-/// A new thread, which runs at once.
+/// The creation of a thread, which runs at once.
 #[derive(Clone, Copy, Debug, PartialEq, Eq)]
 pub struct Create {
     /// Its global id.
     pub id: ThreadId,
     /// The thread whose space it shares, or its own id for a new space.
     pub space: ThreadId,
-    /// Its pager, which isn't tested.
+    /// Its pager, which need not exist.
     pub pager: ThreadId,
 }
 
-/// A new pager for a thread.
+/// A change of a thread's pager.
 #[derive(Clone, Copy, Debug, PartialEq, Eq)]
 pub struct SetPager {
     /// The thread.
     pub id: ThreadId,
-    /// Its pager from now on.
+    /// Its new pager.
     pub pager: ThreadId,
 }
 
-/// What a thread of the root space may ask of threads: a profile of the manual's ThreadControl.
+/// What a thread in root's space can do to threads: a profile of the manual's ThreadControl.
 #[derive(Clone, Copy, Debug, PartialEq, Eq)]
 pub enum Control {
-    /// Make a thread.
+    /// Creates a thread.
     Create(Create),
-    /// Change a thread's pager.
+    /// Changes a thread's pager.
     SetPager(SetPager),
-    /// End a thread.
+    /// Deletes a thread.
     Delete(ThreadId),
 }
 
-/// What a thread may call.
+/// A call of a thread.
 #[derive(Clone, Debug, PartialEq, Eq, Drop)]
 pub enum Call {
-    /// Send, receive or both.
+    /// Sends, receives, or both.
     Ipc(IpcCall),
-    /// Raise a page fault.
+    /// Raises a page fault.
     Fault(FaultCall),
-    /// Revoke rights.
+    /// Revokes rights.
     Unmap(UnmapCall),
-    /// Make, change or end a thread.
+    /// Creates, changes or deletes a thread.
     Control(Control),
 }

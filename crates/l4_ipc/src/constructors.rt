@@ -16,7 +16,7 @@ use l4_fpage::{Fpage, Rights};
 use l4_msg::MAX_WORDS;
 use l4_threads::ThreadId;
 
-/// The half of a timeouts word that is a timeout of zero; the half 0 is never.
+/// The half of a timeouts word for a timeout of zero. The half for never is 0.
 pub const ZERO_TIMEOUT: u32 = 0x400;
 
 /// Bit f of an Unmap's control word.
@@ -27,7 +27,7 @@ const OWN: u32 = 0x40;
 pub enum Timeout {
     /// Until the partner comes.
     Never,
-    /// Not at all: where the partner isn't there, the wait may end with ErrorCode 2 or 3.
+    /// Not at all: if the partner is not ready, the call can expire, with ErrorCode 2 or 3.
     Zero,
 }
 
@@ -91,7 +91,8 @@ fn unmap_control(own: bool, fpages: &[Fpage]) -> u32
 }
 
 impl Call {
-    /// Sends the message of these registers, MR0 first, and receives nothing (L4 X.2 manual, Send).
+    /// Returns the call that sends the message in these registers, MR0 first, and receives nothing (L4 X.2 manual,
+    /// Send).
     pub fn send(to: ThreadId, words: ArrayVec<u32, MAX_WORDS>, timeout: Timeout) -> Call
         ensures value { result ≡ Ipc (ipc_call to nilthread timeout Timeout.Never NilFpage words.items) }
         ensures timely { HasGoodTimeouts result }
@@ -100,8 +101,8 @@ impl Call {
         Call::Ipc(make_ipc(to, ThreadId::nil(), timeouts, Fpage::Nil, words))
     }
 
-    /// Receives a message of this thread, or of anybody where that is anythread, and accepts pages in the window, whose rights
-    /// mean nothing (L4 X.2 manual, Receive and Wait).
+    /// Returns the call that receives a message from this thread, or from any thread if `from` is anythread, and
+    /// accepts pages in the window. The window's rights are ignored (L4 X.2 manual, Receive and Wait).
     pub fn receive(from: ThreadId, window: Fpage, timeout: Timeout) -> Call
         ensures value { result ≡ Ipc (ipc_call nilthread from Timeout.Never timeout window []) }
         ensures timely { HasGoodTimeouts result }
@@ -110,8 +111,8 @@ impl Call {
         Call::Ipc(make_ipc(ThreadId::nil(), from, timeouts, window, ArrayVec::new()))
     }
 
-    /// Sends the message to a thread and receives that thread's answer, with the send timeout and the receive timeout (L4 X.2
-    /// manual, Call).
+    /// Returns the call that sends the message to a thread, and receives that thread's answer, with a send timeout
+    /// and a receive timeout (L4 X.2 manual, Call).
     pub fn call(
         to: ThreadId,
         words: ArrayVec<u32, MAX_WORDS>,
@@ -125,8 +126,8 @@ impl Call {
         Call::Ipc(make_ipc(to, to, (send, receive), window, words))
     }
 
-    /// Sends the message to a thread, and then receives anybody's, with the send timeout and the receive timeout (L4 X.2 manual,
-    /// ReplyWait).
+    /// Returns the call that sends the message to a thread, and then receives from any thread, with a send timeout
+    /// and a receive timeout (L4 X.2 manual, ReplyWait).
     pub fn reply_and_wait(
         to: ThreadId,
         words: ArrayVec<u32, MAX_WORDS>,
@@ -141,8 +142,8 @@ impl Call {
         Call::Ipc(make_ipc(to, ThreadId::any(), timeouts, window, words))
     }
 
-    /// Raises a page fault: an access that was tried at an address, in bytes, by the instruction at `ip` (L4 X.2 manual, page
-    /// fault protocol).
+    /// Returns the call that raises a page fault: the instruction at `ip` tried this access at an address, in bytes
+    /// (L4 X.2 manual, page fault protocol).
     pub fn fault(address: u32, ip: u32, access: Rights) -> Call
         ensures { result ≡ Faults (record { address = address; ip = ip; access = access }) }
     {
@@ -153,8 +154,9 @@ impl Call {
         })
     }
 
-    /// Takes the rights that 1 to 64 fpages name from all that was mapped from the caller's pages in them, and with `own` from
-    /// those pages too (L4 X.2 manual, Unmap). None for no fpage and for more than 64.
+    /// Returns the Unmap of 1 to 64 fpages: it takes the rights that they name from everything that was mapped from
+    /// the caller's pages in them, and with `own` from these pages too (L4 X.2 manual, Unmap). Returns `None` for no
+    /// fpage, or for more than 64.
     pub fn unmap(own: bool, fpages: &[Fpage]) -> Option<Call>
         ensures { MatchOption result ((length fpages.now ≡ 0) ⊎ (max_words < length fpages.now)) (IsUnmapOf own fpages.now) }
     {
@@ -167,22 +169,22 @@ impl Call {
         }))
     }
 
-    /// Makes a thread of this id, in the space of the thread `space` or, where that is the id itself, in a new space (L4 X.2
-    /// manual, ThreadControl).
+    /// Returns the call that creates a thread with this id, in the space of the thread `space`, or in a new space if
+    /// `space` is the id itself (L4 X.2 manual, ThreadControl).
     pub fn create(id: ThreadId, space: ThreadId, pager: ThreadId) -> Call
         ensures { result ≡ Controls (Creates (record { id = id; space = space; pager = pager })) }
     {
         Call::Control(Control::Create(Create { id, space, pager }))
     }
 
-    /// Gives a thread another pager (L4 X.2 manual, ThreadControl).
+    /// Returns the call that gives a thread another pager (L4 X.2 manual, ThreadControl).
     pub fn set_pager(id: ThreadId, pager: ThreadId) -> Call
         ensures { result ≡ Controls (SetsPager (record { id = id; pager = pager })) }
     {
         Call::Control(Control::SetPager(SetPager { id, pager }))
     }
 
-    /// Ends a thread (L4 X.2 manual, ThreadControl).
+    /// Returns the call that deletes a thread (L4 X.2 manual, ThreadControl).
     pub fn delete(id: ThreadId) -> Call
         ensures { result ≡ Controls (Deletes id) }
     {

@@ -35,8 +35,9 @@ fn caller_first(number: u32, others: ArrayVec<u32, MAX_THREADS>) -> ArrayVec<u32
     ended
 }
 
-/// Deletes a thread for a running thread, and writes whose calls ended in the place of another answer. It is apart, as the list of a deletion has room
-/// for the numbers of all threads, which no other call is to clear.
+/// Deletes a thread for a running thread, and overwrites the answer that it is lent with the threads whose calls
+/// ended. It is a function of its own because its list has room for all threads, and no other call should clear that
+/// room.
 #[inline(never)]
 pub fn delete(
     threads: &mut Threads,

@@ -29,7 +29,7 @@ use l4_fpage::{Block, Fpage, PageSize, Rights};
 use l4_msg::{Item, MAX_ITEMS, Move, item_moves};
 use l4_threads::{Envelope, Receiving, Sending, Thread, Threads};
 
-/// The two threads of an enabled transfer, and what each does.
+/// The two threads of an enabled transfer, and the state of each.
 #[derive(Clone, Copy)]
 pub struct Meeting<'a> {
     pub from: &'a Thread,
@@ -38,7 +38,8 @@ pub struct Meeting<'a> {
     pub takes: &'a Receiving,
 }
 
-/// The two threads of a transfer, if the one sends and the other receives, as they do where it is enabled.
+/// Returns the two threads of a transfer if the one is sending and the other is receiving, which holds if the
+/// transfer is enabled.
 pub fn meet(threads: &Threads, sender: u32, receiver: u32) -> Option<Meeting<'_>>
     ensures { MatchOption result (¬ (IsFirstSender threads.now receiver sender))
         (λ m. IsFirstSender threads.now receiver sender → Meets threads.now sender receiver m.from.now m.to.now m.sends.now m.takes.now) }
@@ -55,14 +56,14 @@ pub fn meet(threads: &Threads, sender: u32, receiver: u32) -> Option<Meeting<'_>
     })
 }
 
-/// Whether the message was delivered.
+/// Returns whether the message was delivered.
 pub fn is_done(outcome: Outcome) -> bool
     ensures { result ≡ is_done outcome }
 {
     outcome == Outcome::Done
 }
 
-/// The tag of a message's words.
+/// Returns the tag of a message's words.
 pub fn tag_of(words: &[u32]) -> u32
     ensures { result ≡ slice_index words.now 0 }
 {
@@ -72,7 +73,7 @@ pub fn tag_of(words: &[u32]) -> u32
     }
 }
 
-/// How the receiver's call ends; None where it replies the message.
+/// Returns how the receiver's call ends, or `None` if its reply is the message.
 pub fn receiver_ending(done: bool, takes: &Receiving) -> Option<Ending>
     ensures { (from : AThread) (sends : ASending) → reply_or result (message_reply from sends) ≡ receiver_reply done from sends takes.now }
 {
@@ -85,7 +86,7 @@ pub fn receiver_ending(done: bool, takes: &Receiving) -> Option<Ending>
     None
 }
 
-/// The receiver's call ends, and where nothing else is said with what the sender sends to it.
+/// Ends the receiver's call, by default with the message of the sender.
 #[inline(always)]
 pub fn end_receiver(
     threads: &mut Threads,
@@ -105,7 +106,7 @@ pub fn end_receiver(
     }
 }
 
-/// What the sender does next.
+/// Returns what the sender does next.
 pub fn sender_turn(done: bool, threads: &Threads, sends: &Sending) -> Turn
     ensures { next_of result ≡ sender_next done threads.now sends.now }
 {
@@ -214,7 +215,7 @@ fn move_listed(
     move_pages(forest, from, to, moves.as_slice())
 }
 
-/// Moves the pages of a message from the one space to the other, two that are there.
+/// Moves the pages of a message from one space to the other. Both spaces exist.
 #[inline(always)]
 pub fn deliver(
     forest: &mut Forest,

@@ -87,7 +87,7 @@ fn tell(threads: &mut Threads, number: u32, pager: ThreadId, call: &FaultCall, t
     threads.start_message(number, &words, &[], phase);
 }
 
-/// A running thread faults. Whether its call ended.
+/// Raises a page fault of a running thread. Returns whether its call ended.
 pub fn enter_fault(
     threads: &mut Threads,
     forest: &Forest,

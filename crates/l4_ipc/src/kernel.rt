@@ -13,7 +13,7 @@ use l4_threads::{ROOT_SPACE, Reply, Thread, Threads};
 use std::alloc::Global;
 use std::marker::Model;
 
-/// The kernel: its threads and the mappings of their spaces.
+/// The kernel: threads and their states, the queue of senders, and the mappings of every space.
 #[derive(Drop)]
 pub struct Kernel {
     threads: Threads,
@@ -57,10 +57,11 @@ impl Kernel {
     ghost use Rattle.l4_ipc.specs.declared.steps.Lower.TheVariants.{NoMemory as WantOfMemory};
     ghost use Rattle.l4_ipc.specs.declared.steps.Step.TheVariants.{Start};
 
-    /// The kernel as it boots, with pages and frames of this size: sigma0 is thread 1 in space 0, which shows each frame below `frames` at the page of its number with
-    /// all rights, and root is thread 2 in space 1, which shows none. There are 1 to 4,096 frames.
+    /// Boots a kernel with 1 to 4,096 page frames, and pages of this size. sigma0 is thread 1 in space 0, where frame
+    /// *i* is mapped at page *i* with all rights. Root is thread 2 in space 1, which is empty.
     ///
-    /// `BadFrames` (K6) comes for any other number, and then `Lower(NoMemory)` where a growth was refused.
+    /// Errors, in this order: `BadFrames` (K6) for any other number of frames; `Lower(NoMemory)` if an allocation
+    /// failed.
     pub fn boot(alloc: Global, frames: u32, size: PageSize) -> Result<Kernel, Refused>
         ensures { MatchResult result
             (λ m. (1 ≤ frames) × (frames ≤ max_frames) × (m.size ≡ size) × IsBoot frames m)
@@ -86,11 +87,12 @@ impl Kernel {
         }
     }
 
-    /// The same machine, in memory of its own: each thread with what it is doing and its message registers, the queue of senders, each
-    /// space, and what each page shows. What is done with the one is not seen in the other, so a run can be taken both ways.
+    /// Copies the kernel: threads with their states and message registers, the queue of senders, and the mappings of
+    /// every space. The copy has its own memory, and shares nothing with the original, so you can continue a run in
+    /// two ways.
     ///
-    /// `NoMemory` comes where a growth was refused, and then there is no copy; the kernel itself stays as it is. A copy takes memory for
-    /// the most pages that were ever present at once, and not for what there is room for.
+    /// Returns `NoMemory` if an allocation failed. The kernel does not change. A copy takes memory for the greatest
+    /// number of pages that were ever present at once.
     pub fn copy(&self) -> Result<Kernel, NoMemory>
         ensures { IfOk result (λ copy. copy ≡ self.now) }
     {
@@ -104,12 +106,13 @@ impl Kernel {
         })
     }
 
-    /// Does one step, and says what it did and whose calls ended in it, or why it is refused. A refused step changes nothing.
+    /// Executes one step. Returns its outcome and the threads whose calls ended in it. A refused step changes
+    /// nothing.
     ///
-    /// The refusals of a Start, in this order: `UnknownThread` (K2), `Busy` (K3), `BadTimeout` (K4), `Lower` (K5) with the first
-    /// refusal of the message, of the window, of the fpages of an Unmap, or of a control of threads, and last `Lower(NoMemory)` of a
-    /// Create in a new space. A Fault of a running thread is never refused. A Transfer or an Expire that is not enabled is `NotEnabled`
-    /// (K1).
+    /// Errors of a Start, in this order: `UnknownThread` (K2), `Busy` (K3), `BadTimeout` (K4), `Lower` (K5) with the
+    /// first refusal of the message, of the window, of the fpages of an Unmap, or of a thread control, and last
+    /// `Lower(NoMemory)` of a Create in a new space. A Fault of a running thread is never refused. A Transfer or an
+    /// Expire that is not enabled is `NotEnabled` (K1).
     pub fn step(&mut self, step: &Step) -> Result<Answer, Refused>
         ensures { Steps self.old step.now result self.new }
     {
@@ -132,8 +135,8 @@ impl Kernel {
         }
     }
 
-    /// Does the step that starts this call, and writes what that did in the place that is lent, whatever stood there. `step` says what it
-    /// refuses; then nothing is said of the place.
+    /// Executes the step that starts this call, and overwrites the answer that it is lent. Its errors are those of
+    /// `step`. After an error, the content of the lent answer is unspecified.
     pub fn start(&mut self, number: u32, call: &Call, answer: &mut Answer) -> Result<(), Refused>
         ensures ok { IfOk result (λ _. Steps self.old (Start number call.now) (Ok answer.new) self.new) }
         ensures err { IfErr result (λ e. Steps self.old (Start number call.now) (Err e) self.new) }
@@ -148,33 +151,35 @@ impl Kernel {
         )
     }
 
-    /// What holds of the threads at all times: the queue is a strict order of the senders. It does nothing.
+    /// Ghost function: gives a proof the invariant that the queue is a strict order of the senders. It compiles to
+    /// nothing.
     pub fn law_consistent(&self)
         ensures { IsConsistent self.now.threads }
     {
         self.threads.law_consistent();
     }
 
-    /// The mappings are a forest at all times: a child's rights lie within its parent's, and all places of a frame are one tree. It
-    /// does nothing.
+    /// Ghost function: gives a proof the invariant that the mappings are a forest. The rights of a child are within
+    /// those of its parent, and all places of a frame form one tree. It compiles to nothing.
     pub fn law_forest(&self)
         ensures { IsForest self.now.mappings }
     {
         self.forest.law_forest();
     }
 
-    /// Each present page is one of a space's at all times, by the size of the pages. It does nothing.
+    /// Ghost function: gives a proof the invariant that each present page is below the number of pages in a space. It
+    /// compiles to nothing.
     pub fn law_pages(&self)
         ensures { FitIn self.now.size self.now.mappings }
     {
         let _ = &self.size;
     }
 
-    /// Does some steps one after another, and gives their answers and refusals in order. Room for all of them is made first; where that
-    /// is refused, nothing is done.
+    /// Executes steps one after another, and returns their answers and refusals in order. Room for all of them is
+    /// allocated first; if that fails, it returns `NoMemory` and executes nothing.
     ///
-    /// Of delegations: each delivered message of a plan moves exactly its part of the region. The parts are disjoint and together the
-    /// region, and no fewer items or messages move it.
+    /// For delegations: each delivered message of a plan moves exactly its part of the region. The parts are
+    /// disjoint, and together they are the region. No fewer items or messages move it.
     pub fn run(&mut self, steps: &[Step]) -> Result<Vec<Result<Answer, Refused>>, NoMemory>
         ensures ok { IfOk result (λ answers. Run self.old steps.now answers.items self.new) }
         ensures err { OnErr result (self.new ≡ self.old) }
@@ -195,8 +200,8 @@ impl Kernel {
         Ok(answers)
     }
 
-    /// The step that comes next where no call is started: the enabled Transfer whose sender stands first in the queue, and where there
-    /// is none the enabled Expire of the least number. None where no Transfer and no Expire is enabled.
+    /// Returns the next step: the enabled Transfer whose sender is first in the queue; if there is none, the enabled
+    /// Expire of the thread with the least number. Returns `None` if no Transfer and no Expire is enabled.
     pub fn enabled(&self) -> Option<Step>
         ensures { MatchOption result (IsIdle self.now) (IsNext self.now) }
     {
@@ -207,8 +212,9 @@ impl Kernel {
         Some(Step::Expire(number))
     }
 
-    /// Does the step that comes next, as `enabled` names it, and tells what it did without a list of threads. None where none is enabled:
-    /// then nothing that is seen changes, and it is remembered, so that of the next call that waits alone is asked whether it may act.
+    /// Executes the next step, which `enabled` names, and returns it with its answer, without a list of threads.
+    /// Returns `None` if no step is enabled. The kernel remembers this, so that after the next call it tests only the
+    /// thread that then waits.
     pub fn next(&mut self) -> Option<NextStep>
         ensures { MatchOption result (IsIdle self.old × (self.new ≡ self.old))
             (λ done. IsNext self.old (step_of done) × Steps self.old (step_of done) (Ok (answer_of done)) self.new) }
@@ -234,14 +240,14 @@ impl Kernel {
         Some(NextStep::Expire(number))
     }
 
-    /// The reply of the last ended call of a thread that runs.
+    /// Returns the reply of the last ended call of a running thread.
     pub fn reply(&self, number: u32) -> Option<&Reply>
         ensures { option_copied result ≡ reply_of self.now.threads number }
     {
         self.threads.state(number)?.last_reply()
     }
 
-    /// Whether there is a thread of this number that runs: it waits for nobody.
+    /// Returns whether there is a thread with this number that is running, that is, not waiting.
     pub fn runs(&self, number: u32) -> bool
         ensures { result ≡ runs self.now.threads number }
     {
@@ -251,42 +257,42 @@ impl Kernel {
         }
     }
 
-    /// The space of a thread.
+    /// Returns the number of a thread's space.
     pub fn space_of(&self, number: u32) -> Option<u64>
         ensures { result ≡ space_of self.now.threads number }
     {
         self.threads.space_of(number)
     }
 
-    /// The thread of a number: its space, and what it is doing.
+    /// Returns the thread with this number: its id, space, pager and state.
     pub fn thread(&self, number: u32) -> Option<&Thread>
         ensures { option_copied result ≡ thread_at self.now.threads number }
     {
         self.threads.thread(number)
     }
 
-    /// The least number of a thread that is not below `from`, None where there is none.
+    /// Returns the least number of a thread that is at least `from`, or `None`.
     pub fn next_thread(&self, from: u32) -> Option<u32>
         ensures { MatchOption result (NoThreadFrom self.now.threads from) (IsNextThread self.now.threads from) }
     {
         self.threads.next_thread(from)
     }
 
-    /// The least number of a space that is not below `from`, None where there is none.
+    /// Returns the least number of a space that is at least `from`, or `None`.
     pub fn next_space(&self, from: u64) -> Option<u64>
         ensures { MatchOption result (NoSpaceFrom self.now.mappings from) (IsNextSpace self.now.mappings from) }
     {
         self.forest.next_space(from)
     }
 
-    /// The size of the pages and frames, as it was chosen at boot.
+    /// Returns the size of pages and frames, which was chosen at boot.
     pub fn page_size(&self) -> PageSize
         ensures { result ≡ self.now.size }
     {
         self.size
     }
 
-    /// What a page of a space shows; None where it is not present.
+    /// Returns the mapping at a page of a space, or `None` if the page is not present.
     #[inline]
     pub fn mapping(&self, space: u64, page: u32) -> Option<Mapping>
         ensures { result ≡ shown self.now.mappings (record { space = space; page = page }) }
@@ -294,7 +300,7 @@ impl Kernel {
         self.forest.at(space, page)
     }
 
-    /// The least present page of a space that is not below `page`.
+    /// Returns the least present page of a space that is at least `page`, or `None`.
     pub fn next_page(&self, space: u64, page: u32) -> Option<u32>
         ensures { MatchOption result (NonePresentFrom self.now.mappings space page) (IsNextPresent self.now.mappings space page) }
     {

@@ -5,8 +5,8 @@ use l4_threads::{Receiving, Reply, Sending};
 pub enum Next {
     /// Its call ends with this reply.
     Ends(Reply),
-    /// It sends.
+    /// It is sending.
     Sends(Sending),
-    /// It receives.
+    /// It is receiving.
     Receives(Receiving),
 }

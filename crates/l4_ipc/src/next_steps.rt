@@ -6,7 +6,7 @@ use crate::acting::{expire_answer, transfer_answer};
 use crate::steps::{Answer, NextStep, Step};
 
 impl NextStep {
-    /// The step.
+    /// Returns the step.
     pub fn step(self) -> Step
         ensures { result ≡ step_of self }
     {
@@ -16,7 +16,7 @@ impl NextStep {
         }
     }
 
-    /// What it did, and whose calls ended in it.
+    /// Returns its outcome, and the threads whose calls ended in it.
     pub fn answer(self) -> Answer
         ensures { result ≡ answer_of self }
     {

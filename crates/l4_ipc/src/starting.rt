@@ -33,7 +33,7 @@ fn receiving(threads: &Threads, later: Later, fault: bool) -> Turn
     })
 }
 
-/// What a thread does once it has sent, or where there is nothing to send.
+/// Returns what a thread does after its send phase, or if it has none.
 pub fn going_on(threads: &Threads, later: Option<Later>, fault: bool) -> Turn
     ensures { next_of result ≡ going_on threads.now later fault }
 {
@@ -43,7 +43,7 @@ pub fn going_on(threads: &Threads, later: Option<Later>, fault: bool) -> Turn
     }
 }
 
-/// The partner of a send phase: a thread other than the caller; anythread names nobody.
+/// Returns the partner of a send phase, a thread other than the caller. Anythread names no partner.
 pub fn partner(threads: &Threads, caller: u32, id: ThreadId) -> Option<u32>
     ensures { result ≡ partner threads.now caller id }
 {
@@ -70,7 +70,7 @@ fn end_bare(threads: &mut Threads, number: u32, tag: u32, error: u32)
     threads.end_ipc(number, envelope, &[]);
 }
 
-/// The thread's call ends.
+/// Ends the thread's call.
 pub fn end(threads: &mut Threads, number: u32, ending: Ending)
     requires { IsSome (state_of threads.old number) }
     ensures { threads.new ≡ end_call threads.old number (reply_of ending) }
@@ -84,7 +84,7 @@ pub fn end(threads: &mut Threads, number: u32, ending: Ending)
     }
 }
 
-/// The thread does this next. Whether its call ended.
+/// Puts the thread into its next state. Returns whether its call ended.
 #[inline(always)]
 pub fn enter(threads: &mut Threads, number: u32, turn: Turn) -> bool
     requires { CanEnter threads.old number (next_of turn) }

@@ -4,80 +4,80 @@ use l4_msg::MsgFault;
 use l4_threads::{MAX_THREADS, ThreadFault};
 use l4_unmap::UnmapFault;
 
-/// One atomic step of the kernel; threads go by their numbers.
+/// One atomic step of the kernel. It names threads by their numbers.
 #[derive(Clone, Debug, PartialEq, Eq, Drop)]
 pub enum Step {
-    /// The thread enters a call.
+    /// The thread starts a call.
     Start(u32, Call),
-    /// The first thread's message goes to the second.
+    /// The first thread's message is delivered to the second.
     Transfer(u32, u32),
-    /// The thread's wait with a timeout of zero ends.
+    /// The thread's zero timeout expires.
     Expire(u32),
 }
 
-/// What a step did.
+/// The outcome of a step.
 #[derive(Clone, Copy, Debug, PartialEq, Eq)]
 pub enum Outcome {
-    /// A call was entered.
+    /// A call was started.
     Started,
-    /// The message was delivered, and its used moves were done.
+    /// The message was delivered, with its pages.
     Done,
-    /// The message has items and the receiver's window is nil: both calls failed.
+    /// The message has items, and the receiver's window is nil. Both calls failed.
     NoWindow,
-    /// The message's moves contradict each other: both calls failed, and no page moved.
+    /// The message's items conflict. Both calls failed, and no page moved.
     Entangled,
-    /// A growth was refused: both calls failed, and no page moved.
+    /// An allocation failed. Both calls failed, and no page moved.
     NoMemory,
-    /// A wait ended.
+    /// A zero timeout expired.
     Expired,
 }
 
-/// What a step did, and whose calls ended in it.
+/// The answer to a step: its outcome, and the threads whose calls ended in it.
 #[derive(Clone, Debug, PartialEq, Eq, Drop)]
 pub struct Answer {
     /// What the step did.
     pub outcome: Outcome,
-    /// The numbers of the threads whose calls ended: of a Transfer the sender and then the receiver; of a Delete the caller and
-    /// then the others by rising number.
+    /// The numbers of the threads whose calls ended. For a Transfer, the sender comes before the receiver. For a
+    /// Delete, the caller comes first, and then the others by rising number.
     pub ended: ArrayVec<u32, MAX_THREADS>,
 }
 
-/// A step that came next and was done: a Transfer or an Expire, told without a list of threads.
+/// A next step that was executed, a Transfer or an Expire, without a list of threads.
 #[derive(Clone, Copy, Debug, PartialEq, Eq)]
 pub enum NextStep {
-    /// The first thread's message went to the second, or what else the outcome says. The second thread's call ended, and where it is
-    /// true the first one's too.
+    /// A transfer from the first thread to the second, with its outcome. The call of the second thread ended; if the
+    /// flag is true, so did the call of the first one.
     Transfer(u32, u32, Outcome, bool),
-    /// The thread's wait with a timeout of zero ended.
+    /// The thread's zero timeout expired.
     Expire(u32),
 }
 
-/// A refusal that comes from below the kernel's steps.
+/// A refusal from a layer below the kernel's steps.
 #[derive(Clone, Copy, Debug, PartialEq, Eq)]
 pub enum Lower {
     /// M1 to M7: the message or the window is refused.
     Message(MsgFault),
-    /// U1, U2: the fpages of an Unmap are refused.
+    /// U1, U2: the words of an Unmap are refused.
     Unmap(UnmapFault),
-    /// H1 to H6: the control of a thread is refused.
+    /// H1 to H6: the thread control is refused.
     Thread(ThreadFault),
-    /// A growth was refused, of `boot` or of a Create of a new space.
+    /// An allocation failed, at boot or in a Create in a new space.
     NoMemory,
 }
 
-/// Why a step is refused. A refused step changes nothing.
+/// The reason why a step is refused. A refused step changes nothing.
 #[derive(Clone, Copy, Debug, PartialEq, Eq)]
 pub enum Refused {
-    /// K1: a Transfer or an Expire that is not enabled.
+    /// K1: the Transfer or Expire is not enabled.
     NotEnabled,
-    /// K2: a Start of a thread that isn't there.
+    /// K2: there is no thread with this number to start a call.
     UnknownThread,
-    /// K3: a Start of a thread that isn't running.
+    /// K3: the thread is waiting, so it cannot start a call.
     Busy,
-    /// K4: the timeout of a phase that the call has is neither never nor zero.
+    /// K4: the timeout of one of the call's phases is neither never nor zero.
     BadTimeout,
-    /// K5: a refusal from below.
+    /// K5: a refusal from a lower layer.
     Lower(Lower),
-    /// K6: fewer than 1 or more than 4,096 frames at the boot.
+    /// K6: fewer than 1 or more than 4,096 frames at boot.
     BadFrames,
 }

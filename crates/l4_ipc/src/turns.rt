@@ -1,33 +1,33 @@
 use l4_threads::{Receiving, ThreadId};
 
-/// How a call ends whose reply has no words.
+/// The end of a call whose reply has no words.
 #[derive(Clone, Copy)]
 pub enum Ending {
-    /// An Ipc that moved nothing and names nobody.
+    /// An Ipc without a received message.
     Plain,
     /// A call that failed with this ErrorCode, a page fault or an Ipc.
     Failed(bool, u32),
-    /// A fault that the pager answered.
+    /// A page fault that the pager answered.
     Answered,
-    /// A fault at a page that is there.
+    /// A page fault at a page that is present with the needed rights.
     Hit,
 }
 
-/// What a thread does next where it doesn't send. It is small, so that it can be moved about.
+/// What a thread does next if it does not send. The type is small, so that it is cheap to pass by value.
 #[derive(Clone, Copy)]
 pub enum Turn {
     /// Its call ends.
     Ends(Ending),
-    /// It receives.
+    /// It is receiving.
     Receives(Receiving),
 }
 
-/// What a thread does as it faults.
+/// What a thread does when it faults.
 #[derive(Clone, Copy)]
 pub enum FaultTurn {
     /// Its call ends.
     Ends(Ending),
-    /// It tells the fault to its pager, the thread of this number.
+    /// It reports the fault to its pager, the thread with this number.
     Tells(u32),
 }
 
@@ -35,8 +35,9 @@ pub enum FaultTurn {
 #[derive(Clone, Copy)]
 pub struct FaultingThread {
     pub number: u32,
-    /// The space that shows the page or not.
+    /// The space of the fault.
     pub space: u64,
-    /// Who is told of the fault.
+    /// The pager that the fault is reported to.
+    ///
     pub pager: ThreadId,
 }

@@ -1,5 +1,5 @@
 //! Reads a script on standard input, with the options of `l4_steps`, and has `check_provenance` judge what `provenance` finds of each page that
-//! a space but sigma0's has at the end, and of the page behind each: tests/pages gives it random scripts.
+//! a space but sigma0's has at the end, and of the page behind each: tests/random/pages gives it random scripts.
 //!
 //! Exit statuses: 0 where all is right, 1 where something isn't; else those of `l4 run`.
 #![tactic(auto)]
@@ -9,9 +9,7 @@ ghost use Rattle.l4_fpage.specs.Pages.{max_frames};
 
 use l4_fpage::PageSize;
 use l4_ipc::{Kernel, MOST_PAGES, Place};
-use l4_options::{
-    STANDARD_INPUT, StepOptions, command_words, misread, show, status_of, step_options, stopped,
-};
+use l4_options::{StepOptions, command_words, misread, show, status_of, step_options, stopped};
 use l4_provenance::{provenance, replay};
 use l4_provenance_check::check_provenance;
 use l4_record::History;
@@ -101,13 +99,13 @@ fn judge_script<R: AllocGlobal + Input + Print + Eprint>(rt: &R, frames: u32, si
     requires fit { frames ≤ max_frames }
 {
     let Some((history, _)) = record(rt.alloc(), frames, size, &mut rt.reader()) else {
-        return stopped(rt, RunFault::Memory, STANDARD_INPUT);
+        return stopped(rt, RunFault::Memory, None, None);
     };
     let Ok(mut kernel) = Kernel::boot(rt.alloc(), frames, size) else {
-        return stopped(rt, RunFault::Memory, STANDARD_INPUT);
+        return stopped(rt, RunFault::Memory, None, None);
     };
     if replay(&mut kernel, &history).is_err() {
-        return stopped(rt, RunFault::Memory, STANDARD_INPUT);
+        return stopped(rt, RunFault::Memory, None, None);
     }
     let ended = Ended {
         frames,
@@ -120,8 +118,8 @@ fn judge_script<R: AllocGlobal + Input + Print + Eprint>(rt: &R, frames: u32, si
         "{} pages, {} links, {} wrong",
         counts.pages, counts.links, counts.wrong
     );
-    if told.is_err() {
-        return stopped(rt, RunFault::Write, STANDARD_INPUT);
+    if let Err(error) = told {
+        return stopped(rt, RunFault::Write, None, Some(error));
     }
     if counts.wrong == 0 { 0 } else { WRONG }
 }

@@ -8,6 +8,6 @@ pub mod Counting
 pub mod Openings
 pub mod Taking
 pub mod Back
-pub mod Packing
+pub mod RoundTrip
 pub mod Appending
 pub mod Gates

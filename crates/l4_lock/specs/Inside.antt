@@ -2,4 +2,4 @@ pub mod Accounts
 pub mod Closing
 pub mod Entering
 pub mod Noting
-pub mod Packing
+pub mod Words

@@ -6,12 +6,12 @@ mod closing;
 mod copies;
 mod entries;
 mod locked;
-mod packed;
 mod receipts;
 mod refusals;
 mod seats;
 mod shared;
 mod steps;
+mod words;
 
 pub use closing::{Mismatch, Unclosed};
 pub use entries::Receipt;

@@ -4,19 +4,19 @@ ghost use Rattle.l4_lock.specs.Books.{receipt};
 ghost use Rattle.l4_lock.specs.Lists.{ReceiptList, receipt_list};
 
 use crate::entries::{Ended, Receipt};
-use crate::packed::write_receipt;
+use crate::words::write_receipt;
 use l4_ipc::{Call, Reply};
-use l4_packed::{ItemsFrom, PackedList, Record};
+use l4_journal::{ItemsFrom, Journal, Record};
 use std::alloc::{AllocError, Global};
 use std::marker::Model;
 
 /// Receipts of a seat, one after another. Contracts see those that are left.
 pub type ReceiptsFrom<'a> = ItemsFrom<'a, Receipt>;
 
-/// The receipts of a seat, in the order in which it got them. They are stored packed.
+/// The receipts of a seat, in the order in which it got them. They are stored as words.
 #[derive(Drop)]
 pub struct Receipts {
-    receipts: PackedList<Receipt>,
+    receipts: Journal<Receipt>,
 }
 
 impl Model for Receipts {
@@ -33,7 +33,7 @@ impl Receipts {
         ensures { (result.items ≡ []) × (result.room < 2 ^ 63) }
     {
         Receipts {
-            receipts: PackedList::new(alloc),
+            receipts: Journal::new(alloc),
         }
     }
 
@@ -81,9 +81,9 @@ impl Receipts {
         ensures items { self.new.items ≡ self.old.items ++ receipt call.now start ended.now ∷ [] }
         ensures room { (length self.new.items ≡ length self.old.items + 1) × (self.new.room ≡ self.old.room) }
     {
-        let mut packed = Record::new();
-        write_receipt(&mut packed, call, start, ended.entry, &ended.reply);
-        self.receipts.push(&packed.words());
+        let mut record = Record::new();
+        write_receipt(&mut record, call, start, ended.entry, &ended.reply);
+        self.receipts.push(&[], record.as_slice());
     }
 
     /// Whether these are the same receipts.

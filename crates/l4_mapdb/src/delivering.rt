@@ -84,7 +84,8 @@ fn deliver_short(links: &mut Links, from: u64, to: u64, items: &[ItemMove]) -> R
     deliver_grants(links, from, to, items)
 }
 
-/// Delivers a message. For one that only maps, or grants by a single item, a short way is tried first.
+/// Delivers a message. If it only maps, or grants by a single item, a shorter way is tried first.
+///
 pub fn deliver(links: &mut Links, from: u64, to: u64, items: &[ItemMove]) -> Result<(), Cause>
     requires clean { IsClean links.old }
     requires there { IsTrue (set.contains links.old.spaces to) }

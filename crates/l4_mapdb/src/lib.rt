@@ -1,5 +1,6 @@
-//! What mappings are, and what a message does to them over the list of nodes (L4 X.2 manual, IPC: map and grant items): it is delivered
-//! whole, or refused and nothing has changed. Each step touches only the nodes and pages that it moves.
+//! Mappings, and the effect of a message on them, over the list of nodes (L4 X.2 manual, IPC: map and grant items). A
+//! message is delivered as a whole, or refused, and then nothing changes. Each step touches only the nodes and pages
+//! that it moves.
 #![tactic(auto)]
 
 mod clearing;
@@ -30,25 +31,26 @@ pub struct Place {
     pub page: u32,
 }
 
-/// What a place shows.
+/// The mapping at a place.
 #[derive(Clone, Copy, Debug, PartialEq, Eq)]
 pub struct Mapping {
     /// The number of the frame.
     pub frame: u32,
-    /// What the space may do with the page.
+    /// The rights of the space to the page.
     pub rights: Rights,
-    /// The parent: the place that it was mapped from, or the parent that a granted page brought with it. None at the top of its tree.
+    /// The place that it was mapped from. A granted page keeps the parent that it had. `None` at the root of its
+    /// tree.
     pub parent: Option<Place>,
 }
 
-/// What one item of a message moves.
+/// The move of one item of a message.
 #[derive(Clone, Copy, Debug, PartialEq, Eq)]
 pub struct ItemMove {
-    /// The pages of the sender, and those of the receiver.
+    /// The pages of the sender and those of the receiver.
     pub mv: Move,
     /// The rights that the item names.
     pub rights: Rights,
-    /// Whether the item grants its pages rather than maps them.
+    /// Whether the item grants its pages instead of mapping them.
     pub grant: bool,
 }
 
@@ -73,12 +75,12 @@ impl Default for ItemMove {
     }
 }
 
-/// Why a message was not delivered. Nothing was changed.
+/// The reason why a message was not delivered. Nothing has changed.
 #[derive(Clone, Copy, Debug, PartialEq, Eq)]
 pub enum Cause {
-    /// The used moves contradict each other: two have the same target, or a granted page is moved twice, or a page that is replaced
-    /// is moved too or is an ancestor of one that is.
+    /// The used moves conflict: two have the same target, a granted page is moved twice, or a page that is replaced
+    /// is itself a source or an ancestor of one.
     Entangled,
-    /// There was no memory for a place that was not present.
+    /// The allocation for a target that was not present failed.
     NoMemory,
 }

@@ -187,7 +187,7 @@ pub(crate) fn has_tangle(links: &Links, from: u64, to: u64, items: &[ItemMove]) 
     false
 }
 
-/// Whether the used moves of a message contradict each other (this profile's own). It takes no memory.
+/// Returns whether the used moves of a message conflict (this profile's own). Needs no memory.
 pub fn is_entangled(links: &Links, from: u64, to: u64, items: &[ItemMove]) -> bool
     ensures { IsTrue result ↔ IsEntangled (IsUsed (mappings_of links.now) from to items.now) (mappings_of links.now) }
 {

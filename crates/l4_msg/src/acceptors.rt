@@ -3,7 +3,7 @@ ghost use Rattle.std.specs.Prelude.{◌≡◌, IfOk, IfErr, IsErr, ◌↔◌};
 use crate::messages::MsgFault;
 use l4_fpage::Fpage;
 
-/// The word in which a receiver says where it accepts pages (L4 X.2 manual, IPC: acceptor).
+/// The word that states where a receiver accepts pages (L4 X.2 manual, IPC: acceptor).
 #[derive(Clone, Copy, PartialEq, Eq, Debug)]
 pub struct Acceptor;
 
@@ -11,9 +11,10 @@ impl Acceptor {
     ghost use Rattle.l4_msg.specs.Words.{WindowReads, IsBadWindow};
     ghost use Rattle.l4_fpage.specs.declared.fpages.Fpage.{Fpage as AnFpage};
 
-    /// The receive window that an acceptor word names: bits 31 to 4 are read as an fpage without
-    /// rights, and the low four bits mean nothing (this profile's own). 0 is the nil window, and
-    /// 0x10 the complete one. `BadWindow` comes where those bits are no fpage.
+    /// Reads the receive window that an acceptor word names. Bits 31 to 4 are read as an fpage without rights, and
+    /// the low four bits are ignored (this profile's own). 0 is the nil window, and 0x10 is the complete one.
+    ///
+    /// Returns `BadWindow` if these bits are not a valid fpage.
     pub fn read(word: u32) -> Result<Fpage, MsgFault>
         ensures ok { IfOk result (WindowReads word) }
         ensures err { IfErr result (λ fault. fault ≡ MsgFault.BadWindow) }

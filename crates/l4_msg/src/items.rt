@@ -2,21 +2,20 @@ ghost use Rattle.std.specs.Prelude.{◌≡◌, ℕ, ◌+◌, ◌*◌, ◌/◌, �
 
 use l4_fpage::{Block, Fpage};
 
-/// What a message hands over: the pages of an fpage, shared (map) or given away (grant), with the
-/// send base that says where they land in a larger receive window (L4 X.2 manual, IPC: map item,
-/// grant item). The send base is in bytes.
+/// An item of a message: the pages of an fpage, which are shared (map) or given away (grant). The send base, in
+/// bytes, states where they land in a larger receive window (L4 X.2 manual, IPC: map item, grant item).
 #[derive(Clone, Copy, PartialEq, Eq, Debug)]
 pub enum Item {
     Map { base: u32, fpage: Fpage },
     Grant { base: u32, fpage: Fpage },
 }
 
-/// Why two words are no item.
+/// The reason why two words are not a valid item.
 #[derive(Clone, Copy, PartialEq, Eq, Debug)]
 pub enum ItemFault {
-    /// A string or CtrlXfer item, which this profile leaves out.
+    /// A string or CtrlXfer item, which this profile does not support.
     Unsupported,
-    /// A kind that names no item, or a map or grant item whose second word is no fpage.
+    /// An unknown kind, or a map or grant item whose second word is not a valid fpage.
     Bad,
 }
 
@@ -42,7 +41,7 @@ impl Item {
     ghost use Rattle.l4_msg.specs.declared.items.Item.{Item as AnItem};
     ghost use Rattle.l4_msg.specs.declared.items.ItemFault.{ItemFault as AnItemFault};
 
-    /// The send base, in bytes.
+    /// Returns the send base, in bytes.
     pub fn base(&self) -> u32
         ensures { result ≡ base_of self.now }
     {
@@ -52,7 +51,7 @@ impl Item {
         }
     }
 
-    /// The send fpage, with the rights that the item names.
+    /// Returns the send fpage, with the rights that the item names.
     pub fn fpage(&self) -> Fpage
         ensures { result ≡ fpage_of self.now }
     {
@@ -62,7 +61,7 @@ impl Item {
         }
     }
 
-    /// Whether the item gives its pages away.
+    /// Returns whether the item gives its pages away.
     pub fn is_grant(&self) -> bool
         ensures { result ≡ is_grant self.now }
     {
@@ -72,9 +71,11 @@ impl Item {
         }
     }
 
-    /// The item of two words. In the first, bits 9 to 4 and the lowest bit, which says whether
-    /// another item follows, mean nothing (this profile's own). `Unsupported` comes for the kinds
-    /// of strings and of CtrlXfer, and `Bad` for the kind 7 and for a second word that is no fpage.
+    /// Reads the item in two words. In the first word, bits 9 to 4 and the lowest bit (which states whether another
+    /// item follows) are ignored (this profile's own).
+    ///
+    /// Returns `Unsupported` for a string or CtrlXfer item, and `Bad` for kind 7 or a second word that is not a valid
+    /// fpage.
     #[inline(always)]
     pub fn read(first: u32, second: u32) -> Result<Item, ItemFault>
         ensures ok { IfOk result (ItemReads first second) }
@@ -112,7 +113,7 @@ impl Item {
     }
 }
 
-/// The pages of one block go to those of another block of the same size, in order.
+/// A move of the pages of one block to the pages of another block of the same size, in order.
 #[derive(Clone, Copy, PartialEq, Eq, Debug)]
 pub struct Move {
     pub source: Block,

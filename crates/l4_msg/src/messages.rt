@@ -12,11 +12,10 @@ use arrayvec::ArrayVec;
 /// The message registers, MR0 to MR63 (L4 X.2 manual, IPC: message registers).
 pub const MAX_WORDS: usize = 64;
 
-/// The words after the tag, untyped and typed ones together, at most.
+/// The greatest number of words after the tag, untyped and typed together.
 pub const MAX_UNTYPED: usize = MAX_WORDS - 1;
 
-/// A message: its label, its untyped words, and the pages that it hands over (L4 X.2 manual, IPC:
-/// messages).
+/// A message: its label, its untyped words, and its items (L4 X.2 manual, IPC: messages).
 #[derive(PartialEq, Eq, Debug, Drop)]
 pub struct Message {
     pub label: u16,
@@ -24,27 +23,27 @@ pub struct Message {
     pub items: ArrayVec<Item, MAX_ITEMS>,
 }
 
-/// Why words are no message, or no receive window. Items are counted from 0.
+/// The reason why words are not a valid message, or not a valid receive window. Items are counted from 0.
 #[derive(Clone, Copy, PartialEq, Eq, Debug)]
 pub enum MsgFault {
-    /// M1: the tag names more than 63 words.
+    /// M1: the tag counts more than 63 words.
     TooManyWords,
-    /// M2: the tag names an odd number of typed words.
+    /// M2: the tag counts an odd number of typed words.
     OddTyped,
-    /// M3: the first bad item has a kind that names none, or is a map or grant item whose second
-    /// word is no fpage.
+    /// M3: the first invalid item has an unknown kind, or is a map or grant item whose second word is not a valid
+    /// fpage.
     BadItem(u32),
-    /// M4: the first bad item is a string or CtrlXfer item, which this profile leaves out.
+    /// M4: the first invalid item is a string or CtrlXfer item, which this profile does not support.
     Unsupported(u32),
     /// M5: a flag of the tag is set.
     Flags,
-    /// M6: the acceptor word is no fpage.
+    /// M6: the acceptor word is not a valid fpage.
     BadWindow,
-    /// M7: there is no word, or there are fewer than the tag names.
+    /// M7: there is no word, or there are fewer words than the tag counts.
     Short,
 }
 
-/// A copy of a few words.
+/// Returns a copy of a few words.
 pub fn copied<const N: usize>(words: &[u32]) -> ArrayVec<u32, N>
     requires { length words.now ≤ N }
     ensures { result.items ≡ words.now }
@@ -61,10 +60,10 @@ impl Message {
     ghost use Rattle.l4_msg.specs.declared.messages.Message.{Message as AMessage};
     ghost use Rattle.l4_msg.specs.declared.messages.MsgFault.{MsgFault as AMsgFault};
 
-    /// The message that these words begin with; words after it mean nothing. The refusals come in
-    /// this order: `Short` (no words, or fewer than the tag names while it names at most 63),
-    /// `TooManyWords`, `Flags`, `OddTyped`, and then, for the first bad item, `Unsupported` or
-    /// `BadItem`.
+    /// Reads the message that these words begin with. Words after the message are ignored.
+    ///
+    /// The errors are tested in this order: `Short` (no words, or fewer than the tag counts, if it counts at most
+    /// 63), `TooManyWords`, `Flags`, `OddTyped`, and then, for the first invalid item, `Unsupported` or `BadItem`.
     pub fn read(words: &[u32]) -> Result<Message, MsgFault>
         ensures ok { IfOk result (MessageReads words.now) }
         ensures err { IfErr result (MessageFails words.now) }
@@ -86,8 +85,9 @@ impl Message {
         }
     }
 
-    /// The tag of the message that these words begin with, where it is no reason to refuse them: the words that it counts are there and fit, no
-    /// flag is set, and the typed words are even in number. The refusals are those of `read`, in its order.
+    /// Reads the tag of the message that these words begin with. It succeeds if the words that the tag counts are
+    /// present and at most 63, no flag is set, and the number of typed words is even. The errors are those of `read`,
+    /// in the same order.
     pub fn read_tag(words: &[u32]) -> Result<Tag, MsgFault>
         ensures good { IfOk result (λ _. HasGoodTag words.now) }
         ensures ok { IfOk result (TagReads (tag_of words.now)) }
@@ -114,7 +114,8 @@ impl Message {
         Ok(tag)
     }
 
-    /// The items of the message that these words begin with, behind its tag; or the refusal of the first bad item.
+    /// Reads the items of the message that these words begin with, after its tag. Returns the error of the first
+    /// invalid item.
     pub fn read_typed(words: &[u32], tag: &Tag) -> Result<ArrayVec<Item, MAX_ITEMS>, MsgFault>
         requires good { HasGoodTag words.now }
         requires tag { TagReads (tag_of words.now) tag.now }
@@ -129,7 +130,7 @@ impl Message {
         }
     }
 
-    /// The item of the message that these words begin with, behind its tag, where it has just one; or its refusal. No list is made of it.
+    /// Reads the item of a message that has exactly one, without a list. Returns its error if it is invalid.
     pub fn read_only_item(words: &[u32], tag: &Tag) -> Result<Item, MsgFault>
         requires good { HasGoodTag words.now }
         requires tag { TagReads (tag_of words.now) tag.now }
@@ -145,10 +146,10 @@ impl Message {
         }
     }
 
-    /// The words of the message, which are read as this message: the tag, the untyped words and
-    /// two words an item. The lowest bit of an item's first word is 1 but for the last item, and
-    /// bits 9 to 4 are zero. The words after the tag are at most 63, and each send base is a
-    /// multiple of 1,024 bytes.
+    /// Returns the words of the message: the tag, the untyped words, and two words per item. `read` reads them as
+    /// this message. In an item's first word, the lowest bit is 1 except in the last item, and bits 9 to 4 are zero.
+    ///
+    /// Condition: there are at most 63 words after the tag, and each send base is a multiple of 1,024 bytes.
     pub fn write(&self) -> ArrayVec<u32, MAX_WORDS>
         requires fits { array_vec_len self.now.untyped + 2 * array_vec_len self.now.items ≤ max_untyped }
         requires whole { All (λ item. base_of item % base_unit ≡ 0) self.now.items.items }

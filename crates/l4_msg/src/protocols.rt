@@ -14,7 +14,7 @@ pub const FAULT_LABEL: u16 = 0xffe0;
 /// The label of a request: -6 in twelve bits, then four zero bits (this profile's own).
 pub const REQUEST_LABEL: u16 = 0xffa0;
 
-/// A page fault, as the kernel tells it to a pager (L4 X.2 manual, page fault protocol).
+/// A page fault, as the kernel reports it to a pager (L4 X.2 manual, page fault protocol).
 #[derive(Clone, Copy, PartialEq, Eq, Debug)]
 pub struct PageFault {
     /// The fault address, in bytes.
@@ -28,7 +28,7 @@ pub struct PageFault {
 /// A request to sigma0 for the frames of an fpage's pages (L4 X.2 manual, sigma0 protocol).
 #[derive(Clone, Copy, PartialEq, Eq, Debug)]
 pub struct FrameRequest {
-    /// The fpage, whose rights mean nothing.
+    /// The fpage. Its rights are ignored.
     pub fpage: Fpage,
     /// The memory attributes; 0 asks for the machine's own.
     pub attributes: u32,
@@ -39,8 +39,8 @@ ghost use Rattle.l4_msg.specs.Messages.{CanBeWritten};
 ghost use Rattle.l4_msg.specs.Protocols.{one_item};
 ghost use Rattle.l4_msg.specs.Sizes.{base_unit};
 
-/// The message of one map item, by which a pager or sigma0 answers: label 0, no untyped words. The send base is in bytes. A nil
-/// fpage gives nothing.
+/// Returns the answer of a pager or of sigma0: a message of one map item, with label 0 and no untyped words. The send
+/// base is in bytes. With a nil fpage, the message maps nothing.
 pub fn map_answer(base: u32, fpage: Fpage) -> Message
     ensures is { result ≡ one_item (Map base fpage) }
     ensures writable { base % base_unit ≡ 0 → CanBeWritten result }
@@ -59,8 +59,8 @@ impl PageFault {
     ghost use Rattle.l4_msg.specs.Protocols.{FaultReads, fault_message};
     ghost use Rattle.l4_msg.specs.declared.protocols.PageFault.{PageFault as AFault};
 
-    /// The fault that a message tells; `None` where it tells none: a fault's label is 0xffe0 to 0xffe7, with two untyped words
-    /// and no item.
+    /// Reads the page fault that a message reports. Returns `None` unless the label is 0xffe0 to 0xffe7 and there are
+    /// two untyped words and no item.
     pub fn read(message: &Message) -> Option<PageFault>
         ensures reads { MatchOption result ((fault : AFault) → ¬ FaultReads message.now fault) (FaultReads message.now) }
         ensures only { (fault : AFault) → FaultReads message.now fault → result ≡ Some fault }
@@ -78,7 +78,7 @@ impl PageFault {
         })
     }
 
-    /// The message that tells the fault. The kernel sends its words to the pager.
+    /// Returns the message that reports the fault. The kernel sends its words to the pager.
     pub fn message(&self) -> Message
         ensures is { result ≡ fault_message self.now }
         ensures reads { FaultReads result self.now }
@@ -102,8 +102,8 @@ impl FrameRequest {
     ghost use Rattle.l4_msg.specs.Protocols.{RequestReads};
     ghost use Rattle.l4_msg.specs.declared.protocols.FrameRequest.{FrameRequest as ARequest};
 
-    /// The request that a message is, its fpage without rights; `None` where it is none: a request's label is 0xffa0, with two
-    /// untyped words and no item, and the first word is an fpage.
+    /// Reads the request in a message, with its fpage without rights. Returns `None` unless the label is 0xffa0,
+    /// there are two untyped words and no item, and the first word is a valid fpage.
     pub fn read(message: &Message) -> Option<FrameRequest>
         ensures reads { MatchOption result ((request : ARequest) → ¬ RequestReads message.now request) (RequestReads message.now) }
         ensures only { (request : ARequest) → RequestReads message.now request → result ≡ Some request }
@@ -121,7 +121,7 @@ impl FrameRequest {
         }
     }
 
-    /// The message that makes the request. Its fpage has no rights.
+    /// Returns the message of the request. Its fpage has no rights.
     pub fn message(&self) -> Message
         requires { rights_of self.now.fpage ≡ no_rights }
         ensures reads { RequestReads result self.now }

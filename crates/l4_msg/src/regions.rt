@@ -1,8 +1,7 @@
 use l4_fpage::Rights;
 
-/// A delegation of pages: the pages from `source` on go to the pages from `target` on, `count`
-/// pages, with these rights (this profile's own). Nothing is asked of the numbers: a region may
-/// be empty or lie beyond the space.
+/// A region to delegate: the `count` pages from `source` go to the pages from `target`, with these rights (this
+/// profile's own). Any numbers are allowed: a region can be empty, or lie beyond the end of the space.
 #[derive(Clone, Copy, PartialEq, Eq, Debug)]
 pub struct Region {
     pub source: u32,

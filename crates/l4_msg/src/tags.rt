@@ -1,8 +1,8 @@
 ghost use Rattle.std.specs.Prelude.{◌≡◌, ℕ, ◌<◌};
 ghost use Rattle.l4_msg.specs.Sizes.{counts, flag_sets};
 
-/// A message's first word (L4 X.2 manual, IPC: message tag): the label, four flags, and how many
-/// untyped and how many typed words follow it.
+/// The first word of a message (L4 X.2 manual, IPC: message tag): the label, four flags, and the numbers of untyped
+/// and typed words that follow.
 #[derive(Clone, Copy, PartialEq, Eq, Debug)]
 pub struct Tag {
     /// Bits 31 to 16.
@@ -21,7 +21,7 @@ pub struct Tag {
 impl Tag {
     ghost use Rattle.l4_msg.specs.Tags.{TagReads, tag_word};
 
-    /// The tag of a word: each word is one.
+    /// Reads a tag. Every word is a tag.
     pub fn read(word: u32) -> Tag
         ensures reads { TagReads word result }
         ensures back { tag_word result ≡ word }
@@ -34,7 +34,7 @@ impl Tag {
         }
     }
 
-    /// The word of the tag, which is read as this tag.
+    /// Returns the word of the tag. `read` reads it as this tag.
     pub fn word(&self) -> u32
         ensures value { result ≡ tag_word self.now }
         ensures reads { TagReads result self.now }

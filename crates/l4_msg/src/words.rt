@@ -7,23 +7,23 @@ ghost use Rattle.l4_msg.specs.Sizes.{max_items, max_typed, base_unit};
 use crate::items::{Item, ItemFault};
 use arrayvec::ArrayVec;
 
-/// The items of a message, at most: two words each, in the registers after the tag.
+/// The greatest number of items in a message: each takes two of the registers after the tag.
 pub const MAX_ITEMS: usize = 31;
 
-/// The messages of a plan, at most (this profile's own).
+/// The greatest number of messages in a plan (this profile's own).
 pub const MAX_PLAN_MESSAGES: usize = 64;
 
-/// The items of a plan, at most: those of as many full messages (this profile's own).
+/// The greatest number of items in a plan: those of 64 full messages (this profile's own).
 pub const MAX_PLAN_ITEMS: usize = MAX_PLAN_MESSAGES * MAX_ITEMS;
 
-/// How many pages, no two in one allowed block, show that a region needs more items than a plan has at most: one more
-/// (this profile's own).
+/// The number of pages, no two of them in one allowed block, that prove that a region needs more items than a plan
+/// can have (this profile's own).
 pub const TOO_MANY: usize = MAX_PLAN_ITEMS + 1;
 
-/// The words of those items.
+/// The greatest number of words that the items of a message take.
 pub const MAX_TYPED: usize = 2 * MAX_ITEMS;
 
-/// The items of these words, or the first that fails, by its place from 0.
+/// Reads the items in these words. Returns the first invalid one, by its position from 0, with the reason.
 pub fn read_items(words: &[u32]) -> Result<ArrayVec<Item, MAX_ITEMS>, (u32, ItemFault)>
     requires even { length words.now % 2 ≡ 0 }
     requires few { length words.now ≤ max_typed }
@@ -40,7 +40,8 @@ pub fn read_items(words: &[u32]) -> Result<ArrayVec<Item, MAX_ITEMS>, (u32, Item
     Ok(items)
 }
 
-/// The words of some items.
+/// Returns the words of these items.
+///
 pub fn write_items(items: &[Item]) -> ArrayVec<u32, MAX_TYPED>
     requires few { length items.now ≤ max_items }
     requires whole { All (λ item. base_of item % base_unit ≡ 0) items.now }

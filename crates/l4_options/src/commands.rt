@@ -35,13 +35,13 @@ fn of_region<'a>(
         .about(about)
         .after_help(more)
         .arg(needed_word(alloc, "source", "SOURCE", "The first page of the region"))?
-        .arg(needed_word(alloc, "target", "TARGET", "The page that it goes to"))?
-        .arg(needed_word(alloc, "count", "COUNT", "The number of its pages"))?
+        .arg(needed_word(alloc, "target", "TARGET", "The page to which it moves"))?
+        .arg(needed_word(alloc, "count", "COUNT", "The number of pages in the region"))?
         .arg(needed_word(
             alloc,
             "rights",
             "RIGHTS",
-            "Its rights: r, w and x in turn, or _ for each",
+            "The rights, such as rwx or r_x; _ leaves a right out",
         ))?
         .arg(size_option(alloc))
 }
@@ -49,10 +49,10 @@ fn of_region<'a>(
 /// The command `why`.
 fn of_page<'a>(alloc: Global) -> Result<Command<'a>, AllocError> {
     Command::new(alloc, "why")
-        .about("Tells how a page of a thread's space came there")
+        .about("Prints how a page got into the space of a thread")
         .after_help(WHY)
         .arg(needed_word(alloc, "thread", "THREAD", "The number of the thread"))?
-        .arg(needed_word(alloc, "page", "PAGE", "The number of the page"))?
+        .arg(needed_word(alloc, "page", "PAGE", "The number of the page in its space"))?
         .arg(file_argument(alloc))?
         .arg(frames_option(alloc))?
         .arg(size_option(alloc))
@@ -61,7 +61,7 @@ fn of_page<'a>(alloc: Global) -> Result<Command<'a>, AllocError> {
 /// The commands and options that are known.
 fn known<'a>(alloc: Global) -> Result<Command<'a>, AllocError> {
     let run = Command::new(alloc, "run")
-        .about("Answers a script of kernel calls")
+        .about("Runs a script of kernel calls and prints the answers")
         .after_help(SCRIPT)
         .arg(file_argument(alloc))?
         .arg(frames_option(alloc))?
@@ -69,14 +69,14 @@ fn known<'a>(alloc: Global) -> Result<Command<'a>, AllocError> {
         .arg(strict_option(alloc))?
         .arg(explain_option(alloc))?;
     let history = Command::new(alloc, "history")
-        .about("Writes the steps of a script as l4_steps reads them")
+        .about("Prints the steps of a script in the form that l4_steps reads")
         .after_help(HISTORY)
         .arg(file_argument(alloc))?
         .arg(frames_option(alloc))?
         .arg(size_option(alloc))?
         .arg(answers_option(alloc))?;
     let decode = Command::new(alloc, "decode")
-        .about("Says what the words of a message mean")
+        .about("Explains the words of a message")
         .after_help(DECODE)
         .arg(words_argument(alloc))?
         .arg(reading_option(alloc))?
@@ -89,8 +89,18 @@ fn known<'a>(alloc: Global) -> Result<Command<'a>, AllocError> {
         .subcommand(run)?
         .subcommand(history)?
         .subcommand(of_page(alloc)?)?
-        .subcommand(of_region(alloc, "plan", "Plans the delegation of a region", PLAN)?)?
-        .subcommand(of_region(alloc, "check", "Checks a plan", CHECK)?)?
+        .subcommand(of_region(
+            alloc,
+            "plan",
+            "Prints the shortest list of map items that delegates a region",
+            PLAN,
+        )?)?
+        .subcommand(of_region(
+            alloc,
+            "check",
+            "Checks that a plan is exact and that no list is shorter",
+            CHECK,
+        )?)?
         .subcommand(decode)
 }
 

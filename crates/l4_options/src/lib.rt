@@ -7,11 +7,13 @@ mod programs;
 mod requests;
 mod step_commands;
 mod step_help;
+mod streams;
 mod values;
 
 pub use commands::options;
 pub use programs::{
-    NOT_UNDERSTOOD, STANDARD_INPUT, command_words, misread, not_opened, show, status_of, stopped,
+    NOT_UNDERSTOOD, command_words, misread, not_opened, show, status_of, stopped, warn_of_cut_line,
 };
 pub use requests::{OptionFault, Options, ScriptOptions, StepOptions};
 pub use step_commands::step_options;
+pub use streams::{WatchedReader, WatchedWriter, cause};

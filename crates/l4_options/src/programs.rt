@@ -4,12 +4,13 @@ ghost use Rattle.std.specs.Fn.{FnOnceReturnsAt};
 ghost use Rattle.l4_options.specs.Statuses.{run_status, option_status};
 
 use crate::requests::OptionFault;
+use crate::streams::WatchedReader;
 use l4_text::RunFault;
 use std::alloc::AllocError;
-use std::io::ErrorKind;
+use std::fmt::{Display, Formatter};
+use std::io::{ErrorKind, Read};
 use std::rt::Env;
-use std::{env, io};
-use thiserror::Error;
+use std::{env, fmt, io};
 
 /// The exit status where the command line, or a line of a list of steps, is not understood.
 pub const NOT_UNDERSTOOD: u8 = 2;
@@ -28,45 +29,85 @@ fn failed(rt: &impl Eprint, text: &str, status: u8) -> u8
     status
 }
 
-/// What a program reads where no file is named, as its messages call it.
-pub const STANDARD_INPUT: &str = "standard input";
+/// The name of an input in messages: that of a file in quotes, or standard input.
+#[derive(Drop)]
+struct Source<'a>(Option<&'a str>);
 
-/// A read that failed.
-#[derive(Debug, Drop, Error)]
-#[error("error: a read of {0} failed")]
-struct ReadFailed<'a>(&'a str);
+impl Display for Source<'_> {
+    fn fmt<W: fmt::Write>(&self, f: &mut Formatter<W>) -> fmt::Result {
+        match self.0 {
+            Some(name) => write!(f, "'{name}'"),
+            None => f.write_str("standard input"),
+        }
+    }
+}
 
-/// A file that can't be opened, and why.
-#[derive(Debug, Drop, Error)]
-#[error("error: {name} can't be opened: {error}")]
-struct NotOpened<'a> {
-    name: &'a str,
-    error: io::Error,
+/// What the system says of a failure, behind a colon, if it said anything.
+#[derive(Drop)]
+struct Cause(Option<io::Error>);
+
+impl Display for Cause {
+    fn fmt<W: fmt::Write>(&self, f: &mut Formatter<W>) -> fmt::Result {
+        match self.0 {
+            Some(error) => write!(f, ": {error}"),
+            None => Ok(()),
+        }
+    }
 }
 
 /// Says on standard error that a file can't be opened, and answers the status to end with.
 pub fn not_opened(rt: &impl Eprint, name: &str, error: io::Error) -> u8
     ensures { result ≡ 2 }
 {
-    let _ = rt.eprintln(&NotOpened { name, error });
+    let _ = eprintln!(rt;
+        "error: cannot open {}{}",
+        Source(Some(name)),
+        Cause(Some(error))
+    );
     NOT_UNDERSTOOD
 }
 
-/// Says on standard error why a run over this source stopped, and answers the status to end with: 4 for want of memory, else 3.
-pub fn stopped(rt: &impl Eprint, fault: RunFault, source: &str) -> u8
+/// Says on standard error that standard output can't be written, and answers the status to end with. Nothing is said of a closed pipe: the
+/// program that reads it has ended.
+fn not_written(rt: &impl Eprint, cause: Option<io::Error>) -> u8
+    ensures { result ≡ 3 }
+{
+    if let Some(error) = cause {
+        if error.kind() == ErrorKind::BrokenPipe {
+            return STREAM_FAILED;
+        }
+    }
+    let _ = eprintln!(rt; "error: cannot write to standard output{}", Cause(cause));
+    STREAM_FAILED
+}
+
+/// Says on standard error why a run over this file, or standard input, stopped, and answers the status to end with: 4 for want of memory, else
+/// 3.
+pub fn stopped(
+    rt: &impl Eprint,
+    fault: RunFault,
+    file: Option<&str>,
+    cause: Option<io::Error>,
+) -> u8
     ensures { result ≡ run_status fault }
 {
     match fault {
         RunFault::Read => {
-            let _ = rt.eprintln(&ReadFailed(source));
+            let _ = eprintln!(rt; "error: cannot read {}{}", Source(file), Cause(cause));
             STREAM_FAILED
         }
-        RunFault::Write => failed(
-            rt,
-            "error: a write to standard output failed",
-            STREAM_FAILED,
-        ),
+        RunFault::Write => not_written(rt, cause),
         RunFault::Memory => failed(rt, "error: out of memory", NO_MEMORY),
+    }
+}
+
+/// Says on standard error that the last line of a script was refused (S4), if it was.
+pub fn warn_of_cut_line<R: Read>(rt: &impl Eprint, reader: &WatchedReader<R>, file: Option<&str>) {
+    if reader.is_cut() {
+        let _ = eprintln!(rt;
+            "warning: the last line of {} was not executed: it does not end with a newline",
+            Source(file)
+        );
     }
 }
 
@@ -91,12 +132,12 @@ pub fn misread(rt: &impl Eprint, fault: &OptionFault) -> u8
 }
 
 /// Prints the usage or the version, and answers the status to end with: 3 where the write failed.
-pub fn show(rt: &impl Print, text: &str) -> u8
+pub fn show<R: Print + Eprint>(rt: &R, text: &str) -> u8
     ensures { (result ≡ 0) ⊎ (result ≡ 3) }
 {
     match rt.print(text) {
         Ok(_) => 0,
-        Err(_) => STREAM_FAILED,
+        Err(error) => not_written(rt, Some(error)),
     }
 }
 
@@ -108,7 +149,11 @@ pub fn command_words<R: AllocGlobal + Env + Eprint>(rt: &R) -> Result<Vec<String
     let words: Result<Vec<String>, AllocError> = match env::args(rt) {
         Ok(args) => args.collect(rt.alloc()),
         Err(error) if error.kind() == ErrorKind::OutOfMemory => Err(AllocError),
-        Err(_) => return Err(failed(rt, "error: a word is not UTF-8", NOT_UNDERSTOOD)),
+        Err(_) => return Err(failed(
+            rt,
+            "error: a command-line argument is not valid UTF-8",
+            NOT_UNDERSTOOD,
+        )),
     };
     match words {
         Ok(words) => Ok(words),

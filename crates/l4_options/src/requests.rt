@@ -73,27 +73,27 @@ pub enum OptionFault {
     #[error("{0}")]
     Words(String),
     /// What stands for the number of frames is none from 1 to 4,096 in decimal digits.
-    #[error("error: invalid value '{0}' for '--frames <N>': it is no decimal number from 1 to 4096")]
+    #[error("error: invalid value '{0}' for '--frames <N>': expected a decimal number from 1 to 4096")]
     Frames(String),
     /// What stands for the bytes of a page is neither 4,096 nor 1,024 in decimal digits.
-    #[error("error: invalid value '{0}' for '--page-size <BYTES>': it is neither 4096 nor 1024")]
+    #[error("error: invalid value '{0}' for '--page-size <BYTES>': expected 4096 or 1024")]
     Pages(String),
     /// What stands for a thread, a page or a count, which is named, is no number of a script.
-    #[error("error: invalid value '{word}' for '<{name}>': it is no number up to 4294967295, decimal or hexadecimal after 0x")]
+    #[error("error: invalid value '{word}' for '<{name}>': expected a number up to 4294967295, decimal or hexadecimal with a 0x prefix")]
     Number { name: &'static str, word: String },
     /// What stands for rights is not r, w and x in turn, each of them or `-` or `_` in its place.
-    #[error("error: invalid value '{0}' for '<RIGHTS>': it is not r, w and x in turn, each of them or _ in its place")]
+    #[error("error: invalid value '{0}' for '<RIGHTS>': expected r, w and x in this order, with _ for each right that is left out")]
     Rights(String),
     /// Rights that begin with `-` were taken for an option; what to write in their place.
-    #[error("error: '{word}' was taken for an option: for '<RIGHTS>' write {instead}, with _ for -")]
+    #[error("error: '{word}' was taken for an option: for '<RIGHTS>', write {instead}, with _ in place of -")]
     Hyphens { word: String, instead: &'static str },
     /// What stands for a word is no number of a script.
-    #[error("error: invalid value '{0}' for '<WORD>...': it is no number up to 4294967295, decimal or hexadecimal after 0x")]
+    #[error("error: invalid value '{0}' for '<WORD>...': expected a number up to 4294967295, decimal or hexadecimal with a 0x prefix")]
     Word(String),
     /// One word more than a message can have.
     #[error("error: unexpected value '{0}' for '<WORD>...': a message has at most 64 words")]
     TooMany(String),
     /// What stands for a reading is none.
-    #[error("error: invalid value '{0}' for '--as <READING>': it is none of message, fpage, window and id")]
+    #[error("error: invalid value '{0}' for '--as <READING>': expected message, fpage, window or id")]
     Reading(String),
 }

@@ -23,7 +23,7 @@ pub(crate) fn frames_option<'a>(alloc: Global) -> Arg<'a> {
     Arg::new(alloc, "frames")
         .long("frames")
         .value_name("N")
-        .help("The frames of the machine, from 1 to 4096 [default: 256]")
+        .help("The number of page frames, from 1 to 4096 [default: 256]")
         .action(ArgAction::Set)
 }
 
@@ -32,7 +32,7 @@ pub(crate) fn size_option<'a>(alloc: Global) -> Arg<'a> {
     Arg::new(alloc, "page-size")
         .long("page-size")
         .value_name("BYTES")
-        .help("The bytes of a page, 4096 or 1024 [default: 4096]")
+        .help("The size of pages and frames in bytes, 4096 or 1024 [default: 4096]")
         .action(ArgAction::Set)
 }
 
@@ -40,7 +40,7 @@ pub(crate) fn size_option<'a>(alloc: Global) -> Arg<'a> {
 pub(crate) fn file_argument<'a>(alloc: Global) -> Arg<'a> {
     Arg::new(alloc, "file")
         .value_name("FILE")
-        .help("The script; without it standard input is read")
+        .help("The script [default: standard input]")
         .action(ArgAction::Set)
 }
 
@@ -48,7 +48,7 @@ pub(crate) fn file_argument<'a>(alloc: Global) -> Arg<'a> {
 pub(crate) fn strict_option<'a>(alloc: Global) -> Arg<'a> {
     Arg::new(alloc, "strict")
         .long("strict")
-        .help("End at the first refused line, with status 1")
+        .help("Stop at the first refused line, with exit status 1")
         .action(ArgAction::SetTrue)
 }
 
@@ -56,7 +56,7 @@ pub(crate) fn strict_option<'a>(alloc: Global) -> Arg<'a> {
 pub(crate) fn explain_option<'a>(alloc: Global) -> Arg<'a> {
     Arg::new(alloc, "explain")
         .long("explain")
-        .help("What each answer says in words below it, behind #")
+        .help("Explain each answer in lines that begin with #")
         .action(ArgAction::SetTrue)
 }
 
@@ -64,7 +64,7 @@ pub(crate) fn explain_option<'a>(alloc: Global) -> Arg<'a> {
 pub(crate) fn answers_option<'a>(alloc: Global) -> Arg<'a> {
     Arg::new(alloc, "answers")
         .long("answers")
-        .help("Each step's answer below it, behind #")
+        .help("Print the answers to each step in lines that begin with #")
         .action(ArgAction::SetTrue)
 }
 
@@ -72,7 +72,7 @@ pub(crate) fn answers_option<'a>(alloc: Global) -> Arg<'a> {
 pub(crate) fn words_argument<'a>(alloc: Global) -> Arg<'a> {
     Arg::new(alloc, "words")
         .value_name("WORD")
-        .help("Words, decimal or hexadecimal after 0x, 64 at most")
+        .help("At most 64 words, decimal or hexadecimal with a 0x prefix")
         .required(true)
         .num_args(1..)
         .action(ArgAction::Append)
@@ -83,7 +83,7 @@ pub(crate) fn reading_option<'a>(alloc: Global) -> Arg<'a> {
     Arg::new(alloc, "as")
         .long("as")
         .value_name("READING")
-        .help("How the words are read: message, fpage, window or id")
+        .help("How to read the words: message, fpage, window or id")
         .action(ArgAction::Set)
 }
 

@@ -1,4 +1,4 @@
-//! Messages of two untyped words and no item, as a fault's and a request's are, read from a reply with no list made.
+//! Messages of two untyped words and no item, such as page faults and requests, read from a reply without a list.
 ghost use Rattle.std.specs.Prelude.{◌≡◌, ◌∷◌, MatchOption};
 ghost use Rattle.l4_msg.specs.Messages.{MessageReads};
 ghost use Rattle.l4_threads.specs.declared.ThreadId.{ThreadId as AnId};
@@ -41,8 +41,7 @@ fn brief_of(ipc: &IpcReply) -> Option<BriefMessage>
     })
 }
 
-/// The sender and the message that a reply brings, where the message has two untyped words and no item. None where it brings no such
-/// message.
+/// Returns the sender and the message of a reply, if the message has two untyped words and no item.
 pub fn brought_brief(reply: &Reply) -> Option<(ThreadId, BriefMessage)>
     ensures { MatchOption result ((sender : AnId) (brief : ABrief) → ¬ Brings reply.now sender (brief_message brief))
         (λ p. Brings reply.now p.0 (brief_message p.1)) }
@@ -66,7 +65,7 @@ impl BriefMessage {
     ghost use Rattle.l4_msg.specs.declared.protocols.PageFault.{PageFault as AFault};
     ghost use Rattle.l4_msg.specs.declared.protocols.FrameRequest.{FrameRequest as ARequest};
 
-    /// The fault that the message tells; None where it tells none.
+    /// Returns the page fault that the message reports, or `None`.
     pub fn fault(&self) -> Option<PageFault>
         ensures { MatchOption result ((fault : AFault) → ¬ FaultReads (brief_message self.now) fault) (FaultReads (brief_message self.now)) }
     {
@@ -80,7 +79,7 @@ impl BriefMessage {
         })
     }
 
-    /// The request that the message is, its fpage without rights; None where it is none.
+    /// Returns the request in the message, with its fpage without rights, or `None`.
     pub fn request(&self) -> Option<FrameRequest>
         ensures { MatchOption result ((request : ARequest) → ¬ RequestReads (brief_message self.now) request) (RequestReads (brief_message self.now)) }
     {

@@ -8,33 +8,33 @@ use l4_fpage::{Block, Fpage, PageSize, Rights};
 use l4_msg::{Message, PageFault, map_answer};
 use std::marker::Model;
 
-/// The entries of a pager's table, at most (this profile's own).
+/// The greatest number of entries in a pager's table (this profile's own).
 pub const MAX_REGIONS: usize = 64;
 
-/// A region: pages of those whom a pager serves, the pages of the pager's own space that it gives for them, and the rights that it
-/// gives (this profile's own).
+/// A region: pages of the threads that a pager serves, the pages of the pager's own space that it gives for them, and
+/// the rights that it gives (this profile's own).
 #[derive(Clone, Copy, PartialEq, Eq, Debug)]
 pub struct Entry {
-    /// The first page, below the pages of a space.
+    /// The first page, below the number of pages in a space.
     pub first: u32,
-    /// The source page of the first page, below the pages of a space; those of the next pages follow.
+    /// The source page of the first page, below the number of pages in a space. Those of the next pages follow it.
     pub source: u32,
-    /// How many pages; at least 1.
+    /// The number of pages, at least 1.
     pub count: u32,
-    /// The rights that are given; at least one. An access that asks for more isn't answered.
+    /// The rights that are given, at least one. An access that needs other rights is not answered.
     pub rights: Rights,
 }
 
-/// Why an entry isn't added, or a page isn't found.
+/// The reason why an entry is not added, or a page is not found.
 #[derive(Clone, Copy, PartialEq, Eq, Debug)]
 pub enum PagerRefusal {
-    /// P1: a page of it is one of another entry. Source pages may be shared.
+    /// P1: one of its pages is in another entry. Source pages can be shared.
     Overlap,
-    /// P2: no entry is for the page with this access.
+    /// P2: no entry covers the page with this access.
     NoRegion,
     /// P3: the table has `MAX_REGIONS` entries.
     Full,
-    /// P4: it has no page, a page or source page beyond the space, or no right.
+    /// P4: it has no pages, a page or source page beyond the end of a space, or no rights.
     BadRegion,
 }
 
@@ -57,7 +57,7 @@ impl Default for Entry {
 impl Entry {
     ghost use Rattle.l4_pager.specs.Regions.{IsBad, is_for, Meet, serves};
 
-    /// Whether the entry has no page, a page or source page beyond the space, or no right.
+    /// Returns whether the entry has no pages, a page or source page beyond the end of a space, or no rights.
     pub fn is_bad(&self, size: PageSize) -> bool
         ensures { IsTrue result ↔ IsBad size self.now }
     {
@@ -140,7 +140,7 @@ fn entry_at(entries: &[Entry], place: usize, page: u32, access: Rights) -> Optio
     Some(*entry)
 }
 
-/// A pager's table of at most `MAX_REGIONS` regions, no page of which is one of two.
+/// A pager's table of at most `MAX_REGIONS` regions. No page is in two of them.
 #[derive(Drop)]
 pub struct RegionPager {
     size: PageSize,
@@ -170,7 +170,7 @@ impl RegionPager {
     ghost use Rattle.l4_pager.specs.declared.regions.PagerRefusal.{PagerRefusal as ARefusal};
     ghost use Rattle.l4_pager.specs.declared.regions.PagerRefusal.TheVariants.{NoRegion};
 
-    /// A table without an entry, for pages of this size.
+    /// Returns an empty table, for pages of this size.
     pub fn new(size: PageSize) -> RegionPager
         ensures { result ≡ no_entries size }
     {
@@ -180,15 +180,16 @@ impl RegionPager {
         }
     }
 
-    /// A law of every table: no entry is bad, and no page is one of two entries.
+    /// Ghost function: gives a proof the invariant that no entry is invalid, and no page is in two entries. It
+    /// compiles to nothing.
     pub fn law_table(&self)
         ensures { IsTable self.now }
     {
         let _entries = &self.entries;
     }
 
-    /// Adds an entry at the end. The refusals come in this order: `BadRegion` (P4), `Overlap` (P1), `Full` (P3). A refused entry
-    /// changes nothing.
+    /// Adds an entry at the end. A refused entry changes nothing. Errors, in this order: `BadRegion` (P4), `Overlap`
+    /// (P1), `Full` (P3).
     pub fn add(&mut self, entry: Entry) -> Result<(), PagerRefusal>
         ensures { MatchResult result
             (λ _. CanAdd self.old entry × (self.new ≡ with_entry self.old entry))
@@ -207,8 +208,8 @@ impl RegionPager {
         Ok(())
     }
 
-    /// The source page of a page, from the entry that holds it, if the entry's rights hold the access; else `NoRegion` (P2). An
-    /// access without a right is held by every entry.
+    /// Returns the source page of a page, from the entry that contains it, if the entry has all rights of the access;
+    /// else `NoRegion` (P2). Every entry has the rights of an empty access.
     pub fn find(&self, page: u32, access: Rights) -> Result<u32, PagerRefusal>
         ensures { MatchResult result
             (λ source. MatchOption (entry_for self.now.entries page access) ⊥ (λ e. source ≡ source_of e page))
@@ -235,9 +236,9 @@ impl RegionPager {
         entry_for(entries, page, access)
     }
 
-    /// The answer to a fault, as `answer_fault` gives it, and the place of the entry that it comes from. Which place is guessed changes
-    /// nothing but how long it takes: the entry there is looked at first, and then the next one, since faults go on where the last one
-    /// was. Where no entry answers, the place is the guess.
+    /// Returns the answer to a page fault, as `answer_fault` does, and the position of the entry that it comes from.
+    /// The guess affects only the time: the entry at that position is tested first, and then the next one, because
+    /// faults often continue where the last one was. If no entry answers, the position is the guess.
     pub fn answer_fault_near(&self, fault: &PageFault, guess: usize) -> (u32, Fpage, usize)
         ensures answers { AnswersFault self.now fault.now (one_item (Map result.0 result.1)) }
         ensures whole { result.0 % base_unit ≡ 0 }
@@ -256,7 +257,8 @@ impl RegionPager {
         (self.size.address_of(page), fpage, place)
     }
 
-    /// The answer to a fault, as `answer` says: the send base and the fpage of its one map item.
+    /// Returns the answer to a page fault: the send base, in bytes, and the fpage of its map item. `answer` states
+    /// the rule.
     pub fn answer_fault(&self, fault: &PageFault) -> (u32, Fpage)
         ensures answers { AnswersFault self.now fault.now (one_item (Map result.0 result.1)) }
         ensures whole { result.0 % base_unit ≡ 0 }
@@ -265,8 +267,9 @@ impl RegionPager {
         (base, fpage)
     }
 
-    /// The answer to a message: to a fault's one map item, its send base the fault's page and its fpage the source page with
-    /// the entry's rights; a nil map item where `find` refuses the page, and to any other message.
+    /// Returns the answer to a message. For a page fault, it is one map item, whose send base is the fault's page,
+    /// and whose fpage is the source page with the entry's rights. If `find` refuses the page, and for any other
+    /// message, it is a nil map item.
     pub fn answer(&self, message: &Message) -> Message
         ensures answers { Answers self.now message.now result }
         ensures writable { CanBeWritten result }

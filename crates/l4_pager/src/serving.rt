@@ -31,14 +31,15 @@ const ANSWER_TAG: u32 = 0x80;
 /// What the first word of a last map item has beside its send base: the kind of a map item.
 const MAP_KIND: u32 = 8;
 
-/// Why a gate didn't enter a call.
+/// The reason why a gate did not enter a call.
 #[derive(Clone, Copy, PartialEq, Eq, Debug)]
 pub struct GateFault {
-    /// The number of the refusal: 1 to 5 for L1 to L5, so 2 for want of memory.
+    /// The number of the refusal: 1 to 5 for L1 to L5. So 2 means that an allocation failed.
     pub code: u8,
 }
 
-/// What enters calls of one thread into a kernel, and takes their replies. A gate that waits holds what it waits by.
+/// An interface that enters the calls of one thread into a kernel, and takes their replies. A gate that waits owns
+/// what it needs for waiting.
 pub trait Gate {
     /// The calls that were entered, with their replies.
     ghost pairs: { Self → List (ACall × AReply) };
@@ -56,7 +57,8 @@ pub trait Gate {
             (λ fault. (pairs self.new ≡ pairs self.old) × refuses self.old call fault self.new) };
 }
 
-/// The sender and the message that a reply brings. None where it is no reply of an Ipc, or one of an Ipc that failed.
+/// Returns the sender and the message of a reply. Returns `None` if it is not the reply of an Ipc, or if the Ipc
+/// failed.
 pub fn brought(reply: &Reply) -> Option<(ThreadId, Message)>
     ensures { MatchOption result ((sender : AnId) (m : AMessage) → ¬ Brings reply.now sender m) (λ p. Brings reply.now p.0 p.1) }
 {
@@ -79,7 +81,7 @@ pub fn brought(reply: &Reply) -> Option<(ThreadId, Message)>
     }
 }
 
-/// The call that waits for anybody's message, with a nil window and no timeout.
+/// Returns the call that receives from any thread, with a nil window and without a timeout.
 pub fn wait() -> Call
     ensures { result ≡ waiting }
 {
@@ -92,7 +94,7 @@ pub fn wait() -> Call
     })
 }
 
-/// The call that sends an answer to who waits for it, and then waits for anybody's message.
+/// Returns the call that sends an answer to a waiting thread, and then receives from any thread.
 pub fn answering(sender: ThreadId, answer: &Message) -> Call
     requires { CanBeWritten answer.now }
     ensures { result ≡ sending sender (message_words answer.now) }
@@ -117,7 +119,7 @@ fn set_wait(ipc: &mut IpcCall)
     ipc.words.clear();
 }
 
-/// Makes a call the one that `wait` gives.
+/// Overwrites a call with the one that `wait` returns.
 pub fn wait_into(call: &mut Call)
     ensures { call.new ≡ waiting }
 {
@@ -157,8 +159,8 @@ fn set_answer(ipc: &mut IpcCall, sender: ThreadId, base: u32, fpage: Fpage)
     set_words(&mut ipc.words, ANSWER_TAG, base + MAP_KIND, fpage.word());
 }
 
-/// Makes a call the one that `answering` gives for an answer of one map item, which is told by its send base and fpage: written in
-/// place where the call is an Ipc.
+/// Overwrites a call with the one that `answering` returns for an answer of one map item, given by its send base and
+/// fpage. If the call is an Ipc, it is changed in place.
 pub fn answer_into(call: &mut Call, sender: ThreadId, base: u32, fpage: Fpage)
     requires { base % base_unit ≡ 0 }
     ensures { call.new ≡ sending sender (message_words (one_item (Map base fpage))) }
@@ -181,10 +183,13 @@ fn next_call(regions: &RegionPager, reply: &Reply) -> (Call, bool)
     (answering(sender, &regions.answer(&message)), true)
 }
 
-/// Serves a pager through a gate: first receives from anybody with a nil window, and then, turn by turn, answers the message that the
-/// last reply brought and waits again, or only waits again where it brought none, which counts as a turn too. A reply brings a message
-/// where it is one of an Ipc that did not fail, and its tag and words are a message. The result is the number of answers that were
-/// entered in `turns` turns, where the gate accepted each call, or the gate's first fault, at which it stops.
+/// Serves a pager through a gate. It first receives from any thread, with a nil window. In each turn it answers the
+/// message of the last reply and receives again, or only receives again if the reply has no message. A reply has a
+/// message if it is that of an Ipc that did not fail, and its tag and words are a valid message.
+///
+/// Returns the number of answers that were entered in `turns` turns. Stops at the first fault of the gate, and
+/// returns it.
+///
 pub fn serve<G: Gate>(gate: &mut G, regions: &RegionPager, turns: u32) -> Result<u32, GateFault>
     ensures ok { IfOk result (λ answers. (entered : List (ACall × AReply)) × (G.pairs gate.new ≡ G.pairs gate.old ++ entered) × (length entered ≡ 1 + turns) × Serves regions.now entered answers × Accepted G.accepts gate.old entered gate.new) }
     ensures err { IfErr result (λ fault. (before : G) × (call : ACall) × G.refuses before call fault gate.new × ((entered : List (ACall × AReply)) × (answers : ℕ) × (G.pairs gate.new ≡ G.pairs gate.old ++ entered) × (length entered ≤ turns) × Serves regions.now entered answers × ComesNext regions.now entered call × Accepted G.accepts gate.old entered before)) }

@@ -6,8 +6,8 @@ use crate::splitting::largest_allowed;
 use l4_msg::Region;
 use std::marker::Model;
 
-/// Source pages of a region at which largest allowed blocks begin, one straight after another: those that are left. It takes no memory: each page
-/// is found from the one before it.
+/// An iterator over the source pages of a region at which the largest allowed blocks begin, one directly after
+/// another. It needs no memory: each page is computed from the one before it.
 #[derive(Debug, Drop)]
 pub struct Pages {
     pub(crate) region: Region,
@@ -28,7 +28,7 @@ impl Model for Pages {
 }
 
 impl Pages {
-    /// How many pages are left.
+    /// Returns the number of pages that are left.
     pub fn len(&self) -> usize
         ensures { result ≡ length self.now }
     {

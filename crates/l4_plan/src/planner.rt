@@ -9,8 +9,10 @@ use crate::splitting::pass;
 use l4_fpage::PageSize;
 use l4_msg::{MAX_PLAN_ITEMS, Region, TOO_MANY};
 
-/// The shortest list of map items that moves exactly the region of pages of this size, with the pages that show that none is shorter.
-/// It takes no memory, and time in the logarithm of the region's size. The refusals are tested in the order of [`PlanRefusal`].
+/// Returns the shortest list of map items that moves exactly this region, for pages of this size, with the pages that
+/// prove that no list is shorter. It needs no memory, and takes time in the logarithm of the region's size.
+///
+/// Errors: those of [`PlanRefusal`], in the order of its variants.
 pub fn plan(region: &Region, size: PageSize) -> Result<Plan, PlanRefusal>
     ensures empty { (result ≡ Err PlanRefusal.Empty) ↔ IsEmpty region.now }
     ensures out_of_space { (result ≡ Err PlanRefusal.OutOfSpace) ↔ (0 < region.now.count × IsOutOfSpace size region.now) }

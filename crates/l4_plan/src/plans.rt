@@ -14,10 +14,12 @@ use l4_fpage::PageSize;
 use l4_msg::{MAX_ITEMS, MAX_PLAN_MESSAGES, Message, Region};
 use std::marker::Model;
 
-/// Map items that together move exactly a region, 1 to 1,984 of them, in rising order of source. With each goes its
-/// first source page; no allowed block holds two of these pages, so no list of map items that moves the region is
-/// shorter (this profile's own). It takes no memory: the region, the size of its pages and the number of its items say all of it, and each item is
-/// made when it is asked for.
+/// A plan: 1 to 1,984 map items that together move exactly a region, in rising order of source. With each item comes
+/// its first source page. No allowed block contains two of these pages, so no list of map items that moves the region
+/// is shorter (this profile's own).
+///
+/// A plan needs no memory. It stores the region, the page size and the number of items, and computes each item on
+/// request.
 #[derive(Debug, Drop)]
 pub struct Plan {
     pub(crate) region: Region,
@@ -25,22 +27,24 @@ pub struct Plan {
     pub(crate) items: u32,
 }
 
-/// Why a region has no plan, or a plan no such message. The first four are tested in this order (this profile's own).
+/// The reason why a region has no plan, or why a plan has no such message. The first four are tested in this order
+/// (this profile's own).
 #[derive(Debug, Drop)]
 pub enum PlanRefusal {
-    /// N1: the region has no page.
+    /// N1: the region has no pages.
     Empty,
-    /// N2: a source or target page lies beyond the space, which has 2^20 pages of 4 KiB or 2^22 of 1 KiB.
+    /// N2: a source or target page is beyond the end of a space, which has 2^20 pages of 4 KiB or 2^22 pages of 1
+    /// KiB.
     OutOfSpace,
     /// N3: the region has no rights.
     NoRights,
-    /// N4: each list of map items that moves exactly the region has more than 1,984 items, as these 1,985 source pages
-    /// show, of which no allowed block holds two. They are the first pages of the first 1,985 items that a plan of
-    /// any length would have.
+    /// N4: every list of map items that moves exactly the region has more than 1,984 items. These 1,985 source pages
+    /// prove it, because no allowed block contains two of them. They are the first pages of the first 1,985 items
+    /// that a plan of any length would have.
     TooLong(Pages),
-    /// N5: the plan has so many messages, and not one alone.
+    /// N5: the plan has this number of messages, more than one.
     Several(u32),
-    /// N6: the plan has so many messages, and none with this number.
+    /// N6: the plan has this number of messages, and none with the requested number.
     NoPart(u32),
 }
 
@@ -68,14 +72,14 @@ impl Plan {
         }
     }
 
-    /// What holds of a plan at all times. It does nothing.
+    /// Ghost function: gives a proof the invariant of a plan. It compiles to nothing.
     pub fn law_kept(&self)
         ensures { (size : APageSize) × (r : ARegion) × IsShortest size r self.now }
     {
         let _ = &self.items;
     }
 
-    /// How many items there are, 1 to 1,984.
+    /// Returns the number of items, 1 to 1,984.
     pub fn len(&self) -> usize
         ensures value { result ≡ length self.now.items }
         ensures some { 0 < result }
@@ -84,7 +88,7 @@ impl Plan {
         self.items as usize
     }
 
-    /// The first source page of each item, in the items' order, as page numbers.
+    /// Returns the first source page of each item, in the order of the items.
     pub fn pages(&self) -> Pages
         ensures value { result ≡ self.now.pages }
         ensures one_each { length result ≡ length self.now.items }
@@ -96,7 +100,7 @@ impl Plan {
         }
     }
 
-    /// How many messages send the items, 1 to 64: all but the last have 31 items.
+    /// Returns the number of messages that send the items, 1 to 64. All but the last have 31 items.
     pub fn messages(&self) -> u32
         ensures value { result ≡ messages_of (length self.now.items) }
         ensures some { 0 < result }
@@ -111,8 +115,8 @@ impl Plan {
         self.items.div_ceil(MAX_ITEMS as u32)
     }
 
-    /// The message with this number, from 0: it sends the next 31 items, or those that are left, with label 0 and no untyped words. `NoPart`
-    /// comes where there is none.
+    /// Returns the message with this number, from 0. It sends the next 31 items, or those that are left, with label 0
+    /// and no untyped words. Returns `NoPart` if there is no such message.
     pub fn message(&self, number: u32) -> Result<Message, PlanRefusal>
         ensures sends { IfOk result (Sends (part_of_list self.now.items number)) }
 
@@ -128,7 +132,8 @@ impl Plan {
         Ok(self.part(number))
     }
 
-    /// The first source page of each item of the message with this number, from 0; none where there is no such message.
+    /// Returns the first source page of each item of the message with this number, from 0. The list is empty if there
+    /// is no such message.
     pub fn pages_of(&self, number: u32) -> ArrayVec<u32, MAX_ITEMS>
         ensures { result.items ≡ part_of_list self.now.pages number }
     {
@@ -144,7 +149,8 @@ impl Plan {
         starts_of(&self.region, first, (all - before).min(MAX_ITEMS as u32))
     }
 
-    /// The message that sends all items, where one message does. `Several` comes where there are more.
+    /// Returns the message that sends all items. Returns `Several` if the plan needs more than one message.
+    ///
     pub fn only(&self) -> Result<Message, PlanRefusal>
         ensures sends { IfOk result (Sends self.now.items) }
         ensures writable { IfOk result CanBeWritten }

@@ -21,9 +21,11 @@ fn is_sound(region: &Region, size: PageSize) -> bool
         && !region.rights.is_empty()
 }
 
-/// Checks that these items move exactly the region of pages of this size, and that these pages, one an item, show that no list of map items
-/// that does is shorter. It answers the first fault in the order of [`Fault`]; [`Proved`] means that none holds.
-/// It takes no memory, and time in the number of items and pages where both rise, as a plan's do; else in its square.
+/// Checks that these items move exactly the region, for pages of this size, and that these pages, one per item, prove
+/// that no such list of map items is shorter.
+///
+/// Returns the first fault in the order of [`Fault`]; [`Proved`] means that there is none. It needs no memory. It
+/// takes time in the number of items and pages if both rise, as in a plan, and else in its square.
 pub fn check(
     region: &Region,
     size: PageSize,
@@ -58,9 +60,11 @@ pub fn check(
     Ok(Proved)
 }
 
-/// Checks that these are 1,985 pages which show that each list of map items that moves exactly the region has more than 1,984.
-/// It answers the first fault in the order of [`Fault`], of C6, C5, C3 and C4 alone; [`Proved`] means that none holds.
-/// It takes no memory, and time in the number of pages where they rise, else in its square.
+/// Checks that these are 1,985 pages which prove that every list of map items that moves exactly the region has more
+/// than 1,984 items.
+///
+/// Returns the first fault in the order of [`Fault`], out of C6, C5, C3 and C4; [`Proved`] means that there is none.
+/// It needs no memory. It takes time in the number of pages if they rise, and else in its square.
 pub fn check_too_long(region: &Region, size: PageSize, pages: &[u32]) -> Result<Proved, Fault>
     ensures first { IfErr result (IsFirstLongFault size region.now pages.now) }
 

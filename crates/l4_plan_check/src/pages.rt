@@ -117,7 +117,9 @@ fn first_pair(region: &Region, pages: &[u32]) -> Option<usize>
     None
 }
 
-/// The pages' own fault: the first page outside the region, else the first that shares an allowed block with an earlier one.
+/// Returns the fault of the pages: the first page outside the region, else the first that shares an allowed block
+/// with an earlier one.
+///
 pub fn page_fault(region: &Region, pages: &[u32]) -> Option<Fault>
     requires { InLargest region.now }
     ensures { MatchOption result (HasNoPageFault region.now pages.now) (IsPageFault region.now pages.now) }

@@ -16,7 +16,7 @@ use Rattle.l4_plan_lines.specs.Lines.{ended}
 use Rattle.l4_plan_lines.specs.Claims.{IsClaimOf, IsBeginning, IsSecondTag}
 use Rattle.l4_plan_lines.specs.Inside.Claims.{SaysMore, SaysAll, IsSecond, IsSingle}
 use Rattle.l4_plan_lines.specs.Inputs.{IsLine, IsWrongWhole, IsFirstWrong}
-use Rattle.l4_plan_lines.specs.Answers.{IsAnswer, answer_line, is_proved, Answered}
+use Rattle.l4_plan_lines.specs.Answers.{IsAnswer, answer_line, Answered}
 use Rattle.l4_plan_lines.specs.Inside.Inputs.{Reflects, Stops, EndsSo, TakesOne, HasEnded, HasRead}
 use Rattle.l4_plan_lines.specs.declared.answers.Answer.{Answer}
 use Rattle.l4_msg.specs.declared.regions.Region.{Region}
@@ -280,14 +280,12 @@ pub same_bytes : (ending : Ending) (bytes kept : List ℕ) (s t : Found) → byt
 same_bytes ending bytes kept s t is h = subst (λ (b : List ℕ). Takes ending b s t) is h
 
 -- the answer to what was read
-pub answered : (size : PageSize) → (r : Region) (old new : Option (List ℕ)) (s : Found) (answer : Answer) (proved : Bool) (text : List ℕ) → HasRead old new s
-    → ((input : List ℕ) → HasEnded s input → IsAnswer size r input answer) → proved ≡ is_proved answer → text ≡ ended (answer_line answer) → Answered size r old new proved text
-answered size r old new s answer proved text read is flag spelled = record {
+pub answered : (size : PageSize) → (r : Region) (old new : Option (List ℕ)) (s : Found) (answer : Answer) (text : List ℕ) → HasRead old new s
+    → ((input : List ℕ) → HasEnded s input → IsAnswer size r input answer) → text ≡ ended (answer_line answer) → Answered size r old new answer text
+answered size r old new s answer text read is spelled = record {
   input = read.bytes;
   read = read.read;
   end = read.end;
-  answer = answer;
   answered = is read.bytes read.ended;
-  flag = flag;
   spelled = spelled;
 }

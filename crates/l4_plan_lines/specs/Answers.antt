@@ -97,12 +97,10 @@ is_proved (Faulty fault) = false
 is_proved (ProvedPlan items) = true
 is_proved ProvedTooLong = true
 
--- the reader gave an input to its end, and this is the text of the answer to it
-pub record Answered (size : PageSize) (r : Region) (before after : Option (List ℕ)) (proved : Bool) (text : List ℕ) : Type 0 where
+-- the reader gave an input to its end, and this is the answer to it and the text of that
+pub record Answered (size : PageSize) (r : Region) (before after : Option (List ℕ)) (answer : Answer) (text : List ℕ) : Type 0 where
   pub input : List ℕ
   pub read : Consumes before after input
   pub end : IsAtEnd after
-  pub answer : Answer
   pub answered : IsAnswer size r input answer
-  pub flag : proved ≡ is_proved answer
   pub spelled : text ≡ ended (answer_line answer)

@@ -12,16 +12,16 @@ use l4_msg::{MAX_ITEMS, Region};
 use l4_plan_check::{Fault, check, check_too_long};
 use l4_text::Text;
 
-/// What is answered to an input.
+/// The answer to an input.
 #[derive(Clone, Copy, PartialEq, Eq, Debug)]
 pub enum Answer {
     /// A line is wrong.
     Refused(WrongLine),
     /// The claim has a fault.
     Faulty(Fault),
-    /// It is a plan of so many items, and no list is shorter.
+    /// The claim is a plan with this number of items, and no list is shorter.
     ProvedPlan(usize),
-    /// Each plan is too long.
+    /// Every plan is too long.
     ProvedTooLong,
 }
 
@@ -70,7 +70,7 @@ fn answer_claim(region: &Region, size: PageSize, head: Head, claim: &Claim) -> A
     }
 }
 
-/// The answer to an input about a region.
+/// Returns the answer to an input about a region.
 pub fn answer_input(region: &Region, size: PageSize, found: &Found) -> Answer
     ensures { (text : List ℕ) → HasEnded found.now text → IsAnswer size region.now text result }
 {
@@ -143,7 +143,7 @@ fn push_answer(text: &mut Text, answer: Answer)
     }
 }
 
-/// The line of an answer.
+/// Returns the line of an answer, with its newline.
 pub fn answer_text(answer: Answer) -> Text
     ensures { result ≡ ended (answer_line answer) }
 {
@@ -154,7 +154,7 @@ pub fn answer_text(answer: Answer) -> Text
 }
 
 impl Answer {
-    /// Whether the claim is proved.
+    /// Returns whether the claim is proved.
     pub fn is_proved(&self) -> bool
         ensures { result ≡ is_proved self.now }
     {

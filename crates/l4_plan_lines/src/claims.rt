@@ -4,26 +4,26 @@ use crate::reading::{item_of_line, page_of_line, tag_of_line};
 use arrayvec::ArrayVec;
 use l4_msg::{Item, MAX_ITEMS};
 
-/// The most item or page lines of a claim.
+/// The largest number of item lines, and of page lines, in a claim.
 pub const CLAIM_LINES: usize = 2048;
 
-/// The most tag lines of a claim.
+/// The largest number of tag lines in a claim.
 pub const CLAIM_TAGS: usize = 67;
 
-/// What the first line of a claim says.
+/// The kind of claim that the first line makes.
 #[derive(Clone, Copy, PartialEq, Eq, Debug)]
 pub enum Head {
-    /// That the items are a plan. It is the tag line of the first message.
+    /// The items are a plan. The first line is the tag line of the first message.
     Plan,
-    /// That each plan is too long.
+    /// Every plan is too long.
     TooLong,
 }
 
-/// What the lines of an input say so far.
+/// The claim that the lines of an input have made so far.
 #[derive(Drop)]
 pub struct Claim {
     pub head: Option<Head>,
-    /// The tags, message by message.
+    /// The tags, one for each message.
     pub tags: ArrayVec<u32, CLAIM_TAGS>,
     pub items: ArrayVec<Item, CLAIM_LINES>,
     pub pages: ArrayVec<u32, CLAIM_LINES>,
@@ -33,7 +33,7 @@ impl Claim {
     ghost use Rattle.l4_plan_lines.specs.Claims.{IsClaimOf};
     ghost use Rattle.l4_plan_lines.specs.Inside.Claims.{SaysMore, SaysAll, HasEmptyGroup, HasItems, IsSecond, IsSingle, AwaitsTag, AwaitsItem};
 
-    /// What no line says.
+    /// Returns the claim of no lines.
     pub fn new() -> Claim
         ensures { IsClaimOf [] result }
     {
@@ -45,7 +45,7 @@ impl Claim {
         }
     }
 
-    /// How many lines say it.
+    /// Returns the number of lines that make the claim.
     pub fn lines(&self) -> u32
         ensures few { result ≤ 2115 }
         ensures count { (lines : List (List ℕ)) → IsClaimOf lines self.now → result ≡ length lines }
@@ -59,7 +59,7 @@ impl Claim {
         }
     }
 
-    /// Whether the last line is a tag line, so that its message has no item.
+    /// Returns whether the last line is a tag line. Its message then has no item.
     pub fn has_empty_group(&self) -> bool
         ensures { MatchBool result (HasEmptyGroup self.now) (HasItems self.now) }
     {
@@ -77,7 +77,7 @@ impl Claim {
         }
     }
 
-    /// Whether this is a tag line right behind a tag line.
+    /// Returns whether the line is a tag line directly after a tag line.
     pub fn is_second_tag(&self, line: &[u8]) -> bool
         ensures { MatchBool result (IsSecond self.now line.now) (IsSingle self.now line.now) }
     {
@@ -90,7 +90,7 @@ impl Claim {
         false
     }
 
-    /// Adds what a line says, if the line may stand here.
+    /// Adds the content of a line. Returns `false` if the line is not allowed at this position.
     pub fn add(&mut self, line: &[u8]) -> bool
         ensures { MatchBool result (SaysMore self.old self.new line.now) (SaysAll self.old line.now) }
     {

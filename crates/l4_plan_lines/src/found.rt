@@ -8,7 +8,7 @@ use l4_text::Ending;
 /// What is wrong with a line.
 #[derive(Clone, Copy, PartialEq, Eq, Debug)]
 pub enum LineFault {
-    /// S2: the line is spelled wrong, or may not stand here.
+    /// S2: the line is misspelled, or not allowed at this position.
     BadTokens,
     /// S3: the line has more than 4,096 bytes before its newline.
     LineTooLong,
@@ -23,7 +23,7 @@ pub struct WrongLine {
     pub fault: LineFault,
 }
 
-/// What is found in the lines so far: what they say, and the first wrong one.
+/// The result of the lines read so far: their claim, and the first wrong line.
 #[derive(Drop)]
 pub struct Found {
     pub claim: Claim,
@@ -31,7 +31,7 @@ pub struct Found {
 }
 
 impl Found {
-    /// Nothing, in no lines.
+    /// Returns the result of no lines: an empty claim, and no wrong line.
     pub fn new() -> Found
         ensures { Reflects result [] }
     {
@@ -41,7 +41,7 @@ impl Found {
         }
     }
 
-    /// Takes the next line, which ended like this. Of a line over 4,096 bytes these are the first.
+    /// Adds the next line, with the way it ended. If the line has more than 4,096 bytes, `line` has the first ones.
     pub fn take(&mut self, ending: Ending, line: &[u8])
         ensures { (lines : List (List ℕ)) (bytes : List ℕ) → EndsSo ending line.now bytes → Reflects self.old lines → TakesOne ending self.new lines bytes }
     {
@@ -51,7 +51,7 @@ impl Found {
         }
     }
 
-    /// Takes the next line, where no line was wrong.
+    /// Adds the next line, if no earlier line was wrong.
     fn take_next(&mut self, ending: Ending, line: &[u8])
         requires { self.old.wrong ≡ None }
         ensures { (lines : List (List ℕ)) (bytes : List ℕ) → EndsSo ending line.now bytes → Reflects self.old lines → TakesOne ending self.new lines bytes }
@@ -91,7 +91,7 @@ impl Found {
         }
     }
 
-    /// The head of the claim of the whole input, or the first wrong line.
+    /// Returns the head of the claim of the whole input, or the first wrong line.
     pub fn finish(&self) -> Result<Head, WrongLine>
         ensures ok { IfOk result (λ _. (input : List ℕ) → HasEnded self.now input → IsWhole input self.now.claim) }
         ensures head { IfOk result (λ head. self.now.claim.head ≡ Some head) }

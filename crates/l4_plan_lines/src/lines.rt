@@ -3,7 +3,7 @@ ghost use Rattle.l4_plan_lines.specs.Lines.{tag_line, page_line, item_line};
 
 use l4_text::Text;
 
-/// The line of a tag, without its newline.
+/// Returns the line of a tag, without its newline.
 pub fn tag_text(tag: u32) -> Text
     ensures value { result ≡ tag_line tag }
     ensures few { length result ≤ 100 }
@@ -14,7 +14,7 @@ pub fn tag_text(tag: u32) -> Text
     text
 }
 
-/// The line of a page, without its newline.
+/// Returns the line of a page, without its newline.
 pub fn page_text(page: u32) -> Text
     ensures value { result ≡ page_line page }
     ensures few { length result ≤ 100 }
@@ -25,7 +25,7 @@ pub fn page_text(page: u32) -> Text
     text
 }
 
-/// The line of an item and its page, without its newline.
+/// Returns the line of an item and its page, without its newline.
 pub fn item_text(first: u32, second: u32, page: u32) -> Text
     ensures value { result ≡ item_line first second page }
     ensures few { length result ≤ 100 }

@@ -113,8 +113,10 @@ fn tell_plan<W: Write>(region: &Region, size: PageSize, out: &mut Output, writer
     }
 }
 
-/// Writes the plan of the region in lines, or why it has none, and answers whether there is a plan. `Write` comes where
-/// a write fails or takes no byte. It takes no memory.
+/// Writes the plan of the region in lines, or the reason why it has none. Returns whether there is a plan. Allocates no
+/// memory.
+///
+/// Returns `Write` if a write fails or writes no byte.
 pub fn plan_lines<W: Write>(
     region: &Region,
     size: PageSize,

@@ -9,21 +9,21 @@ use crate::lines::{item_text, page_text, tag_text};
 use l4_msg::Item;
 use l4_text::{decimal_number, word};
 
-/// The word that eight digits spell, if they do.
+/// Returns the word that eight digits spell. If they spell none, the result is unspecified.
 fn word_of(digits: &[u8]) -> u32
     ensures { (w : ℕ) → w < 2 ^ 32 → digits.now ≡ word_text w → result ≡ w }
 {
     word(digits).unwrap_or(0)
 }
 
-/// The number that these digits spell, if they do.
+/// Returns the number that the digits spell.
 fn number_of(digits: &[u8]) -> Option<u32>
     ensures { (n : ℕ) → n < 2 ^ 32 → digits.now ≡ decimal n → result ≡ Some n }
 {
     decimal_number(digits)
 }
 
-/// The word of a tag line.
+/// Reads the word of a tag line. Returns `None` for any other line.
 pub fn tag_of_line(line: &[u8]) -> Option<u32>
     ensures found { IfSome result (λ tag. line.now ≡ tag_line tag) }
     ensures only { (tag : ℕ) → tag < 2 ^ 32 → line.now ≡ tag_line tag → result ≡ Some tag }
@@ -39,7 +39,7 @@ pub fn tag_of_line(line: &[u8]) -> Option<u32>
     None
 }
 
-/// The page of a page line.
+/// Reads the page of a page line. Returns `None` for any other line.
 pub fn page_of_line(line: &[u8]) -> Option<u32>
     ensures found { IfSome result (λ page. line.now ≡ page_line page) }
     ensures only { (page : ℕ) → page < 2 ^ 32 → line.now ≡ page_line page → result ≡ Some page }
@@ -57,7 +57,7 @@ pub fn page_of_line(line: &[u8]) -> Option<u32>
     None
 }
 
-/// The two words and the page of an item line.
+/// Reads the two words and the page of an item line. Returns `None` for any other line.
 fn words_of_line(line: &[u8]) -> Option<(u32, u32, u32)>
     ensures found { IfSome result (λ words. line.now ≡ item_line words.0 words.1 words.2) }
     ensures only { (first second page : ℕ) → first < 2 ^ 32 → second < 2 ^ 32 → page < 2 ^ 32
@@ -78,7 +78,7 @@ fn words_of_line(line: &[u8]) -> Option<(u32, u32, u32)>
     None
 }
 
-/// The map item and the page of an item line.
+/// Reads the map item and the page of an item line. Returns `None` for any other line.
 pub fn item_of_line(line: &[u8]) -> Option<(Item, u32)>
     ensures { MatchOption result ((item : AnItem) (page : ℕ) → IsItemLine line.now item page → ⊥) (λ found. IsItemLine line.now found.0 found.1) }
 {

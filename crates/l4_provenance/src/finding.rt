@@ -35,11 +35,13 @@ fn arrival(
     last_arrival(&mut kernel, history, count, place)
 }
 
-/// The provenance of a page of a space in the history of a kernel with so many frames of this size: the transfers that brought it there from a
-/// page that sigma0 had at boot, one after another. None where the page is not present at the end.
+/// Returns the provenance of a page in the history of a kernel with this number of frames of this size: the transfers
+/// that brought it there, one after another, from a page that sigma0 had at boot. Returns `None` if the page is not
+/// present at the end.
 ///
-/// The history is done once on a kernel of its own, and once more up to each link: `BadFrames` comes for fewer than 1 or more than 4,096 frames,
-/// `NoMemory` where a growth was refused, and `OtherAnswer` where a step gets another answer than the history says.
+/// The history is replayed once on a second kernel, and once more up to each link. Errors: `BadFrames` if the number
+/// of frames is not from 1 to 4,096, `NoMemory` if an allocation failed, and `OtherAnswer` if a step gets another
+/// answer than the history says.
 pub fn provenance(
     alloc: Global,
     frames: u32,

@@ -1,4 +1,4 @@
-//! Finds how a page came to where it is.
+//! Finds how a page got to where it is.
 #![tactic(auto)]
 
 mod finding;

@@ -1,4 +1,4 @@
-//! A history once more on a second kernel, and what came to a place in it.
+//! Replays a history on a second kernel, and finds what was moved to a place.
 ghost use Rattle.std.specs.Prelude.{◌≡◌, ◌≤◌, length, IfOk, IfErr};
 ghost use Rattle.l4_chains.specs.Inside.Redoing.{FailsAt};
 ghost use Rattle.l4_chains.specs.Replays.{FailsIn};
@@ -12,14 +12,14 @@ use l4_chains::{ChainLink, ReplayFault};
 use l4_ipc::{Kernel, Lower, Outcome, Place, Refused};
 use l4_record::{Entry, History};
 
-/// How a place came to what it shows.
+/// How a place got its mapping.
 #[derive(Clone, Copy)]
 pub enum Arrival {
     /// It is not present.
     Absent,
     /// Nothing was moved to it since boot.
     AtBoot,
-    /// By this link, and since then nothing was moved to it.
+    /// By this link. Nothing was moved to it since.
     By(ChainLink),
 }
 
@@ -63,7 +63,8 @@ fn newer_of(link: Option<ChainLink>, last: Option<ChainLink>) -> Option<ChainLin
     }
 }
 
-/// Does the first entries of the history, so many, and tells how the place came to what it shows after them.
+/// Replays this number of entries from the start of the history. Returns how the place got the mapping that it then
+/// has.
 pub fn last_arrival(
     kernel: &mut Kernel,
     history: &History,
@@ -96,8 +97,8 @@ pub fn last_arrival(
     }
 }
 
-/// Does all the steps of a history on a kernel. `NoMemory` comes where a growth was refused, and `OtherAnswer` where a step gets another answer
-/// than the history says; the steps before it are done then.
+/// Replays all steps of a history on a kernel. Errors: `NoMemory` if an allocation failed, and `OtherAnswer` if a
+/// step gets another answer than the history says; the steps before it are then executed.
 pub fn replay(kernel: &mut Kernel, history: &History) -> Result<(), ReplayFault>
     ensures ok { IfOk result (λ _. Run kernel.old (steps_of history.now.entries) (answers_of history.now.entries) kernel.new) }
     ensures err { IfErr result (FailsIn kernel.old history.now.entries) }

@@ -1,4 +1,4 @@
-//! What a transfer would move to a place, read from the kernel before it.
+//! What a transfer would move to a place, computed from the kernel before it.
 ghost use Rattle.std.specs.Prelude.{◌≡◌, ℕ, List, MatchOption};
 ghost use Rattle.l4_fpage.specs.declared.fpages.Fpage.{Fpage as AnFpage};
 ghost use Rattle.l4_msg.specs.declared.items.Item.{Item as AnItem};
@@ -98,7 +98,8 @@ fn first_link(
     None
 }
 
-/// The link that the step brings to the place, if it is a transfer that is delivered and brings one.
+/// Returns the link of the step to the place, if it is a delivered transfer that moves a page there.
+///
 pub fn link_to(kernel: &Kernel, number: usize, step: &Step, place: Place) -> Option<ChainLink>
     ensures { MatchOption result (¬ (IsWritten kernel.now step.now place)) (λ l. IsCarried kernel.now step.now l × (l.target ≡ place) × (l.entry ≡ number)) }
 {

@@ -1,4 +1,4 @@
-//! What a transfer would bring, read from the kernel before it.
+//! What a transfer would move, computed from the kernel before it.
 ghost use Rattle.std.specs.Prelude.{◌≡◌, ◌↔◌, ℕ, List, Contains, IsTrue, MatchOption, Some};
 ghost use Rattle.l4_fpage.specs.declared.fpages.Fpage.{Fpage as AnFpage};
 ghost use Rattle.l4_msg.specs.Moves.{MovePairs};
@@ -99,7 +99,7 @@ fn any_carries(kernel: &Kernel, sides: &Sides<'_>, link: &ChainLink) -> bool
     false
 }
 
-/// Whether the step's message has an item that moves the link's page, with the rights that the link names.
+/// Returns whether the step's message has an item that moves the link's page with the link's rights.
 pub fn is_carried(kernel: &Kernel, step: &Step, link: &ChainLink) -> bool
     ensures { IsTrue result ↔ IsCarried kernel.now step.now link.now }
 {
@@ -141,7 +141,7 @@ fn any_writes(kernel: &Kernel, sides: &Sides<'_>, place: Place) -> bool
     false
 }
 
-/// Whether the step's message has an item that moves a page to the place.
+/// Returns whether the step's message has an item that moves a page to the place.
 pub fn is_written(kernel: &Kernel, step: &Step, place: Place) -> bool
     ensures { IsTrue result ↔ IsWritten kernel.now step.now place }
 {

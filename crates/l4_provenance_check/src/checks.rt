@@ -60,11 +60,12 @@ fn leads(
     Ok(is_at(reached, place))
 }
 
-/// Whether the list of links is the provenance of a page of a space in the history of a kernel with so many frames of this size: the transfers
-/// that brought it there from a page that sigma0 had at boot, one after another. It is no provenance of a page that is not present at the end.
+/// Returns whether the list of links is the provenance of a page in the history of a kernel with this number of
+/// frames of this size: the transfers that brought it there, one after another, from a page that sigma0 had at boot.
+/// A page that is not present at the end has no provenance.
 ///
-/// The history is done on a kernel of its own: `BadFrames` comes for fewer than 1 or more than 4,096 frames, `NoMemory` where a growth was refused,
-/// and `OtherAnswer` where a step gets another answer than the history says.
+/// The history is replayed on a second kernel. Errors: `BadFrames` if the number of frames is not from 1 to 4,096,
+/// `NoMemory` if an allocation failed, and `OtherAnswer` if a step gets another answer than the history says.
 pub fn check_provenance(
     alloc: Global,
     frames: u32,

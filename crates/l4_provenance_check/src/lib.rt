@@ -1,4 +1,4 @@
-//! Judges a list of links that is told to be how a page came to where it is.
+//! Checks a list of links that is claimed to be the provenance of a page.
 #![tactic(auto)]
 
 mod carrying;

@@ -1,4 +1,4 @@
-//! The entries of a history on a second kernel, and the chain over each.
+//! Replays the entries of a history on a second kernel, and follows the chain across each.
 ghost use Rattle.std.specs.Prelude.{◌≡◌, ◌≢◌, ◌↔◌, ◌⊎◌, ◌∷◌, ℕ, List, IsTrue, IfOk, IfErr, MatchOption, Result, Ok};
 ghost use Rattle.l4_mapdb.specs.declared.Place.{Place as APlace};
 ghost use Rattle.l4_ipc.specs.declared.steps.Outcome.TheVariants.{Done};
@@ -107,7 +107,7 @@ fn due(left: &[ChainLink], number: usize) -> Option<(&ChainLink, &[ChainLink])>
     }
 }
 
-/// Whether two places are one.
+/// Returns whether two places are the same.
 pub fn is_at(a: Place, b: Place) -> bool
     ensures { IsTrue result ↔ (a ≡ b) }
 {
@@ -117,8 +117,9 @@ pub fn is_at(a: Place, b: Place) -> bool
     a.page == b.page
 }
 
-/// Does the entry of this number, and tells how far the chain leads over it: the next place, and the links that are left then. None where it
-/// doesn't.
+/// Replays the entry with this number, and follows the chain across it. Returns the next place and the links that are
+/// left, or `None` if the chain does not lead across it.
+///
 pub fn pass<'a>(
     kernel: &mut Kernel,
     number: usize,

@@ -1,26 +1,26 @@
 //! The history as a list of entries.
-ghost use Rattle.std.specs.Prelude.{◌≡◌, ◌+◌, ◌<◌, ◌^◌, ◌≤◌, ◌++◌, ◌∷◌, [], drop, nat_eq, length, slice_get, OnOk, IfSome};
-ghost use Rattle.l4_ipc.specs.declared.steps.Step.TheVariants.{Start};
+ghost use Rattle.std.specs.Prelude.{◌≡◌, ◌+◌, ◌<◌, ◌^◌, ◌≤◌, ◌++◌, ◌∷◌, [], drop, nat_eq, length, slice_get, OnOk, true, false};
+ghost use Rattle.l4_ipc.specs.declared.calls.Call.TheVariants.{Ipc as AnIpc, Fault as AFault};
 ghost use Rattle.l4_ipc.specs.OwnCall.{own_answer};
 ghost use Rattle.l4_record.specs.Lists.{EntryList, entry_list};
 ghost use Rattle.l4_record.specs.Following.{start_entry, next_entry};
+ghost use Rattle.l4_record.specs.Inside.Words.{ends_word};
 
 use crate::entries::Entry;
-use crate::packed::write_start;
-use l4_codes::{push_next, push_own_start};
-use l4_ipc::{Answer, Call, NextStep, Outcome};
-use l4_packed::{FromWords, ItemsFrom, PackedList, Record};
+use crate::words::{EXPIRE, TRANSFER, write_start};
+use l4_ipc::{Answer, Call, FaultCall, IpcCall, NextStep, Outcome};
+use l4_journal::{FAULT, FromWords, IPC, ItemsFrom, Journal, Record, outcome_word};
 use std::alloc::{AllocError, Global};
 use std::marker::Model;
 
 /// Entries of a history, one after another. Contracts see those that are left.
 pub type Entries<'a> = ItemsFrom<'a, Entry>;
 
-/// The entries of a recorded kernel, in order. They are stored packed.
+/// The entries of a recorded kernel, in order. They are stored as words.
 #[derive(Drop)]
 pub struct History {
-    entries: PackedList<Entry>,
-    packed: Record,
+    entries: Journal<Entry>,
+    record: Record,
 }
 
 impl Model for History {
@@ -31,19 +31,26 @@ impl Model for History {
     ghost view = { λ h. entry_list h.entries.items h.entries.room };
 }
 
-/// Whether the call of the thread ended alone in its start, or none did. None for any other answer.
-fn own_end(number: u32, answer: &Answer) -> Option<bool>
-    ensures { IfSome result (λ ended. answer.now ≡ own_answer ended number) }
+/// Whether the start of a call ended none.
+fn ends_none(answer: &Answer) -> bool
+    ensures { result ≡ true → answer.now ≡ own_answer false 0 }
 {
     match answer.outcome {
         Outcome::Started => {}
-        _ => return None,
+        _ => return false,
     }
     match answer.ended.as_slice() {
-        [] => Some(false),
-        [only] if *only == number => Some(true),
-        _ => None,
+        [] => true,
+        _ => false,
     }
+}
+
+/// The word for whether the sender's call ended too.
+#[inline(always)]
+fn ends_word(ends: bool) -> u32
+    ensures { result ≡ ends_word ends }
+{
+    if ends { 1 } else { 0 }
 }
 
 impl History {
@@ -52,8 +59,8 @@ impl History {
         ensures { result.entries ≡ [] }
     {
         History {
-            entries: PackedList::new(alloc),
-            packed: Record::new(),
+            entries: Journal::new(alloc),
+            record: Record::new(),
         }
     }
 
@@ -100,7 +107,15 @@ impl History {
         ensures entries { self.new.entries ≡ self.old.entries ++ next_entry seat next ∷ [] }
         ensures room { (length self.new.entries ≡ length self.old.entries + 1) × (self.new.room ≡ self.old.room) }
     {
-        push_next(&mut self.entries, seat, next);
+        match next {
+            NextStep::Transfer(sender, receiver, outcome, ends) => {
+                let outcome = outcome_word(outcome);
+                let ends = ends_word(ends);
+                let words = [TRANSFER, seat, sender, receiver, outcome, ends];
+                self.entries.push(&words, &[]);
+            }
+            NextStep::Expire(waiter) => self.entries.push(&[EXPIRE, seat, waiter], &[]),
+        }
     }
 
     /// Appends the entry of the start of a call, for which there is room.
@@ -109,30 +124,52 @@ impl History {
         ensures entries { self.new.entries ≡ self.old.entries ++ start_entry number call.now answer.now ∷ [] }
         ensures room { (length self.new.entries ≡ length self.old.entries + 1) × (self.new.room ≡ self.old.room) }
     {
-        match own_end(number, answer) {
-            Some(ended) => self.push_own_start(number, call, ended),
-            None => self.push_any_start(number, call, answer),
+        match call {
+            Call::Ipc(ipc) if ends_none(answer) => self.push_ipc(number, ipc),
+            Call::Fault(fault) if ends_none(answer) => self.push_fault(number, fault),
+            _ => self.push_answered(number, call, answer),
         }
     }
 
-    /// The same where the call of its thread ended alone, or none did.
-    fn push_own_start(&mut self, number: u32, call: &Call, ended: bool)
+    /// The same of an Ipc whose start ended no call.
+    #[inline(always)]
+    fn push_ipc(&mut self, number: u32, call: &IpcCall)
         requires { length self.old.entries < self.old.room }
-        ensures entries { self.new.entries ≡ self.old.entries ++ start_entry number call.now (own_answer ended number) ∷ [] }
+        ensures entries { self.new.entries ≡ self.old.entries ++ start_entry number (AnIpc call.now) (own_answer false 0) ∷ [] }
         ensures room { (length self.new.entries ≡ length self.old.entries + 1) × (self.new.room ≡ self.old.room) }
     {
-        push_own_start(&mut self.entries, &mut self.packed, number, call, ended);
+        let words = [
+            IPC,
+            number,
+            call.to.0,
+            call.from.0,
+            call.timeouts,
+            call.acceptor,
+        ];
+        self.entries.push(&words, call.words.as_slice());
     }
 
-    /// The same of any answer.
+    /// The same of a page fault whose start ended no call.
+    #[inline(always)]
+    fn push_fault(&mut self, number: u32, call: &FaultCall)
+        requires { length self.old.entries < self.old.room }
+        ensures entries { self.new.entries ≡ self.old.entries ++ start_entry number (AFault call.now) (own_answer false 0) ∷ [] }
+        ensures room { (length self.new.entries ≡ length self.old.entries + 1) × (self.new.room ≡ self.old.room) }
+    {
+        let access = u32::from(call.access.bits());
+        let words = [FAULT, number, call.address, call.ip, access];
+        self.entries.push(&words, &[]);
+    }
+
+    /// The same of any call and answer.
     #[cold]
     #[inline(never)]
-    fn push_any_start(&mut self, number: u32, call: &Call, answer: &Answer)
+    fn push_answered(&mut self, number: u32, call: &Call, answer: &Answer)
         requires { length self.old.entries < self.old.room }
         ensures entries { self.new.entries ≡ self.old.entries ++ start_entry number call.now answer.now ∷ [] }
         ensures room { (length self.new.entries ≡ length self.old.entries + 1) × (self.new.room ≡ self.old.room) }
     {
-        write_start(&mut self.packed, number, call, answer);
-        self.entries.push(&self.packed.words());
+        write_start(&mut self.record, number, call, answer);
+        self.entries.push(&[], self.record.as_slice());
     }
 }

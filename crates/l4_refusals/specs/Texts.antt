@@ -8,80 +8,80 @@ spelled code = slice_index_or code 0 0 * 256 + slice_index_or code 1 0
 -- what the library and the kernel refuse: the codes, each with a line that says what it means
 abbrev pub kernel_texts : List (List ℕ × List ℕ)
 kernel_texts =
-    (codes "B1", codes "the handle is empty")
-    ∷ (codes "B2", codes "the handle isn't empty")
-    ∷ (codes "B3", codes "there is no such kind of call")
-    ∷ (codes "B4", codes "a page has 4,096 or 1,024 bytes")
-    ∷ (codes "K1", codes "nobody waits so: the transfer or expiry can't be done now")
-    ∷ (codes "K2", codes "there is no thread of this number")
-    ∷ (codes "K3", codes "the thread's last call goes on")
-    ∷ (codes "K4", codes "a timeout is neither never nor zero")
-    ∷ (codes "K6", codes "a machine has 1 to 4,096 frames")
+    (codes "B1", codes "the handle is empty: it was never created, or it was freed")
+    ∷ (codes "B2", codes "the handle is not empty: free it before you use it again")
+    ∷ (codes "B3", codes "the kind of call is unknown")
+    ∷ (codes "B4", codes "the page size must be 4,096 or 1,024 bytes")
+    ∷ (codes "K1", codes "the step is not enabled: this transfer or expiry cannot happen now")
+    ∷ (codes "K2", codes "there is no thread with this number")
+    ∷ (codes "K3", codes "the thread's previous call has not ended yet")
+    ∷ (codes "K4", codes "a timeout is neither never (0) nor zero (0x400)")
+    ∷ (codes "K6", codes "the number of frames must be from 1 to 4,096")
     ∷ []
 
 -- what is refused of a message: the codes, each with a line that says what it means
 abbrev pub message_texts : List (List ℕ × List ℕ)
 message_texts =
-    (codes "M1", codes "the message tag counts more than 63 words after it")
-    ∷ (codes "M2", codes "the tag counts an odd number of words for the items")
-    ∷ (codes "M3", codes "the item has an unknown kind or is no fpage")
-    ∷ (codes "M4", codes "the item is a string or CtrlXfer item, which are left out here")
-    ∷ (codes "M5", codes "a flag of the tag is set")
-    ∷ (codes "M6", codes "the receive window is no fpage")
-    ∷ (codes "M7", codes "there is no tag, or there are fewer words than it counts")
+    (codes "M1", codes "the tag counts more than 63 words, untyped and typed together")
+    ∷ (codes "M2", codes "the tag counts an odd number of typed words, but every item has two")
+    ∷ (codes "M3", codes "the item has an unknown kind, or its fpage is invalid")
+    ∷ (codes "M4", codes "the item is a string or CtrlXfer item, which the kernel does not support")
+    ∷ (codes "M5", codes "a flag is set in the tag, but the kernel supports no flags")
+    ∷ (codes "M6", codes "the receive window is not a valid fpage")
+    ∷ (codes "M7", codes "the tag is missing, or fewer words follow it than it counts")
     ∷ []
 
 -- what a control of threads and an Unmap refuse: the codes, each with a line that says what it means
 abbrev pub control_texts : List (List ℕ × List ℕ)
 control_texts =
-    (codes "H1", codes "the caller isn't in root's space")
-    ∷ (codes "H2", codes "no thread can have this id")
-    ∷ (codes "H3", codes "there is a thread of this number")
-    ∷ (codes "H4", codes "no thread has this id")
-    ∷ (codes "H5", codes "there are 64 threads, or no number is left for a space")
-    ∷ (codes "H6", codes "sigma0, root and the caller itself can't be deleted")
-    ∷ (codes "U1", codes "the word of an Unmap is no fpage")
-    ∷ (codes "U2", codes "an Unmap has fewer words than its control word says")
+    (codes "H1", codes "the caller is not in root's address space")
+    ∷ (codes "H2", codes "the id is not a valid thread id")
+    ∷ (codes "H3", codes "a thread with this number already exists")
+    ∷ (codes "H4", codes "there is no thread with this id")
+    ∷ (codes "H5", codes "there are already 64 threads, or all space numbers are used up")
+    ∷ (codes "H6", codes "sigma0, root and the caller itself cannot be deleted")
+    ∷ (codes "U1", codes "a word passed to Unmap is not a valid fpage")
+    ∷ (codes "U2", codes "Unmap got fewer words than its control word requires")
     ∷ []
 
 -- why there is no plan of a region, or no such message of a plan: the codes, each with a line that says what it means
 abbrev pub plan_texts : List (List ℕ × List ℕ)
 plan_texts =
-    (codes "N1", codes "the region has no page")
-    ∷ (codes "N2", codes "the region goes beyond the pages of a space: 1,048,576, or 4,194,304 of 1,024 bytes")
-    ∷ (codes "N3", codes "the region has no rights")
-    ∷ (codes "N4", codes "no 1,984 map items, as many as 64 messages hold, move just the region")
-    ∷ (codes "N5", codes "the plan has more messages than one")
+    (codes "N1", codes "the region has no pages")
+    ∷ (codes "N2", codes "the source or target pages go beyond the end of a space: 1,048,576 pages, or 4,194,304 of 1,024 bytes")
+    ∷ (codes "N3", codes "the region has no rights: request at least one of r, w and x")
+    ∷ (codes "N4", codes "the region needs more than 1,984 map items, the most that 64 messages can hold")
+    ∷ (codes "N5", codes "the plan has more than one message")
     ∷ (codes "N6", codes "the plan has no message with this number")
     ∷ []
 
 -- why a plan isn't one: the codes, each with a line that says what it means
 abbrev pub check_texts : List (List ℕ × List ℕ)
 check_texts =
-    (codes "C1", codes "the item of a plan is none of the region's: a grant, other rights, or a page that goes elsewhere")
-    ∷ (codes "C2", codes "no item moves the page")
-    ∷ (codes "C3", codes "the page at this place of the list isn't one of the region's")
-    ∷ (codes "C4", codes "one map item could move the page at this place together with an earlier one, so the pages don't show that no list is shorter")
-    ∷ (codes "C5", codes "more than 1,984 items, or not one page an item; or not 1,985 pages")
-    ∷ (codes "C6", codes "the region is refused by N1, N2 or N3")
+    (codes "C1", codes "the item does not fit the region: it is a grant, has other rights, moves a page outside it, or moves a page to the wrong target")
+    ∷ (codes "C2", codes "no item of the plan moves the page")
+    ∷ (codes "C3", codes "the page at this position in the list is not in the region")
+    ∷ (codes "C4", codes "one map item could move the page at this position and an earlier one, so the pages do not prove that no plan is shorter")
+    ∷ (codes "C5", codes "the plan has more than 1,984 items, or not one page per item; or a too-long claim does not list 1,985 pages")
+    ∷ (codes "C6", codes "the region itself is refused with N1, N2 or N3")
     ∷ []
 
 -- what a pager's table and a locked kernel refuse, and want of memory: the codes, each with a line that says what it means
 abbrev pub table_texts : List (List ℕ × List ℕ)
 table_texts =
-    (codes "P1", codes "a page of the region is one of another region of the table")
-    ∷ (codes "P2", codes "no region of the table has the page with this access")
-    ∷ (codes "P3", codes "the table has 64 regions")
-    ∷ (codes "P4", codes "the region has no page, a page or source page beyond the space, or no right")
-    ∷ (codes "L1", codes "the history is full: with more than 999,871 steps no call is started")
-    ∷ (codes "L3", codes "an ended call of this seat has not been taken")
-    ∷ (codes "L4", codes "the seat of this number was given before")
-    ∷ (codes "L6", codes "the history has a transfer that found no memory, and finds it as the history is done again")
-    ∷ (codes "L7", codes "the links aren't how the page came there")
-    ∷ (codes "X1", codes "the seat of this number was given and is not here")
-    ∷ (codes "X2", codes "the seat of this number was not given, or is here twice")
-    ∷ (codes "X3", codes "the seat of this number does not agree with what was kept of it")
-    ∷ (codes "NoMemory", codes "there was no memory for it")
+    (codes "P1", codes "the region overlaps another region in the table")
+    ∷ (codes "P2", codes "no region in the table covers this page with the requested access")
+    ∷ (codes "P3", codes "the table is full: it has 64 regions")
+    ∷ (codes "P4", codes "the region has no pages or no rights, or one of its pages or source pages is beyond the end of the space")
+    ∷ (codes "L1", codes "the history is full: no call can start once it has more than 999,871 steps")
+    ∷ (codes "L3", codes "the reply to an earlier call of this seat has not been taken yet")
+    ∷ (codes "L4", codes "the seat of this number was already handed out")
+    ∷ (codes "L6", codes "a transfer that ran out of memory in the history succeeded when the history was replayed")
+    ∷ (codes "L7", codes "the given links do not match the way the page got there")
+    ∷ (codes "X1", codes "the seat of this number was handed out, but was not returned")
+    ∷ (codes "X2", codes "the seat of this number was never handed out, or was returned twice")
+    ∷ (codes "X3", codes "the seat of this number does not match the lock's records")
+    ∷ (codes "NoMemory", codes "there was not enough memory")
     ∷ []
 
 -- all codes

@@ -1,11 +1,11 @@
-//! The printed codes of refusals, and what they mean in words.
+//! The printed codes of refusals, each with a line of text that says what it means.
 #![tactic(auto)]
 
 ghost use Rattle.std.specs.Prelude.{◌≡◌, ◌++◌, ℕ, List, MatchOption, map};
 ghost use Rattle.l4_refusals.specs.Texts.{spelled, texts, text_in, kernel_texts, message_texts, control_texts, plan_texts, check_texts, table_texts};
 ghost use Rattle.l4_refusals.specs.Bytes.{bytes_of};
 
-/// A printed code, and what it means.
+/// A printed code, and the line of text that says what it means.
 #[derive(Clone, Copy)]
 pub struct Text {
     pub code: &'static [u8],
@@ -18,164 +18,188 @@ fn meaning(code: &'static [u8], line: &'static [u8]) -> Text
     Text { code, line }
 }
 
-/// What the library and the kernel refuse.
+/// The refusals of the library and of the kernel.
 fn kernel_texts() -> [Text; 9]
     ensures { map bytes_of result ≡ kernel_texts }
 {
     [
-        meaning(b"B1", b"the handle is empty"),
-        meaning(b"B2", b"the handle isn't empty"),
-        meaning(b"B3", b"there is no such kind of call"),
-        meaning(b"B4", b"a page has 4,096 or 1,024 bytes"),
+        meaning(
+            b"B1",
+            b"the handle is empty: it was never created, or it was freed",
+        ),
+        meaning(
+            b"B2",
+            b"the handle is not empty: free it before you use it again",
+        ),
+        meaning(b"B3", b"the kind of call is unknown"),
+        meaning(b"B4", b"the page size must be 4,096 or 1,024 bytes"),
         meaning(
             b"K1",
-            b"nobody waits so: the transfer or expiry can't be done now",
+            b"the step is not enabled: this transfer or expiry cannot happen now",
         ),
-        meaning(b"K2", b"there is no thread of this number"),
-        meaning(b"K3", b"the thread's last call goes on"),
-        meaning(b"K4", b"a timeout is neither never nor zero"),
-        meaning(b"K6", b"a machine has 1 to 4,096 frames"),
+        meaning(b"K2", b"there is no thread with this number"),
+        meaning(b"K3", b"the thread's previous call has not ended yet"),
+        meaning(b"K4", b"a timeout is neither never (0) nor zero (0x400)"),
+        meaning(b"K6", b"the number of frames must be from 1 to 4,096"),
     ]
 }
 
-/// What is refused of a message.
+/// The refusals of a message.
 fn message_texts() -> [Text; 7]
     ensures { map bytes_of result ≡ message_texts }
 {
     [
-        meaning(b"M1", b"the message tag counts more than 63 words after it"),
+        meaning(
+            b"M1",
+            b"the tag counts more than 63 words, untyped and typed together",
+        ),
         meaning(
             b"M2",
-            b"the tag counts an odd number of words for the items",
+            b"the tag counts an odd number of typed words, but every item has two",
         ),
-        meaning(b"M3", b"the item has an unknown kind or is no fpage"),
+        meaning(
+            b"M3",
+            b"the item has an unknown kind, or its fpage is invalid",
+        ),
         meaning(
             b"M4",
-            b"the item is a string or CtrlXfer item, which are left out here",
+            b"the item is a string or CtrlXfer item, which the kernel does not support",
         ),
-        meaning(b"M5", b"a flag of the tag is set"),
-        meaning(b"M6", b"the receive window is no fpage"),
+        meaning(
+            b"M5",
+            b"a flag is set in the tag, but the kernel supports no flags",
+        ),
+        meaning(b"M6", b"the receive window is not a valid fpage"),
         meaning(
             b"M7",
-            b"there is no tag, or there are fewer words than it counts",
+            b"the tag is missing, or fewer words follow it than it counts",
         ),
     ]
 }
 
-/// What a control of threads and an Unmap refuse.
+/// The refusals of a control of threads, and of an Unmap.
 fn control_texts() -> [Text; 8]
     ensures { map bytes_of result ≡ control_texts }
 {
     [
-        meaning(b"H1", b"the caller isn't in root's space"),
-        meaning(b"H2", b"no thread can have this id"),
-        meaning(b"H3", b"there is a thread of this number"),
-        meaning(b"H4", b"no thread has this id"),
+        meaning(b"H1", b"the caller is not in root's address space"),
+        meaning(b"H2", b"the id is not a valid thread id"),
+        meaning(b"H3", b"a thread with this number already exists"),
+        meaning(b"H4", b"there is no thread with this id"),
         meaning(
             b"H5",
-            b"there are 64 threads, or no number is left for a space",
+            b"there are already 64 threads, or all space numbers are used up",
         ),
         meaning(
             b"H6",
-            b"sigma0, root and the caller itself can't be deleted",
+            b"sigma0, root and the caller itself cannot be deleted",
         ),
-        meaning(b"U1", b"the word of an Unmap is no fpage"),
+        meaning(b"U1", b"a word passed to Unmap is not a valid fpage"),
         meaning(
             b"U2",
-            b"an Unmap has fewer words than its control word says",
+            b"Unmap got fewer words than its control word requires",
         ),
     ]
 }
 
-/// Why there is no plan of a region, or no such message of a plan.
+/// The refusals of a plan, and of one of its messages.
 fn plan_texts() -> [Text; 6]
     ensures { map bytes_of result ≡ plan_texts }
 {
     [
-        meaning(b"N1", b"the region has no page"),
+        meaning(b"N1", b"the region has no pages"),
         meaning(
             b"N2",
-            b"the region goes beyond the pages of a space: 1,048,576, or 4,194,304 of 1,024 bytes",
+            b"the source or target pages go beyond the end of a space: 1,048,576 pages, or 4,194,304 of 1,024 bytes",
         ),
-        meaning(b"N3", b"the region has no rights"),
+        meaning(
+            b"N3",
+            b"the region has no rights: request at least one of r, w and x",
+        ),
         meaning(
             b"N4",
-            b"no 1,984 map items, as many as 64 messages hold, move just the region",
+            b"the region needs more than 1,984 map items, the most that 64 messages can hold",
         ),
-        meaning(b"N5", b"the plan has more messages than one"),
+        meaning(b"N5", b"the plan has more than one message"),
         meaning(b"N6", b"the plan has no message with this number"),
     ]
 }
 
-/// Why a plan isn't one.
+/// The faults of a plan.
 fn check_texts() -> [Text; 6]
     ensures { map bytes_of result ≡ check_texts }
 {
     [
         meaning(
             b"C1",
-            b"the item of a plan is none of the region's: a grant, other rights, or a page that goes elsewhere",
+            b"the item does not fit the region: it is a grant, has other rights, moves a page outside it, or moves a page to the wrong target",
         ),
-        meaning(b"C2", b"no item moves the page"),
+        meaning(b"C2", b"no item of the plan moves the page"),
         meaning(
             b"C3",
-            b"the page at this place of the list isn't one of the region's",
+            b"the page at this position in the list is not in the region",
         ),
         meaning(
             b"C4",
-            b"one map item could move the page at this place together with an earlier one, so the pages don't show that no list is shorter",
+            b"one map item could move the page at this position and an earlier one, so the pages do not prove that no plan is shorter",
         ),
         meaning(
             b"C5",
-            b"more than 1,984 items, or not one page an item; or not 1,985 pages",
+            b"the plan has more than 1,984 items, or not one page per item; or a too-long claim does not list 1,985 pages",
         ),
-        meaning(b"C6", b"the region is refused by N1, N2 or N3"),
+        meaning(b"C6", b"the region itself is refused with N1, N2 or N3"),
     ]
 }
 
-/// What a pager's table and a locked kernel refuse, and want of memory.
+/// The refusals of a pager's table and of a locked kernel, and a failed allocation.
 fn table_texts() -> [Text; 13]
     ensures { map bytes_of result ≡ table_texts }
 {
     [
-        meaning(
-            b"P1",
-            b"a page of the region is one of another region of the table",
-        ),
+        meaning(b"P1", b"the region overlaps another region in the table"),
         meaning(
             b"P2",
-            b"no region of the table has the page with this access",
+            b"no region in the table covers this page with the requested access",
         ),
-        meaning(b"P3", b"the table has 64 regions"),
+        meaning(b"P3", b"the table is full: it has 64 regions"),
         meaning(
             b"P4",
-            b"the region has no page, a page or source page beyond the space, or no right",
+            b"the region has no pages or no rights, or one of its pages or source pages is beyond the end of the space",
         ),
         meaning(
             b"L1",
-            b"the history is full: with more than 999,871 steps no call is started",
+            b"the history is full: no call can start once it has more than 999,871 steps",
         ),
-        meaning(b"L3", b"an ended call of this seat has not been taken"),
-        meaning(b"L4", b"the seat of this number was given before"),
+        meaning(
+            b"L3",
+            b"the reply to an earlier call of this seat has not been taken yet",
+        ),
+        meaning(b"L4", b"the seat of this number was already handed out"),
         meaning(
             b"L6",
-            b"the history has a transfer that found no memory, and finds it as the history is done again",
+            b"a transfer that ran out of memory in the history succeeded when the history was replayed",
         ),
-        meaning(b"L7", b"the links aren't how the page came there"),
-        meaning(b"X1", b"the seat of this number was given and is not here"),
+        meaning(
+            b"L7",
+            b"the given links do not match the way the page got there",
+        ),
+        meaning(
+            b"X1",
+            b"the seat of this number was handed out, but was not returned",
+        ),
         meaning(
             b"X2",
-            b"the seat of this number was not given, or is here twice",
+            b"the seat of this number was never handed out, or was returned twice",
         ),
         meaning(
             b"X3",
-            b"the seat of this number does not agree with what was kept of it",
+            b"the seat of this number does not match the lock's records",
         ),
-        meaning(b"NoMemory", b"there was no memory for it"),
+        meaning(b"NoMemory", b"there was not enough memory"),
     ]
 }
 
-/// The number of a code.
+/// Returns the number of a code.
 fn spelled(code: &[u8]) -> u32
     ensures { result ≡ spelled code.now }
 {
@@ -186,7 +210,7 @@ fn spelled(code: &[u8]) -> u32
     }
 }
 
-/// The first of these texts that is the refusal's.
+/// Returns the first of these texts whose code is the refusal.
 fn found_in(texts: &[Text], refusal: u32) -> Option<Text>
     ensures { (rest : List (List ℕ × List ℕ)) → MatchOption result (text_in (map bytes_of texts.now ++ rest) refusal ≡ text_in rest refusal)
         (λ text. text_in (map bytes_of texts.now ++ rest) refusal ≡ bytes_of text) }
@@ -199,7 +223,8 @@ fn found_in(texts: &[Text], refusal: u32) -> Option<Text>
     None
 }
 
-/// The code of a refusal and what it means; nothing for a number that is none.
+/// Returns the code and the text of a refusal, which is given by its number: the first two bytes of its code. Both are
+/// empty if the number is not a refusal.
 pub fn text_of(refusal: u32) -> Text
     ensures { bytes_of result ≡ text_in texts refusal }
 {

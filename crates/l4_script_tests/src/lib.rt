@@ -2,9 +2,9 @@
 #![tactic(auto)]
 
 #[cfg(test)]
-mod options;
+mod journal;
 #[cfg(test)]
-mod packed;
+mod options;
 #[cfg(test)]
 mod plan_lines;
 #[cfg(test)]

@@ -1,5 +1,6 @@
 use l4_fpage::PageSize;
 use l4_shell::{RunFault, run};
+use l4_sinks::Teller;
 use l4_text::{Drip, Sip};
 use std::io;
 use std::io::Read;
@@ -52,7 +53,13 @@ fn answers_a_script(rt: HostRuntime) -> Result<(), Fail> {
     let mut written = Vec::new(rt.alloc());
     let mut script = SCRIPT;
     assert_eq!(rt;
-        run(rt.alloc(), 256, PageSize::Kib4, &mut script, &mut written),
+        run(
+            rt.alloc(),
+            256,
+            PageSize::Kib4,
+            &mut script,
+            &mut Teller::new(&mut written, false, None)
+        ),
         Ok(4)
     );
     assert!(rt; Some(&written.as_slice()) == ANSWERS.last());
@@ -65,7 +72,13 @@ fn answers_a_script_of_small_pages(rt: HostRuntime) -> Result<(), Fail> {
     let mut written = Vec::new(rt.alloc());
     let mut script = SCRIPT;
     assert_eq!(rt;
-        run(rt.alloc(), 256, PageSize::Kib1, &mut script, &mut written),
+        run(
+            rt.alloc(),
+            256,
+            PageSize::Kib1,
+            &mut script,
+            &mut Teller::new(&mut written, false, None)
+        ),
         Ok(4)
     );
     let shown =
@@ -83,7 +96,13 @@ fn a_failing_read_loses_no_answer(rt: HostRuntime) -> Result<(), Fail> {
             calls,
         };
         let mut written = Vec::new(rt.alloc());
-        let result = run(rt.alloc(), 256, PageSize::Kib4, &mut reader, &mut written);
+        let result = run(
+            rt.alloc(),
+            256,
+            PageSize::Kib4,
+            &mut reader,
+            &mut Teller::new(&mut written, false, None),
+        );
         assert_eq!(rt; result, Err(RunFault::Read), "at {calls}");
         let whole = newlines(SCRIPT.get(..calls).ok_or("no front")?);
         let owed = ANSWERS.get(whole).ok_or("no answers")?;
@@ -102,7 +121,13 @@ fn a_cut_line_is_refused(rt: HostRuntime) -> Result<(), Fail> {
         let mut written = Vec::new(rt.alloc());
         let count = (whole as u64).saturating_add(u64::from(is_cut));
         assert_eq!(rt;
-            run(rt.alloc(), 256, PageSize::Kib4, &mut reader, &mut written),
+            run(
+                rt.alloc(),
+                256,
+                PageSize::Kib4,
+                &mut reader,
+                &mut Teller::new(&mut written, false, None)
+            ),
             Ok(count),
             "at {end}"
         );
@@ -123,7 +148,13 @@ fn a_comment_without_end_gives_nothing(rt: HostRuntime) -> Result<(), Fail> {
     for calls in [0, 1, 4_095, 4_096, 4_097, 10_000] {
         let mut reader = Hashes { calls };
         let mut written = Vec::new(rt.alloc());
-        let result = run(rt.alloc(), 256, PageSize::Kib4, &mut reader, &mut written);
+        let result = run(
+            rt.alloc(),
+            256,
+            PageSize::Kib4,
+            &mut reader,
+            &mut Teller::new(&mut written, false, None),
+        );
         assert_eq!(rt; result, Err(RunFault::Read), "after {calls}");
         assert!(rt; written.is_empty(), "after {calls}");
     }
@@ -139,7 +170,13 @@ fn a_failing_write_leaves_a_beginning(rt: HostRuntime) -> Result<(), Fail> {
             calls,
         };
         let mut script = SCRIPT;
-        let result = run(rt.alloc(), 256, PageSize::Kib4, &mut script, &mut writer);
+        let result = run(
+            rt.alloc(),
+            256,
+            PageSize::Kib4,
+            &mut script,
+            &mut Teller::new(&mut writer, false, None),
+        );
         assert_eq!(rt; result, Err(RunFault::Write), "at {calls}");
         assert!(rt;
             whole.get(..calls) == Some(writer.taken.as_slice()),

@@ -1,4 +1,4 @@
-//! The kernel of a script: one that is recorded, and the numbers whose threads may enter calls.
+//! The kernel of a script: a recorded kernel, and the numbers of the threads that may enter calls.
 #![tactic(auto)]
 
 mod seated;

@@ -1,4 +1,4 @@
-//! The kernel of a script: one that is recorded, and the numbers whose threads may enter calls.
+//! The kernel of a script: a recorded kernel, and the numbers of the threads that may enter calls.
 ghost use Rattle.std.specs.Prelude.{◌≡◌, ◌≤◌, ◌↔◌, false, IsTrue, IfOk, IfErr, MatchResult, length};
 ghost use Rattle.l4_record.specs.Recording.{RefusesBoot};
 ghost use Rattle.l4_seated.specs.Seated.{is_among, IsNew, with_number, MayEnter, Refuses};
@@ -9,7 +9,7 @@ use l4_record::{Appended, Board, History, RecordRefusal, Recorder, Watch};
 use std::alloc::Global;
 use std::marker::Model;
 
-/// A recorded kernel, the numbers that have their seats, and a watch of its board. Who has no seat enters no call.
+/// A recorded kernel, the numbers that have their seats, and a watch of its board. A number without a seat cannot enter calls.
 #[derive(Drop)]
 pub struct SeatedKernel {
     recorder: Recorder,
@@ -34,7 +34,7 @@ impl Model for SeatedKernel {
 }
 
 impl SeatedKernel {
-    /// A kernel as it boots, with 1 to 4,096 frames of this size, an empty history and no seats.
+    /// Boots a kernel with 1 to 4,096 frames of this size, an empty history and no seats.
     pub fn new(alloc: Global, frames: u32, size: PageSize) -> Result<SeatedKernel, RecordRefusal>
         ensures { MatchResult result (IsNew frames size) (RefusesBoot frames) }
     {
@@ -53,7 +53,7 @@ impl SeatedKernel {
         })
     }
 
-    /// The kernel.
+    /// Returns the kernel.
     pub fn kernel(&self) -> &Kernel
         ensures { result.now ≡ self.now.machine }
     {
@@ -72,8 +72,9 @@ impl SeatedKernel {
         numbers.contains(&number)
     }
 
-    /// The number has its seat from then on. `NoMemory` comes where a growth was refused, and then nothing has changed; never for a
-    /// number that has its seat.
+    /// Gives the number its seat, unless it has one.
+    ///
+    /// Returns `NoMemory` if an allocation fails, and then nothing has changed. This cannot happen if the number has its seat.
     pub fn give(&mut self, number: u32) -> Result<(), NoMemory>
         ensures { MatchResult result
             (λ _. self.new ≡ record self.old { numbers = with_number self.old.numbers number })
@@ -89,8 +90,8 @@ impl SeatedKernel {
         Ok(())
     }
 
-    /// Whether a call of the number's thread may be entered now: the number has its seat, the history has room for the call, and the thread
-    /// runs.
+    /// Returns whether a call of the number's thread may be entered now: the number has its seat, the history has room for the call, and
+    /// the thread runs.
     pub fn may_enter(&self, number: u32) -> bool
         ensures { IsTrue result ↔ MayEnter self.now.machine (length self.now.history) self.now.numbers number }
     {
@@ -103,11 +104,11 @@ impl SeatedKernel {
         self.recorder.kernel().runs(number)
     }
 
-    /// Enters a call of the number's thread, if that has its seat: its start and then the steps that come next, until there is none. What was
-    /// appended is told in the place that is lent.
+    /// Enters a call of the number's thread, if the number has its seat. Executes the start of the call, and then the steps that come next,
+    /// until there is none. Writes what was appended to the history to `appended`.
     ///
-    /// Refusals in this order: `Kernel(UnknownThread)` for a number that has no seat, `HistoryFull`, `NoMemory`, `Kernel`. After any of them
-    /// nothing has changed.
+    /// Returns these refusals, tested in this order: `Kernel(UnknownThread)` if the number has no seat, `HistoryFull`, `NoMemory`,
+    /// `Kernel`. After a refusal, nothing has changed.
     pub fn enter_if_seated(
         &mut self,
         number: u32,
@@ -123,7 +124,7 @@ impl SeatedKernel {
         self.recorder.enter(number, call, appended)
     }
 
-    /// What the board shows: the length of the history. It is not below what was shown before.
+    /// Returns the number on the board: the length of the history. It never falls.
     pub fn steps(&mut self) -> u64
         ensures rises { self.old.seen ≤ result }
         ensures seen { self.new ≡ record self.old { seen = result } }
@@ -137,7 +138,7 @@ impl SeatedKernel {
         board.look(watch)
     }
 
-    /// The history.
+    /// Returns the history.
     pub fn into_history(self) -> History
         ensures { result.entries ≡ self.history }
     {

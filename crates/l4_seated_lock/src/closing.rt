@@ -1,4 +1,4 @@
-//! Whether the seats that come back are those that were given.
+//! Compares the seats that are returned with those that were given.
 ghost use Rattle.std.specs.Prelude.{◌≡◌, ◌≤◌, ◌⊎◌, true, false, length, MatchOption};
 ghost use Rattle.l4_lock.specs.Closing.{HasSeat, Least};
 ghost use Rattle.l4_lock.specs.Inside.Closing.{keep};
@@ -78,7 +78,7 @@ fn first_foreign(seats: &[Seat], numbers: &[u32]) -> Option<u32>
     found
 }
 
-/// How the seats of these numbers differ from those that are here.
+/// Returns how the seats of these numbers differ from the given seats.
 pub(crate) fn mismatch(seats: &[Seat], numbers: &[u32]) -> Option<Mismatch>
     ensures { MatchOption result (AreNamed seats.now numbers.now) (Misnames seats.now numbers.now) }
 {

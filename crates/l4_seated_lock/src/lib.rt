@@ -1,4 +1,4 @@
-//! A locked kernel together with the seats that it gave, by their numbers, for whoever holds all of them.
+//! A locked kernel together with all the seats that it gave, by their numbers, for callers that hold all of them.
 #![tactic(auto)]
 
 mod closing;

@@ -1,4 +1,4 @@
-//! The locked kernel with its seats.
+//! A locked kernel together with its seats.
 ghost use Rattle.std.specs.Prelude.{◌≡◌, ◌≢◌, ◌⊎◌, ◌+◌, ◌≤◌, ◌↔◌, [], ◌∷◌, ◌++◌, None, Some, IsTrue, IfOk, IfErr, IfSome, IfNone, MatchResult, MatchOption, false};
 ghost use Rattle.l4_fpage.specs.Pages.{max_frames};
 ghost use Rattle.l4_ipc.specs.Machine.{Machine, IsBoot};
@@ -25,7 +25,7 @@ use std::marker::Model;
 /// The greatest number of entries with which another call is entered.
 const LAST_START: usize = MAX_ENTRIES - MAX_STEPS - 1;
 
-/// A locked kernel and each seat that it gave. Contracts see the locked kernel, whose books say what each seat keeps.
+/// A locked kernel and all seats that it gave. Contracts see the locked kernel, whose books state the content of each seat.
 #[derive(Drop)]
 pub struct SeatedLock {
     locked: Locked,
@@ -49,9 +49,10 @@ impl Model for SeatedLock {
 }
 
 impl SeatedLock {
-    /// A kernel as it boots, with 1 to 4,096 frames of this size and an empty history, of which no seat was given.
+    /// Boots a kernel with 1 to 4,096 frames of this size, an empty history and no seats.
     ///
-    /// `Kernel(BadFrames)` (L5) comes for any other number, and else `NoMemory` (L2), or `Kernel` with it, where a growth was refused.
+    /// Returns `Kernel(BadFrames)` (L5) for any other number of frames. Returns `NoMemory` (L2), or `Kernel` with it, if an allocation
+    /// fails.
     pub fn new(alloc: Global, frames: u32, size: PageSize) -> Result<SeatedLock, LockRefusal>
         ensures { MatchResult result
             (λ l. (l.frames ≡ frames) × (l.kernel.size ≡ size) × IsBoot frames l.kernel × (l.history ≡ []) × (l.books ≡ []) × (1 ≤ frames) × (frames ≤ max_frames))
@@ -66,37 +67,37 @@ impl SeatedLock {
         }
     }
 
-    /// The kernel.
+    /// Returns the kernel.
     pub fn kernel(&self) -> &Kernel
         ensures { result.now ≡ self.now.kernel }
     {
         self.locked.kernel()
     }
 
-    /// The history.
+    /// Returns the history.
     pub fn history(&self) -> &History
         ensures { result.now.entries ≡ self.now.history }
     {
         self.locked.history()
     }
 
-    /// What holds of the locked kernel at all times. It does nothing.
+    /// Ghost function: gives a proof the invariant of the locked kernel. It compiles to nothing.
     pub fn law_kept(&self)
         ensures { IsKept self.now }
     {
         self.locked.law_kept();
     }
 
-    /// What holds of the whole history. It does nothing.
+    /// Ghost function: gives a proof the invariant of the whole history. It compiles to nothing.
     pub fn law_history(&self)
         ensures { IsWholeRun self.now.frames self.now.history self.now.kernel }
     {
         self.locked.law_history();
     }
 
-    /// The seat of a number is given, once.
+    /// Gives the number its seat, once.
     ///
-    /// Refusals in this order: `SeatTaken` (L4), `NoMemory` (L2). After either nothing has changed.
+    /// Returns these refusals, tested in this order: `SeatTaken` (L4), `NoMemory` (L2). After either, nothing has changed.
     pub fn give(&mut self, number: u32) -> Result<(), LockRefusal>
         ensures { MatchResult result
             (λ _. (book_at self.old.books number ≡ None) × (self.new ≡ record self.old { books = self.old.books ++ book number None [] ∷ [] }))
@@ -118,7 +119,8 @@ impl SeatedLock {
         }
     }
 
-    /// The seat of a number, if it was given: its receipts, each of which is right about the history, and how many calls it has started.
+    /// Returns the seat of a number, if it was given: its receipts, each of which agrees with the history, and the number of calls that it
+    /// has started.
     pub fn seat(&self, number: u32) -> Option<&Seat>
         ensures { MatchOption result (book_at self.now.books number ≡ None)
             (λ seat. (seat_at self.now.books number ≡ Some seat.now) × IsShown self.now seat.now) }
@@ -130,7 +132,7 @@ impl SeatedLock {
         Some(&self.seats[at])
     }
 
-    /// Why no call of a number is entered whose seat was not given.
+    /// Returns the refusal of a call under a number without a seat.
     fn refuse_unseated(&self) -> LockRefusal
         ensures { RefusesUnseated self.now result }
     {
@@ -141,11 +143,11 @@ impl SeatedLock {
         }
     }
 
-    /// Enters a call of the number's thread: its start is appended to the history, and then the steps that come next until there is none,
-    /// at most 128.
+    /// Enters a call of the number's thread. Executes its start, and then the steps that come next, until there is none: at most 128. All
+    /// of them are appended to the history.
     ///
-    /// Refusals in this order: `ReplyWaiting` (L3), `HistoryFull` (L1), `NoMemory` (L2), `Kernel` (L5), which is `UnknownThread` for a
-    /// number whose seat was not given. After any of them nothing has changed.
+    /// Returns these refusals, tested in this order: `ReplyWaiting` (L3), `HistoryFull` (L1), `NoMemory` (L2), `Kernel` (L5), which is
+    /// `UnknownThread` if the number has no seat. After a refusal, nothing has changed.
     pub fn enter(&mut self, number: u32, call: Call) -> Result<Entered, LockRefusal>
         ensures ok { IfOk result (EntersBySeat self.old self.new number call) }
         ensures err { IfErr result (λ e. Refuses self.old number call e × (self.new ≡ self.old)) }
@@ -159,7 +161,8 @@ impl SeatedLock {
         entered
     }
 
-    /// The reply of a call of the number's thread that was left waiting and has ended since: it is taken once.
+    /// Takes the reply of a call of the number's thread that was left waiting and has ended since. Each reply is returned once. Returns
+    /// `None` if no reply waits.
     pub fn take(&mut self, number: u32) -> Option<Reply>
         ensures some { IfSome result (TakesBySeat self.old self.new number) }
         ensures none { IfNone result ((self.new ≡ self.old) × (reply_waits self.old.books number ≡ false)) }
@@ -170,12 +173,12 @@ impl SeatedLock {
         self.locked.take(&mut self.seats[at])
     }
 
-    /// How a page of a space came to where it is, by the history: the transfers that brought it there from a page that sigma0 had at boot, one
-    /// after another. None where the page is not present.
+    /// Returns the provenance of a page of a space, by the history: the transfers that brought the page there from a page that sigma0 had
+    /// at boot, in their order. Returns `Ok(None)` if the page is not present.
     ///
-    /// The history is done once more on a kernel of its own, and once up to each link: `NoMemory` comes where a growth was refused, and
-    /// `OtherAnswer` where a transfer found no memory as it was entered, and finds it then. `BadFrames` comes for no number
-    /// of frames that a lock is made with.
+    /// The history is executed again on a separate kernel, and once up to each link. Returns `NoMemory` if an allocation fails. Returns
+    /// `OtherAnswer` if a transfer ran out of memory when it was entered, and does not run out now. A lock never has a number of frames for
+    /// which `BadFrames` is returned.
     pub fn provenance(
         &self,
         alloc: Global,
@@ -190,8 +193,8 @@ impl SeatedLock {
         provenance(alloc, self.locked.frames(), size, self.history(), place)
     }
 
-    /// Whether the list of links is that, judged by code that shares none with the finder: no list is where the page is not present. The
-    /// faults are those of `provenance`.
+    /// Returns whether the list of links is that provenance. The checker shares no code with the finder. If the page is not present, the
+    /// result is `false` for every list. The faults are those of `provenance`.
     pub fn check_provenance(
         &self,
         alloc: Global,
@@ -214,9 +217,11 @@ impl SeatedLock {
         )
     }
 
-    /// How the seats of these numbers differ from those that were given, as where the lock is closed and they come back: the least number
-    /// whose seat is missing (X1), or else the least that was not given or comes back twice (X2); each seat that was given agrees with what
-    /// was kept of it, so there is no wrong receipt (X3). `None` where just those come back that were given, each once.
+    /// Compares the seats of these numbers with the given seats, as closing a lock does when its seats are returned.
+    ///
+    /// Returns the least number whose seat is missing (X1), or else the least number that was not given or is returned twice (X2). Each
+    /// given seat agrees with what the lock kept of it, so there is never a wrong receipt (X3). Returns `None` if exactly the given seats
+    /// are returned, each once.
     pub fn mismatch(&self, numbers: &[u32]) -> Option<Mismatch>
         ensures { MatchOption result (Closes self.now (seats_back self.now.books numbers.now))
             (Mismatches (by_history self.now.history) self.now.books (seats_back self.now.books numbers.now)) }

@@ -1,4 +1,4 @@
-//! Threads that are served: who is, by which table each answers, and what it enters next.
+//! Served threads: which threads they are, the table that each one answers from, and the next call of each.
 #![tactic(auto)]
 
 mod served;

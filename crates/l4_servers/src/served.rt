@@ -1,4 +1,4 @@
-//! The numbers of the threads that are served.
+//! The numbers of the served threads.
 ghost use Rattle.std.specs.Prelude.{◌≡◌, MatchResult, not, false};
 ghost use Rattle.std.specs.Ordering.{nat_cmp};
 ghost use Rattle.std.specs.List.Sorted.{IsStrictlySortedBy};
@@ -39,8 +39,8 @@ impl ServedThreads {
         }
     }
 
-    /// The thread is served from now on. Answers whether it was not before. Want of memory comes only where it was not, and then nothing
-    /// changes.
+    /// Makes a thread served. Returns whether it was not served before. Returns `NoMemory` if an allocation failed,
+    /// which is possible only if it was not served; then nothing changes.
     pub(crate) fn insert(&mut self, number: u32) -> Result<bool, NoMemory>
         ensures { MatchResult result
             (λ begins. (begins ≡ not (set.contains self.old number)) × (self.new ≡ set.insert self.old number) × (begins ≡ false → self.new ≡ self.old))

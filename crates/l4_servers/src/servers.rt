@@ -1,4 +1,4 @@
-//! The servers, and the call that the next of them enters.
+//! The servers, and the next call of a server.
 ghost use Rattle.std.specs.Prelude.{◌≡◌, ◌%◌, not, IfOk, OnErr, MatchOption, MatchResult};
 ghost use Rattle.l4_msg.specs.Messages.{CanBeWritten};
 
@@ -25,16 +25,17 @@ const _: () = prove!(l4_sigma0::MAX_FRAMES == l4_ipc::MAX_FRAMES as usize);
 /// The space that a sender who is no longer there counts as.
 const GONE_SPACE: u64 = u64::MAX;
 
-/// Why a region isn't added to a thread's table.
+/// The reason why a region is not added to a thread's table.
 #[derive(Clone, Copy, PartialEq, Eq, Debug)]
 pub enum RegionRefusal {
     /// The table refuses it.
     Pager(PagerRefusal),
-    /// There is no memory for the thread's table.
+    /// The allocation of the thread's table failed.
     NoMemory,
 }
 
-/// sigma0's table of owners, the region tables of threads, and the threads that are served. Threads go by their numbers.
+/// sigma0's table of owners, the region tables of threads, and the set of served threads. Threads are named by their
+/// numbers.
 #[derive(Drop)]
 pub struct Servers {
     owners: Sigma0,
@@ -80,7 +81,8 @@ impl Servers {
     ghost use Rattle.l4_msg.specs.declared.items.Item.TheVariants.{Map};
     ghost use Rattle.l4_pager.specs.Briefs.{brief_message};
 
-    /// No frame has an owner, no thread has a table, and nobody is served. `frames` is at most 4,096.
+    /// Returns empty servers: no frame has an owner, no thread has a table, and no thread is served. `frames` is at
+    /// most 4,096.
     pub fn new(alloc: Global, frames: u32, size: PageSize) -> Servers
         requires { frames ≤ max_frames }
         ensures { result ≡ no_servers size frames }
@@ -93,8 +95,8 @@ impl Servers {
         }
     }
 
-    /// Adds a region to a thread's table. The refusals are the table's, in its order, and then want of memory, which comes for the
-    /// thread's first region alone. A region that is refused changes nothing.
+    /// Adds a region to a thread's table. A refused region changes nothing. Errors: those of the table, in its order,
+    /// and then `NoMemory`, which is possible for a thread's first region only.
     pub fn add_region(&mut self, thread: u32, entry: Entry) -> Result<(), RegionRefusal>
         ensures { MatchResult result
             (λ _. CanAdd (regions_of self.old thread) entry × (self.new ≡ with_region self.old thread entry))
@@ -116,8 +118,8 @@ impl Servers {
         Ok(())
     }
 
-    /// The thread is served from now on. Answers whether it was not before. Want of memory comes only where it was not, and then nothing
-    /// changes.
+    /// Makes a thread served. Returns whether it was not served before. Returns `NoMemory` if an allocation failed,
+    /// which is possible only if it was not served; then nothing changes.
     pub fn serve(&mut self, thread: u32) -> Result<bool, NoMemory>
         ensures { MatchResult result
             (λ begins. (begins ≡ not (is_served self.old thread)) × (self.new ≡ with_served self.old thread) × (begins ≡ false → self.new ≡ self.old))
@@ -129,14 +131,14 @@ impl Servers {
         Ok(begins)
     }
 
-    /// The thread is served no longer; its table stays. For one that isn't served nothing changes.
+    /// Makes a thread no longer served. Its table stays. Changes nothing if it is not served.
     pub fn take_back(&mut self, thread: u32)
         ensures { self.new ≡ no_longer_served self.old thread }
     {
         self.served.remove(thread);
     }
 
-    /// The thread is served no longer, and has no table.
+    /// Makes a thread no longer served, and drops its table.
     pub fn forget(&mut self, thread: u32)
         ensures { self.new ≡ without self.old thread }
     {
@@ -144,7 +146,7 @@ impl Servers {
         self.take_back(thread);
     }
 
-    /// The served thread that acts next: of the served threads that run the one of the least number. None where no served thread runs.
+    /// Returns the served thread that acts next: the running one with the least number, or `None`.
     pub fn first_ready(&self, kernel: &Kernel) -> Option<u32>
         ensures { MatchOption result (NoneReady kernel.now.threads self.now) (IsFirstReady kernel.now.threads self.now) }
     {
@@ -256,10 +258,11 @@ impl Servers {
         answer_into(call, sender, base, fpage);
     }
 
-    /// Makes a call what a thread enters after its last reply: it answers the message that the reply brought, and then waits for the next
-    /// one, or only waits where it brought none. sigma0 answers by its table of owners, in which an owner is set now; each other thread by
-    /// its regions. For a thread that has no reply nothing changes. The call is written into what is there, which is quickest where that is
-    /// an Ipc.
+    /// Overwrites a call with what a served thread enters after its last reply. It answers the message of the reply
+    /// and receives again, or only receives again if the reply has no message. sigma0 answers from its table of
+    /// owners, and sets the owner now; every other thread answers from its regions. Changes nothing if the thread has
+    /// no reply. If the call is an Ipc, it is changed in place, which is fastest.
+    ///
     pub fn act_into(&mut self, kernel: &Kernel, thread: u32, call: &mut Call)
         ensures { MatchOption (reply_of kernel.now.threads thread) ((self.new ≡ self.old) × (call.new ≡ call.old))
             (λ reply. Follows kernel.now.threads self.old thread reply call.new self.new) }

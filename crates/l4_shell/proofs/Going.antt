@@ -7,13 +7,11 @@ use Rattle.std.proofs.lemmas.List.{append-nil}
 use Rattle.std.proofs.lemmas.List.Folds.{list_any-append}
 use Rattle.std.proofs.lemmas.Grind.{flat_map-append}
 use Rattle.l4_ipc.specs.declared.steps.Step.TheVariants.{Start}
-use Rattle.l4_answers.specs.Refusals.{refused_text}
-use Rattle.l4_answers.specs.Replies.{reply_text}
 use Rattle.l4_ipc.specs.declared.calls.Call.{Call}
 use Rattle.l4_fpage.specs.declared.sizes.PageSize.{PageSize}
 use Rattle.l4_ipc.specs.Machine.{Machine}
 use Rattle.l4_ipc.specs.Reading.{reply_of}
-use Rattle.l4_text.specs.Streams.{Tells}
+use Rattle.l4_answers.specs.Reports.{Report, RefusedLine, RefusedAct, Ended, AddsAll}
 use Rattle.l4_ipc.specs.Steps.{Steps}
 use Rattle.l4_ipc.specs.Following.{Done}
 use Rattle.l4_ipc.specs.Following.{AreNext}
@@ -31,28 +29,27 @@ use Rattle.l4_threads.specs.declared.Reply.{Reply}
 use Rattle.l4_threads.specs.Threads.{Threads}
 use Rattle.l4_servers.specs.Acting.{NoneReady, IsFirstReady, Follows as FollowsReply, ActsNext}
 use Rattle.l4_shell.specs.Refusals.{call_refusal, lacks_memory}
-use Rattle.l4_shell.specs.Sessions.{Session, session, call_entries, done_entry, gone_on, done_text, step_line, step_text, ended_text, ended_in, waiting_text, Act, act_text, act_entries, ended_by, IsAct, AreActs, GoesOn, Follows, Refuses, Enters, Creates}
+use Rattle.l4_shell.specs.Sessions.{Session, session, call_entries, done_entry, gone_on, done_reports, own_report, step_reports, ended_reports, ended_in, waiting_reports, Act, act_reports, act_entries, ended_by, IsAct, AreActs, GoesOn, Follows, Refuses, Enters, Creates}
 use Rattle.l4_shell.specs.Requests.{root}
 use Rattle.l4_shell.specs.Inside.Scripts.{HasFirstSeats}
-use Rattle.l4_shell.specs.Inside.Telling.{next_text, ended_later, TellsAppended, TellsCall, TellsRefusal, TellsActs}
-use Rattle.l4_shell.specs.Texts.{refused_act_text}
+use Rattle.l4_shell.specs.Inside.Telling.{next_reports, ended_later, TellsAppended, TellsCall, TellsRefusal, TellsActs}
 use Rattle.std.specs.List.{flat_map}
-use Rattle.l4_text.proofs.Telling.{tells_none, tells_more, tells_is}
+use Rattle.l4_answers.proofs.Adding.{adds_none, adds_more, adds_is}
 
 -- WHAT A CALL APPENDED
 
 -- what ended in a step is told at the end as it was right after it
-told_later : (now after : Machine) (ended : List ℕ) → ((k : ℕ) → Contains ended k → reply_of now.threads k ≡ reply_of after.threads k) → ended_text now ended ≡ ended_text after ended
+told_later : (now after : Machine) (ended : List ℕ) → ((k : ℕ) → Contains ended k → reply_of now.threads k ≡ reply_of after.threads k) → ended_reports now ended ≡ ended_reports after ended
 told_later now after [] lasts = refl
 told_later now after (n ∷ ended) lasts =
-    (λ i. reply_text n (lasts n (0, omega arith, refl) i) ++ told_later now after ended (λ k c. lasts k (suc c.0, (let lt = c.1 in omega (arith, lt)), c.2)) i)
+    (λ i. Ended n (lasts n (0, omega arith, refl) i) ∷ told_later now after ended (λ k c. lasts k (suc c.0, (let lt = c.1 in omega (arith, lt)), c.2)) i)
 
 -- the steps that came next, each with the machine right after it
 record Walked (m : Machine) (steps : List NextStep) (new : Machine) : Type 0 where
   pub done : List Done
   pub next : AreNext m done new
   pub entries : (n : ℕ) → map (next_entry n) steps ≡ map (done_entry n) done
-  pub texts : flat_map (next_text new) steps ≡ flat_map done_text done
+  pub texts : flat_map (next_reports new) steps ≡ flat_map done_reports done
   pub ended : ended_later steps ≡ ended_in done
 
 walked : (m : Machine) (steps : List NextStep) (new : Machine) → ComeNext m steps new → Walked m steps new
@@ -63,13 +60,13 @@ walked m (s ∷ steps) new g =
       done = record { step = step_of s; answer = answer_of s; after = g.1.0 } ∷ w.done;
       next = (g.0, g.1.1, w.next);
       entries = λ n. ap (λ (l : List Entry). next_entry n s ∷ l) (w.entries n);
-      texts = λ i. (step_line (step_of s) (answer_of s).outcome ++ told_later new g.1.0 (answer_of s).ended.items g.1.2 i) ++ w.texts i;
+      texts = λ i. (own_report (step_of s) (answer_of s).outcome ++ told_later new g.1.0 (answer_of s).ended.items g.1.2 i) ++ w.texts i;
       ended = ap (λ (l : List ℕ). (answer_of s).ended.items ++ l) w.ended;
     }
 
-pub calls_on : (old new : Seated) (caller : ℕ) (call : Call) (appended : Appended) (read : Machine) (thread : ℕ) (ended : Bool) (written a : Option (List ℕ)) (before t : List ℕ × Bool) → EntersCall old new caller call appended
-    → read ≡ new.machine → TellsAppended read appended thread ended written a before t → TellsCall old caller call thread ended new written a before t
-calls_on old new caller call appended read thread ended written a before t e same told =
+pub calls_on : {T : Type 0} (has_told : T → T → List Report → Type 0) (old new : Seated) (caller : ℕ) (call : Call) (appended : Appended) (read : Machine) (thread : ℕ) (ended : Bool) (before t : T) → EntersCall old new caller call appended
+    → read ≡ new.machine → TellsAppended read appended thread ended has_told before t → TellsCall old caller call thread ended new has_told before t
+calls_on has_told old new caller call appended read thread ended before t e same told =
     let w : Walked e.started appended.next.items new.machine = walked e.started appended.next.items new.machine e.next in
     record {
       enters = record {
@@ -84,8 +81,8 @@ calls_on old new caller call appended read thread ended written a before t e sam
         same = e.same;
       };
       ended_is = told.ended_is ∙ ap (λ (l : List ℕ). is_among thread (appended.start.ended.items ++ l)) w.ended;
-      tells = tells_is written a before t _ _
-          (ap (λ (m : Machine). ended_text m appended.start.ended.items ++ flat_map (next_text m) appended.next.items) same
+      tells = adds_is has_told before t _ _
+          (ap (λ (m : Machine). ended_reports m appended.start.ended.items ++ flat_map (next_reports m) appended.next.items) same
           ∙ (λ i. told_later new.machine e.started appended.start.ended.items e.lasts i ++ w.texts i))
           told.tells;
     }
@@ -104,15 +101,15 @@ acts_more old between new [] act are is then_is =
 acts_more old between new (first ∷ acts) act are is then_is = (are.0, acts_more (gone_on old first.servers (act_entries first) first.after) between new acts act are.1 is then_is)
 
 -- so far these acts were done and told, and the thread's call has ended in one or not
-pub record Acting (old : Session) (thread count : ℕ) (m : Session) (has : Bool) (written now : Option (List ℕ)) (before after : List ℕ × Bool) : Type 0 where
+pub record Acting {T : Type 0} (old : Session) (thread count : ℕ) (m : Session) (has : Bool) (has_told : T → T → List Report → Type 0) (before after : T) : Type 0 where
   pub acts : List Act
   pub are : AreActs old acts m
   pub number : length acts ≡ count
   pub has_is : has ≡ is_among thread (ended_by acts)
-  pub tells : Tells written now before after (flat_map act_text acts)
+  pub tells : AddsAll has_told before after (flat_map act_reports acts)
 
-pub acting_none : (m : Session) (thread : ℕ) (written : Option (List ℕ)) (before : List ℕ × Bool) → Acting m thread 0 m false written written before before
-acting_none m thread written before = record { acts = []; are = refl; number = refl; has_is = refl; tells = tells_none written before }
+pub acting_none : {T : Type 0} (has_told : T → T → List Report → Type 0) (m : Session) (thread : ℕ) (before : T) → Acting m thread 0 m false has_told before before
+acting_none has_told m thread before = record { acts = []; are = refl; number = refl; has_is = refl; tells = adds_none has_told before }
 
 -- the first of the served threads that run, whose reply was found, acts next
 replied : (t : Threads) (sv later : Servers) (server : ℕ) (old call : Call) (o : Option Reply) → reply_of t server ≡ o → IsFirstReady t sv server
@@ -126,11 +123,10 @@ next_act m read sv later server old call same first follows =
     replied m.threads sv later server old call _ refl first
     (subst (λ (x : Machine). MatchOption (reply_of x.threads server) ((later ≡ sv) × (call ≡ old)) (λ reply. FollowsReply x.threads sv server reply call later)) same follows)
 
-pub acting_more : (old : Session) (thread count : ℕ) (m new : Seated) (sv later : Servers) (has : Bool) (written a b : Option (List ℕ)) (before s t : List ℕ × Bool)
-    (server : ℕ) (call : Call) (own : Bool) → Acting old thread count (session m sv) has written a before s
-    → ActsNext m.machine.threads sv server call later → TellsCall m server call thread own new a b s t
-    → Acting old thread (count + 1) (session new later) (has || own) written b before t
-acting_more old thread count m new sv later has written a b before s t server call own g acts told =
+pub acting_more : {T : Type 0} (has_told : T → T → List Report → Type 0) (old : Session) (thread count : ℕ) (m new : Seated) (sv later : Servers) (has : Bool) (before s t : T) (server : ℕ) (call : Call) (own : Bool) → Acting old thread count (session m sv) has has_told before s
+    → ActsNext m.machine.threads sv server call later → TellsCall m server call thread own new has_told s t
+    → Acting old thread (count + 1) (session new later) (has || own) has_told before t
+acting_more has_told old thread count m new sv later has before s t server call own g acts told =
     let e = told.enters in
     let act : Act = record { thread = server; call = call; servers = later; answer = e.answer; started = e.started; steps = e.steps; after = new.machine } in
     let ended : List ℕ = e.answer.ended.items ++ ended_in e.steps in
@@ -145,14 +141,14 @@ acting_more old thread count m new sv later has written a b before s t server ca
           ∙ sym (list_any-append (λ n. nat_eq n thread) (ended_by g.acts) ended)
           ∙ ap (is_among thread) (ap (λ x. ended_by g.acts ++ x) (sym (append-nil ended))
           ∙ sym (flat_map-append (λ (x : Act). x.answer.ended.items ++ ended_in x.steps) g.acts (act ∷ [])));
-      tells = tells_is written b before t _ _ (ap (λ x. flat_map act_text g.acts ++ x) (sym (append-nil (act_text act))) ∙ sym (flat_map-append act_text g.acts (act ∷ [])))
-          (tells_more written a b before s t _ _ g.tells told.tells);
+      tells = adds_is has_told before t _ _ (ap (λ x. flat_map act_reports g.acts ++ x) (sym (append-nil (act_reports act))) ∙ sym (flat_map-append act_reports g.acts (act ∷ [])))
+          (adds_more has_told before s t _ _ g.tells told.tells);
     }
 
 -- no served thread runs
-pub acting_quiet : (old : Session) (thread count : ℕ) (m : Seated) (sv : Servers) (read : Machine) (has : Bool) (written a : Option (List ℕ)) (before s : List ℕ × Bool) → count ≤ 256
-    → Acting old thread count (session m sv) has written a before s → read ≡ m.machine → NoneReady read.threads sv → TellsActs old thread has (session m sv) written a before s
-acting_quiet old thread count m sv read has written a before s le g same none = record {
+pub acting_quiet : {T : Type 0} (has_told : T → T → List Report → Type 0) (old : Session) (thread count : ℕ) (m : Seated) (sv : Servers) (read : Machine) (has : Bool) (before s : T) → count ≤ 256
+    → Acting old thread count (session m sv) has has_told before s → read ≡ m.machine → NoneReady read.threads sv → TellsActs old thread has (session m sv) has_told before s
+acting_quiet has_told old thread count m sv read has before s le g same none = record {
   acts = g.acts;
   between = session m sv;
   are = g.are;
@@ -160,13 +156,13 @@ acting_quiet old thread count m sv read has written a before s le g same none = 
   last = [];
   stops = inl (subst (λ (x : Machine). NoneReady x.threads sv) same none, refl, refl);
   ended_is = g.has_is;
-  tells = tells_is written a before s _ _ (sym (append-nil (flat_map act_text g.acts))) g.tells;
+  tells = adds_is has_told before s _ _ (sym (append-nil (flat_map act_reports g.acts))) g.tells;
 }
 
 -- the line has had all its acts
-pub acting_spent : (old : Session) (thread count : ℕ) (m : Session) (has : Bool) (written a : Option (List ℕ)) (before s : List ℕ × Bool) → count ≡ 256
-    → Acting old thread count m has written a before s → TellsActs old thread has m written a before s
-acting_spent old thread count m has written a before s all g = record {
+pub acting_spent : {T : Type 0} (has_told : T → T → List Report → Type 0) (old : Session) (thread count : ℕ) (m : Session) (has : Bool) (before s : T) → count ≡ 256
+    → Acting old thread count m has has_told before s → TellsActs old thread has m has_told before s
+acting_spent has_told old thread count m has before s all g = record {
   acts = g.acts;
   between = m;
   are = g.are;
@@ -174,21 +170,20 @@ acting_spent old thread count m has written a before s all g = record {
   last = [];
   stops = inr (inl (g.number ∙ all, refl, refl));
   ended_is = g.has_is;
-  tells = tells_is written a before s _ _ (sym (append-nil (flat_map act_text g.acts))) g.tells;
+  tells = adds_is has_told before s _ _ (sym (append-nil (flat_map act_reports g.acts))) g.tells;
 }
 
 -- an act was refused
-pub acting_refused : (old : Session) (thread count : ℕ) (m new : Seated) (sv later : Servers) (has : Bool) (written a b : Option (List ℕ)) (before s t : List ℕ × Bool) (server : ℕ) (call : Call)
-    (refusal : RecordRefusal) (text : List ℕ) → count < 256 → Acting old thread count (session m sv) has written a before s → ActsNext m.machine.threads sv server call later
-    → RefusesCall m.machine (length m.history) m.numbers server call refusal × (new ≡ m) → text ≡ refused_act_text server (call_refusal refusal) → Tells a b s t text
-    → TellsActs old thread has (session new later) written b before t
-acting_refused old thread count m new sv later has written a b before s t server call refusal text lt g acts refused is tells =
+pub acting_refused : {T : Type 0} (has_told : T → T → List Report → Type 0) (old : Session) (thread count : ℕ) (m new : Seated) (sv later : Servers) (has : Bool) (before s t : T) (server : ℕ) (call : Call) (refusal : RecordRefusal) (told : List Report) → count < 256 → Acting old thread count (session m sv) has has_told before s → ActsNext m.machine.threads sv server call later
+    → RefusesCall m.machine (length m.history) m.numbers server call refusal × (new ≡ m) → told ≡ RefusedAct server (call_refusal refusal) ∷ [] → AddsAll has_told s t told
+    → TellsActs old thread has (session new later) has_told before t
+acting_refused has_told old thread count m new sv later has before s t server call refusal told lt g acts refused is tells =
     record {
       acts = g.acts;
       between = session m sv;
       are = g.are;
       few = omega (arith, g.number, lt);
-      last = text;
+      last = told;
       stops = inr (inr (record {
         few = omega (arith, g.number, lt);
         thread = server;
@@ -197,24 +192,24 @@ acting_refused old thread count m new sv later has written a b before s t server
         refusal = refusal;
         refused = refused.0;
         same = ap (λ (k : Seated). session k later) refused.1;
-        text_is = is;
+        told_is = is;
       }));
       ended_is = g.has_is;
-      tells = tells_more written a b before s t _ _ g.tells tells;
+      tells = adds_more has_told before s t _ _ g.tells tells;
     }
 
 -- ONE CALL
 
-pub goes_on : (old new : Session) (thread : ℕ) (had : List ℕ) (has acted : Bool) (written a b : Option (List ℕ)) (before s t : List ℕ × Bool)
-    → has ≡ is_among thread had → TellsActs old thread acted new written a before s
-    → Tells a b s t (waiting_text thread (has || acted))
-    → (text : List ℕ) × GoesOn old thread had text new × Tells written b before t text
-goes_on old new thread had has acted written a b before s t has_is acts waiting =
+pub goes_on : {T : Type 0} (has_told : T → T → List Report → Type 0) (old new : Session) (thread : ℕ) (had : List ℕ) (has acted : Bool) (before s t : T)
+    → has ≡ is_among thread had → TellsActs old thread acted new has_told before s
+    → AddsAll has_told s t (waiting_reports thread (has || acted))
+    → (told : List Report) × GoesOn old thread had told new × AddsAll has_told before t told
+goes_on has_told old new thread had has acted before s t has_is acts waiting =
     let all : (has || acted) ≡ is_among thread (had ++ ended_by acts.acts) =
     ap (λ v. v || acted) has_is
     ∙ ap (λ v. is_among thread had || v) acts.ended_is
     ∙ sym (list_any-append (λ n. nat_eq n thread) had (ended_by acts.acts)) in (
-      (flat_map act_text acts.acts ++ acts.last) ++ waiting_text thread (is_among thread (had ++ ended_by acts.acts)),
+      (flat_map act_reports acts.acts ++ acts.last) ++ waiting_reports thread (is_among thread (had ++ ended_by acts.acts)),
       record {
         acts = acts.acts;
         between = acts.between;
@@ -222,22 +217,22 @@ goes_on old new thread had has acted written a b before s t has_is acts waiting 
         few = acts.few;
         last = acts.last;
         stops = acts.stops;
-        text_is = refl;
+        told_is = refl;
       },
-      tells_is written b before t _ _ (ap (λ v. (flat_map act_text acts.acts ++ acts.last) ++ waiting_text thread v) all)
-          (tells_more written a b before s t _ _ acts.tells waiting),
+      adds_is has_told before t _ _ (ap (λ v. (flat_map act_reports acts.acts ++ acts.last) ++ waiting_reports thread v) all)
+          (adds_more has_told before s t _ _ acts.tells waiting),
     )
 
 -- the call was started
-pub follows_on : (old new : Seated) (sv later wanted : Servers) (last : Session) (thread : ℕ) (call asked : Call) (ended : Bool) (written a b : Option (List ℕ)) (before s t : List ℕ × Bool)
-    → call ≡ asked → later ≡ wanted → TellsCall old thread call thread ended new written a before s
-    → ((had : List ℕ) → ended ≡ is_among thread had → (text : List ℕ) × GoesOn (session new later) thread had text last × Tells a b s t text)
-    → (text : List ℕ) × Follows (session old sv) thread asked wanted text last × Tells written b before t text
-follows_on old new sv later wanted last thread call asked ended written a b before s t is is' told next =
+pub follows_on : {T : Type 0} (has_told : T → T → List Report → Type 0) (old new : Seated) (sv later wanted : Servers) (last : Session) (thread : ℕ) (call asked : Call) (ended : Bool) (before s t : T)
+    → call ≡ asked → later ≡ wanted → TellsCall old thread call thread ended new has_told before s
+    → ((had : List ℕ) → ended ≡ is_among thread had → (told : List Report) × GoesOn (session new later) thread had told last × AddsAll has_told s t told)
+    → (told : List Report) × Follows (session old sv) thread asked wanted told last × AddsAll has_told before t told
+follows_on has_told old new sv later wanted last thread call asked ended before s t is is' told next =
     let e = told.enters in
     let had : List ℕ = e.answer.ended.items ++ ended_in e.steps in
     let g = next had told.ended_is in (
-      (step_text (Start thread asked) e.answer e.started ++ flat_map done_text e.steps) ++ g.0,
+      (step_reports (Start thread asked) e.answer e.started ++ flat_map done_reports e.steps) ++ g.0,
       record {
         can = e.can;
         answer = e.answer;
@@ -249,45 +244,45 @@ follows_on old new sv later wanted last thread call asked ended written a b befo
         idle = e.idle;
         rest = g.0;
         goes_on = subst (λ (x : Session). GoesOn x thread had g.0 last) (went old new sv later thread call e ∙ (λ i. gone_on (session old sv) (is' i) (call_entries thread (is i) e.answer e.steps) new.machine)) g.1;
-        text_is = refl;
+        told_is = refl;
       },
-      tells_more written a b before s t _ _ told.tells g.2,
+      adds_more has_told before s t _ _ told.tells g.2,
     )
 
 -- the call was refused
-pub refuses_on : (old new : Seated) (sv later : Servers) (line thread : ℕ) (call asked : Call) (written b : Option (List ℕ)) (before t : List ℕ × Bool)
-    → call ≡ asked → later ≡ sv → TellsRefusal old line thread call new written b before t
-    → (text : List ℕ) × Refuses (session old sv) line thread asked text (session new later) × Tells written b before t text
-refuses_on old new sv later line thread call asked written b before t is same r = (
-  refused_text line (call_refusal r.refusal),
+pub refuses_on : {T : Type 0} (has_told : T → T → List Report → Type 0) (old new : Seated) (sv later : Servers) (line thread : ℕ) (call asked : Call) (before t : T)
+    → call ≡ asked → later ≡ sv → TellsRefusal old line thread call new has_told before t
+    → (told : List Report) × Refuses (session old sv) line thread asked told (session new later) × AddsAll has_told before t told
+refuses_on has_told old new sv later line thread call asked before t is same r = (
+  RefusedLine line (call_refusal r.refusal) ∷ [],
   record {
     refusal = r.refusal;
     refused = subst (λ (c : Call). RefusesCall old.machine (length old.history) old.numbers thread c r.refusal) is r.refused;
     same = λ i. session (r.same i) (same i);
-    text_is = refl;
+    told_is = refl;
   },
   r.tells,
 )
 
-pub refusal_told : (old new : Seated) (line thread : ℕ) (call : Call) (refusal : RecordRefusal) (text : List ℕ) (written b : Option (List ℕ)) (before t : List ℕ × Bool)
-    → RefusesCall old.machine (length old.history) old.numbers thread call refusal × (new ≡ old) → text ≡ refused_text line (call_refusal refusal) → Tells written b before t text
-    → TellsRefusal old line thread call new written b before t
-refusal_told old new line thread call refusal text written b before t refused is tells =
-    record { refusal = refusal; refused = refused.0; same = refused.1; tells = tells_is written b before t _ _ is tells }
+pub refusal_told : {T : Type 0} (has_told : T → T → List Report → Type 0) (old new : Seated) (line thread : ℕ) (call : Call) (refusal : RecordRefusal) (told : List Report) (before t : T)
+    → RefusesCall old.machine (length old.history) old.numbers thread call refusal × (new ≡ old) → told ≡ RefusedLine line (call_refusal refusal) ∷ [] → AddsAll has_told before t told
+    → TellsRefusal old line thread call new has_told before t
+refusal_told has_told old new line thread call refusal told before t refused is tells =
+    record { refusal = refusal; refused = refused.0; same = refused.1; tells = adds_is has_told before t _ _ is tells }
 
 -- SEATS
 
 -- root creates a thread, whose number has its seat
-pub creates_on : (old between : Seated) (sv : Servers) (last : Session) (line number : ℕ) (call : Call) (written b : Option (List ℕ)) (before t : List ℕ × Bool)
+pub creates_on : {T : Type 0} (has_told : T → T → List Report → Type 0) (old between : Seated) (sv : Servers) (last : Session) (line number : ℕ) (call : Call) (before t : T)
     → between ≡ record old { numbers = with_number old.numbers number }
-    → (text : List ℕ) × Enters (session between sv) line root call text last × Tells written b before t text
-    → (text : List ℕ) × Creates (session old sv) line number call text last × Tells written b before t text
-creates_on old between sv last line number call written b before t is e = (e.0, inl (subst (λ (k : Seated). Enters (session k sv) line root call e.0 last) is e.1), e.2)
+    → (told : List Report) × Enters (session between sv) line root call told last × AddsAll has_told before t told
+    → (told : List Report) × Creates (session old sv) line number call told last × AddsAll has_told before t told
+creates_on has_told old between sv last line number call before t is e = (e.0, inl (subst (λ (k : Seated). Enters (session k sv) line root call e.0 last) is e.1), e.2)
 
-pub creates_not : (old between : Seated) (sv : Servers) (line number : ℕ) (call : Call) (text : List ℕ) (written b : Option (List ℕ)) (before t : List ℕ × Bool)
-    → (between ≡ old) × (is_among number old.numbers ≡ false) → text ≡ refused_text line lacks_memory → Tells written b before t text
-    → (text : List ℕ) × Creates (session old sv) line number call text (session between sv) × Tells written b before t text
-creates_not old between sv line number call text written b before t lacks is tells = (text, inr (lacks.1, (is, ap (λ (k : Seated). session k sv) lacks.0)), tells)
+pub creates_not : {T : Type 0} (has_told : T → T → List Report → Type 0) (old between : Seated) (sv : Servers) (line number : ℕ) (call : Call) (told : List Report) (before t : T)
+    → (between ≡ old) × (is_among number old.numbers ≡ false) → told ≡ RefusedLine line lacks_memory ∷ [] → AddsAll has_told before t told
+    → (told : List Report) × Creates (session old sv) line number call told (session between sv) × AddsAll has_told before t told
+creates_not has_told old between sv line number call told before t lacks is tells = (told, inr (lacks.1, (is, ap (λ (k : Seated). session k sv) lacks.0)), tells)
 
 pub first_seats : (frames : ℕ) (size : PageSize) (k k' last : Seated) → IsNew frames size k → k' ≡ record k { numbers = with_number k.numbers 1 } → last ≡ record k' { numbers = with_number k'.numbers 2 } → HasFirstSeats frames size last
 first_seats frames size k k' last new one two =
@@ -299,10 +294,10 @@ or_false true = refl
 or_false false = refl
 
 -- no served thread runs, so nothing follows
-pub quiet_on : (kernel : Seated) (sv : Servers) (read : Machine) (thread : ℕ) (had : List ℕ) (has : Bool) (written a : Option (List ℕ)) (before s : List ℕ × Bool)
-    → has ≡ is_among thread had → read ≡ kernel.machine → NoneReady read.threads sv → Tells written a before s (waiting_text thread has)
-    → (text : List ℕ) × GoesOn (session kernel sv) thread had text (session kernel sv) × Tells written a before s text
-quiet_on kernel sv read thread had has written a before s has_is same none told =
-    goes_on (session kernel sv) (session kernel sv) thread had has false written written a before before s has_is
-    (acting_quiet (session kernel sv) thread 0 kernel sv read false written written before before (omega arith) (acting_none (session kernel sv) thread written before) same none)
-    (tells_is written a before s _ _ (ap (waiting_text thread) (sym (or_false has))) told)
+pub quiet_on : {T : Type 0} (has_told : T → T → List Report → Type 0) (kernel : Seated) (sv : Servers) (read : Machine) (thread : ℕ) (had : List ℕ) (has : Bool) (before s : T)
+    → has ≡ is_among thread had → read ≡ kernel.machine → NoneReady read.threads sv → AddsAll has_told before s (waiting_reports thread has)
+    → (told : List Report) × GoesOn (session kernel sv) thread had told (session kernel sv) × AddsAll has_told before s told
+quiet_on has_told kernel sv read thread had has before s has_is same none told =
+    goes_on has_told (session kernel sv) (session kernel sv) thread had has false before before s has_is
+    (acting_quiet has_told (session kernel sv) thread 0 kernel sv read false before before (omega arith) (acting_none has_told (session kernel sv) thread before) same none)
+    (adds_is has_told before s _ _ (ap (waiting_reports thread) (sym (or_false has))) told)

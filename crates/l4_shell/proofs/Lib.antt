@@ -8,3 +8,4 @@ pub mod Booted
 pub mod InTurn
 pub mod StraightLines
 pub mod SizesKept
+pub mod OneAnswer

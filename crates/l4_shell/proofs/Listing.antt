@@ -11,16 +11,15 @@ use Rattle.l4_forest.specs.Places.{NonePresentFrom, IsNextPresent}
 use Rattle.l4_fpage.specs.Pages.{space_pages}
 use Rattle.l4_fpage.specs.declared.sizes.PageSize.{PageSize}
 use Rattle.l4_ipc.specs.Machine.{Machine}
-use Rattle.l4_answers.specs.Pages.{shown_text}
-use Rattle.l4_text.specs.Streams.{Tells}
+use Rattle.l4_answers.specs.Reports.{Report, RefusedLine, Page, Shown, AddsAll}
 use Rattle.l4_threads.specs.Threads.{space_of}
 use Rattle.std.specs.Prelude.{MatchOption}
-use Rattle.l4_answers.specs.Refusals.{refused_text, kernel_refusal}
+use Rattle.l4_answers.specs.Refusals.{kernel_refusal}
 use Rattle.l4_ipc.specs.declared.steps.Refused.TheVariants.{UnknownThread}
 use Rattle.l4_shell.specs.declared.requests.Request.{Request}
 use Rattle.l4_shell.specs.declared.requests.Request.TheVariants.{TellParent, TellSteps}
-use Rattle.l4_shell.specs.Sessions.{place_in, place_text, ListsBelow, ListsPages, Shows, parent_answer, Session, TellsCount, CarriesOut}
-use Rattle.l4_text.proofs.Telling.{tells_more, tells_is}
+use Rattle.l4_shell.specs.Sessions.{place_in, place_reports, ListsBelow, ListsPages, Shows, parent_answer, Session, TellsCount, CarriesOut}
+use Rattle.l4_answers.proofs.Adding.{adds_more, adds_is}
 
 below_or : (a b : ℕ) → (a < b) ⊎ (b ≤ a)
 below_or a b =
@@ -30,18 +29,18 @@ below_or a b =
     ] refl
 
 -- the pages listed so far, all below the next one that is looked at
-pub record Listed (m : Machine) (space first end «from» shown : ℕ) (written now : Option (List ℕ)) (before after : List ℕ × Bool) : Type 0 where
+pub record Listed {T : Type 0} (m : Machine) (space first end «from» shown : ℕ) (has_told : T → T → List Report → Type 0) (before after : T) : Type 0 where
   pub pages : List ℕ
   pub rising : AllPairs (λ a b. a < b) pages
   pub each : (page : ℕ) → Contains pages page ↔ ((first ≤ page) × (page < «from») × (page < end) × IsPresent m.mappings (place_in space page))
   pub number : shown ≡ length pages
   pub few : first + shown ≤ «from»
-  pub tells : Tells written now before after (flat_map (place_text m space) pages)
+  pub tells : AddsAll has_told before after (flat_map (place_reports m space) pages)
 
-pub listed_more : (m : Machine) (space first end «from» shown : ℕ) (written a b : Option (List ℕ)) (before s t : List ℕ × Bool) (page : ℕ)
-    → Listed m space first end «from» shown written a before s → IsNextPresent m.mappings space «from» page → page < end → Tells a b s t (place_text m space page)
-    → Listed m space first end (page + 1) (shown + 1) written b before t
-listed_more m space first end «from» shown written a b before s t page l next lt tells = record {
+pub listed_more : {T : Type 0} (has_told : T → T → List Report → Type 0) (m : Machine) (space first end «from» shown : ℕ) (before s t : T) (page : ℕ)
+    → Listed m space first end «from» shown has_told before s → IsNextPresent m.mappings space «from» page → page < end → AddsAll has_told s t (place_reports m space page)
+    → Listed m space first end (page + 1) (shown + 1) has_told before t
+listed_more has_told m space first end «from» shown before s t page l next lt tells = record {
   pages = l.pages ++ page ∷ [];
   rising = all_pairs_push (λ x y. x < y) l.pages page l.rising (λ k d short.
       let c : Contains l.pages (get_or l.pages k d) = (k, short, get_or_default l.pages k _ d short) in
@@ -66,16 +65,16 @@ listed_more m space first end «from» shown written a b before s t page l next 
   );
   number = omega (arith, l.number, length-append l.pages (page ∷ []));
   few = omega (arith, l.few, next.«from»);
-  tells = tells_is written b before t _ _ (ap (λ x. flat_map (place_text m space) l.pages ++ x) (sym (append-nil (place_text m space page)))
-      ∙ sym (flat_map-append (place_text m space) l.pages (page ∷ []))) (tells_more written a b before s t _ _ l.tells tells);
+  tells = adds_is has_told before t _ _ (ap (λ x. flat_map (place_reports m space) l.pages ++ x) (sym (append-nil (place_reports m space page)))
+      ∙ sym (flat_map-append (place_reports m space) l.pages (page ∷ []))) (adds_more has_told before s t _ _ l.tells tells);
 }
 
 -- no present page is left below the end
-listed_all : (m : Machine) (space first end «from» shown : ℕ) (written a : Option (List ℕ)) (before s : List ℕ × Bool)
-    → Listed m space first end «from» shown written a before s
+listed_all : {T : Type 0} (has_told : T → T → List Report → Type 0) (m : Machine) (space first end «from» shown : ℕ) (before s : T)
+    → Listed m space first end «from» shown has_told before s
     → ((page : ℕ) → «from» ≤ page → page < end → IsPresent m.mappings (place_in space page) → ⊥)
-    → ListsBelow m space first end shown written a before s
-listed_all m space first end «from» shown written a before s l none = record {
+    → ListsBelow m space first end shown has_told before s
+listed_all has_told m space first end «from» shown before s l none = record {
   pages = l.pages;
   rising = l.rising;
   each = λ q. (
@@ -88,22 +87,22 @@ listed_all m space first end «from» shown written a before s l none = record {
   tells = l.tells;
 }
 
-pub listed_end : (m : Machine) (space first end «from» shown : ℕ) (written a : Option (List ℕ)) (before s : List ℕ × Bool)
-    → Listed m space first end «from» shown written a before s → NonePresentFrom m.mappings space «from» → ListsBelow m space first end shown written a before s
-listed_end m space first end «from» shown written a before s l none = listed_all m space first end «from» shown written a before s l (λ page le lt is. none page le is)
+pub listed_end : {T : Type 0} (has_told : T → T → List Report → Type 0) (m : Machine) (space first end «from» shown : ℕ) (before s : T)
+    → Listed m space first end «from» shown has_told before s → NonePresentFrom m.mappings space «from» → ListsBelow m space first end shown has_told before s
+listed_end has_told m space first end «from» shown before s l none = listed_all has_told m space first end «from» shown before s l (λ page le lt is. none page le is)
 
-pub listed_beyond : (m : Machine) (space first end «from» shown : ℕ) (written a : Option (List ℕ)) (before s : List ℕ × Bool) (page : ℕ)
-    → Listed m space first end «from» shown written a before s → IsNextPresent m.mappings space «from» page → end ≤ page → ListsBelow m space first end shown written a before s
-listed_beyond m space first end «from» shown written a before s page l next beyond =
-    listed_all m space first end «from» shown written a before s l (λ q le lt is. let least = next.least q le is in omega arith)
+pub listed_beyond : {T : Type 0} (has_told : T → T → List Report → Type 0) (m : Machine) (space first end «from» shown : ℕ) (before s : T) (page : ℕ)
+    → Listed m space first end «from» shown has_told before s → IsNextPresent m.mappings space «from» page → end ≤ page → ListsBelow m space first end shown has_told before s
+listed_beyond has_told m space first end «from» shown before s page l next beyond =
+    listed_all has_told m space first end «from» shown before s l (λ q le lt is. let least = next.least q le is in omega arith)
 
 -- all of them were listed, and then their number
-pub lists_pages : (m : Machine) (space first count end shown : ℕ) (written a b : Option (List ℕ)) (before s t : List ℕ × Bool)
+pub lists_pages : {T : Type 0} (has_told : T → T → List Report → Type 0) (m : Machine) (space first count end shown : ℕ) (before s t : T)
     → ((page : ℕ) → (page < end) ↔ ((page < first + count) × (page < space_pages m.size)))
-    → ListsBelow m space first end shown written a before s → Tells a b s t (shown_text shown)
-    → (text : List ℕ) × ListsPages m space first count text × Tells written b before t text
-lists_pages m space first count end shown written a b before s t end_is l tells = (
-  flat_map (place_text m space) l.pages ++ shown_text (length l.pages),
+    → ListsBelow m space first end shown has_told before s → AddsAll has_told s t (Shown shown ∷ [])
+    → (told : List Report) × ListsPages m space first count told × AddsAll has_told before t told
+lists_pages has_told m space first count end shown before s t end_is l tells = (
+  flat_map (place_reports m space) l.pages ++ Shown (length l.pages) ∷ [],
   record {
     pages = l.pages;
     are = record {
@@ -113,16 +112,16 @@ lists_pages m space first count end shown written a b before s t end_is l tells 
         λ h. (l.each q).1 (h.0, (end_is q).1 (h.1, h.2), h.3),
       );
     };
-    text_is = refl;
+    told_is = refl;
   },
-  tells_is written b before t _ _ (ap (λ n. flat_map (place_text m space) l.pages ++ shown_text n) l.number) (tells_more written a b before s t _ _ l.tells tells),
+  adds_is has_told before t _ _ (ap (λ n. flat_map (place_reports m space) l.pages ++ Shown n ∷ []) l.number) (adds_more has_told before s t _ _ l.tells tells),
 )
 
 -- the thread is there
-pub shows_pages : (m : Machine) (line thread first count space : ℕ) (written b : Option (List ℕ)) (before t : List ℕ × Bool) → Some space ≡ space_of m.threads thread
-    → (text : List ℕ) × ListsPages m space first count text × Tells written b before t text → (text : List ℕ) × Shows m line thread first count text × Tells written b before t text
-shows_pages m line thread first count space written b before t is l =
-    (l.0, subst (λ (o : Option ℕ). MatchOption o (l.0 ≡ refused_text line (kernel_refusal UnknownThread)) (λ s. ListsPages m s first count l.0)) is l.1, l.2)
+pub shows_pages : {T : Type 0} (has_told : T → T → List Report → Type 0) (m : Machine) (line thread first count space : ℕ) (before t : T) → Some space ≡ space_of m.threads thread
+    → (told : List Report) × ListsPages m space first count told × AddsAll has_told before t told → (told : List Report) × Shows m line thread first count told × AddsAll has_told before t told
+shows_pages has_told m line thread first count space before t is l =
+    (l.0, subst (λ (o : Option ℕ). MatchOption o (l.0 ≡ RefusedLine line (kernel_refusal UnknownThread) ∷ []) (λ s. ListsPages m s first count l.0)) is l.1, l.2)
 
 -- the end of the pages that a line names
 end_below : (first count sum end pages : ℕ) → pages ≤ 4294967295 → sum ≡ min (first + count) 4294967295 → end ≡ min sum pages → (page : ℕ) → (page < end) ↔ ((page < first + count) × (page < pages))
@@ -134,15 +133,15 @@ end_of m size first count sum end pages few sized is a b =
     subst (λ (p : ℕ). (page : ℕ) → (page < end) ↔ ((page < first + count) × (page < p))) (is ∙ ap space_pages sized) (end_below first count sum end pages (omega (arith, few)) a b)
 
 -- the parent of a page was told, and nothing else was done
-pub carries_parent : (m : Session) (read : Machine) (line thread page : ℕ) (request : Request) (written b : Option (List ℕ)) (before t : List ℕ × Bool) → request ≡ TellParent thread page → read ≡ m.machine
-    → Tells written b before t (parent_answer read line thread page) → (text : List ℕ) × CarriesOut m line request text m × Tells written b before t text
-carries_parent m read line thread page request written b before t is same tells = (
-  parent_answer m.machine line thread page,
-  subst (λ (r : Request). CarriesOut m line r (parent_answer m.machine line thread page) m) (sym is) (refl, refl),
-  subst (λ (x : Machine). Tells written b before t (parent_answer x line thread page)) same tells,
+pub carries_parent : {T : Type 0} (has_told : T → T → List Report → Type 0) (m : Session) (read : Machine) (line thread page : ℕ) (request : Request) (before t : T) → request ≡ TellParent thread page → read ≡ m.machine
+    → AddsAll has_told before t (parent_answer read line thread page ∷ []) → (told : List Report) × CarriesOut m line request told m × AddsAll has_told before t told
+carries_parent has_told m read line thread page request before t is same tells = (
+  parent_answer m.machine line thread page ∷ [],
+  subst (λ (r : Request). CarriesOut m line r (parent_answer m.machine line thread page ∷ []) m) (sym is) (refl, refl),
+  subst (λ (x : Machine). AddsAll has_told before t (parent_answer x line thread page ∷ [])) same tells,
 )
 
 -- how many entries there are was told
-pub carries_count : (old new : Session) (line : ℕ) (request : Request) (written b : Option (List ℕ)) (before t : List ℕ × Bool) → request ≡ TellSteps
-    → (text : List ℕ) × TellsCount old text new × Tells written b before t text → (text : List ℕ) × CarriesOut old line request text new × Tells written b before t text
-carries_count old new line request written b before t is e = (e.0, subst (λ (r : Request). CarriesOut old line r e.0 new) (sym is) e.1, e.2)
+pub carries_count : {T : Type 0} (has_told : T → T → List Report → Type 0) (old new : Session) (line : ℕ) (request : Request) (before t : T) → request ≡ TellSteps
+    → (told : List Report) × TellsCount old told new × AddsAll has_told before t told → (told : List Report) × CarriesOut old line request told new × AddsAll has_told before t told
+carries_count has_told old new line request before t is e = (e.0, subst (λ (r : Request). CarriesOut old line r e.0 new) (sym is) e.1, e.2)

@@ -1,6 +1,6 @@
 -- The lines of a script, answered one by one.
-use Rattle.std.proofs.Common.{◌≡◌, ℕ, ◌+◌, ◌-◌, ◌==◌, ◌<◌, ◌≤◌, Bool, true, false, cond, nat_lt, List, [], ◌∷◌, ◌++◌, length, length-append, take, filter, Option, Some, None, Result, Ok, Err, inl, inr, sym, ap, subst, ◌∙◌, refl, arith, length-take}
-use Rattle.std.specs.Io.KnownBytes.{Consumes, Appends}
+use Rattle.std.proofs.Common.{◌≡◌, ℕ, ◌+◌, ◌-◌, ◌==◌, ◌<◌, ◌≤◌, ◌⊎◌, Bool, true, false, cond, nat_lt, List, [], ◌∷◌, ◌++◌, length, length-append, take, filter, Option, Some, None, Result, Ok, Err, inl, inr, sym, ap, subst, ◌∙◌, refl, arith, length-take}
+use Rattle.std.specs.Io.KnownBytes.{Consumes, IsAtEnd}
 use Rattle.std.specs.List.{All}
 use Rattle.std.proofs.lemmas.List.{append-nil, take_all}
 use Rattle.std.proofs.lemmas.List.Elements.{All-head, All-tail, All-push}
@@ -14,11 +14,13 @@ use Rattle.l4_record.specs.declared.entries.Entry.{Entry}
 use Rattle.l4_servers.specs.Servers.{Servers, no_servers}
 use Rattle.l4_text.specs.Lines.{NoNewline, kept_of, TakesLine, TakesRest, GivesLine, left_of}
 use Rattle.l4_shell.specs.Lines.{ScriptLine, in_front, lines_of}
+use Rattle.l4_shell.specs.Commands.{Command}
+use Rattle.l4_shell.specs.declared.commands.ScriptFault.{ScriptFault}
 use Rattle.l4_shell.specs.Requests.{asked_at, asked_of}
-use Rattle.l4_text.specs.Streams.{WentOut, HasTold, Tells}
+use Rattle.l4_answers.specs.Reports.{Report, AddsAll, Keeps, AllOut}
 use Rattle.l4_shell.specs.Sessions.{Session, session, first_session, AnswersLine, AnswersLines}
 use Rattle.l4_seated.specs.Seated.{Seated}
-use Rattle.l4_shell.specs.Scripts.{Runs}
+use Rattle.l4_shell.specs.Scripts.{WasOpen, AnswersFirst, AddsOut, Runs}
 use Rattle.l4_shell.specs.Histories.{Records}
 use Rattle.l4_shell.specs.Inside.Scripts.{HasFirstSeats, TellsBeginning, TellsAll, TellsWhole, TellsScript}
 use Rattle.l4_text.specs.declared.lines.Ending.{Ending}
@@ -27,7 +29,8 @@ use Rattle.l4_text.specs.contracts.lines.Ending.{the_type}
 use Rattle.l4_text.specs.declared.faults.RunFault.{RunFault}
 use Rattle.l4_text.specs.declared.faults.RunFault.TheVariants.{Read, Write, Memory}
 use Rattle.l4_text.proofs.LineSteps.{consumes_more, consumes_same, empty_list}
-use Rattle.l4_text.proofs.Telling.{nothing_told, tells_none, tells_more, tells_is}
+use Rattle.l4_answers.proofs.Adding.{adds_none, adds_more, adds_kept}
+use Rattle.l4_shell.proofs.OneAnswer.{one_answer}
 
 -- LINES OF BYTES
 
@@ -65,9 +68,9 @@ whole_front (line ∷ lines) more h none =
 -- ANSWERS
 
 -- the answer to one line more
-answers_more : (old between new : Session) (number : ℕ) (lines : List ScriptLine) (text : List ℕ) (line : ScriptLine) (last : List ℕ) → AnswersLines old number lines text between
-    → AnswersLine between (number + length lines) (asked_of line) last new → AnswersLines old number (lines ++ line ∷ []) (text ++ last) new
-answers_more old between new number [] text line last are is = (
+answers_more : (old between new : Session) (number : ℕ) (lines : List ScriptLine) (told : List Report) (line : ScriptLine) (last : List Report) → AnswersLines old number lines told between
+    → AnswersLine between (number + length lines) (asked_of line) last new → AnswersLines old number (lines ++ line ∷ []) (told ++ last) new
+answers_more old between new number [] told line last are is = (
   last,
   [],
   new,
@@ -75,7 +78,7 @@ answers_more old between new number [] text line last are is = (
   (refl, refl),
   ap (λ t. t ++ last) are.0 ∙ sym (append-nil last),
 )
-answers_more old between new number (first ∷ lines) text line last are is =
+answers_more old between new number (first ∷ lines) told line last are is =
     let n : number + length (first ∷ lines) ≡ (number + 1) + length lines = omega arith in (
       are.0,
       are.1 ++ last,
@@ -100,7 +103,7 @@ asked_long bytes kept is long =
 -- THE LOOP
 
 -- the lines that were answered so far, before the one of this number
-pub record Answered (m : Session) (old new : Option (List ℕ)) (now : List ℕ × ℕ) (number : ℕ) (last : Session) (written out : Option (List ℕ)) (before after : List ℕ × Bool) : Type 0 where
+pub record Answered {T : Type 0} (has_told : T → T → List Report → Type 0) (closed : T → Bool) (m : Session) (old new : Option (List ℕ)) (now : List ℕ × ℕ) (number : ℕ) (last : Session) (before after : T) : Type 0 where
   pub read : List ℕ
   pub done : List ℕ
   pub from : Consumes old new read
@@ -109,41 +112,52 @@ pub record Answered (m : Session) (old new : Option (List ℕ)) (now : List ℕ 
   pub front : (more : List ℕ) → lines_of (done ++ more) ≡ lines ++ lines_of more
   pub number_is : number ≡ 1 + length lines
   pub whole : All (λ line. line.whole ≡ true) lines
-  pub text : List ℕ
-  pub answers : AnswersLines m 1 lines text last
-  pub tells : Tells written out before after text
+  pub told : List Report
+  pub answers : AnswersLines m 1 lines told last
+  pub was_open : (told ≡ []) ⊎ WasOpen has_told closed before (length lines) told
+  pub adds : AddsAll has_told before after told
   pub bound : left_of now + number ≤ 68736253953
   pub few : now.1 ≤ 16777216
 
-pub answered_none : (m : Session) (a w : Option (List ℕ)) (now : List ℕ × ℕ) (s : List ℕ × Bool) → now ≡ ([], 0) → Answered m a a now 1 m w w s s
-answered_none m a w now s is = record {
+pub answered_none : {T : Type 0} (has_told : T → T → List Report → Type 0) (closed : T → Bool) (m : Session) (a : Option (List ℕ)) (now : List ℕ × ℕ) (s : T) → now ≡ ([], 0) → Answered has_told closed m a a now 1 m s s
+answered_none has_told closed m a now s is = record {
   read = [];
   done = [];
-  from = consumes_same a;
+  «from» = consumes_same a;
   same = sym (ap (λ x. x.0) is);
   lines = [];
   front = λ more. refl;
   number_is = refl;
   whole = λ k d lt. absurd (omega arith);
-  text = [];
+  told = [];
   answers = (refl, refl);
-  tells = tells_none w s;
+  was_open = inl refl;
+  adds = adds_none has_told s;
   bound = omega (arith, ap left_of is);
   few = omega (arith, ap (λ x. x.1) is);
 }
 
+-- the line of this number was answered while the sink was open
+opened_before : {T : Type 0} (has_told : T → T → List Report → Type 0) (closed : T → Bool) (old next last : Session) (lines : List ScriptLine) (line : ScriptLine) (number : ℕ) (asked : Result (Option Command) ScriptFault) (before s : T) (earlier told : List Report)
+    → number ≡ 1 + length lines → AnswersLine last number asked told next → AddsAll has_told before s earlier → closed s ≡ false
+    → WasOpen has_told closed before (length (lines ++ line ∷ [])) (earlier ++ told)
+opened_before has_told closed old next last lines line number asked before s earlier told number_is is adds opened =
+    let n : number ≡ length (lines ++ line ∷ []) = omega (arith, number_is, length-append lines (line ∷ [])) in
+    subst (λ (k : ℕ). WasOpen has_told closed before k (earlier ++ told)) n
+    (record { earlier = earlier; last = told; parts = refl; one = one_answer last number asked told next is; between = s; adds = adds; opened = opened })
+
 -- one whole line more
-answered_more : (m last next : Session) (old mid new : Option (List ℕ)) (now after : List ℕ × ℕ) (kept : List ℕ × Bool) (number : ℕ) (written out out' : Option (List ℕ))
-    (before s t : List ℕ × Bool) (ending : Ending) → Answered m old mid now number last written out before s → (l : TakesLine mid new now after kept)
+answered_more : {T : Type 0} (has_told : T → T → List Report → Type 0) (closed : T → Bool) (m last next : Session) (old mid new : Option (List ℕ)) (now after : List ℕ × ℕ) (kept : List ℕ × Bool) (number : ℕ)
+    (before s t : T) (ending : Ending) → closed s ≡ false → Answered has_told closed m old mid now number last before s → (l : TakesLine mid new now after kept)
     → asked_at ending kept.0 ≡ asked_of (record { bytes = l.bytes; whole = true })
-    → (text : List ℕ) × AnswersLine last number (asked_at ending kept.0) text next × Tells out out' s t text
-    → Answered m old new after (number + 1) next written out' before t
-answered_more m last next old mid new now after kept number written out out' before s t ending a l asks is =
+    → (told : List Report) × AnswersLine last number (asked_at ending kept.0) told next × AddsAll has_told s t told
+    → Answered has_told closed m old new after (number + 1) next before t
+answered_more has_told closed m last next old mid new now after kept number before s t ending opened a l asks is =
     let line : ScriptLine = record { bytes = l.bytes; whole = true } in
     record {
       read = a.read ++ l.takes.read;
       done = a.done ++ (l.bytes ++ (10 ∷ []));
-      from = consumes_more old mid new a.read l.takes.read a.from l.takes.from;
+      «from» = consumes_more old mid new a.read l.takes.read a.from l.takes.from;
       same = ap (λ x. x ++ l.takes.read) a.same ∙ append_assoc a.done now.0 l.takes.read ∙ ap (λ x. a.done ++ x) l.takes.same ∙ sym (append_assoc a.done (l.bytes ++ (10 ∷ [])) after.0);
       lines = a.lines ++ line ∷ [];
       front = λ more.
@@ -151,18 +165,19 @@ answered_more m last next old mid new now after kept number written out out' bef
           ∙ a.front (l.bytes ++ (10 ∷ more)) ∙ ap (λ x. a.lines ++ x) (lines_more l.bytes more l.plain) ∙ sym (append_assoc a.lines (line ∷ []) (lines_of more));
       number_is = omega (arith, a.number_is, length-append a.lines (line ∷ []));
       whole = All-push (λ (l : ScriptLine). l.whole ≡ true) a.lines line a.whole refl;
-      text = a.text ++ is.0;
-      answers = answers_more m last next 1 a.lines a.text line is.0 a.answers
+      told = a.told ++ is.0;
+      answers = answers_more m last next 1 a.lines a.told line is.0 a.answers
           (subst (λ (n : ℕ). AnswersLine last n (asked_of line) is.0 next) a.number_is (subst (λ (q : Result _ _). AnswersLine last number q is.0 next) asks is.1));
-      tells = tells_more written out out' before s t _ _ a.tells is.2;
+      was_open = inr (opened_before has_told closed m next last a.lines line number (asked_at ending kept.0) before s a.told is.0 a.number_is is.1 a.adds opened);
+      adds = adds_more has_told before s t _ _ a.adds is.2;
       bound = omega (arith, a.bound, l.shorter);
       few = l.few;
     }
 
 -- what was held back went out
-pub answered_sent : (m last : Session) (old new : Option (List ℕ)) (now : List ℕ × ℕ) (number : ℕ) (written out out' : Option (List ℕ)) (before s t : List ℕ × Bool)
-    → Answered m old new now number last written out before s → Tells out out' s t [] → Answered m old new now number last written out' before t
-answered_sent m last old new now number written out out' before s t a sent = record {
+pub answered_sent : {T : Type 0} (has_told : T → T → List Report → Type 0) (closed : T → Bool) (m last : Session) (old new : Option (List ℕ)) (now : List ℕ × ℕ) (number : ℕ) (before s t : T)
+    → Answered has_told closed m old new now number last before s → Keeps has_told s t → Answered has_told closed m old new now number last before t
+answered_sent has_told closed m last old new now number before s t a sent = record {
   read = a.read;
   done = a.done;
   «from» = a.from;
@@ -171,39 +186,53 @@ answered_sent m last old new now number written out out' before s t a sent = rec
   front = a.front;
   number_is = a.number_is;
   whole = a.whole;
-  text = a.text;
+  told = a.told;
   answers = a.answers;
-  tells = tells_is written out' before t (a.text ++ []) a.text (append-nil a.text) (tells_more written out out' before s t a.text [] a.tells sent);
+  was_open = a.was_open;
+  adds = adds_kept has_told before s t a.told a.adds sent;
   bound = a.bound;
   few = a.few;
 }
 
 -- the lines so far, as lines of what was read
-pub beginning_of : (m last : Session) (old new : Option (List ℕ)) (now : List ℕ × ℕ) (number : ℕ) (written out : Option (List ℕ)) (before after : List ℕ × Bool)
-    → Answered m old new now number last written out before after → TellsBeginning m last old new written out before after
-beginning_of m last old new now number written out before after a = record {
+beginning_of : {T : Type 0} (has_told : T → T → List Report → Type 0) (closed : T → Bool) (m last : Session) (old new : Option (List ℕ)) (now : List ℕ × ℕ) (number : ℕ) (before after : T)
+    → Answered has_told closed m old new now number last before after → TellsBeginning m last old new has_told closed before after
+beginning_of has_told closed m last old new now number before after a = record {
   read = a.read;
   «from» = a.from;
   lines = a.lines;
   later = lines_of now.0;
   parts = ap lines_of a.same ∙ a.front now.0;
   sure = inl a.whole;
-  told = record { text = a.text; answers = a.answers; tells = a.tells };
+  told = a.told;
+  answers = a.answers;
+  was_open = a.was_open;
+  adds = a.adds;
+}
+
+-- the sink has closed
+pub answered_closed : {T : Type 0} (has_told : T → T → List Report → Type 0) (closed : T → Bool) (m last : Session) (old new : Option (List ℕ)) (now : List ℕ × ℕ) (number : ℕ) (before after : T)
+    → Answered has_told closed m old new now number last before after → closed after ≡ true → TellsAll m last old new has_told closed before after (number - 1)
+unfolding beginning_of
+answered_closed has_told closed m last old new now number before after a over = record {
+  some = beginning_of has_told closed m last old new now number before after a;
+  number = omega (arith, a.number_is);
+  end = inr over;
 }
 
 -- all that was read and not taken has no newline
-same_rest : (m last : Session) (old mid new : Option (List ℕ)) (now after : List ℕ × ℕ) (kept : List ℕ × Bool) (number : ℕ) (written out : Option (List ℕ)) (before s : List ℕ × Bool)
-    → (a : Answered m old mid now number last written out before s) → (l : TakesRest mid new now after kept) → lines_of (a.read ++ l.takes.read) ≡ a.lines ++ lines_of l.bytes
-same_rest m last old mid new now after kept number written out before s a l =
+same_rest : {T : Type 0} (has_told : T → T → List Report → Type 0) (closed : T → Bool) (m last : Session) (old mid new : Option (List ℕ)) (now after : List ℕ × ℕ) (kept : List ℕ × Bool) (number : ℕ) (before s : T)
+    → (a : Answered has_told closed m old mid now number last before s) → (l : TakesRest mid new now after kept) → lines_of (a.read ++ l.takes.read) ≡ a.lines ++ lines_of l.bytes
+same_rest has_told closed m last old mid new now after kept number before s a l =
     ap lines_of (ap (λ x. x ++ l.takes.read) a.same ∙ append_assoc a.done now.0 l.takes.read
     ∙ ap (λ x. a.done ++ x) (l.takes.same ∙ ap (λ x. l.bytes ++ x) l.empty ∙ append-nil l.bytes)) ∙ a.front l.bytes
 
 -- reading failed
-pub answered_read : (m last : Session) (old mid new : Option (List ℕ)) (now after : List ℕ × ℕ) (kept : List ℕ × Bool) (number : ℕ) (written out : Option (List ℕ)) (before s : List ℕ × Bool)
-    (e : RunFault) → Answered m old mid now number last written out before s → GivesLine mid new now after kept (Err e) → TellsWhole m last old new written out before s
-answered_read m last old mid new now after kept number written out before s e a gives =
+pub answered_read : {T : Type 0} (has_told : T → T → List Report → Type 0) (closed : T → Bool) (m last : Session) (old mid new : Option (List ℕ)) (now after : List ℕ × ℕ) (kept : List ℕ × Bool) (number : ℕ) (before s : T)
+    (e : RunFault) → Answered has_told closed m old mid now number last before s → GivesLine mid new now after kept (Err e) → TellsWhole m last old new has_told closed before s
+answered_read has_told closed m last old mid new now after kept number before s e a gives =
     let l = gives.0 in
-    let parts = same_rest m last old mid new now after kept number written out before s a l in
+    let parts = same_rest has_told closed m last old mid new now after kept number before s a l in
     record {
       some = record {
         read = a.read ++ l.takes.read;
@@ -212,7 +241,10 @@ answered_read m last old mid new now after kept number written out before s e a 
         later = lines_of l.bytes;
         parts = parts;
         sure = inl a.whole;
-        told = record { text = a.text; answers = a.answers; tells = a.tells };
+        told = a.told;
+        answers = a.answers;
+        was_open = a.was_open;
+        adds = a.adds;
       };
       whole = whole_front a.lines (lines_of l.bytes) a.whole (none_whole l.bytes l.plain) ∙ sym (ap (λ lines. filter (λ (line : ScriptLine). line.whole) lines) parts);
     }
@@ -225,14 +257,14 @@ something_kept : (bytes : List ℕ) → 0 < length (take 4096 bytes) → 0 < len
 something_kept bytes h = omega (arith, h, length-take 4096 bytes)
 
 -- at the end no line is left
-pub answered_end : (m last : Session) (old mid new : Option (List ℕ)) (now after : List ℕ × ℕ) (kept : List ℕ × Bool) (number : ℕ) (written out : Option (List ℕ)) (before s : List ℕ × Bool)
-    (r : Option Ending) → Answered m old mid now number last written out before s → GivesLine mid new now after kept (Ok r) → r ≡ None
-    → TellsAll m last old new written out before s (number - 1)
-answered_end m last old mid new now after kept number written out before s r a gives is =
+pub answered_end : {T : Type 0} (has_told : T → T → List Report → Type 0) (closed : T → Bool) (m last : Session) (old mid new : Option (List ℕ)) (now after : List ℕ × ℕ) (kept : List ℕ × Bool) (number : ℕ) (before s : T)
+    (r : Option Ending) → Answered has_told closed m old mid now number last before s → GivesLine mid new now after kept (Ok r) → r ≡ None
+    → TellsAll m last old new has_told closed before s (number - 1)
+answered_end has_told closed m last old mid new now after kept number before s r a gives is =
     let g = subst (λ (o : Option Ending). GivesLine mid new now after kept (Ok o)) is gives in
     let l = g.0 in
     let none : l.bytes ≡ [] = nothing_kept l.bytes (sym (ap (λ k. k.0) l.kept_is) ∙ g.2) in
-    let parts = same_rest m last old mid new now after kept number written out before s a l in
+    let parts = same_rest has_told closed m last old mid new now after kept number before s a l in
     let all : lines_of (a.read ++ l.takes.read) ≡ a.lines = parts ∙ ap (λ x. a.lines ++ lines_of x) none ∙ append-nil a.lines in
     record {
       some = record {
@@ -242,35 +274,37 @@ answered_end m last old mid new now after kept number written out before s r a g
         later = lines_of l.bytes;
         parts = parts;
         sure = inl a.whole;
-        told = record { text = a.text; answers = a.answers; tells = a.tells };
+        told = a.told;
+        answers = a.answers;
+        was_open = a.was_open;
+        adds = a.adds;
       };
-      all = sym all;
-      end = g.1;
-      number = omega (arith, a.number_is, ap length all);
+      number = omega (arith, a.number_is);
+      end = inl (g.1, sym all);
     }
 
 -- after a line: all lines so far, or with a cut line all that there are
-abbrev pub AfterLine : Ending → Session → Option (List ℕ) → Option (List ℕ) → List ℕ × ℕ → ℕ → Session → Option (List ℕ) → Option (List ℕ) → List ℕ × Bool → List ℕ × Bool → Type 0
-AfterLine Whole m old new now number last written out before after = Answered m old new now (number + 1) last written out before after
-AfterLine Long m old new now number last written out before after = Answered m old new now (number + 1) last written out before after
-AfterLine Cut m old new now number last written out before after = TellsAll m last old new written out before after number
+abbrev pub AfterLine : Ending → {T : Type 0} → (T → T → List Report → Type 0) → (T → Bool) → Session → Option (List ℕ) → Option (List ℕ) → List ℕ × ℕ → ℕ → Session → T → T → Type 0
+AfterLine Whole has_told closed m old new now number last before after = Answered has_told closed m old new now (number + 1) last before after
+AfterLine Long has_told closed m old new now number last before after = Answered has_told closed m old new now (number + 1) last before after
+AfterLine Cut has_told closed m old new now number last before after = TellsAll m last old new has_told closed before after number
 
-pub after_line : (ending : Ending) (m last next : Session) (old mid new : Option (List ℕ)) (now after : List ℕ × ℕ) (kept : List ℕ × Bool) (number : ℕ) (written out out' : Option (List ℕ))
-    (before s t : List ℕ × Bool) (r : Option Ending) → Answered m old mid now number last written out before s → GivesLine mid new now after kept (Ok r) → r ≡ Some ending
-    → (text : List ℕ) × AnswersLine last number (asked_at ending kept.0) text next × Tells out out' s t text
-    → AfterLine ending m old new after number next written out' before t
-after_line Whole m last next old mid new now after kept number written out out' before s t r a gives is told =
+pub after_line : {T : Type 0} (has_told : T → T → List Report → Type 0) (closed : T → Bool) (ending : Ending) (m last next : Session) (old mid new : Option (List ℕ)) (now after : List ℕ × ℕ) (kept : List ℕ × Bool) (number : ℕ)
+    (before s t : T) (r : Option Ending) → closed s ≡ false → Answered has_told closed m old mid now number last before s → GivesLine mid new now after kept (Ok r) → r ≡ Some ending
+    → (told : List Report) × AnswersLine last number (asked_at ending kept.0) told next × AddsAll has_told s t told
+    → AfterLine ending has_told closed m old new after number next before t
+after_line has_told closed Whole m last next old mid new now after kept number before s t r opened a gives is told =
     let g = subst (λ (o : Option Ending). GivesLine mid new now after kept (Ok o)) is gives in
-    answered_more m last next old mid new now after kept number written out out' before s t Whole a g.0 (asked_whole g.0.bytes kept g.0.kept_is g.1) told
-after_line Long m last next old mid new now after kept number written out out' before s t r a gives is told =
+    answered_more has_told closed m last next old mid new now after kept number before s t Whole opened a g.0 (asked_whole g.0.bytes kept g.0.kept_is g.1) told
+after_line has_told closed Long m last next old mid new now after kept number before s t r opened a gives is told =
     let g = subst (λ (o : Option Ending). GivesLine mid new now after kept (Ok o)) is gives in
-    answered_more m last next old mid new now after kept number written out out' before s t Long a g.0 (asked_long g.0.bytes kept g.0.kept_is g.1) told
-after_line Cut m last next old mid new now after kept number written out out' before s t r a gives is told =
+    answered_more has_told closed m last next old mid new now after kept number before s t Long opened a g.0 (asked_long g.0.bytes kept g.0.kept_is g.1) told
+after_line has_told closed Cut m last next old mid new now after kept number before s t r opened a gives is told =
     let g = subst (λ (o : Option Ending). GivesLine mid new now after kept (Ok o)) is gives in
     let l = g.0 in
     let some : 0 < length (take 4096 l.bytes) = omega (arith, g.2, ap (λ k. length k.0) l.kept_is) in
     let line : ScriptLine = record { bytes = l.bytes; whole = false } in
-    let parts = same_rest m last old mid new now after kept number written out before s a l in
+    let parts = same_rest has_told closed m last old mid new now after kept number before s a l in
     let all : lines_of (a.read ++ l.takes.read) ≡ a.lines ++ line ∷ [] = parts ∙ ap (λ x. a.lines ++ x) (cut_line l.bytes l.plain (something_kept l.bytes some)) in
     record {
       some = record {
@@ -280,30 +314,28 @@ after_line Cut m last next old mid new now after kept number written out out' be
         later = [];
         parts = all ∙ sym (append-nil (a.lines ++ line ∷ []));
         sure = inr g.1;
-        told = record {
-          text = a.text ++ told.0;
-          answers = answers_more m last next 1 a.lines a.text line told.0 a.answers (subst (λ (n : ℕ). AnswersLine last n (asked_of line) told.0 next) a.number_is told.1);
-          tells = tells_more written out out' before s t _ _ a.tells told.2;
-        };
+        told = a.told ++ told.0;
+        answers = answers_more m last next 1 a.lines a.told line told.0 a.answers (subst (λ (n : ℕ). AnswersLine last n (asked_of line) told.0 next) a.number_is told.1);
+        was_open = inr (opened_before has_told closed m next last a.lines line number (asked_at Cut kept.0) before s a.told told.0 a.number_is told.1 a.adds opened);
+        adds = adds_more has_told before s t _ _ a.adds told.2;
       };
-      all = sym all;
-      end = g.1;
-      number = omega (arith, a.number_is, ap length all, length-append a.lines (line ∷ []));
+      number = omega (arith, a.number_is, length-append a.lines (line ∷ []));
+      end = inl (g.1, sym all);
     }
 
 -- the line was cut
-pub answered_cut : (ending : Ending) (m next : Session) (old new : Option (List ℕ)) (after : List ℕ × ℕ) (number : ℕ) (written out : Option (List ℕ)) (before t : List ℕ × Bool)
-    → AfterLine ending m old new after number next written out before t → true ≡ sameb the_type ending Cut → TellsAll m next old new written out before t number
-answered_cut Whole m next old new after number written out before t a cut = absurd (false≢true (sym cut))
-answered_cut Long m next old new after number written out before t a cut = absurd (false≢true (sym cut))
-answered_cut Cut m next old new after number written out before t a cut = a
+pub answered_cut : {T : Type 0} (has_told : T → T → List Report → Type 0) (closed : T → Bool) (ending : Ending) (m next : Session) (old new : Option (List ℕ)) (after : List ℕ × ℕ) (number : ℕ) (before t : T)
+    → AfterLine ending has_told closed m old new after number next before t → true ≡ sameb the_type ending Cut → TellsAll m next old new has_told closed before t number
+answered_cut has_told closed Whole m next old new after number before t a cut = absurd (false≢true (sym cut))
+answered_cut has_told closed Long m next old new after number before t a cut = absurd (false≢true (sym cut))
+answered_cut has_told closed Cut m next old new after number before t a cut = a
 
 -- any other line goes on
-pub answered_on : (ending : Ending) (m next : Session) (old new : Option (List ℕ)) (after : List ℕ × ℕ) (number : ℕ) (written out : Option (List ℕ)) (before t : List ℕ × Bool)
-    → AfterLine ending m old new after number next written out before t → false ≡ sameb the_type ending Cut → Answered m old new after (number + 1) next written out before t
-answered_on Whole m next old new after number written out before t a cut = a
-answered_on Long m next old new after number written out before t a cut = a
-answered_on Cut m next old new after number written out before t a cut = absurd (false≢true cut)
+pub answered_on : {T : Type 0} (has_told : T → T → List Report → Type 0) (closed : T → Bool) (ending : Ending) (m next : Session) (old new : Option (List ℕ)) (after : List ℕ × ℕ) (number : ℕ) (before t : T)
+    → AfterLine ending has_told closed m old new after number next before t → false ≡ sameb the_type ending Cut → Answered has_told closed m old new after (number + 1) next before t
+answered_on has_told closed Whole m next old new after number before t a cut = a
+answered_on has_told closed Long m next old new after number before t a cut = a
+answered_on has_told closed Cut m next old new after number before t a cut = absurd (false≢true cut)
 
 -- THE RUN
 
@@ -313,111 +345,90 @@ first_is frames size kernel sv has none =
     let same : sv ≡ no_servers kernel.machine.size frames = none ∙ ap (λ (z : PageSize). no_servers z frames) (sym has.4) in
     λ i. record { machine = kernel.machine; servers = same i; history = has.1 i; numbers = has.2 i; seen = has.3 i }
 
--- nobody was served at the start
-from_none : (frames : ℕ) (m : Seated) (sv : Servers) (lines : List ScriptLine) (text : List ℕ) (last : Session) → session m sv ≡ first_session frames m.machine
-    → AnswersLines (session m sv) 1 lines text last → AnswersLines (first_session frames m.machine) 1 lines text last
-from_none frames m sv lines text last none answers = subst (λ (x : Session). AnswersLines x 1 lines text last) none answers
+-- the lines that were answered, of a script
+first_answers : {T : Type 0} (has_told : T → T → List Report → Type 0) (closed : T → Bool) (frames : ℕ) (size : PageSize) (m : Seated) (sv : Servers) (last : Session) (old new : Option (List ℕ)) (before after : T) → IsBoot frames m.machine → m.machine.size ≡ size
+    → session m sv ≡ first_session frames m.machine → (t : TellsBeginning (session m sv) last old new has_told closed before after) → AnswersFirst frames size old new has_told closed before
+first_answers has_told closed frames size m sv last old new before after boots sized none t = record {
+  read = t.read;
+  «from» = t.from;
+  lines = t.lines;
+  later = t.later;
+  parts = t.parts;
+  sure = t.sure;
+  told = t.told;
+  is_answered = record { boot = m.machine; boots = boots; sized = sized; last = last; answers = subst (λ (x : Session). AnswersLines x 1 t.lines t.told last) none t.answers };
+  was_open = t.was_open;
+}
+
+-- whatever was reported is out
+adds_out : {T : Type 0} (has_told is_out : T → T → List Report → Type 0) (before after sent : T) (told : List Report) → AddsAll has_told before after told → AllOut has_told is_out after sent
+    → AddsOut has_told is_out before sent told
+adds_out has_told is_out before after sent told adds out first earlier h = out first (earlier ++ told) (adds first earlier h)
 
 -- all that was told went out
-pub runs_on : (frames : ℕ) (size : PageSize) (m : Seated) (sv : Servers) (last : Session) (old new written out now : Option (List ℕ)) (before after : List ℕ × Bool) (result : Result ℕ RunFault) → IsBoot frames m.machine → m.machine.size ≡ size → session m sv ≡ first_session frames m.machine → before ≡ ([], false)
-    → TellsScript (session m sv) last old new written out before after result
-    → ((start : Option (List ℕ)) (told : List ℕ) → HasTold start out after.0 after.1 told → Appends start now told) → Runs frames size old new written now result
-runs_on frames size m sv last old new written out now before after (Ok count) boots sized none is t sent =
-    let told = t.some.told in
-    record {
-      read = t.some.read;
-      «from» = t.some.from;
-      end = t.end;
-      lines = t.number;
-      text = told.text;
-      is_text = record { boot = m.machine; boots = boots; sized = sized; last = last; answers = subst (λ (ls : List ScriptLine). AnswersLines (first_session frames m.machine) 1 ls told.text last) t.all (from_none frames m sv _ _ _ none told.answers) };
-      out = sent written told.text (told.tells written [] (nothing_told written before is));
-    }
-runs_on frames size m sv last old new written out now before after (Err Read) boots sized none is t sent =
-    let told = t.some.told in
-    record {
-      read = t.some.read;
-      «from» = t.some.from;
-      text = told.text;
-      is_text = record { boot = m.machine; boots = boots; sized = sized; last = last; answers = subst (λ (ls : List ScriptLine). AnswersLines (first_session frames m.machine) 1 ls told.text last) t.whole (from_none frames m sv _ _ _ none told.answers) };
-      out = sent written told.text (told.tells written [] (nothing_told written before is));
-    }
-runs_on frames size m sv last old new written out now before after (Err Write) boots sized none is t sent =
-    let told = t.told in
-    record {
-      read = t.read;
-      «from» = t.from;
-      lines = t.lines;
-      later = t.later;
-      parts = t.parts;
-      sure = t.sure;
-      text = told.text;
-      is_text = record { boot = m.machine; boots = boots; sized = sized; last = last; answers = from_none frames m sv _ _ _ none told.answers };
-      out = record { front = told.text; rest = []; whole = sym (append-nil told.text); out = sent written told.text (told.tells written [] (nothing_told written before is)) };
-    }
-runs_on frames size m sv last old new written out now before after (Err Memory) boots sized none is t sent = absurd t
+pub runs_on : {T : Type 0} (has_told is_out : T → T → List Report → Type 0) (closed : T → Bool) (frames : ℕ) (size : PageSize) (m : Seated) (sv : Servers) (last : Session) (old new : Option (List ℕ)) (before after sent : T) (result : Result ℕ RunFault) → IsBoot frames m.machine → m.machine.size ≡ size
+    → session m sv ≡ first_session frames m.machine → TellsScript (session m sv) last old new has_told closed before after result
+    → AllOut has_told is_out after sent → closed sent ≡ closed after → Runs frames size old new has_told is_out closed before sent result
+unfolding first_answers
+runs_on has_told is_out closed frames size m sv last old new before after sent (Ok count) boots sized none t out same = (
+  first_answers has_told closed frames size m sv last old new before after boots sized none t.some,
+  t.number,
+  adds_out has_told is_out before after sent t.some.told t.some.adds out,
+  elim t.end [ inl ended ↦ inl ended | inr over ↦ inr (same ∙ over) ],
+)
+runs_on has_told is_out closed frames size m sv last old new before after sent (Err Read) boots sized none t out same = (
+  first_answers has_told closed frames size m sv last old new before after boots sized none t.some,
+  t.whole,
+  adds_out has_told is_out before after sent t.some.told t.some.adds out,
+)
+runs_on has_told is_out closed frames size m sv last old new before after sent (Err Write) boots sized none t out same = absurd t
+runs_on has_told is_out closed frames size m sv last old new before after sent (Err Memory) boots sized none t out same = absurd t
 
 -- the lines that were answered, whatever then came
-some_told : (m last : Session) (old new written out : Option (List ℕ)) (before after : List ℕ × Bool) (result : Result ℕ RunFault) → TellsScript m last old new written out before after result
-    → TellsBeginning m last old new written out before after
-some_told m last old new written out before after (Ok count) t = t.some
-some_told m last old new written out before after (Err Read) t = t.some
-some_told m last old new written out before after (Err Write) t = t
-some_told m last old new written out before after (Err Memory) t = absurd t
+some_told : {T : Type 0} (has_told : T → T → List Report → Type 0) (closed : T → Bool) (m last : Session) (old new : Option (List ℕ)) (before after : T) (result : Result ℕ RunFault) → TellsScript m last old new has_told closed before after result
+    → TellsBeginning m last old new has_told closed before after
+some_told has_told closed m last old new before after (Ok count) t = t.some
+some_told has_told closed m last old new before after (Err Read) t = t.some
+some_told has_told closed m last old new before after (Err Write) t = absurd t
+some_told has_told closed m last old new before after (Err Memory) t = absurd t
 
 -- a write failed
-pub runs_not : (frames : ℕ) (size : PageSize) (m : Seated) (sv : Servers) (last : Session) (old new written out now : Option (List ℕ)) (before after : List ℕ × Bool) (result : Result ℕ RunFault) → IsBoot frames m.machine → m.machine.size ≡ size → session m sv ≡ first_session frames m.machine → before ≡ ([], false)
-    → TellsScript (session m sv) last old new written out before after result
-    → ((start : Option (List ℕ)) (told : List ℕ) → HasTold start out after.0 after.1 told → WentOut start now told) → Runs frames size old new written now (Err Write)
-runs_not frames size m sv last old new written out now before after result boots sized none is tells sent =
-    let t = some_told (session m sv) last old new written out before after result tells in
-    let told = t.told in
-    record {
-      read = t.read;
-      «from» = t.from;
-      lines = t.lines;
-      later = t.later;
-      parts = t.parts;
-      sure = t.sure;
-      text = told.text;
-      is_text = record { boot = m.machine; boots = boots; sized = sized; last = last; answers = from_none frames m sv _ _ _ none told.answers };
-      out = sent written told.text (told.tells written [] (nothing_told written before is));
-    }
+pub runs_not : {T : Type 0} (has_told is_out : T → T → List Report → Type 0) (closed : T → Bool) (frames : ℕ) (size : PageSize) (m : Seated) (sv : Servers) (last : Session) (old new : Option (List ℕ)) (before after sent : T) (result : Result ℕ RunFault) → IsBoot frames m.machine → m.machine.size ≡ size
+    → session m sv ≡ first_session frames m.machine → TellsScript (session m sv) last old new has_told closed before after result
+    → Keeps has_told after sent → Runs frames size old new has_told is_out closed before sent (Err Write)
+unfolding first_answers some_told
+runs_not has_told is_out closed frames size m sv last old new before after sent result boots sized none tells kept =
+    let t = some_told has_told closed (session m sv) last old new before after result tells in
+    (first_answers has_told closed frames size m sv last old new before after boots sized none t, adds_kept has_told before after sent t.told t.adds kept)
 
--- the history is wanted alone
-pub records_on : (frames : ℕ) (size : PageSize) (m k : Seated) (sv sv' : Servers) (old new written out : Option (List ℕ)) (before after : List ℕ × Bool) (result : Result ℕ RunFault) (history : List Entry) → IsBoot frames m.machine → m.machine.size ≡ size
-    → session m sv ≡ first_session frames m.machine → TellsScript (session m sv) (session k sv') old new written out before after result → history ≡ k.history → Records frames size old new history result
-records_on frames size m k sv sv' old new written out before after (Ok count) history boots sized none t is =
-    let told = t.some.told in
+-- the history alone is wanted, and the sink never closes
+pub records_on : {T : Type 0} (has_told : T → T → List Report → Type 0) (closed : T → Bool) (frames : ℕ) (size : PageSize) (m k : Seated) (sv sv' : Servers) (old new : Option (List ℕ)) (before after : T) (result : Result ℕ RunFault) (history : List Entry) → closed after ≡ false → IsBoot frames m.machine → m.machine.size ≡ size
+    → session m sv ≡ first_session frames m.machine → TellsScript (session m sv) (session k sv') old new has_told closed before after result → history ≡ k.history → Records frames size old new history result
+unfolding first_answers
+records_on has_told closed frames size m k sv sv' old new before after (Ok count) history opened boots sized none t is =
+    let a = first_answers has_told closed frames size m sv (session k sv') old new before after boots sized none t.some in
+    let end : IsAtEnd new × (t.some.lines ≡ lines_of t.some.read) = elim t.end [ inl ended ↦ ended | inr over ↦ absurd (false≢true (sym opened ∙ over)) ] in
     record {
-      read = t.some.read;
-      «from» = t.some.from;
-      lines = t.some.lines;
-      answered = (t.end, t.all, t.number ∙ ap length (sym t.all));
-      is_history = (told.text, record { boot = m.machine; boots = boots; sized = sized; last = session k sv'; answers = from_none frames m sv _ _ _ none told.answers }, is);
+      read = a.read;
+      «from» = a.from;
+      lines = a.lines;
+      answered = (end.0, end.1, t.number);
+      is_history = (a.told, a.is_answered, is);
     }
-records_on frames size m k sv sv' old new written out before after (Err Read) history boots sized none t is =
-    let told = t.some.told in
+records_on has_told closed frames size m k sv sv' old new before after (Err Read) history opened boots sized none t is =
+    let a = first_answers has_told closed frames size m sv (session k sv') old new before after boots sized none t.some in
     record {
-      read = t.some.read;
-      «from» = t.some.from;
-      lines = t.some.lines;
+      read = a.read;
+      «from» = a.from;
+      lines = a.lines;
       answered = t.whole;
-      is_history = (told.text, record { boot = m.machine; boots = boots; sized = sized; last = session k sv'; answers = from_none frames m sv _ _ _ none told.answers }, is);
+      is_history = (a.told, a.is_answered, is);
     }
-records_on frames size m k sv sv' old new written out before after (Err Write) history boots sized none t is =
-    let told = t.told in
-    record {
-      read = t.read;
-      «from» = t.from;
-      lines = t.lines;
-      answered = (t.later, t.parts, t.sure);
-      is_history = (told.text, record { boot = m.machine; boots = boots; sized = sized; last = session k sv'; answers = from_none frames m sv _ _ _ none told.answers }, is);
-    }
-records_on frames size m k sv sv' old new written out before after (Err Memory) history boots sized none t is = absurd t
+records_on has_told closed frames size m k sv sv' old new before after (Err Write) history opened boots sized none t is = absurd t
+records_on has_told closed frames size m k sv sv' old new before after (Err Memory) history opened boots sized none t is = absurd t
 
 -- the bytes of the line are those that were kept
-pub same_bytes : (last next : Session) (number : ℕ) (ending : Ending) (bytes kept : List ℕ) (out out' : Option (List ℕ)) (s t : List ℕ × Bool) → bytes ≡ kept
-    → (text : List ℕ) × AnswersLine last number (asked_at ending bytes) text next × Tells out out' s t text
-    → (text : List ℕ) × AnswersLine last number (asked_at ending kept) text next × Tells out out' s t text
-same_bytes last next number ending bytes kept out out' s t is h = (h.0, subst (λ (b : List ℕ). AnswersLine last number (asked_at ending b) h.0 next) is h.1, h.2)
+pub same_bytes : {T : Type 0} (has_told : T → T → List Report → Type 0) (last next : Session) (number : ℕ) (ending : Ending) (bytes kept : List ℕ) (s t : T) → bytes ≡ kept
+    → (told : List Report) × AnswersLine last number (asked_at ending bytes) told next × AddsAll has_told s t told
+    → (told : List Report) × AnswersLine last number (asked_at ending kept) told next × AddsAll has_told s t told
+same_bytes has_told last next number ending bytes kept s t is h = (h.0, subst (λ (b : List ℕ). AnswersLine last number (asked_at ending b) h.0 next) is h.1, h.2)

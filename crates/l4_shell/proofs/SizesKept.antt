@@ -23,6 +23,7 @@ use Rattle.l4_shell.specs.Commands.{Command}
 use Rattle.l4_shell.specs.declared.commands.ScriptFault.{ScriptFault}
 use Rattle.l4_shell.specs.declared.requests.Request.{Request}
 use Rattle.l4_shell.specs.declared.requests.Request.TheVariants.{Enter, CreateThread, EndThread, SendPlan, ListPages, TellParent, AddRegion, ServeThread, TellSteps}
+use Rattle.l4_answers.specs.Reports.{Report}
 use Rattle.l4_shell.specs.Lines.{ScriptLine}
 use Rattle.l4_shell.specs.Requests.{request_of, asked_of, root, delete_call}
 use Rattle.l4_seated.specs.Seated.{with_number}
@@ -102,8 +103,8 @@ are_acts_size size old [] new are h = same_size size old new are h
 are_acts_size size old (act ∷ acts) new are h =
     are_acts_size size (gone_on old act.servers (act_entries act) act.after) acts new are.1 (act_size size old act are.0 h)
 
-stops_size : (size : PageSize) (old : Session) (count : ℕ) (text : List ℕ) (new : Session) → StopsActing old count text new → HasSize size old → HasSize size new
-stops_size size old count text new stops h = elim stops [
+stops_size : (size : PageSize) (old : Session) (count : ℕ) (told : List Report) (new : Session) → StopsActing old count told new → HasSize size old → HasSize size new
+stops_size size old count told new stops h = elim stops [
   | inl quiet ↦ same_size size old new quiet.2 h
   | inr rest ↦ elim rest [
     | inl spent ↦ same_size size old new spent.2 h
@@ -114,8 +115,8 @@ stops_size size old count text new stops h = elim stops [
   ]
 ]
 
-follows_size : (size : PageSize) (old : Session) (thread : ℕ) (call : Call) (sv : Servers) (text : List ℕ) (new : Session) → Follows old thread call sv text new → HasSize size old → GoBy size sv → HasSize size new
-follows_size size old thread call sv text new f h go =
+follows_size : (size : PageSize) (old : Session) (thread : ℕ) (call : Call) (sv : Servers) (told : List Report) (new : Session) → Follows old thread call sv told new → HasSize size old → GoBy size sv → HasSize size new
+follows_size size old thread call sv told new f h go =
     let g = f.goes_on in
     stops_size size g.between (length g.acts) g.last new g.stops
     (are_acts_size size (gone_on old sv (call_entries thread call f.answer f.steps) f.settled) g.acts g.between g.are
@@ -124,56 +125,56 @@ follows_size size old thread call sv text new f h go =
       servers = go;
     }))
 
-enters_size : (size : PageSize) (old : Session) (line thread : ℕ) (call : Call) (text : List ℕ) (new : Session) → Enters old line thread call text new → HasSize size old → HasSize size new
-enters_size size old line thread call text new e h = elim e [
-  | inl f ↦ follows_size size old thread call old.servers text new f h h.servers
+enters_size : (size : PageSize) (old : Session) (line thread : ℕ) (call : Call) (told : List Report) (new : Session) → Enters old line thread call told new → HasSize size old → HasSize size new
+enters_size size old line thread call told new e h = elim e [
+  | inl f ↦ follows_size size old thread call old.servers told new f h h.servers
   | inr r ↦ same_size size old new r.same h
 ]
 
-adds_size : (size : PageSize) (old : Session) (line thread : ℕ) (entry : Entry) (space : Option ℕ) (text refused : List ℕ) (new : Session)
-    → MatchOption space ((text ≡ refused) × (new ≡ old)) (λ _. RegionAdded old thread entry text new ⊎ RegionRefused old line thread entry text new) → HasSize size old → HasSize size new
-adds_size size old line thread entry None text refused new a h = same_size size old new a.1 h
-adds_size size old line thread entry (Some space) text refused new a h = elim a [
+adds_size : (size : PageSize) (old : Session) (line thread : ℕ) (entry : Entry) (space : Option ℕ) (told refused : List Report) (new : Session)
+    → MatchOption space ((told ≡ refused) × (new ≡ old)) (λ _. RegionAdded old thread entry told new ⊎ RegionRefused old line thread entry told new) → HasSize size old → HasSize size new
+adds_size size old line thread entry None told refused new a h = same_size size old new a.1 h
+adds_size size old line thread entry (Some space) told refused new a h = elim a [
   | inl added ↦ subst (HasSize size) (sym added.2) (record { machine = h.machine; servers = region_goes size old.servers thread entry h.servers })
   | inr not ↦ same_size size old new not.3 h
 ]
 
 -- LINES
 
-carries_size : (size : PageSize) (old : Session) (line : ℕ) (request : Request) (text : List ℕ) (new : Session) → CarriesOut old line request text new → HasSize size old → HasSize size new
-carries_size size old line (Enter thread call) text new c h = enters_size size old line thread call text new c h
-carries_size size old line (CreateThread number call) text new c h = elim c [
-  | inl e ↦ enters_size size (record old { numbers = with_number old.numbers number }) line root call text new e (record { machine = h.machine; servers = h.servers })
+carries_size : (size : PageSize) (old : Session) (line : ℕ) (request : Request) (told : List Report) (new : Session) → CarriesOut old line request told new → HasSize size old → HasSize size new
+carries_size size old line (Enter thread call) told new c h = enters_size size old line thread call told new c h
+carries_size size old line (CreateThread number call) told new c h = elim c [
+  | inl e ↦ enters_size size (record old { numbers = with_number old.numbers number }) line root call told new e (record { machine = h.machine; servers = h.servers })
   | inr lacks ↦ same_size size old new lacks.1.1 h
 ]
-carries_size size old line (EndThread thread) text new c h = elim c [
-  | inl f ↦ follows_size size old root (delete_call thread) (without old.servers thread) text new f h (without_goes size old.servers thread h.servers)
+carries_size size old line (EndThread thread) told new c h = elim c [
+  | inl f ↦ follows_size size old root (delete_call thread) (without old.servers thread) told new f h (without_goes size old.servers thread h.servers)
   | inr r ↦ same_size size old new r.same h
 ]
-carries_size size old line (SendPlan thread to which region) text new c h = elim c [
-  | inl sends ↦ enters_size size old line thread _ text new sends.2 h
+carries_size size old line (SendPlan thread to which region) told new c h = elim c [
+  | inl sends ↦ enters_size size old line thread _ told new sends.2 h
   | inr none ↦ same_size size old new none.3 h
 ]
-carries_size size old line (ListPages thread first count) text new c h = same_size size old new c.1 h
-carries_size size old line (TellParent thread page) text new c h = same_size size old new c.1 h
-carries_size size old line (AddRegion thread entry) text new c h = adds_size size old line thread entry (space_of old.machine.threads thread) text _ new c h
-carries_size size old line (ServeThread thread) text new c h = elim c [
-  | inl f ↦ follows_size size old thread waiting (with_served old.servers thread) text new f h (served_goes size old.servers thread h.servers)
+carries_size size old line (ListPages thread first count) told new c h = same_size size old new c.1 h
+carries_size size old line (TellParent thread page) told new c h = same_size size old new c.1 h
+carries_size size old line (AddRegion thread entry) told new c h = adds_size size old line thread entry (space_of old.machine.threads thread) told _ new c h
+carries_size size old line (ServeThread thread) told new c h = elim c [
+  | inl f ↦ follows_size size old thread waiting (with_served old.servers thread) told new f h (served_goes size old.servers thread h.servers)
   | inr not ↦ elim not [
     | inl r ↦ same_size size old new r.same h
     | inr lacks ↦ same_size size old new lacks.lacks.1 h
   ]
 ]
-carries_size size old line TellSteps text new c h = subst (HasSize size) (sym c.4) (record { machine = h.machine; servers = h.servers })
+carries_size size old line TellSteps told new c h = subst (HasSize size) (sym c.4) (record { machine = h.machine; servers = h.servers })
 
-line_size : (size : PageSize) (old : Session) (line : ℕ) (asked : Result (Option Command) ScriptFault) (text : List ℕ) (new : Session) → AnswersLine old line asked text new → HasSize size old → HasSize size new
-line_size size old line (Ok None) text new a h = same_size size old new a.1 h
-line_size size old line (Ok (Some command)) text new a h = carries_size size old line (request_of command) text new a h
-line_size size old line (Err fault) text new a h = same_size size old new a.1 h
+line_size : (size : PageSize) (old : Session) (line : ℕ) (asked : Result (Option Command) ScriptFault) (told : List Report) (new : Session) → AnswersLine old line asked told new → HasSize size old → HasSize size new
+line_size size old line (Ok None) told new a h = same_size size old new a.1 h
+line_size size old line (Ok (Some command)) told new a h = carries_size size old line (request_of command) told new a h
+line_size size old line (Err fault) told new a h = same_size size old new a.1 h
 
-pub lines_sized : (size : PageSize) (old : Session) (number : ℕ) (lines : List ScriptLine) (text : List ℕ) (new : Session) → AnswersLines old number lines text new → HasSize size old → HasSize size new
-lines_sized size old number [] text new a h = same_size size old new a.1 h
-lines_sized size old number (line ∷ lines) text new a h =
+pub lines_sized : (size : PageSize) (old : Session) (number : ℕ) (lines : List ScriptLine) (told : List Report) (new : Session) → AnswersLines old number lines told new → HasSize size old → HasSize size new
+lines_sized size old number [] told new a h = same_size size old new a.1 h
+lines_sized size old number (line ∷ lines) told new a h =
     lines_sized size a.2 (number + 1) lines a.1 new a.4 (line_size size old number (asked_of line) a.0 a.2 a.3 h)
 
 pub first_sized : (frames : ℕ) (boot : Machine) → HasSize boot.size (first_session frames boot)

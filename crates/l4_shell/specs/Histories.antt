@@ -1,25 +1,23 @@
 -- What a script leaves in the history.
-use Rattle.std.specs.Prelude.{ℕ, ◌≡◌, ◌⊎◌, true, List, ◌++◌, length, filter, Option, Result, Ok, Err}
-use Rattle.std.specs.List.{All}
+use Rattle.std.specs.Prelude.{ℕ, ◌≡◌, List, length, filter, Option, Result, Ok, Err}
 use Rattle.std.specs.Io.KnownBytes.{Consumes, IsAtEnd}
 use Rattle.l4_fpage.specs.declared.sizes.PageSize.{PageSize}
 use Rattle.l4_record.specs.declared.entries.Entry.{Entry}
 use Rattle.l4_shell.specs.Lines.{ScriptLine, lines_of}
-use Rattle.l4_shell.specs.Sessions.{IsScriptText}
+use Rattle.l4_answers.specs.Reports.{Report}
+use Rattle.l4_shell.specs.Sessions.{IsAnswered}
 use Rattle.l4_text.specs.declared.faults.RunFault.{RunFault}
 use Rattle.l4_text.specs.declared.faults.RunFault.TheVariants.{Read, Write, Memory}
 
 -- the history once these lines of a script were answered
 abbrev pub IsScriptHistory : ℕ → PageSize → List ScriptLine → List Entry → Type 0
-IsScriptHistory frames size lines history = (text : List ℕ) × (is : IsScriptText frames size lines text) × (history ≡ is.last.history)
+IsScriptHistory frames size lines history = (told : List Report) × (is : IsAnswered frames size lines told) × (history ≡ is.last.history)
 
--- which lines were answered of those that were read, and how it ended: all, a cut last one too; the whole ones where reading failed; where
--- writing failed the first of them
+-- which lines were answered of those that were read, and how it ended: all, a cut last one too, or the whole ones where reading failed
 abbrev pub AreAnswered : List ℕ → Option (List ℕ) → List ScriptLine → Result ℕ RunFault → Type 0
 AreAnswered read new lines (Ok count) = IsAtEnd new × (lines ≡ lines_of read) × (count ≡ length lines)
 AreAnswered read new lines (Err Read) = lines ≡ filter (λ line. line.whole) (lines_of read)
-AreAnswered read new lines (Err Write) =
-    (later : List ScriptLine) × (lines_of read ≡ lines ++ later) × (All (λ line. line.whole ≡ true) lines ⊎ IsAtEnd new)
+AreAnswered read new lines (Err Write) = ⊥
 AreAnswered read new lines (Err Memory) = ⊥
 
 -- a script was carried out, and this is its history

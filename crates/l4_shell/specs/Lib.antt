@@ -7,5 +7,4 @@ pub mod Requests
 pub mod Scripts
 pub mod Sessions
 pub mod Sizes
-pub mod Texts
 pub mod Inside

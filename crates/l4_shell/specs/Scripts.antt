@@ -1,48 +1,55 @@
 -- A script from its first line to its last.
-use Rattle.std.specs.Prelude.{ℕ, ◌≡◌, ◌⊎◌, true, List, ◌++◌, length, filter, Option, Result, Ok, Err}
+use Rattle.std.specs.Prelude.{ℕ, ◌≡◌, ◌⊎◌, Bool, true, false, List, [], ◌∷◌, ◌++◌, length, filter, Option, Result, Ok, Err}
 use Rattle.std.specs.List.{All}
-use Rattle.std.specs.Io.KnownBytes.{Consumes, Appends, IsAtEnd}
+use Rattle.std.specs.Io.KnownBytes.{Consumes, IsAtEnd}
 use Rattle.l4_fpage.specs.declared.sizes.PageSize.{PageSize}
+use Rattle.l4_answers.specs.Refusals.{Refusal}
+use Rattle.l4_answers.specs.Reports.{Report, RefusedLine, has_refusal, AddsAll}
 use Rattle.l4_shell.specs.Lines.{ScriptLine, lines_of}
-use Rattle.l4_text.specs.Streams.{WentOut}
-use Rattle.l4_shell.specs.Sessions.{IsScriptText}
+use Rattle.l4_shell.specs.Sessions.{IsAnswered}
 use Rattle.l4_text.specs.declared.faults.RunFault.{RunFault}
 use Rattle.l4_text.specs.declared.faults.RunFault.TheVariants.{Read, Write, Memory}
 
--- all was read, and what went out is its script text; it has so many lines, a cut last one too
-pub record AnswersAll (frames : ℕ) (size : PageSize) (old new written now : Option (List ℕ)) (count : ℕ) : Type 0 where
-  pub read : List ℕ
-  pub from : Consumes old new read
-  pub end : IsAtEnd new
-  pub lines : count ≡ length (lines_of read)
-  pub text : List ℕ
-  pub is_text : IsScriptText frames size (lines_of read) text
-  pub out : Appends written now text
+-- a line of this number was answered without its refusal, or by its refusal alone
+abbrev pub IsOneAnswer : ℕ → List Report → Type 0
+IsOneAnswer number told = (has_refusal told ≡ false) ⊎ ((refusal : Refusal) × (told ≡ RefusedLine number refusal ∷ []))
 
--- reading stopped before the end: what went out is the script text of the whole lines that were read
-pub record AnswersWhole (frames : ℕ) (size : PageSize) (old new written now : Option (List ℕ)) : Type 0 where
-  pub read : List ℕ
-  pub from : Consumes old new read
-  pub text : List ℕ
-  pub is_text : IsScriptText frames size (filter (λ line. line.whole) (lines_of read)) text
-  pub out : Appends written now text
+-- the sink was open before the last line, of this number, was answered
+pub record WasOpen {T : Type 0} (has_told : T → T → List Report → Type 0) (closed : T → Bool) (old : T) (number : ℕ) (told : List Report) : Type 0 where
+  pub earlier : List Report
+  pub last : List Report
+  pub parts : told ≡ earlier ++ last
+  pub one : IsOneAnswer number last
+  pub between : T
+  pub adds : AddsAll has_told old between earlier
+  pub opened : closed between ≡ false
 
--- Writing stopped: what went out is a beginning of the script text of the first lines that were read, each of them
--- whole unless the input has ended, so that any script that goes on from here owes this text first.
-pub record AnswersBeginning (frames : ℕ) (size : PageSize) (old new written now : Option (List ℕ)) : Type 0 where
+-- The first lines of what was read were answered, each of them whole unless the input has ended, so that any script that goes on from here has
+-- these answers first. Nothing was told, or the sink was open before the last of these lines.
+pub record AnswersFirst {T : Type 0} (frames : ℕ) (size : PageSize) (old new : Option (List ℕ)) (has_told : T → T → List Report → Type 0) (closed : T → Bool) (sink : T) : Type 0 where
   pub read : List ℕ
   pub from : Consumes old new read
   pub lines : List ScriptLine
   pub later : List ScriptLine
   pub parts : lines_of read ≡ lines ++ later
   pub sure : All (λ line. line.whole ≡ true) lines ⊎ IsAtEnd new
-  pub text : List ℕ
-  pub is_text : IsScriptText frames size lines text
-  pub out : WentOut written now text
+  pub told : List Report
+  pub is_answered : IsAnswered frames size lines told
+  pub was_open : (told ≡ []) ⊎ WasOpen has_told closed sink (length lines) told
 
--- a run of a script; want of memory comes before all else
-abbrev pub Runs : ℕ → PageSize → Option (List ℕ) → Option (List ℕ) → Option (List ℕ) → Option (List ℕ) → Result ℕ RunFault → Type 0
-Runs frames size old new written now (Ok count) = AnswersAll frames size old new written now count
-Runs frames size old new written now (Err Read) = AnswersWhole frames size old new written now
-Runs frames size old new written now (Err Write) = AnswersBeginning frames size old new written now
-Runs frames size old new written now (Err Memory) = (new ≡ old) × (now ≡ written)
+-- whatever was reported before, it and these answers are out
+abbrev pub AddsOut : {T : Type 0} → (T → T → List Report → Type 0) → (T → T → List Report → Type 0) → T → T → List Report → Type 0
+AddsOut has_told is_out old new told = (first : _) (earlier : List Report) → has_told first old earlier → is_out first new (earlier ++ told)
+
+-- A run of a script: to its end or until the sink closed; to a read that failed, and all whole lines before it; to a write that failed.
+-- Want of memory comes before all else.
+abbrev pub Runs : {T : Type 0} → ℕ → PageSize → Option (List ℕ) → Option (List ℕ) → (T → T → List Report → Type 0) → (T → T → List Report → Type 0) → (T → Bool) → T → T → Result ℕ RunFault → Type 0
+Runs frames size old new has_told is_out closed before after (Ok count) =
+    (a : AnswersFirst frames size old new has_told closed before) × (count ≡ length a.lines) × AddsOut has_told is_out before after a.told
+    × ((IsAtEnd new × (a.lines ≡ lines_of a.read)) ⊎ (closed after ≡ true))
+Runs frames size old new has_told is_out closed before after (Err Read) =
+    (a : AnswersFirst frames size old new has_told closed before) × (a.lines ≡ filter (λ line. line.whole) (lines_of a.read))
+    × AddsOut has_told is_out before after a.told
+Runs frames size old new has_told is_out closed before after (Err Write) =
+    (a : AnswersFirst frames size old new has_told closed before) × AddsAll has_told before after a.told
+Runs frames size old new has_told is_out closed before after (Err Memory) = (new ≡ old) × (after ≡ before)

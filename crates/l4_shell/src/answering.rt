@@ -1,6 +1,6 @@
 //! Answers to lines. Most lines are `recv`, `send`, `ipc` and `fault`, and these go straight from their tokens to their call.
 ghost use Rattle.std.specs.Prelude.{◌≡◌, ◌∷◌, ℕ, List, [], Option, false, ok_or, option_map, codes, bytes_eq};
-ghost use Rattle.l4_text.specs.Streams.{Tells};
+ghost use Rattle.l4_answers.specs.Reports.{Report, AddsAll};
 ghost use Rattle.l4_text.specs.Tokens.{tokens_of};
 ghost use Rattle.l4_text.specs.declared.lines.Ending.TheVariants.{Whole};
 ghost use Rattle.l4_shell.specs.declared.commands.ScriptFault.TheVariants.{BadTokens};
@@ -16,13 +16,13 @@ use crate::commands::{
 use crate::partners::Partner;
 use crate::refusals::script_code;
 use crate::requests::{CallPlaces, make_fault, make_ipc, make_receive, set_parts};
-use crate::session::{Session, refuse};
+use crate::session::Session;
+use l4_answers::Sink;
 use l4_ipc::Call;
 use l4_record::History;
 use l4_seated::SeatedKernel;
 use l4_servers::Servers;
 use l4_text::Ending;
-use std::io::Write;
 
 /// Makes the call of a `recv` line in a place. Answers the thread; None where the tokens can't be read, and then what stands in the place means
 /// nothing.
@@ -83,15 +83,14 @@ fn is_comment(line: &[u8]) -> bool
 impl Session {
     /// Answers a line whose call was read: the thread enters it. Where no thread was read, the line is refused.
     #[inline(always)]
-    fn answer_call<W: Write>(&mut self, line: u64, number: Option<u32>, call: &Call, writer: &mut W)
+    fn answer_call<S: Sink>(&mut self, line: u64, number: Option<u32>, call: &Call, sink: &mut S)
         ensures { (asked : Option Command) → option_map (λ n. Enter n call.now) number ≡ option_map request_of asked
-            → (text : List ℕ) × AnswersLine (session self.old.kernel self.old.servers) line (some_command (ok_or asked BadTokens)) text (session self.new.kernel self.new.servers)
-            × Tells (W.contents writer.old) (W.contents writer.new) self.old.out self.new.out text }
+            → (told : List Report) × AnswersLine (session self.old.kernel self.old.servers) line (some_command (ok_or asked BadTokens)) told (session self.new.kernel self.new.servers)
+            × AddsAll S.has_told sink.old sink.new told }
     {
-        let out = &mut self.out;
         match number {
-            Some(thread) => self.enter_and_follow(line, thread, call, writer),
-            None => refuse(line, &script_code(ScriptFault::BadTokens), out, writer),
+            Some(thread) => self.enter_and_follow(line, thread, call, sink),
+            None => sink.refused_line(line, &script_code(ScriptFault::BadTokens)),
         }
     }
 }
@@ -106,7 +105,7 @@ pub(crate) struct Script {
 impl Script {
     /// A script of which no line was read.
     pub(crate) fn new(kernel: SeatedKernel, servers: Servers) -> Script
-        ensures { (result.session.kernel ≡ kernel) × (result.session.servers ≡ servers) × (result.session.out ≡ ([], false)) }
+        ensures { (result.session.kernel ≡ kernel) × (result.session.servers ≡ servers) }
     {
         Script {
             session: Session::new(kernel, servers),
@@ -124,51 +123,51 @@ impl Script {
 
     /// Answers a line of another first token than `recv`, `send`, `ipc` and `fault`.
     #[inline(never)]
-    fn answer_other<W: Write>(&mut self, line: u64, name: &[u8], rest: &[u8], writer: &mut W)
+    fn answer_other<S: Sink>(&mut self, line: u64, name: &[u8], rest: &[u8], sink: &mut S)
         requires recv { bytes_eq name.now (codes "recv") ≡ false }
         requires send { bytes_eq name.now (codes "send") ≡ false }
         requires ipc { bytes_eq name.now (codes "ipc") ≡ false }
         requires fault { bytes_eq name.now (codes "fault") ≡ false }
-        ensures { (text : List ℕ) × AnswersLine (session self.old.session.kernel self.old.session.servers) line (some_command (command_of (name.now ∷ tokens_of rest.now))) text (session self.new.session.kernel self.new.session.servers)
-            × Tells (W.contents writer.old) (W.contents writer.new) self.old.session.out self.new.session.out text }
+        ensures { (told : List Report) × AnswersLine (session self.old.session.kernel self.old.session.servers) line (some_command (command_of (name.now ∷ tokens_of rest.now))) told (session self.new.session.kernel self.new.session.servers)
+            × AddsAll S.has_told sink.old sink.new told }
     {
         match other_request(name, rest, &mut self.calls.ipc) {
-            Ok(request) => self.session.carry_out(line, request, writer),
-            Err(fault) => refuse(line, &script_code(fault), &mut self.session.out, writer),
+            Ok(request) => self.session.carry_out(line, request, sink),
+            Err(fault) => sink.refused_line(line, &script_code(fault)),
         }
     }
 
     /// Answers a line of this first token, and the tokens of the rest.
     #[inline(always)]
-    fn answer_command<W: Write>(&mut self, line: u64, name: &[u8], rest: &[u8], writer: &mut W)
-        ensures { (text : List ℕ) × AnswersLine (session self.old.session.kernel self.old.session.servers) line (some_command (command_of (name.now ∷ tokens_of rest.now))) text (session self.new.session.kernel self.new.session.servers)
-            × Tells (W.contents writer.old) (W.contents writer.new) self.old.session.out self.new.session.out text }
+    fn answer_command<S: Sink>(&mut self, line: u64, name: &[u8], rest: &[u8], sink: &mut S)
+        ensures { (told : List Report) × AnswersLine (session self.old.session.kernel self.old.session.servers) line (some_command (command_of (name.now ∷ tokens_of rest.now))) told (session self.new.session.kernel self.new.session.servers)
+            × AddsAll S.has_told sink.old sink.new told }
     {
         let Script { session, calls } = self;
         if is_recv(name) {
             let number = read_receive(rest, &mut calls.ipc);
-            return session.answer_call(line, number, &calls.ipc, writer);
+            return session.answer_call(line, number, &calls.ipc, sink);
         }
         if is_send(name) {
             let number = read_send(rest, &mut calls.ipc);
-            return session.answer_call(line, number, &calls.ipc, writer);
+            return session.answer_call(line, number, &calls.ipc, sink);
         }
         if is_ipc(name) {
             let number = read_ipc(rest, &mut calls.ipc);
-            return session.answer_call(line, number, &calls.ipc, writer);
+            return session.answer_call(line, number, &calls.ipc, sink);
         }
         if is_fault(name) {
             let number = read_fault(rest, &mut calls.fault);
-            return session.answer_call(line, number, &calls.fault, writer);
+            return session.answer_call(line, number, &calls.fault, sink);
         }
-        self.answer_other(line, name, rest, writer);
+        self.answer_other(line, name, rest, sink);
     }
 
     /// Answers a line that a newline ends, and that is none too long.
     #[inline(always)]
-    fn answer_whole<W: Write>(&mut self, line: u64, bytes: &[u8], writer: &mut W)
-        ensures { (text : List ℕ) × AnswersLine (session self.old.session.kernel self.old.session.servers) line (asked_at Whole bytes.now) text (session self.new.session.kernel self.new.session.servers)
-            × Tells (W.contents writer.old) (W.contents writer.new) self.old.session.out self.new.session.out text }
+    fn answer_whole<S: Sink>(&mut self, line: u64, bytes: &[u8], sink: &mut S)
+        ensures { (told : List Report) × AnswersLine (session self.old.session.kernel self.old.session.servers) line (asked_at Whole bytes.now) told (session self.new.session.kernel self.new.session.servers)
+            × AddsAll S.has_told sink.old sink.new told }
     {
         if is_comment(bytes) {
             return;
@@ -176,25 +175,24 @@ impl Script {
         let Some((name, rest)) = command_name(bytes) else {
             return;
         };
-        self.answer_command(line, name, rest, writer);
+        self.answer_command(line, name, rest, sink);
     }
 
     /// Answers one line.
-    pub(crate) fn answer_line<W: Write>(
+    pub(crate) fn answer_line<S: Sink>(
         &mut self,
         line: u64,
         ending: Ending,
         bytes: &[u8],
-        writer: &mut W,
+        sink: &mut S,
     )
-        ensures { (text : List ℕ) × AnswersLine (session self.old.session.kernel self.old.session.servers) line (asked_at ending bytes.now) text (session self.new.session.kernel self.new.session.servers)
-            × Tells (W.contents writer.old) (W.contents writer.new) self.old.session.out self.new.session.out text }
+        ensures { (told : List Report) × AnswersLine (session self.old.session.kernel self.old.session.servers) line (asked_at ending bytes.now) told (session self.new.session.kernel self.new.session.servers)
+            × AddsAll S.has_told sink.old sink.new told }
     {
-        let out = &mut self.session.out;
         match ending {
-            Ending::Whole => self.answer_whole(line, bytes, writer),
-            Ending::Long => refuse(line, &script_code(ScriptFault::LineTooLong), out, writer),
-            Ending::Cut => refuse(line, &script_code(ScriptFault::CutLine), out, writer),
+            Ending::Whole => self.answer_whole(line, bytes, sink),
+            Ending::Long => sink.refused_line(line, &script_code(ScriptFault::LineTooLong)),
+            Ending::Cut => sink.refused_line(line, &script_code(ScriptFault::CutLine)),
         }
     }
 }

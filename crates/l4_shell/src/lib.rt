@@ -13,7 +13,6 @@ mod requests;
 mod running;
 mod serving;
 mod session;
-mod texts;
 
 pub use l4_text::RunFault;
 pub use laws::the_size_of_pages_stays;

@@ -5,27 +5,13 @@ ghost use Rattle.l4_shell.specs.Histories.{Records};
 
 use crate::answering::Script;
 use crate::running::booted;
+use l4_answers::Silent;
 use l4_ipc::PageSize;
 use l4_record::History;
 use l4_servers::Servers;
 use l4_text::RunFault;
 use std::alloc::Global;
-use std::io;
-use std::io::{Read, Write};
-
-/// Takes all that is written, and passes nothing on.
-#[derive(Drop)]
-struct Nowhere;
-
-impl Write for Nowhere {
-    fn write(&mut self, buf: &[u8]) -> io::Result<usize> {
-        Ok(buf.len())
-    }
-
-    fn flush(&mut self) -> io::Result<()> {
-        Ok(())
-    }
-}
+use std::io::Read;
 
 /// Carries out the script that the reader gives as `run` does, but tells no answers. Answers the history of the lines that were answered,
 /// and what `run` answers. None comes where there is no memory for a kernel, and then nothing was read.
@@ -44,6 +30,6 @@ pub fn record<R: Read>(
         return None;
     };
     let mut script = Script::new(kernel, Servers::new(alloc, frames, size));
-    let answered = script.answer_all(reader, &mut Nowhere);
+    let answered = script.answer_all(reader, &mut Silent);
     Some((script.into_history(), answered))
 }

@@ -7,12 +7,13 @@ ghost use Rattle.l4_shell.specs.Sessions.{session};
 
 use crate::answering::Script;
 use crate::requests::ROOT;
+use l4_answers::Sink;
 use l4_ipc::PageSize;
 use l4_seated::SeatedKernel;
 use l4_servers::Servers;
 use l4_text::{Ending, LineReader, RunFault};
 use std::alloc::Global;
-use std::io::{Read, Write};
+use std::io::Read;
 
 /// sigma0's thread.
 const SIGMA0: u32 = 1;
@@ -36,20 +37,20 @@ pub(crate) fn booted(alloc: Global, frames: u32, size: PageSize) -> Option<Seate
 impl Script {
     /// Answers line after line, to the end of the script. Answers their number.
     #[inline(never)]
-    pub(crate) fn answer_all<R: Read, W: Write>(
+    pub(crate) fn answer_all<R: Read, S: Sink>(
         &mut self,
         reader: &mut R,
-        writer: &mut W,
+        sink: &mut S,
     ) -> Result<u64, RunFault>
         ensures { TellsScript (session self.old.session.kernel self.old.session.servers) (session self.new.session.kernel self.new.session.servers)
             (R.remaining reader.old) (R.remaining reader.new)
-            (W.contents writer.old) (W.contents writer.new) self.old.session.out self.new.session.out result }
+            S.has_told S.closed sink.old sink.new result }
     {
         let mut lines = LineReader::new();
         for number in 1..u64::MAX {
-            self.session.out.send_before_line(&lines, writer);
-            if self.session.out.has_failed() {
-                return Err(RunFault::Write);
+            sink.before_line(&lines);
+            if sink.is_closed() {
+                return Ok(number - 1);
             }
             let next = match lines.next(reader) {
                 Ok(next) => next,
@@ -58,7 +59,7 @@ impl Script {
             let Some(ending) = next else {
                 return Ok(number - 1);
             };
-            self.answer_line(number, ending, lines.line(), writer);
+            self.answer_line(number, ending, lines.line(), sink);
             if ending == Ending::Cut {
                 return Ok(number);
             }
@@ -76,12 +77,12 @@ impl Script {
 /// byte. All lines before a `Read` are answered, and that goes out too; after `Write` a beginning of
 /// the answers went out; `Memory` comes where there is none for a kernel, and then nothing was read
 /// or written.
-pub fn run<R: Read, W: Write>(
+pub fn run<R: Read, S: Sink>(
     alloc: Global,
     frames: u32,
     size: PageSize,
     reader: &mut R,
-    writer: &mut W,
+    sink: &mut S,
 ) -> Result<u64, RunFault>
     requires some { 1 ≤ frames }
     requires fit { frames ≤ max_frames }
@@ -90,14 +91,14 @@ pub fn run<R: Read, W: Write>(
     // read that failed, or a beginning of it where a write failed. Want of memory comes before all
     // else.
     ensures { Runs frames size (R.remaining reader.old) (R.remaining reader.new)
-        (W.contents writer.old) (W.contents writer.new) result }
+        S.has_told S.is_out S.closed sink.old sink.new result }
 {
     let Some(kernel) = booted(alloc, frames, size) else {
         return Err(RunFault::Memory);
     };
     let mut script = Script::new(kernel, Servers::new(alloc, frames, size));
-    let answered = script.answer_all(reader, writer);
-    match script.session.out.finish(writer) {
+    let answered = script.answer_all(reader, sink);
+    match sink.finish() {
         Ok(()) => answered,
         Err(_) => Err(RunFault::Write),
     }

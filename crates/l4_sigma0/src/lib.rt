@@ -1,4 +1,5 @@
-//! sigma0, the first pager: it owns the frames at first, and gives each to one space (L4 X.2 manual, sigma0 protocol).
+//! sigma0, the first pager. It owns all frames at first, and gives each of them to one space (L4 X.2 manual, sigma0
+//! protocol).
 #![tactic(auto)]
 
 mod owners;

@@ -5,11 +5,11 @@ use l4_fpage::{Block, Fpage, PageSize, Rights};
 use l4_msg::{FrameRequest, Message, PageFault, map_answer};
 use std::marker::Model;
 
-/// The frames of a machine, at most (this profile's own).
+/// The greatest number of frames in a machine (this profile's own).
 pub const MAX_FRAMES: usize = l4_fpage::MAX_FRAMES as usize;
 
-/// sigma0's table: which space owns which frame. A frame that is given to a space is that space's for good (L4 X.2 manual, sigma0
-/// protocol; what is granted is this profile's own).
+/// sigma0's table: the space that owns each frame. A frame that was given to a space belongs to it for good (L4 X.2
+/// manual, sigma0 protocol; the rule is this profile's own).
 #[derive(Drop)]
 pub struct Sigma0 {
     size: PageSize,
@@ -83,7 +83,8 @@ impl Sigma0 {
     ghost use Rattle.l4_msg.specs.declared.messages.Message.{Message as AMessage};
     ghost use Rattle.l4_sigma0.specs.Owners.{Answers, AsksFor, Wants};
 
-    /// The table of the frames 0 to `frames` - 1 of this size, of which none has an owner. `frames` is at most `MAX_FRAMES`.
+    /// Returns the table of the frames 0 to `frames` - 1 of this size, without owners. `frames` is at most
+    /// `MAX_FRAMES`.
     pub fn new(frames: u32, size: PageSize) -> Sigma0
         requires { frames ≤ max_frames }
         ensures { result ≡ record { size = size; frames = frames; owner = fin.empty } }
@@ -95,7 +96,7 @@ impl Sigma0 {
         }
     }
 
-    /// The size of the pages and frames.
+    /// Returns the size of pages and frames.
     pub fn page_size(&self) -> PageSize
         ensures { result ≡ self.now.size }
     {
@@ -128,7 +129,8 @@ impl Sigma0 {
         )
     }
 
-    /// The answer to a fault message from a space, as `answer` says: the send base and the fpage of its one map item.
+    /// Returns the answer to a page fault from a space: the send base, in bytes, and the fpage of its map item.
+    /// `answer` states the rule.
     pub fn answer_fault(&mut self, from_space: u64, fault: &PageFault) -> (u32, Fpage)
         ensures answers { (m : AMessage) → FaultReads m fault.now → Answers self.old from_space m (one_item (Map result.0 result.1)) self.new }
         ensures whole { result.0 % base_unit ≡ 0 }
@@ -143,8 +145,8 @@ impl Sigma0 {
         )
     }
 
-    /// The answer to a request from a space, as `answer` says: the send base and the fpage of its one map item. The rights of the request's
-    /// fpage mean nothing.
+    /// Returns the answer to a request from a space: the send base, in bytes, and the fpage of its map item. `answer`
+    /// states the rule. The rights of the request's fpage are ignored.
     pub fn answer_request(&mut self, from_space: u64, request: &FrameRequest) -> (u32, Fpage)
         ensures answers { (m : AMessage) → AsksFor m request.now → Answers self.old from_space m (one_item (Map result.0 result.1)) self.new }
         ensures whole { result.0 % base_unit ≡ 0 }
@@ -155,11 +157,14 @@ impl Sigma0 {
         self.give(from_space, block)
     }
 
-    /// The answer to a message from a space. A request without attributes asks for the frames of its fpage's pages, and a fault
-    /// message for the frame of its page; the frame of a page has the page's number. Where there are all of these, and each is free
-    /// or the space's, they become the space's, whether or not the answer reaches it, and the answer is one map item of them with all
-    /// rights, its send base that of the fpage. Anything else is answered by a nil map item, and changes nothing. A sender that is
-    /// gone counts as space 2^64 - 1.
+    /// Returns the answer to a message from a space. A request without attributes is for the frames of its fpage's
+    /// pages, and a page fault is for the frame of its page. The frame of a page has the page's number.
+    ///
+    /// If all these frames exist, and each is free or owned by the space, they become the space's, even if the answer
+    /// is not delivered. The answer is one map item for them with all rights, whose send base is that of the fpage.
+    /// Any other message is answered with a nil map item, and changes nothing. A sender that no longer exists counts
+    /// as space 2^64 - 1.
+    ///
     pub fn answer(&mut self, from_space: u64, message: &Message) -> Message
         ensures answers { Answers self.old from_space message.now result self.new }
         ensures writable { CanBeWritten result }

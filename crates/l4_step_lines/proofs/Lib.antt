@@ -1,1 +1,6 @@
+mod Asking
+mod Going
+mod LineNumbers
+mod Listing
 mod Pieces
+mod ReadBack

@@ -7,6 +7,10 @@ use Rattle.l4_threads.specs.declared.Reply.TheVariants.{Ipc, Hit, Answered, Faul
 use Rattle.l4_ipc.specs.declared.steps.Outcome.{Outcome}
 use Rattle.l4_ipc.specs.declared.steps.Outcome.TheVariants.{Started, Done, NoWindow, Entangled, NoMemory, Expired}
 use Rattle.l4_ipc.specs.declared.steps.Answer.{Answer}
+use Rattle.l4_ipc.specs.declared.steps.Step.{Step}
+use Rattle.l4_ipc.specs.declared.steps.Step.TheVariants.{Transfer, Expire}
+use Rattle.l4_mapdb.specs.declared.Mapping.{Mapping}
+use Rattle.l4_answers.specs.Pages.{page_words, place_or_none}
 use Rattle.l4_ipc.specs.declared.steps.Refused.{Refused}
 use Rattle.l4_ipc.specs.Machine.{Machine}
 use Rattle.l4_ipc.specs.Reading.{reply_of}
@@ -51,3 +55,26 @@ refused_line mark refusal = mark ++ codes "refused " ++ (refusal.name ++ number_
 abbrev pub answer_lines : List ℕ → Result Answer Refused → Machine → List ℕ
 answer_lines mark (Ok answer) after = mark ++ outcome_name answer.outcome ++ newline ++ ended_lines mark answer.ended.items after
 answer_lines mark (Err refused) after = refused_line mark (kernel_refusal refused)
+
+-- the answer to `reply`: how the last call of a thread ended that runs
+abbrev pub reply_line : Option Reply → List ℕ
+reply_line reply = reply_name (codes "none") reply ++ words_text (reply_words reply) ++ newline
+
+-- the step that comes next
+abbrev pub next_name : Option Step → List ℕ
+next_name (Some (Transfer sender receiver)) = codes "transfer " ++ decimal sender ++ space ++ decimal receiver
+next_name (Some (Expire number)) = codes "expire " ++ decimal number
+next_name step = codes "none"
+
+-- the answer to `enabled`
+abbrev pub enabled_line : Option Step → List ℕ
+enabled_line next = codes "enabled " ++ next_name next ++ newline
+
+-- the answer to `space`
+abbrev pub space_line : Option ℕ → List ℕ
+space_line None = codes "none" ++ newline
+space_line (Some number) = codes "space " ++ decimal number ++ newline
+
+-- a page of the answer to `pages`, with its parent
+abbrev pub page_line : ℕ → Mapping → List ℕ
+page_line page mapping = page_words page mapping ++ space ++ place_or_none mapping.parent ++ newline

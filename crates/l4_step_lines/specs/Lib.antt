@@ -1,2 +1,7 @@
 pub mod Answers
+pub mod Inside
+pub mod Lines
+pub mod Lists
+pub mod ReadBack
+pub mod Requests
 pub mod Steps

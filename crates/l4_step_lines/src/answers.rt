@@ -4,7 +4,7 @@ ghost use Rattle.std.specs.Option.{option_copied};
 ghost use Rattle.l4_answers.specs.Refusals.{kernel_refusal};
 ghost use Rattle.l4_answers.specs.Replies.{space, newline, reply_words as words_of};
 ghost use Rattle.l4_text.specs.Texts.{words_text};
-ghost use Rattle.l4_step_lines.specs.Answers.{outcome_name, ipc_name, reply_name, refused_line, ended_line};
+ghost use Rattle.l4_step_lines.specs.Answers.{outcome_name, ipc_name, reply_name, refused_line, ended_line, next_name, enabled_line, space_line, page_line};
 ghost use Rattle.l4_text.specs.Streams.{Tells};
 ghost use Rattle.l4_text.specs.Sizes.{text_bytes};
 
@@ -112,7 +112,9 @@ pub(crate) fn ended_text(mark: &[u8], number: u32, reply: Option<&Reply>) -> Tex
 }
 
 /// The reply of a thread, or `none`, but for the words of its message and the newline.
-pub(crate) fn reply_text(reply: Option<&Reply>) -> Text {
+pub(crate) fn reply_text(reply: Option<&Reply>) -> Text
+    ensures { result ≡ reply_name (codes "none") (option_copied reply.entry) }
+{
     let mut text = Text::new();
     add_reply(&mut text, reply, b"none");
     text
@@ -146,7 +148,8 @@ pub(crate) fn put_ended<W: Write>(
 /// Adds `transfer S R`, `expire N` or `none`
 fn add_step(text: &mut Text, step: Option<&Step>)
     requires { length text.old + 60 ≤ text_bytes }
-    ensures { length text.new ≤ length text.old + 60 }
+    ensures value { text.new ≡ text.old ++ next_name (option_copied step.entry) }
+    ensures len { length text.new ≤ length text.old + 60 }
 {
     match step {
         Some(Step::Transfer(sender, receiver)) => {
@@ -164,7 +167,9 @@ fn add_step(text: &mut Text, step: Option<&Step>)
 }
 
 /// `enabled transfer S R`, `enabled expire N` or `enabled none`
-pub(crate) fn enabled_text(step: Option<&Step>) -> Text {
+pub(crate) fn enabled_text(step: Option<&Step>) -> Text
+    ensures { result ≡ enabled_line (option_copied step.entry) }
+{
     let mut text = Text::new();
     text.add(b"enabled ");
     add_step(&mut text, step);
@@ -172,11 +177,11 @@ pub(crate) fn enabled_text(step: Option<&Step>) -> Text {
     text
 }
 
-/// Adds `space K`, or `none`
-fn add_space(text: &mut Text, space: Option<u64>)
-    requires { length text.old + 26 ≤ text_bytes }
-    ensures { length text.new ≤ length text.old + 26 }
+/// `space K`, or `none`
+pub(crate) fn space_text(space: Option<u64>) -> Text
+    ensures { result ≡ space_line space }
 {
+    let mut text = Text::new();
     match space {
         Some(space) => {
             text.add(b"space ");
@@ -184,18 +189,14 @@ fn add_space(text: &mut Text, space: Option<u64>)
         }
         None => text.add(b"none"),
     }
-}
-
-/// `space K`, or `none`
-pub(crate) fn space_text(space: Option<u64>) -> Text {
-    let mut text = Text::new();
-    add_space(&mut text, space);
     text.push(b'\n');
     text
 }
 
 /// `page P frame F RIGHTS`, and `none` or the space and the page of its parent.
-pub(crate) fn page_text(page: u32, mapping: &Mapping) -> Text {
+pub(crate) fn page_text(page: u32, mapping: &Mapping) -> Text
+    ensures { result ≡ page_line page mapping.now }
+{
     let mut text = Text::new();
     add_page(&mut text, page, mapping);
     text.push(b' ');

@@ -3,12 +3,14 @@
 
 mod answers;
 mod asked;
+mod laws;
 mod numbers;
 mod requests;
 mod running;
 mod session;
 
 pub use asked::put_step;
+pub use laws::the_line_of_a_step_reads_back;
 pub use running::{Fault, run};
 pub use session::do_step;
 

@@ -1,4 +1,8 @@
 //! What a line asks for.
+ghost use Rattle.std.specs.Prelude.{◌≡◌, option_map};
+ghost use Rattle.l4_text.specs.Tokens.{tokens_of};
+ghost use Rattle.l4_step_lines.specs.Requests.{only_of, registers_of, access_of, ipc_of, fault_of, unmap_of, create_of, set_pager_of, control_of, call_of, start_of, named_of, request_of};
+
 use crate::numbers::numbers;
 use arrayvec::ArrayVec;
 use l4_fpage::Rights;
@@ -48,7 +52,9 @@ const SETPAGER: &[u8] = b"setpager";
 const DELETE: &[u8] = b"delete";
 
 /// A copy of the words, where they are no more than a message has.
-fn registers(words: &[u32]) -> Option<ArrayVec<u32, MAX_WORDS>> {
+fn registers(words: &[u32]) -> Option<ArrayVec<u32, MAX_WORDS>>
+    ensures { option_map (λ ws. ws.items) result ≡ registers_of words.now }
+{
     let mut registers = ArrayVec::new();
     match registers.try_extend_from_slice(words) {
         Ok(()) => Some(registers),
@@ -57,7 +63,9 @@ fn registers(words: &[u32]) -> Option<ArrayVec<u32, MAX_WORDS>> {
 }
 
 /// `TO FROM TIMEOUTS ACCEPTOR WORD..`
-fn ipc(numbers: &[u32]) -> Option<Call> {
+fn ipc(numbers: &[u32]) -> Option<Call>
+    ensures { result ≡ ipc_of numbers.now }
+{
     let [to, from, timeouts, acceptor, words @ ..] = numbers else {
         return None;
     };
@@ -71,7 +79,9 @@ fn ipc(numbers: &[u32]) -> Option<Call> {
 }
 
 /// Rights by the sum of r (4), w (2) and x (1).
-fn access(number: u32) -> Option<Rights> {
+fn access(number: u32) -> Option<Rights>
+    ensures { result ≡ access_of number }
+{
     if number < 8 {
         Some(Rights::of_bits(number as u8))
     } else {
@@ -80,7 +90,9 @@ fn access(number: u32) -> Option<Rights> {
 }
 
 /// `ADDRESS IP ACCESS`
-fn fault(numbers: &[u32]) -> Option<Call> {
+fn fault(numbers: &[u32]) -> Option<Call>
+    ensures { result ≡ fault_of numbers.now }
+{
     let [address, ip, sum] = numbers else {
         return None;
     };
@@ -92,7 +104,9 @@ fn fault(numbers: &[u32]) -> Option<Call> {
 }
 
 /// `CONTROL WORD..`
-fn unmap(numbers: &[u32]) -> Option<Call> {
+fn unmap(numbers: &[u32]) -> Option<Call>
+    ensures { result ≡ unmap_of numbers.now }
+{
     let [control, words @ ..] = numbers else {
         return None;
     };
@@ -103,7 +117,9 @@ fn unmap(numbers: &[u32]) -> Option<Call> {
 }
 
 /// `ID SPACE PAGER`
-fn create(numbers: &[u32]) -> Option<Control> {
+fn create(numbers: &[u32]) -> Option<Control>
+    ensures { result ≡ create_of numbers.now }
+{
     let [id, space, pager] = numbers else {
         return None;
     };
@@ -115,7 +131,9 @@ fn create(numbers: &[u32]) -> Option<Control> {
 }
 
 /// `ID PAGER`
-fn set_pager(numbers: &[u32]) -> Option<Control> {
+fn set_pager(numbers: &[u32]) -> Option<Control>
+    ensures { result ≡ set_pager_of numbers.now }
+{
     let [id, pager] = numbers else {
         return None;
     };
@@ -126,7 +144,9 @@ fn set_pager(numbers: &[u32]) -> Option<Control> {
 }
 
 /// The only number.
-fn only(numbers: &[u32]) -> Option<u32> {
+fn only(numbers: &[u32]) -> Option<u32>
+    ensures { result ≡ only_of numbers.now }
+{
     let [number] = numbers else {
         return None;
     };
@@ -134,7 +154,9 @@ fn only(numbers: &[u32]) -> Option<u32> {
 }
 
 /// A control of this kind.
-fn control(kind: &[u8], numbers: &[u32]) -> Option<Control> {
+fn control(kind: &[u8], numbers: &[u32]) -> Option<Control>
+    ensures { result ≡ control_of kind.now numbers.now }
+{
     if kind == CREATE {
         return create(numbers);
     }
@@ -148,7 +170,9 @@ fn control(kind: &[u8], numbers: &[u32]) -> Option<Control> {
 }
 
 /// A call of this kind.
-fn call(kind: &[u8], numbers: &[u32]) -> Option<Call> {
+fn call(kind: &[u8], numbers: &[u32]) -> Option<Call>
+    ensures { result ≡ call_of kind.now numbers.now }
+{
     if kind == IPC {
         return ipc(numbers);
     }
@@ -162,7 +186,9 @@ fn call(kind: &[u8], numbers: &[u32]) -> Option<Call> {
 }
 
 /// `N KIND NUMBER..`
-fn start(line: &[u8]) -> Option<Step> {
+fn start(line: &[u8]) -> Option<Step>
+    ensures { result ≡ start_of (tokens_of line.now) }
+{
     let (caller, rest) = next_token(line)?;
     let (kind, rest) = next_token(rest)?;
     let caller = number(caller)?;
@@ -171,7 +197,9 @@ fn start(line: &[u8]) -> Option<Step> {
 }
 
 /// The step or question of this name.
-fn named(name: &[u8], numbers: &[u32]) -> Option<Request> {
+fn named(name: &[u8], numbers: &[u32]) -> Option<Request>
+    ensures { result ≡ named_of name.now numbers.now }
+{
     if name == TRANSFER {
         let [sender, receiver] = numbers else {
             return None;
@@ -197,7 +225,9 @@ fn named(name: &[u8], numbers: &[u32]) -> Option<Request> {
 }
 
 /// What a line asks for. None where it can't be read.
-pub(crate) fn read_request(line: &[u8]) -> Option<Request> {
+pub(crate) fn read_request(line: &[u8]) -> Option<Request>
+    ensures { result ≡ request_of (tokens_of line.now) }
+{
     let (name, rest) = next_token(line)?;
     if name == START {
         return Some(Request::Do(start(rest)?));

@@ -1,4 +1,7 @@
 //! Lists of steps from a reader to a writer.
+ghost use Rattle.l4_step_lines.specs.Lists.{Runs};
+ghost use Rattle.l4_step_lines.specs.Inside.Telling.{TellsList};
+
 use crate::session::answer_line;
 use l4_ipc::{Kernel, PageSize};
 use l4_text::{Ending, LineReader, Output, RunFault};
@@ -11,16 +14,16 @@ use thiserror::Error;
 #[derive(Debug, Drop, Error)]
 pub enum Fault {
     /// A read or a write failed, or there was no memory for a kernel.
-    #[error("error: the run stopped")]
+    #[error("error: the run stopped before the end of the list")]
     Stopped(RunFault),
     /// The input ends within the line of this number.
-    #[error("error: line {0} has no newline at its end")]
+    #[error("error: line {0} does not end with a newline")]
     Cut(u64),
     /// The line of this number has more than 4,096 bytes.
-    #[error("error: line {0} has more than 4096 bytes")]
+    #[error("error: line {0} is longer than 4096 bytes")]
     Long(u64),
     /// The line of this number can't be read.
-    #[error("error: line {0} is no step and no question")]
+    #[error("error: line {0} is not a valid step or query")]
     Unread(u64),
 }
 
@@ -30,21 +33,26 @@ fn answer_all<R: Read, W: Write>(
     reader: &mut R,
     out: &mut Output,
     writer: &mut W,
-) -> Result<(), Fault> {
+) -> Result<(), Fault>
+    ensures { TellsList kernel.old kernel.new (R.remaining reader.old) (R.remaining reader.new)
+        (W.contents writer.old) (W.contents writer.new) out.old out.new result }
+{
     let mut lines = LineReader::new();
     for number in 1..u64::MAX {
         out.send_before_line(&lines, writer);
         if out.has_failed() {
             return Err(Fault::Stopped(RunFault::Write));
         }
-        let Ok(next) = lines.next(reader) else {
-            return Err(Fault::Stopped(RunFault::Read));
+        let next = match lines.next(reader) {
+            Ok(next) => next,
+            Err(_) => return Err(Fault::Stopped(RunFault::Read)),
         };
-        match next {
-            None => return Ok(()),
-            Some(Ending::Cut) => return Err(Fault::Cut(number)),
-            Some(Ending::Long) => return Err(Fault::Long(number)),
-            Some(Ending::Whole) => answer_line(kernel, number, lines.line(), out, writer)?,
+        let Some(ending) = next else {
+            return Ok(());
+        };
+        match answer_line(kernel, number, ending, lines.line(), out, writer) {
+            Ok(()) => {}
+            Err(fault) => return Err(fault),
         }
     }
     Err(Fault::Stopped(RunFault::Read))
@@ -61,7 +69,12 @@ pub fn run<R: Read, W: Write>(
     size: PageSize,
     reader: &mut R,
     writer: &mut W,
-) -> Result<(), Fault> {
+) -> Result<(), Fault>
+    // What goes out is the text of the answers to the lines in front of the first that ends the list. After a failed read that is all
+    // whole lines, and after a failed write a beginning of the text went out.
+    ensures { Runs frames size (R.remaining reader.old) (R.remaining reader.new)
+        (W.contents writer.old) (W.contents writer.new) result }
+{
     let Ok(mut kernel) = Kernel::boot(alloc, frames, size) else {
         return Err(Fault::Stopped(RunFault::Memory));
     };

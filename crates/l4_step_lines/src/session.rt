@@ -1,9 +1,14 @@
 //! Lines over a kernel.
-ghost use Rattle.std.specs.Prelude.{◌≡◌, ◌≤◌, length, ℕ, List, Result};
+ghost use Rattle.std.specs.Prelude.{◌≡◌, ◌≤◌, ◌||◌, length, ℕ, List, Result};
+ghost use Rattle.std.specs.Option.{option_copied};
 ghost use Rattle.l4_ipc.specs.declared.steps.Answer.{Answer};
 ghost use Rattle.l4_ipc.specs.declared.steps.Refused.{Refused};
 ghost use Rattle.l4_ipc.specs.Steps.{Steps};
-ghost use Rattle.l4_step_lines.specs.Answers.{ended_lines, answer_lines};
+ghost use Rattle.l4_step_lines.specs.Answers.{ended_lines, answer_lines, reply_line};
+ghost use Rattle.l4_step_lines.specs.Lists.{is_comment, is_empty, asked_at, place_line, ListsPages, Answers};
+ghost use Rattle.l4_step_lines.specs.Inside.Telling.{TellsPages, TellsLine};
+ghost use Rattle.l4_text.specs.Tokens.{tokens_of};
+ghost use Rattle.l4_text.specs.declared.lines.Ending.TheVariants.{Whole};
 ghost use Rattle.l4_text.specs.Streams.{Tells};
 
 use crate::answers::{
@@ -12,9 +17,9 @@ use crate::answers::{
 };
 use crate::requests::{Request, read_request};
 use crate::running::Fault;
-use l4_answers::shown_text;
-use l4_ipc::{Kernel, MOST_PAGES, Step};
-use l4_text::{Output, next_token};
+use l4_answers::put_shown;
+use l4_ipc::{Kernel, Step};
+use l4_text::{Ending, Output, next_token};
 use l4_threads::Reply;
 use std::io::Write;
 
@@ -56,50 +61,96 @@ pub fn do_step<W: Write>(
     tell_ended(kernel, answer.ended.as_slice(), mark, out, writer);
 }
 
-/// Lists the present pages of a space.
-fn list_pages<W: Write>(kernel: &Kernel, space: u64, out: &mut Output, writer: &mut W) {
+/// Tells what a page shows, if it is present.
+fn tell_page<W: Write>(kernel: &Kernel, space: u64, page: u32, out: &mut Output, writer: &mut W)
+    ensures { Tells (W.contents writer.old) (W.contents writer.new) out.old out.new
+        (place_line kernel.now space page) }
+{
+    if let Some(mapping) = kernel.mapping(space, page) {
+        out.put(writer, &page_text(page, &mapping));
+    }
+}
+
+/// Lists the present pages of a space. Returns their number.
+fn list_pages<W: Write>(kernel: &Kernel, space: u64, out: &mut Output, writer: &mut W) -> u32
+    ensures { TellsPages kernel.now space result
+        (W.contents writer.old) (W.contents writer.new) out.old out.new }
+{
+    kernel.law_pages();
+    let end = kernel.page_size().space_pages();
     let mut from = 0u32;
     let mut shown = 0u32;
-    for turn in 0..MOST_PAGES {
+    loop {
         let Some(page) = kernel.next_page(space, from) else {
-            break;
+            return shown;
         };
-        let Some(mapping) = kernel.mapping(space, page) else {
-            break;
-        };
-        out.put(writer, &page_text(page, &mapping));
-        shown = turn + 1;
-        from = page.saturating_add(1);
+        if page >= end {
+            return shown;
+        }
+        tell_page(kernel, space, page, out, writer);
+        shown += 1;
+        from = page + 1;
     }
-    out.put(writer, &shown_text(shown));
+}
+
+/// Lists the present pages of a space, and then their number.
+fn show_pages<W: Write>(kernel: &Kernel, space: u64, out: &mut Output, writer: &mut W)
+    ensures { (text : List ℕ) × ListsPages kernel.now space text
+        × Tells (W.contents writer.old) (W.contents writer.new) out.old out.new text }
+{
+    let shown = list_pages(kernel, space, out, writer);
+    put_shown(shown, out, writer);
 }
 
 /// Tells the reply of a thread.
-fn tell_reply<W: Write>(reply: Option<&Reply>, out: &mut Output, writer: &mut W) {
+fn tell_reply<W: Write>(reply: Option<&Reply>, out: &mut Output, writer: &mut W)
+    ensures { Tells (W.contents writer.old) (W.contents writer.new) out.old out.new
+        (reply_line (option_copied reply.entry)) }
+{
     out.put(writer, &reply_text(reply));
     put_rest(reply, out, writer);
 }
 
 /// Does or answers what a line asks for.
-fn answer<W: Write>(kernel: &mut Kernel, request: Request, out: &mut Output, writer: &mut W) {
+fn answer<W: Write>(kernel: &mut Kernel, request: Request, out: &mut Output, writer: &mut W)
+    ensures { (text : List ℕ) × Answers kernel.old request text kernel.new
+        × Tells (W.contents writer.old) (W.contents writer.new) out.old out.new text }
+{
     match request {
         Request::Do(step) => do_step(kernel, &step, b"", out, writer),
         Request::Enabled => out.put(writer, &enabled_text(kernel.enabled().as_ref())),
         Request::Reply(thread) => tell_reply(kernel.reply(thread), out, writer),
         Request::Space(thread) => out.put(writer, &space_text(kernel.space_of(thread))),
-        Request::Pages(space) => list_pages(kernel, space, out, writer),
+        Request::Pages(space) => show_pages(kernel, space, out, writer),
     }
 }
 
-/// Answers one line, which has this number.
-pub(crate) fn answer_line<W: Write>(
+/// Whether a line's first byte is `#`.
+fn is_comment(line: &[u8]) -> bool
+    ensures { result ≡ is_comment line.now }
+{
+    !line.is_empty() && line[0] == b'#'
+}
+
+/// Whether a line is a comment, or has no token.
+fn is_silent(line: &[u8]) -> bool
+    ensures { result ≡ is_comment line.now || is_empty (tokens_of line.now) }
+{
+    is_comment(line) || next_token(line).is_none()
+}
+
+/// Answers a line that a newline ends, and that is not too long. It has this number.
+fn answer_whole<W: Write>(
     kernel: &mut Kernel,
     number: u64,
     line: &[u8],
     out: &mut Output,
     writer: &mut W,
-) -> Result<(), Fault> {
-    if line.first() == Some(&b'#') || next_token(line).is_none() {
+) -> Result<(), Fault>
+    ensures { TellsLine kernel.old kernel.new (asked_at number Whole line.now)
+        (W.contents writer.old) (W.contents writer.new) out.old out.new result }
+{
+    if is_silent(line) {
         return Ok(());
     }
     let Some(request) = read_request(line) else {
@@ -107,4 +158,23 @@ pub(crate) fn answer_line<W: Write>(
     };
     answer(kernel, request, out, writer);
     Ok(())
+}
+
+/// Answers the line that has this number, or says why the list ends with it.
+pub(crate) fn answer_line<W: Write>(
+    kernel: &mut Kernel,
+    number: u64,
+    ending: Ending,
+    line: &[u8],
+    out: &mut Output,
+    writer: &mut W,
+) -> Result<(), Fault>
+    ensures { TellsLine kernel.old kernel.new (asked_at number ending line.now)
+        (W.contents writer.old) (W.contents writer.new) out.old out.new result }
+{
+    match ending {
+        Ending::Whole => answer_whole(kernel, number, line, out, writer),
+        Ending::Long => Err(Fault::Long(number)),
+        Ending::Cut => Err(Fault::Cut(number)),
+    }
 }

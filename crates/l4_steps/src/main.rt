@@ -6,8 +6,8 @@
 
 use l4_fpage::PageSize;
 use l4_options::{
-    NOT_UNDERSTOOD, STANDARD_INPUT, StepOptions, command_words, misread, show, status_of,
-    step_options, stopped,
+    NOT_UNDERSTOOD, StepOptions, WatchedReader, WatchedWriter, cause, command_words, misread, show,
+    status_of, step_options, stopped,
 };
 use l4_step_lines::{Fault, run};
 use std::io;
@@ -15,15 +15,11 @@ use std::process::ExitCode;
 
 /// Answers the list of steps on standard input.
 fn answer_list<R: AllocGlobal + Input + Print + Eprint>(rt: &R, frames: u32, size: PageSize) -> u8 {
-    match run(
-        rt.alloc(),
-        frames,
-        size,
-        &mut rt.reader(),
-        &mut io::writer(rt),
-    ) {
+    let mut reader = WatchedReader::new(rt.reader());
+    let mut writer = WatchedWriter::new(io::writer(rt));
+    match run(rt.alloc(), frames, size, &mut reader, &mut writer) {
         Ok(()) => 0,
-        Err(Fault::Stopped(fault)) => stopped(rt, fault, STANDARD_INPUT),
+        Err(Fault::Stopped(fault)) => stopped(rt, fault, None, cause(fault, &reader, &writer)),
         Err(fault) => {
             let _ = rt.eprintln(&fault);
             NOT_UNDERSTOOD

@@ -1,5 +1,6 @@
 pub mod Lines
 pub mod Numbers
+pub mod Readers
 pub mod Sizes
 pub mod Streams
 pub mod Texts

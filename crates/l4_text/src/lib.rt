@@ -8,6 +8,7 @@ mod kept;
 mod lines;
 mod numbers;
 mod output;
+mod sources;
 mod texts;
 mod tokens;
 
@@ -17,5 +18,6 @@ pub use first_numbers::{next_number, quick_number};
 pub use lines::{Ending, Line, LineReader, Source, next_line};
 pub use numbers::{decimal_number, number, word};
 pub use output::Output;
+pub use sources::ScriptReader;
 pub use texts::Text;
 pub use tokens::{after_name, after_spaced_name, last_three, next_token};

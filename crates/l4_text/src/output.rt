@@ -330,6 +330,16 @@ impl Output {
         self.add(text.as_slice());
     }
 
+    /// Tells a text behind a mark of at most two bytes.
+    pub fn put_marked<W: Write>(&mut self, writer: &mut W, mark: &[u8], text: &Text)
+        requires { length mark.now ≤ 2 }
+        ensures { Tells (W.contents writer.old) (W.contents writer.new) self.old self.new (mark.now ++ text.now) }
+    {
+        self.make_room(writer);
+        self.add(mark);
+        self.add(text.as_slice());
+    }
+
     /// Ends a line.
     pub fn end_line<W: Write>(&mut self, writer: &mut W)
         ensures { Tells (W.contents writer.old) (W.contents writer.new) self.old self.new (10 ∷ []) }
@@ -416,12 +426,20 @@ impl Output {
     pub fn finish<W: Write>(&mut self, writer: &mut W) -> Result<(), RunFault>
         ensures ok { OnOk result ((start : Option (List ℕ)) (told : List ℕ)
             → HasTold start (W.contents writer.old) self.old.0 self.old.1 told → Appends start (W.contents writer.new) told) }
+        ensures open { OnOk result ((self.old.1 ≡ false) × (self.new.1 ≡ false)) }
         ensures err { IfErr result (λ e. (e ≡ RunFault.Write) × ((start : Option (List ℕ)) (told : List ℕ)
             → HasTold start (W.contents writer.old) self.old.0 self.old.1 told → WentOut start (W.contents writer.new) told)) }
+        ensures failed { IfErr result (λ e. self.new.1 ≡ true) }
     {
         if self.failed {
             return Err(RunFault::Write);
         }
-        self.held.finish(writer)
+        match self.held.finish(writer) {
+            Ok(()) => Ok(()),
+            Err(fault) => {
+                self.failed = true;
+                Err(fault)
+            }
+        }
     }
 }

@@ -1,5 +1,5 @@
-//! What threads are doing, in places that stay. A message has room for 64 words and 31 items, and a state that is written as one value
-//! would clear or copy all of that room; here only what is said is written.
+//! The states of threads, changed in place. A message has room for 64 words and 31 items, and writing a state as one
+//! value would clear or copy all of that room. Here only what changes is written.
 ghost use Rattle.std.specs.Prelude.{◌≡◌, ◌≤◌, length, drop, Some, None};
 ghost use Rattle.std.specs.Option.{option_copied};
 ghost use Rattle.l4_msg.specs.Sizes.{max_words, max_items};
@@ -33,7 +33,7 @@ enum Phase {
     Receiving,
 }
 
-/// What a thread is doing. Contracts see it as a `State`.
+/// The state of a thread. Contracts see it as a `State`.
 #[derive(Drop)]
 pub struct Activity {
     phase: Phase,
@@ -99,7 +99,7 @@ fn blank_reply() -> IpcReply {
 }
 
 impl Activity {
-    /// What a new thread is doing: it waits for nobody, and none of its calls has ended.
+    /// Returns the state of a new thread: it is running, and none of its calls has ended.
     pub fn idle() -> Activity
         ensures { result ≡ Running None }
     {
@@ -123,7 +123,7 @@ impl Activity {
         }
     }
 
-    /// The reply of the thread's last ended call, where it waits for nobody and a call has ended.
+    /// Returns the reply of the thread's last ended call, if the thread is running and a call has ended.
     pub fn last_reply(&self) -> Option<&Reply>
         ensures { option_copied result ≡ last_reply self.now }
     {
@@ -133,7 +133,7 @@ impl Activity {
         }
     }
 
-    /// The send phase that has begun, where the thread waits for its message to be taken.
+    /// Returns the send phase of a sending thread.
     pub fn sending(&self) -> Option<&Sending>
         ensures { option_copied result ≡ sending_in self.now }
     {
@@ -143,7 +143,7 @@ impl Activity {
         }
     }
 
-    /// The receive phase that has begun, where the thread waits for a message.
+    /// Returns the receive phase of a receiving thread.
     pub fn receiving(&self) -> Option<&Receiving>
         ensures { option_copied result ≡ receiving_in self.now }
     {
@@ -153,14 +153,14 @@ impl Activity {
         }
     }
 
-    /// Whether the thread waits for nobody.
+    /// Returns whether the thread is running, that is, not waiting.
     pub fn is_running(&self) -> bool
         ensures { result ≡ is_running self.now }
     {
         matches!(self.phase, Phase::New | Phase::Running)
     }
 
-    /// Whether the thread waits for its message to be taken.
+    /// Returns whether the thread is sending.
     pub fn is_sending(&self) -> bool
         ensures { result ≡ is_sending self.now }
     {

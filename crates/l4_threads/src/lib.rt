@@ -27,128 +27,128 @@ const VERSION_BITS: u32 = 14;
 #[derive(Clone, Copy, Debug, PartialEq, Eq)]
 pub struct ThreadId(pub u32);
 
-/// What an Ipc call replies.
+/// The reply of an Ipc.
 #[derive(Clone, Debug, PartialEq, Eq, Drop)]
 pub struct IpcReply {
-    /// The message tag: the sender's, or 0x8000 where the call failed.
+    /// The message tag: the sender's, or 0x8000 if the call failed.
     pub tag: u32,
-    /// The ErrorCode of a call that failed, else 0.
+    /// The ErrorCode if the call failed, else 0.
     pub error: u32,
-    /// Who sent the message, or nilthread.
+    /// The sender of the message, or nilthread.
     pub from: ThreadId,
     /// The words of the message after its tag.
     pub words: ArrayVec<u32, MAX_WORDS>,
 }
 
-/// How a call ended.
+/// The reply of a call.
 #[derive(Clone, Debug, PartialEq, Eq, Drop)]
 pub enum Reply {
-    /// An Ipc call, with or without an error.
+    /// An Ipc ended, with or without an error.
     Ipc(IpcReply),
-    /// A fault at a page that is there with the rights that the access needs.
+    /// A page fault at a page that is present with the needed rights.
     Hit,
-    /// A fault that the pager answered.
+    /// A page fault that the pager answered.
     Answered,
-    /// A fault that failed with this ErrorCode.
+    /// A page fault that failed with this ErrorCode.
     FaultFailed(u32),
-    /// An Unmap: the rights that it names are revoked.
+    /// An Unmap ended: the rights that it names are revoked.
     Unmapped,
-    /// A control of threads: one was made, changed or ended.
+    /// A thread control ended: a thread was created, changed or deleted.
     Controlled,
-    /// The call of a thread that was deleted as it waited.
+    /// The thread was deleted while it waited.
     Gone,
 }
 
-/// How a call ends whose reply has no words.
+/// The end of a call whose reply has no words.
 #[derive(Clone, Copy, Debug, PartialEq, Eq)]
 pub enum Wordless {
-    /// A fault at a page that is there with the rights that the access needs.
+    /// A page fault at a page that is present with the needed rights.
     Hit,
-    /// A fault that the pager answered.
+    /// A page fault that the pager answered.
     Answered,
-    /// A fault that failed with this ErrorCode.
+    /// A page fault that failed with this ErrorCode.
     FaultFailed(u32),
-    /// An Unmap: the rights that it names are revoked.
+    /// An Unmap ended: the rights that it names are revoked.
     Unmapped,
-    /// A control of threads: one was made, changed or ended.
+    /// A thread control ended: a thread was created, changed or deleted.
     Controlled,
 }
 
-/// Whose messages a receive phase takes.
+/// The threads whose messages a receive phase accepts.
 #[derive(Clone, Copy, Debug, PartialEq, Eq)]
 pub enum Source {
     Anyone,
-    /// The thread of this number alone.
+    /// Only the thread with this number.
     Thread(u32),
 }
 
-/// A receive phase that has begun.
+/// The receive phase of a thread that waits in it.
 #[derive(Clone, Copy, Debug, PartialEq, Eq)]
 pub struct Receiving {
     pub from: Source,
     /// The receive window.
     pub window: Fpage,
-    /// The timeout is zero; else it is never.
+    /// Whether the timeout is zero. Otherwise it is never.
     pub expires: bool,
-    /// The phase is part of a page fault.
+    /// Whether the phase belongs to a page fault.
     pub fault: bool,
 }
 
-/// A receive phase that is still to begin. Its partner is looked up when it begins.
+/// A receive phase that has not begun. Its partner is looked up when it begins.
 #[derive(Clone, Copy, Debug, PartialEq, Eq)]
 pub struct Later {
     pub from: ThreadId,
     /// The receive window.
     pub window: Fpage,
-    /// The timeout is zero; else it is never.
+    /// Whether the timeout is zero. Otherwise it is never.
     pub expires: bool,
 }
 
-/// A send phase that has begun.
+/// The send phase of a thread that waits in it.
 #[derive(Drop)]
 pub struct Sending {
-    /// The message registers from the tag on, as they were given.
+    /// The message registers from the tag, unchanged.
     pub words: ArrayVec<u32, MAX_WORDS>,
-    /// The items that the words hold.
+    /// The items in these words.
     pub items: ArrayVec<Item, MAX_ITEMS>,
     /// The partner's number.
     pub to: u32,
-    /// The timeout is zero; else it is never.
+    /// Whether the timeout is zero. Otherwise it is never.
     pub expires: bool,
-    /// What to receive afterwards.
+    /// The receive phase that follows, if any.
     pub then: Option<Later>,
-    /// The phase is part of a page fault.
+    /// Whether the phase belongs to a page fault.
     pub fault: bool,
 }
 
-/// How a message is sent.
+/// The parameters of a send phase.
 #[derive(Clone, Copy, Debug, PartialEq, Eq)]
 pub struct SendPhase {
     /// The partner's number.
     pub to: u32,
-    /// The timeout is zero; else it is never.
+    /// Whether the timeout is zero. Otherwise it is never.
     pub expires: bool,
-    /// What to receive afterwards.
+    /// The receive phase that follows, if any.
     pub then: Option<Later>,
-    /// The phase is part of a page fault.
+    /// Whether the phase belongs to a page fault.
     pub fault: bool,
 }
 
-/// What an Ipc call replies beside the words of a message.
+/// The reply of an Ipc without the words of its message.
 #[derive(Clone, Copy, Debug, PartialEq, Eq)]
 pub struct Envelope {
-    /// The message tag: the sender's, or 0x8000 where the call failed.
+    /// The message tag: the sender's, or 0x8000 if the call failed.
     pub tag: u32,
-    /// The ErrorCode of a call that failed, else 0.
+    /// The ErrorCode if the call failed, else 0.
     pub error: u32,
-    /// Who sent the message, or nilthread.
+    /// The sender of the message, or nilthread.
     pub from: ThreadId,
 }
 
-/// What a thread is doing, as contracts see an `Activity`.
+/// The state of a thread, as contracts see an `Activity`.
 #[derive(Drop)]
 pub enum State {
-    /// It waits for nobody, and has the reply of its last ended call, if a call has ended.
+    /// It is not waiting. It has the reply of its last ended call, if a call has ended.
     Running(Option<Reply>),
     Sending(Sending),
     Receiving(Receiving),
@@ -163,32 +163,32 @@ pub struct Thread {
     pub state: Activity,
 }
 
-/// Why a thread is not created, changed or deleted.
+/// The reason why a thread is not created, changed or deleted.
 #[derive(Clone, Copy, Debug, PartialEq, Eq)]
 pub enum ThreadFault {
-    /// H1: the caller is not in the root space.
+    /// H1: the caller is not in root's space.
     NoPrivilege,
-    /// H2: no thread can have the id.
+    /// H2: the id is not a valid thread id.
     BadId,
-    /// H3: the thread number exists.
+    /// H3: a thread with this number exists.
     Taken,
-    /// H4: an id names no thread.
+    /// H4: there is no thread with this id.
     Unknown,
     /// H5: 64 threads exist, or the space numbers are used up.
     Full,
-    /// H6: sigma0, root and the caller itself are never deleted.
+    /// H6: sigma0, root and the caller itself cannot be deleted.
     Kept,
 }
 
-/// What the deletion of a thread did.
+/// The effect of deleting a thread.
 #[derive(Drop)]
 pub struct Deleted {
-    /// The number of the thread that is gone.
+    /// The number of the deleted thread.
     pub number: u32,
-    /// The numbers of the threads whose calls ended with it, rising: those that waited for it, and the thread
-    /// itself where it was waiting.
+    /// The numbers of the threads whose calls ended with it, rising: those that waited for it, and the thread itself
+    /// if it was waiting.
     pub ended: ArrayVec<u32, MAX_THREADS>,
-    /// The thread's space, where it was the last thread there.
+    /// The thread's space, if it was the last thread in it.
     pub space: Option<u64>,
 }
 
@@ -199,8 +199,9 @@ impl ThreadId {
     ghost use Rattle.l4_threads.specs.Sizes.{numbers, versions};
     ghost use Rattle.l4_threads.specs.declared.ThreadId.{ThreadId as AnId};
 
-    /// The global id of this thread number and version. None where no thread can have one: the number is 0 or 2^18 or more, the
-    /// version has only zeros in its lower six bits or is 2^14 or more, or the two make anythread.
+    /// Returns the global id of this thread number and version. Returns `None` if no thread can have it: the number
+    /// is 0, or at least 2^18; the low six bits of the version are all zero, or it is at least 2^14; or the two make
+    /// anythread.
     pub fn global(number: u32, version: u32) -> Option<ThreadId>
         ensures { MatchOption result ((id : AnId) → ¬ (IsGlobalId number version id)) (IsGlobalId number version) }
     {
@@ -211,7 +212,7 @@ impl ThreadId {
         if id.is_bad() { None } else { Some(id) }
     }
 
-    /// The thread number, below 2^18.
+    /// Returns the thread number, below 2^18.
     pub fn number(self) -> u32
         ensures value { result ≡ number_of self }
         ensures small { result < numbers }
@@ -219,7 +220,7 @@ impl ThreadId {
         self.0 >> VERSION_BITS
     }
 
-    /// The version, below 2^14.
+    /// Returns the version, below 2^14.
     pub fn version(self) -> u32
         ensures value { result ≡ version_of self }
         ensures small { result < versions }
@@ -227,21 +228,22 @@ impl ThreadId {
         self.0 % (1 << VERSION_BITS)
     }
 
-    /// The id that names no thread.
+    /// Returns nilthread, the id that names no thread.
     pub fn nil() -> ThreadId
         ensures { result ≡ nilthread }
     {
         ThreadId(0)
     }
 
-    /// The id that stands for any thread.
+    /// Returns anythread, the id that stands for any thread.
     pub fn any() -> ThreadId
         ensures { result ≡ anythread }
     {
         ThreadId(0xffff_ffff)
     }
 
-    /// Whether no thread can have the id: nilthread, anythread, number 0, or a version whose lower six bits are 0.
+    /// Returns whether no thread can have the id: it is nilthread or anythread, its number is 0, or the low six bits
+    /// of its version are all zero.
     pub fn is_bad(self) -> bool
         ensures { result ≡ is_bad_id self }
     {
@@ -253,7 +255,7 @@ impl Source {
     ghost use Rattle.std.specs.Prelude.{◌≡◌};
     ghost use Rattle.l4_threads.specs.Enabled.{takes_from};
 
-    /// Whether messages of this thread are taken.
+    /// Returns whether messages of this thread are accepted.
     pub fn takes(self, sender: u32) -> bool
         ensures { result ≡ takes_from self sender }
     {
@@ -302,7 +304,7 @@ impl Reply {
     ghost use Rattle.std.specs.Prelude.{◌≡◌};
     ghost use Rattle.l4_threads.specs.Threads.{failed};
 
-    /// What a call that failed with this ErrorCode replies.
+    /// Returns the reply of a call that failed with this ErrorCode.
     pub fn failed(fault: bool, code: u32) -> Reply
         ensures { result ≡ failed fault code }
     {

@@ -149,7 +149,7 @@ impl Roster {
         place_among(numbers, number)
     }
 
-    /// The thread of this number.
+    /// Returns the thread with this number.
     pub fn thread(&self, number: u32) -> Option<&Thread>
         ensures { option_copied result ≡ found self.now number }
     {

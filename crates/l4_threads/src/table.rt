@@ -18,13 +18,13 @@ use l4_msg::Item;
 use std::alloc::{AllocError, Global};
 use std::marker::Model;
 
-/// The number of the root space.
+/// The number of root's space.
 pub const ROOT_SPACE: u64 = 1;
 
 /// The greatest number of a space.
 const LAST_SPACE: u64 = u64::MAX - 1;
 
-/// At most 64 threads, and the queue of those that are sending.
+/// At most 64 threads, and the queue of senders.
 #[derive(Drop)]
 pub struct Threads {
     threads: Roster,
@@ -102,9 +102,9 @@ impl Threads {
     ghost use Rattle.l4_threads.specs.Inside.Ending.{ends_at};
     ghost use Rattle.l4_threads.specs.Queue.{pairs_of, IsOnce, is_in};
 
-    /// The threads of the start: thread 1, sigma0, in space 0 and without a pager, and thread 2, root, in space 1
-    /// with pager sigma0. Both run, and the next new space is 2. Room for all threads is taken here, and none later; where that is refused,
-    /// there are none.
+    /// Returns the threads at boot: thread 1, sigma0, in space 0 and without a pager, and thread 2, root, in space 1
+    /// with pager sigma0. Both are running, and the next new space is 2. Room for all threads is allocated here, and
+    /// none later. Returns an error if that allocation failed.
     pub fn boot(alloc: Global) -> Result<Threads, AllocError>
         ensures { IfOk result (λ threads. threads ≡ first_threads) }
     {
@@ -135,7 +135,7 @@ impl Threads {
         })
     }
 
-    /// The least number of a thread that is not below `from`, None where there is none.
+    /// Returns the least number of a thread that is at least `from`, or `None`.
     pub fn next_thread(&self, from: u32) -> Option<u32>
         ensures { MatchOption result (NoThreadFrom self.now from) (IsNextThread self.now from) }
     {
@@ -148,14 +148,14 @@ impl Threads {
         least
     }
 
-    /// The thread of this number.
+    /// Returns the thread with this number.
     pub fn thread(&self, number: u32) -> Option<&Thread>
         ensures { option_copied result ≡ thread_at self.now number }
     {
         self.threads.thread(number)
     }
 
-    /// What the thread of this number does.
+    /// Returns the state of the thread with this number.
     pub fn state(&self, number: u32) -> Option<&Activity>
         ensures { option_copied result ≡ state_of self.now number }
     {
@@ -163,7 +163,7 @@ impl Threads {
         Some(&thread.state)
     }
 
-    /// The space of the thread of this number.
+    /// Returns the space of the thread with this number.
     pub fn space_of(&self, number: u32) -> Option<u64>
         ensures { result ≡ space_of self.now number }
     {
@@ -171,7 +171,7 @@ impl Threads {
         Some(thread.space)
     }
 
-    /// The pager of the thread of this number.
+    /// Returns the pager of the thread with this number.
     pub fn pager_of(&self, number: u32) -> Option<ThreadId>
         ensures { result ≡ pager_of self.now number }
     {
@@ -179,7 +179,7 @@ impl Threads {
         Some(thread.pager)
     }
 
-    /// The number of the thread that has this very id.
+    /// Returns the number of the thread that has exactly this id.
     pub fn named(&self, id: ThreadId) -> Option<u32>
         ensures { result ≡ named self.now id }
     {
@@ -192,7 +192,7 @@ impl Threads {
         }
     }
 
-    /// The number of the first thread in the queue whose message the receiver would take.
+    /// Returns the number of the first thread in the queue whose message the receiver accepts.
     pub fn first_sender(&self, receiver: u32) -> Option<u32>
         ensures { MatchOption result ((s : ℕ) → ¬ (Offers self.now s receiver)) (IsFirstSender self.now receiver) }
     {
@@ -205,7 +205,7 @@ impl Threads {
         None
     }
 
-    /// Whether the transfer from the sender to the receiver is enabled.
+    /// Returns whether the transfer from the sender to the receiver is enabled.
     pub fn can_transfer(&self, sender: u32, receiver: u32) -> bool
         ensures { IsTrue result ↔ IsFirstSender self.now receiver sender }
     {
@@ -267,7 +267,7 @@ impl Threads {
         None
     }
 
-    /// The enabled transfer whose sender stands first in the queue: the sender's number and the receiver's.
+    /// Returns the enabled transfer whose sender is first in the queue: the sender's number and the receiver's.
     pub fn next_transfer(&self) -> Option<(u32, u32)>
         ensures { MatchOption result ((s r : ℕ) → ¬ (IsFirstSender self.now r s)) (IsNextTransfer self.now) }
     {
@@ -278,7 +278,7 @@ impl Threads {
         }
     }
 
-    /// Whether the thread waits with a timeout of zero and takes part in no enabled transfer.
+    /// Returns whether the thread waits with a zero timeout and takes part in no enabled transfer.
     pub fn can_expire(&self, number: u32) -> bool
         ensures { IsTrue result ↔ CanExpire self.now number }
     {
@@ -326,7 +326,7 @@ impl Threads {
         least
     }
 
-    /// The least number of a thread that can expire.
+    /// Returns the least number of a thread that can expire.
     pub fn next_expiry(&self) -> Option<u32>
         ensures { MatchOption result ((n : ℕ) → ¬ (CanExpire self.now n)) (IsNextExpiry self.now) }
     {
@@ -343,7 +343,8 @@ impl Threads {
         }
     }
 
-    /// Remembers that nothing is enabled, so that the next call that waits is the one that may act. Nothing that is seen changes.
+    /// Remembers that nothing is enabled, so that only the next thread that waits has to be tested. Nothing visible
+    /// changes.
     pub fn settle(&mut self)
         requires no_transfer { (s r : ℕ) → ¬ (IsFirstSender self.old r s) }
         requires no_expiry { (n : ℕ) → ¬ (CanExpire self.old n) }
@@ -352,7 +353,7 @@ impl Threads {
         self.focus = Focus::Nobody;
     }
 
-    /// The senders' numbers, in the order in which their sends began.
+    /// Returns the senders' numbers, in the order in which their sends began.
     pub fn queue(&self) -> &[u32]
         ensures pairs { self.now.before ≡ set.from_list (pairs_of result.now) }
         ensures senders { (n : ℕ) → is_in result.now n ≡ sends self.now n }
@@ -361,14 +362,14 @@ impl Threads {
         self.queue.as_slice()
     }
 
-    /// What holds of the threads at all times. It does nothing.
+    /// Ghost function: gives a proof the invariant of the threads. It compiles to nothing.
     pub fn law_consistent(&self)
         ensures { IsConsistent self.now }
     {
         let _ = &self.threads;
     }
 
-    /// A running thread starts to send: it goes to the end of the queue.
+    /// Makes a running thread send. It goes to the end of the queue.
     pub fn start_send(&mut self, number: u32, sending: Sending)
         requires { IsTrue (runs self.old number) }
         ensures { self.new ≡ start_send self.old number sending }
@@ -387,7 +388,7 @@ impl Threads {
         );
     }
 
-    /// A running thread starts to send these words, in which these items stand: it goes to the end of the queue.
+    /// Makes a running thread send these words, which contain these items. It goes to the end of the queue.
     #[inline(always)]
     pub fn start_message(&mut self, number: u32, words: &[u32], items: &[Item], phase: SendPhase)
         requires running { IsTrue (runs self.old number) }
@@ -400,7 +401,7 @@ impl Threads {
         self.focus = self.focus.with_waiting(number);
     }
 
-    /// A running or sending thread starts to receive. It is in the queue no longer.
+    /// Makes a running or sending thread receive. It leaves the queue.
     #[inline(always)]
     pub fn start_receive(&mut self, number: u32, receiving: Receiving)
         requires { IsTrue (may_receive self.old number) }
@@ -411,7 +412,7 @@ impl Threads {
         self.focus = self.focus.with_waiting(number);
     }
 
-    /// The call of a thread ends with this reply, whatever the thread does. It is in the queue no longer.
+    /// Ends the call of a thread with this reply, in any state. The thread leaves the queue.
     pub fn end_call(&mut self, number: u32, reply: Reply)
         requires { IsSome (state_of self.old number) }
         ensures { self.new ≡ end_call self.old number reply }
@@ -421,7 +422,7 @@ impl Threads {
         self.focus = self.focus.with_running(number);
     }
 
-    /// The call of a thread ends with this reply, whatever the thread does. It is in the queue no longer.
+    /// Ends the call of a thread with this reply, in any state. The thread leaves the queue.
     pub fn end_wordless(&mut self, number: u32, ending: Wordless)
         requires { IsSome (state_of self.old number) }
         ensures { self.new ≡ end_call self.old number (wordless_reply ending) }
@@ -431,7 +432,7 @@ impl Threads {
         self.focus = self.focus.with_running(number);
     }
 
-    /// An Ipc of a thread ends with this reply, whatever the thread does. It is in the queue no longer.
+    /// Ends an Ipc of a thread with this reply, in any state. The thread leaves the queue.
     pub fn end_ipc(&mut self, number: u32, envelope: Envelope, words: &[u32])
         requires there { IsSome (state_of self.old number) }
         requires words { length words.now ≤ max_words }
@@ -442,8 +443,8 @@ impl Threads {
         self.focus = self.focus.with_running(number);
     }
 
-    /// An Ipc of the receiver ends with what the sender sends to it: the words behind their tag. The transfer is enabled, and the sender
-    /// sends still.
+    /// Ends an Ipc of the receiver with the sender's words after their tag. The transfer is enabled, and the sender
+    /// stays sending.
     #[inline(always)]
     pub fn pass_message(&mut self, sender: u32, receiver: u32, envelope: Envelope)
         requires { IsFirstSender self.old receiver sender }
@@ -483,12 +484,12 @@ impl Threads {
         self.threads.is_full() || (new_space && self.next_space > LAST_SPACE)
     }
 
-    /// The space that `create` would use: that of the thread that `space` names, or a new one where `space` is
-    /// `id` itself (L4 X.2 manual, ThreadControl). Nothing changes.
+    /// Returns the space that `create` would use: that of the thread that `space` names, or a new one if `space` is
+    /// `id` itself (L4 X.2 manual, ThreadControl). Changes nothing.
     ///
-    /// The first of these refusals that applies: `NoPrivilege` (the caller is not in the root space), `BadId`
-    /// (no thread can have the id), `Taken` (its number exists), `Unknown` (`space` is another id and names no
-    /// thread), `Full` (64 threads exist, or a new space is asked and the numbers are used up).
+    /// Errors, in this order: `NoPrivilege` (the caller is not in root's space), `BadId` (the id is not valid),
+    /// `Taken` (its number exists), `Unknown` (`space` is another id and names no thread), `Full` (64 threads exist,
+    /// or a new space is requested and the numbers are used up).
     pub fn test_create(
         &self,
         caller: u32,
@@ -536,10 +537,10 @@ impl Threads {
         }
     }
 
-    /// Makes a thread, which runs at once, and answers its space: that of the thread that `space` names, or a new one where
-    /// `space` is `id` itself (L4 X.2 manual, ThreadControl). The pager isn't tested.
+    /// Creates a thread, which runs at once, and returns its space: that of the thread that `space` names, or a new
+    /// one if `space` is `id` itself (L4 X.2 manual, ThreadControl). The pager need not exist.
     ///
-    /// The refusals are those of `test_create`, in its order, and change nothing.
+    /// Errors: those of `test_create`, in the same order. They change nothing.
     pub fn create(
         &mut self,
         caller: u32,
@@ -559,10 +560,10 @@ impl Threads {
         Ok(own)
     }
 
-    /// Gives the thread that `id` names another pager (L4 X.2 manual, ThreadControl), and answers its number.
+    /// Changes the pager of the thread that `id` names (L4 X.2 manual, ThreadControl), and returns its number.
     ///
-    /// The first of these refusals that applies, which change nothing: `NoPrivilege` (the caller is not in the
-    /// root space), `Unknown` (`id` names no thread).
+    /// Errors, in this order, which change nothing: `NoPrivilege` (the caller is not in root's space), `Unknown`
+    /// (`id` names no thread).
     pub fn set_pager(
         &mut self,
         caller: u32,
@@ -627,11 +628,12 @@ impl Threads {
         }
     }
 
-    /// Deletes the thread that `id` names (L4 X.2 manual, ThreadControl). Each other thread that sends to it fails
-    /// with ErrorCode 4, and each that receives from it by name with 5.
+    /// Deletes the thread that `id` names (L4 X.2 manual, ThreadControl). Every other thread that is sending to it
+    /// fails with ErrorCode 4, and every one that receives from it by name fails with ErrorCode 5.
     ///
-    /// The first of these refusals that applies, which change nothing: `NoPrivilege` (the caller is not in the
-    /// root space), `Unknown` (`id` names no thread), `Kept` (it is sigma0, root or the caller).
+    /// Errors, in this order, which change nothing: `NoPrivilege` (the caller is not in root's space), `Unknown`
+    /// (`id` names no thread), `Kept` (it is sigma0, root or the caller).
+    ///
     pub fn delete(&mut self, caller: u32, id: ThreadId) -> Result<Deleted, ThreadFault>
         ensures test { MatchResult result (λ d. delete_test self.old caller id ≡ Ok d.number) (λ e. delete_test self.old caller id ≡ Err e) }
         ensures ok { IfOk result (λ d. Deletes d.number self.old self.new) }

@@ -1,4 +1,4 @@
-//! Unmap: what its registers say and which rights it takes away (L4 X.2 manual, Unmap).
+//! Unmap: reads its registers, and takes the rights that they name (L4 X.2 manual, Unmap).
 #![tactic(auto)]
 
 ghost use Rattle.std.specs.Prelude.{◌≡◌, ◌<◌, ◌≤◌, ◌∷◌, [], List, length, IsTrue, IsOk, OnOk, OnErr, IfErr};
@@ -9,21 +9,23 @@ ghost use Rattle.l4_unmap.specs.Unmap.{fpage_count, with_own, UnmapReads, UnmapF
 use l4_forest::Forest;
 use l4_fpage::{Fpage, PageSize};
 
-/// Why an Unmap is refused.
+/// The reason why an Unmap is refused.
 #[derive(Clone, Copy, Debug, PartialEq, Eq)]
 pub enum UnmapFault {
-    /// U1: the message register of this number is the first that holds no fpage.
+    /// U1: the message register with this number is the first that is not a valid fpage.
     BadFpage(u32),
     /// U2: there are fewer message registers than the control word counts.
     TooFew,
 }
 
-/// Takes away what an Unmap by a thread of the space asks for (L4 X.2 manual, Unmap), where pages have this size. Bits 5 to 0 of the
-/// control word are k: the registers 0 to k hold fpages, and further ones mean nothing. All that descends from an fpage's pages in the space loses the rights
-/// that the fpage names, and with bit 6 of the control word (f) these pages do too. A place goes with its last right.
+/// Executes an Unmap by a thread of the space, with pages of this size (L4 X.2 manual, Unmap). Bits 5 to 0 of the
+/// control word are k: registers 0 to k hold fpages, and further ones are ignored. Everything that descends from an
+/// fpage's pages in the space loses the rights that the fpage names; if bit 6 of the control word (f) is set, so do
+/// these pages. A place without rights is removed.
 ///
-/// `TooFew` comes where there are not so many registers, and else `BadFpage` with the first that holds no fpage. After either, every
-/// mapping is as before. It takes no memory.
+/// Errors, in this order: `TooFew` if there are fewer than k + 1 registers; `BadFpage` with the first register that
+/// is not a valid fpage. After either error, every mapping is as before. Needs no memory.
+///
 pub fn unmap(
     forest: &mut Forest,
     space: u64,

@@ -1,13 +1,12 @@
 -- What is found of a page, and what is told of it.
-use Rattle.std.proofs.Common.{◌≡◌, ℕ, Bool, List, [], ◌++◌, Option, Some, None, Result, Ok, Err, IsTrue, is_some, refl, sym, ap, ◌∙◌, subst}
-use Rattle.std.proofs.lemmas.List.{append-nil}
+use Rattle.std.proofs.Common.{◌≡◌, ℕ, List, Option, Some, None, Result, Ok, Err, IsTrue, is_some, inl, inr, refl, sym, ◌∙◌, subst}
 use Rattle.std.proofs.lemmas.Bool.{false≢true}
 use Rattle.std.specs.Global.{Vec}
 use Rattle.std.specs.Io.KnownBytes.{Appends}
 use Rattle.l4_fpage.specs.declared.sizes.PageSize.{PageSize}
 use Rattle.l4_mapdb.specs.declared.Mapping.{Mapping}
 use Rattle.l4_mapdb.specs.declared.Place.{Place}
-use Rattle.l4_mapdb.specs.Mappings.{IsPresent, shown}
+use Rattle.l4_mapdb.specs.Mappings.{shown}
 use Rattle.l4_threads.specs.declared.Thread.{Thread}
 use Rattle.l4_threads.specs.Threads.{thread_at}
 use Rattle.l4_ipc.specs.Machine.{Machine, IsBoot}
@@ -22,29 +21,30 @@ use Rattle.l4_text.specs.Streams.{WentOut}
 use Rattle.l4_text.specs.declared.faults.RunFault.{RunFault}
 use Rattle.l4_text.specs.declared.faults.RunFault.TheVariants.{Read, Write, Memory}
 use Rattle.l4_why.specs.Telling.{IsWhy, HasWhy, TellsWhy, IsThreadText, IsPlaceText}
-use Rattle.l4_why.specs.Inside.Finding.{is_found, answer_text, Holds, IsAnswer, IsOfThread}
+use Rattle.l4_why.specs.Inside.Finding.{presence, answer_text, Holds, IsAnswer, IsOfThread}
 use Rattle.l4_why.specs.declared.asking.ThreadPage.{ThreadPage}
+use Rattle.l4_why.specs.declared.asking.Presence.{Presence}
 use Rattle.l4_why.specs.declared.asking.Answer.{Answer}
 use Rattle.l4_why.specs.declared.asking.Answer.TheVariants.{Unknown, Absent, Chain}
 
 -- WHAT IS FOUND
 
-of_thread : (boot now : Machine) (history : List Entry) (asked : ThreadPage) (place : Place) (found : Bool) (text : List ℕ) → IsOfThread now asked place
+of_thread : (boot now : Machine) (history : List Entry) (asked : ThreadPage) (place : Place) (found : Presence) (text : List ℕ) → IsOfThread now asked place
     → IsPlaceText boot now history place found text → IsThreadText boot now history (thread_at now.threads asked.thread) asked.page found text
 of_thread boot now history asked place found text of is =
     subst (λ (o : Option Thread). IsThreadText boot now history o asked.page found text) (sym of.1) (subst (λ (p : Place). IsPlaceText boot now history p found text) of.2 is)
 
 text_of : (boot now : Machine) (history : List Entry) (asked : ThreadPage) (answer : Answer) → Holds boot now history asked answer
-    → IsThreadText boot now history (thread_at now.threads asked.thread) asked.page (is_found answer) (answer_text history answer)
+    → IsThreadText boot now history (thread_at now.threads asked.thread) asked.page (presence answer) (answer_text history answer)
 text_of boot now history asked Unknown h =
-    subst (λ (o : Option Thread). IsThreadText boot now history o asked.page (is_found Unknown) (answer_text history Unknown)) (sym h) (refl, refl)
-text_of boot now history asked Absent h = of_thread boot now history asked h.0 (is_found Absent) (answer_text history Absent) h.1 (h.2, refl)
+    subst (λ (o : Option Thread). IsThreadText boot now history o asked.page (presence Unknown) (answer_text history Unknown)) (sym h) (refl, refl)
+text_of boot now history asked Absent h = of_thread boot now history asked h.0 (presence Absent) (answer_text history Absent) h.1 (h.2, refl)
 text_of boot now history asked (Chain place links shows) h =
-    of_thread boot now history asked place (is_found (Chain place links shows)) (answer_text history (Chain place links shows)) h.0
+    of_thread boot now history asked place (presence (Chain place links shows)) (answer_text history (Chain place links shows)) h.0
     (record { links = links.items; provenance = h.1; shows = shows; at = h.2; is_text = refl })
 
 why_of : (frames : ℕ) (size : PageSize) (history : List Entry) (asked : ThreadPage) (answer : Answer) → IsAnswer frames size history asked answer
-    → IsWhy frames size history asked (is_found answer) (answer_text history answer)
+    → IsWhy frames size history asked (presence answer) (answer_text history answer)
 why_of frames size history asked answer h =
     record { boot = h.boot; boots = h.boots; size_is = h.size_is; now = h.now; run = h.run; is_text = text_of h.boot h.now history asked answer h.holds }
 
@@ -84,41 +84,32 @@ module _ (frames : ℕ) (size : PageSize) (history : List Entry) (now : Machine)
 
 -- WHAT GOES OUT
 
-has_why : (frames : ℕ) (size : PageSize) (asked : ThreadPage) (old new : Option (List ℕ)) (read : Result ℕ RunFault) (history : List Entry) (found : Bool) (text : List ℕ)
-    → Records frames size old new history read → IsWhy frames size history asked found text → HasWhy frames size asked old new read found text
-has_why frames size asked old new read history found text records is = record { history = history; records = records; is_why = is }
+module _ (frames : ℕ) (size : PageSize) (asked : ThreadPage) (old new written now : Option (List ℕ)) (read : Result ℕ RunFault) (history : List Entry)
+    (records : Records frames size old new history read) where
+  -- the script was read to its end
+  module _ (count : ℕ) (whole : read ≡ Ok count) (answer : Answer) (holds : IsAnswer frames size history asked answer) where
+    has_why : HasWhy frames size asked old new count (presence answer) (answer_text history answer)
+    has_why = record {
+      history = history;
+      records = subst (λ (r : Result ℕ RunFault). Records frames size old new history r) whole records;
+      is_why = why_of frames size history asked answer holds;
+    }
 
--- what is given for how the script was read
-abbrev pub outcome : Result ℕ RunFault → Bool → Result Bool RunFault
-outcome (Ok count) found = Ok found
-outcome (Err fault) found = Err fault
+    -- all that is told of an answer
+    pub all_told : (found : Presence) → found ≡ presence answer → Appends written now (answer_text history answer)
+        → TellsWhy frames size asked old new written now (Ok found)
+    all_told found is out =
+        subst (λ (p : Presence). TellsWhy frames size asked old new written now (Ok p)) (sym is) (count, answer_text history answer, has_why, out)
 
--- all of it
-goes_out : (frames : ℕ) (size : PageSize) (asked : ThreadPage) (old new written now : Option (List ℕ)) (read : Result ℕ RunFault) (history : List Entry) (found : Bool) (text : List ℕ)
-    → Records frames size old new history read → IsWhy frames size history asked found text → Appends written now text
-    → TellsWhy frames size asked old new written now (outcome read found)
-goes_out frames size asked old new written now (Ok count) history found text records is out =
-    (count, text, has_why frames size asked old new (Ok count) history found text records is, out)
-goes_out frames size asked old new written now (Err Read) history found text records is out =
-    (found, text, has_why frames size asked old new (Err Read) history found text records is, out)
-goes_out frames size asked old new written now (Err Write) history found text records is out =
-    (Err Write, found, text, has_why frames size asked old new (Err Write) history found text records is, record { front = text; rest = []; whole = sym (append-nil text); out = out })
-goes_out frames size asked old new written now (Err Memory) history found text records is out = absurd records.answered
+    -- a beginning of it
+    pub some_told : WentOut written now (answer_text history answer) → TellsWhy frames size asked old new written now (Err Write)
+    some_told out = inl (record { count = count; found = presence answer; text = answer_text history answer; has_why = has_why; out = out })
 
--- all that is told of an answer
-pub all_told : (frames : ℕ) (size : PageSize) (asked : ThreadPage) (old new written now : Option (List ℕ)) (read same : Result ℕ RunFault) (history : List Entry) (answer : Answer) (found : Bool)
-    → read ≡ same → found ≡ is_found answer → Records frames size old new history read → IsAnswer frames size history asked answer → Appends written now (answer_text history answer)
-    → TellsWhy frames size asked old new written now (outcome same found)
-all_told frames size asked old new written now read same history answer found is is_there records holds out =
-    let text : List ℕ = answer_text history answer in
-    let why : IsWhy frames size history asked found text = subst (λ (b : Bool). IsWhy frames size history asked b text) (sym is_there) (why_of frames size history asked answer holds) in
-    subst (λ (r : Result ℕ RunFault). TellsWhy frames size asked old new written now (outcome r found)) is
-    (goes_out frames size asked old new written now read history found text records why out)
+  -- it was not, and nothing was written
+  stopped : (fault : RunFault) → read ≡ Err fault → Records frames size old new history (Err fault)
+  stopped fault is = subst (λ (r : Result ℕ RunFault). Records frames size old new history r) is records
 
--- a beginning of it
-pub some_told : (frames : ℕ) (size : PageSize) (asked : ThreadPage) (old new written now : Option (List ℕ)) (read : Result ℕ RunFault) (history : List Entry) (answer : Answer)
-    → Records frames size old new history read → IsAnswer frames size history asked answer → WentOut written now (answer_text history answer)
-    → TellsWhy frames size asked old new written now (Err Write)
-some_told frames size asked old new written now read history answer records holds out =
-    let text : List ℕ = answer_text history answer in
-    (read, is_found answer, text, has_why frames size asked old new read history (is_found answer) text records (why_of frames size history asked answer holds), out)
+  pub none_told : (fault : RunFault) → read ≡ Err fault → now ≡ written → TellsWhy frames size asked old new written now (Err fault)
+  none_told Read is same = record { history = history; records = stopped Read is; unwritten = same }
+  none_told Write is same = inr (record { history = history; records = stopped Write is; unwritten = same })
+  none_told Memory is same = same

@@ -1,5 +1,5 @@
 -- How a page of a thread's space came there, as it is told of a script (this profile's own).
-use Rattle.std.specs.Prelude.{ℕ, ◌≡◌, ◌⊎◌, Bool, true, false, List, ◌++◌, Option, Some, None, Result, Ok, Err, codes}
+use Rattle.std.specs.Prelude.{ℕ, ◌≡◌, ◌⊎◌, List, ◌++◌, Option, Some, None, Result, Ok, Err, codes}
 use Rattle.std.specs.Io.KnownBytes.{Appends}
 use Rattle.l4_fpage.specs.declared.sizes.PageSize.{PageSize}
 use Rattle.l4_mapdb.specs.declared.Mapping.{Mapping}
@@ -20,6 +20,8 @@ use Rattle.l4_text.specs.declared.faults.RunFault.TheVariants.{Read, Write, Memo
 use Rattle.l4_answers.specs.Replies.{newline}
 use Rattle.l4_why.specs.Chains.{chain_text}
 use Rattle.l4_why.specs.declared.asking.ThreadPage.{ThreadPage}
+use Rattle.l4_why.specs.declared.asking.Presence.{Presence}
+use Rattle.l4_why.specs.declared.asking.Presence.TheVariants.{Present, Absent, NoThread}
 
 -- of a thread that isn't there
 abbrev pub unknown_text : List ℕ
@@ -38,17 +40,18 @@ pub record IsChainText (boot now : Machine) (history : List Entry) (place : Plac
   pub is_text : text ≡ chain_text history links place shows
 
 -- of a place: its chain, or that it is absent
-abbrev pub IsPlaceText : Machine → Machine → List Entry → Place → Bool → List ℕ → Type 0
-IsPlaceText boot now history place true text = IsChainText boot now history place text
-IsPlaceText boot now history place false text = IsAbsent boot history place × (text ≡ absent_text)
+abbrev pub IsPlaceText : Machine → Machine → List Entry → Place → Presence → List ℕ → Type 0
+IsPlaceText boot now history place Present text = IsChainText boot now history place text
+IsPlaceText boot now history place Absent text = IsAbsent boot history place × (text ≡ absent_text)
+IsPlaceText boot now history place NoThread text = ⊥
 
 -- of a page of the space of a thread, if that is there at the end
-abbrev pub IsThreadText : Machine → Machine → List Entry → Option Thread → ℕ → Bool → List ℕ → Type 0
-IsThreadText boot now history None page found text = (found ≡ false) × (text ≡ unknown_text)
+abbrev pub IsThreadText : Machine → Machine → List Entry → Option Thread → ℕ → Presence → List ℕ → Type 0
+IsThreadText boot now history None page found text = (found ≡ NoThread) × (text ≡ unknown_text)
 IsThreadText boot now history (Some thread) page found text = IsPlaceText boot now history (record { space = thread.space; page = page }) found text
 
--- Whether a page is found that the asked thread's space has at the end of the history, and what is told of it.
-pub record IsWhy (frames : ℕ) (size : PageSize) (history : List Entry) (asked : ThreadPage) (found : Bool) (text : List ℕ) : Type 0 where
+-- Whether the space of the asked thread has the page at the end of the history, and what is told of it.
+pub record IsWhy (frames : ℕ) (size : PageSize) (history : List Entry) (asked : ThreadPage) (found : Presence) (text : List ℕ) : Type 0 where
   pub boot : Machine
   pub boots : IsBoot frames boot
   pub size_is : boot.size ≡ size
@@ -56,19 +59,32 @@ pub record IsWhy (frames : ℕ) (size : PageSize) (history : List Entry) (asked 
   pub run : Run boot (steps_of history) (answers_of history) now
   pub is_text : IsThreadText boot now history (thread_at now.threads asked.thread) asked.page found text
 
--- a script was carried out, and this is told of the page
-pub record HasWhy (frames : ℕ) (size : PageSize) (asked : ThreadPage) (old new : Option (List ℕ)) (read : Result ℕ RunFault) (found : Bool) (text : List ℕ) : Type 0 where
+-- a script was carried out to its end, in so many lines, and this is told of the page
+pub record HasWhy (frames : ℕ) (size : PageSize) (asked : ThreadPage) (old new : Option (List ℕ)) (count : ℕ) (found : Presence) (text : List ℕ) : Type 0 where
   pub history : List Entry
-  pub records : Records frames size old new history read
+  pub records : Records frames size old new history (Ok count)
   pub is_why : IsWhy frames size history asked found text
 
--- What is told went out, where a read failed too, of the lines before it, or where a write failed a beginning of it. Nothing did where memory was
--- wanting.
-abbrev pub TellsWhy : ℕ → PageSize → ThreadPage → Option (List ℕ) → Option (List ℕ) → Option (List ℕ) → Option (List ℕ) → Result Bool RunFault → Type 0
+-- a script was carried out in part, and nothing was written
+pub record HasStopped (frames : ℕ) (size : PageSize) (old new written now : Option (List ℕ)) (fault : RunFault) : Type 0 where
+  pub history : List Entry
+  pub records : Records frames size old new history (Err fault)
+  pub unwritten : now ≡ written
+
+-- a beginning of what is told went out
+pub record HasBegun (frames : ℕ) (size : PageSize) (asked : ThreadPage) (old new written now : Option (List ℕ)) : Type 0 where
+  pub count : ℕ
+  pub found : Presence
+  pub text : List ℕ
+  pub has_why : HasWhy frames size asked old new count found text
+  pub out : WentOut written now text
+
+-- What is told of a script that was read to its end went out, or where a write failed a beginning of it. Nothing was written where a read
+-- failed, or memory was wanting.
+abbrev pub TellsWhy : ℕ → PageSize → ThreadPage → Option (List ℕ) → Option (List ℕ) → Option (List ℕ) → Option (List ℕ) → Result Presence RunFault → Type 0
 TellsWhy frames size asked old new written now (Ok found) =
-    (count : ℕ) × (text : List ℕ) × HasWhy frames size asked old new (Ok count) found text × Appends written now text
-TellsWhy frames size asked old new written now (Err Read) =
-    (found : Bool) × (text : List ℕ) × HasWhy frames size asked old new (Err Read) found text × Appends written now text
+    (count : ℕ) × (text : List ℕ) × HasWhy frames size asked old new count found text × Appends written now text
+TellsWhy frames size asked old new written now (Err Read) = HasStopped frames size old new written now Read
 TellsWhy frames size asked old new written now (Err Write) =
-    (read : Result ℕ RunFault) × (found : Bool) × (text : List ℕ) × HasWhy frames size asked old new read found text × WentOut written now text
+    HasBegun frames size asked old new written now ⊎ HasStopped frames size old new written now Write
 TellsWhy frames size asked old new written now (Err Memory) = now ≡ written

@@ -2,7 +2,7 @@
 ghost use Rattle.std.specs.Prelude.{◌≡◌, ◌≤◌, IfSome};
 ghost use Rattle.l4_fpage.specs.Pages.{max_frames};
 ghost use Rattle.l4_text.specs.Streams.{Tells};
-ghost use Rattle.l4_why.specs.Inside.Finding.{IsAnswer, is_found, answer_text};
+ghost use Rattle.l4_why.specs.Inside.Finding.{IsAnswer, presence, answer_text};
 ghost use Rattle.l4_why.specs.Telling.{unknown_text, absent_text, TellsWhy};
 
 use crate::lines::put_chain;
@@ -21,6 +21,17 @@ pub struct ThreadPage {
     pub thread: u32,
     /// The number of the page.
     pub page: u32,
+}
+
+/// Whether a page is there at the end of a script.
+#[derive(Clone, Copy, PartialEq, Eq, Debug)]
+pub enum Presence {
+    /// The thread's space has the page.
+    Present,
+    /// The thread's space does not have the page.
+    Absent,
+    /// K2: there is no such thread.
+    NoThread,
 }
 
 /// `refused K2`
@@ -89,34 +100,39 @@ fn look(
     }
 }
 
-/// Tells what is found, and gives whether it is a page.
+/// Tells what is found, and gives whether the page is there.
 fn put_answer<W: Write>(
     history: &History,
     answer: &Answer,
     out: &mut Output,
     writer: &mut W,
-) -> bool
-    ensures found { result ≡ is_found answer.now }
+) -> Presence
+    ensures found { result ≡ presence answer.now }
     ensures told { Tells (W.contents writer.old) (W.contents writer.new) out.old out.new (answer_text history.now.entries answer.now) }
 {
     match answer {
-        Answer::Unknown => out.put(writer, &unknown_text()),
-        Answer::Absent => out.put(writer, &absent_text()),
+        Answer::Unknown => {
+            out.put(writer, &unknown_text());
+            Presence::NoThread
+        }
+        Answer::Absent => {
+            out.put(writer, &absent_text());
+            Presence::Absent
+        }
         Answer::Chain(place, links, shows) => {
             put_chain(history, links.as_slice(), *place, shows, out, writer);
-            return true;
+            Presence::Present
         }
     }
-    false
 }
 
-/// Carries out the script that the reader gives as `run` of `l4_shell` does, and writes in place of its answers how a page that a thread's
-/// space has at the end came there: sigma0's page, the transfers of the chain, and the page. Gives whether it is there: where it isn't, or the
-/// thread isn't, that is written.
+/// Carries out the script that the reader gives as `run` of `l4_shell` does. Instead of its answers it writes how a page of a thread's space
+/// got there: sigma0's page, the transfers of the chain, and the page at the end. Returns whether the page is there; if it is not, or if there
+/// is no such thread, it writes that.
 ///
-/// The faults are those of `run`: before a `Read` the answer after the lines before it goes out; after `Write` a beginning of it went out.
-/// `Memory` comes where there is none for a kernel, for the history done once more, or for the chain, and where a transfer of the script found
-/// none that is found then; nothing was written then.
+/// The faults are those of `run`. Before `Read` nothing was written; after `Write` a beginning of the text went out, or nothing. `Memory`
+/// means that there was not enough for a kernel, for replaying the history or for the chain, or that a transfer of the script ran out of memory
+/// and did not when it was replayed; nothing was written then.
 pub fn why<R: Read, W: Write>(
     alloc: Global,
     frames: u32,
@@ -124,7 +140,7 @@ pub fn why<R: Read, W: Write>(
     asked: ThreadPage,
     reader: &mut R,
     writer: &mut W,
-) -> Result<bool, RunFault>
+) -> Result<Presence, RunFault>
     requires some { 1 ≤ frames }
     requires fit { frames ≤ max_frames }
     ensures { TellsWhy frames size asked (R.remaining reader.old) (R.remaining reader.new)
@@ -133,16 +149,17 @@ pub fn why<R: Read, W: Write>(
     let Some((history, read)) = record(alloc, frames, size, reader) else {
         return Err(RunFault::Memory);
     };
+    match read {
+        Ok(_) => {}
+        Err(fault) => return Err(fault),
+    }
     let Some(answer) = look(alloc, frames, size, &history, asked) else {
         return Err(RunFault::Memory);
     };
     let mut out = Output::new();
     let found = put_answer(&history, &answer, &mut out, writer);
-    if let Err(_) = out.finish(writer) {
-        return Err(RunFault::Write);
-    }
-    match read {
-        Ok(_) => Ok(found),
-        Err(fault) => Err(fault),
+    match out.finish(writer) {
+        Ok(()) => Ok(found),
+        Err(_) => Err(RunFault::Write),
     }
 }

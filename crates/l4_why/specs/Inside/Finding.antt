@@ -1,7 +1,6 @@
 -- What is found of a page, as data.
-use Rattle.std.specs.Prelude.{ℕ, ◌≡◌, Bool, true, false, List, Option, Some, None}
+use Rattle.std.specs.Prelude.{ℕ, ◌≡◌, List, Some, None}
 use Rattle.l4_fpage.specs.declared.sizes.PageSize.{PageSize}
-use Rattle.l4_mapdb.specs.declared.Mapping.{Mapping}
 use Rattle.l4_mapdb.specs.declared.Place.{Place}
 use Rattle.l4_mapdb.specs.Mappings.{shown}
 use Rattle.l4_threads.specs.declared.Thread.{Thread}
@@ -14,13 +13,15 @@ use Rattle.l4_chains.specs.Chains.{IsProvenance, IsAbsent}
 use Rattle.l4_why.specs.Chains.{chain_text}
 use Rattle.l4_why.specs.Telling.{unknown_text, absent_text}
 use Rattle.l4_why.specs.declared.asking.ThreadPage.{ThreadPage}
+use Rattle.l4_why.specs.declared.asking.Presence.{Presence}
+use Rattle.l4_why.specs.declared.asking.Presence.TheVariants as is
 use Rattle.l4_why.specs.declared.asking.Answer.{Answer}
 use Rattle.l4_why.specs.declared.asking.Answer.TheVariants.{Unknown, Absent, Chain}
 
-abbrev pub is_found : Answer → Bool
-is_found Unknown = false
-is_found Absent = false
-is_found (Chain place links shows) = true
+abbrev pub presence : Answer → Presence
+presence Unknown = is.NoThread
+presence Absent = is.Absent
+presence (Chain place links shows) = is.Present
 
 abbrev pub answer_text : List Entry → Answer → List ℕ
 answer_text history Unknown = unknown_text

@@ -1,4 +1,3 @@
-use Rattle.std.proofs.Common.{length}
 use Rattle.l4_ipc.proofs.Work.{fewer}
 use Rattle.l4_ipc.specs.NextSteps.{step_of, answer_of}
 use Rattle.l4_record.proofs.Going.{going_first, going_more, going_room, going_done}

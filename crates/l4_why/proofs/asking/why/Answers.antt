@@ -1,22 +1,21 @@
-use Rattle.std.proofs.Common.{Ok, Err}
+use Rattle.std.proofs.Common.{refl}
 use Rattle.l4_text.proofs.Telling.{all_out, some_out}
-use Rattle.l4_why.proofs.Found.{all_told, some_told}
+use Rattle.l4_why.proofs.Found.{all_told, some_told, none_told}
 use Rattle.l4_why.proofs.asking.why.Goals as goal
 
 pub returns-in-Err : goal.returns-in-Err
 returns-in-Err g c =
-    some_told c.args.frames c.args.size c.args.asked (g.R.Read.remaining c.args.reader.now) (g.R.Read.remaining c.record.new.reader) (g.W.Write.contents c.args.writer.now)
-    (g.W.Write.contents c.finish.new.writer) c.in-Some.read c.in-Some.history.entries c.in-Some-look.answer c.in-Some.ensures c.in-Some-look.ensures
-    (some_out _ _ _ _ _ _ c.new-out.ensures c.put_answer-found.ensures.told c.in-Err.ensures.err.1)
+    none_told c.args.frames c.args.size c.args.asked (g.R.Read.remaining c.args.reader.now) (g.R.Read.remaining c.record.new.reader) (g.W.Write.contents c.args.writer.now)
+    (g.W.Write.contents c.args.writer.now) c.in-Some.read c.in-Some.history.entries c.in-Some.ensures c.in-Err.fault c.in-Err.is refl
 
-pub returns-in-Ok : goal.returns-in-Ok
-returns-in-Ok g c =
+pub returns-in-Ok-finish : goal.returns-in-Ok-finish
+returns-in-Ok-finish g c =
     all_told c.args.frames c.args.size c.args.asked (g.R.Read.remaining c.args.reader.now) (g.R.Read.remaining c.record.new.reader) (g.W.Write.contents c.args.writer.now)
-    (g.W.Write.contents c.finish.new.writer) c.in-Some.read (Ok c.in-Ok.field-0) c.in-Some.history.entries c.in-Some-look.answer c.put_answer-found.result c.in-Ok.is
-    c.put_answer-found.ensures.found c.in-Some.ensures c.in-Some-look.ensures (all_out _ _ _ _ _ _ c.new-out.ensures c.put_answer-found.ensures.told c.in_default-finish.ensures.ok)
+    (g.W.Write.contents c.finish.new.writer) c.in-Some.read c.in-Some.history.entries c.in-Some.ensures c.in-Ok.field-0 c.in-Ok.is c.in-Some-look.answer c.in-Some-look.ensures
+    c.put_answer-found.result c.put_answer-found.ensures.found (all_out _ _ _ _ _ _ c.new-out.ensures c.put_answer-found.ensures.told c.in-Ok-finish.ensures.ok)
 
 pub returns : goal.returns
 returns g c =
-    all_told c.args.frames c.args.size c.args.asked (g.R.Read.remaining c.args.reader.now) (g.R.Read.remaining c.record.new.reader) (g.W.Write.contents c.args.writer.now)
-    (g.W.Write.contents c.finish.new.writer) c.in-Some.read (Err c.in-Err-read.fault) c.in-Some.history.entries c.in-Some-look.answer c.put_answer-found.result c.in-Err-read.is
-    c.put_answer-found.ensures.found c.in-Some.ensures c.in-Some-look.ensures (all_out _ _ _ _ _ _ c.new-out.ensures c.put_answer-found.ensures.told c.in_default-finish.ensures.ok)
+    some_told c.args.frames c.args.size c.args.asked (g.R.Read.remaining c.args.reader.now) (g.R.Read.remaining c.record.new.reader) (g.W.Write.contents c.args.writer.now)
+    (g.W.Write.contents c.finish.new.writer) c.in-Some.read c.in-Some.history.entries c.in-Some.ensures c.in-Ok.field-0 c.in-Ok.is c.in-Some-look.answer c.in-Some-look.ensures
+    (some_out _ _ _ _ _ _ c.new-out.ensures c.put_answer-found.ensures.told c.in-Err-finish.ensures.err.1)

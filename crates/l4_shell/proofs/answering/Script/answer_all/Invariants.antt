@@ -4,4 +4,4 @@ use Rattle.l4_shell.proofs.answering.Script.answer_all.Given as goal
 
 abbrev pub invariant-loop-number : goal.invariant-loop-number
 invariant-loop-number g l =
-    Answered (session l.initial.self.session.kernel l.initial.self.session.servers) (g.R.Read.remaining l.initial.reader) (g.R.Read.remaining l.reader) l.lines.0 l.number (session l.self.session.kernel l.self.session.servers) (g.W.Write.contents l.initial.writer) (g.W.Write.contents l.writer) l.initial.self.session.out l.self.session.out
+    Answered g.S.Sink.has_told g.S.Sink.closed (session l.initial.self.session.kernel l.initial.self.session.servers) (g.R.Read.remaining l.initial.reader) (g.R.Read.remaining l.reader) l.lines.0 l.number (session l.self.session.kernel l.self.session.servers) l.initial.sink l.sink

@@ -4,8 +4,8 @@ use Rattle.l4_shell.proofs.session.Session.enter_and_follow.Goals as goal
 
 pub returns-in_default : goal.returns-in_default
 returns-in_default g c =
-    let r = refuses_on _ _ c.args.self.now.servers _ c.args.line c.args.thread c.args.call.now c.args.call.now _ _ _ _ refl c.in_default.ensures.servers c.in_default.ensures.told in (r.0, inr r.1, r.2)
+    let r = refuses_on g.S.Sink.has_told _ _ c.args.self.now.servers _ c.args.line c.args.thread c.args.call.now c.args.call.now _ _ refl c.in_default.ensures.servers c.in_default.ensures.told in (r.0, inr r.1, r.2)
 
 pub returns : goal.returns
 returns g c =
-    let f = follows_on _ _ c.args.self.now.servers _ _ _ _ _ c.args.call.now _ _ _ _ _ _ _ refl c.in-Some.ensures.servers c.in-Some.ensures.told c.follow.ensures in (f.0, inl f.1, f.2)
+    let f = follows_on g.S.Sink.has_told _ _ c.args.self.now.servers _ _ _ _ _ c.args.call.now _ _ _ _ refl c.in-Some.ensures.servers c.in-Some.ensures.told c.follow.ensures in (f.0, inl f.1, f.2)

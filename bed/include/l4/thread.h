@@ -1,0 +1,207 @@
+/* Threads. */
+#ifndef L4_THREAD_H
+#define L4_THREAD_H
+
+#include <l4/kip.h>
+#include <l4/types.h>
+#include <l4/utcb.h>
+
+typedef union {
+    L4_Word_t raw;
+    struct {
+        L4_Word_t version : 14;
+        L4_Word_t thread_no : 18;
+    } X;
+} L4_ThreadId_t;
+
+L4_BEGIN_C
+
+L4_INLINE L4_ThreadId_t L4_ThreadIdOfWord(L4_Word_t raw) {
+    L4_ThreadId_t id;
+    id.raw = raw;
+    return id;
+}
+
+#define L4_nilthread L4_ThreadIdOfWord(0)
+#define L4_anythread L4_ThreadIdOfWord(0xffffffffu)
+
+/* IDS */
+
+L4_INLINE L4_ThreadId_t L4_GlobalId(L4_Word_t threadno, L4_Word_t version) {
+    return L4_ThreadIdOfWord(threadno << 14 | (version & 0x3fff));
+}
+
+L4_INLINE L4_Word_t L4_Version(L4_ThreadId_t t) {
+    return t.raw & 0x3fff;
+}
+
+L4_INLINE L4_Word_t L4_ThreadNo(L4_ThreadId_t t) {
+    return t.raw >> 14;
+}
+
+L4_INLINE L4_Bool_t L4_IsThreadEqual(L4_ThreadId_t l, L4_ThreadId_t r) {
+    return l.raw == r.raw;
+}
+
+L4_INLINE L4_Bool_t L4_IsThreadNotEqual(L4_ThreadId_t l, L4_ThreadId_t r) {
+    return l.raw != r.raw;
+}
+
+L4_INLINE L4_Bool_t L4_IsNilThread(L4_ThreadId_t t) {
+    return t.raw == 0;
+}
+
+L4_INLINE L4_Bool_t L4_IsLocalId(L4_ThreadId_t t) {
+    return t.raw != 0 && (t.raw & 0x3f) == 0;
+}
+
+L4_INLINE L4_Bool_t L4_IsGlobalId(L4_ThreadId_t t) {
+    return (t.raw & 0x3f) != 0;
+}
+
+/* Every id of this kernel is global. */
+L4_INLINE L4_ThreadId_t L4_GlobalIdOf(L4_ThreadId_t t) {
+    return t;
+}
+
+L4_INLINE L4_Bool_t L4_SameThreads(L4_ThreadId_t l, L4_ThreadId_t r) {
+    return l.raw == r.raw;
+}
+
+L4_ABSENT("this kernel has no local ids: use global ids")
+L4_ThreadId_t L4_LocalIdOf(L4_ThreadId_t t);
+L4_ABSENT("this kernel has no local ids: use L4_MyGlobalId")
+L4_ThreadId_t L4_MyLocalId(void);
+
+/* THREAD CONTROL REGISTERS */
+
+L4_INLINE L4_ThreadId_t L4_MyGlobalId(void) {
+    return L4_ThreadIdOfWord(L4_Tcr(L4_TCR_MY_GLOBAL_ID));
+}
+
+L4_INLINE L4_ThreadId_t L4_Myself(void) {
+    return L4_MyGlobalId();
+}
+
+L4_INLINE L4_Word_t L4_ProcessorNo(void) {
+    return L4_Tcr(L4_TCR_PROCESSOR_NO);
+}
+
+L4_INLINE L4_Word_t L4_UserDefinedHandle(void) {
+    return L4_Tcr(L4_TCR_USER_DEFINED_HANDLE);
+}
+
+L4_INLINE void L4_Set_UserDefinedHandle(L4_Word_t NewValue) {
+    L4_Set_Tcr(L4_TCR_USER_DEFINED_HANDLE, NewValue);
+}
+
+L4_INLINE L4_ThreadId_t L4_Pager(void) {
+    return L4_ThreadIdOfWord(L4_Tcr(L4_TCR_PAGER));
+}
+
+L4_INLINE L4_ThreadId_t L4_ExceptionHandler(void) {
+    return L4_ThreadIdOfWord(L4_Tcr(L4_TCR_EXCEPTION_HANDLER));
+}
+
+/* The thread's exceptions become messages to this thread. */
+L4_INLINE void L4_Set_ExceptionHandler(L4_ThreadId_t NewHandler) {
+    L4_Set_Tcr(L4_TCR_EXCEPTION_HANDLER, NewHandler.raw);
+}
+
+L4_INLINE L4_Word_t L4_ErrorCode(void) {
+    return L4_Tcr(L4_TCR_ERROR_CODE);
+}
+
+/* Two words of the thread's own: n is 0 or 1. */
+L4_INLINE L4_Word_t L4_ThreadWord(L4_Word_t n) {
+    return L4_Tcr(L4_TCR_THREAD_WORD_0 + (int)n);
+}
+
+L4_INLINE void L4_Set_ThreadWord(L4_Word_t n, L4_Word_t word) {
+    L4_Set_Tcr(L4_TCR_THREAD_WORD_0 + (int)n, word);
+}
+
+L4_ABSENT("in this kernel only L4_ThreadControl changes a pager")
+void L4_Set_Pager(L4_ThreadId_t NewPager);
+L4_ABSENT("this kernel has no string items, so it has no transfer timeouts")
+L4_Word_t L4_XferTimeouts(void);
+L4_ABSENT("this kernel has no string items, so it has no transfer timeouts")
+void L4_Set_XferTimeouts(L4_Word_t NewValue);
+L4_ABSENT("this kernel has no propagation")
+L4_ThreadId_t L4_IntendedReceiver(void);
+L4_ABSENT("this kernel has no propagation: L4_Ipc returns the sender")
+L4_ThreadId_t L4_ActualSender(void);
+L4_ABSENT("this kernel has no propagation")
+void L4_Set_VirtualSender(L4_ThreadId_t t);
+L4_ABSENT("in this kernel every thread may use the coprocessor")
+void L4_Set_CopFlag(L4_Word_t n);
+L4_ABSENT("in this kernel every thread may use the coprocessor")
+void L4_Clr_CopFlag(L4_Word_t n);
+L4_ABSENT("this kernel has no preemption control")
+L4_Bool_t L4_EnablePreemptionFaultException(void);
+L4_ABSENT("this kernel has no preemption control")
+L4_Bool_t L4_DisablePreemptionFaultException(void);
+L4_ABSENT("this kernel has no preemption control")
+L4_Bool_t L4_EnablePreemption(void);
+L4_ABSENT("this kernel has no preemption control")
+L4_Bool_t L4_DisablePreemption(void);
+L4_ABSENT("this kernel has no preemption control")
+L4_Bool_t L4_PreemptionPending(void);
+
+/* SYSTEM CALLS */
+
+/* Creates the thread `dest` in the space of SpaceSpecifier, or in a new space if that is `dest`; gives it a pager and a UTCB; gives it the
+ * version of `dest`; or deletes it if SpaceSpecifier is L4_nilthread. Only threads of root's space may call this. Returns 1, or 0 with an
+ * ErrorCode. The scheduler is ignored. */
+L4_INLINE L4_Word_t L4_ThreadControl(L4_ThreadId_t dest, L4_ThreadId_t SpaceSpecifier, L4_ThreadId_t Scheduler, L4_ThreadId_t Pager, void *UtcbLocation) {
+    L4_Word_t result = dest.raw, pager = Pager.raw, scheduler = Scheduler.raw, space = SpaceSpecifier.raw, utcb = (L4_Word_t)UtcbLocation;
+    __asm__ __volatile__("call *%[entry]"
+                         : "+a"(result), "+c"(pager), "+d"(scheduler), "+S"(space), "+D"(utcb)
+                         : [entry] "b"(L4_KipEntry(L4_KIP_THREAD_CONTROL))
+                         : "memory", "cc");
+    return result;
+}
+
+#define L4_EXCHANGE_REGISTERS_REASON "this kernel has no ExchangeRegisters: a thread starts with the message of its pager (its ip, its sp)"
+L4_ABSENT(L4_EXCHANGE_REGISTERS_REASON)
+L4_ThreadId_t L4_ExchangeRegisters(L4_ThreadId_t dest, L4_Word_t control, L4_Word_t sp, L4_Word_t ip, L4_Word_t flags, L4_Word_t UserDefinedHandle,
+                                   L4_ThreadId_t pager, L4_Word_t *old_control, L4_Word_t *old_sp, L4_Word_t *old_ip, L4_Word_t *old_flags,
+                                   L4_Word_t *old_UserDefinedHandle, L4_ThreadId_t *old_pager);
+L4_ABSENT(L4_EXCHANGE_REGISTERS_REASON)
+L4_Word_t L4_UserDefinedHandleOf(L4_ThreadId_t t);
+L4_ABSENT(L4_EXCHANGE_REGISTERS_REASON)
+void L4_Set_UserDefinedHandleOf(L4_ThreadId_t t, L4_Word_t handle);
+L4_ABSENT(L4_EXCHANGE_REGISTERS_REASON)
+L4_ThreadId_t L4_PagerOf(L4_ThreadId_t t);
+L4_ABSENT("in this kernel only L4_ThreadControl changes a pager")
+void L4_Set_PagerOf(L4_ThreadId_t t, L4_ThreadId_t p);
+L4_ABSENT(L4_EXCHANGE_REGISTERS_REASON)
+void L4_Start(L4_ThreadId_t t);
+L4_ABSENT(L4_EXCHANGE_REGISTERS_REASON)
+void L4_Start_SpIp(L4_ThreadId_t t, L4_Word_t sp, L4_Word_t ip);
+L4_ABSENT(L4_EXCHANGE_REGISTERS_REASON)
+void L4_Start_SpIpFlags(L4_ThreadId_t t, L4_Word_t sp, L4_Word_t ip, L4_Word_t flags);
+L4_ABSENT(L4_EXCHANGE_REGISTERS_REASON)
+L4_ThreadId_t L4_Stop(L4_ThreadId_t t);
+L4_ABSENT(L4_EXCHANGE_REGISTERS_REASON)
+L4_ThreadId_t L4_Stop_SpIpFlags(L4_ThreadId_t t, L4_Word_t *sp, L4_Word_t *ip, L4_Word_t *flags);
+L4_ABSENT(L4_EXCHANGE_REGISTERS_REASON)
+L4_ThreadId_t L4_AbortReceive_and_stop(L4_ThreadId_t t);
+L4_ABSENT(L4_EXCHANGE_REGISTERS_REASON)
+L4_ThreadId_t L4_AbortReceive_and_stop_SpIpFlags(L4_ThreadId_t t, L4_Word_t *sp, L4_Word_t *ip, L4_Word_t *flags);
+L4_ABSENT(L4_EXCHANGE_REGISTERS_REASON)
+L4_ThreadId_t L4_AbortSend_and_stop(L4_ThreadId_t t);
+L4_ABSENT(L4_EXCHANGE_REGISTERS_REASON)
+L4_ThreadId_t L4_AbortSend_and_stop_SpIpFlags(L4_ThreadId_t t, L4_Word_t *sp, L4_Word_t *ip, L4_Word_t *flags);
+L4_ABSENT(L4_EXCHANGE_REGISTERS_REASON)
+L4_ThreadId_t L4_AbortIpc_and_stop(L4_ThreadId_t t);
+L4_ABSENT(L4_EXCHANGE_REGISTERS_REASON)
+L4_ThreadId_t L4_AbortIpc_and_stop_SpIpFlags(L4_ThreadId_t t, L4_Word_t *sp, L4_Word_t *ip, L4_Word_t *flags);
+L4_ABSENT("this kernel has no interrupts")
+L4_Word_t L4_AssociateInterrupt(L4_ThreadId_t InterruptThread, L4_ThreadId_t HandlerThread);
+L4_ABSENT("this kernel has no interrupts")
+L4_Word_t L4_DeassociateInterrupt(L4_ThreadId_t InterruptThread);
+
+L4_END_C
+
+#endif

@@ -1,0 +1,5 @@
+/* Never waits. */
+int main(void) {
+    for (;;)
+        __asm__ volatile("");
+}

@@ -1,0 +1,219 @@
+/* The bed: a kernel of libl4, the bytes of its frames, an engine, and the threads and spaces of the programs that run in it. */
+#ifndef BED_H
+#define BED_H
+
+#include "engine.h"
+#include <l4.h>
+#include <stdio.h>
+
+#define SIGMA0 1u
+#define ROOT 2u
+#define ROOT_SPACE UINT64_C(1)
+
+/* The first version of each thread id, which sigma0 and root keep. */
+#define FIRST_VERSION 1u
+#define ID(number) ((uint32_t)(number) << 14 | FIRST_VERSION)
+#define NUMBER(id) ((uint32_t)(id) >> 14)
+
+/* The UTCBs of a space lie in its UTCB area. Each has this many bytes: half of them below the UTCB's address, and half from there on. */
+#define UTCB_LOG 9
+#define UTCB_BYTES (1u << UTCB_LOG)
+#define UTCB_MIDDLE 256u
+#define MAX_UTCB_PAGES 8u
+
+/* The areas of root's space. */
+#define ROOT_KIP UINT32_C(0xbfff0000)
+#define ROOT_UTCBS UINT32_C(0xbfff8000)
+#define ROOT_UTCBS_LOG 12u
+
+/* The pages of a space as the engine has them, by two levels of tables. An entry is 0 if the page is not mapped. */
+#define LEAF_PAGES 1024u
+#define MAPPED UINT32_C(0x80000000)
+
+struct space {
+    int exists;
+    uint64_t number;
+    struct engine_space *engine_space; /* NULL until the areas are known */
+    uint32_t kip_page, utcb_page, utcb_pages;
+    uint32_t utcb_frames[MAX_UTCB_PAGES]; /* 0 if this page of the area has no frame yet */
+    uint32_t *leaves[L4_SPACE_PAGES / LEAF_PAGES];
+};
+
+/* The pages of all spaces in which a frame is mapped: what a revocation can reach from any one of them. */
+struct place {
+    struct space *space;
+    uint32_t page;
+};
+
+struct places {
+    struct place *list;
+    uint32_t count, room;
+    int is_stale; /* the kernel may have changed some of them */
+};
+
+/* The words with which a thread entered its last call, and the window in which it receives. */
+struct entered {
+    uint32_t acceptor;
+    uint32_t words[L4_MAX_WORDS];
+};
+
+/* ABSENT: the slot is free. INACTIVE: the thread has no pager yet. CALLING: the reply to its call is still to be taken. READY: its program
+ * can run. STOPPED: the bed stopped it for good. */
+enum state { ABSENT, INACTIVE, CALLING, READY, STOPPED };
+enum call_kind { CALL_START, CALL_IPC, CALL_UNMAP, CALL_FAULT, CALL_EXCEPTION };
+
+struct thread {
+    enum state state;
+    enum call_kind calling;
+    uint32_t number, id, pager;
+    struct space *space;
+    struct registers registers;
+    struct entered entered;
+    uint32_t utcb;        /* its address, or 0 */
+    uint32_t *utcb_words; /* message register 0 in the bed's memory */
+    uint32_t fault_address, fault_access;
+    uint32_t vain_answers; /* answers in a row to one fault that did not give the right */
+    char text[128];        /* the line that it has begun to print */
+    size_t text_length;
+};
+
+struct costs {
+    uint64_t calls, faults, runs, mapped, unmapped;
+};
+
+struct bed {
+    const struct engine_kind *kind;
+    struct engine *engine;
+    l4_kernel kernel;
+    l4_sigma0 sigma0;
+    struct entered sigma0_entered;
+    struct memory memory;
+    uint32_t frames; /* the kernel's frames. The bed's own follow: the kernel interface page, and pages of UTCBs */
+    uint32_t next_free_frame;
+    unsigned char is_own_frame_used[L4_MAX_THREADS];
+    struct space spaces[L4_MAX_THREADS];
+    struct thread threads[L4_MAX_THREADS];
+    struct places places[L4_MAX_FRAMES];
+    uint32_t stale[L4_MAX_FRAMES], stale_count; /* the frames whose places are stale */
+    int prints_lines, verifies;
+    uint32_t traced; /* the number of the thread whose calls are printed, or 0 */
+    FILE *script, *steps;
+    uint32_t script_gaps; /* calls that the language of scripts cannot express */
+    int rounded_rights;   /* the bed has said that the engine rounds rights up */
+    int is_over;
+    struct costs costs;
+};
+
+/* main.c */
+unsigned char *bed_frame(struct bed *bed, uint32_t frame);
+/* Allocates and frees a frame for UTCBs. */
+uint32_t bed_new_frame(struct bed *bed);
+void bed_free_frame(struct bed *bed, uint32_t frame);
+
+/* kernel.c: calls of the library, and the lines that report what they did. */
+l4_call kernel_call(uint32_t kind);
+/* Enters a call of a thread, and then lets sigma0 answer. Returns the call's refusal. */
+uint32_t kernel_enter(struct bed *bed, uint32_t thread, const l4_call *call, const uint32_t *words, size_t count);
+l4_reply kernel_reply(struct bed *bed, uint32_t thread);
+uint64_t kernel_space(struct bed *bed, uint32_t thread);
+l4_mapping kernel_mapping(struct bed *bed, uint64_t space, uint32_t page);
+void kernel_begin_sigma0(struct bed *bed);
+/* Prints a line of the kernel if lines are printed. */
+void print_line(const struct bed *bed, const char *format, ...) __attribute__((format(printf, 2, 3)));
+const char *rights_text(uint32_t rights);
+
+/* record.c: the run as a script for `l4`, and as a list for `l4_steps`. */
+void record_begin(struct bed *bed);
+void record_call(struct bed *bed, uint32_t thread, const l4_call *call, const uint32_t *words, size_t count);
+void record_step(struct bed *bed, const l4_step *step);
+void record_end(struct bed *bed);
+
+/* trace.c: the calls of one thread by name. */
+void trace_call(const struct bed *bed, uint32_t thread, const l4_call *call, const uint32_t *words);
+void trace_refusal(const struct bed *bed, uint32_t thread, uint32_t refusal);
+void trace_reply(const struct bed *bed, uint32_t thread, const l4_reply *reply);
+
+/* kip.c */
+#define KIP_STUBS 0x800u
+#define KIP_STUB_LOG 4
+#define KIP_CURRENT_UTCB 0xffcu
+enum system_call {
+    SYSTEM_IPC,
+    SYSTEM_LIPC,
+    SYSTEM_UNMAP,
+    SYSTEM_EXCHANGE_REGISTERS,
+    SYSTEM_CLOCK,
+    SYSTEM_THREAD_SWITCH,
+    SYSTEM_SCHEDULE,
+    SYSTEM_SPACE_CONTROL,
+    SYSTEM_THREAD_CONTROL,
+    SYSTEM_PROCESSOR_CONTROL,
+    SYSTEM_MEMORY_CONTROL,
+    SYSTEM_KDB,
+    SYSTEM_CALLS
+};
+#define KIP_API_VERSION UINT32_C(0x84070000)
+#define KIP_API_FLAGS 0u
+#define KIP_KERNEL_ID UINT32_C(0xfe000000)
+void kip_write(struct bed *bed);
+void kip_set_boot_info(struct bed *bed, uint32_t address);
+
+/* space.c */
+struct space *space_new(struct bed *bed, uint64_t number);
+void space_free(struct bed *bed, struct space *space);
+/* Maps the areas in the engine. The kernel's own mappings of these pages stay invisible. */
+void space_set_areas(struct bed *bed, struct space *space, uint32_t kip, uint32_t utcbs, uint32_t utcbs_log);
+int space_has_utcb(const struct space *space, uint32_t address);
+/* Returns message register 0 of the UTCB at this address. */
+uint32_t *space_utcb(struct bed *bed, struct space *space, uint32_t address);
+/* Returns the byte at an address, or NULL if the space may not read it. */
+const unsigned char *space_byte(struct bed *bed, struct space *space, uint32_t address);
+
+/* changes.c: keeps the engine's pages equal to the kernel's. Call a change_ function for each step that may move or revoke pages, and then
+ * change_apply. */
+void change_transfer(struct bed *bed, uint32_t sender, uint32_t receiver);
+void change_unmap(struct bed *bed, uint32_t thread, uint32_t control, const uint32_t *words);
+/* Forgets the pages of a space that no longer exists. */
+void change_lose_space(struct bed *bed, struct space *space);
+void change_apply(struct bed *bed);
+/* Ends the bed unless every page of every space is as the kernel has it. */
+void change_verify(struct bed *bed);
+
+/* thread.c */
+struct thread *thread_find(struct bed *bed, uint32_t id);
+struct thread *thread_numbered(struct bed *bed, uint32_t number);
+struct thread *thread_new(struct bed *bed, uint32_t id, struct space *space);
+void thread_free(struct bed *bed, struct thread *thread);
+void thread_set_id(struct thread *thread, uint32_t id);
+void thread_set_utcb(struct bed *bed, struct thread *thread, uint32_t address);
+/* Lets the thread wait for the message of its pager that says where it begins. */
+void thread_activate(struct bed *bed, struct thread *thread, uint32_t pager);
+void thread_set_ready(struct thread *thread, uint32_t eip, uint32_t esp);
+/* Runs the thread until it waits, is stopped, or its turn ends. Returns 0 if it could not run at all. */
+int thread_turn(struct bed *bed, struct thread *thread);
+uint32_t thread_enter(struct bed *bed, struct thread *thread, enum call_kind kind, const l4_call *call, const uint32_t *words, size_t count);
+void thread_fault(struct bed *bed, struct thread *thread, uint32_t address, uint32_t access);
+/* Ends the call in which the thread waits with the ErrorCode of a canceled Ipc. */
+void thread_cancel(struct bed *bed, struct thread *thread);
+
+/* Words of a UTCB, counted from message register 0. */
+enum { TCR_ERROR_CODE = -9, TCR_EXCEPTION_HANDLER = -11, TCR_PAGER = -12, TCR_MY_GLOBAL_ID = -15, TCR_BUFFER_0 = -16 };
+
+/* The tag of a failed Ipc. */
+#define FAILED_TAG UINT32_C(0x8000)
+
+/* calls.c: executes the system call whose stub the thread called. Returns 0 if the thread's turn ends. */
+int call_take(struct bed *bed, struct thread *thread, enum system_call call);
+
+/* elf.c */
+/* Loads root into the frames of its addresses, and returns its entry. */
+uint32_t elf_load_root(struct bed *bed, const char *name);
+/* Loads the other programs into the frames behind root, and describes them in the boot info. */
+void elf_load_others(struct bed *bed, char **names, int count);
+
+/* probe.c: prints which engines work on this machine, and why others do not. */
+void probe_engines(void);
+/* Returns the engine with this name, or ends the bed. NULL means the first engine that was built. */
+const struct engine_kind *engine_named(const char *name);
+
+#endif

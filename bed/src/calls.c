@@ -1,0 +1,313 @@
+#include "bed.h"
+#include "check.h"
+#include <string.h>
+#include <time.h>
+
+#define STUB_TRAP_BYTES 2
+#define NO_CHANGE UINT32_C(0xffffffff)
+#define LAST_NUMBER UINT32_C(262143)
+
+/* ErrorCodes of ThreadControl and SpaceControl. */
+enum { NO_PRIVILEGE = 1, INVALID_THREAD = 2, INVALID_SPACE = 3, INVALID_UTCB_AREA = 6, INVALID_KIP_AREA = 7, OUT_OF_MEMORY = 8 };
+
+/* If the kernel refuses the message of an Ipc, the program gets the ErrorCode of a message that is too long, in the send phase. */
+#define REFUSED_MESSAGE 8u
+
+static void print_refused(struct bed *bed, struct thread *thread, uint32_t refusal) {
+    char code[10], text[160];
+    l4_refusal_code(refusal, code, sizeof code);
+    l4_refusal_text(refusal, text, sizeof text);
+    print_line(bed, "%u refused %s: %s", thread->number, code, text);
+}
+
+static void take_ipc(struct bed *bed, struct thread *thread) {
+    struct registers *registers = &thread->registers;
+    l4_call call = kernel_call(L4_IPC);
+    uint32_t words[L4_MAX_WORDS], refusal;
+    memcpy(words, thread->utcb_words, sizeof words);
+    words[0] = registers->esi;
+    call.to = registers->eax;
+    call.from = registers->edx;
+    call.timeouts = registers->ecx;
+    call.acceptor = thread->utcb_words[TCR_BUFFER_0];
+    print_line(bed, "%u calls ipc %08x %08x %08x %08x", thread->number, call.to, call.from, call.timeouts, call.acceptor);
+    refusal = thread_enter(bed, thread, CALL_IPC, &call, words, L4_MAX_WORDS);
+    if (refusal == L4_OK)
+        return;
+    print_refused(bed, thread, refusal);
+    thread->utcb_words[TCR_ERROR_CODE] = REFUSED_MESSAGE;
+    registers->esi = FAILED_TAG;
+    registers->eax = L4_NILTHREAD;
+    registers->ebx = thread->utcb_words[1];
+    registers->ebp = thread->utcb_words[2];
+}
+
+static void take_unmap(struct bed *bed, struct thread *thread) {
+    l4_call call = kernel_call(L4_UNMAP);
+    uint32_t words[L4_MAX_WORDS], refusal;
+    memcpy(words, thread->utcb_words, sizeof words);
+    words[0] = thread->registers.esi;
+    call.control = thread->registers.eax;
+    print_line(bed, "%u calls unmap %08x", thread->number, call.control);
+    refusal = thread_enter(bed, thread, CALL_UNMAP, &call, words, L4_MAX_WORDS);
+    if (refusal != L4_OK)
+        print_refused(bed, thread, refusal);
+}
+
+static void end_control(struct thread *thread, uint32_t error) {
+    thread->registers.eax = error == 0;
+    thread->utcb_words[TCR_ERROR_CODE] = error;
+}
+
+static uint32_t control_error(uint32_t refusal) {
+    switch (refusal) {
+    case L4_OK: return 0;
+    case L4_H1: return NO_PRIVILEGE;
+    case L4_H5:
+    case L4_NO_MEMORY: return OUT_OF_MEMORY;
+    default: return INVALID_THREAD;
+    }
+}
+
+static uint32_t enter_control(struct bed *bed, struct thread *thread, uint32_t kind, uint32_t id, uint32_t space, uint32_t pager) {
+    l4_call call = kernel_call(kind);
+    uint32_t none = 0, refusal;
+    call.id = id;
+    call.space = space;
+    call.pager = pager;
+    trace_call(bed, thread->number, &call, &none);
+    refusal = kernel_enter(bed, thread->number, &call, &none, 0);
+    if (refusal != L4_OK)
+        print_refused(bed, thread, refusal);
+    return control_error(refusal);
+}
+
+static uint32_t delete_thread(struct bed *bed, struct thread *caller, uint32_t id) {
+    struct thread *gone = thread_find(bed, id);
+    uint32_t error = enter_control(bed, caller, L4_DELETE, id, 0, 0);
+    if (error == 0 && gone != NULL)
+        thread_free(bed, gone);
+    return error;
+}
+
+static uint32_t create_thread(struct bed *bed, struct thread *caller, uint32_t id, uint32_t specifier, uint32_t pager, uint32_t utcb) {
+    struct thread *mate = thread_find(bed, specifier), *created;
+    struct space *space = specifier == id || mate == NULL ? NULL : mate->space;
+    uint32_t error;
+    if (specifier != id && mate == NULL)
+        return INVALID_SPACE;
+    if (pager != L4_NILTHREAD && (space == NULL || !space_has_utcb(space, utcb)))
+        return INVALID_UTCB_AREA;
+    error = enter_control(bed, caller, L4_CREATE, id, specifier, pager);
+    if (error != 0)
+        return error;
+    if (specifier == id)
+        space = space_new(bed, kernel_space(bed, NUMBER(id)));
+    created = thread_new(bed, id, space);
+    if (space_has_utcb(space, utcb))
+        thread_set_utcb(bed, created, utcb);
+    if (pager != L4_NILTHREAD)
+        thread_activate(bed, created, pager);
+    return 0;
+}
+
+static uint32_t change_thread(struct bed *bed, struct thread *caller, struct thread *changed, uint32_t specifier, uint32_t pager, uint32_t utcb) {
+    struct thread *mate = specifier == changed->id ? changed : thread_find(bed, specifier);
+    int is_new_utcb = utcb != NO_CHANGE && utcb != changed->utcb;
+    uint32_t error = 0;
+    if (mate == NULL || mate->space != changed->space)
+        return INVALID_SPACE;
+    if (is_new_utcb && (changed->state != INACTIVE || !space_has_utcb(changed->space, utcb)))
+        return INVALID_UTCB_AREA;
+    if (pager != L4_NILTHREAD && changed->utcb == 0 && !is_new_utcb)
+        return INVALID_UTCB_AREA;
+    if (pager != L4_NILTHREAD)
+        error = enter_control(bed, caller, L4_SET_PAGER, changed->id, 0, pager);
+    if (error != 0)
+        return error;
+    if (is_new_utcb)
+        thread_set_utcb(bed, changed, utcb);
+    if (pager == L4_NILTHREAD)
+        return 0;
+    changed->pager = pager;
+    changed->utcb_words[TCR_PAGER] = pager;
+    if (changed->state == INACTIVE)
+        thread_activate(bed, changed, pager);
+    return 0;
+}
+
+static uint32_t unused_number(struct bed *bed) {
+    uint32_t number = LAST_NUMBER;
+    while (thread_numbered(bed, number) != NULL)
+        number--;
+    return number;
+}
+
+/* The kernel cannot change the version of an id, so the thread is deleted and created again. A placeholder keeps its space alive. */
+static uint32_t recreate(struct bed *bed, struct thread *caller, const struct thread *changed, uint32_t id) {
+    uint32_t placeholder = ID(unused_number(bed)), error;
+    error = enter_control(bed, caller, L4_CREATE, placeholder, changed->id, L4_NILTHREAD);
+    if (error != 0)
+        return error;
+    error = enter_control(bed, caller, L4_DELETE, changed->id, 0, 0);
+    if (error == 0)
+        error = enter_control(bed, caller, L4_CREATE, id, placeholder, changed->pager);
+    if (enter_control(bed, caller, L4_DELETE, placeholder, 0, 0) != 0)
+        return INVALID_THREAD;
+    return error;
+}
+
+/* By the manual a new version cancels the thread's Ipc, and leaves its registers and its space as they are. */
+static uint32_t change_version(struct bed *bed, struct thread *caller, struct thread *changed, uint32_t id) {
+    uint32_t error;
+    if (changed == caller || changed->number == ROOT)
+        return INVALID_THREAD;
+    error = recreate(bed, caller, changed, id);
+    if (error != 0)
+        return error;
+    thread_set_id(changed, id);
+    thread_cancel(bed, changed);
+    return 0;
+}
+
+static uint32_t control_thread(struct bed *bed, struct thread *thread) {
+    const struct registers *registers = &thread->registers;
+    uint32_t id = registers->eax, pager = registers->ecx, specifier = registers->esi, utcb = registers->edi;
+    struct thread *target = thread_numbered(bed, NUMBER(id));
+    uint32_t error;
+    if (specifier == L4_NILTHREAD)
+        return delete_thread(bed, thread, target == NULL ? id : target->id);
+    if (target == NULL)
+        return create_thread(bed, thread, id, specifier, pager, utcb);
+    if (target->id != id) {
+        if (specifier == target->id) /* the thread's own space, by its old id */
+            specifier = id;
+        error = change_version(bed, thread, target, id);
+        if (error != 0)
+            return error;
+    }
+    return change_thread(bed, thread, target, specifier, pager, utcb);
+}
+
+static void take_thread_control(struct bed *bed, struct thread *thread) {
+    const struct registers *registers = &thread->registers;
+    print_line(bed, "%u calls thread control %08x %08x %08x", thread->number, registers->eax, registers->esi, registers->ecx);
+    end_control(thread, control_thread(bed, thread));
+}
+
+static int is_area(uint32_t fpage, uint32_t least, uint32_t most) {
+    uint32_t log = fpage >> 4 & 0x3f;
+    return log >= least && log <= most && (fpage & ((1u << log) - 1) & ~UINT32_C(0x3ff)) == 0;
+}
+
+static uint32_t set_areas(struct bed *bed, struct thread *caller, uint32_t specifier, uint32_t kip, uint32_t utcbs) {
+    struct thread *mate = thread_find(bed, specifier);
+    uint32_t utcbs_log = utcbs >> 4 & 0x3f, kip_base = kip & ~UINT32_C(0x3ff), base = utcbs & ~UINT32_C(0x3ff);
+    if (caller->space->number != ROOT_SPACE)
+        return NO_PRIVILEGE;
+    if (mate == NULL)
+        return INVALID_SPACE;
+    if (mate->space->engine_space != NULL)
+        return 0;
+    if (!is_area(kip, 12, 12))
+        return INVALID_KIP_AREA;
+    if (!is_area(utcbs, 12, 15) || kip_base - base < 1u << utcbs_log)
+        return INVALID_UTCB_AREA;
+    space_set_areas(bed, mate->space, kip_base, base, utcbs_log);
+    return 0;
+}
+
+static void take_space_control(struct bed *bed, struct thread *thread) {
+    struct registers *registers = &thread->registers;
+    print_line(bed, "%u calls space control %08x %08x %08x", thread->number, registers->eax, registers->edx, registers->esi);
+    end_control(thread, set_areas(bed, thread, registers->eax, registers->edx, registers->esi));
+    registers->ecx = 0;
+}
+
+static void take_clock(struct thread *thread) {
+    struct timespec now;
+    uint64_t microseconds;
+    check_system(clock_gettime(CLOCK_MONOTONIC, &now), "clock_gettime");
+    microseconds = (uint64_t)now.tv_sec * 1000000 + (uint64_t)now.tv_nsec / 1000;
+    thread->registers.eax = (uint32_t)microseconds;
+    thread->registers.edx = (uint32_t)(microseconds >> 32);
+}
+
+static void print_char(struct thread *thread, unsigned char byte) {
+    if (byte != '\n')
+        thread->text[thread->text_length++] = (char)byte;
+    if (byte != '\n' && thread->text_length < sizeof thread->text - 1)
+        return;
+    thread->text[thread->text_length] = 0;
+    printf("%u | %s\n", thread->number, thread->text);
+    thread->text_length = 0;
+}
+
+/* Copies a text of the program. Returns 0 if the thread faults on it first; it then makes the call again. */
+static int copy_text(struct bed *bed, struct thread *thread, char *text, size_t room) {
+    uint32_t address = thread->registers.ecx;
+    size_t k;
+    for (k = 0; k + 1 < room; k++) {
+        const unsigned char *byte = space_byte(bed, thread->space, address + (uint32_t)k);
+        if (byte == NULL) {
+            thread_fault(bed, thread, address + (uint32_t)k, L4_READ);
+            return 0;
+        }
+        text[k] = (char)*byte;
+        if (*byte == 0)
+            return 1;
+    }
+    text[k] = 0;
+    return 1;
+}
+
+enum { KDB_CHAR, KDB_STRING, KDB_ENTER };
+
+static void end_run(struct bed *bed, struct thread *thread, const char *text) {
+    if (thread->text_length > 0)
+        print_char(thread, '\n');
+    printf("%u ends the run: %s\n", thread->number, text);
+    bed->is_over = 1;
+}
+
+/* Returns 0 if the thread makes the call again. */
+static int take_kdb(struct bed *bed, struct thread *thread) {
+    char text[1024];
+    const char *next;
+    if (thread->registers.eax == KDB_CHAR) {
+        print_char(thread, (unsigned char)thread->registers.ecx);
+        return 1;
+    }
+    if (!copy_text(bed, thread, text, sizeof text))
+        return 0;
+    if (thread->registers.eax == KDB_ENTER)
+        end_run(bed, thread, text);
+    else
+        for (next = text; *next != 0; next++)
+            print_char(thread, (unsigned char)*next);
+    return 1;
+}
+
+static void take_other(struct bed *bed, struct thread *thread, enum system_call call) {
+    print_line(bed, "%u calls system call %u, which this kernel does not have", thread->number, (unsigned)call);
+    end_control(thread, NO_PRIVILEGE);
+}
+
+int call_take(struct bed *bed, struct thread *thread, enum system_call call) {
+    if (call == SYSTEM_KDB) {
+        if (take_kdb(bed, thread))
+            thread->registers.eip += STUB_TRAP_BYTES;
+        return 1;
+    }
+    thread->registers.eip += STUB_TRAP_BYTES;
+    switch (call) {
+    case SYSTEM_IPC:
+    case SYSTEM_LIPC: take_ipc(bed, thread); return 1;
+    case SYSTEM_UNMAP: take_unmap(bed, thread); return 1;
+    case SYSTEM_THREAD_CONTROL: take_thread_control(bed, thread); return 1;
+    case SYSTEM_SPACE_CONTROL: take_space_control(bed, thread); return 1;
+    case SYSTEM_CLOCK: take_clock(thread); return 1;
+    case SYSTEM_THREAD_SWITCH: return 0;
+    default: take_other(bed, thread, call); return 1;
+    }
+}

@@ -1,0 +1,26 @@
+/* Ends the bed with a message on standard error and an exit status if something fails that must succeed. */
+#ifndef CHECK_H
+#define CHECK_H
+
+#include <stdint.h>
+
+/* Exit statuses: the last program waits or was stopped; the command line or a program's file is invalid; output cannot be written; the
+ * engine or the host cannot do what the bed needs. */
+enum { STATUS_ENDED = 0, STATUS_STUCK = 1, STATUS_INPUT = 2, STATUS_OUTPUT = 3, STATUS_HOST = 4 };
+
+/* Ends the bed with this status and message. */
+_Noreturn void fail(int status, const char *format, ...) __attribute__((format(printf, 2, 3)));
+
+/* Ends the bed with STATUS_HOST if the library refuses a call that must succeed. */
+void check_library(uint32_t refusal, const char *what);
+
+/* Ends the bed with STATUS_HOST unless the condition holds. */
+void check_holds(int holds, const char *what);
+
+/* Ends the bed with STATUS_HOST, and the meaning of errno, if a system call returned a number below 0. */
+void check_system(long result, const char *what);
+
+/* Writes out what was printed so far; ends the bed with STATUS_OUTPUT if that fails. */
+void check_output(void);
+
+#endif

@@ -1,0 +1,159 @@
+#include "bed.h"
+#include "check.h"
+#include <stdarg.h>
+#include <string.h>
+
+#define MAX_STEPS 64
+/* The longest line of the library has 656 bytes. */
+#define MAX_LINE 657
+
+static const uint32_t no_words[1] = {0};
+
+void print_line(const struct bed *bed, const char *format, ...) {
+    va_list arguments;
+    if (!bed->prints_lines)
+        return;
+    va_start(arguments, format);
+    vprintf(format, arguments);
+    va_end(arguments);
+    putchar('\n');
+}
+
+const char *rights_text(uint32_t rights) {
+    static const char *const texts[8] = {"---", "--x", "-w-", "-wx", "r--", "r-x", "rw-", "rwx"};
+    return texts[rights & 7];
+}
+
+l4_call kernel_call(uint32_t kind) {
+    l4_call call;
+    memset(&call, 0, sizeof call);
+    call.kind = kind;
+    return call;
+}
+
+l4_reply kernel_reply(struct bed *bed, uint32_t thread) {
+    l4_reply reply = l4_reply_of(&bed->kernel, thread);
+    check_library(reply.refusal, "l4_reply_of");
+    return reply;
+}
+
+uint64_t kernel_space(struct bed *bed, uint32_t thread) {
+    l4_space space = l4_space_of(&bed->kernel, thread);
+    check_library(space.refusal, "l4_space_of");
+    check_holds(space.there == 1, "a thread of the bed does not exist in the kernel");
+    return space.space;
+}
+
+l4_mapping kernel_mapping(struct bed *bed, uint64_t space, uint32_t page) {
+    l4_mapping mapping = l4_mapping_of(&bed->kernel, space, page);
+    check_library(mapping.refusal, "l4_mapping_of");
+    return mapping;
+}
+
+/* The library prints replies and steps as `l4 run` does. */
+static void print_reply(uint32_t thread, const l4_reply *reply) {
+    char text[MAX_LINE];
+    l4_reply_text(thread, reply, text, sizeof text);
+    puts(text);
+}
+
+static void print_step(const l4_step *step) {
+    char text[MAX_LINE];
+    l4_step_text(step, text, sizeof text);
+    puts(text);
+}
+
+static void take_ended(struct bed *bed, const uint32_t *ended, uint32_t count) {
+    uint32_t k;
+    if (!bed->prints_lines && bed->traced == 0)
+        return;
+    for (k = 0; k < count; k++) {
+        l4_reply reply = kernel_reply(bed, ended[k]);
+        if (reply.kind == L4_NONE) /* a thread that no longer exists has no reply */
+            reply.kind = L4_REPLY_GONE;
+        if (bed->prints_lines)
+            print_reply(ended[k], &reply);
+        trace_reply(bed, ended[k], &reply);
+    }
+}
+
+static void take_step(struct bed *bed, const l4_step *step) {
+    check_library(step->refusal, "a step of the kernel");
+    record_step(bed, step);
+    if (bed->prints_lines)
+        print_step(step);
+    take_ended(bed, step->ended, step->ended_count);
+    if (step->kind == L4_TRANSFER && step->outcome == L4_DELIVERED)
+        change_transfer(bed, step->thread, step->receiver);
+}
+
+static struct entered *entered_of(struct bed *bed, uint32_t thread) {
+    struct thread *found = thread_numbered(bed, thread);
+    return found == NULL ? &bed->sigma0_entered : &found->entered;
+}
+
+/* The words of this call are needed when its message is delivered, which a call of another thread may cause. */
+static void keep_entered(struct bed *bed, uint32_t thread, const l4_call *call, const uint32_t *words, size_t count) {
+    struct entered *entered = entered_of(bed, thread);
+    entered->acceptor = call->kind == L4_FAULT ? 0x10u : call->acceptor;
+    memset(entered->words, 0, sizeof entered->words);
+    memcpy(entered->words, words, (count < L4_MAX_WORDS ? count : L4_MAX_WORDS) * sizeof *words);
+}
+
+static uint32_t enter(struct bed *bed, uint32_t thread, const l4_call *call, const uint32_t *words, size_t count) {
+    l4_step steps[MAX_STEPS];
+    l4_entered entered = l4_enter(&bed->kernel, thread, call, words, count, steps, MAX_STEPS);
+    uint32_t k;
+    if (entered.start.refusal != L4_OK)
+        return entered.start.refusal;
+    bed->costs.calls++;
+    keep_entered(bed, thread, call, words, count);
+    record_call(bed, thread, call, words, count);
+    take_ended(bed, entered.start.ended, entered.start.ended_count);
+    if (call->kind == L4_UNMAP)
+        change_unmap(bed, thread, call->control, words);
+    for (k = 0; k < entered.step_count; k++)
+        take_step(bed, &steps[k]);
+    change_apply(bed);
+    return L4_OK;
+}
+
+void kernel_begin_sigma0(struct bed *bed) {
+    l4_call call = kernel_call(L4_IPC);
+    call.from = L4_ANYTHREAD;
+    check_library(enter(bed, SIGMA0, &call, no_words, 0), "the first receive of sigma0");
+}
+
+static l4_message answer_of_sigma0(struct bed *bed, const l4_reply *reply) {
+    uint32_t words[L4_MAX_WORDS];
+    l4_message message;
+    words[0] = reply->tag;
+    memcpy(words + 1, reply->words, reply->word_count * sizeof *words);
+    message = l4_sigma0_answer(&bed->sigma0, kernel_space(bed, NUMBER(reply->from)), words, 1 + reply->word_count);
+    check_library(message.refusal, "l4_sigma0_answer");
+    return message;
+}
+
+/* sigma0 answers each message that it has received, and receives again. */
+static void serve(struct bed *bed) {
+    l4_reply reply = kernel_reply(bed, SIGMA0);
+    while (reply.kind == L4_REPLY_IPC) {
+        l4_call call = kernel_call(L4_IPC);
+        call.from = L4_ANYTHREAD;
+        if (reply.from == L4_NILTHREAD) { /* its last answer could not be delivered */
+            check_library(enter(bed, SIGMA0, &call, no_words, 0), "a receive of sigma0");
+        } else {
+            l4_message message = answer_of_sigma0(bed, &reply);
+            call.to = reply.from;
+            call.timeouts = L4_ZERO_TIMEOUT << 16;
+            check_library(enter(bed, SIGMA0, &call, message.words, message.word_count), "an answer of sigma0");
+        }
+        reply = kernel_reply(bed, SIGMA0);
+    }
+}
+
+uint32_t kernel_enter(struct bed *bed, uint32_t thread, const l4_call *call, const uint32_t *words, size_t count) {
+    uint32_t refusal = enter(bed, thread, call, words, count);
+    serve(bed);
+    return refusal;
+}

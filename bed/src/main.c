@@ -1,0 +1,250 @@
+/* l4_bed: runs programs of the L4 X.2 interface over the proved kernel of libl4. */
+#define _GNU_SOURCE
+#include "bed.h"
+#include "check.h"
+#include <errno.h>
+#include <getopt.h>
+#include <stdlib.h>
+#include <string.h>
+#include <sys/mman.h>
+#include <time.h>
+#include <unistd.h>
+
+#define DEFAULT_FRAMES 1024u
+/* The bed's own frames: the kernel interface page, and one page of UTCBs for each thread at most. */
+#define OWN_FRAMES (1u + L4_MAX_THREADS)
+
+unsigned char *bed_frame(struct bed *bed, uint32_t frame) {
+    check_holds(frame < bed->memory.frames, "a frame is not in the memory");
+    return bed->memory.bytes + (size_t)frame * PAGE_BYTES;
+}
+
+uint32_t bed_new_frame(struct bed *bed) {
+    uint32_t place = 0;
+    while (place < L4_MAX_THREADS && bed->is_own_frame_used[place])
+        place++;
+    check_holds(place < L4_MAX_THREADS, "no page for UTCBs is left");
+    bed->is_own_frame_used[place] = 1;
+    return bed->frames + 1 + place;
+}
+
+void bed_free_frame(struct bed *bed, uint32_t frame) {
+    bed->is_own_frame_used[frame - bed->frames - 1] = 0;
+}
+
+static void make_memory(struct memory *memory, uint32_t frames) {
+    size_t length = (size_t)frames * PAGE_BYTES;
+    memory->frames = frames;
+    memory->file = memfd_create("l4_bed", MFD_CLOEXEC);
+    check_system(memory->file, "memfd_create");
+    check_system(ftruncate(memory->file, (off_t)length), "ftruncate of the frames");
+    memory->bytes = mmap(NULL, length, PROT_READ | PROT_WRITE, MAP_SHARED, memory->file, 0);
+    check_holds(memory->bytes != MAP_FAILED, "there is not enough memory for the frames");
+}
+
+/* The kernel boots before the engine opens, so that programs are loaded and checked without an engine. */
+static void make_kernel(struct bed *bed, uint32_t frames) {
+    bed->kernel = (l4_kernel)L4_EMPTY;
+    bed->sigma0 = (l4_sigma0)L4_EMPTY;
+    check_library(l4_boot(&bed->kernel, frames), "l4_boot");
+    check_library(l4_sigma0_new(&bed->sigma0, frames), "l4_sigma0_new");
+    bed->frames = frames;
+    make_memory(&bed->memory, frames + OWN_FRAMES);
+    kip_write(bed);
+}
+
+static void free_bed(struct bed *bed) {
+    size_t k;
+    for (k = 0; k < L4_MAX_THREADS; k++) {
+        if (bed->threads[k].state != ABSENT)
+            bed->threads[k].state = STOPPED;
+        if (bed->spaces[k].exists)
+            space_free(bed, &bed->spaces[k]);
+    }
+    for (k = 0; k < L4_MAX_FRAMES; k++)
+        free(bed->places[k].list);
+    bed->kind->close(bed->engine);
+    munmap(bed->memory.bytes, (size_t)bed->memory.frames * PAGE_BYTES);
+    close(bed->memory.file);
+    l4_sigma0_free(&bed->sigma0);
+    l4_free(&bed->kernel);
+}
+
+static void begin_root(struct bed *bed, uint32_t entry) {
+    struct space *space = space_new(bed, ROOT_SPACE);
+    struct thread *root = thread_new(bed, ID(ROOT), space);
+    l4_call call = kernel_call(L4_SET_PAGER);
+    uint32_t none = 0;
+    call.id = ID(ROOT);
+    call.pager = ID(SIGMA0);
+    check_library(kernel_enter(bed, ROOT, &call, &none, 0), "the call that makes sigma0 the pager of root");
+    space_set_areas(bed, space, ROOT_KIP, ROOT_UTCBS, ROOT_UTCBS_LOG);
+    thread_set_utcb(bed, root, ROOT_UTCBS + UTCB_MIDDLE);
+    root->pager = call.pager;
+    root->utcb_words[TCR_PAGER] = call.pager;
+    thread_set_ready(root, entry, 0);
+}
+
+static const char *waiting_text(const struct thread *thread) {
+    switch (thread->calling) {
+    case CALL_START: return "for the message of its pager that starts it";
+    case CALL_FAULT: return "for its pager's answer to a page fault";
+    case CALL_EXCEPTION: return "for its exception handler's answer";
+    default: return "in an Ipc";
+    }
+}
+
+/* Says why the run ended though no program ended it. */
+static void print_rest(const struct bed *bed) {
+    size_t k;
+    printf("no thread can continue\n");
+    for (k = 0; k < L4_MAX_THREADS; k++) {
+        const struct thread *thread = &bed->threads[k];
+        if (thread->state == CALLING)
+            printf("%u waits %s\n", thread->number, waiting_text(thread));
+        else if (thread->state == INACTIVE)
+            printf("%u has no pager yet\n", thread->number);
+    }
+}
+
+static void run_threads(struct bed *bed) {
+    int has_run = 1;
+    size_t k;
+    while (has_run && !bed->is_over) {
+        has_run = 0;
+        for (k = 0; k < L4_MAX_THREADS && !bed->is_over; k++) {
+            if (bed->threads[k].state != ABSENT)
+                has_run |= thread_turn(bed, &bed->threads[k]);
+        }
+    }
+    if (!bed->is_over)
+        print_rest(bed);
+}
+
+static double now(void) {
+    struct timespec time;
+    check_system(clock_gettime(CLOCK_MONOTONIC, &time), "clock_gettime");
+    return (double)time.tv_sec + (double)time.tv_nsec * 1e-9;
+}
+
+static void print_costs(const struct bed *bed, double seconds) {
+    const struct costs *costs = &bed->costs;
+    fprintf(stderr, "engine %s: %.3f s, %llu runs, %llu kernel calls, %llu page faults, %llu pages mapped, %llu unmapped\n", bed->kind->name, seconds,
+            (unsigned long long)costs->runs, (unsigned long long)costs->calls, (unsigned long long)costs->faults,
+            (unsigned long long)costs->mapped, (unsigned long long)costs->unmapped);
+}
+
+static const char usage[] =
+    "usage: l4_bed [OPTION..] ROOT [PROGRAM..]\n"
+    "       l4_bed --engines | --help | --version\n"
+    "\n"
+    "Runs static 32-bit x86 programs, written to the L4 X.2 interface, over the kernel of libl4. ROOT is the root task; it finds the other\n"
+    "programs in the boot info.\n"
+    "\n"
+    "  --engine NAME    execute instructions with unicorn, ptrace or kvm\n"
+    "  --engines        print which engines work on this machine, and exit\n"
+    "  --frames N       boot with N page frames, 1 to 4096 (default 1024)\n"
+    "  --lines          print what each thread asks of the kernel, and the kernel's answers\n"
+    "  --trace THREAD   print the calls of this thread by name, with decoded messages\n"
+    "  --script FILE    write the run as a script for l4 run, l4 why and l4 history\n"
+    "  --steps FILE     write the run as a step list for l4_steps\n"
+    "  --costs          print the time and the counts of calls, faults and pages on standard error\n"
+    "  --verify         compare every page of every space with the kernel after each call\n"
+    "\n"
+    "Exit status: 0 if a program ended the run, 1 if no thread could continue, 2 if the command line or a program file is invalid, 3 if output\n"
+    "cannot be written, 4 if the engine or the host cannot do what the bed needs.\n";
+
+struct options {
+    const char *engine, *script, *steps;
+    uint32_t frames, traced;
+    int prints_lines, prints_costs, verifies;
+};
+
+enum { ENGINE = 1, ENGINES, FRAMES, LINES, TRACE, SCRIPT, STEPS, COSTS, VERIFY, HELP, VERSION };
+
+static const struct option long_options[] = {{"engine", required_argument, NULL, ENGINE}, {"engines", no_argument, NULL, ENGINES},
+                                             {"frames", required_argument, NULL, FRAMES}, {"lines", no_argument, NULL, LINES},
+                                             {"trace", required_argument, NULL, TRACE},   {"script", required_argument, NULL, SCRIPT},
+                                             {"steps", required_argument, NULL, STEPS},   {"costs", no_argument, NULL, COSTS},
+                                             {"verify", no_argument, NULL, VERIFY},       {"help", no_argument, NULL, HELP},
+                                             {"version", no_argument, NULL, VERSION},     {NULL, 0, NULL, 0}};
+
+static uint32_t read_number(const char *option, const char *text, uint32_t most) {
+    char *end;
+    unsigned long number;
+    errno = 0;
+    number = strtoul(text, &end, 10);
+    if (text[0] < '0' || text[0] > '9' || *end != 0 || errno != 0 || number == 0 || number > most)
+        fail(STATUS_INPUT, "%s: %s is not in 1..=%u", option, text, most);
+    return (uint32_t)number;
+}
+
+static _Noreturn void print_and_end(const char *text) {
+    fputs(text, stdout);
+    check_output();
+    exit(STATUS_ENDED);
+}
+
+static void read_option(struct options *options, int option) {
+    switch (option) {
+    case ENGINE: options->engine = optarg; break;
+    case ENGINES: probe_engines(); check_output(); exit(STATUS_ENDED);
+    case FRAMES: options->frames = read_number("--frames", optarg, L4_MAX_FRAMES); break;
+    case LINES: options->prints_lines = 1; break;
+    case TRACE: options->traced = read_number("--trace", optarg, 262143); break;
+    case SCRIPT: options->script = optarg; break;
+    case STEPS: options->steps = optarg; break;
+    case COSTS: options->prints_costs = 1; break;
+    case VERIFY: options->verifies = 1; break;
+    case HELP: print_and_end(usage);
+    case VERSION: print_and_end("l4_bed " BED_VERSION "\n");
+    default: fputs(usage, stderr); exit(STATUS_INPUT);
+    }
+}
+
+static FILE *open_output(const char *option, const char *name) {
+    FILE *file = name == NULL ? NULL : fopen(name, "w");
+    if (name != NULL && file == NULL)
+        fail(STATUS_OUTPUT, "%s: %s: %s", option, name, strerror(errno));
+    return file;
+}
+
+static uint32_t begin(struct bed *bed, const struct options *options, int count, char **programs) {
+    uint32_t entry;
+    bed->kind = engine_named(options->engine);
+    bed->prints_lines = options->prints_lines;
+    bed->traced = options->traced;
+    bed->verifies = options->verifies;
+    make_kernel(bed, options->frames);
+    entry = elf_load_root(bed, programs[0]);
+    elf_load_others(bed, programs + 1, count - 1);
+    bed->script = open_output("--script", options->script);
+    bed->steps = open_output("--steps", options->steps);
+    record_begin(bed);
+    bed->engine = bed->kind->open(&bed->memory);
+    kernel_begin_sigma0(bed);
+    return entry;
+}
+
+int main(int count, char **words) {
+    static struct bed bed;
+    struct options options = {NULL, NULL, NULL, DEFAULT_FRAMES, 0, 0, 0, 0};
+    int option, status;
+    uint32_t entry;
+    double start;
+    while ((option = getopt_long(count, words, "+", long_options, NULL)) != -1)
+        read_option(&options, option);
+    if (optind == count)
+        fail(STATUS_INPUT, "no program is named (l4_bed --help explains the command line)");
+    entry = begin(&bed, &options, count - optind, words + optind);
+    start = now();
+    begin_root(&bed, entry);
+    run_threads(&bed);
+    record_end(&bed);
+    check_output();
+    if (options.prints_costs)
+        print_costs(&bed, now() - start);
+    status = bed.is_over ? STATUS_ENDED : STATUS_STUCK;
+    free_bed(&bed);
+    return status;
+}

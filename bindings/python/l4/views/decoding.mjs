@@ -1,0 +1,68 @@
+// Words that say what they mean: those of a line or an answer, when the pointer or the keyboard's focus is on them.
+import { it, made } from "./dom.mjs";
+
+const MOST_WORDS = 64;
+let source = null, pageBytes = 4096, asked = 0;
+const known = new Map();
+
+/** Which tokens of a text are words, and how they are read: by the command's name or the kind of the answer. */
+function readingsOf(tokens, kind) {
+  const from = (first) => [...tokens.keys()].slice(first);
+  if (kind === "answer") return tokens[1] === "ipc" ? { message: [tokens[2], ...tokens.slice(5)].map((word) => Number(`0x${word}`)), places: [2, ...from(5)] } : null;
+  switch (tokens[0]) {
+    case "recv": return { windows: [3] };
+    case "send": return { message: tokens.slice(3).map(Number), places: from(3) };
+    case "ipc": return { message: tokens.slice(6).map(Number), places: from(6), windows: [5] };
+    case "unmap": return { fpages: from(3) };
+    default: return null;
+  }
+}
+
+function wordSpan(token, words, reading) {
+  return made("span", { class: "word", "data-words": words.join(" "), "data-reading": reading }, token);
+}
+
+/** The parts of a text, with an element for each word that can be decoded. */
+export function wordsIn(text, kind) {
+  const parts = text.split(/( +)/), tokens = parts.filter((part) => part.trim() !== "");
+  const found = readingsOf(tokens, kind);
+  if (!found || (found.message ?? []).some((word) => !Number.isInteger(word))) return [text];
+  let place = -1;
+  return parts.map((part) => {
+    if (part.trim() === "") return part;
+    place += 1;
+    const word = Number(kind === "answer" ? `0x${part}` : part);
+    if (found.places?.includes(place)) return wordSpan(part, found.message.slice(0, MOST_WORDS + 1), "message");
+    if (found.windows?.includes(place) && Number.isInteger(word)) return wordSpan(part, [word], "window");
+    if (found.fpages?.includes(place) && Number.isInteger(word)) return wordSpan(part, [word], "fpage");
+    return part;
+  });
+}
+
+/** Shows what a word's message means, below the list. */
+async function tell(element) {
+  const { words, reading } = element.dataset, key = `${pageBytes} ${reading} ${words}`, turn = ++asked;
+  try {
+    if (!known.has(key)) known.set(key, (await source.ask("decode", { words: words.split(" ").map(Number), reading, pageBytes })).lines.join("\n"));
+  } catch {
+    return;
+  }
+  if (turn !== asked) return;
+  element.title = known.get(key);
+  it("decoded").textContent = known.get(key);
+  document.body.dataset.decoded = turn;
+}
+
+/** Decodes words under the pointer, and all words of a line that has the keyboard's focus. */
+export function listenToWords(given) {
+  source = given;
+  document.addEventListener("pointerover", ({ target }) => { if (target.classList?.contains("word")) tell(target); });
+  it("lines").addEventListener("focusin", ({ target }) => {
+    const word = target.closest("li")?.querySelector(".word");
+    if (word) tell(word);
+  });
+}
+
+export function decodeBy(bytes) {
+  pageBytes = bytes;
+}

@@ -1,0 +1,10 @@
+// The chart of messages, Unmaps, and threads that come and go.
+import { chartOf } from "./chart.mjs";
+import { fill, it, made } from "./dom.mjs";
+
+export function showChart(view, goStep) {
+  const chart = view.events.length ? [chartOf(view.events, view.earlierEvents, { step: view.stepCount, goStep })] : [made("p", { class: "hint" }, "No message so far.")];
+  fill("chart", chart);
+  // the newest is at the bottom
+  it("chart").scrollTop = it("chart").scrollHeight;
+}

@@ -1,0 +1,70 @@
+// The lines of the script with their answers, the refused lines, and the steps.
+import { fill, follow, it, link, made } from "./dom.mjs";
+import { wrongToken } from "./grammar.mjs";
+import { wordsIn } from "./decoding.mjs";
+import { counted, grouped } from "./texts.mjs";
+
+const place = ({ isLater }, isNow) => (isNow ? "now" : isLater ? "later" : "");
+
+/** One line with its answers. A refusal is red, with its meaning below. */
+function lineRow(line, view, refusals, go) {
+  const isNow = line.number === view.line, row = made("li", { value: line.number, class: place(line, isNow), "aria-current": isNow ? "step" : null });
+  const text = made("span", { class: "source" }, ...wordsIn(line.text, "script"));
+  const jump = link(`${line.number}`, () => go(line.at), `line ${line.number}: ${line.text}`);
+  row.append(made("span", { class: "jump" }, jump), text);
+  line.answers.forEach((answer) => row.append(answerRow(answer, line, refusals)));
+  return row;
+}
+
+function answerRow(answer, line, refusals) {
+  if (!/(^line \d+|^\d+) refused /.test(answer)) return made("pre", { class: "answer" }, ...wordsIn(answer, "answer"));
+  const known = refusals.find(({ line: number }) => number === line.number);
+  const row = made("pre", { class: "answer refused" }, answer);
+  if (known) row.append(made("span", { class: "why" }, `\n${refusalText(known, line.text)}`));
+  return row;
+}
+
+/** A refusal in words, with the token that is wrong where the line can't be read. */
+function refusalText({ code, means }, text) {
+  const token = code === "S1" || code === "S2" ? wrongToken(text) : "";
+  return token ? `${means}: ${token}` : means;
+}
+
+export function showLines(view, go) {
+  fill("lines", view.lines.map((line) => lineRow(line, view, view.refusals.first, go)));
+  const left = view.lineCount - view.lines.length;
+  it("lines-more").textContent = left > 0 ? `${grouped(view.lines.length)} of ${grouped(view.lineCount)} lines are shown: those around the current one.` : "";
+  follow(it("lines"), it("lines").querySelector(".now"));
+}
+
+/** The count of refused lines, and a link to the next one. */
+export function showRefusals(view, go) {
+  const { count, first } = view.refusals;
+  it("refusals").hidden = count === 0;
+  if (!count) return fill("refusals", []);
+  const next = first.find(({ at }) => at > view.at) ?? first[0];
+  const jump = link(`go to line ${next.line}`, () => go(next.at), `go to the refused line ${next.line}`);
+  const text = view.lines.find(({ number }) => number === next.line)?.text ?? "";
+  const title = made("strong", {}, `${counted(count, "line")} refused`);
+  return fill("refusals", [title, ` — line ${next.line}: ${next.code}, ${refusalText(next, text)} `, jump]);
+}
+
+export function showSteps(view, go) {
+  fill("steps", view.steps.map((step) => {
+    const isNow = step.number === view.stepCount, row = made("li", { value: step.number, class: place(step, isNow), "aria-current": isNow ? "step" : null });
+    row.append(made("span", { class: "jump" }, link(`${step.number}`, () => go(step.at), `step ${step.number}, line ${step.line}: ${step.text}`)), step.text);
+    return row;
+  }));
+  follow(it("steps"), it("steps").querySelector(".now"));
+}
+
+/** What the step changed. */
+export function showChanges(view, choose) {
+  it("changes-title").textContent = view.at === 0 ? "At boot" : `What this ${view.unit} changed`;
+  const rows = view.threadChanges.map(({ kind, text }) => made("li", { class: kind === "delete" ? "went" : "came" }, text));
+  const pages = view.changes.map((change) => made("li", { class: change.kind }, link(change.text, () => choose(change.space, change.first))));
+  const left = view.changeCount - view.changes.length;
+  const more = left > 0 ? [made("li", {}, `and ${grouped(left)} more`)] : [];
+  const all = [...rows, ...pages, ...more];
+  fill("changes", all.length ? all : [made("li", { class: "nothing" }, view.at === 0 ? "sigma0 has every frame, at the page with the frame's number" : "no page and no thread")]);
+}

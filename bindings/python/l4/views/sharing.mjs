@@ -1,0 +1,100 @@
+// Scripts that stay, travel and leave: in the browser's store, in a link, in files.
+import { it, save } from "./dom.mjs";
+import { fields, question } from "./state.mjs";
+import { grouped } from "./texts.mjs";
+
+const STORE = "l4 script", MOST_LINK = 60_000;
+
+/** A text in base64url. */
+function encoded(text) {
+  const letters = Array.from(new TextEncoder().encode(text), (byte) => String.fromCharCode(byte)).join("");
+  return btoa(letters).replace(/\+/g, "-").replace(/\//g, "_").replace(/=+$/, "");
+}
+
+function decoded(text) {
+  const letters = atob(text.replace(/-/g, "+").replace(/_/g, "/"));
+  return new TextDecoder("utf-8", { fatal: true }).decode(Uint8Array.from(letters, (letter) => letter.charCodeAt(0)));
+}
+
+/** Keeps the fields for the next visit. A browser that keeps nothing is no fault. */
+export function keep() {
+  try { localStorage.setItem(STORE, JSON.stringify(fields())); } catch { /* the store is full or closed */ }
+}
+
+function kept() {
+  try { return JSON.parse(localStorage.getItem(STORE)); } catch { return null; }
+}
+
+const isStart = (it) => it !== null && typeof it?.script === "string" && Number.isInteger(it.frames) && [1024, 4096].includes(it.pageBytes);
+
+/** The script that a link carries. Throws an error where the link is damaged. */
+function linked() {
+  const parts = new URLSearchParams(location.hash.slice(1));
+  if (!parts.has("script")) return null;
+  try {
+    const found = { script: decoded(parts.get("script")), frames: Number(parts.get("frames") ?? 256), pageBytes: Number(parts.get("page-size") ?? 4096) };
+    if (isStart(found)) return found;
+  } catch { /* told below */ }
+  throw new Error("The link is damaged: the part behind # is not a whole script. The page shows an example in its place.");
+}
+
+/** What the page begins with: the script of a link, else what was kept, else what the source gives. */
+export function firstScript(start, isKeeping, say) {
+  try {
+    const found = linked();
+    if (found) return found;
+  } catch (fault) {
+    say(fault.message);
+    return start;
+  }
+  const before = isKeeping ? kept() : null;
+  return isStart(before) ? before : start;
+}
+
+/** Puts the script into the address and the clipboard. */
+export async function shareLink(say) {
+  const { script, frames, pageBytes } = fields(), text = encoded(script);
+  if (text.length > MOST_LINK) return say(`The script is too long for a link, which carries up to ${grouped(MOST_LINK)} characters. Save it as a file instead.`);
+  history.replaceState(null, "", `#frames=${frames}&page-size=${pageBytes}&script=${text}`);
+  try {
+    await navigator.clipboard.writeText(location.href);
+    return say("The link is in the address bar and on the clipboard.");
+  } catch {
+    return say("The link is in the address bar: copy it from there.");
+  }
+}
+
+export const saveScript = () => save("script.l4", "text/plain", fields().script);
+
+export async function saveHistory(source, say) {
+  try {
+    save("history.steps", "text/plain", (await source.ask("text", { ...question(), kind: "history", words: [], isWhole: true })).text);
+  } catch (fault) {
+    say(fault.message);
+  }
+}
+
+/** Saves a drawing as SVG, with the rules of its colours in it. */
+export function savePicture(id, say) {
+  const picture = it(id).querySelector(".now svg") ?? it(id).querySelector("svg");
+  if (!picture) return say("There is no such picture yet.");
+  const copy = picture.cloneNode(true), rules = document.createElementNS("http://www.w3.org/2000/svg", "style");
+  rules.textContent = drawingRules();
+  copy.prepend(rules);
+  return save(`${id}.svg`, "image/svg+xml", new XMLSerializer().serializeToString(copy));
+}
+
+/** The rules of the page's style that speak of drawings. */
+function drawingRules() {
+  const rules = [...document.styleSheets].flatMap((sheet) => [...sheet.cssRules]);
+  return rules.filter((rule) => rule.selectorText?.startsWith("svg")).map((rule) => rule.cssText).join("\n");
+}
+
+/** Opens a file as the script. */
+export async function openFile(file, mostBytes, say) {
+  if (file.size > mostBytes) {
+    say(`${file.name} has ${grouped(file.size)} bytes. The page takes up to ${grouped(mostBytes)}; \`l4 run\` has no limit.`);
+    return null;
+  }
+  return file.text();
+}

@@ -1,0 +1,69 @@
+//! What standard error says of a code that standard output has.
+use l4_plan::PlanRefusal;
+use l4_plan_check::Fault;
+use l4_plan_lines::{Answer, LineFault, WrongLine};
+use l4_refusals::text_of;
+
+/// The code of a thread that is not there.
+const K2: u32 = 0x4b32;
+
+/// Says what a code means.
+fn report_code(rt: &impl Eprint, code: u32) {
+    let text = text_of(code);
+    if let Ok(code) = str::from_utf8(text.code) {
+        if let Ok(line) = str::from_utf8(text.line) {
+            let _ = eprintln!(rt; "error: {code}: {line}");
+        }
+    }
+}
+
+/// Says that there is no thread with the number that was asked for.
+pub(crate) fn report_no_thread(rt: &impl Eprint) {
+    report_code(rt, K2);
+}
+
+/// Says why a region has no plan. The text of a plan that is too long says so itself.
+pub(crate) fn report_no_plan(rt: &impl Eprint, refusal: &PlanRefusal) {
+    match refusal {
+        PlanRefusal::Empty => report_code(rt, 0x4e31),
+        PlanRefusal::OutOfSpace => report_code(rt, 0x4e32),
+        PlanRefusal::NoRights => report_code(rt, 0x4e33),
+        PlanRefusal::TooLong(_) | PlanRefusal::Several(_) | PlanRefusal::NoPart(_) => {}
+    }
+}
+
+/// Says why a plan is not proved.
+fn report_fault(rt: &impl Eprint, fault: Fault) {
+    match fault {
+        Fault::Item(_) => report_code(rt, 0x4331),
+        Fault::Gap(_) => report_code(rt, 0x4332),
+        Fault::Page(_) => report_code(rt, 0x4333),
+        Fault::Pair(_) => report_code(rt, 0x4334),
+        Fault::Count => report_code(rt, 0x4335),
+        Fault::Region => report_code(rt, 0x4336),
+    }
+}
+
+/// Says what is wrong with a line of a plan, or with an input that is empty.
+fn report_line(rt: &impl Eprint, wrong: WrongLine, is_empty: bool) {
+    let words = match wrong.fault {
+        LineFault::BadTokens if is_empty => {
+            "S2: the input is empty, but 'l4 check' reads what 'l4 plan' prints"
+        }
+        LineFault::BadTokens => {
+            "S2: the line is not in the form that 'l4 plan' prints, or its tag does not match its items"
+        }
+        LineFault::LineTooLong => "S3: the line is longer than 4,096 bytes",
+        LineFault::CutLine => "S4: the line does not end with a newline",
+    };
+    let _ = eprintln!(rt; "error: line {}: {words}", wrong.number);
+}
+
+/// Says why the answer to a plan is not `proved`.
+pub(crate) fn report_unproved(rt: &impl Eprint, answer: &Answer, is_empty: bool) {
+    match answer {
+        Answer::Refused(wrong) => report_line(rt, *wrong, is_empty),
+        Answer::Faulty(fault) => report_fault(rt, *fault),
+        Answer::ProvedPlan(_) | Answer::ProvedTooLong => {}
+    }
+}

@@ -1,0 +1,84 @@
+-- The answers of a script as reports, and the text of each.
+use Rattle.std.specs.Prelude.{ℕ, Bool, true, false, ◌||◌, List, [], ◌∷◌, ◌++◌, Option, codes, decimal}
+use Rattle.l4_ipc.specs.declared.steps.Outcome.{Outcome}
+use Rattle.l4_mapdb.specs.declared.Mapping.{Mapping}
+use Rattle.l4_threads.specs.declared.Reply.{Reply}
+use Rattle.l4_answers.specs.Pages.{page_text, shown_text, parent_text}
+use Rattle.l4_answers.specs.Refusals.{Refusal, number_text, refused_text}
+use Rattle.l4_answers.specs.Replies.{newline, numbered_text, transfer_text, expire_text, waits_text, reply_text}
+
+-- an answer
+pub data Report : Type 0 where
+  -- the script's line with this number is refused
+  RefusedLine : ℕ → Refusal → Report
+  -- a served thread's call is refused
+  RefusedAct : ℕ → Refusal → Report
+  -- a transfer between two threads, and what came of it
+  Transferred : ℕ → ℕ → Outcome → Report
+  -- a thread's zero timeout expired
+  TimedOut : ℕ → Report
+  -- a thread's call blocks
+  Waits : ℕ → Report
+  -- a thread's call ended; a thread that is gone has no reply
+  Ended : ℕ → Option Reply → Report
+  -- a page that is present
+  Page : ℕ → Mapping → Report
+  -- the number of pages that were listed
+  Shown : ℕ → Report
+  -- what is mapped at the page whose parent was asked for
+  Parent : Option Mapping → Report
+  -- a region was added to a table
+  AddedRegion : Report
+  -- the number of entries of the history
+  StepCount : ℕ → Report
+
+abbrev pub refused_act_text : ℕ → Refusal → List ℕ
+refused_act_text thread refusal = numbered_text thread (codes " refused " ++ refusal.name ++ number_text refusal.number)
+
+abbrev pub region_text : List ℕ
+region_text = codes "region ok\n"
+
+abbrev pub steps_text : ℕ → List ℕ
+steps_text count = codes "steps " ++ decimal count ++ newline
+
+-- the line of an answer
+abbrev pub report_text : Report → List ℕ
+report_text (RefusedLine line refusal) = refused_text line refusal
+report_text (RefusedAct thread refusal) = refused_act_text thread refusal
+report_text (Transferred sender receiver outcome) = transfer_text sender receiver outcome
+report_text (TimedOut n) = expire_text n
+report_text (Waits n) = waits_text n
+report_text (Ended n reply) = reply_text n reply
+report_text (Page page mapping) = page_text page mapping
+report_text (Shown count) = shown_text count
+report_text (Parent mapping) = parent_text mapping
+report_text AddedRegion = region_text
+report_text (StepCount count) = steps_text count
+
+-- whether a line of the script is refused
+abbrev pub is_refusal : Report → Bool
+is_refusal (RefusedLine line refusal) = true
+is_refusal report = false
+
+-- whether one of these is
+abbrev pub has_refusal : List Report → Bool
+has_refusal [] = false
+has_refusal (report ∷ reports) = is_refusal report || has_refusal reports
+
+-- SINKS, over what it means that these were reported to a sink since it was another
+
+-- whatever was reported before, this was reported after it
+abbrev pub Adds : {T : Type 0} → (T → T → List Report → Type 0) → T → T → Report → Type 0
+Adds has_told old new report = (first : _) (told : List Report) → has_told first old told → has_told first new (told ++ report ∷ [])
+
+-- whatever was reported before, these were reported after it
+abbrev pub AddsAll : {T : Type 0} → (T → T → List Report → Type 0) → T → T → List Report → Type 0
+AddsAll has_told old new reports = (first : _) (told : List Report) → has_told first old told → has_told first new (told ++ reports)
+
+-- what was reported is still so
+abbrev pub Keeps : {T : Type 0} → (T → T → List Report → Type 0) → T → T → Type 0
+Keeps has_told old new = (first : _) (told : List Report) → has_told first old told → has_told first new told
+
+-- whatever was reported has gone out
+abbrev pub AllOut : {T : Type 0} → (T → T → List Report → Type 0) → (T → T → List Report → Type 0) → T → T → Type 0
+AllOut has_told is_out old new = (first : _) (told : List Report) → has_told first old told → is_out first new told

@@ -1,0 +1,125 @@
+//! Receivers of the answers of a script.
+ghost use Rattle.std.specs.Prelude.{◌≡◌, List, Bool, false, OnOk, IfErr};
+ghost use Rattle.std.specs.Option.{option_copied};
+ghost use Rattle.l4_answers.specs.Reports.{Report, RefusedLine, RefusedAct, Transferred, TimedOut, Waits, Ended, Page, Shown, Parent, AddedRegion, StepCount, Adds, Keeps, AllOut};
+
+use crate::refusals::Code;
+use l4_ipc::Outcome;
+use l4_mapdb::Mapping;
+use l4_text::{LineReader, RunFault};
+use l4_threads::Reply;
+
+/// Receives the answers of a script, each as it is made. A closed sink ignores answers.
+pub trait Sink {
+    /// That these answers were reported since the sink was the first one. They are written, except those that it holds back or that a failed
+    /// write lost.
+    ghost has_told: { Self → Self → List Report → Type 0 };
+
+    /// The same, and all of them are written.
+    ghost is_out: { Self → Self → List Report → Type 0 };
+
+    /// Whether it takes no more answers.
+    ghost closed: { Self → Bool };
+
+    /// Reports that a line of the script is refused.
+    fn refused_line(&mut self, line: u64, code: &Code)
+        ensures { Adds has_told self.old self.new (RefusedLine line code.now) };
+
+    /// Reports that a served thread's call is refused.
+    fn refused_act(&mut self, thread: u32, code: &Code)
+        ensures { Adds has_told self.old self.new (RefusedAct thread code.now) };
+
+    /// Reports a transfer.
+    fn transfer(&mut self, sender: u32, receiver: u32, outcome: Outcome)
+        ensures { Adds has_told self.old self.new (Transferred sender receiver outcome) };
+
+    /// Reports that a zero timeout expired.
+    fn expire(&mut self, number: u32)
+        ensures { Adds has_told self.old self.new (TimedOut number) };
+
+    /// Reports that a thread's call goes on.
+    fn waits(&mut self, number: u32)
+        ensures { Adds has_told self.old self.new (Waits number) };
+
+    /// Reports how a thread's call ended. A thread that is gone has no reply.
+    fn ended(&mut self, number: u32, reply: Option<&Reply>)
+        ensures { Adds has_told self.old self.new (Ended number (option_copied reply.entry)) };
+
+    /// Reports a page that is present.
+    fn page(&mut self, page: u32, mapping: &Mapping)
+        ensures { Adds has_told self.old self.new (Page page mapping.now) };
+
+    /// Reports how many pages were listed.
+    fn shown(&mut self, count: u32)
+        ensures { Adds has_told self.old self.new (Shown count) };
+
+    /// Reports the parent of a page, or that the page is absent.
+    fn parent(&mut self, mapping: Option<Mapping>)
+        ensures { Adds has_told self.old self.new (Parent mapping) };
+
+    /// Reports that a pager's table has one region more.
+    fn region_added(&mut self)
+        ensures { Adds has_told self.old self.new AddedRegion };
+
+    /// Reports how many entries the history has.
+    fn steps(&mut self, count: u64)
+        ensures { Adds has_told self.old self.new (StepCount count) };
+
+    /// Writes what it holds back if the next line has to be read first.
+    fn before_line(&mut self, lines: &LineReader)
+        ensures { Keeps has_told self.old self.new };
+
+    /// Returns whether it takes no more answers.
+    fn is_closed(&self) -> bool
+        ensures { result ≡ closed self.now };
+
+    /// Writes all that it holds back.
+    fn finish(&mut self) -> Result<(), RunFault>
+        ensures ok { OnOk result (AllOut has_told is_out self.old self.new) }
+        ensures same { OnOk result (closed self.new ≡ closed self.old) }
+        ensures err { IfErr result (λ e. (e ≡ RunFault.Write) × Keeps has_told self.old self.new) };
+}
+
+/// Ignores all answers, for a script whose history alone is needed.
+#[derive(Drop)]
+pub struct Silent;
+
+impl Sink for Silent {
+    ghost has_told = { λ first sink told. Unit {0} };
+
+    ghost is_out = { λ first sink told. Unit {0} };
+
+    ghost closed = { λ sink. false };
+
+    fn refused_line(&mut self, line: u64, code: &Code) {}
+
+    fn refused_act(&mut self, thread: u32, code: &Code) {}
+
+    fn transfer(&mut self, sender: u32, receiver: u32, outcome: Outcome) {}
+
+    fn expire(&mut self, number: u32) {}
+
+    fn waits(&mut self, number: u32) {}
+
+    fn ended(&mut self, number: u32, reply: Option<&Reply>) {}
+
+    fn page(&mut self, page: u32, mapping: &Mapping) {}
+
+    fn shown(&mut self, count: u32) {}
+
+    fn parent(&mut self, mapping: Option<Mapping>) {}
+
+    fn region_added(&mut self) {}
+
+    fn steps(&mut self, count: u64) {}
+
+    fn before_line(&mut self, lines: &LineReader) {}
+
+    fn is_closed(&self) -> bool {
+        false
+    }
+
+    fn finish(&mut self) -> Result<(), RunFault> {
+        Ok(())
+    }
+}

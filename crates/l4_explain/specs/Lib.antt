@@ -1,4 +1,0 @@
-pub mod Explained
-pub mod Inside
-pub mod Marks
-pub mod Words

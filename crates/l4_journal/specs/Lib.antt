@@ -1,0 +1,5 @@
+pub mod Words
+pub mod ItemLists
+pub mod Codes
+pub mod Reading
+pub mod Inside

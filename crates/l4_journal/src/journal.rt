@@ -1,0 +1,146 @@
+//! Journals: lists whose items are stored as words, each as a record.
+ghost use Rattle.std.specs.Prelude.{◌≡◌, ◌+◌, ◌<◌, ◌≤◌, ◌++◌, ◌^◌, [], ℕ, List, Option, None, drop, length, nat_eq, slice_get, is_some, IsTrue, MatchOption, OnOk, true, false};
+ghost use Rattle.std.specs.Option.{option_to_list};
+ghost use Rattle.l4_journal.specs.ItemLists.{ItemList};
+ghost use Rattle.l4_journal.specs.Inside.ReadRecords.{read_all, AreRead};
+
+use crate::store::Store;
+use crate::words::{RECORD_WORDS, Words};
+use std::alloc::{AllocError, Global};
+use std::marker::{Model, PhantomData};
+
+/// What is read from words.
+pub trait FromWords {
+    /// The item that words begin with.
+    ghost item_at: { List ℕ → Option Self };
+
+    /// The item that words begin with.
+    fn from_words(words: Words<'_>) -> Option<Self>
+        ensures { result ≡ item_at words.entry };
+}
+
+/// Items, each stored as the words of a record.
+#[derive(Drop)]
+pub struct Journal<T: FromWords> {
+    store: Store,
+    kind: PhantomData<T>,
+}
+
+impl<T: FromWords> Model for Journal<T> {
+    ghost use Rattle.l4_journal.specs.ItemLists.{ItemList, item_list};
+    ghost use Rattle.l4_journal.specs.Inside.ReadRecords.{read_all, AreRead};
+
+    ghost Value = { ItemList T };
+
+    ghost view = { λ l. item_list (read_all T.item_at l.store.records) l.store.room };
+
+    ghost invariant = { λ l. AreRead T.item_at l.store.records };
+}
+
+impl<T: FromWords> Journal<T> {
+    /// No items.
+    pub fn new(alloc: Global) -> Journal<T>
+        ensures { (result.items ≡ []) × (result.room < 2 ^ 63) }
+    {
+        Journal {
+            store: Store::new(alloc),
+            kind: PhantomData,
+        }
+    }
+
+    /// How many items there are.
+    pub fn len(&self) -> usize
+        ensures { result ≡ length self.now.items }
+    {
+        self.store.len()
+    }
+
+    /// Whether there is no item.
+    pub fn is_empty(&self) -> bool
+        ensures { result ≡ nat_eq (length self.now.items) 0 }
+    {
+        self.len() == 0
+    }
+
+    /// The words of the item at this place, None beyond the end.
+    pub fn words(&self, place: usize) -> Option<Words<'_>>
+        ensures { MatchOption result (slice_get self.now.items place ≡ None) (λ words. (slice_get self.now.items place ≡ T.item_at words) × IsTrue (is_some (T.item_at words))) }
+    {
+        self.store.get(place)
+    }
+
+    /// The item at this place, None beyond the end.
+    pub fn get(&self, place: usize) -> Option<T>
+        ensures { result ≡ slice_get self.now.items place }
+    {
+        match self.words(place) {
+            Some(words) => T::from_words(words),
+            None => None,
+        }
+    }
+
+    /// The items from this place on.
+    pub fn items_from(&self, place: usize) -> ItemsFrom<'_, T>
+        ensures items { result ≡ drop place self.now.items }
+        ensures bound { length result < 2 ^ 64 }
+    {
+        let _count = self.len();
+        ItemsFrom { list: self, place }
+    }
+
+    /// Makes room for more items.
+    pub fn reserve(&mut self, more: usize) -> Result<(), AllocError>
+        ensures items { self.new.items ≡ self.old.items }
+        ensures room { (self.old.room ≤ self.new.room) × (self.new.room < 2 ^ 63) }
+        ensures ok { OnOk result (length self.new.items + more ≤ self.new.room) }
+    {
+        self.store.reserve(more)
+    }
+
+    /// Appends the item of a few words and of those after them, for which there is room. It costs less than to put them together before,
+    /// where the number of the first ones is known as the program is built.
+    #[inline(always)]
+    pub fn push(&mut self, head: &[u32], tail: &[u32])
+        requires room { length self.old.items < self.old.room }
+        requires few { length head.now + length tail.now ≤ RECORD_WORDS }
+        requires read { IsTrue (is_some (T.item_at (head.now ++ tail.now))) }
+        ensures items { self.new.items ≡ self.old.items ++ option_to_list (T.item_at (head.now ++ tail.now)) }
+        ensures room { (length self.new.items ≡ length self.old.items + 1) × (self.new.room ≡ self.old.room) }
+    {
+        self.store.push(head, tail);
+    }
+}
+
+/// Items of a journal, one after another. Contracts see those that are left.
+#[derive(Drop)]
+pub struct ItemsFrom<'a, T: FromWords> {
+    list: &'a Journal<T>,
+    place: usize,
+}
+
+impl<'a, T: FromWords> Model for ItemsFrom<'a, T> {
+    ghost use Rattle.std.specs.Prelude.{List, drop};
+
+    ghost Value = { List T };
+
+    ghost view = { λ i. drop i.place i.list.now.items };
+}
+
+impl<'a, T: FromWords> Iterator for ItemsFrom<'a, T> {
+    ghost use Rattle.std.specs.Iterator.{YieldsFirst, item_count};
+
+    type Item = T;
+
+    ghost remaining = { item_count (λ s. s) };
+
+    ghost next_gives = { YieldsFirst (λ s. s) };
+
+    fn next(&mut self) -> Option<T> {
+        if self.place >= self.list.len() {
+            return None;
+        }
+        let item = self.list.get(self.place);
+        self.place += 1;
+        item
+    }
+}

@@ -1,0 +1,133 @@
+//! Words, one after another.
+ghost use Rattle.std.specs.Prelude.{◌≡◌, ◌+◌, ◌<◌, ◌≤◌, ◌++◌, ◌∷◌, [], length};
+ghost use Rattle.l4_journal.specs.Words.{Lends, word_at, words_at};
+
+use std::marker::Model;
+
+/// The greatest number of words of a record: of two lists of 64 words, and of the numbers beside them.
+pub const RECORD_WORDS: usize = 144;
+
+/// The words of one value, or of several that are stored together, in a place of their own. Those that are taken away are not written over
+/// before others take their place: a list of the library writes blanks.
+#[derive(Drop)]
+pub struct Record {
+    cells: [u32; RECORD_WORDS],
+    len: usize,
+}
+
+impl Model for Record {
+    ghost use Rattle.std.specs.Prelude.{◌≡◌, ◌≤◌, length, take};
+    ghost use Rattle.l4_journal.specs.Inside.Stored.{record_words};
+    ghost use Rattle.l4_journal.specs.Words.{WordList, word_list};
+
+    ghost Value = { WordList };
+
+    ghost view = { λ r. word_list (take r.len r.cells) };
+
+    ghost invariant = { λ r. (r.len ≤ record_words) × (length r.cells ≡ record_words) };
+}
+
+impl Record {
+    /// No words.
+    pub fn new() -> Record
+        ensures { result.items ≡ [] }
+    {
+        Record {
+            cells: [0; RECORD_WORDS],
+            len: 0,
+        }
+    }
+
+    /// Takes all words away.
+    #[inline(always)]
+    pub fn clear(&mut self)
+        ensures { self.new.items ≡ [] }
+    {
+        self.len = 0;
+    }
+
+    /// Appends a word.
+    #[inline(always)]
+    pub fn push(&mut self, word: u32)
+        requires { length self.old.items < RECORD_WORDS }
+        ensures items { self.new.items ≡ self.old.items ++ word ∷ [] }
+    {
+        self.cells[self.len] = word;
+        self.len += 1;
+    }
+
+    /// Appends words.
+    #[inline(always)]
+    pub fn push_all(&mut self, words: &[u32])
+        requires { length self.old.items + length words.now ≤ RECORD_WORDS }
+        ensures items { self.new.items ≡ self.old.items ++ words.now }
+    {
+        let end = self.len + words.len();
+        self.cells[self.len..end].copy_from_slice(words);
+        self.len = end;
+    }
+
+    /// The words.
+    #[inline(always)]
+    pub fn as_slice(&self) -> &[u32]
+        ensures words { result.now ≡ self.now.items }
+        ensures few { length result.now ≤ RECORD_WORDS }
+    {
+        &self.cells[..self.len]
+    }
+}
+
+/// Words that are left to be read. Contracts see them as a list.
+#[derive(Drop)]
+pub struct Words<'a> {
+    words: &'a [u32],
+}
+
+impl<'a> Model for Words<'a> {
+    ghost use Rattle.std.specs.Prelude.{List, ℕ};
+
+    ghost Value = { List ℕ };
+
+    ghost view = { λ w. w.words.now };
+}
+
+impl<'a> Words<'a> {
+    /// These words.
+    #[inline(always)]
+    pub fn of(words: &'a [u32]) -> Words<'a>
+        ensures { result ≡ words.now }
+    {
+        Words { words }
+    }
+
+    /// The words as they lie.
+    #[inline(always)]
+    pub fn as_slice(&self) -> &[u32]
+        ensures { result.now ≡ self.now }
+    {
+        self.words
+    }
+}
+
+/// The first word, and those after it. None where there is none.
+#[inline(always)]
+pub fn read_word(words: Words<'_>) -> Option<(u32, Words<'_>)>
+    ensures { result ≡ word_at words.entry }
+{
+    match words.words {
+        [word, rest @ ..] => Some((*word, Words { words: rest })),
+        [] => None,
+    }
+}
+
+/// So many words as they lie, and those after them. None where there are fewer.
+#[inline(always)]
+pub fn read_words(words: Words<'_>, count: usize) -> Option<(&[u32], Words<'_>)>
+    ensures { Lends result (words_at count words.entry) }
+{
+    if words.words.len() < count {
+        return None;
+    }
+    let (front, rest) = words.words.split_at(count);
+    Some((front, Words { words: rest }))
+}

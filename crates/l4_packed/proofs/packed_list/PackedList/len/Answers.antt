@@ -1,8 +1,0 @@
-use Rattle.std.proofs.Common.{length, sym, ap, ◌∙◌}
-use Rattle.l4_packed.specs.ItemLists.{ItemList}
-use Rattle.l4_packed.proofs.ReadRecords.{length_read}
-use Rattle.l4_packed.proofs.packed_list.PackedList.len.Goals as goal
-
-pub returns : goal.returns
-returns g c =
-    c.len.ensures ∙ sym (length_read g.T.FromWords.item_at c.self.inside.records.records c.self.invariant) ∙ ap (λ (l : ItemList g.row.T.Denot). length l.items) c.self.view_is

@@ -1,4 +1,0 @@
-pub mod Words
-pub mod Records
-pub mod ItemLists
-pub mod Inside

@@ -1,0 +1,38 @@
+-- The results of scripts (this profile's own).
+use Rattle.std.specs.Prelude.{◌⊎◌, ℕ, Bool, true, false, List, [], Some, Ok, codes}
+use Rattle.l4_fpage.specs.declared.sizes.PageSize.{PageSize}
+use Rattle.l4_sinks.specs.Scripts.{RunsScript}
+use Rattle.l4_sinks.specs.declared.scripts.Ended.{Ended}
+use Rattle.l4_history.specs.Histories.{HasText}
+use Rattle.l4_why.specs.Telling.{HasWhy}
+use Rattle.l4_why.specs.declared.asking.ThreadPage.{ThreadPage}
+use Rattle.l4_why.specs.declared.asking.Presence.{Presence}
+use Rattle.l4_why.specs.declared.asking.Presence.TheVariants.{Present, Absent, NoThread}
+use Rattle.l4_page.specs.declared.telling.Told.{Told as Answer}
+use Rattle.l4_page.specs.Told.{IsTold, TellsNothing}
+
+-- THE RESULT OF A RUN that is not strict: the text of the answers to all lines of the script, explained or not, and the number of lines;
+-- or memory ran out
+abbrev pub TellsAnswers : ℕ → PageSize → Bool → List ℕ → List ℕ → List ℕ → Answer → Type 0
+TellsAnswers frames size explain script old new told =
+    ((rest : List ℕ) × (text : List ℕ) × (ended : Ended) × RunsScript frames size false explain (Some script) (Some rest) (Some []) (Some text) (Ok ended)
+    × IsTold text true ended.lines old new told)
+    ⊎ TellsNothing (codes "NoMemory") old new told
+
+-- the text of its history
+abbrev pub TellsHistoryOf : ℕ → PageSize → Bool → List ℕ → List ℕ → List ℕ → Answer → Type 0
+TellsHistoryOf frames size answers script old new told =
+    ((rest : List ℕ) × (count : ℕ) × (text : List ℕ) × HasText frames size answers (Some script) (Some rest) (Ok count) text × IsTold text true count old new told)
+    ⊎ TellsNothing (codes "NoMemory") old new told
+
+abbrev pub is_there : Presence → Bool
+is_there Present = true
+is_there Absent = false
+is_there NoThread = false
+
+-- how a page got to where it is
+abbrev pub TellsWhyOf : ℕ → PageSize → ThreadPage → List ℕ → List ℕ → List ℕ → Answer → Type 0
+TellsWhyOf frames size asked script old new told =
+    ((rest : List ℕ) × (count : ℕ) × (found : Presence) × (text : List ℕ) × HasWhy frames size asked (Some script) (Some rest) count found text
+    × IsTold text (is_there found) 0 old new told)
+    ⊎ TellsNothing (codes "NoMemory") old new told

@@ -1,0 +1,15 @@
+//! The commands of the program `l4` for a page in a browser. Each export takes bytes, and writes a text.
+#![tactic(auto)]
+
+mod given;
+mod planning;
+mod running;
+mod telling;
+mod tracing;
+mod words;
+
+pub use planning::{page_check, page_plan};
+pub use running::{page_explain, page_history, page_run};
+pub use telling::Told;
+pub use tracing::page_why;
+pub use words::page_decode;

@@ -1,0 +1,106 @@
+//! Entries as words: a tag, the seat, and a word for each field.
+ghost use Rattle.std.specs.Prelude.{◌≡◌, Some};
+ghost use Rattle.l4_ipc.specs.declared.steps.Step.TheVariants.{Start};
+ghost use Rattle.l4_record.specs.Inside.Words.{start_at, transfer_at, expire_at, answered_at, entry_of, entry_at};
+
+use crate::entries::Entry;
+use arrayvec::ArrayVec;
+use l4_ipc::{Answer, Call, NextStep, Outcome, Step};
+use l4_journal::{
+    FromWords, Record, Words, call_tag, put_answer, put_fields, read_answer, read_call,
+    read_outcome, read_word,
+};
+
+/// The tag of a Transfer. A smaller one is that of a call whose start ended none.
+pub const TRANSFER: u32 = 6;
+
+/// The tag of an Expire.
+pub const EXPIRE: u32 = 7;
+
+/// The tag of the start of a call with its answer.
+const ANSWERED: u32 = 8;
+
+/// Writes the entry of the start of a call in the place of what the record holds.
+pub fn write_start(out: &mut Record, number: u32, call: &Call, answer: &Answer)
+    ensures { entry_at out.new.items ≡ Some (record { seat = number; step = Start number call.now; answer = answer.now }) }
+{
+    out.clear();
+    out.push(ANSWERED);
+    out.push(number);
+    put_answer(out, answer);
+    out.push(call_tag(call));
+    put_fields(out, call);
+}
+
+/// The entry of the start of a call of this tag and these fields, in which no call ended.
+fn read_start(tag: u32, seat: u32, words: Words<'_>) -> Option<Entry>
+    ensures { result ≡ start_at tag seat words.entry }
+{
+    let call = read_call(tag, words)?;
+    let answer = Answer {
+        outcome: Outcome::Started,
+        ended: ArrayVec::new(),
+    };
+    let step = Step::Start(seat, call);
+    Some(Entry { seat, step, answer })
+}
+
+/// The entry of a Transfer of these fields.
+fn read_transfer(seat: u32, words: Words<'_>) -> Option<Entry>
+    ensures { result ≡ transfer_at seat words.entry }
+{
+    let (sender, rest) = read_word(words)?;
+    let (receiver, rest) = read_word(rest)?;
+    let (outcome, rest) = read_outcome(rest)?;
+    let (ends, _) = read_word(rest)?;
+    let next = NextStep::Transfer(sender, receiver, outcome, ends == 1);
+    let step = next.step();
+    let answer = next.answer();
+    Some(Entry { seat, step, answer })
+}
+
+/// The entry of an Expire of this field.
+fn read_expire(seat: u32, words: Words<'_>) -> Option<Entry>
+    ensures { result ≡ expire_at seat words.entry }
+{
+    let (waiter, _) = read_word(words)?;
+    let next = NextStep::Expire(waiter);
+    let step = next.step();
+    let answer = next.answer();
+    Some(Entry { seat, step, answer })
+}
+
+/// The entry of the start of a call with this answer, tag and fields.
+fn read_answered(seat: u32, words: Words<'_>) -> Option<Entry>
+    ensures { result ≡ answered_at seat words.entry }
+{
+    let (answer, rest) = read_answer(words)?;
+    let (tag, rest) = read_word(rest)?;
+    let call = read_call(tag, rest)?;
+    let step = Step::Start(seat, call);
+    Some(Entry { seat, step, answer })
+}
+
+/// The entry of this tag, seat and fields.
+#[tactic(auto, unfolding(crate::specs::Inside::Words::entry_of))]
+fn read_entry(tag: u32, seat: u32, words: Words<'_>) -> Option<Entry>
+    ensures { result ≡ entry_of tag seat words.entry }
+{
+    match tag {
+        TRANSFER => read_transfer(seat, words),
+        EXPIRE => read_expire(seat, words),
+        ANSWERED => read_answered(seat, words),
+        _ => read_start(tag, seat, words),
+    }
+}
+
+impl FromWords for Entry {
+    ghost item_at = { entry_at };
+
+    #[tactic(auto, unfolding(crate::specs::Inside::Words::entry_at))]
+    fn from_words(words: Words<'_>) -> Option<Entry> {
+        let (tag, rest) = read_word(words)?;
+        let (seat, rest) = read_word(rest)?;
+        read_entry(tag, seat, rest)
+    }
+}

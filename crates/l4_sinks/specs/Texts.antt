@@ -1,0 +1,40 @@
+-- The text of answers, with or without what each means (this profile's own).
+use Rattle.std.specs.Prelude.{ℕ, ◌≡◌, List, [], ◌∷◌, ◌++◌, Option, None, Some, MatchOption}
+use Rattle.l4_fpage.specs.declared.sizes.PageSize.{PageSize}
+use Rattle.l4_threads.specs.declared.Reply.{Reply}
+use Rattle.l4_answers.specs.Reports.{Report, Ended, report_text}
+use Rattle.l4_decode.specs.Decoded.{IsMessageText}
+use Rattle.l4_sinks.specs.Words.{says, reply_says, received}
+
+-- `# `
+abbrev pub mark : List ℕ
+mark = 35 ∷ 32 ∷ []
+
+-- a sentence in a line behind the mark
+unfoldable pub sentence_text : List ℕ → List ℕ
+sentence_text says = mark ++ says ++ 10 ∷ []
+
+-- the same where answers are explained
+abbrev pub said : Option PageSize → List ℕ → List ℕ
+said None says = []
+said (Some size) says = sentence_text says
+
+-- what a reply means: the message that was received, as it is decoded, each line behind the mark; else a sentence
+abbrev pub Means : PageSize → Option Reply → List ℕ → Type 0
+Means size reply words = MatchOption (received reply) (words ≡ sentence_text (reply_says reply)) (λ message. IsMessageText mark size message words)
+
+-- WHAT AN ANSWER MEANS: how a call ended, or the sentence of any other answer
+abbrev pub Explains : PageSize → Report → List ℕ → Type 0
+Explains size (Ended thread reply) words = Means size reply words
+Explains size report words = words ≡ sentence_text (says report)
+
+-- an answer's text: its line, and below it what it means, where answers are explained
+abbrev pub IsAnswerText : Option PageSize → Report → List ℕ → Type 0
+IsAnswerText None report text = text ≡ report_text report
+IsAnswerText (Some size) report text = (words : List ℕ) × Explains size report words × (text ≡ report_text report ++ words)
+
+-- the text of answers, one after another
+abbrev pub AreAnswerTexts : Option PageSize → List Report → List ℕ → Type 0
+AreAnswerTexts explains [] text = text ≡ []
+AreAnswerTexts explains (report ∷ reports) text =
+    (first : List ℕ) × (rest : List ℕ) × IsAnswerText explains report first × AreAnswerTexts explains reports rest × (text ≡ first ++ rest)

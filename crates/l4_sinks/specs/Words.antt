@@ -1,0 +1,125 @@
+-- What answers mean, each in a sentence (this profile's own).
+use Rattle.std.specs.Prelude.{ℕ, ◌==◌, List, [], ◌∷◌, ◌++◌, Option, None, Some, if◌then◌else◌, codes, decimal, bytes_eq}
+use Rattle.l4_ipc.specs.declared.steps.Outcome.{Outcome}
+use Rattle.l4_ipc.specs.declared.steps.Outcome.TheVariants.{Started, Done, NoWindow, Entangled, NoMemory, Expired}
+use Rattle.l4_mapdb.specs.declared.Mapping.{Mapping}
+use Rattle.l4_mapdb.specs.declared.Place.{Place}
+use Rattle.l4_threads.specs.declared.IpcReply.{IpcReply}
+use Rattle.l4_threads.specs.declared.Reply.{Reply}
+use Rattle.l4_threads.specs.declared.Reply.TheVariants.{Ipc, Hit, Answered, FaultFailed, Unmapped, Controlled, Gone}
+use Rattle.l4_answers.specs.Refusals.{Refusal}
+use Rattle.l4_answers.specs.Reports.{Report, RefusedLine, RefusedAct, Transferred, TimedOut, Waits, Ended, Page, Shown, Parent, AddedRegion, StepCount}
+use Rattle.l4_refusals.specs.Texts.{texts, text_in, spelled}
+
+unfoldable pub transfer_says : Outcome → List ℕ
+transfer_says Started = codes "the call started"
+transfer_says Done = codes "the message of the first thread was delivered to the second"
+transfer_says NoWindow = codes "the message was not delivered: it has map or grant items, but the receive window is nil"
+transfer_says Entangled = codes "the message was not delivered: its items fill one page twice, move a granted page twice, or replace a page that they move or an ancestor of it"
+transfer_says NoMemory = codes "the message was not delivered: there was not enough memory to map its pages"
+transfer_says Expired = codes "the timeout expired"
+
+unfoldable pub origin_says : Option Place → List ℕ
+origin_says None = codes "the page has no parent"
+origin_says (Some place) = codes "the parent of the page: the number of its space, then its page number there"
+
+unfoldable pub parent_says : Option Mapping → List ℕ
+parent_says None = codes "the page is not present"
+parent_says (Some mapping) = origin_says mapping.parent
+
+-- why a fault failed, by its ErrorCode
+unfoldable pub failed_says : ℕ → List ℕ
+failed_says code =
+    if code == 4 then codes "the pager does not exist, is the thread itself, or was deleted before it received the fault"
+    else (if code == 5 then codes "the pager received the fault, but was deleted before it answered"
+    else (if code == 9 then codes "the pages in the pager's answer could not be delivered"
+    else codes "the fault failed"))
+
+-- how an Ipc ended that received no message, by its ErrorCode
+unfoldable pub ipc_says : ℕ → List ℕ
+ipc_says code =
+    if code == 0 then codes "the call ended without an error and received no message"
+    else (if code == 2 then codes "the zero send timeout expired"
+    else (if code == 3 then codes "the zero receive timeout expired"
+    else (if code == 4 then codes "the thread to send to does not exist, is the caller itself, or was deleted"
+    else (if code == 5 then codes "the thread to receive from does not exist, or was deleted"
+    else (if code == 8 then codes "the pages in the message could not be delivered to the receiver"
+    else (if code == 9 then codes "the pages in a message to this thread could not be delivered"
+    else codes "the call failed"))))))
+
+unfoldable pub gone_says : List ℕ
+gone_says = codes "the thread was deleted before its call ended"
+
+unfoldable pub reply_says : Option Reply → List ℕ
+reply_says (Some (Ipc reply)) = ipc_says reply.error
+reply_says (Some Hit) = codes "the page is present with the requested rights"
+reply_says (Some Answered) = codes "the pager answered the fault"
+reply_says (Some (FaultFailed code)) = failed_says code
+reply_says (Some Unmapped) = codes "the Unmap ended"
+reply_says (Some Controlled) = codes "root's call ended"
+reply_says (Some Gone) = gone_says
+reply_says None = gone_says
+
+-- what a code means: of a line that can't be read, or of any other refusal
+unfoldable pub code_says : List ℕ → List ℕ
+code_says code =
+    if bytes_eq code (codes "S1") then codes "the command is unknown"
+    else (if bytes_eq code (codes "S2") then codes "the line has too few tokens, too many, or an invalid one"
+    else (if bytes_eq code (codes "S3") then codes "the line is longer than 4,096 bytes"
+    else (if bytes_eq code (codes "S4") then codes "the line does not end with a newline"
+    else (text_in texts (spelled code)).1)))
+
+-- what the number that a code carries is: of an item, of a word, or of the messages of a plan
+unfoldable pub number_name : List ℕ → List ℕ
+number_name code =
+    if bytes_eq code (codes "U1") then codes "word "
+    else (if bytes_eq code (codes "N5") then codes "messages "
+    else (if bytes_eq code (codes "N6") then codes "messages "
+    else codes "item "))
+
+unfoldable pub number_says : List ℕ → Option ℕ → List ℕ
+number_says code None = []
+number_says code (Some number) = codes " (" ++ number_name code ++ decimal number ++ codes ")"
+
+unfoldable pub refusal_says : Refusal → List ℕ
+refusal_says refusal = code_says refusal.name ++ number_says refusal.name refusal.number
+
+unfoldable pub expired_says : List ℕ
+expired_says = codes "the thread's zero timeout expired"
+
+unfoldable pub waits_says : List ℕ
+waits_says = codes "the call blocks until a later line ends it"
+
+unfoldable pub page_says : List ℕ
+page_says = codes "a present page, its frame and its rights: r to read, w to write, x to execute"
+
+unfoldable pub shown_says : List ℕ
+shown_says = codes "the number of requested pages that are present"
+
+unfoldable pub region_says : List ℕ
+region_says = codes "the region was added to the table"
+
+unfoldable pub steps_says : List ℕ
+steps_says = codes "the number of steps so far: calls that started, transfers and expiries"
+
+-- WHAT AN ANSWER MEANS, but for a message that was received
+abbrev pub says : Report → List ℕ
+says (RefusedLine line refusal) = refusal_says refusal
+says (RefusedAct thread refusal) = refusal_says refusal
+says (Transferred sender receiver outcome) = transfer_says outcome
+says (TimedOut thread) = expired_says
+says (Waits thread) = waits_says
+says (Ended thread reply) = reply_says reply
+says (Page page mapping) = page_says
+says (Shown count) = shown_says
+says (Parent mapping) = parent_says mapping
+says AddedRegion = region_says
+says (StepCount count) = steps_says
+
+-- the words of the message that an Ipc without an error received from a thread
+abbrev pub words_of : IpcReply → Option (List ℕ)
+words_of reply = if reply.error == 0 then (if reply.from.0 == 0 then None else Some (reply.tag ∷ reply.words.items)) else None
+
+abbrev pub received : Option Reply → Option (List ℕ)
+received (Some (Ipc reply)) = words_of reply
+received reply = None

@@ -1,0 +1,60 @@
+//! Scripts from a reader to a writer.
+ghost use Rattle.std.specs.Prelude.{◌≡◌, ◌≤◌};
+ghost use Rattle.l4_fpage.specs.Pages.{max_frames};
+ghost use Rattle.l4_sinks.specs.Scripts.{explains_by, RunsScript};
+
+use crate::teller::Teller;
+use l4_fpage::PageSize;
+use l4_shell::run;
+use l4_text::RunFault;
+use std::alloc::Global;
+use std::io::{Read, Write};
+
+/// How the answers of a script are written.
+#[derive(Clone, Copy)]
+pub struct Style {
+    /// Whether the script ends at the first refused line.
+    pub strict: bool,
+    /// Whether what each answer means is written below it.
+    pub explain: bool,
+}
+
+/// How a script ended that was read without a fault.
+#[derive(Clone, Copy)]
+pub struct Ended {
+    /// The number of lines that were answered: empty ones, comments and refused ones too.
+    pub lines: u64,
+    /// Whether a refused line ended a strict run.
+    pub refused: bool,
+}
+
+fn explains_by(explain: bool, size: PageSize) -> Option<PageSize>
+    ensures { result ≡ explains_by explain size }
+{
+    if explain { Some(size) } else { None }
+}
+
+/// Executes the script that the reader gives, line by line, on a new kernel with this many frames, 1 to 4,096, of this size, and writes the
+/// answers to each line in this style. Returns the writer, and how the script ended. Faults are those of `l4_shell::run`.
+pub fn answer_script<R: Read, W: Write>(
+    alloc: Global,
+    frames: u32,
+    size: PageSize,
+    style: Style,
+    reader: &mut R,
+    writer: W,
+) -> (W, Result<Ended, RunFault>)
+    requires some { 1 ≤ frames }
+    requires fit { frames ≤ max_frames }
+    ensures { RunsScript frames size style.strict style.explain (R.remaining reader.old) (R.remaining reader.new)
+        (W.contents writer) (W.contents result.0) result.1 }
+{
+    let mut teller = Teller::new(writer, style.strict, explains_by(style.explain, size));
+    let answered = run(alloc, frames, size, reader, &mut teller);
+    let refused = teller.has_refused();
+    let writer = teller.into_inner();
+    match answered {
+        Ok(lines) => (writer, Ok(Ended { lines, refused })),
+        Err(fault) => (writer, Err(fault)),
+    }
+}

@@ -1,0 +1,367 @@
+//! A sink that writes answers as text.
+ghost use Rattle.std.specs.Prelude.{◌≡◌, ◌≤◌, ◌+◌, ◌++◌, ◌∷◌, [], ℕ, List, false, length, option_map};
+ghost use Rattle.std.specs.Option.{option_copied};
+ghost use Rattle.l4_text.specs.Sizes.{held_bytes};
+ghost use Rattle.l4_text.specs.Streams.{Tells};
+ghost use Rattle.l4_answers.specs.Reports.{Ended};
+ghost use Rattle.l4_decode.specs.Decoded.{IsMessageText};
+ghost use Rattle.l4_threads.specs.declared.IpcReply.{IpcReply as AnIpcReply};
+ghost use Rattle.l4_sinks.specs.Words.{number_says, refusal_says, transfer_says, words_of, received};
+ghost use Rattle.l4_sinks.specs.Texts.{mark, sentence_text, said, Means, IsAnswerText};
+ghost use Rattle.l4_sinks.specs.Inside.Tellers.{HasReported, HasWritten, is_over};
+
+use crate::sentences::{
+    code_says, expired_says, gone_says, known_says, number_name, page_says, parent_says,
+    region_says, shown_says, steps_says, transfer_says, waits_says,
+};
+use arrayvec::ArrayVec;
+use l4_answers::{
+    Code, Sink, put_expire, put_page, put_parent, put_refused_act, put_refused_line, put_region,
+    put_reply, put_shown, put_steps, put_transfer, put_waits,
+};
+use l4_decode::put_message;
+use l4_fpage::PageSize;
+use l4_ipc::Outcome;
+use l4_mapdb::Mapping;
+use l4_text::{LineReader, Output, RunFault};
+use l4_threads::{IpcReply, Reply};
+use std::io::Write;
+
+/// A tag and the words behind it, at most.
+const MOST: usize = 65;
+
+/// Writes answers as text. A strict one takes nothing after the first refused line. One that explains writes below each answer what it means,
+/// in lines that begin with `# `. It is one type for all of these, so that the code that answers a script is compiled once.
+#[derive(Drop)]
+pub struct Teller<W> {
+    out: Output,
+    writer: W,
+    explains: Option<PageSize>,
+    strict: bool,
+    refused: bool,
+}
+
+/// Adds a sentence in a line behind the mark.
+#[tactic(auto, unfolding(crate::specs::Texts::sentence_text))]
+fn add_sentence(says: &[u8], out: &mut Output)
+    requires short { length says.now ≤ 160 }
+    requires room { length out.old.0 + 200 ≤ held_bytes }
+    ensures { out.new ≡ (out.old.0 ++ sentence_text says.now, out.old.1) }
+{
+    out.add(b"# ");
+    out.add(says);
+    out.push(b'\n');
+}
+
+/// Tells a sentence in a line behind the mark.
+#[cold]
+#[inline(never)]
+fn put_sentence<W: Write>(says: &[u8], out: &mut Output, writer: &mut W)
+    requires { length says.now ≤ 160 }
+    ensures { Tells (W.contents writer.old) (W.contents writer.new) out.old out.new (sentence_text says.now) }
+{
+    out.make_room(writer);
+    add_sentence(says, out);
+}
+
+/// Tells a sentence where answers are explained.
+#[inline(always)]
+fn say<W: Write>(explains: Option<PageSize>, says: &[u8], out: &mut Output, writer: &mut W)
+    requires { length says.now ≤ 160 }
+    ensures { Tells (W.contents writer.old) (W.contents writer.new) out.old out.new (said explains says.now) }
+{
+    match explains {
+        None => {}
+        Some(_) => put_sentence(says, out, writer),
+    }
+}
+
+/// Tells what happened to a transfer where answers are explained.
+#[inline(always)]
+fn say_transfer<W: Write>(
+    explains: Option<PageSize>,
+    outcome: Outcome,
+    out: &mut Output,
+    writer: &mut W,
+)
+    ensures { Tells (W.contents writer.old) (W.contents writer.new) out.old out.new (said explains (transfer_says outcome)) }
+{
+    match explains {
+        None => {}
+        Some(_) => put_sentence(transfer_says(outcome), out, writer),
+    }
+}
+
+/// Adds what the number is that a code carries.
+#[tactic(auto, unfolding(crate::specs::Words::number_says))]
+fn add_number_says(code: &Code, out: &mut Output)
+    requires { length out.old.0 + 200 ≤ held_bytes }
+    ensures value { out.new ≡ (out.old.0 ++ number_says code.now.name code.now.number, out.old.1) }
+    ensures len { length out.new.0 ≤ length out.old.0 + 200 }
+{
+    let Some(number) = code.number() else {
+        return;
+    };
+    out.add(b" (");
+    out.add(number_name(code.name()));
+    out.add_number(u64::from(number));
+    out.add(b")");
+}
+
+/// Adds what a code and its number mean, in a line behind the mark.
+#[tactic(auto, unfolding(crate::specs::Texts::sentence_text, crate::specs::Words::refusal_says))]
+fn add_refusal(code: &Code, out: &mut Output)
+    requires { length out.old.0 + 400 ≤ held_bytes }
+    ensures { out.new ≡ (out.old.0 ++ sentence_text (refusal_says code.now), out.old.1) }
+{
+    out.add(b"# ");
+    out.add(code_says(code.name()));
+    add_number_says(code, out);
+    out.push(b'\n');
+}
+
+/// Tells what a code and its number mean.
+#[cold]
+#[inline(never)]
+fn put_refusal<W: Write>(code: &Code, out: &mut Output, writer: &mut W)
+    ensures { Tells (W.contents writer.old) (W.contents writer.new) out.old out.new (sentence_text (refusal_says code.now)) }
+{
+    out.make_room(writer);
+    add_refusal(code, out);
+}
+
+/// Tells what a code and its number mean where answers are explained.
+#[inline(always)]
+fn say_refusal<W: Write>(explains: Option<PageSize>, code: &Code, out: &mut Output, writer: &mut W)
+    ensures { Tells (W.contents writer.old) (W.contents writer.new) out.old out.new (said explains (refusal_says code.now)) }
+{
+    match explains {
+        None => {}
+        Some(_) => put_refusal(code, out, writer),
+    }
+}
+
+/// The reply of an Ipc that received a message from a thread. None for one that didn't.
+fn with_message(reply: &IpcReply) -> Option<&IpcReply>
+    ensures { option_map (λ (r : AnIpcReply). r.tag ∷ r.words.items) (option_copied result) ≡ words_of reply.now }
+{
+    if reply.error != 0 {
+        return None;
+    }
+    if reply.from.0 == 0 {
+        return None;
+    }
+    Some(reply)
+}
+
+/// The same of any reply.
+fn received(reply: &Reply) -> Option<&IpcReply>
+    ensures { option_map (λ (r : AnIpcReply). r.tag ∷ r.words.items) (option_copied result) ≡ received (Some reply.now) }
+{
+    match reply {
+        Reply::Ipc(reply) => with_message(reply),
+        Reply::Hit => None,
+        Reply::Answered => None,
+        Reply::FaultFailed(_) => None,
+        Reply::Unmapped => None,
+        Reply::Controlled => None,
+        Reply::Gone => None,
+    }
+}
+
+/// Tells a message that was received, as it is decoded.
+#[inline(never)]
+fn put_received<W: Write>(reply: &IpcReply, size: PageSize, out: &mut Output, writer: &mut W)
+    ensures { (text : List ℕ) × IsMessageText mark size (reply.now.tag ∷ reply.now.words.items) text
+        × Tells (W.contents writer.old) (W.contents writer.new) out.old out.new text }
+{
+    let mut words: ArrayVec<u32, MOST> = ArrayVec::new();
+    words.push(reply.tag);
+    let _ = words.try_extend_from_slice(reply.words.as_slice());
+    put_message(words.as_slice(), size, b"# ", out, writer);
+}
+
+/// Tells what a reply means.
+fn put_known<W: Write>(reply: &Reply, size: PageSize, out: &mut Output, writer: &mut W)
+    ensures { (words : List ℕ) × Means size (Some reply.now) words
+        × Tells (W.contents writer.old) (W.contents writer.new) out.old out.new words }
+{
+    match received(reply) {
+        None => put_sentence(known_says(reply), out, writer),
+        Some(ipc) => put_received(ipc, size, out, writer),
+    }
+}
+
+/// Tells what a reply means, or that the thread is gone.
+fn put_meaning<W: Write>(reply: Option<&Reply>, size: PageSize, out: &mut Output, writer: &mut W)
+    ensures { (words : List ℕ) × Means size (option_copied reply.entry) words
+        × Tells (W.contents writer.old) (W.contents writer.new) out.old out.new words }
+{
+    match reply {
+        None => put_sentence(gone_says(), out, writer),
+        Some(reply) => put_known(reply, size, out, writer),
+    }
+}
+
+/// Tells how a call ended, and what that means. It is apart, so that nothing is kept for it where nothing is explained.
+#[cold]
+#[inline(never)]
+fn put_explained_reply<W: Write>(
+    number: u32,
+    reply: Option<&Reply>,
+    size: PageSize,
+    out: &mut Output,
+    writer: &mut W,
+)
+    ensures { (text : List ℕ) × IsAnswerText (Some size) (Ended number (option_copied reply.entry)) text
+        × Tells (W.contents writer.old) (W.contents writer.new) out.old out.new text }
+{
+    put_reply(number, reply, out, writer);
+    put_meaning(reply, size, out, writer);
+}
+
+impl<W: Write> Teller<W> {
+    /// A teller to a writer. A strict one takes nothing after the first refused line. One with a size of pages explains each answer.
+    pub fn new(writer: W, strict: bool, explains: Option<PageSize>) -> Teller<W>
+        ensures writer { result.writer ≡ writer }
+        ensures out { result.out ≡ ([], false) }
+        ensures explains { result.explains ≡ explains }
+        ensures strict { result.strict ≡ strict }
+        ensures refused { result.refused ≡ false }
+    {
+        Teller {
+            out: Output::new(),
+            writer,
+            explains,
+            strict,
+            refused: false,
+        }
+    }
+
+    /// Returns whether it is strict and took a refused line, which is the last line that it took.
+    pub fn has_refused(&self) -> bool
+        ensures { result ≡ self.now.refused }
+    {
+        self.refused
+    }
+
+    /// Returns its writer.
+    pub fn into_inner(self) -> W
+        ensures { result ≡ self.writer }
+    {
+        let Teller {
+            out: _,
+            writer,
+            explains: _,
+            strict: _,
+            refused: _,
+        } = self;
+        writer
+    }
+}
+
+impl<W: Write> Sink for Teller<W> {
+    ghost has_told = { HasReported W.contents };
+
+    ghost is_out = { HasWritten W.contents };
+
+    ghost closed = { is_over };
+
+    #[inline(never)]
+    fn refused_line(&mut self, line: u64, code: &Code) {
+        put_refused_line(line, code, &mut self.out, &mut self.writer);
+        say_refusal(self.explains, code, &mut self.out, &mut self.writer);
+        self.refused = self.strict;
+    }
+
+    #[cold]
+    #[inline(never)]
+    fn refused_act(&mut self, thread: u32, code: &Code) {
+        put_refused_act(thread, code, &mut self.out, &mut self.writer);
+        say_refusal(self.explains, code, &mut self.out, &mut self.writer);
+    }
+
+    #[inline(always)]
+    fn transfer(&mut self, sender: u32, receiver: u32, outcome: Outcome) {
+        put_transfer(sender, receiver, outcome, &mut self.out, &mut self.writer);
+        say_transfer(self.explains, outcome, &mut self.out, &mut self.writer);
+    }
+
+    #[cold]
+    #[inline(never)]
+    fn expire(&mut self, number: u32) {
+        put_expire(number, &mut self.out, &mut self.writer);
+        say(
+            self.explains,
+            expired_says(),
+            &mut self.out,
+            &mut self.writer,
+        );
+    }
+
+    #[inline(always)]
+    fn waits(&mut self, number: u32) {
+        put_waits(number, &mut self.out, &mut self.writer);
+        say(self.explains, waits_says(), &mut self.out, &mut self.writer);
+    }
+
+    fn ended(&mut self, number: u32, reply: Option<&Reply>) {
+        match self.explains {
+            None => put_reply(number, reply, &mut self.out, &mut self.writer),
+            Some(size) => put_explained_reply(number, reply, size, &mut self.out, &mut self.writer),
+        }
+    }
+
+    #[inline(always)]
+    fn page(&mut self, page: u32, mapping: &Mapping) {
+        put_page(page, mapping, &mut self.out, &mut self.writer);
+        say(self.explains, page_says(), &mut self.out, &mut self.writer);
+    }
+
+    #[inline(never)]
+    fn shown(&mut self, count: u32) {
+        put_shown(count, &mut self.out, &mut self.writer);
+        say(self.explains, shown_says(), &mut self.out, &mut self.writer);
+    }
+
+    #[inline(never)]
+    fn parent(&mut self, mapping: Option<Mapping>) {
+        let says = parent_says(&mapping);
+        put_parent(mapping, &mut self.out, &mut self.writer);
+        say(self.explains, says, &mut self.out, &mut self.writer);
+    }
+
+    #[inline(never)]
+    fn region_added(&mut self) {
+        put_region(&mut self.out, &mut self.writer);
+        say(
+            self.explains,
+            region_says(),
+            &mut self.out,
+            &mut self.writer,
+        );
+    }
+
+    #[inline(never)]
+    fn steps(&mut self, count: u64) {
+        put_steps(count, &mut self.out, &mut self.writer);
+        say(self.explains, steps_says(), &mut self.out, &mut self.writer);
+    }
+
+    #[inline(always)]
+    fn before_line(&mut self, lines: &LineReader) {
+        self.out.send_before_line(lines, &mut self.writer);
+    }
+
+    #[inline(always)]
+    fn is_closed(&self) -> bool {
+        self.out.has_failed() | self.refused
+    }
+
+    fn finish(&mut self) -> Result<(), RunFault> {
+        match self.out.finish(&mut self.writer) {
+            Ok(()) => Ok(()),
+            Err(fault) => Err(fault),
+        }
+    }
+}

@@ -1,6 +1,0 @@
-use Rattle.std.proofs.Common.{◌≡◌, ◌++◌, take, drop}
-use Rattle.l4_web.specs.Planned.{placed}
-use Rattle.l4_web.proofs.planning.write_pages.Given as goal
-
-abbrev pub invariant-loop-page : goal.invariant-loop-page
-invariant-loop-page l = take l.at l.out ++ placed l.page-iterator (drop l.at l.out) ≡ placed l.fn.pages l.initial.out
