@@ -18,11 +18,18 @@ let source = null;
 // whether the source is asked, and is to be asked again; how often the page was shown
 let isAsking = false, isWanted = false, shownCount = 0;
 
-/** Announces an error, or that there is none any more. */
-function sayError(text) {
+// who said the error that stands
+let errorOf = "run";
+
+/** How one asker announces an error, or that it has none any more. A run takes back every error, another asker its own. */
+const sayErrorOf = (asker) => (text) => {
+  if (text === "" && asker !== "run" && asker !== errorOf) return;
+  errorOf = asker;
   it("error").textContent = text;
   it("error").hidden = text === "";
-}
+};
+
+const sayError = sayErrorOf("run"), sayPlanError = sayErrorOf("plan"), sayTextError = sayErrorOf("text");
 
 /** Announces what has been done. */
 const sayDone = (text) => { it("status").textContent = text; };
@@ -204,10 +211,10 @@ function listenToViews() {
   on("first", "click", () => { shown.first = 0; showSelection(); });
   on("more", "click", () => { shown.first = number("more"); showSelection(); });
   on("colour", "change", () => { shown.colour = it("colour").value; showSelection(); });
-  on("plan", "click", () => plan(source, sayError));
+  on("plan", "click", () => plan(source, sayPlanError));
   REGION_FIELDS.forEach((id) => on(id, "input", clearPlan));
-  on("tell", "click", () => tell(source, sayError, sayDone));
-  on("words", "keydown", (event) => { if (event.key === "Enter") tell(source, sayError, sayDone); });
+  on("tell", "click", () => tell(source, sayTextError, sayDone));
+  on("words", "keydown", (event) => { if (event.key === "Enter") tell(source, sayTextError, sayDone); });
   on("kind", "change", showFields);
   on("find", "keydown", (event) => { if (event.key === "Enter") sayDone(find(it("find").value, shown.view, { choose, chooseSpace, focusThread })); });
 }
@@ -216,7 +223,7 @@ function listenToFiles() {
   on("share", "click", () => shareLink(sayDone));
   on("save-script", "click", saveScript);
   on("save-history", "click", () => saveHistory(source, sayError));
-  on("save-text", "click", () => saveText(source, sayError));
+  on("save-text", "click", () => saveText(source, sayTextError));
   document.querySelectorAll("[data-picture]").forEach((button) => button.addEventListener("click", () => savePicture(button.dataset.picture, sayDone)));
   on("file", "change", async () => {
     const [file] = it("file").files, script = file && await openFile(file, MOST_FILE, sayError);
@@ -248,7 +255,7 @@ export async function begin(given) {
     if (start.mostBytes) it("script").maxLength = start.mostBytes;
     listExamples(start.examples ?? []);
     await load(firstScript(start, source.name === "page", sayDone));
-    plan(source, sayError);
+    plan(source, sayPlanError);
     globalThis.addEventListener("hashchange", () => load(firstScript(fields(), false, sayDone)));
   } catch (fault) {
     fail(fault.message);
