@@ -1,8 +1,8 @@
 //! The program `l4`: answers scripts of kernel calls (`l4 --help`).
 //!
-//! Exit statuses: 0 at the end of the script, for a plan and for a proved one, 1 where there is no plan or it is not proved, where the page that
-//! is asked for isn't there, or a refused line ended a strict run, 2 for a command line that is not understood or a file that can't be
-//! opened, 3 where a read or a write failed, 4 for want of memory.
+//! Exit statuses: 0 at the end of the script, for a plan and for a proved one; 1 if there is no plan, if it is not proved, if the page
+//! asked about is not present, or if a refused line ended a strict run; 2 for a command line that is not understood or a file that cannot
+//! be opened; 3 if a read or a write failed; 4 if there was no memory.
 #![tactic(auto)]
 
 mod reports;

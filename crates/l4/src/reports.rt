@@ -1,4 +1,4 @@
-//! What standard error says of a code that standard output has.
+//! Explains on standard error a code that standard output has.
 use l4_plan::PlanRefusal;
 use l4_plan_check::Fault;
 use l4_plan_lines::{Answer, LineFault, WrongLine};

@@ -1,4 +1,4 @@
-//! The kernel's answers: what takes them, and their texts.
+//! The kernel's answers: their receivers and their texts.
 #![tactic(auto)]
 
 mod pages;

@@ -9,7 +9,7 @@ use l4_mapdb::{Mapping, Place};
 use l4_text::{Output, Text};
 use std::io::Write;
 
-/// The letters of the rights, and dashes in the place of those that are not there.
+/// Returns the letters of the rights, with a hyphen for each missing right.
 pub fn letters(rights: Rights) -> [u8; 3]
     ensures { result ≡ rights_text rights }
 {
@@ -50,7 +50,7 @@ fn add_page_line(out: &mut Output, page: u32, mapping: &Mapping)
     out.add_array([b' ', read, write, execute, b'\n']);
 }
 
-/// Tells `page P frame F RIGHTS`. It is put into its callers, which then don't look for the page's parent.
+/// Writes `page P frame F RIGHTS`. It is inlined into its callers, which then do not look up the page's parent.
 #[inline(always)]
 pub fn put_page<W: Write>(page: u32, mapping: &Mapping, out: &mut Output, writer: &mut W)
     ensures { Tells (W.contents writer.old) (W.contents writer.new) out.old out.new (page_text page mapping.now) }
@@ -70,7 +70,7 @@ fn add_shown(out: &mut Output, count: u32)
     out.push(b'\n');
 }
 
-/// Tells `shown K`.
+/// Writes `shown K`.
 pub fn put_shown<W: Write>(count: u32, out: &mut Output, writer: &mut W)
     ensures { Tells (W.contents writer.old) (W.contents writer.new) out.old out.new (shown_text count) }
 {
@@ -78,7 +78,7 @@ pub fn put_shown<W: Write>(count: u32, out: &mut Output, writer: &mut W)
     add_shown(out, count);
 }
 
-/// Adds a place's space and page, or `none`.
+/// Adds the space and the page of a place, or `none`.
 pub fn add_place(text: &mut Text, place: Option<Place>)
     requires { length text.old + 41 ≤ text_bytes }
     ensures value { text.new ≡ text.old ++ place_or_none place }
@@ -113,7 +113,7 @@ fn add_parent(out: &mut Output, mapping: Option<Mapping>)
     }
 }
 
-/// Tells `parent SPACE PAGE`, `parent none` or `absent`, of what a page shows.
+/// Writes `parent SPACE PAGE`, `parent none` or `absent`, for the mapping of a page.
 pub fn put_parent<W: Write>(mapping: Option<Mapping>, out: &mut Output, writer: &mut W)
     ensures { Tells (W.contents writer.old) (W.contents writer.new) out.old out.new (parent_text mapping) }
 {

@@ -14,7 +14,7 @@ use l4_unmap::UnmapFault;
 use std::io::Write;
 use std::marker::Model;
 
-/// Why a line is refused: a code, and the number that some codes carry.
+/// The reason why a line is refused: a code, and the number that some codes have.
 #[derive(Drop)]
 pub struct Code {
     name: &'static [u8],
@@ -36,7 +36,7 @@ impl Model for Code {
 }
 
 impl Code {
-    /// A code that carries no number. It has at most eight bytes.
+    /// Creates a code without a number. It has at most eight bytes.
     pub fn plain(name: &'static [u8]) -> Code
         requires { length name.now ≤ 8 }
         ensures { result ≡ plainly name.entry.now }
@@ -44,7 +44,7 @@ impl Code {
         Code { name, number: None }
     }
 
-    /// A code, of at most eight bytes, and the number that it carries.
+    /// Creates a code with a number. The code has at most eight bytes.
     pub fn numbered(name: &'static [u8], number: u32) -> Code
         requires { length name.now ≤ 8 }
         ensures { result ≡ at_place name.entry.now number }
@@ -55,14 +55,14 @@ impl Code {
         }
     }
 
-    /// The code without its number.
+    /// Returns the code without its number.
     pub fn name(&self) -> &'static [u8]
         ensures { result.now ≡ self.now.name }
     {
         self.name
     }
 
-    /// The number that the code carries.
+    /// Returns the number of the code, if it has one.
     pub fn number(&self) -> Option<u32>
         ensures { result ≡ self.now.number }
     {
@@ -106,7 +106,7 @@ fn unmap_code(fault: UnmapFault) -> Code
     }
 }
 
-/// The innermost code of a refusal.
+/// Returns the innermost code of a refusal.
 pub fn refused_code(refused: Refused) -> Code
     ensures { result ≡ kernel_refusal refused }
 {
@@ -135,7 +135,7 @@ fn add_code_number(text: &mut Text, number: Option<u32>)
     }
 }
 
-/// Adds a code, and the number that it carries.
+/// Adds a code, and its number if it has one.
 pub fn add_code(text: &mut Text, code: &Code)
     requires { length text.old + 29 ≤ text_bytes }
     ensures value { text.new ≡ text.old ++ code.now.name ++ number_text code.now.number }
@@ -169,7 +169,7 @@ fn add_refused_line(out: &mut Output, line: u64, code: &Code)
     add_code_line(out, code);
 }
 
-/// Tells `line L refused CODE`, or `line L refused CODE I`.
+/// Writes `line L refused CODE` or `line L refused CODE I`.
 pub fn put_refused_line<W: Write>(line: u64, code: &Code, out: &mut Output, writer: &mut W)
     ensures { Tells (W.contents writer.old) (W.contents writer.new) out.old out.new (refused_text line code.now) }
 {
@@ -188,7 +188,7 @@ fn add_refused_act(out: &mut Output, thread: u32, code: &Code)
     add_code_line(out, code);
 }
 
-/// Tells `N refused CODE`, of a served thread's call.
+/// Writes `N refused CODE`, for the call of a served thread.
 pub fn put_refused_act<W: Write>(thread: u32, code: &Code, out: &mut Output, writer: &mut W)
     ensures { Tells (W.contents writer.old) (W.contents writer.new) out.old out.new (refused_act_text thread code.now) }
 {
@@ -196,7 +196,7 @@ pub fn put_refused_act<W: Write>(thread: u32, code: &Code, out: &mut Output, wri
     add_refused_act(out, thread, code);
 }
 
-/// Tells `region ok`.
+/// Writes `region ok`.
 pub fn put_region<W: Write>(out: &mut Output, writer: &mut W)
     ensures { Tells (W.contents writer.old) (W.contents writer.new) out.old out.new region_text }
 {
@@ -215,7 +215,7 @@ fn add_steps(out: &mut Output, count: u64)
     out.push(b'\n');
 }
 
-/// Tells `steps K`.
+/// Writes `steps K`.
 pub fn put_steps<W: Write>(count: u64, out: &mut Output, writer: &mut W)
     ensures { Tells (W.contents writer.old) (W.contents writer.new) out.old out.new (steps_text count) }
 {

@@ -1,4 +1,4 @@
-//! The texts of steps, and of how calls ended.
+//! The texts of steps and of replies.
 ghost use Rattle.std.specs.Prelude.{◌≡◌, ◌<◌, ◌≤◌, ◌+◌, ◌++◌, length, Some, decimal, codes};
 ghost use Rattle.l4_ipc.specs.declared.steps.Outcome.TheVariants.{Done};
 ghost use Rattle.l4_threads.specs.declared.Reply.TheVariants.{Ipc, Answered};
@@ -40,7 +40,7 @@ fn add_transfer(out: &mut Output, sender: u32, receiver: u32, outcome: Outcome)
     add_outcome(out, outcome);
 }
 
-/// Tells `transfer S R done`, or what else came of it in the last word's place.
+/// Writes `transfer S R done`, or with another outcome as the last word.
 pub fn put_transfer<W: Write>(
     sender: u32,
     receiver: u32,
@@ -65,7 +65,7 @@ fn add_expire(out: &mut Output, number: u32)
     out.push(b'\n');
 }
 
-/// Tells `expire N`.
+/// Writes `expire N`.
 pub fn put_expire<W: Write>(number: u32, out: &mut Output, writer: &mut W)
     ensures { Tells (W.contents writer.old) (W.contents writer.new) out.old out.new (expire_text number) }
 {
@@ -84,7 +84,7 @@ fn add_numbered<const COUNT: usize>(out: &mut Output, number: u32, rest: [u8; CO
     out.add_array(rest);
 }
 
-/// Tells `N waits`.
+/// Writes `N waits`.
 pub fn put_waits<W: Write>(number: u32, out: &mut Output, writer: &mut W)
     ensures { Tells (W.contents writer.old) (W.contents writer.new) out.old out.new (waits_text number) }
 {
@@ -148,7 +148,7 @@ fn add_reply_head(out: &mut Output, number: u32, reply: Option<&Reply>)
     }
 }
 
-/// The words of the message that a call brought.
+/// Returns the words of the message in a reply.
 pub fn reply_words(reply: Option<&Reply>) -> &[u32]
     ensures { result.now ≡ reply_words (option_copied reply.entry) }
 {
@@ -191,7 +191,7 @@ fn put_last_reply<W: Write>(number: u32, reply: &Reply, out: &mut Output, writer
     put_any_reply(number, Some(reply), out, writer);
 }
 
-/// Tells how a thread's call ended. A thread that is gone has no reply.
+/// Writes how a thread's call ended. A thread that was deleted has no reply.
 pub fn put_reply<W: Write>(number: u32, reply: Option<&Reply>, out: &mut Output, writer: &mut W)
     ensures { Tells (W.contents writer.old) (W.contents writer.new) out.old out.new (reply_text number (option_copied reply.entry)) }
 {

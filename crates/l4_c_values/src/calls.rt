@@ -1,4 +1,4 @@
-//! Calls as C gives them.
+//! Calls as C passes them.
 ghost use Rattle.std.specs.Prelude.{◌≡◌, ◌≤◌, [], true, false, length, take};
 ghost use Rattle.l4_fpage.specs.Rights.{set_of_bits};
 ghost use Rattle.l4_c_values.specs.Called.{IsBlank, IsCall, IsNoKind};
@@ -49,7 +49,7 @@ fn fill(list: &mut ArrayVec<u32, MAX_WORDS>, words: &[u32])
     let _ = list.try_extend_from_slice(registers(words));
 }
 
-/// The rights of a word's low three bits.
+/// Returns the rights in a word's low three bits.
 #[tactic(auto, using(l4_fpage::proofs::Eight::set_of_low))]
 pub fn rights(word: u32) -> Rights
     ensures { result ≡ set_of_bits word }
@@ -124,7 +124,8 @@ pub fn delete(given: &CallGiven, words: &[u32]) -> Call
     Call::Control(Control::Delete(ThreadId(given.id)))
 }
 
-/// Writes the call that is given over a blank one: a call has room for a whole message, which a move would copy. False where its kind is no kind.
+/// Overwrites a blank call with the call that C passed. (A call has room for a whole message, which a move would copy.) Returns false if
+/// its kind is unknown.
 #[inline(always)]
 pub fn write_call(call: &mut Call, given: &CallGiven, words: &[u32]) -> bool
     requires { IsBlank call.old }

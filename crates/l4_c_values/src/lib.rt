@@ -1,4 +1,4 @@
-//! What C gives to calls and gets from them, as values: the library for C tells its answers by these.
+//! The values that C passes to calls and gets from them. The C library returns its results in these types.
 #![tactic(auto)]
 
 mod calls;

@@ -1,4 +1,4 @@
-//! Replies and steps in text, as scripts are answered.
+//! The lines of replies and steps, as scripts are answered.
 ghost use Rattle.std.specs.Prelude.{◌≡◌, ◌≤◌, ◌+◌, ◌*◌, ◌∷◌, ◌++◌, length, Some, decimal, codes};
 ghost use Rattle.l4_threads.specs.declared.Reply.TheVariants.{FaultFailed};
 ghost use Rattle.l4_text.specs.Texts.{word_text, words_text};
@@ -10,7 +10,7 @@ use arrayvec::ArrayVec;
 use l4_ipc::{IpcReply, MAX_WORDS, Reply, ThreadId};
 use l4_text::Text;
 
-/// The most bytes of a reply's line: a head of 80 bytes, and 64 words.
+/// The maximum number of bytes of a reply's line: a head of 80 bytes, and 64 words.
 pub const MAX_LINE: usize = 656;
 
 /// The bytes of a reply's line.
@@ -159,7 +159,7 @@ fn add_message(line: &mut Line, reply: &Reply)
     }
 }
 
-/// The line of a thread's reply without its end; nothing where its kind is none.
+/// Returns the line of a thread's reply, without its newline. It is empty if the kind names no reply.
 pub fn reply_line(number: u32, given: &ReplyResult) -> Line
     ensures { result.items ≡ reply_line number (reply_given given.now) }
 {
@@ -201,7 +201,7 @@ fn transfer_line(given: &NextResult) -> Text
     text
 }
 
-/// The line of a step without its end; nothing where its kind is none.
+/// Returns the line of a step, without its newline. It is empty if the kind names no step.
 pub fn step_line(given: &NextResult) -> Text
     ensures { result ≡ step_line given.now }
 {

@@ -1,4 +1,4 @@
-//! Chains of moves as C gives and gets them.
+//! Chains of moves as C passes and gets them.
 ghost use Rattle.std.specs.Prelude.{◌≡◌};
 ghost use Rattle.l4_c_values.specs.Linked.{link_result, link_given, fault_code, fault_carries, chain_result};
 
@@ -8,7 +8,7 @@ use crate::results::place_told;
 use l4_chains::{ChainLink, ReplayFault};
 use l4_ipc::Place;
 
-/// A transfer that moved a page on.
+/// A transfer that moved a page.
 #[repr(C)]
 #[derive(Clone, Copy)]
 pub struct Link {
@@ -23,7 +23,7 @@ pub struct Link {
     pub reserved: u32,
 }
 
-/// Whether a page is there, and how many transfers brought it.
+/// Whether a page is present, and how many transfers brought it there.
 #[repr(C)]
 #[derive(Clone, Copy)]
 pub struct ChainResult {
@@ -33,7 +33,7 @@ pub struct ChainResult {
     pub count: u64,
 }
 
-/// A link as C gets it.
+/// Returns a link as C gets it.
 pub fn link_told(link: &ChainLink) -> Link
     ensures { result ≡ link_result link.now }
 {
@@ -50,7 +50,7 @@ pub fn link_told(link: &ChainLink) -> Link
     }
 }
 
-/// A link as C gives it.
+/// Returns the link that C passed.
 pub fn link_given(link: &Link) -> ChainLink
     ensures { result ≡ link_given link.now }
 {
@@ -70,7 +70,7 @@ pub fn link_given(link: &Link) -> ChainLink
     }
 }
 
-/// The number of why a history is not done once more.
+/// Returns the number of the refusal for a history that is not replayed.
 pub fn fault_number(fault: ReplayFault) -> u32
     ensures { result ≡ fault_code fault }
 {
@@ -81,7 +81,7 @@ pub fn fault_number(fault: ReplayFault) -> u32
     }
 }
 
-/// The entry that such a fault names, or 0.
+/// Returns the entry that such a fault names, or 0.
 pub fn fault_detail(fault: ReplayFault) -> u32
     ensures { result ≡ fault_carries fault }
 {
@@ -91,7 +91,7 @@ pub fn fault_detail(fault: ReplayFault) -> u32
     }
 }
 
-/// A page that is there by so many links.
+/// Returns the result for a page that is present, with this many links.
 pub fn chain_told(count: usize) -> ChainResult
     ensures { result ≡ chain_result 0 0 1 count }
 {
@@ -103,7 +103,7 @@ pub fn chain_told(count: usize) -> ChainResult
     }
 }
 
-/// No page, for this refusal or none.
+/// Returns the result without a page, for this refusal (0 for none).
 pub fn no_chain(refusal: u32, detail: u32) -> ChainResult
     ensures { result ≡ chain_result refusal detail 0 0 }
 {

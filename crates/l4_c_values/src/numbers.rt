@@ -1,4 +1,4 @@
-//! The numbers that stand for outcomes and refusals.
+//! The numbers of outcomes and refusals.
 ghost use Rattle.std.specs.Prelude.{◌≡◌};
 ghost use Rattle.l4_answers.specs.Refusals.{message_refusal, thread_refusal, unmap_refusal, kernel_refusal};
 ghost use Rattle.l4_refusals.specs.Texts.{spelled};
@@ -33,7 +33,7 @@ pub const OTHER_CHAIN: u32 = 0x4c37;
 /// NoMemory.
 pub const NO_MEMORY: u32 = 0x4e6f;
 
-/// What a step did.
+/// Returns the number of an outcome.
 pub fn outcome_number(outcome: Outcome) -> u32
     ensures { result ≡ outcome_number outcome }
 {
@@ -47,7 +47,7 @@ pub fn outcome_number(outcome: Outcome) -> u32
     }
 }
 
-/// The number of a refused message or window.
+/// Returns the number of the refusal of a message or window.
 pub fn message_number(fault: MsgFault) -> u32
     ensures { result ≡ spelled (message_refusal fault).name }
 {
@@ -62,7 +62,7 @@ pub fn message_number(fault: MsgFault) -> u32
     }
 }
 
-/// The item that a refused message names, or 0.
+/// Returns the item that the refusal of a message names, or 0.
 pub fn message_detail(fault: MsgFault) -> u32
     ensures { result ≡ carried (message_refusal fault).number }
 {
@@ -104,7 +104,7 @@ fn unmap_detail(fault: UnmapFault) -> u32
     }
 }
 
-/// The number of what the kernel refuses.
+/// Returns the number of the kernel's refusal.
 pub fn kernel_number(refused: Refused) -> u32
     ensures { result ≡ spelled (kernel_refusal refused).name }
 {
@@ -121,7 +121,7 @@ pub fn kernel_number(refused: Refused) -> u32
     }
 }
 
-/// The number that a refusal of the kernel carries, or 0.
+/// Returns the number that the kernel's refusal carries, or 0.
 pub fn kernel_detail(refused: Refused) -> u32
     ensures { result ≡ carried (kernel_refusal refused).number }
 {

@@ -1,4 +1,4 @@
-//! What a locked kernel tells C.
+//! The results of a locked kernel.
 ghost use Rattle.std.specs.Prelude.{◌≡◌, ◌≤◌, [], length, None, Some};
 ghost use Rattle.l4_ipc.specs.declared.calls.Call.TheVariants.{Control as Controls};
 ghost use Rattle.l4_c_values.specs.Recorded.{lock_code, lock_carries, mismatch_code, mismatch_seat, unseated_result, entered_result, no_call, given_of, words_of, entry_with, no_entry_result, entry_result, no_receipt_result, receipt_result, no_seat_result, seat_result};
@@ -10,7 +10,7 @@ use crate::results::{ReplyResult, padded};
 use l4_ipc::{Call, Control, IpcCall, MAX_THREADS, MAX_WORDS, Step};
 use l4_lock::{Entered, Entry, LockRefusal, Mismatch, Receipt, Seat};
 
-/// A call that was entered by a seat, or why it was not.
+/// A call that a seat entered, or the reason why it was refused.
 #[repr(C)]
 #[derive(Clone, Copy)]
 pub struct SeatedResult {
@@ -50,7 +50,7 @@ pub struct ReceiptResult {
     pub reply: ReplyResult,
 }
 
-/// What a seat has done.
+/// The state of a seat.
 #[repr(C)]
 #[derive(Clone, Copy)]
 pub struct SeatResult {
@@ -60,7 +60,7 @@ pub struct SeatResult {
     pub receipts: u64,
 }
 
-/// The number of what the lock refuses.
+/// Returns the number of the lock's refusal.
 pub fn lock_number(refusal: LockRefusal) -> u32
     ensures { result ≡ lock_code refusal }
 {
@@ -73,7 +73,7 @@ pub fn lock_number(refusal: LockRefusal) -> u32
     }
 }
 
-/// The number that a refusal of the lock carries, or 0.
+/// Returns the number that the lock's refusal carries, or 0.
 pub fn lock_detail(refusal: LockRefusal) -> u32
     ensures { result ≡ lock_carries refusal }
 {
@@ -83,7 +83,7 @@ pub fn lock_detail(refusal: LockRefusal) -> u32
     }
 }
 
-/// The number of a mismatch, and that of its seat.
+/// Returns the number of a mismatch, and the number of its seat.
 pub fn mismatch_told(mismatch: Mismatch) -> (u32, u32)
     ensures { (result.0 ≡ mismatch_code mismatch) × (result.1 ≡ mismatch_seat mismatch) }
 {
@@ -94,7 +94,7 @@ pub fn mismatch_told(mismatch: Mismatch) -> (u32, u32)
     }
 }
 
-/// A call that was not entered.
+/// Returns the result for a call that was not entered.
 pub fn unseated(refusal: u32, detail: u32) -> SeatedResult
     ensures { result ≡ unseated_result refusal detail }
 {
@@ -105,7 +105,7 @@ pub fn unseated(refusal: u32, detail: u32) -> SeatedResult
     }
 }
 
-/// What became of a call that was entered.
+/// Returns the result for a call that was entered.
 pub fn entered_told(entered: &Entered) -> SeatedResult
     ensures { result ≡ entered_result entered.now }
 {
@@ -239,7 +239,7 @@ fn entry_with(
     }
 }
 
-/// No entry.
+/// Returns the result without an entry, for this refusal.
 pub fn no_entry(refusal: u32) -> EntryResult
     ensures { result ≡ no_entry_result refusal }
 {
@@ -258,7 +258,7 @@ pub fn no_entry(refusal: u32) -> EntryResult
     }
 }
 
-/// An entry of the history.
+/// Returns the result for an entry of the history.
 pub fn entry_told(entry: &Entry) -> EntryResult
     ensures { result ≡ entry_result (Some entry.now) }
 {
@@ -271,7 +271,7 @@ pub fn entry_told(entry: &Entry) -> EntryResult
     }
 }
 
-/// No receipt.
+/// Returns the result without a receipt, for this refusal.
 pub fn no_receipt(refusal: u32) -> ReceiptResult
     ensures { result ≡ no_receipt_result refusal }
 {
@@ -287,7 +287,7 @@ pub fn no_receipt(refusal: u32) -> ReceiptResult
     }
 }
 
-/// A receipt.
+/// Returns the result for a receipt.
 pub fn receipt_told(receipt: &Receipt) -> ReceiptResult
     ensures { result ≡ receipt_result (Some receipt.now) }
 {
@@ -304,7 +304,7 @@ pub fn receipt_told(receipt: &Receipt) -> ReceiptResult
     }
 }
 
-/// No seat.
+/// Returns the result without a seat, for this refusal.
 pub fn no_seat(refusal: u32) -> SeatResult
     ensures { result ≡ no_seat_result refusal }
 {
@@ -316,7 +316,7 @@ pub fn no_seat(refusal: u32) -> SeatResult
     }
 }
 
-/// What a seat has done.
+/// Returns the result for a seat.
 pub fn seat_told(seat: &Seat) -> SeatResult
     ensures { result ≡ seat_result (Some seat.now) }
 {

@@ -1,4 +1,4 @@
-//! How calls ended, as it is told to C.
+//! The ends of calls, as C gets them.
 ghost use Rattle.std.specs.Prelude.{◌≡◌, Some};
 ghost use Rattle.l4_threads.specs.declared.Reply.TheVariants.{Ipc};
 ghost use Rattle.l4_c_values.specs.Replied.{plain_result, reply_result};
@@ -38,7 +38,7 @@ fn ipc_told(reply: &IpcReply) -> ReplyResult
     }
 }
 
-/// A reply.
+/// Returns the result for a reply.
 pub fn reply_told(reply: &Reply) -> ReplyResult
     ensures { result ≡ reply_result (Some reply.now) }
 {
@@ -53,7 +53,7 @@ pub fn reply_told(reply: &Reply) -> ReplyResult
     }
 }
 
-/// No reply, for this refusal or none.
+/// Returns the result without a reply, for this refusal (0 for none).
 pub fn no_reply(refusal: u32) -> ReplyResult
     ensures { result ≡ plain_result refusal 0 0 }
 {

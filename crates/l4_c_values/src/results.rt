@@ -1,4 +1,4 @@
-//! What calls give to C.
+//! The results of calls, as C gets them.
 ghost use Rattle.std.specs.Prelude.{◌≡◌, ◌≤◌, [], length};
 ghost use Rattle.l4_ipc.specs.NextSteps.{step_of, answer_of};
 ghost use Rattle.l4_c_values.specs.Told.{no_page_result, page_result};
@@ -7,7 +7,7 @@ ghost use Rattle.l4_c_values.specs.Told.{told_place, filled, outcome_number, ref
 use crate::numbers::{kernel_detail, kernel_number, outcome_number};
 use l4_ipc::{Answer, MAX_THREADS, MAX_WORDS, NextStep, Outcome, Refused, Step};
 
-/// What a step did, or why it was refused.
+/// The outcome of a step, or the reason why it was refused.
 #[repr(C)]
 #[derive(Clone, Copy)]
 pub struct StepResult {
@@ -19,7 +19,7 @@ pub struct StepResult {
     pub reserved: [u32; 2],
 }
 
-/// A step that comes next, and what it did once it was done.
+/// The next step; after it was executed, also its outcome.
 #[repr(C)]
 #[derive(Clone, Copy)]
 pub struct NextResult {
@@ -64,7 +64,7 @@ pub struct SpaceResult {
     pub space: u64,
 }
 
-/// The size of a kernel's pages.
+/// The page size of a kernel.
 #[repr(C)]
 #[derive(Clone, Copy)]
 pub struct SizeResult {
@@ -72,7 +72,7 @@ pub struct SizeResult {
     pub page_bytes: u32,
 }
 
-/// What a page shows.
+/// The mapping of a page.
 #[repr(C)]
 #[derive(Clone, Copy)]
 pub struct MappingResult {
@@ -95,7 +95,7 @@ pub struct PageResult {
     pub page: u32,
 }
 
-/// A refusal.
+/// Returns the result for a refused step.
 pub fn refused(refusal: u32, detail: u32) -> StepResult
     ensures { result ≡ refusal_result refusal detail }
 {
@@ -109,7 +109,7 @@ pub fn refused(refusal: u32, detail: u32) -> StepResult
     }
 }
 
-/// No step.
+/// Returns the result without a step, for this refusal (0 for none).
 pub fn no_step(refusal: u32) -> NextResult
     ensures { result ≡ no_step_result refusal }
 {
@@ -125,7 +125,7 @@ pub fn no_step(refusal: u32) -> NextResult
     }
 }
 
-/// No page, for this refusal.
+/// Returns the result without a page, for this refusal.
 pub fn no_page(refusal: u32) -> PageResult
     ensures { result ≡ no_page_result refusal }
 {
@@ -136,7 +136,7 @@ pub fn no_page(refusal: u32) -> PageResult
     }
 }
 
-/// A page.
+/// Returns the result for a page.
 pub fn page_told(page: u32) -> PageResult
     ensures { result ≡ page_result page }
 {
@@ -147,7 +147,7 @@ pub fn page_told(page: u32) -> PageResult
     }
 }
 
-/// A step that comes next.
+/// Returns the result for the next step.
 pub fn step_told(step: &Step) -> NextResult
     ensures { result ≡ next_result step.now }
 {
@@ -189,7 +189,7 @@ fn transfer_told(
     }
 }
 
-/// A step that came next, and what it did.
+/// Returns the result for a next step that was executed.
 pub fn done_told(next: NextStep) -> NextResult
     ensures { result ≡ done_result (step_of next) (answer_of next) }
 {
@@ -213,7 +213,7 @@ pub fn done_told(next: NextStep) -> NextResult
     }
 }
 
-/// A place from 0.
+/// Returns an index as C gets it: 0xffffffff if it is greater than that.
 pub fn place_told(at: usize) -> u32
     ensures { result ≡ told_place at }
 {
@@ -224,7 +224,7 @@ pub fn place_told(at: usize) -> u32
     }
 }
 
-/// The numbers, and 0 after them.
+/// Returns an array with these numbers, and zeros after them.
 pub fn padded<const N: usize>(numbers: &[u32]) -> [u32; N]
     requires { length numbers.now ≤ N }
     ensures { result ≡ filled N numbers.now }
@@ -236,7 +236,7 @@ pub fn padded<const N: usize>(numbers: &[u32]) -> [u32; N]
     all
 }
 
-/// An answer.
+/// Returns the result for an answer.
 pub fn answered(answer: &Answer) -> StepResult
     ensures { result ≡ answer_result answer.now }
 {
@@ -250,7 +250,7 @@ pub fn answered(answer: &Answer) -> StepResult
     }
 }
 
-/// What a step gave.
+/// Returns the result for an answer or a refusal.
 pub fn told(given: &Result<Answer, Refused>) -> StepResult
     ensures { result ≡ step_result given.now }
 {

@@ -1,6 +1,7 @@
-//! Enters the same calls again and again, so that what a call costs inside can be measured beside what it costs from C (`bench/calls`).
+//! Enters the same calls again and again, to measure what a call costs inside and compare it with a call from C (`bench/calls`).
 //!
-//! It makes other calls of the library too, as its users do: a function that one place alone calls becomes a part of that place, and costs less there.
+//! It makes other calls of the library too, as its users do. A function that is called from one place only is inlined there, and costs
+//! less.
 #![tactic(auto)]
 
 use l4_ipc::{

@@ -1,4 +1,4 @@
-//! What is written of words.
+//! Writes the meaning of words.
 ghost use Rattle.std.specs.Prelude.{◌≡◌, ℕ, ◌≤◌, ◌<◌, ◌+◌, ◌*◌, ◌++◌, ◌∷◌, [], List, length, IfOk, IfErr};
 ghost use Rattle.std.specs.Io.KnownBytes.{Appends};
 ghost use Rattle.l4_decode.specs.Decoded.{word_line, words_lines, items_lines, each_line, word_text, words_text, IsMessageText, IsDecoded};
@@ -16,7 +16,7 @@ use l4_msg::Tag;
 use l4_text::{Output, RunFault, Text};
 use std::io::Write;
 
-/// How words are read.
+/// The way in which words are read.
 #[derive(Clone, Copy, PartialEq, Eq, Debug)]
 pub enum Reading {
     /// Together as a message, the tag first.
@@ -115,7 +115,7 @@ fn tell_each<W: Write>(words: &[u32], size: PageSize, mark: &[u8], out: &mut Out
     tell_words(b"ignored", words, (end, ignored), mark, out, writer);
 }
 
-/// Writes what words mean as a message, each line behind a mark of at most two bytes.
+/// Writes the meaning of words as a message, each line after a mark of at most two bytes.
 pub fn put_message<W: Write>(
     words: &[u32],
     size: PageSize,
@@ -185,8 +185,10 @@ fn tell<W: Write>(words: &[u32], reading: Reading, size: PageSize, out: &mut Out
     }
 }
 
-/// Writes what words mean, a line a thing: read as a message they end with what they mean as a whole. `Write` comes where a write
-/// fails or takes no byte. It takes no memory.
+/// Writes the meaning of words, one line per thing. If they are read as a message, the last line says what they mean as a whole. Allocates
+/// no memory.
+///
+/// Returns `Write` if a write fails or takes no byte.
 pub fn decode<W: Write>(
     words: &[u32],
     reading: Reading,

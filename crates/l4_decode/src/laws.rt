@@ -11,12 +11,13 @@ ghost use Rattle.l4_decode.specs.Items.{item_text, read_item_text};
 ghost use Rattle.l4_decode.specs.Refusals.{refusal_text};
 ghost use Rattle.l4_decode.specs.declared.decoding.Reading.{Reading as AReading};
 
-/// What is written of words is one text.
+/// Ghost function: gives a proof that the text of words is unique. It compiles to nothing.
 pub fn decoded_is_unique()
     ensures { (size : APageSize) (reading : AReading) (words s t : List ℕ) → IsDecoded size reading words s → IsDecoded size reading words t → s ≡ t }
 {}
 
-/// What is told of a word is what it is read as: as an fpage, as a receive window, and of two words as an item.
+/// Ghost function: gives a proof that the text of words says how they are read: one word as an fpage or as a receive window, and two words
+/// as an item. It compiles to nothing.
 pub fn told_as_read()
     ensures fpage { (size : APageSize) (word : ℕ) (fpage : AnFpage) → ReadsAs word fpage → fpage_text size word ≡ place_text size fpage ++ granted_text fpage }
     ensures no_fpage { (size : APageSize) (word : ℕ) → IsMalformed word → fpage_text size word ≡ no_fpage_text (size_field word) }

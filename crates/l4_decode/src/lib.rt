@@ -1,4 +1,4 @@
-//! The words of messages, fpages, receive windows and thread ids, told in words.
+//! The meaning of messages, fpages, receive windows and thread ids, as text.
 #![tactic(auto)]
 
 mod decoding;

@@ -1,4 +1,4 @@
-//! What the words of a message mean as a whole.
+//! The meaning of a message as a whole.
 ghost use Rattle.std.specs.Prelude.{◌≡◌, ◌≤◌, ◌+◌, ◌++◌, ◌∷◌, [], length};
 ghost use Rattle.l4_decode.specs.Meanings.{Means, fault_text, request_text, whole_text};
 ghost use Rattle.l4_text.specs.Sizes.{text_bytes};
@@ -10,7 +10,7 @@ use l4_fpage::PageSize;
 use l4_msg::{FrameRequest, Message, MsgFault, PageFault};
 use l4_text::Text;
 
-/// What the words of a message mean.
+/// The meaning of words as a message.
 #[derive(Clone, Copy, PartialEq, Eq, Debug)]
 pub enum Meaning {
     /// They are refused.
@@ -23,7 +23,7 @@ pub enum Meaning {
     Plain { untyped: usize, items: usize },
 }
 
-/// What these words mean as a message: why they are refused, or what the message is that they begin with.
+/// Returns the meaning of these words as a message: the reason of their refusal, or what the message is with which they begin.
 pub fn meaning_of(words: &[u32]) -> Meaning
     ensures { Means words.now result }
 {

@@ -1,4 +1,4 @@
-//! How words, labels and lines are spelled.
+//! Spells words, labels and lines.
 ghost use Rattle.std.specs.Prelude.{◌≡◌, ◌≤◌, ◌<◌, ◌^◌, ◌+◌, ◌++◌, [], ◌∷◌, length, codes, decimal};
 ghost use Rattle.l4_answers.specs.Pages.{rights_text};
 ghost use Rattle.l4_decode.specs.Spelling.{hex_text, label_text};

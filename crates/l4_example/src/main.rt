@@ -1,5 +1,5 @@
-//! How the kernel is embedded: sigma0 hands pages to one thread, which delegates a range of them to another, takes it back, and then
-//! answers a third thread's page fault.
+//! Embeds the kernel: sigma0 maps pages to one thread, which delegates a range of them to another thread and revokes it. It then answers a
+//! third thread's page fault.
 #![tactic(auto)]
 
 use l4_ipc::{

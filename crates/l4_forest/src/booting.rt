@@ -1,4 +1,4 @@
-//! The places at the start.
+//! The initial mappings.
 
 ghost use Rattle.std.specs.Prelude.{◌≡◌, ◌<◌, ◌≤◌, ◌^◌, [], OnOk, IfOk, IsOk, IsTrue};
 ghost use Rattle.std.specs.FinSet as set;

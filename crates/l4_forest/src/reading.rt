@@ -1,4 +1,4 @@
-//! What places show.
+//! Reads the mappings of places.
 
 ghost use Rattle.std.specs.Prelude.{◌≡◌, option_and_then, MatchOption};
 ghost use Rattle.l4_mapdb.specs.Mappings.{shown};

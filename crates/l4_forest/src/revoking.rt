@@ -1,4 +1,4 @@
-//! Rights taken from what descends from pages.
+//! Removes rights from the descendants of pages.
 
 ghost use Rattle.std.specs.Prelude.{◌≡◌, ◌≢◌, ◌≤◌, ℕ, None, false};
 ghost use Rattle.l4_fpage.specs.Rights.{without, all_rights};

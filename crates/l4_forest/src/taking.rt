@@ -1,4 +1,4 @@
-//! Pages that go at once with all that descends from them.
+//! Removes pages at once, with everything that descends from them.
 
 ghost use Rattle.std.specs.Prelude.{◌≡◌, ◌≢◌, ◌≤◌, None, false};
 ghost use Rattle.l4_links.specs.Entries.{entry_at, HaveRights};

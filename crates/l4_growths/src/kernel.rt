@@ -22,7 +22,7 @@ const MAPS: [u32; 3] = [0x80, 0x40_0008, 0x40c7];
 /// The message that maps pages 4 to 7 with all rights, to pages 2,048 to 2,051.
 const MAPS_FOUR: [u32; 3] = [0x80, 0x80_0008, 0x40e7];
 
-/// The id of a thread in its first version.
+/// Returns the id of a thread in version 1.
 pub fn id(number: u32) -> ThreadId {
     match ThreadId::global(number, 1) {
         Some(id) => id,
@@ -30,7 +30,7 @@ pub fn id(number: u32) -> ThreadId {
     }
 }
 
-/// A send phase without an end.
+/// Returns a send phase with an infinite timeout.
 pub fn send(to: u32, words: &[u32]) -> Call {
     let mut registers: ArrayVec<u32, MAX_WORDS> = ArrayVec::new();
     let _ = registers.try_extend_from_slice(words);

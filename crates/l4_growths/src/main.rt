@@ -1,8 +1,9 @@
-//! Makes calls whose growth can be refused, and calls that take no memory, and tells after each all that is to be seen.
+//! Makes calls that may run out of memory, and calls that allocate none, and prints all visible state after each one.
 //!
-//! Where a call is refused, that is told with all that is to be seen then, and the same call is made once more. tests/programs/memory lets each growth
-//! fail in turn: what follows a refusal has to be what was told before it, and the rest what is told with ample memory. In front of each
-//! row of calls that take no memory stands a read, from which on tests/programs/memory refuses every growth.
+//! If a call is refused, its state is printed, and the same call is made once more. tests/programs/memory makes each allocation fail in
+//! turn. The state after a refusal must be the state before the call, and everything else must be printed as it is with ample memory.
+//! Before each series of calls that allocate nothing, the program reads once; from there on, tests/programs/memory refuses every
+//! allocation.
 #![tactic(auto)]
 
 mod forest;

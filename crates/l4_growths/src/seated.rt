@@ -1,4 +1,4 @@
-//! The locked kernel with its seats, and how a page came to where it is.
+//! The locked kernel with its seats, and the provenance of a page.
 
 use crate::kernel::{create, receive, send};
 use crate::lock::{show_history, show_seat};

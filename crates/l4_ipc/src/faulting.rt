@@ -1,4 +1,4 @@
-//! What a thread does as it faults at a page.
+//! Page faults of threads.
 ghost use Rattle.std.specs.Prelude.{◌≡◌, IsTrue};
 ghost use Rattle.l4_mapdb.specs.Mappings.{rights_at};
 ghost use Rattle.l4_threads.specs.Threads.{runs};

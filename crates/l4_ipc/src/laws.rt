@@ -1,4 +1,4 @@
-//! What holds of the machine's steps.
+//! Laws of the machine's steps.
 ghost use Rattle.std.specs.Prelude.{◌≡◌, Result};
 ghost use Rattle.l4_ipc.specs.declared.steps.Step.{Step as AStep};
 ghost use Rattle.l4_ipc.specs.declared.steps.Answer.{Answer as AnAnswer};

@@ -1,4 +1,4 @@
-//! Steps that came next, with their answers.
+//! Steps that were next, with their answers.
 ghost use Rattle.std.specs.Prelude.{◌≡◌};
 ghost use Rattle.l4_ipc.specs.NextSteps.{step_of, answer_of};
 

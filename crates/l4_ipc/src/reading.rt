@@ -1,4 +1,4 @@
-//! What the words of an Ipc say, and which of them are refused.
+//! Reads the words of an Ipc, and refuses them.
 ghost use Rattle.std.specs.Prelude.{◌≡◌, ◌==◌, ◌≤◌, true, length, IfOk, IfErr, IsOk};
 ghost use Rattle.l4_msg.specs.Messages.{IsWhole, tag_of};
 ghost use Rattle.l4_msg.specs.Sizes.{max_words};

@@ -1,4 +1,4 @@
-//! What a thread does next as a call starts or goes on.
+//! Starts and continues the calls of threads.
 ghost use Rattle.std.specs.Prelude.{◌≡◌, IsSome, []};
 ghost use Rattle.l4_threads.specs.Threads.{nilthread, state_of, end_call};
 ghost use Rattle.l4_threads.specs.declared.Reply.TheVariants.{Ipc};

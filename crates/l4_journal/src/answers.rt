@@ -7,10 +7,10 @@ use crate::lists::read_counted;
 use crate::words::{RECORD_WORDS, Record, Words, read_word};
 use l4_ipc::{Answer, MAX_THREADS, Outcome};
 
-/// The greatest number of words of an answer.
+/// The maximum number of words of an answer.
 pub const ANSWER_WORDS: usize = MAX_THREADS + 2;
 
-/// The word of an outcome.
+/// Returns the word of an outcome.
 #[inline(always)]
 pub fn outcome_word(outcome: Outcome) -> u32
     ensures { result ≡ outcome_code outcome }
@@ -25,7 +25,7 @@ pub fn outcome_word(outcome: Outcome) -> u32
     }
 }
 
-/// Appends an answer.
+/// Appends the words of an answer. There must be room for `ANSWER_WORDS`.
 pub fn put_answer(out: &mut Record, answer: &Answer)
     requires { length out.old.items + ANSWER_WORDS ≤ RECORD_WORDS }
     ensures items { out.new.items ≡ out.old.items ++ answer_code answer.now }
@@ -52,7 +52,7 @@ fn outcome_of(word: u32) -> Option<Outcome>
     }
 }
 
-/// An outcome, and the words after it.
+/// Reads an outcome. Returns it with the words after it, or None if the first word is not that of an outcome.
 pub fn read_outcome(words: Words<'_>) -> Option<(Outcome, Words<'_>)>
     ensures { result ≡ outcome_at words.entry }
 {
@@ -61,7 +61,7 @@ pub fn read_outcome(words: Words<'_>) -> Option<(Outcome, Words<'_>)>
     Some((outcome, rest))
 }
 
-/// An answer, and the words after it.
+/// Reads an answer. Returns it with the words after it, or None if the words are not those of an answer.
 pub fn read_answer(words: Words<'_>) -> Option<(Answer, Words<'_>)>
     ensures { result ≡ answer_at words.entry }
 {

@@ -1,4 +1,4 @@
-//! Calls as words: a tag, and behind it a word for each field. A list comes last, and ends with the words.
+//! Calls as words: a tag, followed by a word for each field. A list comes last, and ends with the words.
 ghost use Rattle.std.specs.Prelude.{◌≡◌, ◌+◌, ◌≤◌, ◌<◌, ◌++◌, length};
 ghost use Rattle.l4_journal.specs.Codes.{call_tag, call_fields, control_fields, CallFits};
 ghost use Rattle.l4_journal.specs.Reading.{ipc_at, fault_at, unmap_at, create_at, set_pager_at, call_of};
@@ -27,13 +27,13 @@ const SET_PAGER: u32 = 4;
 /// The tag of the end of a thread.
 const DELETE: u32 = 5;
 
-/// The greatest number of words of a call's fields.
+/// The maximum number of words of a call's fields.
 pub const FIELD_WORDS: usize = MAX_WORDS + 4;
 
 /// The bits of a set of rights are below this.
 const RIGHTS: u32 = 8;
 
-/// The tag of a call.
+/// Returns the tag of a call.
 pub fn call_tag(call: &Call) -> u32
     ensures { result ≡ call_tag call.now }
 {
@@ -47,7 +47,7 @@ pub fn call_tag(call: &Call) -> u32
     }
 }
 
-/// Appends the fields of a call.
+/// Appends the fields of a call. There must be room for `FIELD_WORDS`.
 pub fn put_fields(out: &mut Record, call: &Call)
     requires { length out.old.items + FIELD_WORDS ≤ RECORD_WORDS }
     ensures items { out.new.items ≡ out.old.items ++ call_fields call.now }
@@ -153,7 +153,7 @@ fn read_set_pager(words: Words<'_>) -> Option<SetPager>
     })
 }
 
-/// The call of this tag and these fields.
+/// Reads the call of this tag and these fields. A call takes all the words. Returns None if the words are not those of such a call.
 pub fn read_call(tag: u32, words: Words<'_>) -> Option<Call>
     ensures { result ≡ call_of tag words.entry }
 {

@@ -9,7 +9,7 @@ use crate::words::{RECORD_WORDS, Words};
 use std::alloc::{AllocError, Global};
 use std::marker::{Model, PhantomData};
 
-/// What is read from words.
+/// A type that is read from words.
 pub trait FromWords {
     /// The item that words begin with.
     ghost item_at: { List ℕ → Option Self };
@@ -19,7 +19,7 @@ pub trait FromWords {
         ensures { result ≡ item_at words.entry };
 }
 
-/// Items, each stored as the words of a record.
+/// A list of items, each stored as the words of a record.
 #[derive(Drop)]
 pub struct Journal<T: FromWords> {
     store: Store,
@@ -38,7 +38,7 @@ impl<T: FromWords> Model for Journal<T> {
 }
 
 impl<T: FromWords> Journal<T> {
-    /// No items.
+    /// Creates a journal without items.
     pub fn new(alloc: Global) -> Journal<T>
         ensures { (result.items ≡ []) × (result.room < 2 ^ 63) }
     {
@@ -48,28 +48,28 @@ impl<T: FromWords> Journal<T> {
         }
     }
 
-    /// How many items there are.
+    /// Returns the number of items.
     pub fn len(&self) -> usize
         ensures { result ≡ length self.now.items }
     {
         self.store.len()
     }
 
-    /// Whether there is no item.
+    /// Returns whether there is no item.
     pub fn is_empty(&self) -> bool
         ensures { result ≡ nat_eq (length self.now.items) 0 }
     {
         self.len() == 0
     }
 
-    /// The words of the item at this place, None beyond the end.
+    /// Returns the words of the item at this place, without a copy, or None beyond the end.
     pub fn words(&self, place: usize) -> Option<Words<'_>>
         ensures { MatchOption result (slice_get self.now.items place ≡ None) (λ words. (slice_get self.now.items place ≡ T.item_at words) × IsTrue (is_some (T.item_at words))) }
     {
         self.store.get(place)
     }
 
-    /// The item at this place, None beyond the end.
+    /// Returns the item at this place, or None beyond the end.
     pub fn get(&self, place: usize) -> Option<T>
         ensures { result ≡ slice_get self.now.items place }
     {
@@ -79,7 +79,7 @@ impl<T: FromWords> Journal<T> {
         }
     }
 
-    /// The items from this place on.
+    /// Returns an iterator over the items from this place on.
     pub fn items_from(&self, place: usize) -> ItemsFrom<'_, T>
         ensures items { result ≡ drop place self.now.items }
         ensures bound { length result < 2 ^ 64 }
@@ -88,7 +88,9 @@ impl<T: FromWords> Journal<T> {
         ItemsFrom { list: self, place }
     }
 
-    /// Makes room for more items.
+    /// Allocates room for this many more items, whatever their words.
+    ///
+    /// Returns `AllocError` if an allocation fails, or if the journal could then exceed 2^32 - 1 words. The items and the room are unchanged.
     pub fn reserve(&mut self, more: usize) -> Result<(), AllocError>
         ensures items { self.new.items ≡ self.old.items }
         ensures room { (self.old.room ≤ self.new.room) × (self.new.room < 2 ^ 63) }
@@ -97,8 +99,8 @@ impl<T: FromWords> Journal<T> {
         self.store.reserve(more)
     }
 
-    /// Appends the item of a few words and of those after them, for which there is room. It costs less than to put them together before,
-    /// where the number of the first ones is known as the program is built.
+    /// Appends the item whose words are `head` followed by `tail`. There must be room for it. This costs less than putting the words
+    /// together first if the length of `head` is a constant.
     #[inline(always)]
     pub fn push(&mut self, head: &[u32], tail: &[u32])
         requires room { length self.old.items < self.old.room }
@@ -111,7 +113,7 @@ impl<T: FromWords> Journal<T> {
     }
 }
 
-/// Items of a journal, one after another. Contracts see those that are left.
+/// An iterator over items of a journal. Contracts see the items that are left.
 #[derive(Drop)]
 pub struct ItemsFrom<'a, T: FromWords> {
     list: &'a Journal<T>,

@@ -1,4 +1,4 @@
-//! The journal: entries as words, one behind another, and the words of calls, answers and replies.
+//! The journal: items as words, one after another, and the words of calls, answers and replies.
 #![tactic(auto)]
 
 mod answers;

@@ -1,4 +1,4 @@
-//! Lists as words: one that ends the words, and one that stands behind its length.
+//! Lists as words: one that ends the words, and one that follows its length.
 ghost use Rattle.std.specs.Prelude.{◌≡◌};
 ghost use Rattle.l4_journal.specs.Words.{Gives};
 ghost use Rattle.l4_journal.specs.Reading.{list_at, counted_at};

@@ -11,7 +11,7 @@ pub const PLACE_WORDS: usize = 2;
 /// What the upper word of a place counts.
 const UPPER: usize = 0x1_0000_0000;
 
-/// Appends a place.
+/// Appends a place as its lower and its upper word.
 pub fn put_place(out: &mut Record, place: usize)
     requires { length out.old.items + PLACE_WORDS ≤ RECORD_WORDS }
     ensures { out.new.items ≡ out.old.items ++ place_code place }
@@ -20,7 +20,7 @@ pub fn put_place(out: &mut Record, place: usize)
     out.push((place / UPPER) as u32);
 }
 
-/// A place, and the words after it.
+/// Reads a place. Returns it with the words after it, or None if there are fewer than two words.
 pub fn read_place(words: Words<'_>) -> Option<(usize, Words<'_>)>
     ensures { result ≡ place_at words.entry }
 {

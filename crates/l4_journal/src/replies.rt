@@ -1,4 +1,4 @@
-//! Replies as words: a tag, and behind it a word for each field. A list stands behind its length.
+//! Replies as words: a tag, followed by a word for each field. A list follows its length.
 ghost use Rattle.std.specs.Prelude.{◌≡◌, ◌+◌, ◌≤◌, ◌++◌, length};
 ghost use Rattle.l4_journal.specs.Codes.{reply_code, ReplyFits};
 ghost use Rattle.l4_journal.specs.Reading.{received_at, reply_at};
@@ -7,10 +7,10 @@ use crate::lists::read_counted;
 use crate::words::{RECORD_WORDS, Record, Words, read_word};
 use l4_ipc::{IpcReply, MAX_WORDS, Reply, ThreadId};
 
-/// The greatest number of words of a reply.
+/// The maximum number of words of a reply.
 pub const REPLY_WORDS: usize = MAX_WORDS + 5;
 
-/// Appends a reply.
+/// Appends the words of a reply. There must be room for `REPLY_WORDS`.
 pub fn put_reply(out: &mut Record, reply: &Reply)
     requires { length out.old.items + REPLY_WORDS ≤ RECORD_WORDS }
     ensures items { out.new.items ≡ out.old.items ++ reply_code reply.now }
@@ -49,7 +49,7 @@ fn read_received(words: Words<'_>) -> Option<(Reply, Words<'_>)>
     Some((Reply::Ipc(reply), rest))
 }
 
-/// A reply, and the words after it.
+/// Reads a reply. Returns it with the words after it, or None if the words are not those of a reply.
 #[tactic(auto, unfolding(crate::specs::Reading::reply_at))]
 pub fn read_reply(words: Words<'_>) -> Option<(Reply, Words<'_>)>
     ensures { result ≡ reply_at words.entry }

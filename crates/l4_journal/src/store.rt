@@ -1,4 +1,4 @@
-//! Records of words in one list, and beside them where each ends.
+//! Records of words in one list, and a second list of the places where they end.
 ghost use Rattle.std.specs.Prelude.{◌≡◌, ◌+◌, ◌*◌, ◌≤◌, ◌<◌, ◌++◌, ◌∷◌, ◌^◌, [], length, slice_get, slice_index_or, vec_len, vec_capacity, OnOk};
 ghost use Rattle.l4_journal.specs.Inside.Stored.{AreEnds, RecordList, record_list, start_at};
 
@@ -73,7 +73,7 @@ impl Model for Store {
 }
 
 impl Store {
-    /// No records.
+    /// Creates a store without records.
     pub fn new(alloc: Global) -> Store
         ensures { result ≡ record_list [] 0 }
     {
@@ -84,14 +84,14 @@ impl Store {
         }
     }
 
-    /// How many records there are.
+    /// Returns the number of records.
     pub fn len(&self) -> usize
         ensures { result ≡ length self.now.records }
     {
         self.ends.len()
     }
 
-    /// The record at this place, None beyond the end.
+    /// Returns the record at this place, or None beyond the end.
     pub fn get(&self, place: usize) -> Option<Words<'_>>
         ensures { result ≡ slice_get self.now.records place }
     {
@@ -104,7 +104,7 @@ impl Store {
         Some(Words::of(&words[start..end]))
     }
 
-    /// Makes room for more records. After an `Err` there are the same records, and the same room.
+    /// Allocates room for this many more records. After an error, the records and the room are unchanged.
     #[inline(always)]
     pub fn reserve(&mut self, more: usize) -> Result<(), AllocError>
         ensures records { self.new.records ≡ self.old.records }
@@ -120,7 +120,7 @@ impl Store {
         Ok(())
     }
 
-    /// Appends the record of a few words and of those after them, for which there is room.
+    /// Appends the record whose words are `head` followed by `tail`. There must be room for it.
     #[inline(always)]
     pub fn push(&mut self, head: &[u32], tail: &[u32])
         requires room { length self.old.records < self.old.room }

@@ -4,11 +4,11 @@ ghost use Rattle.l4_journal.specs.Words.{Lends, word_at, words_at};
 
 use std::marker::Model;
 
-/// The greatest number of words of a record: of two lists of 64 words, and of the numbers beside them.
+/// The maximum number of words of a record: two lists of 64 words, and the numbers beside them.
 pub const RECORD_WORDS: usize = 144;
 
-/// The words of one value, or of several that are stored together, in a place of their own. Those that are taken away are not written over
-/// before others take their place: a list of the library writes blanks.
+/// The words of one value, or of several that are stored together, in a buffer. Removed words are not overwritten until others take their
+/// place; a list of the library would write blanks.
 #[derive(Drop)]
 pub struct Record {
     cells: [u32; RECORD_WORDS],
@@ -28,7 +28,7 @@ impl Model for Record {
 }
 
 impl Record {
-    /// No words.
+    /// Creates a record without words.
     pub fn new() -> Record
         ensures { result.items ≡ [] }
     {
@@ -38,7 +38,7 @@ impl Record {
         }
     }
 
-    /// Takes all words away.
+    /// Removes all words.
     #[inline(always)]
     pub fn clear(&mut self)
         ensures { self.new.items ≡ [] }
@@ -46,7 +46,7 @@ impl Record {
         self.len = 0;
     }
 
-    /// Appends a word.
+    /// Appends a word. There must be room for it.
     #[inline(always)]
     pub fn push(&mut self, word: u32)
         requires { length self.old.items < RECORD_WORDS }
@@ -56,7 +56,7 @@ impl Record {
         self.len += 1;
     }
 
-    /// Appends words.
+    /// Appends words. There must be room for all of them.
     #[inline(always)]
     pub fn push_all(&mut self, words: &[u32])
         requires { length self.old.items + length words.now ≤ RECORD_WORDS }
@@ -67,7 +67,7 @@ impl Record {
         self.len = end;
     }
 
-    /// The words.
+    /// Returns the words.
     #[inline(always)]
     pub fn as_slice(&self) -> &[u32]
         ensures words { result.now ≡ self.now.items }
@@ -77,7 +77,7 @@ impl Record {
     }
 }
 
-/// Words that are left to be read. Contracts see them as a list.
+/// The words that are left to be read. Contracts see them as a list.
 #[derive(Drop)]
 pub struct Words<'a> {
     words: &'a [u32],
@@ -92,7 +92,7 @@ impl<'a> Model for Words<'a> {
 }
 
 impl<'a> Words<'a> {
-    /// These words.
+    /// Returns these words, to be read from their front.
     #[inline(always)]
     pub fn of(words: &'a [u32]) -> Words<'a>
         ensures { result ≡ words.now }
@@ -100,7 +100,7 @@ impl<'a> Words<'a> {
         Words { words }
     }
 
-    /// The words as they lie.
+    /// Returns the words, without a copy.
     #[inline(always)]
     pub fn as_slice(&self) -> &[u32]
         ensures { result.now ≡ self.now }
@@ -109,7 +109,7 @@ impl<'a> Words<'a> {
     }
 }
 
-/// The first word, and those after it. None where there is none.
+/// Returns the first word and the words after it, or None if there is no word.
 #[inline(always)]
 pub fn read_word(words: Words<'_>) -> Option<(u32, Words<'_>)>
     ensures { result ≡ word_at words.entry }
@@ -120,7 +120,7 @@ pub fn read_word(words: Words<'_>) -> Option<(u32, Words<'_>)>
     }
 }
 
-/// So many words as they lie, and those after them. None where there are fewer.
+/// Returns the first `count` words, without a copy, and the words after them, or None if there are fewer.
 #[inline(always)]
 pub fn read_words(words: Words<'_>, count: usize) -> Option<(&[u32], Words<'_>)>
     ensures { Lends result (words_at count words.entry) }

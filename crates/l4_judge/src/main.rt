@@ -1,7 +1,7 @@
-//! Reads a script on standard input, with the options of `l4_steps`, and has `check_provenance` judge what `provenance` finds of each page that
-//! a space but sigma0's has at the end, and of the page behind each: tests/random/pages gives it random scripts.
+//! Reads a script on standard input, with the options of `l4_steps`. Passes what `provenance` finds to `check_provenance`, for each page
+//! that a space other than sigma0's has at the end, and for the page after each: tests/random/pages gives it random scripts.
 //!
-//! Exit statuses: 0 where all is right, 1 where something isn't; else those of `l4 run`.
+//! Exit statuses: 0 if everything is right, 1 if something is not; otherwise those of `l4 run`.
 #![tactic(auto)]
 
 ghost use Rattle.std.specs.Prelude.{◌≤◌};

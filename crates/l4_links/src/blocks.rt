@@ -1,4 +1,4 @@
-//! Pages that go to other places all at once, under their keys. The trees don't speak of places, so nothing else changes.
+//! Moves pages to other places all at once, under their keys. The trees contain no places, so nothing else changes.
 
 ghost use Rattle.std.specs.Prelude.{◌≡◌, ◌≢◌, ◌≤◌, ◌+◌, ◌-◌, ◌∷◌, ◌⊎◌, [], ℕ, IfOk, OnErr, Some, None, true, false};
 ghost use Rattle.l4_fpage.specs.Rights.{RightsSet, Within};

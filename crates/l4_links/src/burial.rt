@@ -1,6 +1,6 @@
-//! The stack of nodes without rights, and their burial: they leave the list in the order of the stack that they stand on. Between two of them the
-//! list is whole and the trees needn't be, since a child may be left of a parent that has gone. Once all have gone the trees are
-//! whole again: what descends from a node without rights has none either.
+//! The stack of nodes without rights, and their removal. They leave the list in the order of that stack. Between two removals, the list is
+//! complete but the trees need not be: a child may be left of a parent that was removed. After the last one the trees are complete again,
+//! because what descends from a node without rights has none either.
 
 ghost use Rattle.std.specs.Prelude.{◌≡◌, ◌≢◌, ℕ, List, Some, None};
 ghost use Rattle.l4_links.specs.Inside.Nodes.{AreKeys, Caps, IsForest};

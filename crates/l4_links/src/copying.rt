@@ -1,11 +1,13 @@
-//! Copies of the nodes. A key is of the same page in the copy.
+//! Copies of the nodes. A key has the same page in the copy.
 
 ghost use Rattle.std.specs.Prelude.{◌≡◌, IfOk};
 
 use crate::{Links, NoMemory};
 
 impl Links {
-    /// The same pages and spaces, in memory of their own. What is done with the one is not seen in the other.
+    /// Returns a copy with the same keys, pages and spaces, in memory of its own. A change of one is not visible in the other.
+    ///
+    /// Returns `NoMemory` if an allocation fails.
     pub fn copy(&self) -> Result<Links, NoMemory>
         ensures { IfOk result (λ copy. copy ≡ self.now) }
     {

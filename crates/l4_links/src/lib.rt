@@ -1,7 +1,7 @@
-//! Pages and what was mapped from what: the nodes of all pages stand in a slab, linked in one list in depth-first order, and page
-//! tables name the key of each page. A new child goes straight after its parent, and what descends from a node is the run of
-//! deeper nodes straight after it, so each operation walks the nodes that it touches. No contract speaks of the list or of the
-//! tables: what is said is said of parents, of what descends from them, and of which page has which key.
+//! Pages, and which page was mapped from which. The nodes of all pages are in a slab, linked in one list in depth-first order, and page
+//! tables name the key of each page. A new child is inserted directly after its parent. What descends from a node is the run of deeper
+//! nodes directly after it, so each operation visits only the nodes that it touches. Contracts name neither the list nor the tables. They
+//! name parents, descendants, and the page of each key.
 #![tactic(auto)]
 
 ghost use Rattle.std.specs.Prelude.{◌≡◌, ◌≢◌, ◌⊎◌, ◌↔◌, ◌≤◌, ◌+◌, ◌-◌, [], ℕ, length, true, false, IsTrue, IsOk, OnOk, OnErr, IfOk, IfSome, MatchOption, Some, None};
@@ -32,33 +32,33 @@ use standings::standing_of;
 use std::alloc::Global;
 use std::marker::Model;
 
-/// What stands in the trees of mappings.
+/// A node of the trees of mappings.
 #[derive(Clone, Copy, Debug, PartialEq, Eq)]
 pub struct Standing {
-    /// The number of the frame that is shown.
+    /// The number of the frame that is mapped.
     pub frame: u32,
-    /// What may be done with the page.
+    /// The rights to the page.
     pub rights: Rights,
-    /// Whether it is marked as one that a message moves.
+    /// Whether the node is marked as one that a message moves.
     pub source: bool,
-    /// The rights of the item that has granted it here, while a message is delivered.
+    /// The rights of the item that granted the page here, while a message is delivered.
     pub granted: Option<Rights>,
-    /// The key of the parent: the page that it was mapped from. None at the top of its tree.
+    /// The key of the parent: the page that it was mapped from. None for the root of a tree.
     pub parent: Option<usize>,
 }
 
-/// A page, and what stands there.
+/// A page and its node.
 #[derive(Clone, Copy, Debug, PartialEq, Eq)]
 pub struct Entry {
     /// The page.
     pub place: Place,
-    /// Whether a message fills the page: it stays as a blank where what stands there is cut off.
+    /// Whether a message fills the page. If its node is then cut off, the page stays as a blank.
     pub wanted: bool,
-    /// None in a blank: a page with a key, where nothing stands.
+    /// The node, or None in a blank: a page with a key but without a node.
     pub stands: Option<Standing>,
 }
 
-/// The nodes of all pages, and the spaces that there are.
+/// The nodes of all pages, and the spaces that exist.
 #[derive(Drop)]
 pub struct Links {
     nodes: Slots,
@@ -93,7 +93,7 @@ impl Links {
     ghost use Rattle.l4_links.specs.Entries.{entry_at, standing_at, parent_of, IsStanding, IsBlank, IsAt, IsSource, HaveRights, HavePlaces, AreTrees, NoKeyFrom, IsNextKey, NoKeyIn, IsNextKeyIn, IsKeyOf, NoParentIn, IsNextParentIn, Descends, AddsBlank, Stands, Sprouts, AddsChild, Clears, CutsBelow, Buries, CapsBelow, CapsTree, SetsSource, SetsPlain, SetsWanted, TakesOver, MovesPages, Hinders, LacksPlace};
     ghost use Rattle.l4_links.specs.declared.Standing.{Standing as AStanding};
 
-    /// No page, and no space.
+    /// Creates a value without pages and spaces.
     pub fn new(alloc: Global) -> Links
         ensures entries { result.entries ≡ [] }
         ensures spaces { result.spaces ≡ set.empty }
@@ -108,7 +108,9 @@ impl Links {
         }
     }
 
-    /// Begins an empty space. Nothing changes if it is there.
+    /// Adds an empty space. Changes nothing if the space exists.
+    ///
+    /// Returns `NoMemory` if an allocation fails; then nothing has changed.
     pub fn add_space(&mut self, space: u64) -> Result<(), NoMemory>
         ensures ok { OnOk result (self.new ≡ record self.old { spaces = set.insert self.old.spaces space }) }
         ensures err { OnErr result (self.new ≡ self.old) }
@@ -118,7 +120,9 @@ impl Links {
         self.pages.add(space)
     }
 
-    /// Takes the memory for so many more pages at once, but for the tables that name them, so that none of it is taken twice.
+    /// Allocates the memory for this many more pages at once, except for the tables that name them.
+    ///
+    /// Returns `NoMemory` if an allocation fails; the value that contracts see is unchanged.
     pub fn reserve(&mut self, pages: usize) -> Result<(), NoMemory>
         ensures { self.new ≡ self.old }
     {
@@ -126,7 +130,7 @@ impl Links {
         Ok(())
     }
 
-    /// Ends a space that no key is of. Nothing changes if it isn't there.
+    /// Removes a space in which no page has a key. Changes nothing if there is no such space.
     pub fn end_space(&mut self, space: u64)
         requires empty { NoKeyFrom self.old.entries space 0 }
         ensures { self.new ≡ record self.old { spaces = set.remove self.old.spaces space } }
@@ -134,29 +138,29 @@ impl Links {
         self.pages.remove(space);
     }
 
-    /// The least number of a space that is not below `from`, None where there is none.
+    /// Returns the least number of a space that is not below `from`, or None.
     pub fn next_space(&self, from: u64) -> Option<u64>
         ensures { MatchOption result (NoSpaceFrom self.now.spaces from) (IsNextSpace self.now.spaces from) }
     {
         self.pages.next_space(from)
     }
 
-    /// The key of the page.
+    /// Returns the key of the page, or None if it has none.
     pub fn find(&self, place: Place) -> Option<usize>
         ensures { (key : ℕ) → (result ≡ Some key) ↔ IsAt self.now.entries place key }
     {
         self.pages.get(place.space, place.page)
     }
 
-    /// The least page of the space with a key that is not below `page`, None where there is none.
+    /// Returns the least page of the space that has a key and is not below `page`, or None.
     pub fn next_key(&self, space: u64, page: u32) -> Option<u32>
         ensures { MatchOption result (NoKeyFrom self.now.entries space page) (IsNextKey self.now.entries space page) }
     {
         self.pages.next_present(space, page)
     }
 
-    /// The least page of the space with a key that is not below `page`, and its key, if it is below `end`. Nothing from `end` on is
-    /// looked at.
+    /// Returns the least page of the space that has a key and is not below `page`, with its key, if it is below `end`. Does not look at
+    /// pages from `end` on.
     #[inline]
     pub fn next_key_in(&self, space: u64, page: u32, end: u32) -> Option<(u32, usize)>
         ensures { MatchOption result (NoKeyIn self.now.entries space page end)
@@ -165,8 +169,8 @@ impl Links {
         self.pages.next_node(space, page, end)
     }
 
-    /// The least page of the space that is not below `page` and has a key that something descends from, and its key, if it is below
-    /// `end`. Nothing from `end` on is looked at.
+    /// Returns the least page of the space that is not below `page` and has descendants, with its key, if it is below `end`. Does not look
+    /// at pages from `end` on.
     #[inline(always)]
     pub fn next_parent_in(&self, space: u64, page: u32, end: u32) -> Option<(u32, usize)>
         ensures { MatchOption result (NoParentIn self.now.entries space page end) (λ found. IsNextParentIn self.now.entries space page end found.0 found.1) }
@@ -174,28 +178,28 @@ impl Links {
         parents::next_parent(&self.nodes, &self.pages, space, page, end)
     }
 
-    /// A number that all keys lie below.
+    /// Returns a number that is above all keys.
     pub fn bound(&self) -> usize
         ensures { length self.now.entries ≤ result }
     {
         self.nodes.capacity()
     }
 
-    /// What holds of the pages at all times: each lies in a space that is there, and has one key. It does nothing.
+    /// Ghost function: gives a proof the invariant of pages: each lies in a space that exists, and has one key. It compiles to nothing.
     pub fn law_places(&self)
         ensures { HavePlaces self.now }
     {
         let _ = &self.nodes;
     }
 
-    /// What holds of what stands at all times: it stands in trees. It does nothing.
+    /// Ghost function: gives a proof the invariant that the nodes form trees. It compiles to nothing.
     pub fn law_trees(&self)
         ensures { AreTrees self.now.entries }
     {
         let _ = &self.nodes;
     }
 
-    /// What is under the key.
+    /// Returns the page of the key with its node, or None if the key is not in use.
     pub fn at(&self, key: usize) -> Option<Entry>
         ensures { result ≡ entry_at self.now.entries key }
     {
@@ -209,14 +213,16 @@ impl Links {
         })
     }
 
-    /// What stands under the key.
+    /// Returns the node under the key, or None if there is no node.
     pub fn standing(&self, key: usize) -> Option<Standing>
         ensures { result ≡ standing_at self.now.entries key }
     {
         standing_of(node_of(&self.nodes, key))
     }
 
-    /// Adds a blank for a page that has no key. Its key is given.
+    /// Adds a blank for a page that has no key, and returns its key.
+    ///
+    /// Returns `NoMemory` if an allocation fails or 2^32 - 1 keys are in use; then nothing has changed.
     pub fn add_blank(&mut self, place: Place) -> Result<usize, NoMemory>
         requires there { IsTrue (set.contains self.old.spaces place.space) }
         requires fits { IsPage place.page }
@@ -233,7 +239,7 @@ impl Links {
         Ok(key)
     }
 
-    /// Takes the blank under the key away.
+    /// Removes the blank under the key.
     pub fn take_blank(&mut self, key: usize)
         requires blank { IsBlank self.old.entries key }
         ensures gone { entry_at self.new.entries key ≡ None }
@@ -243,7 +249,7 @@ impl Links {
         remove(&mut self.nodes, &mut self.pages, key);
     }
 
-    /// Lets the top of a tree stand at the blank, with some right.
+    /// Puts the root of a tree into the blank, with at least one right.
     pub fn stand_root(&mut self, key: usize, frame: u32, rights: Rights)
         requires blank { IsBlank self.old.entries key }
         requires some { rights ≢ no_rights }
@@ -254,8 +260,8 @@ impl Links {
         self.stamp = fresh(self.stamp);
     }
 
-    /// Lets a child of the parent stand at the blank. It shows the parent's frame, and has those of these rights that the
-    /// parent has, of which there is one.
+    /// Puts a child of the parent into the blank. The child has the parent's frame, and those of these rights that the parent has, which
+    /// must be at least one.
     pub fn stand_under(&mut self, parent: usize, key: usize, rights: Rights)
         requires there { IsStanding self.old.entries parent }
         requires blank { IsBlank self.old.entries key }
@@ -270,8 +276,8 @@ impl Links {
         self.stamp = fresh(self.stamp);
     }
 
-    /// Lets a child of the parent that nothing descends from have those of these rights that the parent has, of which there is one, and
-    /// leaves it where it stands. Whether the key is of a child of the parent is given, and nothing changes where it isn't.
+    /// Gives a child of the parent, from which nothing descends, those of these rights that the parent has, and leaves it at its place.
+    /// They must be at least one. Returns whether the key is that of a child of the parent; changes nothing if it is not.
     pub fn renew_child(&mut self, parent: usize, key: usize, rights: Rights) -> bool
         requires leaf { (low : ℕ) → ¬ (Descends self.old.entries low key) }
         requires plain { (child : AStanding) → standing_at self.old.entries key ≡ Some child → (child.source ≡ false) × (child.granted ≡ None) }
@@ -300,10 +306,10 @@ impl Links {
         true
     }
 
-    /// Adds a child of the parent for a page, if the page has no key, and gives the child's key. It shows the parent's frame, and has
-    /// those of these rights that the parent has, of which there is one. None where the page has a key, and nothing changes then.
+    /// Adds a child of the parent for a page that has no key, and returns the child's key. The child has the parent's frame, and those of
+    /// these rights that the parent has, which must be at least one. Returns None, and changes nothing, if the page has a key.
     ///
-    /// NoMemory comes only where the page has no key, and changes nothing.
+    /// Returns `NoMemory` only if the page has no key; then nothing has changed.
     pub fn add_child(
         &mut self,
         parent: usize,
@@ -355,8 +361,8 @@ impl Links {
         Ok(None)
     }
 
-    /// Cuts off all that descends from the key, and lets nothing stand under the key: a blank is left. What is cut off goes with its
-    /// page, but for a wanted page, which is left as a blank.
+    /// Cuts off everything that descends from the key, and leaves a blank under the key. Each node that is cut off is removed with its
+    /// page, but a wanted page stays as a blank.
     pub fn clear(&mut self, key: usize)
         requires some { HaveRights self.old.entries }
         ensures clears { Clears key self.old.entries self.new.entries }
@@ -369,8 +375,8 @@ impl Links {
         self.stamp = fresh(self.stamp);
     }
 
-    /// Cuts off all that descends from the key, in one pass. What stands under the key stays as it is, and what is cut off goes with
-    /// its page, but for a wanted page, which is left as a blank.
+    /// Cuts off everything that descends from the key, in one pass, and keeps the node under the key. Each node that is cut off is removed
+    /// with its page, but a wanted page stays as a blank.
     pub fn cut_below(&mut self, key: usize)
         requires some { HaveRights self.old.entries }
         ensures cuts { CutsBelow key self.old.entries self.new.entries }
@@ -383,8 +389,8 @@ impl Links {
         self.stamp = fresh(self.stamp);
     }
 
-    /// Lets what stands under the key stand at the blank's page, and takes the blank away. It keeps its rights, its parent and its
-    /// children, and is noted as granted by an item of these rights.
+    /// Moves the node under the key to the blank's page, and removes the blank. The node keeps its rights, its parent and its children. It
+    /// records that an item with these rights granted it.
     pub fn take_over(&mut self, key: usize, blank: usize, rights: Rights)
         requires there { IsStanding self.old.entries key }
         requires blank { IsBlank self.old.entries blank }
@@ -394,9 +400,11 @@ impl Links {
         take_over(&mut self.nodes, &mut self.pages, key, blank, rights);
     }
 
-    /// Lets all that is at the pages from the source on and before the end go to the places from the target on in another space. Each page
-    /// keeps its key, its rights, its parent and its children. Whether it did is given: nothing changes where a page has other rights
-    /// than these, or where one of the places has a key. NoMemory comes only where one of the places has no key.
+    /// Moves the pages from the source on and before the end to the places from the target on, in another space. Each page keeps its key,
+    /// its rights, its parent and its children. Returns whether the pages were moved. They are not, and nothing changes, if a page has
+    /// other rights than these, or one of the places has a key.
+    ///
+    /// Returns `NoMemory` only if one of the places has no key; then nothing has changed.
     pub fn move_pages(
         &mut self,
         source: Place,
@@ -426,8 +434,8 @@ impl Links {
         Ok(true)
     }
 
-    /// Lets all that descends from the key have no other rights than these. Nothing is visited where what stands under the key has
-    /// no others, as its descendants have none then, and calls with the same rights one after another visit no run twice.
+    /// Reduces the rights of everything that descends from the key to these rights. Visits nothing if the node under the key has no other
+    /// rights, because its descendants have none then. Successive calls with the same rights visit no run twice.
     pub fn cap_below(&mut self, top: usize, cap: Rights)
         ensures caps { CapsBelow top cap self.old.entries self.new.entries }
         ensures spaces { self.new.spaces ≡ self.old.spaces }
@@ -435,7 +443,7 @@ impl Links {
         self.cap_run(top, cap, false);
     }
 
-    /// Lets what stands under the key, and all that descends from it, have no other rights than these.
+    /// Reduces the rights of the node under the key, and of everything that descends from it, to these rights.
     pub fn cap_tree(&mut self, top: usize, cap: Rights)
         ensures caps { CapsTree top cap self.old.entries self.new.entries }
         ensures spaces { self.new.spaces ≡ self.old.spaces }
@@ -467,7 +475,7 @@ impl Links {
         self.doomed = cap_at(&mut self.nodes, top, cap, doomed);
     }
 
-    /// Takes away what stands without a right, with its page.
+    /// Removes all nodes without rights, with their pages.
     pub fn bury(&mut self)
         ensures buries { Buries self.old.entries self.new.entries }
         ensures spaces { self.new.spaces ≡ self.old.spaces }
@@ -477,7 +485,7 @@ impl Links {
         self.stamp = fresh(self.stamp);
     }
 
-    /// Whether a source descends from the key. Calls one after another visit no node twice.
+    /// Returns whether a source descends from the key. Successive calls visit no node twice.
     pub fn has_source_below(&mut self, top: usize) -> bool
         ensures same { (key : ℕ) → entry_at self.new.entries key ≡ entry_at self.old.entries key }
         ensures yes { result ≡ true → (low : ℕ) × Descends self.old.entries low top × IsSource self.old.entries low }
@@ -497,8 +505,8 @@ impl Links {
         false
     }
 
-    /// Whether nothing descends from what stands under the key. It is read at once from the node after it in the list. False where
-    /// nothing stands.
+    /// Returns whether the node under the key has no descendants, which its successor in the list shows at once. Returns false if there is
+    /// no node.
     pub fn is_leaf(&self, key: usize) -> bool
         ensures yes { result ≡ true → IsStanding self.now.entries key × ((low : ℕ) → ¬ (Descends self.now.entries low key)) }
         ensures no { result ≡ false → IsStanding self.now.entries key → (low : ℕ) × Descends self.now.entries low key }
@@ -506,7 +514,7 @@ impl Links {
         walks::is_leaf(&self.nodes, key)
     }
 
-    /// Marks what stands under the key as a source.
+    /// Marks the node under the key as a source, or removes that mark.
     pub fn set_source(&mut self, key: usize, source: bool)
         ensures sets { SetsSource key source self.old.entries self.new.entries }
         ensures spaces { self.new.spaces ≡ self.old.spaces }
@@ -518,7 +526,7 @@ impl Links {
         self.stamp = fresh(self.stamp);
     }
 
-    /// Takes the marks of a source and of a grant from what stands under the key.
+    /// Removes the marks of a source and of a grant from the node under the key.
     pub fn set_plain(&mut self, key: usize)
         ensures sets { SetsPlain key self.old.entries self.new.entries }
         ensures spaces { self.new.spaces ≡ self.old.spaces }
@@ -526,7 +534,7 @@ impl Links {
         set_plain(&mut self.nodes, key);
     }
 
-    /// Notes whether a message fills the page of the key.
+    /// Records whether a message fills the page of the key.
     pub fn set_wanted(&mut self, key: usize, wanted: bool)
         ensures sets { SetsWanted key wanted self.old.entries self.new.entries }
         ensures spaces { self.new.spaces ≡ self.old.spaces }

@@ -1,4 +1,4 @@
-//! The list of all nodes in depth-first order: one is put in, one is taken out, a run is cut off.
+//! The list of all nodes in depth-first order: inserts a node, removes one, cuts off a run.
 
 ghost use Rattle.std.specs.Prelude.{◌≡◌, ◌≢◌, ◌<◌, ◌+◌, ◌^◌, ◌++◌, ◌∷◌, [], ℕ, List, Option, Some, None, false};
 ghost use Rattle.l4_fpage.specs.Rights.{common};

@@ -1,4 +1,4 @@
-//! Pages that others descend from.
+//! Pages that have descendants.
 
 ghost use Rattle.std.specs.Prelude.{◌≡◌, ◌≤◌, ◌<◌, ◌+◌, ◌-◌, ◌*◌, ◌⊎◌, ℕ, List, length, true, false, None, Some, IfSome, MatchOption};
 ghost use Rattle.l4_links.specs.Inside.Nodes.{IsForest};

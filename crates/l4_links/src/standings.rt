@@ -1,4 +1,4 @@
-//! What a contract shows of a node.
+//! The value of a node in contracts.
 
 ghost use Rattle.std.specs.Prelude.{◌≡◌};
 ghost use Rattle.std.specs.Option.{option_map};

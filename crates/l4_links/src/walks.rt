@@ -1,4 +1,5 @@
-//! Walks over the run of a node's descendants. A node whose run a walk of the same stamp has been over is passed by with all that descends from it.
+//! Walks over the run of a node's descendants. A node whose run was visited by a walk of the same stamp is skipped with all its
+//! descendants.
 
 ghost use Rattle.std.specs.Prelude.{◌≡◌, ◌≢◌, ◌≤◌, ℕ, List, Option, Some, None, true, false};
 ghost use Rattle.l4_links.specs.Leads.{Leads};

@@ -30,7 +30,7 @@ impl Model for Accounts {
 }
 
 impl Accounts {
-    /// No accounts.
+    /// Creates a value without accounts.
     pub fn new(alloc: Global) -> Accounts
         ensures { result.items ≡ [] }
     {
@@ -40,14 +40,14 @@ impl Accounts {
         }
     }
 
-    /// All accounts, in the order in which their seats were given.
+    /// Returns all accounts, in the order in which their seats were given.
     pub fn as_slice(&self) -> &[Account]
         ensures { result.now ≡ self.now.items }
     {
         self.items.as_slice()
     }
 
-    /// Where the account of a number stands.
+    /// Returns the index of the account of a number, or None.
     pub fn position(&self, number: u32) -> Option<usize>
         requires { IsOnce (numbers self.now.items) }
         ensures { MatchOption result (book_at self.now.items number ≡ None)
@@ -56,7 +56,7 @@ impl Accounts {
         position(self.items.as_slice(), number)
     }
 
-    /// Whether an ended call of this number hasn't been taken.
+    /// Returns whether a call of this number has ended, but its reply has not been taken.
     pub fn reply_waits(&self, number: u32) -> bool
         requires { IsOnce (numbers self.now.items) }
         ensures { result ≡ reply_waits self.now.items number }
@@ -67,7 +67,9 @@ impl Accounts {
         reply_waits(self.items.as_slice(), number)
     }
 
-    /// Appends the account of a number whose seat is given. Where a growth is refused nothing has changed.
+    /// Appends the account of a number whose seat is given.
+    ///
+    /// Returns `AllocError` if an allocation fails; then nothing has changed.
     pub fn add(&mut self, alloc: Global, number: u32) -> Result<(), AllocError>
         ensures { MatchResult result (λ _. self.new.items ≡ self.old.items ++ book number None [] ∷ []) (λ _. self.new ≡ self.old) }
     {
@@ -76,7 +78,7 @@ impl Accounts {
         Ok(())
     }
 
-    /// Whether a call of the account at this place isn't taken yet.
+    /// Returns whether the account at this index has a call that was not taken yet.
     pub fn is_pending(&self, at: usize) -> bool
         requires { at < length self.now.items }
         ensures { (b : Book) → slice_get self.now.items at ≡ Some b → result ≡ is_some b.pending }
@@ -84,7 +86,9 @@ impl Accounts {
         self.items[at].is_pending()
     }
 
-    /// Begins a call at this place, and makes room for its receipt. Where a growth is refused nothing has changed.
+    /// Begins a call of the account at this index, and allocates room for its receipt.
+    ///
+    /// Returns `AllocError` if an allocation fails; then nothing has changed.
     pub fn begin(&mut self, at: usize, call: &Call, start: usize) -> Result<(), AllocError>
         requires at { at < length self.old.items }
         requires none { (b : Book) → slice_get self.old.items at ≡ Some b → b.pending ≡ None }
@@ -96,7 +100,7 @@ impl Accounts {
         self.items[at].begin(call, start)
     }
 
-    /// Takes a call back that was begun at this place and has not ended.
+    /// Cancels a call that was begun at this index and has not ended.
     pub fn cancel(&mut self, at: usize)
         requires at { at < length self.old.items }
         requires goes_on { (b : Book) → slice_get self.old.items at ≡ Some b → has_reply b ≡ false }
@@ -105,7 +109,7 @@ impl Accounts {
         self.items[at].cancel();
     }
 
-    /// Notes that the call of this place, if one goes on, ended in the entry of that place.
+    /// Records that the pending call of the account at this index, if there is one, ended in the entry at `place`.
     pub fn end(&mut self, at: usize, kernel: &Kernel, place: usize)
         requires { at < length self.old.items }
         ensures { (b : Book) → slice_get self.old.items at ≡ Some b
@@ -116,8 +120,8 @@ impl Accounts {
         }
     }
 
-    /// Takes the call of this place, if it has ended, and answers its reply: the account and the seat gain its receipt. The seat's has the call that
-    /// the seat knows of.
+    /// Takes the call of the account at this index, if it has ended, and returns its reply. The account and the seat gain its receipt. In
+    /// the seat's receipt, the call is the one that the seat passes.
     pub fn finish(&mut self, at: usize, seat: &mut Seat, own: Option<&Call>) -> Option<Reply>
         requires waiting { seat.old.waiting ≢ 0 }
         requires at { at < length self.old.items }

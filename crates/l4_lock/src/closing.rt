@@ -1,4 +1,4 @@
-//! Whether the seats that come back are those that were given.
+//! Compares the seats that come back with those that were given.
 ghost use Rattle.std.specs.Prelude.{◌≡◌, ◌≢◌, ◌⊎◌, ◌≤◌, ◌+◌, ◌<◌, ℕ, List, true, false, length, MatchOption, slice_get, Some, None};
 ghost use Rattle.l4_lock.specs.Books.{SeatState, Book};
 ghost use Rattle.l4_lock.specs.Inside.Noting.{started_by};
@@ -19,7 +19,7 @@ pub enum Mismatch {
     Receipt(u32),
 }
 
-/// What a lock hands back that was not closed: all that it was given, unchanged.
+/// Everything that was passed to a `close` that failed, unchanged.
 #[derive(Drop)]
 pub struct Unclosed {
     pub mismatch: Mismatch,

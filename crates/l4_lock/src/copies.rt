@@ -1,9 +1,9 @@
-//! Copies that take no memory.
+//! Copies that allocate no memory.
 ghost use Rattle.std.specs.Prelude.{◌≡◌};
 
 use l4_ipc::{Call, Reply};
 
-/// The same call.
+/// Returns a copy of the call.
 pub fn copy_call(call: &Call) -> Call
     ensures { result ≡ call.now }
 {
@@ -13,7 +13,7 @@ pub fn copy_call(call: &Call) -> Call
     copy
 }
 
-/// The same reply.
+/// Returns a copy of the reply.
 pub fn copy_reply(reply: &Reply) -> Reply
     ensures { result ≡ reply.now }
 {

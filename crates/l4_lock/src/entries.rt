@@ -2,7 +2,7 @@
 
 use l4_ipc::{Call, Reply};
 
-/// A seat's evidence of one call that has ended. Places count entries of the history, from 0 on.
+/// A seat's evidence of one call that has ended. Its places are indices of entries in the history, from 0.
 #[derive(Clone, Debug, PartialEq, Eq, Drop)]
 pub struct Receipt {
     /// The call.
@@ -15,7 +15,7 @@ pub struct Receipt {
     pub reply: Reply,
 }
 
-/// How a call has ended that isn't taken yet.
+/// The end of a call whose reply has not been taken yet.
 #[derive(Drop)]
 pub struct Ended {
     /// The place of the entry that ended it.
@@ -24,13 +24,13 @@ pub struct Ended {
     pub reply: Reply,
 }
 
-/// A call that isn't taken yet.
+/// A call that has not been taken yet.
 #[derive(Drop)]
 pub struct Pending {
     /// The call.
     pub call: Call,
     /// The place of the entry that started it.
     pub start: usize,
-    /// How it has ended, if it has.
+    /// The end of the call, if it has ended.
     pub ended: Option<Ended>,
 }

@@ -21,7 +21,7 @@ use l4_record::{Appended, Board, History, Recorder, Watch};
 use std::alloc::Global;
 use std::marker::Model;
 
-/// A kernel with the history of its steps, which is legal and leads from boot to where the kernel is. No step is enabled.
+/// A kernel with the history of its steps. The history is legal, and leads from boot to the state of the kernel. No step is enabled.
 #[derive(Drop)]
 pub struct Locked {
     recorder: Recorder,
@@ -48,9 +48,11 @@ impl Model for Locked {
 impl Locked {
     ghost use Rattle.std.specs.Prelude.{Some};
 
-    /// A kernel as it boots, with 1 to 4,096 frames of this size and an empty history, its board, whose word is 0, and watches of it.
+    /// Boots a kernel with 1 to 4,096 frames of this size and an empty history. Returns it with its board, whose word is 0, and with
+    /// watches of the board.
     ///
-    /// `Kernel(BadFrames)` (L5) comes for any other number, and else `NoMemory` (L2), or `Kernel` with it, where a growth was refused.
+    /// Returns `Kernel(BadFrames)` (L5) for any other number of frames. Returns `NoMemory` (L2), or `Kernel` with it, if an allocation
+    /// fails.
     pub fn new(
         alloc: Global,
         frames: u32,
@@ -76,45 +78,46 @@ impl Locked {
         Ok((locked, board, watches))
     }
 
-    /// How many frames the kernel booted with.
+    /// Returns the number of frames at boot.
     pub fn frames(&self) -> u32
         ensures { result ≡ self.now.frames }
     {
         self.recorder.frames()
     }
 
-    /// The kernel.
+    /// Returns the kernel.
     pub fn kernel(&self) -> &Kernel
         ensures { result.now ≡ self.now.kernel }
     {
         self.recorder.kernel()
     }
 
-    /// The history.
+    /// Returns the history.
     pub fn history(&self) -> &History
         ensures { result.now.entries ≡ self.now.history }
     {
         self.recorder.history()
     }
 
-    /// What holds of the locked kernel at all times. It does nothing.
+    /// Ghost function: gives a proof the invariant of the locked kernel. It compiles to nothing.
     pub fn law_kept(&self)
         ensures { IsKept self.now }
     {
         let _ = &self.alloc;
     }
 
-    /// What holds of the whole history: it is one run of the machine from boot, each page that is present has its provenance in it, a flush
-    /// ends what came through its pages, and each delegation that was delivered has its whole effect. It does nothing.
+    /// Ghost function: gives a proof what holds of the whole history. The history is one run of the machine from boot. Each present page
+    /// has its provenance in it, a flush removes what came through its pages, and each delivered delegation has its whole effect. It
+    /// compiles to nothing.
     pub fn law_history(&self)
         ensures { IsWholeRun self.now.frames self.now.history self.now.kernel }
     {
         self.recorder.law_history();
     }
 
-    /// The seat of a number, once.
+    /// Gives the number its seat, once.
     ///
-    /// Refusals in this order: `SeatTaken` (L4), `NoMemory` (L2). After either nothing has changed.
+    /// Returns these refusals, tested in this order: `SeatTaken` (L4), `NoMemory` (L2). After either, nothing has changed.
     pub fn seat(&mut self, number: u32) -> Result<Seat, LockRefusal>
         ensures { MatchResult result
             (λ s. (s ≡ seat_state number 0 []) × (book_at self.old.books number ≡ None)
@@ -142,11 +145,11 @@ impl Locked {
         Ok(())
     }
 
-    /// Enters a call of the seat's thread: its start is appended to the history, and then the steps that come next until there is
-    /// none, at most 128.
+    /// Enters a call of the seat's thread. Executes its start, and then the steps that come next, until there is none: at most 128. All of
+    /// them are appended to the history.
     ///
-    /// Refusals in this order: `ReplyWaiting` (L3), `HistoryFull` (L1), `NoMemory` (L2), `Kernel` (L5), which is `UnknownThread` for
-    /// a number whose seat was not given here. After any of them nothing has changed.
+    /// Returns these refusals, tested in this order: `ReplyWaiting` (L3), `HistoryFull` (L1), `NoMemory` (L2), `Kernel` (L5), which is
+    /// `UnknownThread` if the seat was not given by this lock. After a refusal, nothing has changed.
     pub fn enter(&mut self, seat: &mut Seat, call: Call) -> Result<Entered, LockRefusal>
         ensures ok { IfOk result (λ e. Enters self.old self.new seat.old.number call × Tells self.old self.new seat.old seat.new call e) }
         ensures err { IfErr result (λ e. Refuses self.old seat.old.number call e × (self.new ≡ self.old) × (seat.new ≡ seat.old)) }
@@ -200,7 +203,7 @@ impl Locked {
         Ok(at)
     }
 
-    /// The reply of a call that was left waiting and has ended since.
+    /// Takes the reply of a call that was left waiting and has ended since. Returns None if no reply waits.
     pub fn take(&mut self, seat: &mut Seat) -> Option<Reply>
         ensures some { IfSome result (λ reply. Takes self.old self.new seat.old seat.new (λ call. call) reply) }
         ensures none { IfNone result ((self.new ≡ self.old) × (seat.new ≡ seat.old)
@@ -229,7 +232,10 @@ impl Locked {
         self.accounts.finish(at, seat, Some(call))
     }
 
-    /// Hands out the history and the kernel, with what holds of the whole history, where just the seats that were given come back and agree with what was kept of them.
+    /// Closes the lock: returns the history and the kernel, with what holds of the whole history, if exactly the seats that were given come
+    /// back and agree with their accounts.
+    ///
+    /// Otherwise returns everything that was passed, and how the seats differ: X1, X2 or X3.
     pub fn close(self, seats: Vec<Seat>) -> Result<(History, Kernel), Unclosed>
         ensures ok { IfOk result (λ r. (r.0.entries ≡ self.history) × (r.1 ≡ self.kernel) × Closes self seats.items) }
         ensures history { IfOk result (λ r. IsWholeRun self.frames r.0.entries r.1) }

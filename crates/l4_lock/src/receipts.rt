@@ -10,7 +10,7 @@ use l4_journal::{ItemsFrom, Journal, Record};
 use std::alloc::{AllocError, Global};
 use std::marker::Model;
 
-/// Receipts of a seat, one after another. Contracts see those that are left.
+/// An iterator over receipts of a seat. Contracts see the receipts that are left.
 pub type ReceiptsFrom<'a> = ItemsFrom<'a, Receipt>;
 
 /// The receipts of a seat, in the order in which it got them. They are stored as words.
@@ -37,28 +37,28 @@ impl Receipts {
         }
     }
 
-    /// How many receipts there are.
+    /// Returns the number of receipts.
     pub fn len(&self) -> usize
         ensures { result ≡ length self.now.items }
     {
         self.receipts.len()
     }
 
-    /// Whether there is no receipt.
+    /// Returns whether there is no receipt.
     pub fn is_empty(&self) -> bool
         ensures { result ≡ nat_eq (length self.now.items) 0 }
     {
         self.receipts.is_empty()
     }
 
-    /// The receipt at this place, None beyond the end.
+    /// Returns the receipt at this place, or None beyond the end.
     pub fn get(&self, place: usize) -> Option<Receipt>
         ensures { result ≡ slice_get self.now.items place }
     {
         self.receipts.get(place)
     }
 
-    /// The receipts from this place on.
+    /// Returns an iterator over the receipts from this place on.
     pub fn receipts_from(&self, place: usize) -> ReceiptsFrom<'_>
         ensures receipts { result ≡ drop place self.now.items }
         ensures bound { length result < 2 ^ 64 }

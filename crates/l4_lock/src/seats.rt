@@ -1,4 +1,4 @@
-//! Seats, and what the lock keeps of each.
+//! Seats, and the account that the lock keeps for each.
 ghost use Rattle.std.specs.Prelude.{◌≡◌, ◌≢◌, ◌+◌, ◌<◌, ◌≤◌, Some, None, [], ◌∷◌, ◌++◌, length, IfSome, IfNone, MatchResult, is_some, true, false};
 ghost use Rattle.std.specs.Option.{option_map_or, option_copied};
 ghost use Rattle.l4_lock.specs.Books.{SeatState, seat_state, starts, Book, book, pending_count, receipt, has_ended, Settles};
@@ -43,28 +43,28 @@ impl Seat {
         }
     }
 
-    /// The number of its thread.
+    /// Returns the number of its thread.
     pub fn number(&self) -> u32
         ensures { result ≡ self.now.number }
     {
         self.number
     }
 
-    /// How many calls it has started.
+    /// Returns the number of calls that it has started.
     pub fn starts(&self) -> usize
         ensures { result ≡ starts self.now }
     {
         self.receipts.len() + self.waiting
     }
 
-    /// How many of its calls were left waiting and not taken yet.
+    /// Returns the number of its calls that were left waiting and have not been taken yet.
     pub fn waiting(&self) -> usize
         ensures { result ≡ self.now.waiting }
     {
         self.waiting
     }
 
-    /// The receipts of its ended calls.
+    /// Returns the receipts of its ended calls.
     pub fn receipts(&self) -> &Receipts
         ensures { result.now.items ≡ self.now.receipts }
     {
@@ -149,7 +149,7 @@ impl Model for Account {
 }
 
 impl Account {
-    /// The account of a number whose seat was just given.
+    /// Creates the account of a number whose seat was just given.
     pub fn new(alloc: Global, number: u32) -> Account
         ensures { result ≡ book number None [] }
     {
@@ -160,14 +160,14 @@ impl Account {
         }
     }
 
-    /// The number.
+    /// Returns the number.
     pub fn number(&self) -> u32
         ensures { result ≡ self.now.number }
     {
         self.number
     }
 
-    /// How many calls were begun.
+    /// Returns the number of calls that were begun.
     pub fn starts(&self) -> usize
         ensures { result ≡ started_by self.now }
     {
@@ -178,21 +178,21 @@ impl Account {
         }
     }
 
-    /// The receipts that were given.
+    /// Returns the receipts that were given.
     pub fn receipts(&self) -> &Receipts
         ensures { result.now.items ≡ self.now.receipts }
     {
         &self.receipts
     }
 
-    /// Whether a call isn't taken yet.
+    /// Returns whether a call has not been taken yet.
     pub fn is_pending(&self) -> bool
         ensures { result ≡ is_some self.now.pending }
     {
         self.pending.is_some()
     }
 
-    /// Whether a call that isn't taken yet has ended.
+    /// Returns whether a call has ended that has not been taken yet.
     pub fn has_reply(&self) -> bool
         ensures { result ≡ option_map_or has_ended self.now.pending false }
     {
@@ -202,7 +202,7 @@ impl Account {
         }
     }
 
-    /// Begins a call, and makes room for its receipt.
+    /// Begins a call, and allocates room for its receipt.
     pub fn begin(&mut self, call: &Call, start: usize) -> Result<(), AllocError>
         requires { self.old.pending ≡ None }
         ensures { MatchResult result
@@ -218,14 +218,14 @@ impl Account {
         Ok(())
     }
 
-    /// Takes an opened call back.
+    /// Cancels the call that was begun.
     pub fn cancel(&mut self)
         ensures { self.new ≡ record self.old { pending = None } }
     {
         self.pending = None;
     }
 
-    /// Notes that its call, if one goes on, ended in the entry of this place. Answers whether there is a reply since then.
+    /// Records that its pending call, if there is one, ended in the entry at this place. Returns whether there is a reply since then.
     pub fn end(&mut self, kernel: &Kernel, place: usize) -> bool
         ensures noted { self.new ≡ noted kernel.now (self.old.number ∷ []) place self.old }
         ensures more { result ≡ true → (has_reply self.old ≡ false) × (has_reply self.new ≡ true) }

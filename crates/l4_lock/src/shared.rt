@@ -19,8 +19,8 @@ use std::alloc::Global;
 use std::marker::Model;
 use std::sync::{Condvar, Mutex, Wait};
 
-/// A locked kernel that threads share, and its board. Contracts see which board it is: of what stands under the lock they know what the
-/// type `Locked` keeps.
+/// A locked kernel that threads share, and its board. Contracts see which board it is. Of the value under the lock, they know the invariant
+/// of the type `Locked`.
 #[derive(Drop)]
 pub struct KernelLock {
     locked: Mutex<Locked>,
@@ -39,9 +39,10 @@ impl Model for KernelLock {
 }
 
 impl KernelLock {
-    /// A kernel as it boots, with 1 to 4,096 frames of this size, and watches of its board.
+    /// Boots a kernel with 1 to 4,096 frames of this size under a lock. Returns it with watches of its board.
     ///
-    /// `Kernel(BadFrames)` (L5) comes for any other number, and else `NoMemory` (L2), or `Kernel` with it, where a growth was refused.
+    /// Returns `Kernel(BadFrames)` (L5) for any other number of frames. Returns `NoMemory` (L2), or `Kernel` with it, if an allocation
+    /// fails.
     pub fn new(
         alloc: Global,
         frames: u32,
@@ -65,16 +66,16 @@ impl KernelLock {
         }
     }
 
-    /// The board.
+    /// Returns the board.
     pub fn board(&self) -> &Board
         ensures { result.now ≡ self.now }
     {
         &self.board
     }
 
-    /// The seat of a number, once.
+    /// Gives the number its seat, once.
     ///
-    /// Refusals in this order: `SeatTaken` (L4), `NoMemory` (L2).
+    /// Returns these refusals, tested in this order: `SeatTaken` (L4), `NoMemory` (L2).
     pub fn seat<R: Wait>(&self, rt: &R, number: u32) -> Result<Seat, LockRefusal>
         ensures { MatchResult result (λ s. s ≡ seat_state number 0 []) (λ e. (e ≡ SeatTaken) ⊎ (e ≡ WantOfMemory)) }
     {
@@ -83,7 +84,8 @@ impl KernelLock {
 
     /// Enters a call, and waits until it has ended; the lock is free meanwhile. The seat gains a receipt with this call and the reply.
     ///
-    /// Refusals are those of `Locked::enter`, in its order, of what stood under the lock then. After any of them the seat is as before.
+    /// Returns the refusals of `Locked::enter`, in the same order, for the state under the lock at that time. After a refusal, the seat is
+    /// unchanged.
     pub fn call<R: Wait>(&self, rt: &R, seat: &mut Seat, call: Call) -> Result<Reply, LockRefusal>
         ensures ok { IfOk result (λ reply. IsAnswered seat.old seat.new call reply) }
         ensures err { OnErr result (seat.new ≡ seat.old) }
@@ -109,7 +111,7 @@ impl KernelLock {
         unreachable!()
     }
 
-    /// A gate that enters calls of the seat.
+    /// Returns a gate that enters calls of the seat.
     pub fn gate<'a, R: Wait>(&'a self, rt: &'a R, seat: Seat) -> LockGate<'a, R>
         ensures { result ≡ gate_state (length seat.receipts) seat }
     {
@@ -122,7 +124,7 @@ impl KernelLock {
         }
     }
 
-    /// The locked kernel again, with what holds of it at all times. It waits for nobody.
+    /// Returns the locked kernel, with its invariant. It waits for nobody.
     pub fn unlock(self) -> Locked
         ensures { IsKept result }
     {
@@ -137,7 +139,8 @@ impl KernelLock {
     }
 }
 
-/// A gate of a lock, with the seat whose calls it enters. Contracts see the seat, and how many receipts it had when the gate began.
+/// A gate of a lock, with the seat whose calls it enters. Contracts see the seat, and the number of receipts that it had when the gate was
+/// made.
 pub struct LockGate<'a, R: Wait> {
     lock: &'a KernelLock,
     rt: &'a R,
@@ -157,7 +160,7 @@ impl<'a, R: Wait> Model for LockGate<'a, R> {
 }
 
 impl<'a, R: Wait> LockGate<'a, R> {
-    /// The seat.
+    /// Returns the seat.
     pub fn into_seat(self) -> Seat
         ensures { result ≡ self.entry.seat }
     {

@@ -1,4 +1,4 @@
-//! A call that is entered, and the notes of what ended in it.
+//! Enters a call, and records which calls ended in it.
 ghost use Rattle.std.specs.Prelude.{◌≡◌, ◌⊎◌, ◌<◌, ◌≤◌, Err, [], ◌∷◌, IfOk, IfErr, OnErr, map, length};
 ghost use Rattle.l4_ipc.specs.NextSteps.{answer_of};
 ghost use Rattle.l4_ipc.specs.Steps.{Steps};
@@ -63,7 +63,7 @@ fn note_steps(accounts: &mut Accounts, kernel: &Kernel, steps: &[NextStep], plac
     }
 }
 
-/// Enters a call by the account at a place, and notes what ended in it. After a refusal nothing has changed.
+/// Enters a call for the account at an index, and records which calls ended in it. After a refusal, nothing has changed.
 pub fn begin(
     recorder: &mut Recorder,
     accounts: &mut Accounts,

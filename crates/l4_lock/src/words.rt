@@ -9,7 +9,7 @@ use l4_journal::{
     read_reply, read_word,
 };
 
-/// Writes the receipt of these parts in the place of what the record holds.
+/// Overwrites the record with the receipt of these parts.
 pub fn write_receipt(out: &mut Record, call: &Call, start: usize, end: usize, reply: &Reply)
     ensures { receipt_at out.new.items ≡ Some (record { call = call.now; start = start; end = end; reply = reply.now }) }
 {

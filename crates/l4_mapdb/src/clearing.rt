@@ -1,4 +1,4 @@
-//! What the targets of a message show goes, with all that descends from it.
+//! Removes the mappings at the targets of a message, with everything that descends from them.
 
 ghost use Rattle.std.specs.Prelude.{◌≡◌, ◌≤◌, ℕ};
 ghost use Rattle.l4_links.specs.Entries.{entry_at, IsAt, HaveRights, Clears};

@@ -1,4 +1,4 @@
-//! What descends from granted pages is left with the rights that their items name.
+//! Reduces the rights of what descends from granted pages to those that their items name.
 
 ghost use Rattle.std.specs.Prelude.{◌≡◌, ◌+◌, ◌^◌, ◌≤◌, ◌<◌, ℕ, length};
 ghost use Rattle.l4_fpage.specs.Pages.{most_pages};

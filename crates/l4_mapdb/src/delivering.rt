@@ -1,4 +1,4 @@
-//! A message is delivered, or refused.
+//! Delivers a message, or refuses it.
 
 ghost use Rattle.std.specs.Prelude.{◌≡◌, ℕ, List, Option, IsTrue, IsOk, OnOk, OnErr, IfOk, IfErr, true, false};
 ghost use Rattle.std.specs.FinSet as set;

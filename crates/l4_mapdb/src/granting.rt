@@ -1,5 +1,5 @@
-//! A message with one item, which grants from one space to another, has a short way where nothing is at its targets and no page has more
-//! rights than the item: each page is renamed, with its key, its parent and its children. Nothing is marked, and nothing is cut.
+//! The short path for a message with one item, which grants from one space to another. It is taken if the targets are absent and no page
+//! has more rights than the item. Each page is renamed, with its key, its parent and its children. Nothing is marked, and nothing is cut.
 
 ghost use Rattle.std.specs.Prelude.{◌≡◌, ℕ, length, IsTrue, OnErr, IfOk, IfErr, true, false};
 ghost use Rattle.std.specs.FinSet as set;

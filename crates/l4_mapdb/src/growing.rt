@@ -1,5 +1,5 @@
-//! A message that maps pages to places of another space where nothing is: each child is added as its page is come by. Where it turns
-//! out otherwise, the children are taken back.
+//! The short path for a message that maps pages to absent places of another space. Each child is added when its page is reached. If this
+//! turns out not to be possible, the children are removed again.
 
 ghost use Rattle.std.specs.Prelude.{◌≡◌, ◌≢◌, ℕ, IsTrue, OnOk, OnErr, IfErr, true, false};
 ghost use Rattle.std.specs.FinSet as set;

@@ -1,5 +1,5 @@
-//! A message that only maps, from one space to another, has two short ways: children at places where nothing is, and children that take
-//! the places of what nothing descends from. Nothing is marked on either.
+//! A message that only maps, from one space to another, has two short paths: children at absent places, and children that replace nodes
+//! without descendants. Neither marks anything.
 
 ghost use Rattle.std.specs.Prelude.{◌≡◌, ◌≢◌, ℕ, IsTrue, OnErr, IfOk, IfErr, true, false};
 ghost use Rattle.std.specs.FinSet as set;

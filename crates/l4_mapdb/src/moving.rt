@@ -1,4 +1,4 @@
-//! The used moves of a message are carried out: pages that are mapped get children, pages that are granted another place.
+//! Executes the used moves of a message: mapped pages get children, and granted pages get other places.
 
 ghost use Rattle.std.specs.Prelude.{MatchOption, ◌≡◌, ◌+◌, ◌^◌, ◌⊎◌, ◌<◌, ◌≤◌, ℕ, List, length, slice_get, Some, true, false};
 ghost use Rattle.l4_nodes.specs.declared.Place.{Place as ALinkPlace};

@@ -1,4 +1,4 @@
-//! What a message needs before its pages are moved: it is tested, room is made, and what its targets show goes.
+//! Prepares a message before its pages are moved: tests it, makes room, and removes the mappings at its targets.
 
 ghost use Rattle.std.specs.Prelude.{◌≡◌, ℕ, IsTrue, IsOk, OnOk, OnErr, IfOk, IfErr, false};
 ghost use Rattle.std.specs.FinSet as set;

@@ -1,5 +1,5 @@
-//! A message that maps pages to places of another space which others may show, but from which nothing descends: each child takes the place
-//! of what is there. Keys for all targets come first, so that nothing is refused any more once something has changed.
+//! The short path for a message that maps pages to places of another space that may be present, but have no descendants. Each child
+//! replaces the mapping at its place. The keys of all targets are allocated first, so nothing is refused once something has changed.
 
 ghost use Rattle.std.specs.Prelude.{◌≡◌, ◌≢◌, ℕ, length, IsTrue, OnOk, OnErr, IfOk, IfErr, true};
 ghost use Rattle.std.specs.FinSet as set;

@@ -1,4 +1,4 @@
-//! Room for what a message moves: a key for each target, before anything is changed, and marks of what is moved.
+//! Makes room for what a message moves: allocates a key for each target before anything is changed, and marks what is moved.
 
 ghost use Rattle.std.specs.Prelude.{◌≡◌, ◌≤◌, ◌⊎◌, ℕ, IsTrue, OnOk, OnErr, IfOk, false};
 ghost use Rattle.std.specs.FinSet as set;

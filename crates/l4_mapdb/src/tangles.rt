@@ -1,4 +1,4 @@
-//! Whether what a message does would depend on the order of its items.
+//! Tests whether the effect of a message would depend on the order of its items.
 
 ghost use Rattle.std.specs.Prelude.{◌≡◌, ◌≢◌, ◌↔◌, ◌<◌, ◌≤◌, ◌⊎◌, ℕ, length, IsTrue, MatchOption, true, false};
 ghost use Rattle.l4_links.specs.Entries.{entry_at, IsAt, IsStanding, IsSource, Descends};

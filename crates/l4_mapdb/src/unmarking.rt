@@ -1,4 +1,4 @@
-//! Marks and blanks are taken away, once what they were for is done or given up.
+//! Removes marks and blanks, once they have served their purpose or the message is given up.
 
 ghost use Rattle.std.specs.Prelude.{◌≡◌, ◌≢◌, ◌<◌, ◌≤◌, ◌+◌, ◌^◌, ◌⊎◌, length, None};
 ghost use Rattle.l4_fpage.specs.Pages.{InBlock};

@@ -8,7 +8,7 @@ use std::marker::Model;
 /// The number that stands for no key. All keys are below it.
 pub(crate) const NO_KEY: u32 = u32::MAX;
 
-/// A key, or none.
+/// A key or none, in four bytes.
 #[derive(Clone, Copy)]
 pub struct Link {
     number: u32,
@@ -32,14 +32,14 @@ impl Model for Link {
 }
 
 impl Link {
-    /// No key.
+    /// Returns the link to no key.
     pub fn none() -> Link
         ensures { result ≡ None }
     {
         Link { number: NO_KEY }
     }
 
-    /// The key.
+    /// Returns the link to this key.
     pub fn to(key: usize) -> Link
         requires { IsKey key }
         ensures { result ≡ Some key }
@@ -47,7 +47,7 @@ impl Link {
         Link { number: key as u32 }
     }
 
-    /// The key, if there is one.
+    /// Returns the key, or None for a link to no key.
     #[inline]
     pub fn key(self) -> Option<usize>
         ensures { result ≡ self }

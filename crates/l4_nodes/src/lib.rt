@@ -1,5 +1,5 @@
-//! The nodes of all pages, each in its slot of a slab under a key: what a slot holds, how it is kept in thirty-six bytes, and the writes
-//! to one of them. Nodes name each other by keys; what order and which trees they stand in is said above.
+//! The nodes of all pages, each in a slot of a slab under a key: the content of a slot, its storage in 36 bytes, and the writes to a single
+//! slot. Nodes name each other by keys. The crates above this one define their order and their trees.
 #![tactic(auto)]
 
 mod keys;

@@ -1,4 +1,4 @@
-//! The slots of the slab: what each holds, and the writes to one of them.
+//! The slots of the slab: the content of each, and the writes to a single one.
 
 ghost use Rattle.std.specs.Prelude.{◌≡◌, ◌+◌, ◌<◌, Some, None};
 ghost use Rattle.std.specs.Option.{option_map};
@@ -13,17 +13,17 @@ use crate::keys::Link;
 use crate::slots::{Note, Slots, clear_note, note_at, put_note};
 use l4_fpage::Rights;
 
-/// What a slot holds for a page. It is kept as `Packed`, and a `Note` beside it.
+/// The content of a page's slot. It is stored as a `Packed`, with a `Note` beside it.
 #[derive(Clone, Copy)]
 pub struct Slot {
     pub place: Place,
     /// Whether a message fills the page.
     pub wanted: bool,
-    /// None in a blank, which keeps its key and its place and stands in no tree.
+    /// None in a blank, which keeps its key and its place but is in no tree.
     pub node: Option<Node>,
 }
 
-/// What stands in the list of trees.
+/// A node in the list of trees.
 #[derive(Clone, Copy)]
 pub struct Node {
     pub frame: u32,
@@ -32,13 +32,13 @@ pub struct Node {
     pub source: bool,
     /// The rights of the item that has granted the page here, while a message is delivered.
     pub granted: Option<Rights>,
-    /// How many ancestors there are.
+    /// The number of ancestors.
     pub depth: usize,
-    /// The stamp of the last walk that has come by the node.
+    /// The stamp of the last walk that has visited the node.
     pub seen: u32,
-    /// The same stamp, where that walk has been over all that descends from the node, and else 0.
+    /// The same stamp if that walk has visited all descendants of the node, and otherwise 0.
     pub mark: u32,
-    /// Where that walk left the run of the node's descendants.
+    /// The key at which that walk left the run of the node's descendants.
     pub end: Link,
     /// The key of the parent.
     pub parent: Link,
@@ -50,7 +50,7 @@ pub struct Node {
     pub doomed: Link,
 }
 
-/// The node under the key.
+/// Returns the node under the key, or None.
 #[inline]
 pub fn node_of(nodes: &Slots, key: usize) -> Option<Node>
     ensures { result ≡ node_at nodes.now.slots key }
@@ -61,7 +61,7 @@ pub fn node_of(nodes: &Slots, key: usize) -> Option<Node>
     slot.node
 }
 
-/// The page of the key.
+/// Returns the page of the key, or None.
 pub fn place_of(nodes: &Slots, key: usize) -> Option<Place>
     ensures { result ≡ option_map (λ (s : ASlot). s.place) (slot_at nodes.now.slots key) }
 {
@@ -71,7 +71,7 @@ pub fn place_of(nodes: &Slots, key: usize) -> Option<Place>
     Some(slot.place)
 }
 
-/// Whether a message fills the page of the key.
+/// Returns whether a message fills the page of the key.
 pub fn is_wanted(nodes: &Slots, key: usize) -> bool
     ensures { result ≡ wanted_in (spots nodes.now.slots key) }
 {
@@ -81,7 +81,7 @@ pub fn is_wanted(nodes: &Slots, key: usize) -> bool
     slot.wanted
 }
 
-/// Lets the slot under the key, if there is one, hold this node, of which no walk has noted anything.
+/// Writes this node into the slot under the key, without any record of a walk. Changes nothing if there is no slot.
 pub fn write(nodes: &mut Slots, key: usize, node: Node)
     requires { IsKey node.depth }
     ensures { Writes key (Some (unnoted node)) nodes.old.slots nodes.new.slots }
@@ -93,7 +93,7 @@ pub fn write(nodes: &mut Slots, key: usize, node: Node)
     clear_note(&mut nodes.notes, key);
 }
 
-/// Lets the slot under the key, if there is one, be a blank.
+/// Makes the slot under the key a blank. Changes nothing if there is no slot.
 pub fn empty(nodes: &mut Slots, key: usize)
     ensures { Writes key None nodes.old.slots nodes.new.slots }
 {
@@ -103,7 +103,7 @@ pub fn empty(nodes: &mut Slots, key: usize)
     slot.empty();
 }
 
-/// Notes whether a message fills the page of the key, if there is one.
+/// Records whether a message fills the page of the key. Changes nothing if there is no slot.
 pub fn set_wanted(nodes: &mut Slots, key: usize, wanted: bool)
     ensures { SetsWanted key wanted nodes.old.slots nodes.new.slots }
 {
@@ -113,7 +113,7 @@ pub fn set_wanted(nodes: &mut Slots, key: usize, wanted: bool)
     slot.set_wanted(wanted);
 }
 
-/// Lets the slot under the key, if there is one, be of this page.
+/// Gives the slot under the key this page. Changes nothing if there is no slot.
 pub fn set_place(nodes: &mut Slots, key: usize, place: Place)
     requires { IsPage place.page }
     ensures { SetsPlace key place nodes.old.slots nodes.new.slots }
@@ -124,7 +124,7 @@ pub fn set_place(nodes: &mut Slots, key: usize, place: Place)
     slot.set_place(place);
 }
 
-/// Lets the slot under the key, if there is one, be of this page, with a note that an item of these rights grants it.
+/// Gives the slot under the key this page, and records that an item with these rights grants it. Changes nothing if there is no slot.
 pub fn give(nodes: &mut Slots, key: usize, place: Place, rights: Rights)
     requires { IsPage place.page }
     ensures { Gives key place rights nodes.old.slots nodes.new.slots }
@@ -135,7 +135,7 @@ pub fn give(nodes: &mut Slots, key: usize, place: Place, rights: Rights)
     slot.give(place, rights);
 }
 
-/// Lets the node that is meant have this next key.
+/// Sets the next key of the node that the link names.
 pub fn set_next(nodes: &mut Slots, at: Link, next: Link)
     ensures { SetsNext at next nodes.old.slots nodes.new.slots }
 {
@@ -148,7 +148,7 @@ pub fn set_next(nodes: &mut Slots, at: Link, next: Link)
     slot.set_next(next);
 }
 
-/// Lets the node that is meant have this previous key.
+/// Sets the previous key of the node that the link names.
 pub fn set_prev(nodes: &mut Slots, at: Link, prev: Link)
     ensures { SetsPrev at prev nodes.old.slots nodes.new.slots }
 {
@@ -161,7 +161,7 @@ pub fn set_prev(nodes: &mut Slots, at: Link, prev: Link)
     slot.set_prev(prev);
 }
 
-/// Lets the node have these rights, and this key after it on the stack of nodes without rights.
+/// Sets the rights of the node, and the key after it on the stack of nodes without rights.
 pub fn set_rights(nodes: &mut Slots, key: usize, rights: Rights, doomed: Link)
     ensures { SetsRights key rights doomed nodes.old.slots nodes.new.slots }
 {
@@ -171,7 +171,7 @@ pub fn set_rights(nodes: &mut Slots, key: usize, rights: Rights, doomed: Link)
     slot.set_rights(rights, doomed);
 }
 
-/// Notes that the walk has come by the node and has been over all that descends from it, and where it left that run.
+/// Records that the walk has visited the node and all its descendants, and where it left their run.
 pub fn close(nodes: &mut Slots, key: usize, stamp: u32, end: Link)
     ensures { Closes key stamp end nodes.old.slots nodes.new.slots }
 {
@@ -182,7 +182,7 @@ pub fn close(nodes: &mut Slots, key: usize, stamp: u32, end: Link)
     put_note(&mut nodes.notes, key, Note { stamp, end });
 }
 
-/// Notes that the walk has come by the node.
+/// Records that the walk has visited the node.
 pub fn see(nodes: &mut Slots, key: usize, stamp: u32)
     ensures { Sees key stamp nodes.old.slots nodes.new.slots }
 {
@@ -194,7 +194,7 @@ pub fn see(nodes: &mut Slots, key: usize, stamp: u32)
     put_note(&mut nodes.notes, key, Note { stamp, end });
 }
 
-/// Marks the node as a source, or takes the mark away.
+/// Marks the node as a source, or removes that mark.
 pub fn set_source(nodes: &mut Slots, key: usize, source: bool)
     ensures { SetsSource key source nodes.old.slots nodes.new.slots }
 {
@@ -204,7 +204,7 @@ pub fn set_source(nodes: &mut Slots, key: usize, source: bool)
     slot.set_source(source);
 }
 
-/// Takes the marks of a source and of a grant from the node.
+/// Removes the marks of a source and of a grant from the node.
 pub fn set_plain(nodes: &mut Slots, key: usize)
     ensures { SetsPlain key nodes.old.slots nodes.new.slots }
 {

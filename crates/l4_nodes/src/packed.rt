@@ -1,6 +1,6 @@
-//! A slot in thirty-six bytes, forty with the slab's own word. A number of eight bytes is kept in two halves, since eight bytes at once
-//! would have to lie at each eighth byte; a page takes twenty-two bits, and what else is small stands in the ten that are left of four
-//! bytes: three for the rights, three for the notes, and four for the rights of an item. What walks note of a key stands elsewhere.
+//! A slot in 36 bytes, or 40 with the slab's own word. A number of eight bytes is stored as two halves, because eight bytes at once would
+//! have to be aligned to eight bytes. A page takes 22 bits. The other ten bits of its four bytes have what else is small: three bits for
+//! the rights, three for flags, and four for the rights of an item. The records of walks are stored elsewhere.
 
 ghost use Rattle.std.specs.Prelude.{◌≡◌, ◌<◌, ℕ, false, Some, None, IfSome, if◌then◌else◌};
 ghost use Rattle.std.specs.Option.{option_map};

@@ -1,4 +1,4 @@
-//! The slots, and beside them what walks note of their keys. A slot is read with what is noted of its key.
+//! The slots, and beside them the records of walks for their keys. A slot is read together with its record.
 
 ghost use Rattle.std.specs.Prelude.{◌≡◌, ◌≢◌, ◌<◌, ◌≤◌, ℕ, [], false, None, Some, length, slice_index_or, vec_capacity, IfOk, OnOk, OnErr};
 ghost use Rattle.std.specs.Option.{option_map};
@@ -19,13 +19,13 @@ use std::marker::Model;
 /// What walks have noted of a key.
 #[derive(Clone, Copy)]
 pub(crate) struct Note {
-    /// The stamp of the last walk that has come by the node.
+    /// The stamp of the last walk that has visited the node.
     pub stamp: u32,
-    /// Where that walk left the run of the node's descendants, if it has been over it.
+    /// The key at which that walk left the run of the node's descendants, if it has visited all of it.
     pub end: Link,
 }
 
-/// The slots under their keys.
+/// The slots, each under its key.
 #[derive(Drop)]
 pub struct Slots {
     pub(crate) packed: Slab<Packed>,
@@ -120,7 +120,7 @@ pub(crate) fn clear_note(notes: &mut Vec<Note>, key: usize)
 }
 
 impl Slots {
-    /// No slots.
+    /// Creates a value without slots.
     pub fn new(alloc: Global) -> Slots
         ensures { result.slots ≡ [] }
     {
@@ -130,14 +130,14 @@ impl Slots {
         }
     }
 
-    /// A number that all keys lie below.
+    /// Returns a number that is above all keys.
     pub fn capacity(&self) -> usize
         ensures { length self.now.slots ≤ result }
     {
         self.packed.capacity()
     }
 
-    /// What is in the slot under the key, if there is one.
+    /// Returns the content of the slot under the key, or None if there is no slot.
     #[inline]
     pub fn get(&self, key: usize) -> Option<Slot>
         ensures { result ≡ slot_at self.now.slots key }
@@ -148,7 +148,7 @@ impl Slots {
         Some(slot.slot(note_at(&self.notes, key)))
     }
 
-    /// The key that the next slot will have.
+    /// Returns the key of the next new slot.
     pub fn vacant_key(&self) -> usize
         ensures value { result ≡ self.now.vacant_key }
         ensures vacant { slot_at self.now.slots result ≡ None }
@@ -156,8 +156,10 @@ impl Slots {
         self.packed.vacant_key()
     }
 
-    /// Makes room for one more slot, whose key a node can keep, and for what is noted of it. NoMemory comes too where a node can't keep
-    /// the key that the next slot would have. Keys that were given back come first, so then all that it can keep are taken.
+    /// Allocates room for one more slot, and for the record of walks beside it. The key of the slot is one that a node can keep.
+    ///
+    /// Returns `NoMemory` if an allocation fails, or if all 2^32 - 1 keys that a node can keep are in use. (Freed keys are used first.)
+    /// Then nothing has changed.
     #[inline]
     pub fn make_room(&mut self) -> Result<(), NoMemory>
         ensures room { OnOk result (HasRoom self.new) }
@@ -175,7 +177,7 @@ impl Slots {
         Ok(())
     }
 
-    /// Takes the room for so many more slots, and for what is noted of their keys, at once.
+    /// Allocates room for this many more slots, and for the records of walks beside them, at once.
     pub fn reserve(&mut self, slots: usize) -> Result<(), AllocError>
         ensures { self.new.slots ≡ self.old.slots }
     {
@@ -197,7 +199,7 @@ impl Slots {
         key
     }
 
-    /// Puts a blank of the page into a new slot, and gives its key. There is room for it.
+    /// Puts a blank of the page into a new slot, and returns its key. There must be room for it.
     #[inline]
     pub fn insert_blank(&mut self, place: Place) -> usize
         requires room { HasRoom self.old }
@@ -210,7 +212,7 @@ impl Slots {
         self.insert_reserved(Packed::blank(place))
     }
 
-    /// Puts a page where this node stands into a new slot, of which no walk has noted anything, and gives its key. There is room for it.
+    /// Puts the page with this node into a new slot, without any record of a walk, and returns its key. There must be room for it.
     #[inline]
     pub fn insert_node(&mut self, place: Place, node: Node) -> usize
         requires room { HasRoom self.old }
@@ -224,7 +226,7 @@ impl Slots {
         self.insert_reserved(Packed::of(place, node))
     }
 
-    /// Takes the slot under the key away, if there is one.
+    /// Removes the slot under the key. Changes nothing if there is no slot.
     #[inline]
     pub fn remove(&mut self, key: usize)
         ensures gone { slot_at self.new.slots key ≡ None }
@@ -233,7 +235,7 @@ impl Slots {
         let _ = self.packed.try_remove(key);
     }
 
-    /// Takes what walks have noted from all keys.
+    /// Removes the records of walks from all keys.
     #[cold]
     pub fn clear_notes(&mut self)
         ensures { (key : ℕ) → slot_at self.new.slots key ≡ option_map unnoted_slot (slot_at self.old.slots key) }
@@ -241,7 +243,9 @@ impl Slots {
         self.notes.clear();
     }
 
-    /// The same slots under the same keys, with the same notes. There is room for what is noted of each key.
+    /// Returns the same slots under the same keys, with the same records of walks. The copy has room for a record of each key.
+    ///
+    /// Returns `AllocError` if an allocation fails.
     pub fn copy(&self) -> Result<Slots, AllocError>
         ensures { IfOk result (λ copy. copy.slots ≡ self.now.slots) }
     {

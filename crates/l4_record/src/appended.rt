@@ -1,4 +1,4 @@
-//! What a call that was entered appended to the history.
+//! What a call appended to the history.
 ghost use Rattle.std.specs.Prelude.{◌≡◌, ◌<◌, ◌++◌, ◌∷◌, [], length};
 ghost use Rattle.l4_threads.specs.Sizes.{max_threads};
 
@@ -6,7 +6,7 @@ use arrayvec::ArrayVec;
 use l4_ipc::{Answer, MAX_THREADS, NextStep, Outcome};
 use std::marker::Model;
 
-/// Steps that came next, one after another. Those that are taken away are not written over before others take their place.
+/// The steps that came next, one after another. Removed steps are not overwritten until others take their place.
 #[derive(Drop)]
 pub struct NextSteps {
     cells: [NextStep; MAX_THREADS],
@@ -26,7 +26,7 @@ impl Model for NextSteps {
 }
 
 impl NextSteps {
-    /// No steps.
+    /// Creates a list without steps.
     pub fn new() -> NextSteps
         ensures { result.items ≡ [] }
     {
@@ -52,7 +52,7 @@ impl NextSteps {
         self.len += 1;
     }
 
-    /// The steps, in order.
+    /// Returns the steps, in order.
     pub fn as_slice(&self) -> &[NextStep]
         ensures { result.now ≡ self.now.items }
     {
@@ -60,17 +60,17 @@ impl NextSteps {
     }
 }
 
-/// What a call that was entered appended to the history: its start and the steps that came next. It is a place that is lent and filled in.
+/// What a call appended to the history: its start and the steps that came next. `Recorder::enter` overwrites it.
 #[derive(Drop)]
 pub struct Appended {
-    /// What the start did, and whose calls ended in it.
+    /// The result of the start, and the threads whose calls ended in it.
     pub start: Answer,
     /// The steps that came next.
     pub next: NextSteps,
 }
 
 impl Appended {
-    /// A place in which nothing is told yet.
+    /// Creates a value that reports nothing yet.
     pub fn new() -> Appended
         ensures { (result.start.ended.items ≡ []) × (result.next.items ≡ []) }
     {

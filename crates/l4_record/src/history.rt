@@ -13,7 +13,7 @@ use l4_journal::{FAULT, FromWords, IPC, ItemsFrom, Journal, Record, outcome_word
 use std::alloc::{AllocError, Global};
 use std::marker::Model;
 
-/// Entries of a history, one after another. Contracts see those that are left.
+/// An iterator over entries of a history. Contracts see the entries that are left.
 pub type Entries<'a> = ItemsFrom<'a, Entry>;
 
 /// The entries of a recorded kernel, in order. They are stored as words.
@@ -64,28 +64,28 @@ impl History {
         }
     }
 
-    /// How many entries there are.
+    /// Returns the number of entries.
     pub fn len(&self) -> usize
         ensures { result ≡ length self.now.entries }
     {
         self.entries.len()
     }
 
-    /// Whether there is no entry.
+    /// Returns whether there is no entry.
     pub fn is_empty(&self) -> bool
         ensures { result ≡ nat_eq (length self.now.entries) 0 }
     {
         self.entries.is_empty()
     }
 
-    /// The entry at this place, None beyond the end.
+    /// Returns the entry at this place, or None beyond the end.
     pub fn get(&self, place: usize) -> Option<Entry>
         ensures { result ≡ slice_get self.now.entries place }
     {
         self.entries.get(place)
     }
 
-    /// The entries from this place on.
+    /// Returns an iterator over the entries from this place on.
     pub fn entries_from(&self, place: usize) -> Entries<'_>
         ensures entries { result ≡ drop place self.now.entries }
         ensures bound { length result < 2 ^ 64 }

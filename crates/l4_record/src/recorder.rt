@@ -17,10 +17,10 @@ use l4_ipc::{Call, Kernel, PageSize};
 use std::alloc::Global;
 use std::marker::Model;
 
-/// The greatest number of entries of a history.
+/// The maximum number of entries of a history.
 pub const MAX_ENTRIES: usize = 1_000_000;
 
-/// The greatest number of steps that follow the start of a call.
+/// The maximum number of steps that follow the start of a call.
 pub const MAX_STEPS: usize = 128;
 
 /// The entries of a call: its start and the steps that follow it.
@@ -29,8 +29,8 @@ const CALL_ENTRIES: usize = MAX_STEPS + 1;
 /// The greatest number of entries with which another call is entered.
 const LAST_START: usize = MAX_ENTRIES - CALL_ENTRIES;
 
-/// A kernel with the history of its steps, which is legal and leads from boot to where the kernel is. No step is enabled. Its board shows how
-/// many entries there are.
+/// A kernel with the history of its steps. The history is legal, and leads from boot to the state of the kernel. No step is enabled. The
+/// board shows the number of entries.
 #[derive(Drop)]
 pub struct Recorder {
     frames: u32,
@@ -54,9 +54,10 @@ impl Model for Recorder {
 }
 
 impl Recorder {
-    /// A kernel as it boots, with 1 to 4,096 frames of this size and an empty history, its board, whose word is 0, and watches of it.
+    /// Boots a kernel with 1 to 4,096 frames of this size and an empty history. Returns it with its board, whose word is 0, and with
+    /// watches of the board.
     ///
-    /// `Kernel(BadFrames)` comes for any other number, and else `NoMemory`, or `Kernel` with it, where a growth was refused.
+    /// Returns `Kernel(BadFrames)` for any other number of frames. Returns `NoMemory`, or `Kernel` with it, if an allocation fails.
     pub fn new(
         alloc: Global,
         frames: u32,
@@ -91,53 +92,55 @@ impl Recorder {
         Ok((recorder, board, watches))
     }
 
-    /// How many frames the kernel booted with.
+    /// Returns the number of frames at boot.
     pub fn frames(&self) -> u32
         ensures { result ≡ self.now.frames }
     {
         self.frames
     }
 
-    /// The kernel.
+    /// Returns the kernel.
     pub fn kernel(&self) -> &Kernel
         ensures { result.now ≡ self.now.kernel }
     {
         &self.kernel
     }
 
-    /// The history.
+    /// Returns the history.
     pub fn history(&self) -> &History
         ensures { result.now.entries ≡ self.now.history }
     {
         &self.history
     }
 
-    /// Whether the history has no room for another call.
+    /// Returns whether the history has no room for another call.
     pub fn is_full(&self) -> bool
         ensures { IsTrue result ↔ (last_start < length self.now.history) }
     {
         self.history.len() > LAST_START
     }
 
-    /// What holds of the recorder at all times. It does nothing.
+    /// Ghost function: gives a proof the invariant of the recorder. It compiles to nothing.
     pub fn law_kept(&self)
         ensures { IsKept self.now }
     {
         let _ = &self.frames;
     }
 
-    /// What holds of the whole history: it is one run of the machine from boot, each page that is present has its provenance in it, a flush
-    /// ends what came through its pages, and each delegation that was delivered has its whole effect. It does nothing.
+    /// Ghost function: gives a proof what holds of the whole history. The history is one run of the machine from boot. Each present page
+    /// has its provenance in it, a flush removes what came through its pages, and each delivered delegation has its whole effect. It
+    /// compiles to nothing.
     pub fn law_history(&self)
         ensures { IsWholeRun self.now.frames self.now.history self.now.kernel }
     {
         let _ = &self.frames;
     }
 
-    /// Enters a call of this thread: its start is appended to the history, and then the steps that come next until there is none, at most
-    /// 128. What was appended is told in the place that is lent.
+    /// Enters a call of this thread. Appends its start to the history, and then the steps that come next, until there is none: at most 128.
+    /// Overwrites `appended` with what was appended.
     ///
-    /// Refusals in this order: `HistoryFull`, `NoMemory`, `Kernel`. After any of them nothing has changed.
+    /// Returns these refusals, tested in this order: `HistoryFull`, `NoMemory`, `Kernel`. After a refusal, nothing has changed, and the
+    /// content of `appended` is unspecified.
     pub fn enter(
         &mut self,
         number: u32,
@@ -161,7 +164,7 @@ impl Recorder {
         Ok(())
     }
 
-    /// The history and the kernel, with what holds of the whole history.
+    /// Returns the history and the kernel, with what holds of the whole history.
     #[inline(never)]
     pub fn into_parts(self) -> (History, Kernel)
         ensures same { (result.0.entries ≡ self.history) × (result.1 ≡ self.kernel) }

@@ -25,7 +25,7 @@ fn follow(kernel: &mut Kernel, history: &mut History, number: u32, next: &mut Ne
     }
 }
 
-/// Does the step that starts a call and those that come next, until there is none. After a refusal nothing has changed.
+/// Executes the start of a call, and then the steps that come next, until there is none. After a refusal, nothing has changed.
 pub fn begin(
     kernel: &mut Kernel,
     history: &mut History,

@@ -11,7 +11,7 @@ use l4_journal::{
     read_outcome, read_word,
 };
 
-/// The tag of a Transfer. A smaller one is that of a call whose start ended none.
+/// The tag of a Transfer. A smaller tag is that of a call whose start ended no call.
 pub const TRANSFER: u32 = 6;
 
 /// The tag of an Expire.
@@ -20,7 +20,7 @@ pub const EXPIRE: u32 = 7;
 /// The tag of the start of a call with its answer.
 const ANSWERED: u32 = 8;
 
-/// Writes the entry of the start of a call in the place of what the record holds.
+/// Overwrites the record with the entry of the start of a call.
 pub fn write_start(out: &mut Record, number: u32, call: &Call, answer: &Answer)
     ensures { entry_at out.new.items ≡ Some (record { seat = number; step = Start number call.now; answer = answer.now }) }
 {

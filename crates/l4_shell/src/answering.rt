@@ -1,4 +1,4 @@
-//! Answers to lines. Most lines are `recv`, `send`, `ipc` and `fault`, and these go straight from their tokens to their call.
+//! Answers lines. Most lines are `recv`, `send`, `ipc` and `fault`, whose tokens are read directly into their call.
 ghost use Rattle.std.specs.Prelude.{◌≡◌, ◌∷◌, ℕ, List, [], Option, false, ok_or, option_map, codes, bytes_eq};
 ghost use Rattle.l4_answers.specs.Reports.{Report, AddsAll};
 ghost use Rattle.l4_text.specs.Tokens.{tokens_of};

@@ -1,4 +1,4 @@
-//! What a script line asks for.
+//! Reads the tokens of script lines.
 ghost use Rattle.std.specs.Prelude.{◌≡◌, ◌∷◌, [], false, codes, bytes_eq, option_map, MatchOption};
 ghost use Rattle.l4_text.specs.Tokens.{tokens_of};
 ghost use Rattle.l4_shell.specs.Commands.{Receive, Send, Ipc, Fault, thread_asked, set_pager_asked, delete_asked, receive_asked, send_asked, ipc_asked, fault_asked, show_asked, parent_asked, delegate_asked, part_asked, unmap_asked, region_asked, serve_asked, steps_asked, pager_command_of, words_of, command_of};

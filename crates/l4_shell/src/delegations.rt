@@ -1,4 +1,4 @@
-//! What a delegation sends.
+//! The messages of delegations.
 ghost use Rattle.std.specs.Prelude.{◌≡◌, IfOk, IfErr};
 ghost use Rattle.l4_shell.specs.Delegations.{PlanSends, PlanLacks, ArePlanWords, HasNoPlan};
 

@@ -1,8 +1,8 @@
-//! What holds of all scripts.
+//! Laws of all scripts.
 ghost use Rattle.l4_shell.specs.Sizes.{SizeStays};
 
-/// A script's machine, sigma0's table and all tables of regions go by one size of pages from its first line to its last: the one with which
-/// the machine booted.
+/// Ghost function: gives a proof that a script's machine, sigma0's table and all tables of regions keep one page size from the first line
+/// to the last, the size with which the machine booted. It compiles to nothing.
 pub fn the_size_of_pages_stays()
     ensures { SizeStays }
 {}

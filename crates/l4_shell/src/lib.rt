@@ -1,4 +1,4 @@
-//! Scripts of kernel calls, and all that the program `l4` does.
+//! Scripts of kernel calls: what `l4 run` does.
 #![tactic(auto)]
 
 mod answering;

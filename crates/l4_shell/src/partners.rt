@@ -1,4 +1,4 @@
-//! The threads that tokens name, and the words in their place.
+//! Reads tokens that name threads, and the words `nil`, `any` and `new`.
 ghost use Rattle.std.specs.Prelude.{◌≡◌, option_map};
 ghost use Rattle.l4_text.specs.Numbers.{number_of};
 ghost use Rattle.l4_text.specs.Tokens.{tokens_of};

@@ -1,4 +1,4 @@
-//! Scripts of which the history alone is wanted.
+//! Executes scripts of which only the history is needed.
 ghost use Rattle.std.specs.Prelude.{◌≡◌, ◌≤◌, MatchOption};
 ghost use Rattle.l4_fpage.specs.Pages.{max_frames};
 ghost use Rattle.l4_shell.specs.Histories.{Records};
@@ -13,8 +13,8 @@ use l4_text::RunFault;
 use std::alloc::Global;
 use std::io::Read;
 
-/// Carries out the script that the reader gives as `run` does, but tells no answers. Answers the history of the lines that were answered,
-/// and what `run` answers. None comes where there is no memory for a kernel, and then nothing was read.
+/// Executes the script of the reader as `run` does, without reporting its answers. Returns the history of the lines that were answered, and
+/// what `run` returns. Returns None if there is no memory for a kernel; then nothing was read.
 pub fn record<R: Read>(
     alloc: Global,
     frames: u32,

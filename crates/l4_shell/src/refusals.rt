@@ -1,4 +1,4 @@
-//! The codes of what a script's line is refused for before it reaches the kernel.
+//! The codes of refusals that a script's line gets before it reaches the kernel.
 ghost use Rattle.std.specs.Prelude.{◌≡◌};
 ghost use Rattle.l4_shell.specs.Refusals.{script_refusal, plan_refusal, lacks_memory, call_refusal, pager_refusal, region_refusal};
 

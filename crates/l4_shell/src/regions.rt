@@ -1,4 +1,4 @@
-//! The regions that tokens name.
+//! Reads tokens that describe regions.
 ghost use Rattle.std.specs.Prelude.{◌≡◌};
 ghost use Rattle.l4_text.specs.Tokens.{tokens_of};
 ghost use Rattle.l4_shell.specs.Commands.{right_of, rights_of, last_rights_of, region_of};

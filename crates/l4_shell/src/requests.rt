@@ -1,4 +1,4 @@
-//! What a line comes to: a call that a thread enters, or pages that are told.
+//! The meaning of a line: a call that a thread enters, or a query.
 ghost use Rattle.std.specs.Prelude.{◌≡◌, true};
 ghost use Rattle.l4_ipc.specs.declared.calls.Call.TheVariants.{Ipc as Exchanges, Fault as Faults};
 ghost use Rattle.l4_pager.specs.Serving.{waiting};

@@ -1,4 +1,4 @@
-//! Scripts from a reader to a writer.
+//! Executes scripts from a reader to a sink.
 ghost use Rattle.std.specs.Prelude.{◌≡◌, ◌≤◌, IfSome};
 ghost use Rattle.l4_fpage.specs.Pages.{max_frames};
 ghost use Rattle.l4_shell.specs.Scripts.{Runs};
@@ -68,15 +68,15 @@ impl Script {
     }
 }
 
-/// Answers the script that the reader gives, line by line, over a kernel of its own with this many
-/// frames, 1 to 4,096, of this size. Answers the number of lines: empty ones, comments and refused ones
-/// too, and a last one that no newline ends. A line's answers go out before the read that asks for the next.
+/// Executes the script of the reader on a kernel of its own, with 1 to 4,096 frames of this size. Answers it line by line, and returns the
+/// number of lines. This includes empty lines, comments and refused lines, and a last line without a newline. The sink is flushed before
+/// each read for the next line.
 ///
-/// A read asks for 4,096 bytes, and there are at most 16,777,216 reads: where the script has not
-/// ended by then, that is `Read`. An error of any kind is a fault, and so is a write that takes no
-/// byte. All lines before a `Read` are answered, and that goes out too; after `Write` a beginning of
-/// the answers went out; `Memory` comes where there is none for a kernel, and then nothing was read
-/// or written.
+/// A read requests 4,096 bytes, and there are at most 16,777,216 reads.
+///
+/// Returns these faults. `Memory`: there is no memory for a kernel, and nothing was read or written. `Read`: a read failed, or the script
+/// did not end within that number of reads; the preceding lines were answered, and their answers were written. `Write`: a write failed or
+/// took no byte, and a prefix of the answers was written.
 pub fn run<R: Read, S: Sink>(
     alloc: Global,
     frames: u32,

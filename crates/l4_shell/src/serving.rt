@@ -1,4 +1,4 @@
-//! What is told of a call, and what follows it: the acts of served threads.
+//! Reports a call, and what follows it: the acts of served threads.
 ghost use Rattle.std.specs.Prelude.{◌≡◌, ◌++◌, ℕ, List};
 ghost use Rattle.std.specs.List.{flat_map};
 ghost use Rattle.l4_ipc.specs.OwnCall.{ended_if};

@@ -1,4 +1,4 @@
-//! A script's kernel and its servers, and how what a line asks for is carried out on them.
+//! A script's kernel and its servers, and the execution of a line's request on them.
 ghost use Rattle.std.specs.Prelude.{◌≡◌, ◌⊎◌, ◌∷◌, List, [], false, MatchOption};
 ghost use Rattle.l4_answers.specs.Reports.{Report, AddsAll};
 ghost use Rattle.l4_shell.specs.Sessions.{session, Enters, Creates, Deletes, ServesThread, AddsRegion, place_reports, ListsBelow, Shows, parent_answer, Delegates, TellsCount, CarriesOut, Refuses, LacksRoom};

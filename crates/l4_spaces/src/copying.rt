@@ -1,4 +1,4 @@
-//! Copies of the tables. A table's copy is made by what is seen of it, and takes as much memory as a table.
+//! Copies of the tables. A table's copy is made from what contracts see of it, and takes the memory of a table.
 
 ghost use Rattle.std.specs.Prelude.{◌≡◌, IfOk};
 
@@ -23,7 +23,9 @@ impl Clone for Row {
 }
 
 impl Spaces {
-    /// The same spaces with the same pages, in tables of their own. What is done with the one is not seen in the other.
+    /// Returns the same spaces with the same pages, in tables of their own. A change of one is not visible in the other.
+    ///
+    /// Returns `NoMemory` if an allocation fails.
     pub fn copy(&self) -> Result<Spaces, NoMemory>
         ensures { IfOk result (λ copy. copy ≡ self.now) }
     {

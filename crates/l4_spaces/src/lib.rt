@@ -1,4 +1,4 @@
-//! Page tables: which node each present page of each space has.
+//! Page tables: the node of each present page of each space.
 #![tactic(auto)]
 
 ghost use Rattle.std.specs.Prelude.{◌≡◌, ◌≢◌, ◌∷◌, [], ◌<◌, ◌≤◌, ◌⊎◌, ℕ, List, All, length, true, false, IsTrue, IsOk, IfOk, OnOk, OnErr, IfSome, MatchOption, Some, None, codes};
@@ -17,7 +17,7 @@ use std::fmt;
 use std::marker::Model;
 use tables::SPACE_PAGES;
 
-/// There was no memory for what was asked, and nothing was changed.
+/// An allocation failed, and nothing was changed.
 #[derive(Clone, Copy, Debug, PartialEq, Eq)]
 pub struct NoMemory;
 
@@ -43,7 +43,7 @@ impl<T: Drop> From<AllocFailed<T>> for NoMemory {
     }
 }
 
-/// For each space that is there a map from its present pages to the keys of their nodes.
+/// A map for each existing space, from its present pages to the keys of their nodes.
 #[derive(Drop)]
 pub struct Spaces {
     alloc: Global,
@@ -96,7 +96,7 @@ fn index_of(spaces: &Vec<(u64, Vec<Row>)>, space: u64) -> Option<usize>
 impl Spaces {
     ghost use Rattle.l4_spaces.specs.Tables.{Tables, key_of, IsPresent, IsSpace, IsPage, HasRoom, KeepsRoom, KeepsOthersRoom, Empties, NonePresentFrom, IsNextPresent, NonePresentIn, IsNextIn, IsTableIn};
 
-    /// No space.
+    /// Creates a value without spaces.
     pub fn new(alloc: Global) -> Spaces
         ensures pages { result.pages ≡ map.empty }
         ensures spaces { result.spaces ≡ set.empty }
@@ -107,7 +107,9 @@ impl Spaces {
         }
     }
 
-    /// Adds an empty space. Nothing changes if it is there.
+    /// Adds an empty space. Changes nothing if the space exists.
+    ///
+    /// Returns `NoMemory` if an allocation fails; then nothing has changed.
     pub fn add(&mut self, space: u64) -> Result<(), NoMemory>
         ensures pages { self.new.pages ≡ self.old.pages }
         ensures spaces { OnOk result (self.new.spaces ≡ set.insert self.old.spaces space) }
@@ -123,7 +125,7 @@ impl Spaces {
         Ok(())
     }
 
-    /// Removes a space with all its pages and tables. Nothing changes if it isn't there.
+    /// Removes a space with all its pages and tables. Changes nothing if there is no such space.
     pub fn remove(&mut self, space: u64)
         ensures pages { Empties space self.old self.new }
         ensures spaces { self.new.spaces ≡ set.remove self.old.spaces space }
@@ -135,14 +137,14 @@ impl Spaces {
         }
     }
 
-    /// Whether the space is there.
+    /// Returns whether the space exists.
     pub fn has(&self, space: u64) -> bool
         ensures { result ≡ set.contains self.now.spaces space }
     {
         index_of(&self.spaces, space).is_some()
     }
 
-    /// The key of a page's node, None if the page isn't present.
+    /// Returns the key of a page, or None if the page is not present.
     pub fn get(&self, space: u64, page: u32) -> Option<usize>
         ensures value { result ≡ key_of self.now space page }
 
@@ -155,9 +157,9 @@ impl Spaces {
         tables::key_in(&self.spaces[at].1, page)
     }
 
-    /// Makes room for these pages of the space, to be set in turn. No page is set.
+    /// Allocates room for these pages of the space, to be set later, one after another. Sets no page.
     ///
-    /// NoMemory can come only where that room was missing, and changes nothing.
+    /// Returns `NoMemory` if an allocation fails, which is possible only if that room was missing; then nothing has changed.
     pub fn prepare(&mut self, space: u64, pages: &[u32]) -> Result<(), NoMemory>
         requires there { IsSpace self.old space }
         requires fit { All IsPage pages.now }
@@ -179,10 +181,10 @@ impl Spaces {
         Ok(())
     }
 
-    /// Gives an absent page this key, with a table if it has none. Whether the page was absent is given, and nothing changes if it was
-    /// present.
+    /// Gives an absent page this key, and allocates its table if it has none. Returns whether the page was absent; changes nothing if it
+    /// was present.
     ///
-    /// NoMemory can come only for an absent page, and changes nothing.
+    /// Returns `NoMemory` only for an absent page; then nothing has changed.
     pub fn claim(&mut self, space: u64, page: u32, key: usize) -> Result<bool, NoMemory>
         requires there { IsSpace self.old space }
         requires fits { IsPage page }
@@ -203,7 +205,7 @@ impl Spaces {
         Ok(absent)
     }
 
-    /// Sets the key of a page. The page is present, or is the first of pages that there is room for.
+    /// Sets the key of a page. The page must be present, or be the first of the pages for which there is room.
     pub fn set(&mut self, space: u64, page: u32, key: usize)
         requires there { IsSpace self.old space }
         requires fits { IsPage page }
@@ -232,8 +234,8 @@ impl Spaces {
         tables::put(&mut self.spaces[at].1, page, key);
     }
 
-    /// Lets a present page get absent, and another one, which there is room for, have the key. All room is kept, since no more pages are
-    /// present than before.
+    /// Makes a present page absent, and gives its key to another page, for which there must be room. All room is kept, because no more
+    /// pages are present than before.
     pub fn rename(&mut self, space: u64, page: u32, other_space: u64, other_page: u32, key: usize)
         requires present { IsPresent self.old space page }
         requires there { IsSpace self.old other_space }
@@ -246,7 +248,7 @@ impl Spaces {
         self.fill(other_space, other_page, key);
     }
 
-    /// Makes a page absent. Nothing changes if it is so.
+    /// Makes a page absent. Changes nothing if it is absent.
     pub fn clear(&mut self, space: u64, page: u32)
         ensures pages { self.new.pages ≡ map.remove self.old.pages (space, page) }
         ensures spaces { self.new.spaces ≡ self.old.spaces }
@@ -259,7 +261,7 @@ impl Spaces {
         tables::clear(&mut self.spaces[at].1, page);
     }
 
-    /// The least present page of the space that is not below `page`, None where there is none.
+    /// Returns the least present page of the space that is not below `page`, or None.
     pub fn next_present(&self, space: u64, page: u32) -> Option<u32>
         ensures { MatchOption result (NonePresentFrom self.now space page) (IsNextPresent self.now space page) }
     {
@@ -272,7 +274,7 @@ impl Spaces {
         Some(next)
     }
 
-    /// The least present page of the space that is not below `page`, if it is below `end`. Nothing from `end` on is looked at.
+    /// Returns the least present page of the space that is not below `page`, if it is below `end`. Does not look at pages from `end` on.
     pub fn next_in(&self, space: u64, page: u32, end: u32) -> Option<u32>
         ensures { MatchOption result (NonePresentIn self.now space page end) (IsNextIn self.now space page end) }
     {
@@ -282,8 +284,8 @@ impl Spaces {
         Some(next)
     }
 
-    /// The least present page of the space that is not below `page`, with the key of its node, if it is below `end`. Nothing from
-    /// `end` on is looked at.
+    /// Returns the least present page of the space that is not below `page`, with its key, if it is below `end`. Does not look at pages
+    /// from `end` on.
     #[inline]
     pub fn next_node(&self, space: u64, page: u32, end: u32) -> Option<(u32, usize)>
         ensures { MatchOption result (NonePresentIn self.now space page end) (λ found. IsNextIn self.now space page end found.0 × (key_of self.now space found.0 ≡ Some found.1)) }
@@ -294,8 +296,8 @@ impl Spaces {
         tables::next_page(&self.spaces[at].1, page, end)
     }
 
-    /// The first table that is there, of those with pages of the space from `page` on and before `end`, with its first page. So a walk
-    /// over many pages looks for the space and the table once a table.
+    /// Returns the first existing table with pages of the space from `page` on and before `end`, and its first page. A walk over many pages
+    /// therefore looks the space and the table up once for each table.
     pub fn next_table(&self, space: u64, page: u32, end: u32) -> Option<(u32, &Row)>
         ensures { MatchOption result (NonePresentIn self.now space page end) (λ found. IsTableIn self.now space page end found.0 found.1.now) }
     {

@@ -1,4 +1,4 @@
-//! The numbers of the spaces, by rising number.
+//! The numbers of the spaces, in rising order.
 
 ghost use Rattle.std.specs.Prelude.{◌≡◌, MatchOption};
 ghost use Rattle.l4_spaces.specs.Inside.Leasts.{least_with};
@@ -27,7 +27,7 @@ fn least_with(from: u64, least: Option<u64>, number: u64) -> Option<u64>
 impl Spaces {
     ghost use Rattle.l4_spaces.specs.Listed.{NoSpaceFrom, IsNextSpace};
 
-    /// The least number of a space that is not below `from`, None where there is none. All spaces are walked over.
+    /// Returns the least number of a space that is not below `from`, or None. Visits all spaces.
     pub fn next_space(&self, from: u64) -> Option<u64>
         ensures { MatchOption result (NoSpaceFrom self.now.spaces from) (IsNextSpace self.now.spaces from) }
     {

@@ -12,7 +12,7 @@ const NO_KEY: u32 = 0x8000_0000;
 /// Stands for a key that four bytes can't hold.
 const LONG_KEY: u32 = NO_KEY + 1;
 
-/// How many places, one after another, are a block.
+/// The number of consecutive entries that form a block.
 pub const BLOCK: usize = 64;
 
 /// How many blocks a table has.
@@ -99,14 +99,14 @@ impl Row {
         *self.short.allocator()
     }
 
-    /// How many places there are.
+    /// Returns the number of entries.
     pub fn len(&self) -> usize
         ensures { result ≡ length self.now }
     {
         self.short.len()
     }
 
-    /// The key of a place that is there.
+    /// Returns the key of an entry, if it has one.
     #[inline]
     pub fn at(&self, low: usize) -> Option<usize>
         requires within { low < length self.now }
@@ -122,7 +122,7 @@ impl Row {
         Some(long_key(&self.long, low))
     }
 
-    /// Whether a place of the block of this number may have a key. Where one had a key that is gone, it still may.
+    /// Returns whether an entry of the block of this number may have a key. The answer stays true after a key was removed.
     #[inline]
     pub fn is_used(&self, block: usize) -> bool
         ensures { result ≡ false → NoKeys self.now (block * row_block) (block * row_block + row_block) }

@@ -1,5 +1,5 @@
-//! The tables of one space: each is absent or has a place for each of its pages. The list of them, the root, goes as far as a table was asked
-//! for, and what lies beyond it is absent.
+//! The tables of one space. Each is absent, or has an entry for each of its pages. The list of tables, the root, is as long as a table was
+//! needed; tables beyond its end are absent.
 
 ghost use Rattle.std.specs.Prelude.{◌≡◌, ◌≢◌, ◌<◌, ◌≤◌, ◌/◌, ◌%◌, ◌+◌, ◌*◌, ◌⊎◌, ℕ, length, [], ◌∷◌, All, Some, None, OnOk, OnErr, IsOk, IfOk, IsTrue, is_some, IfSome, MatchOption, slice_index_or, true, false};
 ghost use Rattle.l4_spaces.specs.Tables.{table_pages, space_tables, row_block, IsPage, NoKeys};

@@ -1,7 +1,7 @@
-//! The program `l4_steps`: does kernel steps in any order, and prints each answer (`l4_steps --help`).
+//! The program `l4_steps`: executes kernel steps in any order, and prints each answer (`l4_steps --help`).
 //!
-//! Exit statuses: 0 at the end of the list, 2 for a command line or a line that is not understood, 3 where a read or a write failed,
-//! 4 for want of memory at the start.
+//! Exit statuses: 0 at the end of the list; 2 for a command line or a line that is not understood; 3 if a read or a write failed; 4 if
+//! there was no memory at the start.
 #![tactic(auto)]
 
 use l4_fpage::PageSize;

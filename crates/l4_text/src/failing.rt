@@ -1,8 +1,8 @@
-//! A reader and a writer that go byte by byte and fail at a call: tests of this crate and of those above it use them.
+//! A reader and a writer that pass one byte per call and fail at a chosen call, for tests of this crate and of the crates above it.
 use std::io;
 use std::io::{Read, Write};
 
-/// Gives one byte a call, and fails at a call.
+/// A reader that gives one byte per call, and fails after `calls` calls.
 #[derive(Drop)]
 pub struct Drip<'a> {
     pub bytes: &'a [u8],
@@ -26,7 +26,7 @@ impl Read for Drip<'_> {
     }
 }
 
-/// Takes one byte a call, and fails at a call.
+/// A writer that takes one byte per call, and fails after `calls` calls.
 #[derive(Drop)]
 pub struct Sip {
     pub taken: Vec<u8>,

@@ -1,4 +1,4 @@
-//! The number that a line's first token spells, read where it stands.
+//! Reads the number that a line's first token spells, in place.
 ghost use Rattle.std.specs.Prelude.{◌≡◌, ◌==◌, ◌<◌, ◌^◌, ◌∷◌, [], Some, MatchOption, IfSome};
 ghost use Rattle.std.specs.List.{position_or_len};
 ghost use Rattle.l4_text.specs.Numbers.{digit_of};
@@ -114,7 +114,8 @@ fn longer_number(line: &[u8]) -> u64
     (count as u64 + 1) * PLACE + u64::from(value)
 }
 
-/// The number of a line's first token and what follows the token, where it is soon read.
+/// Returns the number that a line's first token spells, and what follows the token, in the cases that can be read quickly. None in all
+/// other cases: it says nothing about the token.
 #[inline(always)]
 pub fn quick_number(line: &[u8]) -> Option<(u32, &[u8])>
     ensures { IfSome result (λ p. FirstNumber line.now (Some p.0) p.1.now) }
@@ -145,7 +146,7 @@ fn whole_word(line: &[u8]) -> Option<(u32, &[u8])>
     Some((value, after))
 }
 
-/// The number that the first token of a line spells, None where it spells none, and what follows the token. None where
+/// Returns the number that a line's first token spells, or None in its place if it spells none, and what follows the token. Returns None if
 /// there is no token.
 #[inline(always)]
 pub fn next_number(line: &[u8]) -> Option<(Option<u32>, &[u8])>

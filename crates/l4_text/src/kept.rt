@@ -1,4 +1,4 @@
-//! Bytes that are kept for a while, in a place of their own.
+//! A buffer of bytes.
 ghost use Rattle.std.specs.Prelude.{◌≡◌, ◌==◌, ◌+◌, ◌^◌, ◌<◌, ◌≤◌, ◌++◌, ◌∷◌, [], length};
 
 use std::marker::Model;
@@ -23,7 +23,7 @@ impl<const LIMIT: usize> Model for KeptBytes<LIMIT> {
 }
 
 impl<const LIMIT: usize> KeptBytes<LIMIT> {
-    /// No bytes.
+    /// Creates an empty buffer.
     pub fn new() -> KeptBytes<LIMIT>
         requires { LIMIT < 2 ^ 32 }
         ensures { result ≡ [] }
@@ -34,21 +34,21 @@ impl<const LIMIT: usize> KeptBytes<LIMIT> {
         }
     }
 
-    /// Whether there is none.
+    /// Returns whether the buffer is empty.
     pub fn is_empty(&self) -> bool
         ensures { result ≡ (length self.now == 0) }
     {
         self.len == 0
     }
 
-    /// How many more fit.
+    /// Returns the number of bytes for which there is room.
     pub fn room(&self) -> usize
         ensures { result + length self.now ≡ LIMIT }
     {
         LIMIT - self.len as usize
     }
 
-    /// Takes all bytes away.
+    /// Removes all bytes.
     pub fn clear(&mut self)
         ensures { self.new ≡ [] }
     {
@@ -89,7 +89,7 @@ impl<const LIMIT: usize> KeptBytes<LIMIT> {
         self.len = end as u32;
     }
 
-    /// The bytes.
+    /// Returns the bytes.
     pub fn as_slice(&self) -> &[u8]
         ensures { result.now ≡ self.now }
     {

@@ -1,4 +1,4 @@
-//! Lines of a stream, of which no more than one is kept.
+//! Lines of a stream, of which at most one is kept.
 ghost use Rattle.std.specs.Prelude.{◌≡◌, ◌+◌, ◌-◌, ◌*◌, ◌<◌, ◌≤◌, [], ◌++◌, drop, length, ◌==◌, if◌then◌else◌, ℕ, List, MatchBool, IfSome};
 ghost use Rattle.std.specs.List.{position, position_or_len};
 ghost use Rattle.l4_text.specs.Inside.Reading.{is_newline, Filled, EndsLines, IsLineLen};
@@ -11,13 +11,13 @@ use memchr::{memchr, memrchr};
 use std::io::Read;
 use std::marker::Model;
 
-/// The most bytes of a line that are kept, and that one read takes.
+/// The maximum number of bytes of a line that are kept, and that one read requests.
 pub(crate) const MAX_LINE: usize = 4_096;
 
-/// The most reads of a stream.
+/// The maximum number of reads of a stream.
 const MOST_READS: u32 = 16_777_216;
 
-/// How a line ended.
+/// The way in which a line ended.
 #[derive(Clone, Copy, Debug, PartialEq, Eq)]
 pub enum Ending {
     /// By a newline, after at most 4,096 bytes.
@@ -28,8 +28,8 @@ pub enum Ending {
     Cut,
 }
 
-/// What was read of a stream in reads of at most 4,096 bytes and not yet taken, and how many reads
-/// gave some, at most 16,777,216. Where the last whole line of these bytes ends is looked for once a read.
+/// What was read of a stream and not taken yet, and the number of reads that gave bytes. A read requests at most 4,096 bytes, and there are
+/// at most 16,777,216 reads. Each read searches once for the end of the last whole line.
 #[derive(Drop)]
 pub struct Source {
     chunk: [u8; MAX_LINE],
@@ -51,7 +51,7 @@ impl Model for Source {
     ghost invariant = { λ a. (a.start ≤ a.end) × (a.end ≤ line_bytes) × (a.reads ≤ most_reads) × EndsLines a.chunk a.end a.lines };
 }
 
-/// How many bytes the whole lines have that stand in front.
+/// Returns the number of bytes of the whole lines at the front.
 fn lines_len(bytes: &[u8]) -> usize
     ensures { EndsLines bytes.now (length bytes.now) result }
 {
@@ -62,7 +62,7 @@ fn lines_len(bytes: &[u8]) -> usize
 }
 
 impl Source {
-    /// Nothing was read yet.
+    /// Creates a source from which nothing was read.
     pub fn new() -> Source
         ensures { result ≡ ([], 0) }
     {
@@ -82,14 +82,14 @@ impl Source {
         let _ = &self.reads;
     }
 
-    /// The bytes that were read and not taken.
+    /// Returns the bytes that were read and not taken.
     fn pending(&self) -> &[u8]
         ensures { result.now ≡ self.now.0 }
     {
         &self.chunk[self.start..self.end]
     }
 
-    /// Whether a whole line was read and not taken, so that the next line needs no read.
+    /// Returns whether a whole line was read and not taken, so that the next line needs no read.
     pub fn has_line(&self) -> bool
         ensures { MatchBool result (NoNewline self.now.0 → ⊥) (NoNewline self.now.0) }
     {
@@ -149,7 +149,7 @@ impl Source {
     }
 }
 
-/// A line as far as it came, or the first 4,096 bytes of a longer one.
+/// A line, or the first 4,096 bytes of a longer one.
 #[derive(Drop)]
 pub struct Line {
     bytes: KeptBytes<MAX_LINE>,
@@ -167,7 +167,7 @@ impl Model for Line {
 impl Line {
     ghost use Rattle.l4_text.specs.Lines.{kept_of};
 
-    /// An empty line.
+    /// Creates an empty line.
     pub fn new() -> Line
         ensures { result ≡ kept_of [] }
     {
@@ -177,7 +177,7 @@ impl Line {
         }
     }
 
-    /// Its bytes, at most 4,096.
+    /// Returns its bytes, at most 4,096.
     pub fn as_slice(&self) -> &[u8]
         ensures { result.now ≡ self.now.0 }
     {
@@ -228,7 +228,7 @@ fn first_newline(bytes: &[u8]) -> Option<usize>
     memchr(b'\n', bytes)
 }
 
-/// How many bytes stand before the first newline.
+/// Returns the number of bytes before the first newline.
 fn line_len(bytes: &[u8]) -> usize
     ensures value { result ≡ position_or_len is_newline bytes.now }
     ensures within { result ≤ length bytes.now }
@@ -236,7 +236,8 @@ fn line_len(bytes: &[u8]) -> usize
     first_newline(bytes).unwrap_or(bytes.len())
 }
 
-/// Takes the next line. None at the end of the stream, and a call after it asks the stream again.
+/// Takes the next line, and copies it into `line`. Returns how it ended, or None at the end of the stream. A call after that reads the
+/// stream again.
 pub fn next_line<R: Read>(
     source: &mut Source,
     line: &mut Line,
@@ -280,8 +281,8 @@ fn read_line<R: Read>(
     next_line(source, line, reader)
 }
 
-/// The lines of a stream, one at a time. A line that was read whole by one read stays where it was read until the next is asked for, and
-/// no byte of it is copied.
+/// The lines of a stream, one at a time. A line that one read delivered whole stays where it was read until the next line is taken; none of
+/// its bytes is copied.
 #[derive(Drop)]
 pub struct LineReader {
     source: Source,
@@ -303,7 +304,7 @@ impl Model for LineReader {
 impl LineReader {
     ghost use Rattle.l4_text.specs.Lines.{kept_of};
 
-    /// Nothing was read yet.
+    /// Creates a reader that has read nothing.
     pub fn new() -> LineReader
         ensures { result ≡ (([], 0), kept_of []) }
     {
@@ -314,14 +315,14 @@ impl LineReader {
         }
     }
 
-    /// Whether a whole line was read behind this one, so that the next needs no read.
+    /// Returns whether a whole line was read after this one, so that the next line needs no read.
     pub fn has_line(&self) -> bool
         ensures { MatchBool result (NoNewline self.now.0.0 → ⊥) (NoNewline self.now.0.0) }
     {
         self.source.has_line_behind(self.lent)
     }
 
-    /// The bytes of the line that was taken last, at most 4,096.
+    /// Returns the bytes of the line that was taken last, at most 4,096.
     pub fn line(&self) -> &[u8]
         ensures { result.now ≡ self.now.1.0 }
     {
@@ -331,7 +332,7 @@ impl LineReader {
         &self.source.pending()[..self.lent - 1]
     }
 
-    /// Takes the next line. None at the end of the stream, and a call after it asks the stream again.
+    /// Takes the next line. Returns how it ended, or None at the end of the stream. A call after that reads the stream again.
     pub fn next<R: Read>(&mut self, reader: &mut R) -> Result<Option<Ending>, RunFault>
         ensures { GivesLine (R.remaining reader.old) (R.remaining reader.new) self.old.0 self.new.0 self.new.1 result }
     {

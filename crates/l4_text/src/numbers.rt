@@ -95,7 +95,7 @@ fn decimal(text: &[u8]) -> Option<u64>
     Some(value)
 }
 
-/// The number below 2^32 that one to ten decimal digits spell.
+/// Returns the number below 2^32 that the text spells in one to ten decimal digits, or None.
 #[tactic(auto, unfolding(crate::specs::Numbers::decimal_number_of))]
 pub fn decimal_number(text: &[u8]) -> Option<u32>
     ensures { result ≡ decimal_number_of text.now }
@@ -104,7 +104,7 @@ pub fn decimal_number(text: &[u8]) -> Option<u32>
     small(value)
 }
 
-/// The word that one to eight hexadecimal digits of either case spell.
+/// Returns the word that the text spells in one to eight hexadecimal digits of either case, or None.
 #[tactic(auto, unfolding(crate::specs::Numbers::word_of, crate::specs::Numbers::hex_of))]
 pub fn word(text: &[u8]) -> Option<u32>
     ensures { result ≡ word_of text.now }
@@ -115,8 +115,8 @@ pub fn word(text: &[u8]) -> Option<u32>
     hexadecimal(text)
 }
 
-/// A number: one to ten decimal digits, or `0x` and one to eight hexadecimal digits of either case, below
-/// 2^32.
+/// Returns the number below 2^32 that the text spells, or None. It has one to ten decimal digits, or `0x` and one to eight hexadecimal
+/// digits of either case.
 #[tactic(auto, unfolding(crate::specs::Numbers::number_of, crate::specs::Numbers::word_of, crate::specs::Numbers::decimal_number_of))]
 pub fn number(text: &[u8]) -> Option<u32>
     ensures { result ≡ number_of text.now }

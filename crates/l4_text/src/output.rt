@@ -1,4 +1,4 @@
-//! What was answered and has not yet gone out.
+//! The output: bytes that were added, and have not been written yet.
 ghost use Rattle.std.specs.Prelude.{◌≡◌, ◌<◌, ◌≤◌, ◌+◌, ◌*◌, ◌==◌, [], ◌∷◌, ◌++◌, length, decimal, OnOk, IfErr};
 ghost use Rattle.std.specs.Io.KnownBytes.{Appends};
 ghost use Rattle.std.specs.Prelude.{ℕ, List, Option, true, false};
@@ -143,7 +143,7 @@ impl Held {
     }
 }
 
-/// What is told to a writer. After a write that failed nothing more is written.
+/// A buffered output to a writer. After a failed write, it writes nothing more.
 #[derive(Drop)]
 pub struct Output {
     held: Held,
@@ -159,7 +159,7 @@ impl Model for Output {
 }
 
 impl Output {
-    /// Nothing was told yet.
+    /// Creates an output to which nothing was added.
     pub fn new() -> Output
         ensures { result ≡ ([], false) }
     {
@@ -169,7 +169,7 @@ impl Output {
         }
     }
 
-    /// Whether a write failed.
+    /// Returns whether a write failed.
     pub fn has_failed(&self) -> bool
         ensures { result ≡ self.now.1 }
     {
@@ -192,7 +192,7 @@ impl Output {
         }
     }
 
-    /// Makes room for an answer's line, which is then added piece by piece.
+    /// Makes room in the buffer for the line of an answer, which is then added in pieces.
     pub fn make_room<W: Write>(&mut self, writer: &mut W)
         ensures room { length self.new.0 + answer_bytes ≤ held_bytes }
         ensures told { Tells (W.contents writer.old) (W.contents writer.new) self.old self.new [] }
@@ -322,7 +322,7 @@ impl Output {
         self.add_array([b' ', a, b, c, d, e, f, g, h]);
     }
 
-    /// Tells a text.
+    /// Adds a text, and makes room for it.
     pub fn put<W: Write>(&mut self, writer: &mut W, text: &Text)
         ensures { Tells (W.contents writer.old) (W.contents writer.new) self.old self.new text.now }
     {
@@ -330,7 +330,7 @@ impl Output {
         self.add(text.as_slice());
     }
 
-    /// Tells a text behind a mark of at most two bytes.
+    /// Adds a text after a mark of at most two bytes, and makes room for both.
     pub fn put_marked<W: Write>(&mut self, writer: &mut W, mark: &[u8], text: &Text)
         requires { length mark.now ≤ 2 }
         ensures { Tells (W.contents writer.old) (W.contents writer.new) self.old self.new (mark.now ++ text.now) }
@@ -340,7 +340,7 @@ impl Output {
         self.add(text.as_slice());
     }
 
-    /// Ends a line.
+    /// Adds a newline, and makes room for it.
     pub fn end_line<W: Write>(&mut self, writer: &mut W)
         ensures { Tells (W.contents writer.old) (W.contents writer.new) self.old self.new (10 ∷ []) }
     {
@@ -360,7 +360,7 @@ impl Output {
         }
     }
 
-    /// Tells words in eight hexadecimal digits of lower case, each after a space, of which a text has room for all.
+    /// Adds words as eight lower-case hexadecimal digits, each after a space, and makes room for them. They fit into one text.
     #[inline(always)]
     fn put_row<W: Write>(&mut self, writer: &mut W, row: &[u32])
         requires { 9 * length row.now ≤ text_bytes }
@@ -370,7 +370,7 @@ impl Output {
         self.add_words(row);
     }
 
-    /// Tells words in eight hexadecimal digits of lower case, each after a space.
+    /// Adds words as eight lower-case hexadecimal digits, each after a space, and makes room for them.
     pub fn put_words<W: Write>(&mut self, writer: &mut W, words: &[u32])
         ensures { Tells (W.contents writer.old) (W.contents writer.new) self.old self.new (words_text words.now) }
     {
@@ -398,9 +398,8 @@ impl Output {
         }
     }
 
-    /// Lets what is held back go out before the next line is taken, where the source has no whole line and so has to
-    /// read: whoever gives the lines has all answers to those before it. Large inputs still go out in large pieces, one a
-    /// read.
+    /// Writes the buffered bytes if the next line of the source has to be read first. So every line is answered before the next one is
+    /// read, and a large input still leads to large writes, one for each read.
     pub fn send_before_read<W: Write>(&mut self, source: &Source, writer: &mut W)
         ensures told { Tells (W.contents writer.old) (W.contents writer.new) self.old self.new [] }
         ensures sent { IsOutBeforeRead source.now.0 self.new }
@@ -411,7 +410,7 @@ impl Output {
         self.send_all(writer);
     }
 
-    /// The same before the next line of these.
+    /// Does what `send_before_read` does, before the next line of this reader.
     pub fn send_before_line<W: Write>(&mut self, lines: &LineReader, writer: &mut W)
         ensures told { Tells (W.contents writer.old) (W.contents writer.new) self.old self.new [] }
         ensures sent { IsOutBeforeRead lines.now.0.0 self.new }
@@ -422,7 +421,7 @@ impl Output {
         self.send_all(writer);
     }
 
-    /// Writes what is held back, and has the writer pass on what it holds back itself.
+    /// Writes the buffered bytes, and flushes the writer. Returns `Write` if this or an earlier write failed.
     pub fn finish<W: Write>(&mut self, writer: &mut W) -> Result<(), RunFault>
         ensures ok { OnOk result ((start : Option (List ℕ)) (told : List ℕ)
             → HasTold start (W.contents writer.old) self.old.0 self.old.1 told → Appends start (W.contents writer.new) told) }

@@ -1,10 +1,10 @@
-//! Where a script comes from.
+//! The input of a script.
 ghost use Rattle.l4_text.specs.Readers.{left};
 
 use std::io;
 use std::io::Read;
 
-/// Standard input, or a file that is open. It is one type, so that what answers a script's lines is compiled once.
+/// Standard input, or an open file. It is one type, so the code that answers a script's lines is compiled once.
 #[derive(Drop)]
 pub enum ScriptReader<S, F> {
     Standard(S),

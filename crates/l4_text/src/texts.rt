@@ -49,7 +49,7 @@ const DECIMAL_PAIRS: [u16; 100] = [
     0x3639, 0x3739, 0x3839, 0x3939,
 ];
 
-/// The bytes of a text.
+/// A text of bounded length.
 #[derive(Drop)]
 pub struct Text {
     bytes: ArrayVec<u8, MAX_TEXT>,
@@ -82,7 +82,7 @@ pub(crate) fn word_digits(word: u32) -> [u8; 8]
     digits.to_le_bytes()
 }
 
-/// A number below 100 in decimal, with a zero in front where it is below 10.
+/// Returns a number below 100 as two decimal digits.
 pub(crate) fn two_digits(number: u8) -> [u8; 2]
     requires { number < 100 }
     ensures digits { result ≡ (48 + number / 10) ∷ (48 + number % 10) ∷ [] }
@@ -92,7 +92,7 @@ pub(crate) fn two_digits(number: u8) -> [u8; 2]
 }
 
 impl Text {
-    /// No bytes.
+    /// Creates an empty text.
     pub fn new() -> Text
         ensures { result ≡ [] }
     {
@@ -101,7 +101,7 @@ impl Text {
         }
     }
 
-    /// The bytes themselves.
+    /// Returns the bytes.
     pub fn as_slice(&self) -> &[u8]
         ensures value { result.now ≡ self.now }
         ensures fits { length result.now ≤ text_bytes }
@@ -127,7 +127,7 @@ impl Text {
         let _ = self.bytes.try_extend_from_slice(bytes);
     }
 
-    /// A number in decimal, without leading zeros.
+    /// Adds a number in decimal, without leading zeros. There must be room for it.
     pub fn add_number(&mut self, number: u64)
         requires { length self.old + 20 ≤ text_bytes }
         ensures value { self.new ≡ self.old ++ decimal number }
@@ -143,7 +143,7 @@ impl Text {
         self.add(buffer.format(number).as_bytes());
     }
 
-    /// A word in eight hexadecimal digits of lower case.
+    /// Adds a word as eight lower-case hexadecimal digits. There must be room for it.
     pub fn add_word(&mut self, word: u32)
         requires { length self.old + 8 ≤ text_bytes }
         ensures value { self.new ≡ self.old ++ word_text word }

@@ -25,7 +25,7 @@ pub(crate) fn spaces(line: &[u8]) -> usize
     first_other(line).unwrap_or(line.len())
 }
 
-/// How many bytes stand before the first space.
+/// Returns the number of bytes before the first space.
 pub(crate) fn token_len(line: &[u8]) -> usize
     ensures value { result ≡ position_or_len is_space line.now }
     ensures within { result ≤ length line.now }
@@ -33,7 +33,7 @@ pub(crate) fn token_len(line: &[u8]) -> usize
     first_space(line).unwrap_or(line.len())
 }
 
-/// The first token of a line, and what follows it. Tokens are parted by spaces, one or more.
+/// Returns the first token of a line, and what follows it, or None if the line has no token. One or more spaces separate tokens.
 #[inline(always)]
 pub fn next_token(line: &[u8]) -> Option<(&[u8], &[u8])>
     ensures { MatchOption result (tokens_of line.now ≡ [])
@@ -71,7 +71,7 @@ pub(crate) fn ends_token(text: &[u8]) -> bool
     text[0] == b' '
 }
 
-/// What follows a name in a text that begins with it, where the token ends with the name.
+/// Returns what follows the name in a text that begins with it, if the token ends with the name. Returns None otherwise.
 #[inline(always)]
 pub fn after_name<const COUNT: usize>(text: &[u8], name: [u8; COUNT]) -> Option<&[u8]>
     requires some { 1 ≤ COUNT }
@@ -93,7 +93,7 @@ pub fn after_name<const COUNT: usize>(text: &[u8], name: [u8; COUNT]) -> Option<
     Some(rest)
 }
 
-/// What follows a name that a line's first token is, after one space.
+/// Returns what follows one space and the name in a line, if the name is its whole first token. Returns None otherwise.
 #[inline(always)]
 pub fn after_spaced_name<const COUNT: usize>(line: &[u8], name: [u8; COUNT]) -> Option<&[u8]>
     requires some { 1 ≤ COUNT }
@@ -106,7 +106,7 @@ pub fn after_spaced_name<const COUNT: usize>(line: &[u8], name: [u8; COUNT]) -> 
     after_name(&line[1..], name)
 }
 
-/// The token of three bytes that a line is after its first space, where it is that and no more.
+/// Returns the token of three bytes, if the line consists of one space and that token. Returns None otherwise.
 #[inline(always)]
 pub fn last_three(line: &[u8]) -> Option<&[u8]>
     ensures { IfSome result (λ token. tokens_of line.now ≡ token.now ∷ []) }

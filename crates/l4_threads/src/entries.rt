@@ -11,7 +11,7 @@ ghost use Rattle.l4_threads.specs.Inside.Passing.{HandsOver};
 use crate::{Envelope, MAX_THREADS, Thread};
 use arrayvec::ArrayVec;
 
-/// The number, or the one that there was if that is less.
+/// Returns the lesser of this number and the one given before, if any.
 pub fn lesser(least: Option<u32>, number: u32) -> u32
     ensures { result ≡ option_map_or (λ other. if nat_lt other number then other else number) least number }
 {
@@ -29,7 +29,7 @@ fn sender_to(transfers: &[(u32, u32)], receiver: u32) -> Option<u32>
     Some(transfer.0)
 }
 
-/// Adds a transfer, where there is none to this receiver.
+/// Adds a transfer, unless there is one to this receiver.
 pub fn add_transfer(transfers: &mut ArrayVec<(u32, u32), MAX_THREADS>, sender: u32, receiver: u32)
     requires { array_vec_len transfers.old < max_threads }
     ensures items { transfers.new.items ≡ with_transfer transfers.old.items sender receiver }
@@ -40,7 +40,7 @@ pub fn add_transfer(transfers: &mut ArrayVec<(u32, u32), MAX_THREADS>, sender: u
     }
 }
 
-/// Whether the thread waits with a timeout of zero, and takes part in none of these transfers.
+/// Returns whether the thread waits with a zero timeout, and takes part in none of these transfers.
 pub fn expires_beside(transfers: &[(u32, u32)], entry: &(u32, Thread)) -> bool
     ensures { result ≡ expires_beside transfers.now entry.now.0 entry.now.1.state }
 {
@@ -83,7 +83,7 @@ fn ends_with(entry: &(u32, Thread), victim: u32) -> bool
     !entry.1.state.is_running() && (entry.0 == victim || entry.1.state.is_freed_by(victim))
 }
 
-/// The numbers of the threads whose calls end with the victim, rising.
+/// Returns the numbers of the threads whose calls end with the victim, in rising order.
 pub fn ended_by(entries: &[(u32, Thread)], victim: u32) -> ArrayVec<u32, MAX_THREADS>
     requires { length entries.now ≤ max_threads }
     ensures { result.items ≡ ended_in entries.now victim [] }
@@ -109,7 +109,7 @@ pub fn free_all(entries: &mut [(u32, Thread)], victim: u32)
     }
 }
 
-/// The Ipc of the thread at one place replies what the thread at the other sends.
+/// Ends the Ipc of the thread at one index with the message of the thread at the other.
 #[inline(always)]
 pub fn hand_over(entries: &mut [(u32, Thread)], from: usize, at: usize, envelope: Envelope)
     requires from { from < length entries.old }
@@ -126,21 +126,21 @@ pub fn hand_over(entries: &mut [(u32, Thread)], from: usize, at: usize, envelope
     }
 }
 
-/// Whether a thread is in this space.
+/// Returns whether a thread is in this space.
 pub fn is_inhabited(entries: &[(u32, Thread)], space: u64) -> bool
     ensures { result ≡ has_space entries.now space }
 {
     entries.iter().any(|entry| entry.1.space == space)
 }
 
-/// Whether a thread waits for a message.
+/// Returns whether a thread is receiving.
 pub fn any_receives(entries: &[(u32, Thread)]) -> bool
     ensures { result ≡ any_state is_receiving entries.now }
 {
     entries.iter().any(|entry| entry.1.state.is_receiving())
 }
 
-/// Whether a thread waits with a timeout of zero.
+/// Returns whether a thread waits with a zero timeout.
 pub fn any_expires(entries: &[(u32, Thread)]) -> bool
     ensures { result ≡ any_state expires entries.now }
 {

@@ -1,4 +1,5 @@
-//! Which threads may take part in a transfer, or expire. Who has just begun to wait is remembered, so that no other is asked.
+//! Which threads may take part in a transfer, or expire. The thread that has just begun to wait is remembered, so that no other has to be
+//! examined.
 ghost use Rattle.std.specs.Prelude.{◌≡◌};
 ghost use Rattle.l4_threads.specs.Inside.Focused.{with_waiting, with_running};
 
@@ -14,7 +15,7 @@ pub enum Focus {
 }
 
 impl Focus {
-    /// Where the thread of this number waits now.
+    /// Returns the focus after the thread of this number has begun to wait.
     pub fn with_waiting(self, number: u32) -> Focus
         ensures { result ≡ with_waiting self number }
     {
@@ -31,7 +32,7 @@ impl Focus {
         }
     }
 
-    /// Where the thread of this number runs now.
+    /// Returns the focus after the thread of this number has begun to run.
     pub fn with_running(self, number: u32) -> Focus
         ensures { result ≡ with_running self number }
     {

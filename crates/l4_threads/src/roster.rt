@@ -16,7 +16,7 @@ use std::marker::Model;
 /// How many hints there are.
 const HINTS: usize = 256;
 
-/// The threads, their numbers once more on their own, and by the remainder of a number where it may stand.
+/// The threads, a second list of their numbers, and for the remainder of each number the index where its thread may be.
 #[derive(Drop)]
 pub struct Roster {
     /// In memory of its own, with room for all threads from the start: a thread is too large to be moved about.
@@ -98,7 +98,7 @@ impl Roster {
     ghost use Rattle.l4_threads.specs.Endings.{wordless_reply};
     ghost use Rattle.l4_threads.specs.Inside.Passing.{Passes};
 
-    /// No thread, and room for all.
+    /// Creates a roster without threads, with room for all.
     pub fn new(alloc: Global) -> Result<Roster, AllocError>
         ensures { IfOk result (λ roster. roster ≡ []) }
     {
@@ -110,7 +110,7 @@ impl Roster {
         })
     }
 
-    /// The threads with their numbers.
+    /// Returns the threads with their numbers.
     pub fn as_slice(&self) -> &[(u32, Thread)]
         ensures value { result.now ≡ self.now }
         ensures fits { length result.now ≤ max_threads }
@@ -118,7 +118,7 @@ impl Roster {
         self.entries.as_slice()
     }
 
-    /// Whether there is no room for a thread.
+    /// Returns whether there is no room for another thread.
     pub fn is_full(&self) -> bool
         ensures { result ≡ (length self.now == max_threads) }
     {
@@ -158,7 +158,7 @@ impl Roster {
         Some(&entries[at].1)
     }
 
-    /// The thread of this number runs on with the reply of its call. Whether it was sending.
+    /// Ends the call of the thread of this number with this reply, so that it runs. Returns whether it was sending.
     pub fn run(&mut self, number: u32, reply: Reply) -> bool
         requires { found self.old number ≢ None }
         ensures sent { result ≡ sends_in self.old number }
@@ -172,7 +172,7 @@ impl Roster {
         sent
     }
 
-    /// The thread of this number runs on with this reply of its call. Whether it was sending.
+    /// Ends the call of the thread of this number without words, so that it runs. Returns whether it was sending.
     pub fn end(&mut self, number: u32, ending: Wordless) -> bool
         requires { found self.old number ≢ None }
         ensures sent { result ≡ sends_in self.old number }
@@ -186,7 +186,7 @@ impl Roster {
         sent
     }
 
-    /// The thread of this number runs on, and its Ipc replies this. Whether it was sending.
+    /// Ends the Ipc of the thread of this number with these words, so that it runs. Returns whether it was sending.
     pub fn reply(&mut self, number: u32, envelope: Envelope, words: &[u32]) -> bool
         requires there { found self.old number ≢ None }
         requires words { length words.now ≤ max_words }
@@ -201,7 +201,7 @@ impl Roster {
         sent
     }
 
-    /// The thread of the one number runs on, and its Ipc replies what the other thread sends.
+    /// Ends the Ipc of the receiver with the words of the sender, so that the receiver runs.
     #[inline(always)]
     pub fn pass(&mut self, sender: u32, receiver: u32, envelope: Envelope)
         requires there { found self.old receiver ≢ None }
@@ -218,7 +218,7 @@ impl Roster {
         hand_over(self.entries.as_mut_slice(), from, at, envelope);
     }
 
-    /// The thread of this number sends.
+    /// Makes the thread of this number send.
     #[inline(always)]
     pub fn send(&mut self, number: u32, words: &[u32], items: &[Item], phase: SendPhase)
         requires there { found self.old number ≢ None }
@@ -231,7 +231,7 @@ impl Roster {
         }
     }
 
-    /// The thread of this number receives. Whether it was sending.
+    /// Makes the thread of this number receive. Returns whether it was sending.
     pub fn receive(&mut self, number: u32, receiving: Receiving) -> bool
         requires { found self.old number ≢ None }
         ensures sent { result ≡ sends_in self.old number }
@@ -262,7 +262,7 @@ impl Roster {
         free_all(self.entries.as_mut_slice(), victim);
     }
 
-    /// Takes the thread of this number out.
+    /// Removes the thread of this number.
     pub fn remove(&mut self, number: u32)
         ensures { self.new ≡ without_in self.old number }
     {
@@ -282,7 +282,7 @@ impl Roster {
     }
 }
 
-/// Keeps in the queue those that send.
+/// Keeps in the queue only the threads that send.
 pub fn keep_senders(queue: &mut ArrayVec<u32, MAX_THREADS>, roster: &Roster)
     ensures { queue.new.items ≡ filter (sends_in roster.now) queue.old.items }
 {
@@ -299,7 +299,7 @@ fn leave(queue: &mut ArrayVec<u32, MAX_THREADS>, number: u32)
     }
 }
 
-/// Takes the number out of the queue, where it stands only if that thread sent.
+/// Removes the number from the queue, if that thread was sending. Otherwise it is not in the queue.
 #[inline(always)]
 pub fn leave_if(queue: &mut ArrayVec<u32, MAX_THREADS>, sent: bool, number: u32)
     requires once { IsOnce queue.old.items }

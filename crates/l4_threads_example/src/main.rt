@@ -1,5 +1,5 @@
-//! Threads share one kernel: one raises page faults, another serves their pager, sigma0 hands out the pager's pages, and one more watches how
-//! far the history comes. Each seat's receipts are printed at the end: they are the same whatever the schedule.
+//! Four threads share one kernel. One raises page faults, another serves their pager, sigma0 maps the pager's pages, and one more watches
+//! the length of the history. The receipts of each seat are printed at the end: they are the same in every schedule.
 #![tactic(auto)]
 
 mod parties;

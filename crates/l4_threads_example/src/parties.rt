@@ -53,7 +53,7 @@ pub struct Runs {
     pub client: Seat,
 }
 
-/// The id of a thread.
+/// Returns the id of a thread.
 pub fn id(number: u32) -> ThreadId {
     match ThreadId::global(number, 1) {
         Some(id) => id,

@@ -1,4 +1,4 @@
-//! Scripts from a reader, and how a page came to where it is to a writer.
+//! Reads a script, and writes how a page got to its place.
 ghost use Rattle.std.specs.Prelude.{◌≡◌, ◌≤◌, IfSome};
 ghost use Rattle.l4_fpage.specs.Pages.{max_frames};
 ghost use Rattle.l4_text.specs.Streams.{Tells};
@@ -23,7 +23,7 @@ pub struct ThreadPage {
     pub page: u32,
 }
 
-/// Whether a page is there at the end of a script.
+/// Whether a page is present at the end of a script.
 #[derive(Clone, Copy, PartialEq, Eq, Debug)]
 pub enum Presence {
     /// The thread's space has the page.
@@ -126,13 +126,15 @@ fn put_answer<W: Write>(
     }
 }
 
-/// Carries out the script that the reader gives as `run` of `l4_shell` does. Instead of its answers it writes how a page of a thread's space
-/// got there: sigma0's page, the transfers of the chain, and the page at the end. Returns whether the page is there; if it is not, or if there
-/// is no such thread, it writes that.
+/// Executes the script of the reader as `run` of `l4_shell` does. Instead of its answers, writes how a page of a thread's space got there:
+/// sigma0's page, the transfers of the chain, and the page at the end. Returns whether the page is present. If it is not, or if there is no
+/// such thread, that is what it writes.
 ///
-/// The faults are those of `run`. Before `Read` nothing was written; after `Write` a beginning of the text went out, or nothing. `Memory`
-/// means that there was not enough for a kernel, for replaying the history or for the chain, or that a transfer of the script ran out of memory
-/// and did not when it was replayed; nothing was written then.
+/// The caller must pass 1 to 4,096 frames.
+///
+/// Returns the faults of `run`. `Read`: a read failed, and nothing was written. `Write`: a write failed, and a prefix of the text was
+/// written, or nothing. `Memory`: there was no memory for a kernel, for replaying the history or for the chain, or a transfer of the script
+/// ran out of memory and did not when it was replayed; nothing was written.
 pub fn why<R: Read, W: Write>(
     alloc: Global,
     frames: u32,

@@ -1,4 +1,4 @@
-//! How a page came to where it is, told of a script.
+//! How a page got to its place in a script: the output of `l4 why`.
 #![tactic(auto)]
 
 mod asking;
