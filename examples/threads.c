@@ -1,6 +1,6 @@
 /* Four threads of the program share one locked kernel. Each makes the calls of one L4 thread, and they pass a number round in a ring: each
  * receives it from the thread before, adds 1, and sends it to the next one. At the end the lock is closed, which confirms that the history
- * agrees with what every seat was told.
+ * agrees with the replies that every seat got.
  *
  * Build it with: cc threads.c -pthread $(pkg-config --cflags --libs l4) */
 #include <l4.h>

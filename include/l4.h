@@ -119,7 +119,7 @@ uint32_t l4_version(void);
 #define L4_SMALL_SPACE_PAGES UINT32_C(4194304)
 #define L4_MAX_REGIONS 64
 
-/* The thread ids nilthread (nobody) and anythread (anybody), and the timeout of zero. A timeout of 0 means never. The timeouts member of a
+/* The thread ids nilthread (no thread) and anythread (any thread), and the timeout of zero. A timeout of 0 means never. The timeouts member of a
  * call has the send timeout in bits 31 to 16 and the receive timeout in bits 15 to 0. */
 #define L4_NILTHREAD UINT32_C(0)
 #define L4_ANYTHREAD UINT32_C(0xFFFFFFFF)

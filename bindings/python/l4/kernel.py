@@ -156,7 +156,7 @@ class Reply:
             return str(IpcFailed(self.error))
         if self.kind is not ReplyKind.IPC:
             return _ENDS[self.kind]
-        return f"message of {self.sender}: {self.message}" if self.sender != ThreadId.NIL else "no message was to be received"
+        return f"message of {self.sender}: {self.message}" if self.sender != ThreadId.NIL else "no message was received"
 
     def __repr__(self) -> str:
         words = f" {hexadecimal(self.message.words)}" if self.kind is ReplyKind.IPC else ""

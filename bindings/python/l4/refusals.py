@@ -54,12 +54,12 @@ class TooLong(Refused):
 
 
 _ERRORS = {
-    2: "the send phase waited for no time",
-    3: "the receive phase waited for no time",
-    4: "there is nobody to send to",
-    5: "there is nobody to receive from",
+    2: "the zero timeout of the send phase expired",
+    3: "the zero timeout of the receive phase expired",
+    4: "there is no thread to send to",
+    5: "there is no thread to receive from",
     8: "the message that was sent could not be delivered",
-    9: "the message that was to be received could not be delivered",
+    9: "the message to this thread could not be delivered",
 }
 
 
@@ -68,7 +68,7 @@ class IpcFailed(Exception):
 
     - 2 and 3: the zero timeout of the send phase or of the receive phase expired.
     - 4 and 5: there is no thread to send to, or to receive from.
-    - 8 and 9: the message that was sent, or was to be received, could not be delivered: the receiver has no window for its items, the items
+    - 8 and 9: the message of this thread, or to this thread, could not be delivered: the receiver has no window for its items, the items
       conflict, or there was no memory.
     """
 

@@ -49,7 +49,7 @@ class ThreadId:
 
     #: nilthread, the id of no thread: a call has no phase with it.
     NIL: ClassVar[ThreadId]
-    #: anythread, which stands for any thread.
+    #: anythread: as a partner to receive from, it means any thread.
     ANY: ClassVar[ThreadId]
     #: The id of sigma0, thread 1 in space 0.
     SIGMA0: ClassVar[ThreadId]

@@ -148,7 +148,7 @@ class Kernels(unittest.TestCase):
         self.assertIs(kernel.expire(3).outcome, Outcome.EXPIRED)
         with self.assertRaises(IpcFailed) as caught:
             kernel.reply(3).check()
-        self.assertEqual(str(caught.exception), "ErrorCode 3: the receive phase waited for no time")
+        self.assertEqual(str(caught.exception), "ErrorCode 3: the zero timeout of the receive phase expired")
         self.refuses("H1", None, kernel.start, 3, Call.set_pager(THREAD, ThreadId.SIGMA0))
         kernel.start(2, Call.set_pager(THREAD, ThreadId.SIGMA0))
         self.assertIs(kernel.reply(2).kind, ReplyKind.CONTROLLED)
@@ -249,9 +249,9 @@ class Kernels(unittest.TestCase):
     def test_replies_are_shown_in_words(self):
         kernel = Kernel(1)
         kernel.enter(1, Call.send(ThreadId.of(9), Message((0,))))
-        self.assertEqual(repr(kernel.reply(1)), "<Reply ipc 0x00008000: ErrorCode 4: there is nobody to send to>")
+        self.assertEqual(repr(kernel.reply(1)), "<Reply ipc 0x00008000: ErrorCode 4: there is no thread to send to>")
         kernel.enter(1, Call.send(ThreadId.NIL, Message((0,))))
-        self.assertEqual(repr(kernel.reply(1)), "<Reply ipc 0x00000000: no message was to be received>")
+        self.assertEqual(repr(kernel.reply(1)), "<Reply ipc 0x00000000: no message was received>")
         kernel.enter(1, Call.fault(0, 0, Rights.READ))
         self.assertEqual(repr(kernel.reply(1)), "<Reply hit: the page is there with the rights that the access needs>")
 

@@ -16,13 +16,13 @@ def create(number, pager=ThreadId.NIL):
 
 
 def wait_for(kernel, steps):
-    """Other threads act until the history has so many steps."""
+    """Other threads act until the history has this many steps."""
     while kernel.steps() < steps:
         time.sleep(0.001)
 
 
 def interrupt(kernel, steps):
-    """Interrupts the main thread, as Ctrl-C does, once the history has so many steps."""
+    """Interrupts the main thread, as Ctrl-C does, once the history has this many steps."""
     wait_for(kernel, steps)
     time.sleep(0.05)
     signal.pthread_kill(threading.main_thread().ident, signal.SIGINT)

@@ -27,7 +27,7 @@ impl ErrorCode {
     /// memory.
     pub const SEND_OVERFLOW: ErrorCode = ErrorCode(8);
 
-    /// The message that was to be received could not be delivered, for one of the same reasons.
+    /// The message to this thread could not be delivered, for one of the same reasons.
     pub const RECEIVE_OVERFLOW: ErrorCode = ErrorCode(9);
 
     /// Returns the number.
@@ -38,14 +38,12 @@ impl ErrorCode {
     /// Returns a line of text that explains the error.
     pub fn text(self) -> &'static str {
         match self {
-            ErrorCode::SEND_TIMEOUT => "the send phase waited for no time",
-            ErrorCode::RECEIVE_TIMEOUT => "the receive phase waited for no time",
-            ErrorCode::SEND_PARTNER => "there is nobody to send to",
-            ErrorCode::RECEIVE_PARTNER => "there is nobody to receive from",
+            ErrorCode::SEND_TIMEOUT => "the zero timeout of the send phase expired",
+            ErrorCode::RECEIVE_TIMEOUT => "the zero timeout of the receive phase expired",
+            ErrorCode::SEND_PARTNER => "there is no thread to send to",
+            ErrorCode::RECEIVE_PARTNER => "there is no thread to receive from",
             ErrorCode::SEND_OVERFLOW => "the message that was sent could not be delivered",
-            ErrorCode::RECEIVE_OVERFLOW => {
-                "the message that was to be received could not be delivered"
-            }
+            ErrorCode::RECEIVE_OVERFLOW => "the message to this thread could not be delivered",
             _ => "the Ipc failed",
         }
     }
@@ -116,7 +114,7 @@ impl fmt::Display for Received {
     fn fmt(&self, out: &mut fmt::Formatter<'_>) -> fmt::Result {
         match (self.error, self.from) {
             (Some(error), _) => write!(out, "{error}"),
-            (None, ThreadId::NIL) => out.write_str("no message was to be received"),
+            (None, ThreadId::NIL) => out.write_str("no message was received"),
             (None, from) => {
                 write!(out, "message of {from}: ")?;
                 write_message(out, self.tag, &self.words)
@@ -229,7 +227,7 @@ mod tests {
         assert_eq!(texts.len(), 6);
         assert_eq!(
             ErrorCode(4).to_string(),
-            "ErrorCode 4: there is nobody to send to"
+            "ErrorCode 4: there is no thread to send to"
         );
         assert_eq!(ErrorCode(7).text(), "the Ipc failed");
     }

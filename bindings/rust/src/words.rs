@@ -28,7 +28,7 @@ impl ThreadId {
     /// nilthread, the id of no thread: a call has no phase with it.
     pub const NIL: ThreadId = ThreadId(crate::ffi::L4_NILTHREAD);
 
-    /// anythread, which stands for any thread.
+    /// anythread: as a partner to receive from, it means any thread.
     pub const ANY: ThreadId = ThreadId(crate::ffi::L4_ANYTHREAD);
 
     /// The id of sigma0, thread 1 in space 0.

@@ -28,7 +28,7 @@ fn starts(history: &[Entry], number: u32) -> usize {
     history.iter().filter(own).count()
 }
 
-/// Other threads act until the history has so many steps.
+/// Other threads act until the history has this many steps.
 fn wait_for(kernel: &SharedKernel, steps: u64) {
     while kernel.steps() < steps {
         thread::yield_now();
