@@ -34,7 +34,7 @@ const NOT_FOUND: u8 = 1;
 /// The exit status of a strict run that a refused line ended.
 const REFUSED: u8 = 1;
 
-/// What a file holds, or standard input where none is named. Where it can't be opened says so, and answers the status to end with.
+/// Opens the file, or standard input if no file is named. If the file cannot be opened, reports this and returns the exit status.
 fn opened<R: Files + Input + Eprint>(
     rt: &R,
     file: Option<&str>,
@@ -50,7 +50,7 @@ fn opened<R: Files + Input + Eprint>(
     }
 }
 
-/// The status of a script that was read from this file, or standard input, to its end, or of the fault that stopped it.
+/// Returns the exit status of a script that was read to its end, or of the fault that stopped it.
 fn ended<R: Read, W: Write>(
     rt: &impl Eprint,
     outcome: Result<u64, RunFault>,
@@ -67,7 +67,7 @@ fn ended<R: Read, W: Write>(
     }
 }
 
-/// Answers a script, to its first refused line alone or with each answer in words where that is asked for.
+/// Answers a script: up to its first refused line in a strict run, with explanations in an explained run.
 #[inline(never)]
 fn run<R: AllocGlobal + Files + Input + Print + Eprint>(
     rt: &R,
@@ -138,7 +138,7 @@ fn tell_history<R: AllocGlobal + Files + Input + Print + Eprint>(
     ended(rt, told, file, &reader, &writer)
 }
 
-/// Tells how a page came to where it is, by a script.
+/// Prints how a page got to its place in a script.
 #[inline(never)]
 fn tell_why<R: AllocGlobal + Files + Input + Print + Eprint>(
     rt: &R,
@@ -219,7 +219,7 @@ fn tell_words<R: Print + Eprint>(rt: &R, words: &[u32], reading: Reading, size: 
     }
 }
 
-/// Does what these words ask for.
+/// Executes the command that these words request.
 fn obey<R: AllocGlobal + Files + Input + Print + Eprint>(rt: &R, words: &[String]) -> u8 {
     match options(rt.alloc(), words) {
         Ok(

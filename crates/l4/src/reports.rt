@@ -17,7 +17,7 @@ fn report_code(rt: &impl Eprint, code: u32) {
     }
 }
 
-/// Says that there is no thread with the number that was asked for.
+/// Reports that no thread has the requested number.
 pub(crate) fn report_no_thread(rt: &impl Eprint) {
     report_code(rt, K2);
 }

@@ -106,7 +106,7 @@ fn add_spaced_thread(out: &mut Output, id: ThreadId)
     }
 }
 
-/// Adds `N ipc TAG ERROR FROM`, of a line that goes on with the words.
+/// Adds `N ipc TAG ERROR FROM`, for a line that continues with the words.
 #[inline(always)]
 fn add_ipc_head(out: &mut Output, number: u32, reply: &IpcReply)
     requires { length out.old.0 + 80 ≤ held_bytes }
@@ -130,7 +130,7 @@ fn add_failed_head(out: &mut Output, number: u32, code: u32)
     out.add_number(u64::from(code));
 }
 
-/// Adds how a thread's call ended, of a line that goes on with the words of its message.
+/// Adds how a thread's call ended, for a line that continues with the words of its message.
 #[inline(always)]
 fn add_reply_head(out: &mut Output, number: u32, reply: Option<&Reply>)
     requires { length out.old.0 + 80 ≤ held_bytes }
@@ -175,7 +175,7 @@ fn add_ipc(out: &mut Output, number: u32, reply: &IpcReply)
     out.push(b'\n');
 }
 
-/// Tells how a thread's call ended. Most calls are Ipcs, or faults that were answered.
+/// Writes how a thread's call ended. Most calls are Ipcs, or faults that were answered.
 #[inline(always)]
 fn put_last_reply<W: Write>(number: u32, reply: &Reply, out: &mut Output, writer: &mut W)
     ensures { Tells (W.contents writer.old) (W.contents writer.new) out.old out.new (reply_text number (Some reply.now)) }
@@ -201,7 +201,7 @@ pub fn put_reply<W: Write>(number: u32, reply: Option<&Reply>, out: &mut Output,
     }
 }
 
-/// Tells how a thread's call ended, as `put_reply`, in whatever way.
+/// Writes how a thread's call ended, as `put_reply` does, for any reply.
 #[inline(never)]
 fn put_any_reply<W: Write>(number: u32, reply: Option<&Reply>, out: &mut Output, writer: &mut W)
     ensures { Tells (W.contents writer.old) (W.contents writer.new) out.old out.new (reply_text number (option_copied reply.entry)) }

@@ -37,7 +37,7 @@ pub trait Sink {
     fn expire(&mut self, number: u32)
         ensures { Adds has_told self.old self.new (TimedOut number) };
 
-    /// Reports that a thread's call goes on.
+    /// Reports that a thread's call has not ended.
     fn waits(&mut self, number: u32)
         ensures { Adds has_told self.old self.new (Waits number) };
 

@@ -30,7 +30,7 @@ pub struct CallGiven {
     pub reserved: [u32; 4],
 }
 
-/// The first words, as many as a message has.
+/// Returns the first words, as many as a message has.
 fn registers(words: &[u32]) -> &[u32]
     ensures first { result.now ≡ take 64 words.now }
     ensures fits { length result.now ≤ 64 }

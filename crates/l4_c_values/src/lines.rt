@@ -16,7 +16,7 @@ pub const MAX_LINE: usize = 656;
 /// The bytes of a reply's line.
 pub type Line = ArrayVec<u8, MAX_LINE>;
 
-/// The reply of an Ipc.
+/// Returns the reply of an Ipc.
 fn ipc_given(given: &ReplyResult) -> IpcReply
     ensures { result ≡ ipc_given given.now }
 {
@@ -31,7 +31,7 @@ fn ipc_given(given: &ReplyResult) -> IpcReply
     }
 }
 
-/// The reply that C has, if its kind is one.
+/// Returns the reply that C has, if its kind is one.
 fn reply_given(given: &ReplyResult) -> Option<Reply>
     ensures { result ≡ reply_given given.now }
 {
@@ -54,7 +54,7 @@ fn reply_given(given: &ReplyResult) -> Option<Reply>
     }
 }
 
-/// A thread's number, and these bytes.
+/// Returns a thread's number, and these bytes.
 fn numbered(number: u32, rest: &[u8]) -> Text
     requires { length rest.now ≤ 20 }
     ensures value { result ≡ decimal number ++ rest.now }
@@ -79,7 +79,7 @@ fn add_thread(text: &mut Text, id: ThreadId)
     }
 }
 
-/// The line of an Ipc's reply before its words.
+/// Returns the line of an Ipc's reply before its words.
 fn ipc_head(number: u32, reply: &IpcReply) -> Text
     ensures value { result ≡ ipc_head number reply.now }
     ensures len { length result ≤ 80 }
@@ -95,7 +95,7 @@ fn ipc_head(number: u32, reply: &IpcReply) -> Text
     text
 }
 
-/// The line of a fault that failed.
+/// Returns the line of a fault that failed.
 fn failed_head(number: u32, code: u32) -> Text
     ensures value { result ≡ reply_head number (Some (FaultFailed code)) }
     ensures len { length result ≤ 80 }
@@ -105,7 +105,7 @@ fn failed_head(number: u32, code: u32) -> Text
     text
 }
 
-/// The line of a reply before the words of its message.
+/// Returns the line of a reply before the words of its message.
 fn reply_head(number: u32, reply: &Reply) -> Text
     ensures value { result ≡ reply_head number (Some reply.now) }
     ensures len { length result ≤ 80 }
@@ -171,7 +171,7 @@ pub fn reply_line(number: u32, given: &ReplyResult) -> Line
     line
 }
 
-/// What came of a transfer, after a space.
+/// Returns the outcome of a transfer, after a space.
 fn outcome_text(outcome: u32) -> &'static [u8]
     ensures { (result.now ≡ outcome_text outcome) × (length result.now ≤ 10) }
 {
@@ -188,7 +188,7 @@ fn outcome_text(outcome: u32) -> &'static [u8]
     }
 }
 
-/// The line of a transfer without its end.
+/// Returns the line of a transfer without its end.
 fn transfer_line(given: &NextResult) -> Text
     ensures { result ≡ codes "transfer " ++ decimal given.now.thread ++ space ++ decimal given.now.receiver ++ outcome_text given.now.outcome }
 {

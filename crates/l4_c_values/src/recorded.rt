@@ -120,7 +120,7 @@ pub fn entered_told(entered: &Entered) -> SeatedResult
     }
 }
 
-/// A call of this kind whose members are 0.
+/// Returns a call of this kind whose members are 0.
 fn no_call(kind: u32) -> CallGiven
     ensures { result ≡ no_call kind }
 {
@@ -141,7 +141,7 @@ fn no_call(kind: u32) -> CallGiven
     }
 }
 
-/// An Ipc as C gives it.
+/// Returns an Ipc as C gives it.
 fn ipc_given(call: &IpcCall) -> CallGiven
     ensures { result ≡ record (no_call 1) { to = call.now.to.0; «from» = call.now.«from».0; timeouts = call.now.timeouts; acceptor = call.now.acceptor } }
 {
@@ -153,7 +153,7 @@ fn ipc_given(call: &IpcCall) -> CallGiven
     given
 }
 
-/// A control of threads as C gives it.
+/// Returns a control of threads as C gives it.
 fn control_given(control: &Control) -> CallGiven
     ensures { result ≡ given_of (Controls control.now) }
 {
@@ -179,7 +179,7 @@ fn control_given(control: &Control) -> CallGiven
     }
 }
 
-/// A call as C gives it.
+/// Returns a call as C gives it.
 fn given(call: &Call) -> CallGiven
     ensures { result ≡ given_of call.now }
 {
@@ -201,7 +201,7 @@ fn given(call: &Call) -> CallGiven
     }
 }
 
-/// The words of a call.
+/// Returns the words of a call.
 fn words(call: &Call) -> &[u32]
     ensures { (result.now ≡ words_of call.now) × (length result.now ≤ 64) }
 {
@@ -212,7 +212,7 @@ fn words(call: &Call) -> &[u32]
     }
 }
 
-/// An entry whose step has this kind, these threads, this call and these words.
+/// Returns an entry whose step has this kind, these threads, this call and these words.
 fn entry_with(
     entry: &Entry,
     kind: u32,

@@ -6,7 +6,7 @@ ghost use Rattle.l4_c_values.specs.Replied.{plain_result, reply_result};
 use crate::results::{ReplyResult, padded};
 use l4_ipc::{IpcReply, MAX_WORDS, Reply};
 
-/// A reply of this kind with this ErrorCode, and no message.
+/// Returns a reply of this kind with this ErrorCode, and no message.
 fn plain(refusal: u32, kind: u32, error: u32) -> ReplyResult
     ensures { result ≡ plain_result refusal kind error }
 {
@@ -22,7 +22,7 @@ fn plain(refusal: u32, kind: u32, error: u32) -> ReplyResult
     }
 }
 
-/// The reply of an Ipc.
+/// Returns the reply of an Ipc.
 fn ipc_told(reply: &IpcReply) -> ReplyResult
     ensures { result ≡ reply_result (Some (Ipc reply.now)) }
 {

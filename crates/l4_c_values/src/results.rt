@@ -167,7 +167,7 @@ pub fn step_told(step: &Step) -> NextResult
     told
 }
 
-/// A transfer that came next, with what it did and whose calls ended in it.
+/// Returns a transfer that came next, with what it did and whose calls ended in it.
 fn transfer_told(
     sender: u32,
     receiver: u32,

@@ -27,7 +27,7 @@ const NOBODY: ThreadId = ThreadId(0);
 
 const ANYBODY: ThreadId = ThreadId(0xffff_ffff);
 
-/// The call that waits for a message.
+/// Returns the call that waits for a message.
 fn receiving() -> Call {
     Call::Ipc(IpcCall {
         to: NOBODY,
@@ -49,7 +49,7 @@ fn sending(first: u32) -> Call {
     })
 }
 
-/// Starts a call, and does the steps that come next. It gives how many messages were delivered.
+/// Starts a call, and executes the next steps. Returns the number of delivered messages.
 fn enter(kernel: &mut Kernel, thread: u32, call: Call) -> u32 {
     if kernel.step(&Step::Start(thread, call)).is_err() {
         return 0;
@@ -66,7 +66,7 @@ fn enter(kernel: &mut Kernel, thread: u32, call: Call) -> u32 {
     delivered
 }
 
-/// Enters all calls, and gives how many messages were delivered.
+/// Enters all calls, and returns the number of delivered messages.
 fn enter_all(kernel: &mut Kernel) -> u32 {
     let mut delivered = 0u32;
     for message in 0..MESSAGES {
@@ -76,7 +76,7 @@ fn enter_all(kernel: &mut Kernel) -> u32 {
     delivered
 }
 
-/// How many words the message has that was received last.
+/// Returns the number of words of the message that was received last.
 fn last_words(kernel: &Kernel) -> usize {
     let Some(reply) = kernel.reply(RECEIVER) else {
         return 0;

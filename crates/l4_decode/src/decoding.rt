@@ -31,7 +31,7 @@ pub enum Reading {
     Id,
 }
 
-/// The line of a word that is no tag and no item's, by its place among the words.
+/// Returns the line of a word that is neither a tag nor part of an item, with its index among the words.
 #[tactic(auto, unfolding(crate::specs::Decoded::word_line))]
 fn word_line(kind: &[u8], place: usize, word: u32) -> Text
     requires { length kind.now ≤ 20 }
@@ -50,7 +50,7 @@ fn word_line(kind: &[u8], place: usize, word: u32) -> Text
     text
 }
 
-/// Tells the lines of words: from a place among all words on, so many.
+/// Writes the lines of this many words, from an index among all words on.
 #[tactic(auto, unfolding(crate::specs::Decoded::words_lines))]
 fn tell_words<W: Write>(
     kind: &[u8],
@@ -71,7 +71,7 @@ fn tell_words<W: Write>(
     }
 }
 
-/// Tells the lines of items, two words each, from a place among all words on.
+/// Writes the lines of items, two words each, from an index among all words on.
 #[tactic(auto, unfolding(crate::specs::Decoded::items_lines))]
 fn tell_items<W: Write>(
     words: &[u32],
@@ -92,7 +92,7 @@ fn tell_items<W: Write>(
     }
 }
 
-/// Tells the lines of the words of a message, one by one.
+/// Writes the lines of the words of a message, one by one.
 #[tactic(auto, unfolding(crate::specs::Decoded::each_line))]
 fn tell_each<W: Write>(words: &[u32], size: PageSize, mark: &[u8], out: &mut Output, writer: &mut W)
     requires { length mark.now ≤ 2 }
@@ -131,7 +131,7 @@ pub fn put_message<W: Write>(
     out.put_marked(writer, mark, &meaning_line(&meaning_of(words), size));
 }
 
-/// Tells what one word means.
+/// Writes the meaning of one word.
 #[tactic(auto, unfolding(crate::specs::Decoded::word_text))]
 fn tell_word<W: Write>(
     word: u32,
@@ -156,7 +156,7 @@ fn tell_word<W: Write>(
     }
 }
 
-/// Tells what each word means.
+/// Writes the meaning of each word.
 #[tactic(auto, unfolding(crate::specs::Decoded::words_text))]
 fn tell_alone<W: Write>(
     words: &[u32],
@@ -172,7 +172,7 @@ fn tell_alone<W: Write>(
     }
 }
 
-/// Tells what words mean by a reading.
+/// Writes the meaning of words in a reading.
 fn tell<W: Write>(words: &[u32], reading: Reading, size: PageSize, out: &mut Output, writer: &mut W)
     ensures { (text : List ℕ) × IsDecoded size reading words.now text
         × Tells (W.contents writer.old) (W.contents writer.new) out.old out.new text }

@@ -159,7 +159,7 @@ fn add_window(text: &mut Text, word: u32, size: PageSize)
     }
 }
 
-/// The line of a word as an fpage.
+/// Returns the line of a word as an fpage.
 #[tactic(auto, unfolding(crate::specs::Fpages::fpage_line, crate::specs::Spelling::meaning_line))]
 pub(crate) fn fpage_line(word: u32, size: PageSize) -> Text
     ensures { result ≡ fpage_line size word }
@@ -170,7 +170,7 @@ pub(crate) fn fpage_line(word: u32, size: PageSize) -> Text
     text
 }
 
-/// The line of a word as a receive window's.
+/// Returns the line of a word as a receive window's.
 #[tactic(auto, unfolding(crate::specs::Fpages::window_line, crate::specs::Spelling::meaning_line))]
 pub(crate) fn window_line(word: u32, size: PageSize) -> Text
     ensures { result ≡ window_line size word }

@@ -45,7 +45,7 @@ fn add_id(text: &mut Text, id: ThreadId)
     add_bad(text, id);
 }
 
-/// The line of a word as a thread's id.
+/// Returns the line of a word as a thread's id.
 #[tactic(auto, unfolding(crate::specs::Ids::id_line, crate::specs::Spelling::meaning_line))]
 pub(crate) fn id_line(word: u32) -> Text
     ensures { result ≡ id_line word }

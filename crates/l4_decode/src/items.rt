@@ -43,7 +43,7 @@ fn add_item(text: &mut Text, first: u32, second: u32, size: PageSize)
     }
 }
 
-/// The words of an item and its number, from 0, which begin its line.
+/// Returns the beginning of an item's line: its number, from 0, and its words.
 #[tactic(auto, unfolding(crate::specs::Items::item_head))]
 fn item_head(number: usize, first: u32, second: u32) -> Text
     ensures { result ≡ item_head number first second }
@@ -59,7 +59,7 @@ fn item_head(number: usize, first: u32, second: u32) -> Text
     text
 }
 
-/// What an item means, which ends its line.
+/// Returns the end of an item's line: its meaning.
 fn item_end(first: u32, second: u32, size: PageSize) -> Text
     ensures { result ≡ item_text size first second ++ 10 ∷ [] }
 {
@@ -69,7 +69,7 @@ fn item_end(first: u32, second: u32, size: PageSize) -> Text
     text
 }
 
-/// Tells the line of an item, behind a mark.
+/// Writes the line of an item, after a mark.
 #[tactic(auto, unfolding(crate::specs::Items::item_line))]
 pub(crate) fn tell_item<W: Write>(
     number: usize,

@@ -15,7 +15,7 @@ use l4_text::Text;
 pub enum Meaning {
     /// They are refused.
     Refused(MsgFault),
-    /// A page fault, as the kernel tells it to a pager.
+    /// A page fault, as the kernel reports it to a pager.
     Fault(PageFault),
     /// A request to sigma0 for the frames of pages.
     Request(FrameRequest),
@@ -93,7 +93,7 @@ fn add_meaning(text: &mut Text, meaning: &Meaning, size: PageSize)
     }
 }
 
-/// The line of what words mean as a whole.
+/// Returns the line of the meaning of words as a whole.
 pub(crate) fn meaning_line(meaning: &Meaning, size: PageSize) -> Text
     ensures { result ≡ whole_text size meaning.now ++ 10 ∷ [] }
 {

@@ -9,7 +9,7 @@ use l4_msg::MsgFault;
 use l4_refusals::text_of;
 use l4_text::Text;
 
-/// What the code of a refusal means.
+/// Returns the meaning of a refusal's code.
 fn reason(fault: MsgFault) -> &'static [u8]
     ensures value { result.now ≡ reason_text fault }
     ensures few { length result.now ≤ 80 }

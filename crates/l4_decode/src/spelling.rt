@@ -49,7 +49,7 @@ pub(crate) fn add_count(text: &mut Text, number: u32)
     text.add_number(u64::from(number));
 }
 
-/// The letters of the rights, and dashes in the place of those that are not there.
+/// Returns the letters of the rights, with a hyphen for each missing right.
 fn letters(rights: Rights) -> [u8; 3]
     ensures { result ≡ rights_text rights }
 {

@@ -55,7 +55,7 @@ fn add_tag(text: &mut Text, word: u32)
     text.add_number(u64::from(tag.typed));
 }
 
-/// The line of a word as a message tag.
+/// Returns the line of a word as a message tag.
 #[tactic(auto, unfolding(crate::specs::Tags::tag_line, crate::specs::Spelling::meaning_line))]
 pub(crate) fn tag_line(word: u32) -> Text
     ensures { result ≡ tag_line word }

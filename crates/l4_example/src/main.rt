@@ -21,7 +21,7 @@ const SIZE: PageSize = PageSize::Kib4;
 /// The number of root, which may create threads.
 const ROOT: u32 = 2;
 
-/// Where a thread reads, in its page 9, and by which instruction.
+/// The address at which a thread reads, in its page 9.
 const FAULT_ADDRESS: u32 = 0x9abc;
 
 const FAULT_IP: u32 = 0x40_0100;
@@ -74,7 +74,7 @@ fn create(kernel: &mut Kernel, number: u32, pager: &Party) -> Result<Party, Stop
     Ok(Party { number, id })
 }
 
-/// Lets a thread hand a region of its pages to another, by the shortest message that does it.
+/// Delegates a region of a thread's pages to another thread, by the shortest message.
 fn delegate(kernel: &mut Kernel, from: &Party, to: &Party, region: &Region) -> Result<(), Stop> {
     let Ok(plan) = plan(region, SIZE) else {
         return Err(Stop::NoPlan);
@@ -94,7 +94,7 @@ fn delegate(kernel: &mut Kernel, from: &Party, to: &Party, region: &Region) -> R
     go_on(kernel)
 }
 
-/// Lets a thread read where no page is, and its pager receive the fault's message.
+/// Makes a thread read an absent page, and its pager receive the fault's message.
 fn fault(kernel: &mut Kernel, thread: &Party, pager: &Party) -> Result<(ThreadId, Message), Stop> {
     step(kernel, &Step::Start(pager.number, wait()))?;
     let read = Call::fault(FAULT_ADDRESS, FAULT_IP, Rights::R);
@@ -104,7 +104,7 @@ fn fault(kernel: &mut Kernel, thread: &Party, pager: &Party) -> Result<(ThreadId
     brought(told).ok_or(Stop::NoMessage)
 }
 
-/// Lets a thread read where no page is, and its pager map the page as its regions say.
+/// Makes a thread read an absent page, and its pager map the page from its regions.
 fn serve(
     kernel: &mut Kernel,
     thread: &Party,
@@ -117,7 +117,7 @@ fn serve(
     go_on(kernel)
 }
 
-/// Prints what the space of a thread shows.
+/// Prints the mappings of a thread's space.
 fn show(rt: &impl Print, kernel: &Kernel, party: &Party) -> io::Result<()> {
     println!(rt; "thread {}", party.number)?;
     let Some(space) = kernel.space_of(party.number) else {
@@ -132,7 +132,7 @@ fn show(rt: &impl Print, kernel: &Kernel, party: &Party) -> io::Result<()> {
     Ok(())
 }
 
-/// A pager's table of one region: pages 8 to 11 are its own pages 16 to 19, to be read.
+/// Returns a pager's table of one region: pages 8 to 11 are its own pages 16 to 19, to be read.
 fn table() -> Result<RegionPager, Stop> {
     let mut regions = RegionPager::new(SIZE);
     let region = Entry {
@@ -147,7 +147,7 @@ fn table() -> Result<RegionPager, Stop> {
     }
 }
 
-/// The fpage of a block of pages, with all rights.
+/// Returns the fpage of a block of pages, with all rights.
 fn fpage_of(first: u32, log: u8) -> Result<Fpage, Stop> {
     let block = Block::new(first, log).ok_or(Stop::NoPlan)?;
     if block.lies_in(SIZE) {
@@ -157,7 +157,7 @@ fn fpage_of(first: u32, log: u8) -> Result<Fpage, Stop> {
     }
 }
 
-/// Delegates, takes back and answers a fault, and prints what the spaces show after each.
+/// Delegates pages, revokes them and answers a fault, and prints the mappings of the spaces after each.
 fn tell<R: AllocGlobal + Print>(rt: &R) -> Result<(), Stop> {
     let mut kernel = Kernel::boot(rt.alloc(), FRAMES, SIZE).map_err(Stop::Refused)?;
     let first = create(&mut kernel, 3, &SIGMA0)?;

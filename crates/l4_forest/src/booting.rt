@@ -10,7 +10,7 @@ use crate::NoMemory;
 use l4_fpage::Rights;
 use l4_links::{Links, Place};
 
-/// The key in four bytes. NoMemory comes where they can't hold it.
+/// Returns the key in four bytes, or `NoMemory` if it does not fit.
 fn short_key(key: usize) -> Result<u32, NoMemory>
     ensures kept { IfOk result (λ short. short ≡ key) }
     ensures succeeds { key < 2 ^ 32 → IsOk result }
@@ -21,7 +21,7 @@ fn short_key(key: usize) -> Result<u32, NoMemory>
     Ok(key as u32)
 }
 
-/// Lets space 0 show each frame at the page of its number, and keeps the key of each.
+/// Maps each frame at the page of its number in space 0, and stores the key of each.
 pub(crate) fn own_places(
     links: &mut Links,
     roots: &mut Vec<u32>,

@@ -8,7 +8,7 @@ ghost use Rattle.l4_forest.specs.Inside.Kept.{IsRootKey, NoRootKey, kept_at};
 use crate::{Mapping, Place};
 use l4_links::{Entry, Links};
 
-/// The place of the key.
+/// Returns the place of the key.
 fn place_of(links: &Links, key: Option<usize>) -> Option<Place>
     ensures { result ≡ option_and_then (place_at links.now.entries) key }
 {
@@ -24,7 +24,7 @@ fn place_of(links: &Links, key: Option<usize>) -> Option<Place>
     })
 }
 
-/// What the place shows.
+/// Returns the mapping of the place.
 pub(crate) fn shown_at(links: &Links, place: Place) -> Option<Mapping>
     ensures { result ≡ shown (mappings_of links.now) place }
 {
@@ -46,7 +46,7 @@ pub(crate) fn shown_at(links: &Links, place: Place) -> Option<Mapping>
     })
 }
 
-/// The key that is kept for the frame's root.
+/// Returns the stored key of the frame's root.
 pub(crate) fn kept_key(roots: &[u32], frame: u32) -> Option<usize>
     ensures { result ≡ kept_at roots.now frame }
 {
@@ -57,7 +57,7 @@ pub(crate) fn kept_key(roots: &[u32], frame: u32) -> Option<usize>
     Some(roots[index] as usize)
 }
 
-/// The place of the key, if what stands there shows the frame and has no parent.
+/// Returns the place of the key, if its node has the frame and no parent.
 pub(crate) fn root_under(links: &Links, frame: u32, key: usize) -> Option<Place>
     ensures { MatchOption result (NoRootKey links.now.entries frame key) (IsRootKey links.now.entries frame key) }
 {

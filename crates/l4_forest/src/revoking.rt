@@ -10,7 +10,7 @@ use crate::taking::{take_key, take_pages};
 use l4_fpage::Rights;
 use l4_links::Links;
 
-/// Lets what stands under the key, where that is meant, and all that descends from it have no other rights than these.
+/// Reduces the rights of everything that descends from the key to these rights, and with `with_self` also those of its node.
 fn cap_key(links: &mut Links, top: usize, cap: Rights, with_self: bool)
     ensures caps { CapsKeys (IsOver links.old.entries with_self top) cap links.old.entries links.new.entries }
     ensures spaces { links.new.spaces ≡ links.old.spaces }
@@ -23,7 +23,7 @@ fn cap_key(links: &mut Links, top: usize, cap: Rights, with_self: bool)
     links.cap_below(top, cap);
 }
 
-/// Lets all that descends from these pages have no other rights than these. A page that nothing descends from is passed over in the walk.
+/// Reduces the rights of everything that descends from these pages to these rights. The walk skips pages without descendants.
 fn cap_below_pages(links: &mut Links, space: u64, first: u32, end: u32, cap: Rights)
     requires { first ≤ end }
     ensures caps { CapsKeys (IsCovered links.old.entries space first end false) cap links.old.entries links.new.entries }
@@ -40,7 +40,7 @@ fn cap_below_pages(links: &mut Links, space: u64, first: u32, end: u32, cap: Rig
     }
 }
 
-/// Lets what stands at these pages, where they are meant, and all that descends from them have no other rights than these.
+/// Reduces the rights of everything that descends from these pages to these rights, and with `with_self` also those of the pages.
 fn cap_pages(links: &mut Links, space: u64, first: u32, end: u32, cap: Rights, with_self: bool)
     requires { first ≤ end }
     ensures caps { CapsKeys (IsCovered links.old.entries space first end with_self) cap links.old.entries links.new.entries }
@@ -61,8 +61,8 @@ fn cap_pages(links: &mut Links, space: u64, first: u32, end: u32, cap: Rights, w
     }
 }
 
-/// Takes the rights from what stands under the key, where that is meant, and from all that descends from it. Where these are all
-/// rights, what goes is cut off at once.
+/// Removes the rights from everything that descends from the key, and with `with_self` also from its node. If these are all rights, what is
+/// removed is cut off at once.
 pub(crate) fn revoke_key(links: &mut Links, top: usize, rights: Rights, with_self: bool)
     requires clean { IsClean links.old }
     requires there { entry_at links.old.entries top ≢ None }
@@ -84,8 +84,8 @@ pub(crate) fn revoke_key(links: &mut Links, top: usize, rights: Rights, with_sel
     links.law_trees();
 }
 
-/// Takes the rights from what stands at these pages, where they are meant, and from all that descends from them. Where these are
-/// all rights, what goes is cut off at once.
+/// Removes the rights from everything that descends from these pages, and with `with_self` also from the pages. If these are all rights,
+/// what is removed is cut off at once.
 pub(crate) fn revoke_pages(
     links: &mut Links,
     space: u64,

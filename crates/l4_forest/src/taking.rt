@@ -7,7 +7,7 @@ ghost use Rattle.l4_forest.specs.Inside.Cuts.{IsOver, IsCovered, TakesKeys};
 
 use l4_links::Links;
 
-/// Where nothing is marked and there is no blank, what stands has a right. It does nothing.
+/// Ghost function: gives a proof that each node has a right, if there are no marks and no blanks. It compiles to nothing.
 fn law_rights(links: &Links)
     requires { IsClean links.now }
     ensures { HaveRights links.now.entries }
@@ -15,7 +15,7 @@ fn law_rights(links: &Links)
     let _ = links;
 }
 
-/// Takes away what stands under the key, where that is meant, and all that descends from it.
+/// Removes everything that descends from the key, and with `with_self` also its node.
 pub(crate) fn take_key(links: &mut Links, top: usize, with_self: bool)
     requires clean { IsClean links.old }
     requires there { entry_at links.old.entries top ≢ None }
@@ -50,7 +50,7 @@ fn cut_pages(links: &mut Links, space: u64, first: u32, end: u32)
     }
 }
 
-/// Takes away what stands at these pages, where they are meant, and all that descends from them. A page may have gone with an
+/// Removes everything that descends from these pages, and with `with_self` also the pages. A page may have been removed together with an
 /// earlier one.
 pub(crate) fn take_pages(links: &mut Links, space: u64, first: u32, end: u32, with_self: bool)
     requires clean { IsClean links.old }

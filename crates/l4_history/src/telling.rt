@@ -18,7 +18,7 @@ use std::io::{Read, Write};
 /// Stands before each answer, so that the line is skipped as a comment.
 const MARK: &[u8] = b"# ";
 
-/// Tells the steps of a history.
+/// Writes the steps of a history.
 fn tell_steps<W: Write>(history: &History, out: &mut Output, writer: &mut W)
     ensures { Tells (W.contents writer.old) (W.contents writer.new) out.old out.new
         (flat_map step_line (steps_of history.now.entries)) }
@@ -28,7 +28,7 @@ fn tell_steps<W: Write>(history: &History, out: &mut Output, writer: &mut W)
     }
 }
 
-/// Does the steps of a history on a kernel, and tells each with its answer below it.
+/// Executes the steps of a history on a kernel, and writes each with its answer below it.
 fn tell_answered<W: Write>(kernel: &mut Kernel, history: &History, out: &mut Output, writer: &mut W)
     ensures { (text : List ℕ) × TellsSteps kernel.old (steps_of history.now.entries) text
         × Tells (W.contents writer.old) (W.contents writer.new) out.old out.new text }

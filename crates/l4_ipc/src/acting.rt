@@ -43,7 +43,7 @@ use l4_unmap::unmap;
 /// The typed words of a message with one item.
 const ITEM_WORDS: u8 = 2;
 
-/// A list of one thread, where its call ends.
+/// Returns a list of one thread, if its call ends.
 fn list_if(ends: bool, number: u32) -> ArrayVec<u32, MAX_THREADS>
     ensures items { result.items ≡ ended_if ends number }
     ensures few { length result.items ≤ 1 }
@@ -252,7 +252,7 @@ fn start_unmap(
     Ok(true)
 }
 
-/// The call of a control of threads ends.
+/// Ends the call of a control of threads.
 fn controlled(threads: &mut Threads, number: u32)
     requires { IsSome (state_of threads.old number) }
     ensures { threads.new ≡ end_call threads.old number Controlled }
@@ -260,7 +260,7 @@ fn controlled(threads: &mut Threads, number: u32)
     threads.end_wordless(number, Wordless::Controlled);
 }
 
-/// Begins the space of a new thread, where the thread isn't put in the space of another.
+/// Creates the space of a new thread, unless the thread is put into the space of another one.
 fn begin_space(forest: &mut Forest, call: &Create, space: u64) -> Result<(), NoMemory>
     ensures ok { OnOk result (forest.new ≡ with_space forest.old (asks_new call.now.id call.now.space) space) }
     ensures err { OnErr result (forest.new ≡ forest.old) }
@@ -325,7 +325,7 @@ fn start_control(
     }
 }
 
-/// Why a thread can start no call, where it can't.
+/// Returns the reason why a thread cannot start a call, if there is one.
 fn not_running(threads: &Threads, number: u32) -> Option<Refused>
     ensures { MatchOption result (IsTrue (runs threads.now number))
         (λ e. (call : Call) (size : APageSize) (s : Mappings) → Steps (machine size threads.now s) (Start number call) (Err e) (machine size threads.now s)) }
@@ -457,7 +457,7 @@ pub fn transfer(
     Ok(transfer_answer(sender, receiver, outcome, ends))
 }
 
-/// How a call that expires ends.
+/// Returns the end of a call that expires.
 fn expiry(state: &Activity) -> Ending
     ensures { reply_of result ≡ expiry state.now }
 {

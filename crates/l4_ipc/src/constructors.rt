@@ -32,7 +32,7 @@ pub enum Timeout {
 }
 
 impl Timeout {
-    /// The timeout as a half of the timeouts word.
+    /// Returns the timeout as a half of the timeouts word.
     fn bits(self) -> u32
         ensures { result ≡ timeout_bits self }
     {
@@ -43,7 +43,7 @@ impl Timeout {
     }
 }
 
-/// The Ipc of these phases, with the send timeout and the receive timeout.
+/// Returns the Ipc of these phases, with the send timeout and the receive timeout.
 fn make_ipc(
     to: ThreadId,
     from: ThreadId,
@@ -64,7 +64,7 @@ fn make_ipc(
     }
 }
 
-/// The words of some fpages.
+/// Returns the words of some fpages.
 fn fpage_words(fpages: &[Fpage]) -> ArrayVec<u32, MAX_WORDS>
     requires { length fpages.now ≤ max_words }
     ensures { AllZip IsWordOf fpages.now result.items }
@@ -76,7 +76,7 @@ fn fpage_words(fpages: &[Fpage]) -> ArrayVec<u32, MAX_WORDS>
     words
 }
 
-/// The control word of an Unmap of some fpages.
+/// Returns the control word of an Unmap of some fpages.
 fn unmap_control(own: bool, fpages: &[Fpage]) -> u32
     requires some { 1 ≤ length fpages.now }
     requires few { length fpages.now ≤ max_words }

@@ -16,7 +16,7 @@ use arrayvec::ArrayVec;
 use l4_forest::Forest;
 use l4_threads::{MAX_THREADS, ThreadId, Threads, Wordless};
 
-/// Ends the space of a deleted thread, where it was the last one there.
+/// Ends the space of a deleted thread, if it was the last thread there.
 fn end_space(forest: &mut Forest, space: Option<u64>)
     ensures { MatchOption space (forest.new ≡ forest.old) (λ ended. EndsSpace ended forest.old forest.new) }
 {
@@ -25,7 +25,7 @@ fn end_space(forest: &mut Forest, space: Option<u64>)
     }
 }
 
-/// The caller, and then the others.
+/// Returns the caller, followed by the others.
 fn caller_first(number: u32, others: ArrayVec<u32, MAX_THREADS>) -> ArrayVec<u32, MAX_THREADS>
     requires { length others.items < max_threads }
     ensures { result.items ≡ number ∷ others.items }

@@ -117,7 +117,7 @@ pub fn sender_turn(done: bool, threads: &Threads, sends: &Sending) -> Turn
     }
 }
 
-/// The first page, which goes nowhere.
+/// Returns the move of an item that moves no page.
 fn no_move() -> Move
     ensures { (size : APageSize) → StaysIn size result }
 {
@@ -128,7 +128,7 @@ fn no_move() -> Move
     }
 }
 
-/// What an item moves in a window. One that moves no page has no right here, so that nothing of it is used.
+/// Returns what an item moves in a window. An item that moves no page has no right here, so that nothing of it is used.
 #[inline(always)]
 fn item_move(item: &Item, window: &Fpage, size: PageSize) -> ItemMove
     ensures { IsListed size window.now item.now result }
@@ -148,7 +148,7 @@ fn item_move(item: &Item, window: &Fpage, size: PageSize) -> ItemMove
     }
 }
 
-/// What the items of a message move in a window. Each item keeps its number.
+/// Returns what the items of a message move in a window. Each item keeps its number.
 fn listed(items: &[Item], window: &Fpage, size: PageSize) -> ArrayVec<ItemMove, MAX_ITEMS>
     requires { length items.now ≤ max_items }
     ensures { AllZip (IsListed size window.now) items.now result.items }
@@ -160,7 +160,7 @@ fn listed(items: &[Item], window: &Fpage, size: PageSize) -> ArrayVec<ItemMove, 
     moves
 }
 
-/// Whether the message has items and the window is nil.
+/// Returns whether the message has items and the window is nil.
 fn lacks_window(items: &[Item], window: &Fpage) -> bool
     ensures { IsTrue result ↔ ((items.now ≢ []) × (window.now ≡ NilFpage)) }
 {
@@ -170,7 +170,7 @@ fn lacks_window(items: &[Item], window: &Fpage) -> bool
     }
 }
 
-/// The outcome where nothing was delivered.
+/// Returns the outcome of a message that was not delivered.
 fn outcome_of(cause: Cause) -> Outcome
     ensures { result ≡ outcome_of cause }
 {

@@ -18,7 +18,7 @@ use l4_threads::{Later, SendPhase, ThreadId, Threads};
 /// The words of a fault's message behind its tag: the address and the instruction pointer.
 const UNTYPED: usize = 2;
 
-/// The rights of a page, none where it is not present.
+/// Returns the rights of a page, or none if it is not present.
 fn rights_at(forest: &Forest, space: u64, page: u32) -> Rights
     ensures { result ≡ rights_at forest.now (record { space = space; page = page }) }
 {
@@ -28,7 +28,7 @@ fn rights_at(forest: &Forest, space: u64, page: u32) -> Rights
     }
 }
 
-/// Whether the space shows the page of the fault with all rights of the access, and with a right at all.
+/// Returns whether the page of the fault is present with all rights of the access, and with at least one right.
 fn has_page(forest: &Forest, size: PageSize, space: u64, call: &FaultCall) -> bool
     ensures { result ≡ has_page size forest.now space call.now }
 {
@@ -36,7 +36,7 @@ fn has_page(forest: &Forest, size: PageSize, space: u64, call: &FaultCall) -> bo
     rights.contains(call.access) && !rights.is_empty()
 }
 
-/// The words of the message that tells a fault. They are those of `PageFault::message`, of which no more is made.
+/// Returns the words of a fault's message. They are those of `PageFault::message`, which is not built.
 fn fault_words(call: &FaultCall) -> [u32; UNTYPED + 1]
     ensures { result ≡ fault_words call.now }
 {
@@ -49,7 +49,8 @@ fn fault_words(call: &FaultCall) -> [u32; UNTYPED + 1]
     [tag.word(), call.address, call.ip]
 }
 
-/// What a thread does as it faults: its call is a hit where the page is there, and else it sends to its pager and then waits for it.
+/// Returns what a thread does when it faults. Its call is a hit if the page is present. Otherwise it sends to its pager, and then waits for
+/// it.
 fn fault_turn(
     threads: &Threads,
     forest: &Forest,
@@ -68,7 +69,7 @@ fn fault_turn(
     }
 }
 
-/// Tells the fault of a running thread to its pager.
+/// Sends the fault of a running thread to its pager.
 fn tell(threads: &mut Threads, number: u32, pager: ThreadId, call: &FaultCall, to: u32)
     requires { IsTrue (runs threads.old number) }
     ensures { threads.new ≡ enters threads.old number (next_of_fault pager call.now (Tells to)) }

@@ -11,7 +11,7 @@ use l4_fpage::Fpage;
 use l4_msg::{Acceptor, MsgFault, Tag};
 use l4_threads::Later;
 
-/// Whether a timeout is never or zero.
+/// Returns whether a timeout is never or zero.
 fn is_timeout(timeout: u32) -> bool
     ensures { result ≡ is_timeout timeout }
 {
@@ -23,42 +23,42 @@ impl IpcCall {
     ghost use Rattle.l4_msg.specs.Words.{IsBadWindow};
     ghost use Rattle.l4_fpage.specs.declared.fpages.Fpage.{Fpage as AnFpage};
 
-    /// Whether there is a send phase.
+    /// Returns whether there is a send phase.
     pub(crate) fn has_send(&self) -> bool
         ensures { result ≡ has_send self.now }
     {
         self.to.0 != 0
     }
 
-    /// Whether there is a receive phase.
+    /// Returns whether there is a receive phase.
     pub(crate) fn has_receive(&self) -> bool
         ensures { result ≡ has_receive self.now }
     {
         self.from.0 != 0
     }
 
-    /// The send timeout.
+    /// Returns the send timeout.
     fn send_timeout(&self) -> u32
         ensures { result ≡ send_timeout self.now }
     {
         self.timeouts >> 16
     }
 
-    /// The receive timeout.
+    /// Returns the receive timeout.
     fn receive_timeout(&self) -> u32
         ensures { result ≡ receive_timeout self.now }
     {
         self.timeouts & 0xffff
     }
 
-    /// Whether the send timeout is zero.
+    /// Returns whether the send timeout is zero.
     pub(crate) fn sends_at_once(&self) -> bool
         ensures { result ≡ (send_timeout self.now == 0x400) }
     {
         self.send_timeout() == ZERO_TIMEOUT
     }
 
-    /// Whether the timeout of a phase that the call has is neither never nor zero.
+    /// Returns whether the timeout of a phase that the call has is neither never nor zero.
     pub(crate) fn has_bad_timeout(&self) -> bool
         ensures { result ≡ has_bad_timeout self.now }
     {
@@ -66,7 +66,7 @@ impl IpcCall {
             || (self.has_receive() && !is_timeout(self.receive_timeout()))
     }
 
-    /// The registers of the message that the words begin with.
+    /// Returns the registers of the message at the beginning of the words.
     pub(crate) fn counted_words(&self, tag: &Tag) -> &[u32]
         requires whole { IsWhole self.now.words.items }
         requires tag { TagReads (tag_of self.now.words.items) tag.now }
@@ -77,7 +77,7 @@ impl IpcCall {
         &words[..1 + usize::from(tag.untyped) + usize::from(tag.typed)]
     }
 
-    /// The receive window; nil without a receive phase.
+    /// Returns the receive window, which is nil without a receive phase.
     pub(crate) fn window(&self) -> Result<Fpage, MsgFault>
         ensures ok { IfOk result (IsWindow (has_receive self.now) self.now.acceptor) }
         ensures err { IfErr result (λ fault. (has_receive self.now ≡ true) × IsBadWindow self.now.acceptor × (fault ≡ MsgFault.BadWindow)) }
@@ -89,7 +89,7 @@ impl IpcCall {
         Acceptor::read(self.acceptor)
     }
 
-    /// The receive phase that is still to begin.
+    /// Returns the receive phase that is still to begin.
     pub(crate) fn later(&self, window: Fpage) -> Option<Later>
         ensures { result ≡ later_of self.now window }
     {

@@ -13,7 +13,7 @@ use l4_threads::{Envelope, Later, Receiving, Source, ThreadId, Threads, Wordless
 /// The tag of an Ipc that failed.
 const ERROR_TAG: u32 = 0x8000;
 
-/// What a thread does as its receive phase begins.
+/// Returns what a thread does when its receive phase begins.
 fn receiving(threads: &Threads, later: Later, fault: bool) -> Turn
     ensures { next_of result ≡ receiving threads.now later fault }
 {
@@ -57,7 +57,7 @@ pub fn partner(threads: &Threads, caller: u32, id: ThreadId) -> Option<u32>
     Some(number)
 }
 
-/// The thread's Ipc ends with no words, with this tag and ErrorCode.
+/// Ends the thread's Ipc without words, with this tag and ErrorCode.
 fn end_bare(threads: &mut Threads, number: u32, tag: u32, error: u32)
     requires { IsSome (state_of threads.old number) }
     ensures { threads.new ≡ end_call threads.old number (Ipc (record { tag = tag; error = error; «from» = nilthread; words = record { items = [] } })) }

@@ -37,7 +37,7 @@ pub fn put_answer(out: &mut Record, answer: &Answer)
     out.push_all(answer.ended.as_slice());
 }
 
-/// The outcome of this word.
+/// Returns the outcome of this word.
 fn outcome_of(word: u32) -> Option<Outcome>
     ensures { result ≡ outcome_of word }
 {

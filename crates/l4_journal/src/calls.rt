@@ -83,7 +83,7 @@ fn put_control(out: &mut Record, control: &Control)
     }
 }
 
-/// An Ipc of these fields.
+/// Reads an Ipc from these fields.
 fn read_ipc(words: Words<'_>) -> Option<IpcCall>
     ensures { result ≡ ipc_at words.entry }
 {
@@ -101,7 +101,7 @@ fn read_ipc(words: Words<'_>) -> Option<IpcCall>
     })
 }
 
-/// A page fault of these fields.
+/// Reads a page fault from these fields.
 fn read_fault(words: Words<'_>) -> Option<FaultCall>
     ensures { result ≡ fault_at words.entry }
 {
@@ -118,7 +118,7 @@ fn read_fault(words: Words<'_>) -> Option<FaultCall>
     })
 }
 
-/// An Unmap of these fields.
+/// Reads an Unmap from these fields.
 fn read_unmap(words: Words<'_>) -> Option<UnmapCall>
     ensures { result ≡ unmap_at words.entry }
 {
@@ -127,7 +127,7 @@ fn read_unmap(words: Words<'_>) -> Option<UnmapCall>
     Some(UnmapCall { control, words })
 }
 
-/// The making of a thread of these fields.
+/// Reads the creation of a thread from these fields.
 fn read_create(words: Words<'_>) -> Option<Create>
     ensures { result ≡ create_at words.entry }
 {
@@ -141,7 +141,7 @@ fn read_create(words: Words<'_>) -> Option<Create>
     })
 }
 
-/// A change of a thread's pager of these fields.
+/// Reads a change of a thread's pager from these fields.
 fn read_set_pager(words: Words<'_>) -> Option<SetPager>
     ensures { result ≡ set_pager_at words.entry }
 {

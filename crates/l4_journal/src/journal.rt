@@ -14,7 +14,7 @@ pub trait FromWords {
     /// The item that words begin with.
     ghost item_at: { List ℕ → Option Self };
 
-    /// The item that words begin with.
+    /// Reads the item at the beginning of the words.
     fn from_words(words: Words<'_>) -> Option<Self>
         ensures { result ≡ item_at words.entry };
 }

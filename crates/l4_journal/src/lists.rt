@@ -6,7 +6,7 @@ ghost use Rattle.l4_journal.specs.Reading.{list_at, counted_at};
 use crate::words::{Words, read_word, read_words};
 use arrayvec::ArrayVec;
 
-/// The list of all words that are left. None where it is longer than its type has room for.
+/// Reads the list of all remaining words. Returns None if it is longer than its type has room for.
 #[tactic(auto, unfolding(crate::specs::Reading::list_at))]
 pub(crate) fn read_list<const LIMIT: usize>(words: Words<'_>) -> Option<ArrayVec<u32, LIMIT>>
     ensures { Gives (λ x. x.items) result (list_at LIMIT words.entry) }
@@ -19,7 +19,7 @@ pub(crate) fn read_list<const LIMIT: usize>(words: Words<'_>) -> Option<ArrayVec
     Some(list)
 }
 
-/// A list that stands behind its length, and the words after it. None where it is longer than its type has room for.
+/// Reads a list that follows its length. Returns it with the words after it, or None if it is longer than its type has room for.
 #[tactic(auto, unfolding(crate::specs::Reading::counted_at))]
 pub(crate) fn read_counted<const LIMIT: usize>(
     words: Words<'_>,

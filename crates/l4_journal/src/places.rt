@@ -8,7 +8,7 @@ use crate::words::{RECORD_WORDS, Record, Words, read_word};
 /// The number of words of a place.
 pub const PLACE_WORDS: usize = 2;
 
-/// What the upper word of a place counts.
+/// The value of one in the upper word of a place.
 const UPPER: usize = 0x1_0000_0000;
 
 /// Appends a place as its lower and its upper word.

@@ -32,7 +32,7 @@ pub fn put_reply(out: &mut Record, reply: &Reply)
     }
 }
 
-/// An Ipc's reply behind its tag, and the words after it.
+/// Reads an Ipc's reply after its tag. Returns it with the words after it.
 fn read_received(words: Words<'_>) -> Option<(Reply, Words<'_>)>
     ensures { result ≡ received_at words.entry }
 {

@@ -6,13 +6,13 @@ use crate::words::{RECORD_WORDS, Words};
 use std::alloc::{AllocError, Global};
 use std::marker::Model;
 
-/// The greatest number of words of all records: the place where one ends is a word.
+/// The maximum number of words of all records: the place where a record ends is stored in a word.
 const MOST_WORDS: usize = 0xffff_ffff;
 
-/// Room for more records than this isn't made.
+/// The maximum number of records for which room is allocated.
 const MOST_ASKED: usize = MOST_WORDS / RECORD_WORDS;
 
-/// Where the record at this place begins, and where it ends, among so many words.
+/// Returns where the record at this place begins and ends, among all words.
 #[inline(always)]
 fn bounds(ends: &[u32], place: usize, _all: usize) -> (usize, usize)
     requires ends { AreEnds 0 ends.now _all }
@@ -28,7 +28,7 @@ fn bounds(ends: &[u32], place: usize, _all: usize) -> (usize, usize)
     (ends[place - 1] as usize, end)
 }
 
-/// Appends words, for which there is room. Where their number is known as the program is built, each is one store.
+/// Appends words, for which there is room. If their number is a constant, each is one store.
 #[inline(always)]
 fn put_few(out: &mut Vec<u32>, words: &[u32])
     requires { vec_len out.old + length words.now ≤ vec_capacity out.old }

@@ -17,7 +17,7 @@ use l4_shell::{RunFault, record};
 use std::alloc::Global;
 use std::process::ExitCode;
 
-/// What is not as the checker says it.
+/// The exit status if a result of the finder is not confirmed.
 const WRONG: u8 = 1;
 
 /// A history, and the kernel at its end.
@@ -29,7 +29,7 @@ struct Ended<'a> {
     kernel: &'a Kernel,
 }
 
-/// How many pages were judged, how many links there were, and how many pages were judged otherwise than they were found.
+/// The number of judged pages, the number of links, and the number of pages for which the checker disagrees with the finder.
 #[derive(Clone, Copy)]
 struct Counts {
     pages: u64,
@@ -37,7 +37,8 @@ struct Counts {
     wrong: u64,
 }
 
-/// The number of links that are found of a page, if the checker says that they are right, and that none are.
+/// Returns the number of links that the finder returns for a page, if the checker agrees: they are the provenance of a present page, or no
+/// list is that of an absent page. Otherwise returns None.
 fn judged(alloc: Global, ended: &Ended<'_>, place: Place) -> Option<usize> {
     let is_there = ended.kernel.mapping(place.space, place.page).is_some();
     let found = provenance(alloc, ended.frames, ended.size, ended.history, place);
@@ -124,7 +125,7 @@ fn judge_script<R: AllocGlobal + Input + Print + Eprint>(rt: &R, frames: u32, si
     if counts.wrong == 0 { 0 } else { WRONG }
 }
 
-/// Does what these words ask for.
+/// Executes the command that these words request.
 fn obey<R: AllocGlobal + Input + Print + Eprint>(rt: &R, words: &[String]) -> u8 {
     match step_options(rt.alloc(), words) {
         Ok(StepOptions::Run { frames, size }) => judge_script(rt, frames, size),

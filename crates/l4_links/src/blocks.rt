@@ -15,7 +15,7 @@ use l4_fpage::Rights;
 use l4_nodes::{Place, Slots, node_of, set_place};
 use l4_spaces::{NoMemory, Spaces};
 
-/// The place that the page of the source's space goes to.
+/// Returns the place to which the page of the source's space moves.
 #[inline]
 fn place_from(source: Place, target: Place, page: u32) -> Place
     requires after { source.page ≤ page }
@@ -28,7 +28,7 @@ fn place_from(source: Place, target: Place, page: u32) -> Place
     }
 }
 
-/// Whether what stands under the key has no other rights than these.
+/// Returns whether the node under the key has no other rights than these.
 #[inline]
 fn is_within(nodes: &Slots, key: usize, rights: Rights) -> bool
     ensures yes { result ≡ true → (n : ANode) → node_at nodes.now.slots key ≡ Some n → Within n.rights rights }
@@ -40,7 +40,8 @@ fn is_within(nodes: &Slots, key: usize, rights: Rights) -> bool
     rights.contains(node.rights)
 }
 
-/// Whether what is under the key can go to the place: it has no other rights than these, and the place has no key. Room is made for it.
+/// Returns whether the page of the key can move to the place: it has no other rights than these, and the place has no key. Allocates room
+/// for it.
 fn can_move(
     nodes: &Slots,
     pages: &mut Spaces,
@@ -71,7 +72,7 @@ fn can_move(
     }
 }
 
-/// Whether all that is at the pages from the source on and before the end can go to the places from the target on. Room is made for it.
+/// Returns whether all pages from the source on and before the end can move to the places from the target on. Allocates room for them.
 pub(crate) fn can_move_all(
     nodes: &Slots,
     pages: &mut Spaces,
@@ -107,7 +108,7 @@ pub(crate) fn can_move_all(
     }
 }
 
-/// Lets the key of a page be of another place, which has no key and which there is room for.
+/// Gives the key of a page to another place, which has no key, and for which there is room.
 #[inline]
 fn move_key(nodes: &mut Slots, pages: &mut Spaces, source: Place, key: usize, place: Place)
     requires indexed { IsIndexed nodes.old.slots pages.old }
@@ -125,7 +126,7 @@ fn move_key(nodes: &mut Slots, pages: &mut Spaces, source: Place, key: usize, pl
     pages.rename(source.space, source.page, place.space, place.page, key);
 }
 
-/// Lets all that is at the pages from the source on and before the end go to the places from the target on.
+/// Moves all pages from the source on and before the end to the places from the target on.
 pub(crate) fn move_all(
     nodes: &mut Slots,
     pages: &mut Spaces,

@@ -12,8 +12,8 @@ use l4_fpage::Rights;
 use l4_nodes::{Link, Node, Slots, node_of, set_rights};
 use l4_spaces::Spaces;
 
-/// Lets the node have no other rights than these. A node that loses its last right goes on the stack that begins with the key
-/// `doomed`. The key that the stack begins with then is given.
+/// Reduces the rights of the node to these rights. A node that loses its last right is put on the stack that begins with the key `doomed`.
+/// Returns the key with which the stack begins then.
 pub(crate) fn cap_at(nodes: &mut Slots, key: usize, cap: Rights, doomed: Link) -> Link
     requires few { AreKeys nodes.old.slots }
     requires stack { HasStack nodes.old.slots doomed }
@@ -35,7 +35,7 @@ pub(crate) fn cap_at(nodes: &mut Slots, key: usize, cap: Rights, doomed: Link) -
     doomed
 }
 
-/// The key that a list begins with once the node has left it, if it began with `first`.
+/// Returns the key with which a list begins once the node has left it, if it began with `first`.
 fn first_without(node: &Node, first: Link) -> Link
     ensures begins { node.now.prev ≡ None → result ≡ node.now.next }
     ensures stays { node.now.prev ≢ None → result ≡ first }
@@ -46,8 +46,8 @@ fn first_without(node: &Node, first: Link) -> Link
     first
 }
 
-/// Takes the nodes of the stack, which begins with the key `doomed`, out of the list, and their slots away with their
-/// pages' names. The list begins with the key that is given then.
+/// Removes the nodes of the stack, which begins with the key `doomed`, from the list, and their slots with the names of their pages.
+/// Returns the key with which the list begins then.
 pub(crate) fn bury(nodes: &mut Slots, pages: &mut Spaces, first: Link, doomed: Link) -> Link
     requires forest { (ks : List ℕ) × IsForest nodes.old.slots ks }
     requires within { IsWithin nodes.old.slots }

@@ -68,7 +68,7 @@ pub struct Links {
     first: Link,
     /// The marks of this stamp are right. The stamp 0 is of no mark: the stamps have run out, and begin again with the next walk.
     stamp: u32,
-    /// What the walks of this stamp are for: the bits of the rights that are left, or `SOURCES_WALK`.
+    /// The purpose of the walks of this stamp: the bits of the remaining rights, or `SOURCES_WALK`.
     walk: u8,
     /// The key that the stack of nodes without rights begins with.
     doomed: Link,
@@ -451,7 +451,7 @@ impl Links {
         self.cap_run(top, cap, true);
     }
 
-    /// Lets what stands under the key, where that is meant, and all that descends from it have no other rights than these.
+    /// Reduces the rights of everything that descends from the key to these rights, and with `with_top` also those of its node.
     fn cap_run(&mut self, top: usize, cap: Rights, with_top: bool)
         ensures below { with_top ≡ false → CapsBelow top cap self.old.entries self.new.entries }
         ensures tree { with_top ≡ true → CapsTree top cap self.old.entries self.new.entries }

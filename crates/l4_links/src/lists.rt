@@ -45,8 +45,8 @@ pub(crate) fn take_out(nodes: &mut Slots, pages: &mut Spaces, key: usize)
     remove(nodes, pages, key);
 }
 
-/// Takes the node away where it stands, and leaves the links to it as they are. A wanted page is left as a blank, and any other slot goes
-/// with its page's name.
+/// Removes the node from its slot, and leaves the links to it as they are. A wanted page stays as a blank; any other slot is removed with
+/// the name of its page.
 #[inline]
 fn cut_off(nodes: &mut Slots, pages: &mut Spaces, key: usize)
     requires there { node_at nodes.old.slots key ≢ None }
@@ -60,7 +60,7 @@ fn cut_off(nodes: &mut Slots, pages: &mut Spaces, key: usize)
     remove(nodes, pages, key);
 }
 
-/// Links the node with the one that comes after it once all between them have gone, of which there were so many.
+/// Links the node with the one after the removed run, if any node was removed between them.
 fn close_gap(nodes: &mut Slots, top: usize, next: Link, gone: usize)
     requires key { IsKey top }
     ensures whole { gone ≡ 0 → nodes.new.slots ≡ nodes.old.slots }
@@ -74,7 +74,7 @@ fn close_gap(nodes: &mut Slots, top: usize, next: Link, gone: usize)
     set_prev(nodes, next, at);
 }
 
-/// How deep a child of the node stands. No node stands deeper than there are slots.
+/// Returns the depth of a child of the node. No node is deeper than the number of slots.
 fn child_depth(node: &Node, slots: usize) -> usize
     requires { node.now.depth < slots }
     ensures { result ≡ node.now.depth + 1 }
@@ -82,8 +82,8 @@ fn child_depth(node: &Node, slots: usize) -> usize
     node.depth + 1
 }
 
-/// The child of a node that stands under the key `parent`: it shows that node's frame, with what that node has of these rights, and
-/// comes straight after it.
+/// Returns the child of the node under the key `parent`: it has that node's frame and those of these rights that the node has, and comes
+/// directly after it.
 #[inline]
 fn child_of(parent: usize, above: &Node, rights: Rights, slots: usize) -> Node
     requires key { IsKey parent }
@@ -150,7 +150,7 @@ pub(crate) fn add_under(
     set_next(nodes, Link::to(parent), at);
 }
 
-/// Puts a root before all other nodes, into the blank that the key is of. The list begins with the key that is given then.
+/// Puts a root before all other nodes, into the blank of the key. Returns the key with which the list begins then.
 pub(crate) fn link_root(
     nodes: &mut Slots,
     first: Link,
@@ -232,8 +232,8 @@ pub(crate) fn cut_run(nodes: &mut Slots, pages: &mut Spaces, top: usize)
     }
 }
 
-/// Cuts off all that descends from the node, and takes the node out of the list. Its slot stays, as a blank. The list begins
-/// with the key that is given then.
+/// Cuts off everything that descends from the node, and removes the node from the list. Its slot stays as a blank. Returns the key with
+/// which the list begins then.
 pub(crate) fn clear(nodes: &mut Slots, pages: &mut Spaces, first: Link, top: usize) -> Link
     requires forest { (ks : List ℕ) × IsForest nodes.old.slots ks }
     requires few { AreKeys nodes.old.slots }

@@ -24,7 +24,7 @@ pub(crate) fn remove(nodes: &mut Slots, pages: &mut Spaces, key: usize)
     nodes.remove(key);
 }
 
-/// Lets the key be of the blank's page, with a note that an item of these rights grants it. The blank goes.
+/// Gives the key the blank's page, records that an item with these rights grants it, and removes the blank.
 pub(crate) fn take_over(
     nodes: &mut Slots,
     pages: &mut Spaces,

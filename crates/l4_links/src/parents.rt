@@ -9,7 +9,7 @@ use crate::walks::is_leaf;
 use l4_nodes::{Slots, node_of};
 use l4_spaces::{BLOCK, Row, Spaces};
 
-/// Whether something descends from the key.
+/// Returns whether something descends from the key.
 #[inline]
 fn is_parent(nodes: &Slots, key: usize) -> bool
     requires forest { (keys : List ℕ) × IsForest nodes.now.slots keys }
@@ -22,7 +22,7 @@ fn is_parent(nodes: &Slots, key: usize) -> bool
     !is_leaf(nodes, key)
 }
 
-/// The key, if something descends from it.
+/// Returns the key, if something descends from it.
 #[inline]
 fn parent_key(nodes: &Slots, key: Option<usize>) -> Option<usize>
     requires forest { (keys : List ℕ) × IsForest nodes.now.slots keys }
@@ -37,7 +37,7 @@ fn parent_key(nodes: &Slots, key: Option<usize>) -> Option<usize>
     Some(key)
 }
 
-/// The key of this place of a table, if something descends from it.
+/// Returns the key of this entry of a table, if something descends from it.
 #[inline]
 fn parent_at(nodes: &Slots, row: &Row, low: usize) -> Option<usize>
     requires forest { (keys : List ℕ) × IsForest nodes.now.slots keys }
@@ -47,7 +47,7 @@ fn parent_at(nodes: &Slots, row: &Row, low: usize) -> Option<usize>
     parent_key(nodes, row.at(low))
 }
 
-/// The first place of a table from this one on and before the end with a key that something descends from, and the key.
+/// Returns the first entry of a table from this one on and before the end whose key has descendants, and the key.
 fn parent_among(nodes: &Slots, row: &Row, from: usize, end: usize) -> Option<(usize, usize)>
     requires forest { (keys : List ℕ) × IsForest nodes.now.slots keys }
     requires within { end ≤ length row.now }
@@ -61,7 +61,7 @@ fn parent_among(nodes: &Slots, row: &Row, from: usize, end: usize) -> Option<(us
     None
 }
 
-/// The same, of the places of one block.
+/// Does what `parent_among` does, for the entries of one block.
 #[inline]
 fn parent_in_block(
     nodes: &Slots,
@@ -84,7 +84,7 @@ fn parent_in_block(
     parent_among(nodes, row, from.max(start), start + places)
 }
 
-/// The same, of all places. A block that is not used is stepped over.
+/// Does what `parent_among` does, for all entries. A block that is not used is skipped.
 #[inline(never)]
 fn parent_in(nodes: &Slots, row: &Row, from: usize, end: usize) -> Option<(usize, usize)>
     requires forest { (keys : List ℕ) × IsForest nodes.now.slots keys }
@@ -99,7 +99,7 @@ fn parent_in(nodes: &Slots, row: &Row, from: usize, end: usize) -> Option<(usize
     None
 }
 
-/// Where a walk from `page` on begins in the table that begins with this page.
+/// Returns the entry at which a walk from `page` on begins, in the table that begins with this page.
 fn first_low(page: u32, start: u32) -> usize
     ensures { result ≡ page - start }
 {
@@ -109,7 +109,7 @@ fn first_low(page: u32, start: u32) -> usize
     (page - start) as usize
 }
 
-/// Where a walk to `end` leaves a table of this many places that begins with this page.
+/// Returns the entry at which a walk to `end` leaves a table of this many entries that begins with this page.
 fn last_low(places: usize, start: u32, end: u32) -> usize
     requires before { start < end }
     ensures within { result ≤ places }
@@ -123,7 +123,7 @@ fn last_low(places: usize, start: u32, end: u32) -> usize
     places
 }
 
-/// The first page of the space from `page` on and before `end` with a key that something descends from, and the key.
+/// Returns the first page of the space from `page` on and before `end` whose key has descendants, and the key.
 #[inline(never)]
 fn seek_parent(
     nodes: &Slots,
@@ -149,7 +149,7 @@ fn seek_parent(
     }
 }
 
-/// The same. A page that has such a key is often followed by another, which is seen without a walk.
+/// Does what `seek_parent` does. Such a page often follows another one directly, and is then found without a walk.
 #[inline(always)]
 pub(crate) fn next_parent(
     nodes: &Slots,

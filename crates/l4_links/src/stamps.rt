@@ -9,7 +9,7 @@ use l4_nodes::Slots;
 /// The number of a walk for sources. A walk that caps rights has the number of their bits, which is less.
 pub(crate) const SOURCES_WALK: u8 = 8;
 
-/// A stamp that no node has. After the last stamp there is 0, with which nothing is marked.
+/// Returns a stamp that no node has. After the last stamp it returns 0, with which nothing is marked.
 pub(crate) fn fresh(stamp: u32) -> u32
     ensures { IsFresh stamp result }
 {
@@ -28,8 +28,8 @@ fn unmark_all(nodes: &mut Slots)
     nodes.clear_notes();
 }
 
-/// The stamp for a walk: the last one, where that walk was for the same, or a fresh one. Where the stamps have run out they begin
-/// again, with no node that has one.
+/// Returns the stamp for a walk: the last one if that walk had the same purpose, or a fresh one. After the last stamp, removes the stamps
+/// from all nodes and begins again.
 pub(crate) fn stamp_for(nodes: &mut Slots, stamp: u32, last: u8, walk: u8) -> u32
     ensures same { IsSame nodes.old.slots nodes.new.slots }
     ensures begins { BeginsWalk last walk stamp result nodes.old.slots nodes.new.slots }

@@ -7,7 +7,7 @@ ghost use Rattle.l4_links.specs.Inside.Keeping.{standing_of};
 use crate::Standing;
 use l4_nodes::Node;
 
-/// What stands under a key, as a contract shows it.
+/// Returns the node under a key, as contracts see it.
 pub(crate) fn standing_of(node: Option<Node>) -> Option<Standing>
     ensures { result ≡ option_map standing_of node }
 {

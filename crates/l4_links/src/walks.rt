@@ -12,7 +12,7 @@ use crate::burial::cap_at;
 use l4_fpage::Rights;
 use l4_nodes::{Link, Node, Slots, close, node_of, see};
 
-/// Where the walk goes on: after the run of a node that it has been over, and else at the next node.
+/// Returns the link at which the walk continues: after the run of a node if it has visited that run, and otherwise at the next node.
 fn onward(node: &Node, stamp: u32) -> Link
     ensures over { node.now.mark ≡ stamp → 1 ≤ stamp → result ≡ node.now.end }
     ensures on { node.now.mark ≢ stamp → result ≡ node.now.next }
@@ -27,8 +27,9 @@ fn onward(node: &Node, stamp: u32) -> Link
     node.next
 }
 
-/// Lets all that descends from the node have no other rights than these. A run that the walk of this stamp has been over is passed by.
-/// Nodes that lose their last right go on the stack that begins with the key `doomed`. The key that the stack begins with then is given.
+/// Reduces the rights of everything that descends from the node to these rights. A run that a walk of this stamp has visited is skipped.
+/// Nodes that lose their last right are put on the stack that begins with the key `doomed`. Returns the key with which the stack begins
+/// then.
 pub(crate) fn cap_below(
     nodes: &mut Slots,
     top: usize,
@@ -70,7 +71,7 @@ pub(crate) fn cap_below(
     doomed
 }
 
-/// Whether a walk of this stamp has come by the node.
+/// Returns whether a walk of this stamp has visited the node.
 fn was_seen(node: &Node, stamp: u32) -> bool
     ensures { result ≡ true → IsMarked stamp node.now.seen }
 {
@@ -80,7 +81,7 @@ fn was_seen(node: &Node, stamp: u32) -> bool
     node.seen == stamp
 }
 
-/// Whether a source descends from the node. What walks of this stamp have come by is not looked at again.
+/// Returns whether a source descends from the node. Nodes that walks of this stamp have visited are not visited again.
 pub(crate) fn has_source(nodes: &mut Slots, top: usize, stamp: u32) -> bool
     requires seen { HasSeen stamp nodes.old.slots }
     requires stamped { IsStamped stamp nodes.old.slots }
@@ -119,8 +120,8 @@ pub(crate) fn has_source(nodes: &mut Slots, top: usize, stamp: u32) -> bool
     false
 }
 
-/// Whether nothing descends from the node. What descends from it would begin with the node after it, one that is deeper, so no walk is
-/// needed. False where there is no node.
+/// Returns whether nothing descends from the node. Its descendants would begin with the node after it, which would be deeper, so no walk is
+/// needed. Returns false if there is no node.
 #[inline]
 pub(crate) fn is_leaf(nodes: &Slots, key: usize) -> bool
     requires forest { (keys : List ℕ) × IsForest nodes.now.slots keys }

@@ -10,8 +10,8 @@ use l4_ipc::{Call, Kernel, Reply};
 use std::alloc::{AllocError, Global};
 use std::marker::Model;
 
-/// What the lock keeps of the numbers whose seats it gave, and how many of their calls have ended and aren't taken yet: where none has, no
-/// account is looked at.
+/// The accounts of the numbers whose seats were given, and how many of their calls have ended and were not taken yet. If there are none of
+/// these, no account is searched.
 #[derive(Drop)]
 pub(crate) struct Accounts {
     items: Vec<Account>,
@@ -136,7 +136,8 @@ impl Accounts {
     }
 }
 
-/// Where the account of a number stands among all. It is rare that the seats were not given in the order of their numbers.
+/// Returns the index of the account of a number, by a search. It is rarely needed, because seats are mostly given in the order of their
+/// numbers.
 #[cold]
 fn position_among(accounts: &[Account], number: u32) -> Option<usize>
     requires { IsOnce (numbers accounts.now) }
@@ -151,7 +152,7 @@ fn position_among(accounts: &[Account], number: u32) -> Option<usize>
     None
 }
 
-/// Where the account of a number stands. Nothing is searched where the seats were given in the order of their numbers, from 1 on.
+/// Returns the index of the account of a number. Searches nothing if the seats were given in the order of their numbers, from 1 on.
 fn position(accounts: &[Account], number: u32) -> Option<usize>
     requires { IsOnce (numbers accounts.now) }
     ensures { MatchOption result (book_at accounts.now number ≡ None)
@@ -164,7 +165,7 @@ fn position(accounts: &[Account], number: u32) -> Option<usize>
     position_among(accounts, number)
 }
 
-/// Whether an ended call of this number hasn't been taken.
+/// Returns whether an ended call of this number has not been taken.
 fn reply_waits(accounts: &[Account], number: u32) -> bool
     requires { IsOnce (numbers accounts.now) }
     ensures { result ≡ reply_waits accounts.now number }

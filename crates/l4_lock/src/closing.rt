@@ -27,7 +27,7 @@ pub struct Unclosed {
     pub seats: Vec<Seat>,
 }
 
-/// Whether an account has this number.
+/// Returns whether an account has this number.
 fn has_account(accounts: &[Account], number: u32) -> bool
     ensures has { result ≡ true → IsGiven accounts.now number }
     ensures lacks { result ≡ false → ¬ (IsGiven accounts.now number) }
@@ -40,7 +40,7 @@ fn has_account(accounts: &[Account], number: u32) -> bool
     false
 }
 
-/// Whether one of the first seats has this number.
+/// Returns whether one of the first seats has this number.
 fn has_seat(seats: &[Seat], before: usize, number: u32) -> bool
     requires { before ≤ length seats.now }
     ensures has { result ≡ true → HasSeat seats.now before number }
@@ -54,7 +54,7 @@ fn has_seat(seats: &[Seat], before: usize, number: u32) -> bool
     false
 }
 
-/// The less of the number that is kept and this one, if this one is bad.
+/// Returns the less of the number that is kept and this one, if this one is bad.
 fn keep(found: Option<u32>, number: u32, bad: bool) -> Option<u32>
     ensures { result ≡ keep found number bad }
 {
@@ -73,7 +73,7 @@ fn keep(found: Option<u32>, number: u32, bad: bool) -> Option<u32>
     }
 }
 
-/// The least number whose seat is missing.
+/// Returns the least number whose seat is missing.
 fn first_missing(accounts: &[Account], seats: &[Seat]) -> Option<u32>
     ensures { SoFarMissing accounts.now seats.now (length accounts.now) result }
 {
@@ -86,7 +86,7 @@ fn first_missing(accounts: &[Account], seats: &[Seat]) -> Option<u32>
     found
 }
 
-/// Whether the seat at this place was not given, or an earlier one has its number.
+/// Returns whether the seat at this place was not given, or an earlier one has its number.
 fn is_foreign(accounts: &[Account], seats: &[Seat], at: usize, number: u32) -> bool
     requires { at ≤ length seats.now }
     ensures foreign { result ≡ true → ¬ (IsGiven accounts.now number) ⊎ HasSeat seats.now at number }
@@ -98,7 +98,7 @@ fn is_foreign(accounts: &[Account], seats: &[Seat], at: usize, number: u32) -> b
     has_seat(seats, at, number)
 }
 
-/// The least number of a foreign seat.
+/// Returns the least number of a foreign seat.
 fn first_foreign(accounts: &[Account], seats: &[Seat]) -> Option<u32>
     ensures { SoFarForeign accounts.now seats.now (length seats.now) result }
 {
@@ -111,7 +111,7 @@ fn first_foreign(accounts: &[Account], seats: &[Seat]) -> Option<u32>
     found
 }
 
-/// Whether the seat has the count and the receipts that the account has.
+/// Returns whether the seat has the count and the receipts that the account has.
 fn agrees(account: &Account, seat: &Seat) -> bool
     ensures agree { result ≡ true → Agrees started_by account.now seat.now }
     ensures differ { result ≡ false → ¬ (Agrees started_by account.now seat.now) }
@@ -122,7 +122,7 @@ fn agrees(account: &Account, seat: &Seat) -> bool
     account.receipts().same(seat.receipts())
 }
 
-/// Whether the account is of the seat's number and doesn't agree with it.
+/// Returns whether the account is of the seat's number and does not agree with it.
 fn disagrees(account: &Account, seat: &Seat) -> bool
     ensures disagree { result ≡ true → (account.now.number ≡ seat.now.number) × ¬ (Agrees started_by account.now seat.now) }
     ensures agree { result ≡ false → account.now.number ≡ seat.now.number → Agrees started_by account.now seat.now }
@@ -133,7 +133,7 @@ fn disagrees(account: &Account, seat: &Seat) -> bool
     !agrees(account, seat)
 }
 
-/// Where an account of the seat's number stands that doesn't agree with it.
+/// Returns the index of the account of the seat's number, if that account does not agree with the seat.
 fn disagreeing(accounts: &[Account], seat: &Seat) -> Option<usize>
     ensures { MatchOption result (AllAgree started_by accounts.now seat.now)
         (λ at. (b : Book) × (slice_get accounts.now at ≡ Some b) × (b.number ≡ seat.now.number) × ¬ (Agrees started_by b seat.now)) }
@@ -146,7 +146,7 @@ fn disagreeing(accounts: &[Account], seat: &Seat) -> Option<usize>
     None
 }
 
-/// The least number of a seat that doesn't agree with its account.
+/// Returns the least number of a seat that does not agree with its account.
 fn first_wrong(accounts: &[Account], seats: &[Seat]) -> Option<u32>
     ensures { SoFarWrong started_by accounts.now seats.now (length seats.now) result }
 {
@@ -159,7 +159,7 @@ fn first_wrong(accounts: &[Account], seats: &[Seat]) -> Option<u32>
     found
 }
 
-/// The first mismatch.
+/// Returns the first mismatch.
 pub(crate) fn first_mismatch(accounts: &[Account], seats: &[Seat]) -> Option<Mismatch>
     ensures { MatchOption result (AreBack started_by accounts.now seats.now) (Mismatches started_by accounts.now seats.now) }
 {

@@ -171,7 +171,7 @@ impl Locked {
         Ok(Entered::Waiting)
     }
 
-    /// Enters a call up to what its seat gains, which has room for that, and answers where its account stands.
+    /// Enters a call up to what its seat gains, for which the seat has room. Returns the index of its account.
     fn admit(&mut self, number: u32, has_room: bool, call: &Call) -> Result<usize, LockRefusal>
         ensures ok { IfOk result (λ at. IsAdmitted self.old self.new number call.now at) }
         ensures room { IfOk result (λ _. has_room ≡ true) }
@@ -218,7 +218,7 @@ impl Locked {
         self.accounts.finish(at, seat, None)
     }
 
-    /// The same as `take`, where the seat's receipt has the call that its holder knows of.
+    /// Does what `take` does. In the seat's receipt, the call is the one that the caller passes.
     pub(crate) fn take_for(&mut self, seat: &mut Seat, call: &Call) -> Option<Reply>
         ensures some { IfSome result (λ reply. Takes self.old self.new seat.old seat.new (λ _. call.now) reply) }
         ensures none { IfNone result ((self.new ≡ self.old) × (seat.new ≡ seat.old)) }

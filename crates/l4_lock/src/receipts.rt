@@ -86,7 +86,7 @@ impl Receipts {
         self.receipts.push(&[], record.as_slice());
     }
 
-    /// Whether these are the same receipts.
+    /// Returns whether these are the same receipts.
     pub(crate) fn same(&self, other: &Receipts) -> bool
         ensures same { result ≡ true → self.now.items ≡ other.now.items }
         ensures other { result ≡ false → self.now.items ≢ other.now.items }
@@ -103,7 +103,7 @@ impl Receipts {
     }
 }
 
-/// Whether two calls are the same.
+/// Returns whether two calls are the same.
 fn same_call(a: &Call, b: &Call) -> bool
     ensures same { result ≡ true → a.now ≡ b.now }
     ensures other { result ≡ false → a.now ≢ b.now }
@@ -111,7 +111,7 @@ fn same_call(a: &Call, b: &Call) -> bool
     a == b
 }
 
-/// Whether two replies are the same.
+/// Returns whether two replies are the same.
 fn same_reply(a: &Reply, b: &Reply) -> bool
     ensures same { result ≡ true → a.now ≡ b.now }
     ensures other { result ≡ false → a.now ≢ b.now }
@@ -119,7 +119,7 @@ fn same_reply(a: &Reply, b: &Reply) -> bool
     a == b
 }
 
-/// Whether two receipts are the same.
+/// Returns whether two receipts are the same.
 fn same_receipt(a: &Receipt, b: &Receipt) -> bool
     ensures same { result ≡ true → a.now ≡ b.now }
     ensures other { result ≡ false → a.now ≢ b.now }
@@ -139,7 +139,7 @@ fn same_receipt(a: &Receipt, b: &Receipt) -> bool
     true
 }
 
-/// Whether the receipts of this place are the same.
+/// Returns whether the receipts of this place are the same.
 fn same_at(a: &Receipts, b: &Receipts, place: usize) -> bool
     requires a { place < length a.now.items }
     requires b { place < length b.now.items }

@@ -32,7 +32,7 @@ impl Model for Seat {
 }
 
 impl Seat {
-    /// A seat that has entered nothing.
+    /// Returns a seat that has entered nothing.
     pub(crate) fn new(alloc: Global, number: u32) -> Seat
         ensures { result ≡ seat_state number 0 [] }
     {
@@ -71,7 +71,8 @@ impl Seat {
         &self.receipts
     }
 
-    /// One call more is left waiting, and there is room for its receipt. False where there is none, and then nothing has changed.
+    /// Counts one more call that is left waiting, and allocates room for its receipt. Returns false if the allocation fails; then nothing
+    /// has changed.
     pub(crate) fn wait_more(&mut self) -> bool
         ensures more { result ≡ true → self.new ≡ record self.old { waiting = self.old.waiting + 1 } }
         ensures same { result ≡ false → self.new ≡ self.old }
@@ -103,7 +104,7 @@ impl Seat {
     }
 }
 
-/// The reply of a thread's last ended call, Gone where the thread is there no longer.
+/// Returns the reply of a thread's last ended call, or Gone if the thread no longer exists.
 fn last_reply(kernel: &Kernel, number: u32) -> Reply
     ensures { result ≡ reply_in kernel.now number }
 {
@@ -113,7 +114,7 @@ fn last_reply(kernel: &Kernel, number: u32) -> Reply
     }
 }
 
-/// Notes at the number's call, if it goes on, that it ended in the entry of this place. Answers whether it has ended since then.
+/// Records that the number's call, if it has not ended, ended in the entry at this place. Returns whether it has ended.
 fn end_call(pending: &mut Pending, kernel: &Kernel, number: u32, place: usize) -> bool
     ensures noted { pending.new ≡ noted_call kernel.now (number ∷ []) place number pending.old }
     ensures more { result ≡ true → (has_ended pending.old ≡ false) × (has_ended pending.new ≡ true) }
@@ -129,7 +130,7 @@ fn end_call(pending: &mut Pending, kernel: &Kernel, number: u32, place: usize) -
     true
 }
 
-/// What the lock keeps of a number whose seat it gave.
+/// The account of a number whose seat was given.
 #[derive(Drop)]
 pub(crate) struct Account {
     number: u32,
@@ -238,7 +239,7 @@ impl Account {
     }
 }
 
-/// The call that the seat knows of, and else the account's.
+/// Returns the call that the seat knows of, and else the account's.
 fn known<'a>(own: Option<&'a Call>, call: &'a Call) -> &'a Call
     ensures { result.now ≡ own_call (option_copied own.entry) call.now }
 {

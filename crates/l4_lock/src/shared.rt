@@ -174,7 +174,7 @@ impl<'a, R: Wait> LockGate<'a, R> {
     }
 }
 
-/// What the gate has done are the receipts that its seat gained.
+/// The calls and replies of the gate are the receipts that its seat gained.
 impl<'a, R: Wait> Gate for LockGate<'a, R> {
     ghost use Rattle.std.specs.Prelude.{◌≡◌};
     ghost use Rattle.l4_lock.specs.Shared.{pairs_of, GateAccepts, GateRefuses};

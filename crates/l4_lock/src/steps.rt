@@ -51,7 +51,7 @@ fn note_next(accounts: &mut Accounts, kernel: &Kernel, next: NextStep, place: us
     }
 }
 
-/// Notes at each account the calls that ended in the steps that came next, whose entries stand from this place on.
+/// Records in each account the calls that ended in the next steps, whose entries begin at this place.
 fn note_steps(accounts: &mut Accounts, kernel: &Kernel, steps: &[NextStep], place: usize)
     requires once { IsOnce (numbers accounts.old.items) }
     requires place { place ≤ max_entries }

@@ -9,7 +9,7 @@ use crate::ItemMove;
 use crate::sources::UsedMoves;
 use l4_links::{Links, Place};
 
-/// Clears what stands at the place, if it has a key.
+/// Clears the node at the place, if it has a key.
 fn clear_page(links: &mut Links, place: Place)
     requires { HaveRights links.old.entries }
     ensures clears { (key : ℕ) → IsAt links.old.entries place key → Clears key links.old.entries links.new.entries }

@@ -8,7 +8,7 @@ use crate::ItemMove;
 use l4_fpage::{Block, Rights};
 use l4_links::Links;
 
-/// The page after a block's last one.
+/// Returns the page after a block's last one.
 pub(crate) fn end_of(block: Block) -> u32
     ensures is { result ≡ block.first + 2 ^ block.log }
     ensures small { result ≤ most_pages }
@@ -16,7 +16,7 @@ pub(crate) fn end_of(block: Block) -> u32
     block.first + (1 << block.log)
 }
 
-/// Cuts what stands under the key and what descends from it, if an item of these rights granted it there.
+/// Cuts the rights of the node under the key and of what descends from it, if an item with these rights granted it there.
 fn cut_key(links: &mut Links, key: usize, rights: Rights)
     ensures capped { Capped (λ other. (other ≡ key) × IsGrantedAt links.old.entries other rights) links.old.entries links.new.entries }
     ensures spaces { links.new.spaces ≡ links.old.spaces }

@@ -20,7 +20,8 @@ use crate::unmarking::unmark;
 use crate::{Cause, ItemMove};
 use l4_links::Links;
 
-/// Carries out the used moves of a message that has made way, cuts what descends from granted pages, and takes all marks away.
+/// Executes the used moves of a message whose targets are prepared, cuts the rights of what descends from granted pages, and removes all
+/// marks.
 fn carry_out(links: &mut Links, from: u64, to: u64, items: &[ItemMove])
     requires ready { (start : Linked) × IsStart start from to items.now × Cleared (IsUsed (mappings_of start) from to items.now) start links.old }
     ensures delivers { (start : Linked) → IsStart start from to items.now → Cleared (IsUsed (mappings_of start) from to items.now) start links.old → Delivers from to items.now (mappings_of start) (mappings_of links.new) }
@@ -40,7 +41,7 @@ fn carry_out(links: &mut Links, from: u64, to: u64, items: &[ItemMove])
     links.law_places();
 }
 
-/// Delivers any message: way is made for its used moves, which are carried out then.
+/// Delivers any message: prepares its targets, and then executes its used moves.
 fn deliver_any(links: &mut Links, from: u64, to: u64, items: &[ItemMove]) -> Result<(), Cause>
     requires clean { IsClean links.old }
     requires there { IsTrue (set.contains links.old.spaces to) }
@@ -61,8 +62,8 @@ fn deliver_any(links: &mut Links, from: u64, to: u64, items: &[ItemMove]) -> Res
     Ok(())
 }
 
-/// Delivers a message that a short way serves: one that only maps, or one of a single item that grants. Whether it did is given, and else
-/// all is as before.
+/// Delivers a message by a short path, if it only maps or has a single item that grants. Returns whether it was delivered; if not, nothing
+/// has changed.
 fn deliver_short(links: &mut Links, from: u64, to: u64, items: &[ItemMove]) -> Result<bool, Cause>
     requires clean { IsClean links.old }
     requires there { IsTrue (set.contains links.old.spaces to) }
@@ -84,8 +85,7 @@ fn deliver_short(links: &mut Links, from: u64, to: u64, items: &[ItemMove]) -> R
     deliver_grants(links, from, to, items)
 }
 
-/// Delivers a message. If it only maps, or grants by a single item, a shorter way is tried first.
-///
+/// Delivers a message. If it only maps, or grants by a single item, tries a shorter path first.
 pub fn deliver(links: &mut Links, from: u64, to: u64, items: &[ItemMove]) -> Result<(), Cause>
     requires clean { IsClean links.old }
     requires there { IsTrue (set.contains links.old.spaces to) }

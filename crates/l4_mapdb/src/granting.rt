@@ -20,8 +20,8 @@ use crate::preparing::refusal;
 use crate::{Cause, ItemMove};
 use l4_links::{Links, NoMemory, Place};
 
-/// Lets the pages of a message with one item, which grants, stand at their targets, if nothing is there and no page has more rights than
-/// the item. Whether they do is given, and else all is as before.
+/// Moves the pages of a message with one item, which grants, to their targets, if these are absent and no page has more rights than the
+/// item. Returns whether they were moved; if not, nothing has changed.
 fn grant_block(links: &mut Links, from: u64, to: u64, items: &[ItemMove]) -> Result<bool, NoMemory>
     requires ground { IsGround links.old from to }
     requires there { IsTrue (set.contains links.old.spaces to) }
@@ -51,9 +51,10 @@ fn grant_block(links: &mut Links, from: u64, to: u64, items: &[ItemMove]) -> Res
     }
 }
 
-/// Delivers a message with one item, which grants from one space to another, if nothing is at its used targets, and no page that it moves
-/// has more rights than the item. Whether it did is given, and else all is as before. `NoMemory` may come, and `Entangled` where memory was
-/// refused for a message that is entangled.
+/// Delivers a message with one item, which grants from one space to another, if its used targets are absent, and no page that it moves has
+/// more rights than the item. Returns whether it was delivered; if not, nothing has changed.
+///
+/// Returns `NoMemory` if an allocation fails, or `Entangled` if one fails for a message that is entangled.
 pub(crate) fn deliver_grants(
     links: &mut Links,
     from: u64,

@@ -15,12 +15,12 @@ use crate::sources::{UsedMove, UsedMoves};
 use l4_fpage::Rights;
 use l4_links::{Links, Place};
 
-/// Where the children of a message came to an end.
+/// The point at which adding the children of a message stopped.
 #[derive(Clone, Copy)]
 pub(crate) struct Stop {
     /// The used move that has no child.
     pub used: UsedMove,
-    /// Whether memory was refused for it, and not something at its target.
+    /// Whether an allocation failed for it. Otherwise its target was present.
     pub refused: bool,
 }
 
@@ -67,7 +67,7 @@ fn grow_all(links: &mut Links, from: u64, to: u64, items: &[ItemMove]) -> Result
     Ok(())
 }
 
-/// Takes what stands at the place away, with its page.
+/// Removes the node at the place, with its page.
 fn take_back(links: &mut Links, place: Place)
     requires { HaveRights links.old.entries }
     ensures takes { (key : ℕ) → IsAt links.old.entries place key → TakesBack key links.old.entries links.new.entries }
@@ -80,7 +80,7 @@ fn take_back(links: &mut Links, place: Place)
     links.take_blank(key);
 }
 
-/// Whether the two are one used move.
+/// Returns whether the two are one used move.
 fn is_same(one: &UsedMove, other: &UsedMove) -> bool
     ensures yes { result ≡ true → (one.now.item ≡ other.now.item) × (one.now.page ≡ other.now.page) }
     ensures no { result ≡ false → (one.now.item ≡ other.now.item) → (one.now.page ≡ other.now.page) → ⊥ }
@@ -108,7 +108,8 @@ fn shrink(links: &mut Links, from: u64, to: u64, items: &[ItemMove], stop: &Used
     }
 }
 
-/// Adds the children of all used moves of a message that only maps. Where one can have none, all is as before, and that move is given.
+/// Adds the children of all used moves of a message that only maps. If one of them cannot be added, nothing has changed, and that move is
+/// returned.
 pub(crate) fn grow_children(
     links: &mut Links,
     from: u64,

@@ -60,7 +60,7 @@ impl Default for ItemMove {
 
     ghost is_default = { λ item. (item.rights ≡ no_rights) × (item.grant ≡ false) };
 
-    /// A map item without a right, of which no move is ever used.
+    /// Returns a map item without a right, of which no move is ever used.
     fn default() -> ItemMove {
         let page = Block { first: 0, log: 0 };
         let mv = Move {

@@ -17,7 +17,7 @@ use crate::tangles::are_apart;
 use crate::{Cause, ItemMove};
 use l4_links::Links;
 
-/// Whether the message is from one space to another, and each of its items grants, where that is said, or else maps.
+/// Returns whether the message is from one space to another, and each of its items grants (or maps, if `grants` is false).
 pub(crate) fn only_of_kind(from: u64, to: u64, items: &[ItemMove], grants: bool) -> bool
     ensures apart { result ≡ true → from ≢ to }
     ensures kind { result ≡ true → AreOfKind grants items.now }
@@ -33,9 +33,10 @@ pub(crate) fn only_of_kind(from: u64, to: u64, items: &[ItemMove], grants: bool)
     true
 }
 
-/// Delivers a message that only maps, from one space to another, if nothing is at a target of a used move, or if its items fill no page
-/// twice and nothing descends from what is at their used targets. Whether it did is given, and else all is as before. `NoMemory` may
-/// come, and `Entangled` where memory was refused for a message that is entangled.
+/// Delivers a message that only maps, from one space to another, if the targets of its used moves are absent, or if its items fill no page
+/// twice and nothing descends from these targets. Returns whether it was delivered; if not, nothing has changed.
+///
+/// Returns `NoMemory` if an allocation fails, or `Entangled` if one fails for a message that is entangled.
 pub(crate) fn deliver_maps(
     links: &mut Links,
     from: u64,

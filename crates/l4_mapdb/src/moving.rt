@@ -10,7 +10,7 @@ use crate::cutting::end_of;
 use l4_fpage::Rights;
 use l4_links::{Links, Place};
 
-/// Whether a message moves the page of the key: what stands there is marked and was not granted, and shares a right with the item.
+/// Returns whether a message moves the page of the key: its node is marked and was not granted, and shares a right with the item.
 fn is_moved(links: &Links, key: usize, rights: Rights) -> bool
     ensures yes { result ≡ true → (place : ALinkPlace) → IsAt links.now.entries place key → IsSourceAt links.now.entries place rights key }
     ensures no { result ≡ false → (place : ALinkPlace) → IsKeyOf links.now.entries place key → MovesNone place rights links.now.entries }
@@ -24,7 +24,7 @@ fn is_moved(links: &Links, key: usize, rights: Rights) -> bool
     !standing.rights.intersection(rights).is_empty()
 }
 
-/// Moves the page of the key, if it is moved: what stands there stands at the target then where it is granted, and else a child of it does.
+/// Moves the page of the key, if the message moves it: a granted node goes to the target, and a mapped one gets a child there.
 fn move_key(links: &mut Links, key: usize, target: Place, rights: Rights, grants: bool)
     requires blank { (source : ALinkPlace) × IsKeyOf links.old.entries source key × HasBlank source target rights links.old.entries }
     ensures moves { (source : ALinkPlace) → IsKeyOf links.old.entries source key

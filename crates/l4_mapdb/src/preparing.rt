@@ -29,8 +29,8 @@ pub(crate) fn refusal(links: &Links, from: u64, to: u64, items: &[ItemMove]) -> 
     Cause::NoMemory
 }
 
-/// Marks the sources of the used moves and gives each target a key, unless the used moves contradict each other or memory is refused.
-/// Whether a target had a key is given.
+/// Marks the sources of the used moves, and gives each target a key. Fails if the used moves conflict or an allocation fails. Returns
+/// whether a target had a key.
 fn make_ready(links: &mut Links, from: u64, to: u64, items: &[ItemMove]) -> Result<bool, Cause>
     requires clean { IsClean links.old }
     requires there { IsTrue (set.contains links.old.spaces to) }
@@ -52,9 +52,11 @@ fn make_ready(links: &mut Links, from: u64, to: u64, items: &[ItemMove]) -> Resu
     Ok(had)
 }
 
-/// Makes way for the used moves of a message: their sources are marked, what their targets show has gone with all that descends from it,
-/// and each target is a blank. `Entangled` comes where the used moves contradict each other, and else `NoMemory` may come, but only
-/// where a used target is not present. After either, all is as before.
+/// Prepares the targets of a message's used moves: marks the sources, removes the mappings at the targets with everything that descends
+/// from them, and leaves each target as a blank.
+///
+/// Returns `Entangled` if the used moves conflict. Otherwise it may return `NoMemory`, but only if a used target is not present. After
+/// either, nothing has changed.
 pub(crate) fn make_way(
     links: &mut Links,
     from: u64,

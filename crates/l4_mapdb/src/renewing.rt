@@ -17,7 +17,7 @@ use crate::unmarking::unmark;
 use l4_fpage::Rights;
 use l4_links::Links;
 
-/// Whether what stands under the key is a child of the source with what that has of these rights.
+/// Returns whether the node under the key is a child of the source with those of these rights that the source has.
 fn is_child(links: &Links, source: usize, key: usize, rights: Rights) -> bool
     ensures { result ≡ true → HasChild source key rights links.now.entries }
 {
@@ -36,8 +36,8 @@ fn is_child(links: &Links, source: usize, key: usize, rights: Rights) -> bool
     child.rights == above.rights.intersection(rights)
 }
 
-/// Gives the target of a used move a key if it has none, and else tests that nothing descends from what is there. Whether that is what the
-/// move brings is given.
+/// Gives the target of a used move a key if it has none, and otherwise tests that nothing descends from its node. Returns whether the node
+/// is already what the move brings.
 fn make_place(links: &mut Links, used: UsedMove, rights: Rights) -> Result<bool, Stop>
     requires there { IsTrue (set.contains links.old.spaces used.target.space) }
     requires fits { IsPage used.target.page }
@@ -66,8 +66,8 @@ fn make_place(links: &mut Links, used: UsedMove, rights: Rights) -> Result<bool,
     }
 }
 
-/// Gives the target of each used move a key if it has none, up to the first one that something descends from. Whether each target shows
-/// what its move brings already is given.
+/// Gives the target of each used move a key if it has none, up to the first target with descendants. Returns whether each target already
+/// has what its move brings.
 fn make_places(links: &mut Links, from: u64, to: u64, items: &[ItemMove]) -> Result<bool, Stop>
     requires ground { IsGround links.old from to }
     requires there { IsTrue (set.contains links.old.spaces to) }
@@ -88,7 +88,7 @@ fn make_places(links: &mut Links, from: u64, to: u64, items: &[ItemMove]) -> Res
     Ok(all)
 }
 
-/// Lets a child of the used move's source take the place of what is at its target. Where that is one already, it only gets its rights.
+/// Replaces the node at the target by a child of the used move's source. A node that is already its child only gets its rights.
 fn renew(links: &mut Links, used: UsedMove, rights: Rights)
     requires ready { CanRenew used.source used.target rights links.old.entries }
     requires once { (a b : ℕ) → IsAt links.old.entries used.target a → IsAt links.old.entries used.target b → a ≡ b }
@@ -106,7 +106,7 @@ fn renew(links: &mut Links, used: UsedMove, rights: Rights)
     links.stand_under(used.source, key, rights);
 }
 
-/// Lets children of the sources of all used moves take the places of what is at their targets.
+/// Replaces the nodes at the targets of all used moves by children of their sources.
 fn renew_all(links: &mut Links, from: u64, to: u64, items: &[ItemMove])
     requires ready { (start : Linked) × IsGround start from to × Spaced start from to items.now (IsMoved start.entries from to items.now) links.old }
     requires apart { AreApart items.now (length items.now) }
@@ -122,9 +122,9 @@ fn renew_all(links: &mut Links, from: u64, to: u64, items: &[ItemMove])
     }
 }
 
-/// Lets children of the sources of all used moves take the places of what is at their targets, if nothing descends from that. Where
-/// something does, or memory is refused, all is as before, and that move is given. The items fill no page twice. Where the targets show
-/// already what the message brings, nothing is left to do.
+/// Replaces the nodes at the targets of all used moves by children of their sources, if these nodes have no descendants. If one does, or an
+/// allocation fails, nothing has changed, and that move is returned. The items fill no page twice. If the targets already have what the
+/// message brings, nothing is left to do.
 pub(crate) fn take_places(
     links: &mut Links,
     from: u64,

@@ -12,7 +12,7 @@ use crate::ItemMove;
 use crate::sources::UsedMoves;
 use l4_links::{Links, NoMemory, Place};
 
-/// Gives the page a key if it has none, and notes that it is wanted. Whether it had a key is given.
+/// Gives the page a key if it has none, and marks it as wanted. Returns whether it had a key.
 fn want_page(links: &mut Links, place: Place) -> Result<bool, NoMemory>
     requires there { IsTrue (set.contains links.old.spaces place.space) }
     requires fits { IsPage place.page }
@@ -35,8 +35,8 @@ fn want_page(links: &mut Links, place: Place) -> Result<bool, NoMemory>
     }
 }
 
-/// Marks the source of each used move, gives its target a key if it has none, and notes that the target is wanted. Whether a target
-/// had a key is given.
+/// Marks the source of each used move, gives its target a key if it has none, and marks the target as wanted. Returns whether a target had
+/// a key.
 pub(crate) fn make_room(
     links: &mut Links,
     from: u64,

@@ -10,21 +10,21 @@ use crate::ItemMove;
 use crate::cutting::end_of;
 use l4_links::{Links, Place};
 
-/// What one item of a message does to one page.
+/// The effect of one item of a message on one page.
 #[derive(Clone, Copy)]
 pub(crate) struct UsedMove {
     /// The item's number.
     pub item: usize,
     /// The page of the sender.
     pub page: u32,
-    /// The key of what stands there.
+    /// The key of its node.
     pub source: usize,
     /// The page of the receiver.
     pub target: Place,
     pub grant: bool,
 }
 
-/// The used move of the item of this number out of a page that was found with its key, which the item names.
+/// Returns the used move of this item from a page that the item names, and that was found with its key.
 fn move_of(
     links: &Links,
     from: u64,
@@ -60,7 +60,7 @@ fn move_of(
     })
 }
 
-/// The used move of the item of this number out of the page.
+/// Returns the used move of the item of this number out of the page.
 pub(crate) fn move_out(
     links: &Links,
     from: u64,
@@ -83,7 +83,7 @@ pub(crate) fn move_out(
     move_of(links, from, to, items, item, (page, key))
 }
 
-/// The greater of two pages.
+/// Returns the greater of two pages.
 pub(crate) fn later_page(a: u32, b: u32) -> u32
     ensures first { a ≤ result }
     ensures second { b ≤ result }
@@ -95,7 +95,7 @@ pub(crate) fn later_page(a: u32, b: u32) -> u32
     a
 }
 
-/// The first used move of the item from this page on.
+/// Returns the first used move of the item from this page on.
 fn next_of_item(
     links: &Links,
     from: u64,
@@ -123,7 +123,7 @@ fn next_of_item(
     }
 }
 
-/// A walk over the used moves of a message, in the order of items and of their pages. It goes on from this page of this item.
+/// A walk over the used moves of a message, in the order of items and of their pages. It continues at this page of this item.
 #[derive(Drop)]
 pub(crate) struct UsedMoves {
     item: usize,
@@ -131,14 +131,14 @@ pub(crate) struct UsedMoves {
 }
 
 impl UsedMoves {
-    /// The walk from the first page of the first item on.
+    /// Creates the walk, at the first page of the first item.
     pub(crate) fn new() -> UsedMoves
         ensures { result ≡ record { item = 0; page = 0 } }
     {
         UsedMoves { item: 0, page: 0 }
     }
 
-    /// The first used move that the walk hasn't passed, which it passes then.
+    /// Returns the next used move of the walk, and passes it.
     #[inline(always)]
     pub(crate) fn next(
         &mut self,

@@ -13,7 +13,7 @@ use crate::cutting::end_of;
 use crate::sources::{UsedMove, UsedMoves, later_page, move_out};
 use l4_links::{Entry, Links, Place};
 
-/// The used move of the item of this number into the place.
+/// Returns the used move of the item of this number into the place.
 fn move_into(
     links: &Links,
     from: u64,
@@ -35,7 +35,7 @@ fn move_into(
     move_out(links, from, to, items, item, page)
 }
 
-/// A used move into the place.
+/// Returns a used move into the place.
 fn into_place(
     links: &Links,
     from: u64,
@@ -55,8 +55,8 @@ fn into_place(
     None
 }
 
-/// Whether each item fills pages after those that the items before it fill, and moves pages after those that they move, where one of
-/// them is a grant.
+/// Returns whether each item fills pages after those that the items before it fill, and, if one of them is a grant, moves pages after those
+/// that they move.
 pub(crate) fn are_apart(items: &[ItemMove]) -> bool
     ensures { result ≡ true → AreApart items.now (length items.now) }
 {
@@ -78,7 +78,7 @@ pub(crate) fn are_apart(items: &[ItemMove]) -> bool
     true
 }
 
-/// Whether the item `other`, if it is another one, fills what the used move fills, or moves what it grants.
+/// Returns whether the item `other`, if it is another one, fills what the used move fills, or moves what it grants.
 fn clashes_with(
     links: &Links,
     from: u64,
@@ -105,7 +105,7 @@ fn clashes_with(
     false
 }
 
-/// Whether another item fills what the used move fills, or moves what it grants. Nothing is looked at where the items are known to be apart.
+/// Returns whether another item fills what the used move fills, or moves what it grants. Tests nothing if the items are known to be apart.
 fn clashes(
     links: &Links,
     from: u64,
@@ -129,7 +129,7 @@ fn clashes(
     false
 }
 
-/// Whether a used move fills the page of what stands under the key, or of what it descends from.
+/// Returns whether a used move fills the page of the node under the key, or of one of its ancestors.
 fn is_taken(links: &Links, from: u64, to: u64, items: &[ItemMove], key: usize) -> bool
     ensures { IsTrue result ↔ IsTaken (IsMoved links.now.entries from to items.now) links.now.entries key }
 {
@@ -153,7 +153,7 @@ fn is_taken(links: &Links, from: u64, to: u64, items: &[ItemMove], key: usize) -
     false
 }
 
-/// Whether the used move contradicts another one, or its source goes.
+/// Returns whether the used move conflicts with another one, or its source is removed.
 fn tangles_from(
     links: &Links,
     from: u64,
@@ -172,7 +172,7 @@ fn tangles_from(
     is_taken(links, from, to, items, used.source)
 }
 
-/// Whether the used moves contradict each other. It changes nothing, and climbs up from each source.
+/// Returns whether the used moves conflict. Changes nothing, and goes up from each source.
 pub(crate) fn has_tangle(links: &Links, from: u64, to: u64, items: &[ItemMove]) -> bool
     ensures { IsTrue result ↔ HasTangle (IsMoved links.now.entries from to items.now) links.now.entries }
 {
@@ -196,7 +196,7 @@ pub fn is_entangled(links: &Links, from: u64, to: u64, items: &[ItemMove]) -> bo
     has_tangle(links, from, to, items)
 }
 
-/// Whether what stands at the place is a source, or above one.
+/// Returns whether the node at the place is a source, or above one.
 fn is_above_source(links: &mut Links, place: Place) -> bool
     ensures same { (key : ℕ) → entry_at links.new.entries key ≡ entry_at links.old.entries key }
     ensures answer { IsTrue result ↔ AboveSource links.old.entries place }
@@ -214,7 +214,7 @@ fn is_above_source(links: &mut Links, place: Place) -> bool
     links.has_source_below(key)
 }
 
-/// Whether the used move contradicts another one, or its target is above a source. The sources of all used moves are marked.
+/// Returns whether the used move conflicts with another one, or its target is above a source. The sources of all used moves are marked.
 fn tangles(
     links: &mut Links,
     from: u64,
@@ -236,7 +236,7 @@ fn tangles(
     is_above_source(links, used.target)
 }
 
-/// Whether the used moves contradict each other, where the sources of all are marked. Each node is visited once.
+/// Returns whether the used moves conflict, if the sources of all are marked. Each node is visited once.
 fn marked_tangle(links: &mut Links, from: u64, to: u64, items: &[ItemMove], apart: bool) -> bool
     requires apart { apart ≡ true → AreApart items.now (length items.now) }
     requires sources { SourcesAre (IsMoved links.old.entries from to items.now) links.old.entries }
@@ -254,8 +254,8 @@ fn marked_tangle(links: &mut Links, from: u64, to: u64, items: &[ItemMove], apar
     false
 }
 
-/// Whether the used moves contradict each other, where the sources of all are marked. Where no target shows anything, as is said with
-/// `had`, and the items are apart, there is nothing to look at.
+/// Returns whether the used moves conflict, if the sources of all are marked. If no target is present (`had` is false) and the items are
+/// apart, there is nothing to test.
 pub(crate) fn room_tangle(
     links: &mut Links,
     from: u64,

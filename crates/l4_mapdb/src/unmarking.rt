@@ -11,7 +11,7 @@ use crate::cutting::end_of;
 use l4_fpage::Block;
 use l4_links::Links;
 
-/// Takes the marks from the page of the key, and the key if nothing stands there.
+/// Removes the marks from the page of the key, and the key if there is no node.
 fn tidy_key(links: &mut Links, key: usize)
     requires { entry_at links.old.entries key ≢ None }
     ensures tidies { (place : ALinkPlace) → IsKeyOf links.old.entries place key → Tidies (λ p. p ≡ place) links.old.entries links.new.entries }
@@ -25,7 +25,7 @@ fn tidy_key(links: &mut Links, key: usize)
     links.set_wanted(key, false);
 }
 
-/// Takes the marks from the pages of the block in the space, and the keys of those where nothing stands.
+/// Removes the marks from the pages of the block in the space, and the keys of those without a node.
 fn tidy_block(links: &mut Links, space: u64, block: Block)
     ensures tidies { Tidies (InPages space block.first (block.first + 2 ^ block.log)) links.old.entries links.new.entries }
     ensures spaces { links.new.spaces ≡ links.old.spaces }
@@ -41,7 +41,7 @@ fn tidy_block(links: &mut Links, space: u64, block: Block)
     }
 }
 
-/// Takes the marks from the pages that the items name, and the keys of those where nothing stands.
+/// Removes the marks from the pages that the items name, and the keys of those without a node.
 pub(crate) fn unmark(links: &mut Links, from: u64, to: u64, items: &[ItemMove])
     ensures tidies { Tidies (OfItems from to items.now (length items.now)) links.old.entries links.new.entries }
     ensures spaces { links.new.spaces ≡ links.old.spaces }

@@ -25,7 +25,7 @@ impl Default for Item {
 
     ghost is_default = { λ item. item ≡ AMap 0 Nil };
 
-    /// A map item that moves no page.
+    /// Returns a map item that moves no page.
     fn default() -> Item {
         Item::Map {
             base: 0,
@@ -98,8 +98,8 @@ impl Item {
         }
     }
 
-    /// The two words of the item; `more`, its lowest bit, says that another item follows. The send
-    /// base is a multiple of 1,024 bytes.
+    /// Returns the two words of the item; `more`, its lowest bit, says that another item follows. The send base is a multiple of 1,024
+    /// bytes.
     pub(crate) fn words(&self, more: bool) -> (u32, u32)
         requires { base_of self.now % base_unit ≡ 0 }
         ensures value { result ≡ item_words self.now more }

@@ -5,8 +5,7 @@ ghost use Rattle.l4_msg.specs.Moves.{ItemMoves, MovePairs, StaysIn, round_down};
 use crate::items::{Item, Move};
 use l4_fpage::{Block, Fpage, PageSize};
 
-/// The block of 2^log pages in the larger block at which a send base puts it; `page` is the send
-/// base's page.
+/// Returns the block of 2^log pages in the larger block at which a send base puts it; `page` is the send base's page.
 fn place(larger: Block, log: u8, page: u32) -> Block
     requires { log ≤ larger.log }
     ensures first { result.first ≡ larger.first + round_down (page % 2 ^ larger.log) log }

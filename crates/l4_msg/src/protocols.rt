@@ -30,7 +30,7 @@ pub struct PageFault {
 pub struct FrameRequest {
     /// The fpage. Its rights are ignored.
     pub fpage: Fpage,
-    /// The memory attributes; 0 asks for the machine's own.
+    /// The memory attributes; 0 requests the machine's default attributes.
     pub attributes: u32,
 }
 

@@ -5,7 +5,7 @@ ghost use Rattle.l4_nodes.specs.Keys.{IsKey};
 
 use std::marker::Model;
 
-/// The number that stands for no key. All keys are below it.
+/// The number that represents no key. All keys are below it.
 pub(crate) const NO_KEY: u32 = u32::MAX;
 
 /// A key or none, in four bytes.

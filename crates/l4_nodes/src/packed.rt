@@ -20,7 +20,7 @@ use l4_fpage::Rights;
 use std::marker::Model;
 use std::mem::size_of;
 
-/// How many values four bytes have.
+/// The number of values of four bytes.
 const HALF: u64 = 1 << 32;
 
 /// A number of eight bytes.
@@ -44,7 +44,7 @@ impl Model for Halves {
 }
 
 impl Halves {
-    /// The number in halves.
+    /// Returns the number in halves.
     #[inline]
     fn of(number: u64) -> Halves
         ensures { result ≡ number }
@@ -55,7 +55,7 @@ impl Halves {
         }
     }
 
-    /// The number.
+    /// Returns the number.
     #[inline]
     fn number(&self) -> u64
         ensures { result ≡ self.now }
@@ -64,15 +64,15 @@ impl Halves {
     }
 }
 
-/// What a page adds to the word where it is one greater, and so the rights, the notes and the rights of an item: the number of values
-/// of all that stands below.
+/// The factors of the parts above the page in a word: the rights, the flags, and the rights of an item. Each is the number of values of all
+/// lower parts.
 const RIGHTS_PLACE: u32 = 1 << 22;
 
 const NOTES_PLACE: u32 = 1 << 25;
 
 const GRANTED_PLACE: u32 = 1 << 28;
 
-/// The small numbers of a slot: its page, the digit of its rights, that of its notes, and that of the rights of an item.
+/// The small numbers of a slot: its page, and the digits of its rights, of its flags, and of the rights of an item.
 #[derive(Clone, Copy)]
 struct Parts {
     page: u32,
@@ -98,7 +98,7 @@ impl Model for Word {
 }
 
 impl Word {
-    /// The word of these numbers.
+    /// Returns the word of these numbers.
     #[inline]
     fn of(parts: Parts) -> Word
         requires page { IsPage parts.page }
@@ -115,7 +115,7 @@ impl Word {
         }
     }
 
-    /// The page.
+    /// Returns the page.
     #[inline]
     fn page(&self) -> u32
         ensures same { result ≡ self.now.page }
@@ -124,7 +124,7 @@ impl Word {
         self.bits % RIGHTS_PLACE
     }
 
-    /// The digit of the rights.
+    /// Returns the digit of the rights.
     #[inline]
     fn rights(&self) -> u8
         ensures same { result ≡ self.now.rights }
@@ -133,7 +133,7 @@ impl Word {
         (self.bits / RIGHTS_PLACE % 8) as u8
     }
 
-    /// The digit of the notes.
+    /// Returns the digit of the flags.
     #[inline]
     fn notes(&self) -> u8
         ensures same { result ≡ self.now.notes }
@@ -142,7 +142,7 @@ impl Word {
         (self.bits / NOTES_PLACE % 8) as u8
     }
 
-    /// The digit of the rights of an item.
+    /// Returns the digit of the rights of an item.
     #[inline]
     fn granted(&self) -> u8
         ensures same { result ≡ self.now.granted }
@@ -151,7 +151,7 @@ impl Word {
         (self.bits / GRANTED_PLACE) as u8
     }
 
-    /// All numbers.
+    /// Returns all numbers.
     #[inline]
     fn parts(&self) -> Parts
         ensures same { result ≡ self.now }
@@ -168,7 +168,7 @@ impl Word {
         }
     }
 
-    /// Lets this be the page.
+    /// Sets the page.
     #[inline]
     fn set_page(&mut self, page: u32)
         requires { IsPage page }
@@ -179,7 +179,7 @@ impl Word {
         *self = Word::of(parts);
     }
 
-    /// Lets these be the rights.
+    /// Sets the digit of the rights.
     #[inline]
     fn set_rights(&mut self, rights: u8)
         requires { rights < 8 }
@@ -190,7 +190,7 @@ impl Word {
         *self = Word::of(parts);
     }
 
-    /// Lets these be the notes.
+    /// Sets the digit of the flags.
     #[inline]
     fn set_notes(&mut self, notes: u8)
         requires { notes < 8 }
@@ -201,7 +201,7 @@ impl Word {
         *self = Word::of(parts);
     }
 
-    /// Lets these be the rights of an item.
+    /// Sets the digit of the rights of an item.
     #[inline]
     fn set_granted(&mut self, granted: u8)
         requires { granted < 16 }
@@ -213,10 +213,10 @@ impl Word {
     }
 }
 
-/// The digit that stands for no rights of an item. Those of rights are below it.
+/// The digit that represents no item. The digits of rights are below it.
 const NO_ITEM: u8 = 8;
 
-/// The digit of the rights of an item, or of none.
+/// Returns the digit of the rights of an item, or of no item.
 #[inline]
 fn granted_digit(granted: Option<Rights>) -> u8
     ensures small { result < 16 }
@@ -228,7 +228,7 @@ fn granted_digit(granted: Option<Rights>) -> u8
     rights.bits()
 }
 
-/// The rights of an item that the digit is of, if it is of any.
+/// Returns the rights of an item that the digit represents, if it represents any.
 #[inline]
 fn granted_of(digit: u8) -> Option<Rights>
     ensures { result ≡ rights_shown digit }
@@ -239,19 +239,19 @@ fn granted_of(digit: u8) -> Option<Rights>
     Some(Rights::of_bits(digit))
 }
 
-/// What is noted of a slot's page and of its node.
+/// The flags of a slot's page and of its node.
 #[derive(Clone, Copy)]
 struct Notes {
     /// Whether a message fills the page.
     wanted: bool,
     /// Whether a message moves the page.
     source: bool,
-    /// Whether the last walk that has come by the node has been over all that descends from it.
+    /// Whether the last walk that visited the node has also visited all its descendants.
     closed: bool,
 }
 
 impl Notes {
-    /// The digit of these notes.
+    /// Returns the digit of these flags.
     #[inline]
     fn digit(self) -> u8
         ensures small { result < 8 }
@@ -260,7 +260,7 @@ impl Notes {
         u8::from(self.wanted) + 2 * u8::from(self.source) + 4 * u8::from(self.closed)
     }
 
-    /// The notes that the digit is of.
+    /// Returns the flags that the digit represents.
     #[inline]
     fn of(digit: u8) -> Notes
         ensures { result ≡ notes_shown digit }
@@ -273,11 +273,11 @@ impl Notes {
     }
 }
 
-/// A slot, but for what walks have noted of its key.
+/// A slot without the record of walks for its key.
 #[derive(Clone, Drop)]
 pub(crate) struct Packed {
     space: Halves,
-    /// The page, the rights, what is noted, and the rights of the item that has granted it.
+    /// The page, the rights, the flags, and the rights of the item that granted it.
     word: Word,
     frame: u32,
     /// None in a blank. What else there is of a node means nothing then.
@@ -291,7 +291,7 @@ pub(crate) struct Packed {
 const _: () = prove!(size_of::<Packed>() == 36);
 
 impl Packed {
-    /// A blank of the page.
+    /// Returns a blank of the page.
     #[inline]
     pub(crate) fn blank(place: Place) -> Packed
         requires { IsPage place.page }
@@ -314,7 +314,7 @@ impl Packed {
         }
     }
 
-    /// A slot of the page where this node stands, of which no walk has noted anything.
+    /// Returns a slot of the page with this node, without any record of a walk.
     #[inline]
     pub(crate) fn of(place: Place, node: Node) -> Packed
         requires fits { IsPage place.page }
@@ -343,7 +343,7 @@ impl Packed {
         }
     }
 
-    /// What is in the slot, with what is noted of its key.
+    /// Returns the content of the slot, with the record of walks for its key.
     #[inline]
     pub(crate) fn slot(&self, note: Note) -> Slot
         ensures { result ≡ slot_shown self.now note }
@@ -358,7 +358,7 @@ impl Packed {
         }
     }
 
-    /// The node, with what is noted of its key. None in a blank.
+    /// Returns the node, with the record of walks for its key, or None for a blank.
     #[inline]
     fn node(&self, note: Note) -> Option<Node>
         ensures { result ≡ (slot_shown self.now note).node }
@@ -383,7 +383,7 @@ impl Packed {
         })
     }
 
-    /// Lets this node be in the slot, of which no walk has noted anything.
+    /// Puts this node into the slot, without any record of a walk.
     #[inline]
     pub(crate) fn put(&mut self, node: Node)
         requires { IsKey node.depth }
@@ -408,7 +408,7 @@ impl Packed {
         self.doomed = node.doomed;
     }
 
-    /// Lets the slot be a blank.
+    /// Makes the slot a blank.
     #[inline]
     pub(crate) fn empty(&mut self)
         ensures { Turns (λ (s : ASlot). record s { node = None }) self.old self.new }
@@ -426,7 +426,7 @@ impl Packed {
         self.word.set_notes(notes.digit());
     }
 
-    /// Lets the slot be of this page.
+    /// Gives the slot this page.
     #[inline]
     pub(crate) fn set_place(&mut self, place: Place)
         requires { IsPage place.page }
@@ -436,7 +436,7 @@ impl Packed {
         self.word.set_page(place.page);
     }
 
-    /// Lets the slot be of this page, with a note that an item of these rights grants it.
+    /// Gives the slot this page, and records that an item with these rights grants it.
     #[inline]
     pub(crate) fn give(&mut self, place: Place, rights: Rights)
         requires { IsPage place.page }
@@ -447,7 +447,7 @@ impl Packed {
         self.word.set_granted(granted_digit(Some(rights)));
     }
 
-    /// Lets a node have this next key.
+    /// Sets the next key of a node.
     #[inline]
     pub(crate) fn set_next(&mut self, next: Link)
         ensures { Turns (with_node (λ (n : ANode). record n { next = next })) self.old self.new }
@@ -455,7 +455,7 @@ impl Packed {
         self.next = next;
     }
 
-    /// Lets a node have this previous key.
+    /// Sets the previous key of a node.
     #[inline]
     pub(crate) fn set_prev(&mut self, prev: Link)
         ensures { Turns (with_node (λ (n : ANode). record n { prev = prev })) self.old self.new }
@@ -463,7 +463,7 @@ impl Packed {
         self.prev = prev;
     }
 
-    /// Lets a node have these rights, and this key after it on the stack of nodes without rights.
+    /// Sets the rights of a node, and the key after it on the stack of nodes without rights.
     #[inline]
     pub(crate) fn set_rights(&mut self, rights: Rights, doomed: Link)
         ensures { Turns (with_node (λ (n : ANode). record n { rights = rights; doomed = doomed })) self.old self.new }
@@ -472,7 +472,7 @@ impl Packed {
         self.doomed = doomed;
     }
 
-    /// Notes whether the last walk that has come by a node has been over all that descends from it.
+    /// Records whether the last walk that visited the node has also visited all its descendants.
     #[inline]
     pub(crate) fn set_closed(&mut self, closed: bool)
         ensures { (note : ANote) → slot_shown self.new note ≡ with_node (λ (n : ANode). record n { mark = if closed then note.stamp else 0 }) (slot_shown self.old note) }

@@ -16,7 +16,7 @@ use slab::Slab;
 use std::alloc::{AllocError, Global};
 use std::marker::Model;
 
-/// What walks have noted of a key.
+/// The record of walks for a key.
 #[derive(Clone, Copy)]
 pub(crate) struct Note {
     /// The stamp of the last walk that has visited the node.
@@ -29,8 +29,8 @@ pub(crate) struct Note {
 #[derive(Drop)]
 pub struct Slots {
     pub(crate) packed: Slab<Packed>,
-    /// What is noted of each key. The room for all keys is taken with the slots, so that no walk needs memory, but nothing beyond
-    /// the last key that a walk has noted something of is written.
+    /// The records of walks, one for each key. Room for all keys is allocated with the slots, so that no walk needs memory. Nothing is
+    /// written beyond the last key about which a walk has recorded something.
     pub(crate) notes: Vec<Note>,
 }
 
@@ -46,7 +46,7 @@ impl Model for Slots {
     ghost invariant = { HaveNotes };
 }
 
-/// What is noted of the key.
+/// Returns the record of the key.
 #[inline]
 pub(crate) fn note_at(notes: &Vec<Note>, key: usize) -> Note
     ensures { result ≡ slice_index_or notes.now.items key no_note }
@@ -60,7 +60,7 @@ pub(crate) fn note_at(notes: &Vec<Note>, key: usize) -> Note
     }
 }
 
-/// Makes room for what is noted of the key, which there is none for.
+/// Allocates room for the record of the key, for which there is none.
 #[cold]
 #[inline(never)]
 fn grow(notes: &mut Vec<Note>, key: usize) -> Result<(), AllocError>
@@ -73,7 +73,7 @@ fn grow(notes: &mut Vec<Note>, key: usize) -> Result<(), AllocError>
     notes.reserve(key + 1 - notes.len())
 }
 
-/// Lets the list have a note of the key, which is that of nothing if it had none.
+/// Extends the list up to the key. A new record is an empty one.
 #[cold]
 #[inline(never)]
 fn reach(notes: &mut Vec<Note>, key: usize)
@@ -90,7 +90,7 @@ fn reach(notes: &mut Vec<Note>, key: usize)
     }
 }
 
-/// Lets this be noted of the key.
+/// Sets the record of the key.
 #[inline]
 pub(crate) fn put_note(notes: &mut Vec<Note>, key: usize, note: Note)
     requires room { key < vec_capacity notes.old }
@@ -104,7 +104,7 @@ pub(crate) fn put_note(notes: &mut Vec<Note>, key: usize, note: Note)
     notes[key] = note;
 }
 
-/// Lets nothing be noted of the key.
+/// Empties the record of the key.
 #[inline]
 pub(crate) fn clear_note(notes: &mut Vec<Note>, key: usize)
     ensures here { slice_index_or notes.new.items key no_note ≡ no_note }
@@ -185,7 +185,7 @@ impl Slots {
         self.notes.reserve(slots)
     }
 
-    /// Puts this into a new slot, of whose key nothing is noted, and gives its key. There is room for it.
+    /// Puts this into a new slot whose key has no record, and returns its key. There must be room for it.
     #[inline]
     fn insert_reserved(&mut self, slot: Packed) -> usize
         requires room { HasRoom self.old }

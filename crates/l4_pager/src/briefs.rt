@@ -22,7 +22,7 @@ pub struct BriefMessage {
     pub second: u32,
 }
 
-/// The message of an Ipc's reply, where it is brief.
+/// Returns the message of an Ipc's reply, if it has two untyped words and no item.
 fn brief_of(ipc: &IpcReply) -> Option<BriefMessage>
     ensures { MatchOption result ((brief : ABrief) → ¬ MessageReads (ipc.now.tag ∷ ipc.now.words.items) (brief_message brief))
         (λ brief. MessageReads (ipc.now.tag ∷ ipc.now.words.items) (brief_message brief)) }

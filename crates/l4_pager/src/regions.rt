@@ -43,7 +43,7 @@ impl Default for Entry {
 
     ghost is_default = { λ e. e ≡ record { first = 0; source = 0; count = 0; rights = no_rights } };
 
-    /// An entry without a page.
+    /// Returns an entry without a page.
     fn default() -> Entry {
         Entry {
             first: 0,
@@ -74,7 +74,7 @@ impl Entry {
         self.rights.is_empty()
     }
 
-    /// Whether a page is one of both entries. Both lie in the largest space.
+    /// Returns whether a page is one of both entries. Both lie in the largest space.
     fn meets(&self, other: &Entry) -> bool
         requires good { ¬ IsBad Kib1 self.now }
         requires other { ¬ IsBad Kib1 other.now }
@@ -83,7 +83,7 @@ impl Entry {
         self.first < other.first + other.count && other.first < self.first + self.count
     }
 
-    /// Whether the entry is for a page, and its rights hold the access.
+    /// Returns whether the entry is for a page, and its rights hold the access.
     fn serves(&self, page: u32, access: Rights) -> bool
         ensures { result ≡ serves page access self.now }
     {
@@ -110,14 +110,14 @@ fn meets_one(entries: &[Entry], entry: &Entry) -> bool
 
 ghost use Rattle.l4_pager.specs.Regions.{serves, entry_for, IsPlaced};
 
-/// The place of the first entry for a page whose rights hold the access.
+/// Returns the place of the first entry for a page whose rights hold the access.
 fn place_of(entries: &[Entry], page: u32, access: Rights) -> Option<usize>
     ensures { result ≡ position (serves page access) entries.now }
 {
     entries.iter().position(|entry| entry.serves(page, access))
 }
 
-/// The entry for a page whose rights hold the access, and its place.
+/// Returns the entry for a page whose rights hold the access, and its place.
 fn entry_for(entries: &[Entry], page: u32, access: Rights) -> Option<(usize, Entry)>
     ensures { IsPlaced entries.now page access result }
 {
@@ -127,7 +127,7 @@ fn entry_for(entries: &[Entry], page: u32, access: Rights) -> Option<(usize, Ent
     Some((place, entries[place]))
 }
 
-/// The entry at a place, if it is for the page and its rights hold the access.
+/// Returns the entry at a place, if it is for the page and its rights hold the access.
 fn entry_at(entries: &[Entry], place: usize, page: u32, access: Rights) -> Option<Entry>
     ensures { IfSome result (λ entry. (slice_get entries.now place ≡ Some entry) × (serves page access entry ≡ true)) }
 {
@@ -221,7 +221,8 @@ impl RegionPager {
         }
     }
 
-    /// The entry for a page whose rights hold the access, and its place. The entry at the guess is looked at first, and then the next one.
+    /// Returns the entry for a page whose rights hold the access, and its place. The entry at the guess is looked at first, and then the
+    /// next one.
     fn entry_near(&self, page: u32, access: Rights, guess: usize) -> Option<(usize, Entry)>
         ensures { IsPlaced self.now.entries page access result }
     {

@@ -28,7 +28,7 @@ const AT_ONCE: u32 = 0x0400_0000;
 /// The tag of an answer: label 0, one item, no untyped word.
 const ANSWER_TAG: u32 = 0x80;
 
-/// What the first word of a last map item has beside its send base: the kind of a map item.
+/// The kind of a map item in the first word of the last item of a message, beside its send base.
 const MAP_KIND: u32 = 8;
 
 /// The reason why a gate did not enter a call.
@@ -108,7 +108,7 @@ pub fn answering(sender: ThreadId, answer: &Message) -> Call
     })
 }
 
-/// Makes an Ipc the one that waits for anybody's message.
+/// Makes an Ipc a receive phase from any thread.
 fn set_wait(ipc: &mut IpcCall)
     ensures { Ipc ipc.new ≡ waiting }
 {
@@ -131,8 +131,8 @@ pub fn wait_into(call: &mut Call)
     }
 }
 
-/// Puts three words into message registers. Where as many stand there, as an answer before left them, each is written over: none is cleared
-/// first, and none is read again as a part of a longer one that has yet to be stored.
+/// Puts three words into message registers. If there are already three, as an earlier answer left them, each is overwritten. So none is
+/// cleared first, and none is read as part of a wider load that waits for a store.
 fn set_words(registers: &mut ArrayVec<u32, MAX_WORDS>, first: u32, second: u32, third: u32)
     ensures { registers.new.items ≡ first ∷ second ∷ third ∷ [] }
 {
@@ -147,7 +147,7 @@ fn set_words(registers: &mut ArrayVec<u32, MAX_WORDS>, first: u32, second: u32, 
     let _ = registers.try_extend_from_slice(&[first, second, third]);
 }
 
-/// Makes an Ipc the one that sends an answer of one map item, and then waits for anybody's message.
+/// Makes an Ipc one that sends an answer of one map item, and then receives from any thread.
 fn set_answer(ipc: &mut IpcCall, sender: ThreadId, base: u32, fpage: Fpage)
     requires { base % base_unit ≡ 0 }
     ensures { Ipc ipc.new ≡ sending sender (message_words (one_item (Map base fpage))) }
@@ -173,7 +173,7 @@ pub fn answer_into(call: &mut Call, sender: ThreadId, base: u32, fpage: Fpage)
     }
 }
 
-/// What is entered after a reply, and whether it is an answer.
+/// Returns the call that is entered after a reply, and whether it is an answer.
 fn next_call(regions: &RegionPager, reply: &Reply) -> (Call, bool)
     ensures { Follows regions.now reply.now result.0 result.1 }
 {

@@ -17,7 +17,7 @@ const SIXTH: ThreadId = ThreadId(6 * 16384 + 1);
 /// Pages 4 to 7 from pages 100 to 103, read and execute.
 const REGION: (u32, u32, u32, u8) = (4, 100, 4, 5);
 
-/// An entry.
+/// Returns an entry.
 fn entry(first: u32, source: u32, count: u32, rights: u8) -> Entry {
     Entry {
         first,
@@ -27,7 +27,7 @@ fn entry(first: u32, source: u32, count: u32, rights: u8) -> Entry {
     }
 }
 
-/// A read fault at an address.
+/// Returns a read fault at an address.
 fn read_fault(address: u32) -> PageFault {
     PageFault {
         address,
@@ -36,7 +36,7 @@ fn read_fault(address: u32) -> PageFault {
     }
 }
 
-/// The table of one region.
+/// Returns the table of one region.
 fn one_region() -> RegionPager {
     let mut regions = RegionPager::new(PageSize::Kib4);
     let _ = regions.add(entry(REGION.0, REGION.1, REGION.2, REGION.3));
@@ -112,7 +112,7 @@ fn answers_by_small_pages(rt: HostRuntime) {
     );
 }
 
-/// The fpage of a word.
+/// Returns the fpage of a word.
 fn fpage(word: u32) -> Fpage {
     Fpage::read(word).unwrap_or(Fpage::Nil)
 }
@@ -214,7 +214,7 @@ fn registers(words: &[u32]) -> ArrayVec<u32, MAX_WORDS> {
     registers
 }
 
-/// The reply of an Ipc.
+/// Returns the reply of an Ipc.
 fn reply(tag: u32, error: u32, from: ThreadId, words: &[u32]) -> Reply {
     Reply::Ipc(IpcReply {
         tag,
@@ -224,7 +224,7 @@ fn reply(tag: u32, error: u32, from: ThreadId, words: &[u32]) -> Reply {
     })
 }
 
-/// A call that sends these words to a thread, or nothing to nobody, and receives from anybody.
+/// Returns a call that sends these words to a thread, or nothing to nobody, and receives from anybody.
 fn call(to: ThreadId, timeouts: u32, words: &[u32]) -> Call {
     Call::Ipc(IpcCall {
         to,

@@ -9,7 +9,7 @@ use crate::pages::page_fault;
 use l4_fpage::PageSize;
 use l4_msg::{Item, MAX_PLAN_ITEMS, Region, TOO_MANY};
 
-/// Whether the region has a page, all its pages are in the space, and it has rights.
+/// Returns whether the region has a page, all its pages are in the space, and it has rights.
 fn is_sound(region: &Region, size: PageSize) -> bool
     ensures { IsTrue result ↔ IsSound size region.now }
 {

@@ -8,7 +8,7 @@ use crate::faults::Fault;
 use l4_fpage::Block;
 use l4_msg::Region;
 
-/// Whether the page is one of the region's source pages.
+/// Returns whether the page is one of the region's source pages.
 fn is_inside(region: &Region, page: u32) -> bool
     requires { InLargest region.now }
     ensures { IsTrue result ↔ IsInside region.now page }
@@ -16,7 +16,7 @@ fn is_inside(region: &Region, page: u32) -> bool
     page >= region.source && page < region.source + region.count
 }
 
-/// The place of the first page outside the region.
+/// Returns the place of the first page outside the region.
 fn first_outside(region: &Region, pages: &[u32]) -> Option<usize>
     requires { InLargest region.now }
     ensures { MatchOption result (AreInside region.now pages.now) (IsFirstOutside region.now pages.now) }
@@ -29,7 +29,7 @@ fn first_outside(region: &Region, pages: &[u32]) -> Option<usize>
     None
 }
 
-/// Whether one allowed block holds both pages.
+/// Returns whether one allowed block holds both pages.
 fn share_block(region: &Region, a: u32, b: u32) -> bool
     requires space { InLargest region.now }
     requires a { IsInside region.now a }
@@ -47,7 +47,7 @@ fn share_block(region: &Region, a: u32, b: u32) -> bool
     (region.target + (block.first - region.source)) % size == 0
 }
 
-/// How many pages rise, from the first one on.
+/// Returns the number of rising pages, from the first one on.
 fn rising(pages: &[u32]) -> usize
     ensures { RisesTo pages.now result }
 {
@@ -59,7 +59,7 @@ fn rising(pages: &[u32]) -> usize
     pages.len()
 }
 
-/// Whether one allowed block holds this page and an earlier one.
+/// Returns whether one allowed block holds this page and an earlier one.
 fn has_pair(region: &Region, pages: &[u32], i: usize) -> bool
     requires space { InLargest region.now }
     requires inside { AreInside region.now pages.now }
@@ -74,7 +74,8 @@ fn has_pair(region: &Region, pages: &[u32], i: usize) -> bool
     false
 }
 
-/// The same where the pages up to this one rise: a block that holds it and an earlier page holds the page before it, too.
+/// Returns the result of `has_pair` if the pages up to this one rise: a block that has this page and an earlier page also has the page
+/// before it.
 fn has_neighbour(region: &Region, pages: &[u32], i: usize) -> bool
     requires space { InLargest region.now }
     requires inside { AreInside region.now pages.now }
@@ -88,7 +89,7 @@ fn has_neighbour(region: &Region, pages: &[u32], i: usize) -> bool
     share_block(region, pages[i - 1], pages[i])
 }
 
-/// Whether one allowed block holds this page and an earlier one, where so many pages rise.
+/// Returns whether one allowed block has this page and an earlier one, if the first `rising` pages rise.
 fn is_paired(region: &Region, pages: &[u32], i: usize, rising: usize) -> bool
     requires space { InLargest region.now }
     requires inside { AreInside region.now pages.now }
@@ -102,7 +103,7 @@ fn is_paired(region: &Region, pages: &[u32], i: usize, rising: usize) -> bool
     has_pair(region, pages, i)
 }
 
-/// The first page that shares an allowed block with an earlier one.
+/// Returns the first page that shares an allowed block with an earlier one.
 fn first_pair(region: &Region, pages: &[u32]) -> Option<usize>
     requires space { InLargest region.now }
     requires inside { AreInside region.now pages.now }

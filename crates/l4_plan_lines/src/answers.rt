@@ -25,8 +25,8 @@ pub enum Answer {
     ProvedTooLong,
 }
 
-/// The number, from 0, of the first message whose tag is not that of its items: label 0, no untyped words, and two words
-/// an item.
+/// Returns the number, from 0, of the first message whose tag is not that of its items: label 0, no untyped words, and two words for each
+/// item.
 fn first_wrong_tag(claim: &Claim) -> Option<usize>
     ensures first { MatchOption result (AreRightTags claim.now.tags.items claim.now.items.items) (λ k. IsFirstWrongTag claim.now.tags.items claim.now.items.items k) }
     ensures few { IfSome result (λ k. k ≤ 66) }
@@ -45,7 +45,7 @@ fn first_wrong_tag(claim: &Claim) -> Option<usize>
     None
 }
 
-/// The answer to a claim about a region.
+/// Returns the answer to a claim about a region.
 fn answer_claim(region: &Region, size: PageSize, head: Head, claim: &Claim) -> Answer
     requires { claim.now.head ≡ Some head }
     ensures { (input : List ℕ) → IsWhole input claim.now → IsAnswer size region.now input result }
@@ -80,7 +80,7 @@ pub fn answer_input(region: &Region, size: PageSize, found: &Found) -> Answer
     }
 }
 
-/// What is said of a wrong line, after its number.
+/// Returns what is reported about a wrong line, after its number.
 fn fault_words(fault: LineFault) -> &'static [u8]
     ensures words { result.now ≡ wrong_code fault }
     ensures few { length result.now ≤ 11 }

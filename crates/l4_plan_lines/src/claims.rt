@@ -125,7 +125,7 @@ impl Claim {
         self.add_item(line)
     }
 
-    /// Adds the line of a tag, where one is due.
+    /// Adds the line of a tag, if one is expected.
     fn add_tag(&mut self, line: &[u8]) -> bool
         requires { AwaitsTag self.old line.now }
         ensures { MatchBool result (SaysMore self.old self.new line.now) (SaysAll self.old line.now) }
@@ -143,7 +143,7 @@ impl Claim {
         }
     }
 
-    /// Adds the line of an item, where one is due.
+    /// Adds the line of an item, if one is expected.
     fn add_item(&mut self, line: &[u8]) -> bool
         requires { AwaitsItem self.old }
         ensures { MatchBool result (SaysMore self.old self.new line.now) (SaysAll self.old line.now) }

@@ -12,7 +12,7 @@ use l4_plan::{Pages, Plan, PlanRefusal, plan};
 use l4_text::{Output, RunFault, Text};
 use std::io::Write;
 
-/// Tells some bytes.
+/// Writes some bytes.
 fn tell<W: Write>(bytes: &[u8], out: &mut Output, writer: &mut W)
     requires { length bytes.now ≤ 100 }
     ensures { Tells (W.contents writer.old) (W.contents writer.new) out.old out.new bytes.now }
@@ -22,7 +22,7 @@ fn tell<W: Write>(bytes: &[u8], out: &mut Output, writer: &mut W)
     out.put(writer, &text);
 }
 
-/// Tells a line and its newline.
+/// Writes a line and its newline.
 fn tell_line<W: Write>(line: &Text, out: &mut Output, writer: &mut W)
     requires { length line.now ≤ 100 }
     ensures { Tells (W.contents writer.old) (W.contents writer.new) out.old out.new (ended line.now) }
@@ -33,7 +33,7 @@ fn tell_line<W: Write>(line: &Text, out: &mut Output, writer: &mut W)
     out.put(writer, &text);
 }
 
-/// Tells the lines of a message's words, with a page for each item.
+/// Writes the lines of a message's words, with a page for each item.
 fn tell_message<W: Write>(words: &[u32], pages: &[u32], out: &mut Output, writer: &mut W)
     requires { length words.now ≡ 1 + 2 * length pages.now }
     ensures { Tells (W.contents writer.old) (W.contents writer.new) out.old out.new (message_text words.now pages.now) }
@@ -46,7 +46,7 @@ fn tell_message<W: Write>(words: &[u32], pages: &[u32], out: &mut Output, writer
     }
 }
 
-/// Tells the lines of the message with this number of a plan: its tag and its items, and the page of each item.
+/// Writes the lines of the message with this number of a plan: its tag, and its items with a page each.
 fn tell_part<W: Write>(plan: &Plan, number: u32, out: &mut Output, writer: &mut W)
     requires { number < messages_of (length plan.now.items) }
     ensures { Tells (W.contents writer.old) (W.contents writer.new) out.old out.new (part_text plan.now number) }
@@ -63,7 +63,7 @@ fn tell_part<W: Write>(plan: &Plan, number: u32, out: &mut Output, writer: &mut 
     );
 }
 
-/// Tells the lines of a plan, message by message.
+/// Writes the lines of a plan, message by message.
 fn tell_items<W: Write>(plan: &Plan, out: &mut Output, writer: &mut W)
     ensures { Tells (W.contents writer.old) (W.contents writer.new) out.old out.new (plan_text plan.now) }
 {
@@ -72,7 +72,7 @@ fn tell_items<W: Write>(plan: &Plan, out: &mut Output, writer: &mut W)
     }
 }
 
-/// Tells the lines of a plan that is too long, with the pages that show it.
+/// Writes the lines of a plan that is too long, with the pages that prove it.
 fn tell_pages<W: Write>(pages: Pages, out: &mut Output, writer: &mut W)
     ensures { Tells (W.contents writer.old) (W.contents writer.new) out.old out.new (too_long_text pages) }
 {
@@ -82,7 +82,7 @@ fn tell_pages<W: Write>(pages: Pages, out: &mut Output, writer: &mut W)
     }
 }
 
-/// Tells the text of the plan of a region, and answers whether there is one.
+/// Writes the text of the plan of a region, and returns whether there is one.
 fn tell_plan<W: Write>(region: &Region, size: PageSize, out: &mut Output, writer: &mut W) -> bool
     ensures { (text : List ℕ) × IsPlanText size region.now result text
         × Tells (W.contents writer.old) (W.contents writer.new) out.old out.new text }

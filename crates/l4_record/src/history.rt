@@ -31,7 +31,7 @@ impl Model for History {
     ghost view = { λ h. entry_list h.entries.items h.entries.room };
 }
 
-/// Whether the start of a call ended none.
+/// Returns whether the start of a call ended no call.
 fn ends_none(answer: &Answer) -> bool
     ensures { result ≡ true → answer.now ≡ own_answer false 0 }
 {
@@ -45,7 +45,7 @@ fn ends_none(answer: &Answer) -> bool
     }
 }
 
-/// The word for whether the sender's call ended too.
+/// Returns the word that says whether the sender's call ended too.
 #[inline(always)]
 fn ends_word(ends: bool) -> u32
     ensures { result ≡ ends_word ends }
@@ -54,7 +54,7 @@ fn ends_word(ends: bool) -> u32
 }
 
 impl History {
-    /// No entries.
+    /// Creates a history without entries.
     pub(crate) fn new(alloc: Global) -> History
         ensures { result.entries ≡ [] }
     {
@@ -131,7 +131,7 @@ impl History {
         }
     }
 
-    /// The same of an Ipc whose start ended no call.
+    /// Appends the entry of an Ipc whose start ended no call.
     #[inline(always)]
     fn push_ipc(&mut self, number: u32, call: &IpcCall)
         requires { length self.old.entries < self.old.room }
@@ -149,7 +149,7 @@ impl History {
         self.entries.push(&words, call.words.as_slice());
     }
 
-    /// The same of a page fault whose start ended no call.
+    /// Appends the entry of a page fault whose start ended no call.
     #[inline(always)]
     fn push_fault(&mut self, number: u32, call: &FaultCall)
         requires { length self.old.entries < self.old.room }
@@ -161,7 +161,7 @@ impl History {
         self.entries.push(&words, &[]);
     }
 
-    /// The same of any call and answer.
+    /// Appends the entry of any call and answer.
     #[cold]
     #[inline(never)]
     fn push_answered(&mut self, number: u32, call: &Call, answer: &Answer)

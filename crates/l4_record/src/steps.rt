@@ -10,7 +10,7 @@ use crate::appended::{Appended, NextSteps};
 use crate::history::History;
 use l4_ipc::{Call, Kernel, Refused};
 
-/// Does the steps that come next, until there is none, and tells them in the place of others.
+/// Executes the next steps until there is none, and overwrites `next` with them.
 fn follow(kernel: &mut Kernel, history: &mut History, number: u32, next: &mut NextSteps)
     requires { length history.old.entries + max_threads ≤ history.old.room }
     ensures went { Went number kernel.old kernel.new history.old.entries history.new.entries next.new.items }

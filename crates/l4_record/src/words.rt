@@ -32,7 +32,7 @@ pub fn write_start(out: &mut Record, number: u32, call: &Call, answer: &Answer)
     put_fields(out, call);
 }
 
-/// The entry of the start of a call of this tag and these fields, in which no call ended.
+/// Reads the entry of the start of a call with this tag and these fields, in which no call ended.
 fn read_start(tag: u32, seat: u32, words: Words<'_>) -> Option<Entry>
     ensures { result ≡ start_at tag seat words.entry }
 {
@@ -45,7 +45,7 @@ fn read_start(tag: u32, seat: u32, words: Words<'_>) -> Option<Entry>
     Some(Entry { seat, step, answer })
 }
 
-/// The entry of a Transfer of these fields.
+/// Reads the entry of a Transfer from these fields.
 fn read_transfer(seat: u32, words: Words<'_>) -> Option<Entry>
     ensures { result ≡ transfer_at seat words.entry }
 {
@@ -59,7 +59,7 @@ fn read_transfer(seat: u32, words: Words<'_>) -> Option<Entry>
     Some(Entry { seat, step, answer })
 }
 
-/// The entry of an Expire of this field.
+/// Reads the entry of an Expire from this field.
 fn read_expire(seat: u32, words: Words<'_>) -> Option<Entry>
     ensures { result ≡ expire_at seat words.entry }
 {
@@ -70,7 +70,7 @@ fn read_expire(seat: u32, words: Words<'_>) -> Option<Entry>
     Some(Entry { seat, step, answer })
 }
 
-/// The entry of the start of a call with this answer, tag and fields.
+/// Reads the entry of the start of a call with this answer, tag and fields.
 fn read_answered(seat: u32, words: Words<'_>) -> Option<Entry>
     ensures { result ≡ answered_at seat words.entry }
 {
@@ -81,7 +81,7 @@ fn read_answered(seat: u32, words: Words<'_>) -> Option<Entry>
     Some(Entry { seat, step, answer })
 }
 
-/// The entry of this tag, seat and fields.
+/// Reads the entry of this tag, seat and fields.
 #[tactic(auto, unfolding(crate::specs::Inside::Words::entry_of))]
 fn read_entry(tag: u32, seat: u32, words: Words<'_>) -> Option<Entry>
     ensures { result ≡ entry_of tag seat words.entry }

@@ -18,7 +18,7 @@ fn meaning(code: &'static [u8], line: &'static [u8]) -> Text
     Text { code, line }
 }
 
-/// The refusals of the library and of the kernel.
+/// Returns the refusals of the library and of the kernel.
 fn kernel_texts() -> [Text; 9]
     ensures { map bytes_of result ≡ kernel_texts }
 {
@@ -44,7 +44,7 @@ fn kernel_texts() -> [Text; 9]
     ]
 }
 
-/// The refusals of a message.
+/// Returns the refusals of a message.
 fn message_texts() -> [Text; 7]
     ensures { map bytes_of result ≡ message_texts }
 {
@@ -77,7 +77,7 @@ fn message_texts() -> [Text; 7]
     ]
 }
 
-/// The refusals of a control of threads, and of an Unmap.
+/// Returns the refusals of a control of threads, and of an Unmap.
 fn control_texts() -> [Text; 8]
     ensures { map bytes_of result ≡ control_texts }
 {
@@ -102,7 +102,7 @@ fn control_texts() -> [Text; 8]
     ]
 }
 
-/// The refusals of a plan, and of one of its messages.
+/// Returns the refusals of a plan, and of one of its messages.
 fn plan_texts() -> [Text; 6]
     ensures { map bytes_of result ≡ plan_texts }
 {
@@ -125,7 +125,7 @@ fn plan_texts() -> [Text; 6]
     ]
 }
 
-/// The faults of a plan.
+/// Returns the faults of a plan.
 fn check_texts() -> [Text; 6]
     ensures { map bytes_of result ≡ check_texts }
 {
@@ -151,7 +151,7 @@ fn check_texts() -> [Text; 6]
     ]
 }
 
-/// The refusals of a pager's table and of a locked kernel, and a failed allocation.
+/// Returns the refusals of a pager's table and of a locked kernel, and a failed allocation.
 fn table_texts() -> [Text; 13]
     ensures { map bytes_of result ≡ table_texts }
 {

@@ -60,7 +60,8 @@ impl SeatedKernel {
         self.recorder.kernel()
     }
 
-    /// Whether the number has its seat. Mostly seats are given in the order of their numbers from 1 on, so that is looked at first.
+    /// Returns whether the number has its seat. Seats are mostly given in the order of their numbers, from 1 on, so that index is tested
+    /// first.
     fn has_seat(&self, number: u32) -> bool
         ensures { result ≡ is_among number self.now.numbers }
     {

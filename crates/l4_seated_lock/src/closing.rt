@@ -7,7 +7,7 @@ ghost use Rattle.l4_seated_lock.specs.Inside.Numbers.{HasNumber, IsUnnamed, IsSt
 use crate::places::position;
 use l4_lock::{Mismatch, Seat};
 
-/// Whether one of the first numbers is this one.
+/// Returns whether one of the first numbers is this one.
 fn has_number(numbers: &[u32], before: usize, number: u32) -> bool
     requires { before ≤ length numbers.now }
     ensures has { result ≡ true → HasNumber numbers.now before number }
@@ -21,7 +21,7 @@ fn has_number(numbers: &[u32], before: usize, number: u32) -> bool
     false
 }
 
-/// The less of the number that is kept and this one, if this one is bad.
+/// Returns the less of the number that is kept and this one, if this one is bad.
 fn keep(found: Option<u32>, number: u32, bad: bool) -> Option<u32>
     ensures { result ≡ keep found number bad }
 {
@@ -40,7 +40,7 @@ fn keep(found: Option<u32>, number: u32, bad: bool) -> Option<u32>
     }
 }
 
-/// The least number of a seat that isn't among these.
+/// Returns the least number of a seat that is not among these.
 fn first_missing(seats: &[Seat], numbers: &[u32]) -> Option<u32>
     ensures { Least (IsUnnamed seats.now numbers.now) result }
 {
@@ -53,7 +53,7 @@ fn first_missing(seats: &[Seat], numbers: &[u32]) -> Option<u32>
     found
 }
 
-/// Whether no seat has the number at this place, or an earlier place has it.
+/// Returns whether no seat has the number at this place, or an earlier place has it.
 fn is_foreign(seats: &[Seat], numbers: &[u32], at: usize, number: u32) -> bool
     requires { at ≤ length numbers.now }
     ensures foreign { result ≡ true → ¬ (HasSeat seats.now (length seats.now) number) ⊎ HasNumber numbers.now at number }
@@ -65,7 +65,7 @@ fn is_foreign(seats: &[Seat], numbers: &[u32], at: usize, number: u32) -> bool
     has_number(numbers, at, number)
 }
 
-/// The least of these numbers that no seat has, or that is here twice.
+/// Returns the least of these numbers that no seat has, or that is here twice.
 fn first_foreign(seats: &[Seat], numbers: &[u32]) -> Option<u32>
     ensures { Least (IsStrange seats.now numbers.now) result }
 {

@@ -24,8 +24,8 @@ use l4_seated::SeatedKernel;
 use l4_servers::Servers;
 use l4_text::Ending;
 
-/// Makes the call of a `recv` line in a place. Answers the thread; None where the tokens can't be read, and then what stands in the place means
-/// nothing.
+/// Writes the call of a `recv` line into the buffer, and returns its thread. Returns None if the tokens cannot be read; the content of the
+/// buffer is then unspecified.
 #[inline(always)]
 fn read_receive(line: &[u8], call: &mut Call) -> Option<u32>
     ensures { option_map (λ n. Enter n call.new) result ≡ option_map request_of (receive_asked (tokens_of line.now)) }
@@ -35,7 +35,7 @@ fn read_receive(line: &[u8], call: &mut Call) -> Option<u32>
     Some(number)
 }
 
-/// Makes the call of a `send` line in a place, whose words are read into it, as `read_receive` does.
+/// Writes the call of a `send` line, with its words, into the buffer, as `read_receive` does.
 #[inline(always)]
 fn read_send(line: &[u8], call: &mut Call) -> Option<u32>
     ensures { option_map (λ n. Enter n call.new) result ≡ option_map request_of (send_asked (tokens_of line.now)) }
@@ -49,7 +49,7 @@ fn read_send(line: &[u8], call: &mut Call) -> Option<u32>
     None
 }
 
-/// Makes the call of an `ipc` line in a place, whose words are read into it, as `read_receive` does.
+/// Writes the call of an `ipc` line, with its words, into the buffer, as `read_receive` does.
 #[inline(always)]
 fn read_ipc(line: &[u8], call: &mut Call) -> Option<u32>
     ensures { option_map (λ n. Enter n call.new) result ≡ option_map request_of (ipc_asked (tokens_of line.now)) }
@@ -63,7 +63,7 @@ fn read_ipc(line: &[u8], call: &mut Call) -> Option<u32>
     None
 }
 
-/// Makes the call of a `fault` line in a place, as `read_receive` does.
+/// Writes the call of a `fault` line into the buffer, as `read_receive` does.
 #[inline(always)]
 fn read_fault(line: &[u8], call: &mut Call) -> Option<u32>
     ensures { option_map (λ n. Enter n call.new) result ≡ option_map request_of (fault_asked (tokens_of line.now)) }
@@ -73,7 +73,7 @@ fn read_fault(line: &[u8], call: &mut Call) -> Option<u32>
     Some(number)
 }
 
-/// Whether a line's first byte is `#`.
+/// Returns whether a line's first byte is `#`.
 fn is_comment(line: &[u8]) -> bool
     ensures { result ≡ is_comment line.now }
 {
@@ -81,7 +81,7 @@ fn is_comment(line: &[u8]) -> bool
 }
 
 impl Session {
-    /// Answers a line whose call was read: the thread enters it. Where no thread was read, the line is refused.
+    /// Answers a line whose call was read: enters the call of the thread. If no thread was read, refuses the line.
     #[inline(always)]
     fn answer_call<S: Sink>(&mut self, line: u64, number: Option<u32>, call: &Call, sink: &mut S)
         ensures { (asked : Option Command) → option_map (λ n. Enter n call.now) number ≡ option_map request_of asked
@@ -95,7 +95,7 @@ impl Session {
     }
 }
 
-/// A script: what its lines are carried out on, and the places of their calls, which they use in turn.
+/// A script: the session of its lines, and the buffers of their calls, which all lines reuse.
 #[derive(Drop)]
 pub(crate) struct Script {
     pub(crate) session: Session,
@@ -103,7 +103,7 @@ pub(crate) struct Script {
 }
 
 impl Script {
-    /// A script of which no line was read.
+    /// Creates a script of which no line was read.
     pub(crate) fn new(kernel: SeatedKernel, servers: Servers) -> Script
         ensures { (result.session.kernel ≡ kernel) × (result.session.servers ≡ servers) }
     {
@@ -113,7 +113,7 @@ impl Script {
         }
     }
 
-    /// The history.
+    /// Returns the history.
     pub(crate) fn into_history(self) -> History
         ensures { result.entries ≡ self.session.kernel.history }
     {
@@ -121,7 +121,7 @@ impl Script {
         session.into_history()
     }
 
-    /// Answers a line of another first token than `recv`, `send`, `ipc` and `fault`.
+    /// Answers a line whose first token is not `recv`, `send`, `ipc` or `fault`.
     #[inline(never)]
     fn answer_other<S: Sink>(&mut self, line: u64, name: &[u8], rest: &[u8], sink: &mut S)
         requires recv { bytes_eq name.now (codes "recv") ≡ false }
@@ -137,7 +137,7 @@ impl Script {
         }
     }
 
-    /// Answers a line of this first token, and the tokens of the rest.
+    /// Answers a line with this first token and this rest.
     #[inline(always)]
     fn answer_command<S: Sink>(&mut self, line: u64, name: &[u8], rest: &[u8], sink: &mut S)
         ensures { (told : List Report) × AnswersLine (session self.old.session.kernel self.old.session.servers) line (some_command (command_of (name.now ∷ tokens_of rest.now))) told (session self.new.session.kernel self.new.session.servers)
@@ -163,7 +163,7 @@ impl Script {
         self.answer_other(line, name, rest, sink);
     }
 
-    /// Answers a line that a newline ends, and that is none too long.
+    /// Answers a line that ends with a newline, and is not too long.
     #[inline(always)]
     fn answer_whole<S: Sink>(&mut self, line: u64, bytes: &[u8], sink: &mut S)
         ensures { (told : List Report) × AnswersLine (session self.old.session.kernel self.old.session.servers) line (asked_at Whole bytes.now) told (session self.new.session.kernel self.new.session.servers)

@@ -15,12 +15,12 @@ use l4_msg::MAX_WORDS;
 use l4_pager::Entry;
 use l4_text::{after_name, next_number, next_token};
 
-/// Why a line can't be read.
+/// The reason why a line cannot be read.
 #[derive(Clone, Copy, Debug, PartialEq, Eq)]
 pub(crate) enum ScriptFault {
     /// No such command (S1).
     UnknownCommand,
-    /// The wrong number of tokens, or a token that can't be read (S2).
+    /// The wrong number of tokens, or a token that cannot be read (S2).
     BadTokens,
     /// More than 4,096 bytes before the newline (S3).
     LineTooLong,
@@ -144,7 +144,8 @@ fn parent(line: &[u8]) -> Option<Request<'static>>
     }
 }
 
-/// The numbers to the end of the line, at most as many as there are message registers. They are put into these.
+/// Reads the numbers up to the end of the line into `words`, at most as many as there are message registers. Returns None if one cannot be
+/// read, or there are more.
 fn read_words(line: &[u8], words: &mut ArrayVec<u32, MAX_WORDS>) -> Option<()>
     ensures { option_map (λ _. words.new.items) result ≡ words_of (tokens_of line.now) }
 {
@@ -285,7 +286,7 @@ fn serve(line: &[u8]) -> Option<Request<'static>>
     }
 }
 
-/// No tokens
+/// No tokens.
 #[inline(never)]
 fn steps(line: &[u8]) -> Option<Request<'static>>
     ensures { result ≡ option_map request_of (steps_asked (tokens_of line.now)) }
@@ -296,7 +297,7 @@ fn steps(line: &[u8]) -> Option<Request<'static>>
     }
 }
 
-/// A command of pagers or of the history, by its name and the tokens after it.
+/// Reads a command of pagers or of the history, from its name and its tokens.
 fn pager_command(name: &[u8], rest: &[u8]) -> Result<Request<'static>, ScriptFault>
     requires fault { bytes_eq name.now (codes "fault") ≡ false }
     ensures { result ≡ requested (pager_command_of name.now (tokens_of rest.now)) }
@@ -313,8 +314,8 @@ fn pager_command(name: &[u8], rest: &[u8]) -> Result<Request<'static>, ScriptFau
     Err(ScriptFault::UnknownCommand)
 }
 
-/// What a line of another first token than `recv`, `send`, `ipc` and `fault` asks for, and the tokens of the rest. Where that is a call, it is
-/// made in a place.
+/// Reads a line whose first token is not `recv`, `send`, `ipc` or `fault`, from that token and the rest. If the line enters a call, writes
+/// the call into the buffer.
 #[tactic(auto, unfolding(crate::specs::Commands::command_of))]
 #[inline(never)]
 pub(crate) fn other_request<'a>(
@@ -355,7 +356,7 @@ pub(crate) fn other_request<'a>(
     pager_command(name, rest)
 }
 
-/// The name of a line's command, and what follows it. Of frequent commands it is seen at once.
+/// Returns the name of a line's command, and what follows it. Frequent commands are recognized at once.
 #[inline(always)]
 pub(crate) fn command_name(line: &[u8]) -> Option<(&[u8], &[u8])>
     ensures { MatchOption result (tokens_of line.now ≡ [])
@@ -376,7 +377,7 @@ pub(crate) fn command_name(line: &[u8]) -> Option<(&[u8], &[u8])>
     next_token(line)
 }
 
-/// Whether the name is `recv`. Its bytes are compared at once.
+/// Returns whether the name is `recv`. Compares its bytes at once.
 #[inline(always)]
 pub(crate) fn is_recv(name: &[u8]) -> bool
     ensures { result ≡ bytes_eq name.now (codes "recv") }
@@ -387,7 +388,7 @@ pub(crate) fn is_recv(name: &[u8]) -> bool
     }
 }
 
-/// Whether the name is `send`. Its bytes are compared at once.
+/// Returns whether the name is `send`. Compares its bytes at once.
 #[inline(always)]
 pub(crate) fn is_send(name: &[u8]) -> bool
     ensures { result ≡ bytes_eq name.now (codes "send") }
@@ -398,7 +399,7 @@ pub(crate) fn is_send(name: &[u8]) -> bool
     }
 }
 
-/// Whether the name is `ipc`. Its bytes are compared at once.
+/// Returns whether the name is `ipc`. Compares its bytes at once.
 #[inline(always)]
 pub(crate) fn is_ipc(name: &[u8]) -> bool
     ensures { result ≡ bytes_eq name.now (codes "ipc") }
@@ -409,7 +410,7 @@ pub(crate) fn is_ipc(name: &[u8]) -> bool
     }
 }
 
-/// Whether the name is `fault`. Its bytes are compared at once.
+/// Returns whether the name is `fault`. Compares its bytes at once.
 #[inline(always)]
 pub(crate) fn is_fault(name: &[u8]) -> bool
     ensures { result ≡ bytes_eq name.now (codes "fault") }

@@ -7,16 +7,16 @@ use l4_fpage::PageSize;
 use l4_msg::{MAX_WORDS, Region};
 use l4_plan::{Plan, PlanRefusal, plan};
 
-/// Which message of a plan is sent.
+/// The message of a plan that is sent.
 #[derive(Clone, Copy, Drop)]
 pub(crate) enum Which {
-    /// The one that it has.
+    /// The only message.
     Only,
-    /// The one with this number, from 0.
+    /// The message with this number, from 0.
     Message(u32),
 }
 
-/// The words of the only message of a plan, or how many it has.
+/// Returns the words of the only message of a plan, or the number of its messages.
 fn only_words(plan: &Plan) -> Result<ArrayVec<u32, MAX_WORDS>, PlanRefusal>
     ensures ok { IfOk result (λ words. PlanSends Which.Only plan.now words.items) }
     ensures err { IfErr result (PlanLacks Which.Only plan.now) }
@@ -27,7 +27,7 @@ fn only_words(plan: &Plan) -> Result<ArrayVec<u32, MAX_WORDS>, PlanRefusal>
     }
 }
 
-/// The words of the message with this number of a plan, or how many it has.
+/// Returns the words of the message with this number of a plan, or the number of its messages.
 fn part_words(plan: &Plan, number: u32) -> Result<ArrayVec<u32, MAX_WORDS>, PlanRefusal>
     ensures ok { IfOk result (λ words. PlanSends (Which.Message number) plan.now words.items) }
     ensures err { IfErr result (PlanLacks (Which.Message number) plan.now) }
@@ -38,7 +38,7 @@ fn part_words(plan: &Plan, number: u32) -> Result<ArrayVec<u32, MAX_WORDS>, Plan
     }
 }
 
-/// The words of this message of a plan, or how many messages it has.
+/// Returns the words of this message of a plan, or the number of its messages.
 fn message_words(plan: &Plan, which: Which) -> Result<ArrayVec<u32, MAX_WORDS>, PlanRefusal>
     ensures ok { IfOk result (λ words. PlanSends which plan.now words.items) }
     ensures err { IfErr result (PlanLacks which plan.now) }
@@ -49,7 +49,7 @@ fn message_words(plan: &Plan, which: Which) -> Result<ArrayVec<u32, MAX_WORDS>, 
     }
 }
 
-/// The words of this message of the shortest plan of a region of pages of this size, or why there is none.
+/// Returns the words of this message of the shortest plan of a region of pages of this size, or the reason why there is none.
 pub(crate) fn plan_words(
     region: &Region,
     size: PageSize,

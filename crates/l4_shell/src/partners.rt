@@ -29,7 +29,7 @@ const ANY: &[u8] = b"any";
 
 const NEW: &[u8] = b"new";
 
-/// A thread's number, below 2^18.
+/// Reads the number of a thread, below 2^18.
 #[tactic(auto, unfolding(crate::specs::Commands::thread_of))]
 fn thread_number(text: &[u8]) -> Option<u32>
     ensures { result ≡ thread_of text.now }
@@ -38,7 +38,7 @@ fn thread_number(text: &[u8]) -> Option<u32>
     if value < 0x4_0000 { Some(value) } else { None }
 }
 
-/// A thread's number, or the word `nil`.
+/// Reads the number of a thread, or the word `nil`.
 #[tactic(auto, unfolding(crate::specs::Commands::nil_or_thread_of))]
 fn nil_or_thread(token: &[u8]) -> Option<Partner>
     ensures { result ≡ nil_or_thread_of token.now }
@@ -49,7 +49,7 @@ fn nil_or_thread(token: &[u8]) -> Option<Partner>
     Some(Partner::Thread(thread_number(token)?))
 }
 
-/// A thread's number, or one of the words `nil` and `any`.
+/// Reads the number of a thread, or one of the words `nil` and `any`.
 #[tactic(auto, unfolding(crate::specs::Commands::partner_of))]
 fn any_or_thread(token: &[u8]) -> Option<Partner>
     ensures { result ≡ partner_of token.now }
@@ -60,7 +60,7 @@ fn any_or_thread(token: &[u8]) -> Option<Partner>
     nil_or_thread(token)
 }
 
-/// The word `new`, or a thread's number.
+/// Reads the word `new`, or the number of a thread.
 #[tactic(auto, unfolding(crate::specs::Commands::new_space_of))]
 fn new_space(token: &[u8]) -> Option<NewSpace>
     ensures { result ≡ new_space_of token.now }
@@ -71,7 +71,7 @@ fn new_space(token: &[u8]) -> Option<NewSpace>
     Some(NewSpace::Of(thread_number(token)?))
 }
 
-/// The thread's number that a line's first token spells, and what follows the token.
+/// Reads the thread number in a line's first token. Returns it with what follows the token.
 #[inline(always)]
 pub(crate) fn next_thread(line: &[u8]) -> Option<(u32, &[u8])>
     ensures { option_map (λ p. (p.0, tokens_of p.1.now)) result ≡ first_by thread_of (tokens_of line.now) }
@@ -86,7 +86,7 @@ pub(crate) fn next_thread(line: &[u8]) -> Option<(u32, &[u8])>
     Some((thread_number(token)?, rest))
 }
 
-/// The partner that a line's first token names, and what follows the token. `any` is seen at once where one space stands before it.
+/// Reads the partner in a line's first token. Returns it with what follows the token. `any` after one space is recognized at once.
 #[inline(always)]
 pub(crate) fn next_partner(line: &[u8]) -> Option<(Partner, &[u8])>
     ensures { option_map (λ p. (p.0, tokens_of p.1.now)) result ≡ first_by partner_of (tokens_of line.now) }
@@ -97,7 +97,7 @@ pub(crate) fn next_partner(line: &[u8]) -> Option<(Partner, &[u8])>
     }
 }
 
-/// The partner that a line's first token names, of whatever form, and what follows the token.
+/// Reads the partner in a line's first token, in any form. Returns it with what follows the token.
 #[inline(always)]
 fn partner_in_front(line: &[u8]) -> Option<(Partner, &[u8])>
     ensures { option_map (λ p. (p.0, tokens_of p.1.now)) result ≡ first_by partner_of (tokens_of line.now) }
@@ -112,7 +112,7 @@ fn partner_in_front(line: &[u8]) -> Option<(Partner, &[u8])>
     Some((any_or_thread(token)?, rest))
 }
 
-/// The number that a line's first token spells, and what follows the token.
+/// Reads the number in a line's first token. Returns it with what follows the token.
 #[inline(always)]
 pub(crate) fn next_word(line: &[u8]) -> Option<(u32, &[u8])>
     ensures { option_map (λ p. (p.0, tokens_of p.1.now)) result ≡ first_by number_of (tokens_of line.now) }
@@ -124,7 +124,7 @@ pub(crate) fn next_word(line: &[u8]) -> Option<(u32, &[u8])>
     Some((number(token)?, rest))
 }
 
-/// The space of a new thread that a line's first token names, and what follows the token.
+/// Reads the space of a new thread in a line's first token. Returns it with what follows the token.
 pub(crate) fn next_space(line: &[u8]) -> Option<(NewSpace, &[u8])>
     ensures { option_map (λ p. (p.0, tokens_of p.1.now)) result ≡ first_by new_space_of (tokens_of line.now) }
 {
@@ -132,7 +132,7 @@ pub(crate) fn next_space(line: &[u8]) -> Option<(NewSpace, &[u8])>
     Some((new_space(token)?, rest))
 }
 
-/// The pager that a line's first token names, and what follows the token.
+/// Reads the pager in a line's first token. Returns it with what follows the token.
 pub(crate) fn next_pager(line: &[u8]) -> Option<(Partner, &[u8])>
     ensures { option_map (λ p. (p.0, tokens_of p.1.now)) result ≡ first_by nil_or_thread_of (tokens_of line.now) }
 {

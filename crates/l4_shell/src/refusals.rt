@@ -9,7 +9,7 @@ use l4_plan::PlanRefusal;
 use l4_record::RecordRefusal;
 use l4_servers::RegionRefusal;
 
-/// The code of a line that can't be read.
+/// Returns the code of a line that cannot be read.
 pub(crate) fn script_code(fault: ScriptFault) -> Code
     ensures { result ≡ script_refusal fault }
 {
@@ -21,7 +21,7 @@ pub(crate) fn script_code(fault: ScriptFault) -> Code
     }
 }
 
-/// The code of a region without a plan, or of a plan without such a message.
+/// Returns the code of a region without a plan, or of a plan without such a message.
 pub(crate) fn plan_code(refusal: &PlanRefusal) -> Code
     ensures { result ≡ plan_refusal refusal.now }
 {
@@ -35,14 +35,14 @@ pub(crate) fn plan_code(refusal: &PlanRefusal) -> Code
     }
 }
 
-/// The code of want of memory.
+/// Returns the code for lack of memory.
 pub(crate) fn memory_code() -> Code
     ensures { result ≡ lacks_memory }
 {
     Code::plain(b"NoMemory")
 }
 
-/// The code of a call that is not entered, of the kernel's own refusals the innermost one.
+/// Returns the code of a call that is not entered. For the kernel's own refusals, this is the innermost one.
 pub(crate) fn call_code(refusal: RecordRefusal) -> Code
     ensures { result ≡ call_refusal refusal }
 {
@@ -53,7 +53,7 @@ pub(crate) fn call_code(refusal: RecordRefusal) -> Code
     }
 }
 
-/// The code of what a pager's table refuses.
+/// Returns the code of a refusal by a pager's table.
 fn pager_code(refusal: PagerRefusal) -> Code
     ensures { result ≡ pager_refusal refusal }
 {
@@ -65,7 +65,7 @@ fn pager_code(refusal: PagerRefusal) -> Code
     }
 }
 
-/// The code of a region that isn't added.
+/// Returns the code of a region that is not added.
 pub(crate) fn region_code(refusal: RegionRefusal) -> Code
     ensures { result ≡ region_refusal refusal }
 {

@@ -8,7 +8,7 @@ use l4_fpage::Rights;
 use l4_msg::Region;
 use l4_text::{last_three, next_token};
 
-/// Whether a byte is a right's letter. None where it is neither that nor a dash.
+/// Returns whether the byte is the letter of this right. Returns None if it is neither the letter nor a hyphen.
 fn right(letter: u8, byte: u8) -> Option<bool>
     ensures { result ≡ right_of letter byte }
 {
@@ -18,14 +18,14 @@ fn right(letter: u8, byte: u8) -> Option<bool>
     if byte == b'-' { Some(false) } else { None }
 }
 
-/// The rights among read, write and execute.
+/// Returns the rights with these of read, write and execute.
 fn rights_with(read: bool, write: bool, execute: bool) -> Rights
     ensures { result ≡ record { r = read; w = write; x = execute } }
 {
     Rights::of_bits(4 * u8::from(read) + 2 * u8::from(write) + u8::from(execute))
 }
 
-/// r, w and x in turn, each of them or a dash in its place.
+/// Reads r, w and x in this order, each of them or a hyphen.
 #[tactic(auto, unfolding(crate::specs::Commands::rights_of))]
 fn rights(token: &[u8]) -> Option<Rights>
     ensures { result ≡ rights_of token.now }
@@ -39,7 +39,7 @@ fn rights(token: &[u8]) -> Option<Rights>
     Some(rights_with(read, write, execute))
 }
 
-/// The rights that a line's one token names.
+/// Reads the rights in a line's only token.
 #[inline(always)]
 pub(crate) fn last_rights(line: &[u8]) -> Option<Rights>
     ensures { result ≡ last_rights_of (tokens_of line.now) }

@@ -15,11 +15,11 @@ use l4_pager::{Entry, wait};
 use l4_threads::ThreadId;
 use std::marker::Model;
 
-/// The thread that creates and deletes threads, and names their pagers.
+/// The thread that creates and deletes threads, and sets their pagers.
 pub(crate) const ROOT: u32 = 2;
 
-/// The places of lines' calls: one for faults, and one for all others, which are Ipcs as a rule. So what a line finds in its place is mostly
-/// of its kind, and is written over part by part.
+/// The buffers of lines' calls: one for faults, and one for all others, which are mostly Ipcs. So the call in a buffer mostly has the kind
+/// of the line's call, and is overwritten part by part.
 #[derive(Drop)]
 pub(crate) struct CallPlaces {
     pub(crate) ipc: Call,
@@ -37,7 +37,7 @@ impl CallPlaces {
     }
 }
 
-/// A call that stands in a place that lines use in turn.
+/// A call in a buffer that lines reuse.
 #[derive(Drop)]
 pub(crate) struct LentCall<'a> {
     pub(crate) call: &'a Call,
@@ -51,37 +51,37 @@ impl<'a> Model for LentCall<'a> {
     ghost view = { λ c. c.call.now };
 }
 
-/// What a line asks for. Threads go by their numbers, below 2^18.
+/// What a line requests. Threads are named by their numbers, below 2^18.
 #[derive(Drop)]
 pub(crate) enum Request<'a> {
-    /// The thread enters the call.
+    /// Enters the call of the thread.
     Enter(u32, LentCall<'a>),
-    /// Root enters the call that creates the thread of this number.
+    /// Enters root's call that creates the thread with this number.
     CreateThread(u32, LentCall<'a>),
     /// Root deletes the thread.
     EndThread(u32),
     /// The thread sends a message of the region's plan.
     SendPlan(u32, Partner, Which, Region),
-    /// The present pages of the thread's space are listed, among so many from a first on.
+    /// Lists the present pages of the thread's space, in a range of this many pages from the first on.
     ListPages(u32, u32, u32),
-    /// The parent of a page of the thread's space is told.
+    /// Prints the parent of a page of the thread's space.
     TellParent(u32, u32),
-    /// The thread's table gets the region.
+    /// Adds the region to the thread's table.
     AddRegion(u32, Entry),
-    /// The thread waits for anybody's message, and is served from then on.
+    /// The thread receives from any thread, and is served from then on.
     ServeThread(u32),
-    /// How many entries the history has is told.
+    /// Prints the number of entries of the history.
     TellSteps,
 }
 
-/// The id of a script's thread: its number, and version 1.
+/// Returns the id of a script's thread: its number, and version 1.
 fn id_of(number: u32) -> ThreadId
     ensures { result ≡ script_id number }
 {
     ThreadId((number << 14) + 1)
 }
 
-/// The id of a partner: nilthread, anythread, or a thread's.
+/// Returns the id of a partner: nilthread, anythread, or that of a thread.
 fn id_of_partner(partner: Partner) -> ThreadId
     ensures { result ≡ partner_id partner }
 {
@@ -92,7 +92,7 @@ fn id_of_partner(partner: Partner) -> ThreadId
     }
 }
 
-/// The id that names the space of a new thread.
+/// Returns the id that names the space of a new thread.
 fn id_of_space(number: u32, space: NewSpace) -> ThreadId
     ensures { result ≡ space_id number space }
 {
@@ -137,7 +137,7 @@ pub(crate) fn delete_call(number: u32) -> Call
     Call::Control(Control::Delete(id_of(number)))
 }
 
-/// Makes an Ipc of these parts and of the words that it has.
+/// Sets these parts of an Ipc, and keeps its words.
 pub(crate) fn set_parts(ipc: &mut IpcCall, to: Partner, from: Partner, timeouts: u32, window: u32)
     ensures { Exchanges ipc.new ≡ ipc_call to «from» timeouts window ipc.old.words.items }
 {
@@ -147,7 +147,7 @@ pub(crate) fn set_parts(ipc: &mut IpcCall, to: Partner, from: Partner, timeouts:
     ipc.acceptor = window;
 }
 
-/// Puts an Ipc into a place where there is none.
+/// Puts an Ipc into the buffer, unless it has one.
 #[inline(always)]
 pub(crate) fn make_ipc(call: &mut Call)
     ensures { is_ipc call.new ≡ true }
@@ -158,7 +158,7 @@ pub(crate) fn make_ipc(call: &mut Call)
     *call = wait();
 }
 
-/// Puts a receive phase alone, without timeout, into a place.
+/// Puts a receive phase alone, with no timeout, into a buffer.
 pub(crate) fn make_receive(call: &mut Call, from: Partner, window: u32)
     ensures { call.new ≡ receive_call «from» window }
 {
@@ -169,7 +169,7 @@ pub(crate) fn make_receive(call: &mut Call, from: Partner, window: u32)
     }
 }
 
-/// Puts a page fault into a place.
+/// Puts a page fault into a buffer.
 pub(crate) fn make_fault(call: &mut Call, fault: FaultCall)
     ensures { call.new ≡ Faults «fault» }
 {
@@ -180,7 +180,7 @@ pub(crate) fn make_fault(call: &mut Call, fault: FaultCall)
     }
 }
 
-/// A send phase alone, without timeout.
+/// Returns a send phase alone, with no timeout.
 pub(crate) fn send_call(to: Partner, words: ArrayVec<u32, MAX_WORDS>) -> Call
     ensures { result ≡ send_call to words.items }
 {
@@ -193,7 +193,7 @@ pub(crate) fn send_call(to: Partner, words: ArrayVec<u32, MAX_WORDS>) -> Call
     })
 }
 
-/// Makes an Unmap of these parts.
+/// Puts an Unmap with these parts into a buffer.
 pub(crate) fn put_unmap(
     call: &mut Call,
     control: u32,

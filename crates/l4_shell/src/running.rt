@@ -18,7 +18,7 @@ use std::io::Read;
 /// sigma0's thread.
 const SIGMA0: u32 = 1;
 
-/// A kernel as it boots, in which sigma0 and root have their seats.
+/// Boots a kernel in which sigma0 and root have their seats.
 pub(crate) fn booted(alloc: Global, frames: u32, size: PageSize) -> Option<SeatedKernel>
     ensures { IfSome result (HasFirstSeats frames size) }
 {
@@ -35,7 +35,7 @@ pub(crate) fn booted(alloc: Global, frames: u32, size: PageSize) -> Option<Seate
 }
 
 impl Script {
-    /// Answers line after line, to the end of the script. Answers their number.
+    /// Answers all lines, up to the end of the script or until the sink is closed. Returns their number.
     #[inline(never)]
     pub(crate) fn answer_all<R: Read, S: Sink>(
         &mut self,

@@ -15,10 +15,10 @@ use l4_answers::Sink;
 use l4_ipc::{Answer, Kernel, NextStep};
 use l4_record::Appended;
 
-/// The acts of served threads on one line, at most.
+/// The maximum number of acts of served threads per line.
 const MOST_ACTS: u32 = 256;
 
-/// Tells how the calls ended that ended in a step.
+/// Reports the ends of the calls that ended in a step.
 fn tell_ended<S: Sink>(kernel: &Kernel, answer: &Answer, sink: &mut S)
     ensures { AddsAll S.has_told sink.old sink.new
         (ended_reports kernel.now answer.now.ended.items) }
@@ -28,14 +28,14 @@ fn tell_ended<S: Sink>(kernel: &Kernel, answer: &Answer, sink: &mut S)
     }
 }
 
-/// Whether the thread's call ended in a step.
+/// Returns whether the thread's call ended in a step.
 fn has_ended(answer: &Answer, thread: u32) -> bool
     ensures { result ≡ is_among thread answer.now.ended.items }
 {
     answer.ended.as_slice().contains(&thread)
 }
 
-/// Tells that a thread's call has not ended.
+/// Reports that a thread's call has not ended.
 #[inline(always)]
 fn tell_waiting<S: Sink>(thread: u32, ended: bool, sink: &mut S)
     ensures { AddsAll S.has_told sink.old sink.new
@@ -46,7 +46,7 @@ fn tell_waiting<S: Sink>(thread: u32, ended: bool, sink: &mut S)
     }
 }
 
-/// Tells how a thread's call ended, if it has.
+/// Reports how a thread's call ended, if it has.
 fn tell_own<S: Sink>(kernel: &Kernel, thread: u32, ended: bool, sink: &mut S)
     ensures { AddsAll S.has_told sink.old sink.new
         (ended_reports kernel.now (ended_if ended thread)) }
@@ -56,7 +56,7 @@ fn tell_own<S: Sink>(kernel: &Kernel, thread: u32, ended: bool, sink: &mut S)
     }
 }
 
-/// Tells a step that came next, and how the calls ended that ended in it.
+/// Reports a step that was executed next, and the ends of the calls that ended in it.
 fn tell_next<S: Sink>(kernel: &Kernel, next: NextStep, sink: &mut S)
     ensures { AddsAll S.has_told sink.old sink.new
         (next_reports kernel.now next) }
@@ -74,7 +74,7 @@ fn tell_next<S: Sink>(kernel: &Kernel, next: NextStep, sink: &mut S)
     }
 }
 
-/// Whether the thread's call ended in a step that came next.
+/// Returns whether the thread's call ended in a step that was executed next.
 fn has_ended_next(next: NextStep, thread: u32) -> bool
     ensures { result ≡ is_among thread (answer_of next).ended.items }
 {
@@ -86,7 +86,7 @@ fn has_ended_next(next: NextStep, thread: u32) -> bool
     }
 }
 
-/// Tells steps that came next.
+/// Reports steps that were executed next.
 fn tell_steps<S: Sink>(kernel: &Kernel, steps: &[NextStep], sink: &mut S)
     ensures { AddsAll S.has_told sink.old sink.new
         (flat_map (next_reports kernel.now) steps.now) }
@@ -96,7 +96,7 @@ fn tell_steps<S: Sink>(kernel: &Kernel, steps: &[NextStep], sink: &mut S)
     }
 }
 
-/// Whether the thread's call ended in one of these steps that came next.
+/// Returns whether the thread's call ended in one of these steps.
 fn has_ended_later(steps: &[NextStep], thread: u32) -> bool
     ensures { result ≡ is_among thread (ended_later steps.now) }
 {
@@ -107,7 +107,7 @@ fn has_ended_later(steps: &[NextStep], thread: u32) -> bool
     ended
 }
 
-/// Tells what a call appended to the history. Answers whether the thread's call ended in it.
+/// Reports what a call appended to the history. Returns whether the thread's call ended in it.
 pub(crate) fn tell_appended<S: Sink>(
     kernel: &Kernel,
     appended: &Appended,
@@ -123,8 +123,8 @@ pub(crate) fn tell_appended<S: Sink>(
 }
 
 impl Session {
-    /// Served threads act, one after another, the first of them being known, until none runs, one is refused or there were as many acts as a
-    /// line may have; and all is told. Answers whether the thread's call ended in one of the acts.
+    /// Lets served threads act, one after another, until none runs, one is refused, or the line has had its maximum number of acts. The
+    /// first one is given. Reports all of it, and returns whether the thread's call ended in one of the acts.
     #[inline(never)]
     fn serve<S: Sink>(&mut self, first: u32, thread: u32, sink: &mut S) -> bool
         requires { IsFirstReady self.old.kernel.machine.threads self.old.servers first }
@@ -158,7 +158,7 @@ impl Session {
         ended
     }
 
-    /// Does what follows a call and its steps: the acts of served threads; and tells them, and at last whether the caller waits.
+    /// Lets the served threads act after a call and its steps, and reports their acts. Finally reports whether the caller waits.
     #[inline(always)]
     pub(crate) fn follow<S: Sink>(&mut self, thread: u32, ended: bool, sink: &mut S)
         ensures { (had : List ℕ) → ended ≡ is_among thread had

@@ -19,8 +19,8 @@ use l4_record::{Appended, History};
 use l4_seated::SeatedKernel;
 use l4_servers::Servers;
 
-/// What a script's lines are carried out on: the kernel, who is served, the place of the calls that served threads enter, that of what a call
-/// appended to the history, and what was told. Lines use the places in turn.
+/// The session of a script: the kernel, the served threads, the buffer for the calls of served threads, and the buffer for what a call
+/// appended to the history. Lines reuse both buffers.
 #[derive(Drop)]
 pub(crate) struct Session {
     pub(crate) kernel: SeatedKernel,
@@ -29,7 +29,7 @@ pub(crate) struct Session {
     pub(crate) appended: Appended,
 }
 
-/// Tells what a page shows, if it is present.
+/// Reports a page, if it is present.
 fn tell_page<S: Sink>(kernel: &Kernel, space: u64, page: u32, sink: &mut S)
     ensures { AddsAll S.has_told sink.old sink.new
         (place_reports kernel.now space page) }
@@ -39,7 +39,7 @@ fn tell_page<S: Sink>(kernel: &Kernel, space: u64, page: u32, sink: &mut S)
     }
 }
 
-/// Lists the present pages of a space from the first on, below an end. Answers their number.
+/// Lists the present pages of a space from the first on, below an end. Returns their number.
 #[inline(never)]
 fn list_pages<S: Sink>(kernel: &Kernel, space: u64, first: u32, end: u32, sink: &mut S) -> u32
     ensures { ListsBelow kernel.now space first end result
@@ -77,7 +77,7 @@ fn show<S: Sink>(kernel: &Kernel, line: u64, number: u32, pages: (u32, u32), sin
     sink.shown(shown);
 }
 
-/// Tells the parent of a page of a thread's space.
+/// Reports the parent of a page of a thread's space.
 #[inline(never)]
 fn tell_parent<S: Sink>(kernel: &Kernel, line: u64, number: u32, page: u32, sink: &mut S)
     ensures { AddsAll S.has_told sink.old sink.new
@@ -90,7 +90,7 @@ fn tell_parent<S: Sink>(kernel: &Kernel, line: u64, number: u32, page: u32, sink
     sink.parent(kernel.mapping(space, page));
 }
 
-/// Tells how many entries the history has.
+/// Reports the number of entries of the history.
 #[inline(never)]
 fn tell_count<S: Sink>(kernel: &mut SeatedKernel, sink: &mut S)
     ensures { (s : AllServers) → (told : List Report) × TellsCount (session kernel.old s) told (session kernel.new s)
@@ -101,7 +101,7 @@ fn tell_count<S: Sink>(kernel: &mut SeatedKernel, sink: &mut S)
 }
 
 impl Session {
-    /// A session in which nothing was told.
+    /// Creates a session in which nothing was reported.
     pub(crate) fn new(kernel: SeatedKernel, servers: Servers) -> Session
         ensures { (result.kernel ≡ kernel) × (result.servers ≡ servers) }
     {
@@ -113,7 +113,7 @@ impl Session {
         }
     }
 
-    /// The history.
+    /// Returns the history.
     pub(crate) fn into_history(self) -> History
         ensures { result.entries ≡ self.kernel.history }
     {
@@ -126,7 +126,8 @@ impl Session {
         kernel.into_history()
     }
 
-    /// Enters a call, and tells its start and the steps that follow it. Answers whether it has ended. Where it is refused, tells why; None then.
+    /// Enters a call, and reports its start and the steps that follow it. Returns whether it has ended. If it is refused, reports the
+    /// refusal, and returns None.
     #[inline(always)]
     fn enter_and_tell<S: Sink>(
         &mut self,
@@ -155,7 +156,7 @@ impl Session {
         }
     }
 
-    /// Enters a call and tells it, and does what follows.
+    /// Enters a call and reports it, and then lets the served threads act.
     pub(crate) fn enter_and_follow<S: Sink>(
         &mut self,
         line: u64,
@@ -198,7 +199,8 @@ impl Session {
         self.follow(ROOT, ended, sink);
     }
 
-    /// Refuses to serve a thread for which there is no memory: by whatever its call is refused for, and last for want of memory.
+    /// Refuses to serve a thread for which there is no memory: with the refusal of its call, if there is one, and otherwise with lack of
+    /// memory.
     #[inline(never)]
     fn refuse_to_serve<S: Sink>(&mut self, line: u64, thread: u32, sink: &mut S)
         ensures told { (s : AllServers) → is_served s thread ≡ false → (told : List Report)
@@ -213,7 +215,7 @@ impl Session {
         let _ = self.enter_and_tell(line, thread, &call, sink);
     }
 
-    /// A thread waits for anybody's message, and is served from then on.
+    /// Makes a thread receive from any thread, and serves it from then on.
     #[inline(never)]
     fn serve_thread<S: Sink>(&mut self, line: u64, thread: u32, sink: &mut S)
         ensures { (told : List Report) × ServesThread (session self.old.kernel self.old.servers) line thread told (session self.new.kernel self.new.servers)
@@ -248,7 +250,7 @@ impl Session {
         }
     }
 
-    /// Sends a message of a region's plan. Where there is none, tells why and does nothing.
+    /// Sends a message of a region's plan. If there is none, reports the refusal, and does nothing else.
     #[inline(never)]
     fn delegate<S: Sink>(
         &mut self,
@@ -272,7 +274,7 @@ impl Session {
         }
     }
 
-    /// Carries out what a line asks for.
+    /// Carries out the request of a line.
     pub(crate) fn carry_out<S: Sink>(&mut self, line: u64, request: Request<'_>, sink: &mut S)
         ensures { (told : List Report) × CarriesOut (session self.old.kernel self.old.servers) line request.entry told (session self.new.kernel self.new.servers)
             × AddsAll S.has_told sink.old sink.new told }

@@ -34,7 +34,7 @@ impl Model for Sigma0 {
 
 ghost use Rattle.l4_sigma0.specs.Owners.{NamesPages};
 
-/// The frames that a request asks for. None where it asks for attributes, and where its fpage names no whole page.
+/// Returns the frames that a request names. Returns None if it has attributes, or its fpage names no whole page.
 fn frames_of(request: &FrameRequest, size: PageSize) -> Option<Block>
     ensures { MatchOption result ((first log : ℕ) → request.now.attributes ≡ 0 → ¬ NamesPages size request.now.fpage first log)
         (λ block. (request.now.attributes ≡ 0) × NamesPages size request.now.fpage block.first block.log) }
@@ -47,7 +47,7 @@ fn frames_of(request: &FrameRequest, size: PageSize) -> Option<Block>
 
 ghost use Rattle.l4_sigma0.specs.Inside.Tables.{AreFree, IsFilled};
 
-/// Whether each of these frames is free or the space's.
+/// Returns whether each of these frames is free or the space's.
 fn are_free(owners: &[Option<u64>], space: u64, first: usize, end: usize) -> bool
     requires { end ≤ length owners.now }
     ensures { IsTrue result ↔ AreFree owners.now space first end }
@@ -103,8 +103,8 @@ impl Sigma0 {
         self.size
     }
 
-    /// Gives these frames to a space, where there are all of these, and each is free or the space's, and else none. The result is the
-    /// send base and the fpage of the one map item of the answer.
+    /// Gives these frames to a space, if all of them exist, and each is free or the space's. Otherwise gives none. Returns the send base
+    /// and the fpage of the one map item of the answer.
     fn give(&mut self, from_space: u64, block: Block) -> (u32, Fpage)
         ensures answers { (m : AMessage) → Wants self.old.size m block.first block.log → ((first log : ℕ) → Wants self.old.size m first log → (block.first ≡ first) × (block.log ≡ log))
             → Answers self.old from_space m (one_item (Map result.0 result.1)) self.new }

@@ -64,7 +64,7 @@ impl Model for Spaces {
     ghost invariant = { IsKept };
 }
 
-/// Where the space stands among all. It is rare that it doesn't stand at its number.
+/// Returns the index of the space, by a search. It is rarely needed, because a space is mostly at the index of its number.
 #[cold]
 fn index_among(spaces: &Vec<(u64, Vec<Row>)>, space: u64) -> Option<usize>
     requires { IsOnce spaces.now.items }
@@ -79,7 +79,7 @@ fn index_among(spaces: &Vec<(u64, Vec<Row>)>, space: u64) -> Option<usize>
     None
 }
 
-/// Where the space stands. Where no space has ended, it stands at its number.
+/// Returns the index of the space. As long as no space has ended, it is the space's number.
 #[inline]
 fn index_of(spaces: &Vec<(u64, Vec<Row>)>, space: u64) -> Option<usize>
     requires { IsOnce spaces.now.items }

@@ -5,7 +5,7 @@ ghost use Rattle.l4_spaces.specs.Inside.Leasts.{least_with};
 
 use crate::Spaces;
 
-/// The least so far of the numbers that are not below `from`, with this number.
+/// Returns the least of the numbers so far that are not below `from`, and of this one.
 fn least_with(from: u64, least: Option<u64>, number: u64) -> Option<u64>
     ensures { result ≡ least_with from least number }
 {

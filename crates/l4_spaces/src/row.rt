@@ -6,16 +6,16 @@ ghost use Rattle.l4_spaces.specs.Tables.{row_block, NoKeys};
 use std::alloc::{AllocError, Global};
 use std::marker::Model;
 
-/// Stands for no key. At half of all numbers, so that a test against it is one short instruction, of eight bytes too.
+/// Represents no key. It is half of all numbers, so that a test against it is one short instruction, even of eight bytes.
 const NO_KEY: u32 = 0x8000_0000;
 
-/// Stands for a key that four bytes can't hold.
+/// Represents a key that does not fit into four bytes.
 const LONG_KEY: u32 = NO_KEY + 1;
 
 /// The number of consecutive entries that form a block.
 pub const BLOCK: usize = 64;
 
-/// How many blocks a table has.
+/// The number of blocks of a table.
 const BLOCKS: usize = 32;
 
 /// The keys of a table's pages. An absent table has none.
@@ -43,7 +43,7 @@ impl Model for Row {
     ghost invariant = { λ r. (length r.short.items ≤ vec_capacity r.long) × IsNoted (keys r.short.items r.long.items) r.used };
 }
 
-/// What stands at this place, 0 beyond the end.
+/// Returns the long key of this entry, or 0 beyond the end.
 #[cold]
 fn long_key(long: &Vec<usize>, low: usize) -> usize
     ensures { result ≡ slice_index_or long.now.items low 0 }
@@ -54,7 +54,7 @@ fn long_key(long: &Vec<usize>, low: usize) -> usize
     0
 }
 
-/// Writes a key that four bytes can't hold.
+/// Writes a key that does not fit into four bytes.
 #[cold]
 #[inline(never)]
 fn put_long(long: &mut Vec<usize>, low: usize, key: usize)
@@ -70,7 +70,7 @@ fn put_long(long: &mut Vec<usize>, low: usize, key: usize)
 }
 
 impl Row {
-    /// No places.
+    /// Returns a row without entries.
     pub(crate) fn absent(alloc: Global) -> Row
         ensures { result ≡ [] }
     {
@@ -81,7 +81,7 @@ impl Row {
         }
     }
 
-    /// A place for each of this many pages, none with a key.
+    /// Returns a row with an entry for each of this many pages, none with a key.
     pub(crate) fn whole(alloc: Global, pages: usize) -> Result<Row, AllocError>
         ensures { IfOk result (λ row. row ≡ replicate pages None) }
     {
@@ -94,7 +94,7 @@ impl Row {
         })
     }
 
-    /// Where the memory comes from.
+    /// Returns the allocator of the row.
     pub(crate) fn allocator(&self) -> Global {
         *self.short.allocator()
     }
@@ -130,7 +130,7 @@ impl Row {
         self.used[block % BLOCKS]
     }
 
-    /// The key of the place, None beyond the end.
+    /// Returns the key of the entry, or None beyond the end.
     #[inline]
     pub(crate) fn key(&self, low: usize) -> Option<usize>
         ensures { result ≡ slice_index_or self.now low None }
@@ -156,7 +156,7 @@ impl Row {
         put_long(&mut self.long, low, key);
     }
 
-    /// Lets the place have no key. Beyond the end there is none.
+    /// Removes the key of the entry. Does nothing beyond the end.
     #[inline]
     pub(crate) fn clear(&mut self, low: usize)
         ensures { self.new ≡ slice_set self.old low None }

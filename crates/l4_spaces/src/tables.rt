@@ -8,16 +8,16 @@ ghost use Rattle.l4_spaces.specs.Inside.Two.{entry, is_made, IsReady, AreWhole, 
 use crate::row::{BLOCK, Row};
 use std::alloc::{AllocError, Global};
 
-/// How many pages a table has.
+/// The number of pages of a table.
 pub(crate) const TABLE_PAGES: u32 = 2048;
 
-/// How many tables a space has.
+/// The number of tables of a space.
 pub(crate) const SPACE_TABLES: usize = 2048;
 
-/// How many pages a space has.
+/// The number of pages of a space.
 pub(crate) const SPACE_PAGES: u32 = SPACE_TABLES as u32 * TABLE_PAGES;
 
-/// The key of the page.
+/// Returns the key of the page.
 pub(crate) fn key_in(tables: &Vec<Row>, page: u32) -> Option<usize>
     ensures { result ≡ entry tables.now.items page }
 {
@@ -41,7 +41,7 @@ pub(crate) fn put(tables: &mut Vec<Row>, page: u32, key: usize)
     tables[high].put(low, key);
 }
 
-/// Lets the page have no key.
+/// Removes the key of the page.
 pub(crate) fn clear(tables: &mut Vec<Row>, page: u32)
     ensures here { entry tables.new.items page ≡ None }
     ensures others { (other : ℕ) → other ≢ page → entry tables.new.items other ≡ entry tables.old.items other }
@@ -101,7 +101,7 @@ fn grow_root(tables: &mut Vec<Row>, alloc: Global, high: usize) -> Result<(), Al
     Ok(())
 }
 
-/// Whether the page's table is there.
+/// Returns whether the page's table exists.
 fn is_ready(tables: &Vec<Row>, page: u32) -> bool
     ensures { result ≡ is_made tables.now.items (page / table_pages) }
 {
@@ -109,7 +109,7 @@ fn is_ready(tables: &Vec<Row>, page: u32) -> bool
     high < tables.len() && tables[high].len() > 0
 }
 
-/// The first of these pages whose table isn't there.
+/// Returns the index of the first of these pages whose table does not exist.
 fn first_absent(tables: &Vec<Row>, pages: &[u32]) -> Option<usize>
     ensures ready { MatchOption result (AreMade tables.now.items pages.now (length pages.now)) (λ at. AreMade tables.now.items pages.now at) }
     ensures absent { IfSome result (λ at. (at < length pages.now) × (is_made tables.now.items (slice_index_or pages.now at 0 / table_pages) ≡ false)) }
@@ -150,7 +150,7 @@ fn make_more(tables: &mut Vec<Row>, alloc: Global, pages: &[u32]) -> Result<(), 
     Ok(())
 }
 
-/// Makes the tables of all these pages. Where all of them are there, that is seen at once.
+/// Creates the tables of all these pages. If all of them exist, one test finds this.
 #[inline]
 pub(crate) fn make_all(
     tables: &mut Vec<Row>,
@@ -174,9 +174,9 @@ pub(crate) fn make_all(
     make_more(tables, alloc, pages)
 }
 
-/// Gives a page without a key this key, with a table if it has none. Whether the page had no key is given.
+/// Gives a page without a key this key, and creates its table if it has none. Returns whether the page had no key.
 ///
-/// Memory can be refused only where the table wasn't there, and then a root that grew stays.
+/// An allocation can fail only if the table did not exist; a root that became longer then stays so.
 #[inline]
 pub(crate) fn claim(
     tables: &mut Vec<Row>,
@@ -240,7 +240,7 @@ fn claim_more(
     Ok(true)
 }
 
-/// The first place from this one on and below the end that has a key, with the key.
+/// Returns the first entry from this one on and below the end that has a key, with the key.
 fn next_among(row: &Row, from: usize, end: usize) -> Option<(usize, usize)>
     requires within { end ≤ length row.now }
     ensures none { MatchOption result (NoKeys row.now from end) (λ found. NoKeys row.now from found.0) }
@@ -254,7 +254,7 @@ fn next_among(row: &Row, from: usize, end: usize) -> Option<(usize, usize)>
     None
 }
 
-/// The same, of the places of one block.
+/// Does what `next_among` does, for the entries of one block.
 #[inline]
 fn next_in_block(row: &Row, from: usize, end: usize, block: usize) -> Option<(usize, usize)>
     requires within { end ≤ length row.now }
@@ -270,7 +270,7 @@ fn next_in_block(row: &Row, from: usize, end: usize, block: usize) -> Option<(us
     next_among(row, from.max(start), start + places)
 }
 
-/// The same, of all places. A block that is not used is stepped over.
+/// Does what `next_among` does, for all entries. A block that is not used is skipped.
 fn next_in_row(row: &Row, from: usize, end: usize) -> Option<(usize, usize)>
     requires within { end ≤ length row.now }
     ensures none { MatchOption result (NoKeys row.now from end) (λ found. NoKeys row.now from found.0) }
@@ -284,7 +284,7 @@ fn next_in_row(row: &Row, from: usize, end: usize) -> Option<(usize, usize)>
     None
 }
 
-/// Where a walk from `page` on begins in the table with this number.
+/// Returns the entry at which a walk from `page` on begins, in the table with this number.
 fn first_low(page: u32, high: usize) -> usize
     ensures here { high ≡ page / table_pages → result ≡ page % table_pages }
     ensures later { high ≢ page / table_pages → result ≡ 0 }
@@ -295,7 +295,7 @@ fn first_low(page: u32, high: usize) -> usize
     0
 }
 
-/// Where a walk to `end` leaves a table of this many places, of which the first is that of the page `start`.
+/// Returns the entry at which a walk to `end` leaves a table of this many entries, whose first page is `start`.
 fn last_low(places: usize, start: u32, end: u32) -> usize
     requires before { start < end }
     ensures within { result ≤ places }
@@ -309,7 +309,7 @@ fn last_low(places: usize, start: u32, end: u32) -> usize
     places
 }
 
-/// The number of the first table that is there, of those with pages from `page` on and below `end`.
+/// Returns the number of the first existing table with pages from `page` on and below `end`.
 pub(crate) fn next_table(tables: &Vec<Row>, page: u32, end: u32) -> Option<usize>
     requires whole { AreWhole tables.now.items }
     requires full { length tables.now.items ≤ space_tables }
@@ -327,7 +327,7 @@ pub(crate) fn next_table(tables: &Vec<Row>, page: u32, end: u32) -> Option<usize
     None
 }
 
-/// The first page with a key from `page` on and below `end`, with the key.
+/// Returns the first page with a key from `page` on and below `end`, with the key.
 #[inline]
 pub(crate) fn next_page(tables: &Vec<Row>, page: u32, end: u32) -> Option<(u32, usize)>
     requires whole { AreWhole tables.now.items }
@@ -346,8 +346,8 @@ pub(crate) fn next_page(tables: &Vec<Row>, page: u32, end: u32) -> Option<(u32, 
     Some((next, key))
 }
 
-/// The first page with a key from `page` on and below `end`, with the key. Tables that are absent are stepped over, and no place
-/// from `end` on is looked at.
+/// Returns the first page with a key from `page` on and below `end`, with the key. Skips absent tables, and does not look at entries from
+/// `end` on.
 #[inline(never)]
 fn seek(tables: &Vec<Row>, page: u32, end: u32) -> Option<(u32, usize)>
     requires whole { AreWhole tables.now.items }

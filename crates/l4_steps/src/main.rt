@@ -13,7 +13,7 @@ use l4_step_lines::{Fault, run};
 use std::io;
 use std::process::ExitCode;
 
-/// Answers the list of steps on standard input.
+/// Answers the step list on standard input.
 fn answer_list<R: AllocGlobal + Input + Print + Eprint>(rt: &R, frames: u32, size: PageSize) -> u8 {
     let mut reader = WatchedReader::new(rt.reader());
     let mut writer = WatchedWriter::new(io::writer(rt));
@@ -27,7 +27,7 @@ fn answer_list<R: AllocGlobal + Input + Print + Eprint>(rt: &R, frames: u32, siz
     }
 }
 
-/// Does what these words ask for.
+/// Executes the command that these words request.
 fn obey<R: AllocGlobal + Input + Print + Eprint>(rt: &R, words: &[String]) -> u8 {
     match step_options(rt.alloc(), words) {
         Ok(StepOptions::Run { frames, size }) => answer_list(rt, frames, size),

@@ -8,11 +8,11 @@ ghost use Rattle.l4_text.specs.Inside.Reading.{HasDigits, HasToken, IsPacked};
 use crate::numbers::{digit, hexadecimal, number};
 use crate::tokens::{ends_token, next_token, token_len};
 
-/// What stands for a byte beside a number that is packed with a count of bytes.
+/// The factor of the count of bytes in a number that is packed with it.
 const PLACE: u64 = 0x1_0000_0000;
 
-/// The decimal digits up to a space or the end: their number and how many they are. None where other bytes stand there,
-/// and where the number may be too large.
+/// Returns the number in the decimal digits up to a space or the end, and how many they are. Returns None if there are other bytes, or the
+/// number may be too large.
 fn decimal_digits(text: &[u8]) -> Option<(u32, usize)>
     ensures { IfSome result (λ p. HasDigits 10 digit_of text.now p.1 p.0) }
 {
@@ -34,7 +34,7 @@ fn decimal_digits(text: &[u8]) -> Option<(u32, usize)>
     Some((value, count))
 }
 
-/// The number of a decimal token that a text begins with, and how many bytes the token has.
+/// Returns the number of a decimal token at the beginning of a text, and the number of the token's bytes.
 fn decimal_first(text: &[u8]) -> Option<(u32, usize)>
     ensures { IfSome result (λ p. HasToken text.now p.0 p.1) }
 {
@@ -45,7 +45,7 @@ fn decimal_first(text: &[u8]) -> Option<(u32, usize)>
     Some((value, count))
 }
 
-/// The number of a hexadecimal token that a text begins with, and how many bytes the token has.
+/// Returns the number of a hexadecimal token at the beginning of a text, and the number of the token's bytes.
 fn hexadecimal_first(text: &[u8]) -> Option<(u32, usize)>
     ensures { IfSome result (λ p. HasToken text.now p.0 p.1) }
 {
@@ -61,7 +61,7 @@ fn hexadecimal_first(text: &[u8]) -> Option<(u32, usize)>
     Some((value, count + 2))
 }
 
-/// The number of a token that a text begins with, and how many bytes the token has, where it is soon read.
+/// Returns the number of a token at the beginning of a text, and the number of the token's bytes, in the cases that can be read quickly.
 fn first_number(text: &[u8]) -> Option<(u32, usize)>
     ensures { IfSome result (λ p. HasToken text.now p.0 p.1) }
 {
@@ -71,7 +71,7 @@ fn first_number(text: &[u8]) -> Option<(u32, usize)>
     decimal_first(text)
 }
 
-/// What `next_number` gives, for any token.
+/// Returns the result of `next_number`, for any token.
 #[cold]
 #[inline(never)]
 fn any_number(line: &[u8]) -> Option<(Option<u32>, &[u8])>
@@ -83,7 +83,7 @@ fn any_number(line: &[u8]) -> Option<(Option<u32>, &[u8])>
     }
 }
 
-/// The number of a line's first token, where it is one digit after one space, and what follows the token.
+/// Returns the number of a line's first token and what follows it, if that token is one digit after one space.
 #[inline(always)]
 fn one_digit(line: &[u8]) -> Option<(u32, &[u8])>
     ensures { IfSome result (λ p. FirstNumber line.now (Some p.0) p.1.now) }
@@ -99,8 +99,8 @@ fn one_digit(line: &[u8]) -> Option<(u32, &[u8])>
     Some((u32::from(value), after))
 }
 
-/// The number of a line's first token where one space stands before it and it is soon read: with 2^32 for each byte up to the token's end.
-/// Else 0. So a number comes back in one register.
+/// Returns the number of a line's first token, plus 2^32 for each byte up to the token's end, if one space precedes it and it can be read
+/// quickly. Returns 0 otherwise. So the result fits into one register.
 fn longer_number(line: &[u8]) -> u64
     ensures packed { IsPacked line.now result }
     ensures none { result < 2 ^ 32 → result ≡ 0 }
@@ -130,7 +130,7 @@ pub fn quick_number(line: &[u8]) -> Option<(u32, &[u8])>
     Some(((packed % PLACE) as u32, &line[(packed / PLACE) as usize..]))
 }
 
-/// The number of a line's first token, where it is `0x` and eight digits after one space, and what follows the token.
+/// Returns the number of a line's first token and what follows it, if that token is `0x` and eight digits after one space.
 #[inline(always)]
 fn whole_word(line: &[u8]) -> Option<(u32, &[u8])>
     ensures { IfSome result (λ p. FirstNumber line.now (Some p.0) p.1.now) }

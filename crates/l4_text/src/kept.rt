@@ -3,9 +3,9 @@ ghost use Rattle.std.specs.Prelude.{◌≡◌, ◌==◌, ◌+◌, ◌^◌, ◌<�
 
 use std::marker::Model;
 
-/// At most `LIMIT` bytes. Those that are taken away are not written over before others take their place: a list of the library writes
-/// blanks. The length stands in front of the bytes and is no `usize`, so that the compiler sees that no byte is written over it, and keeps it in
-/// a register while a text is put together.
+/// A buffer of at most `LIMIT` bytes. Removed bytes are not overwritten until others take their place; a list of the library would write
+/// blanks. The length is before the bytes, and is not a `usize`. So the compiler sees that no byte overwrites it, and keeps it in a
+/// register while a text is built.
 #[derive(Drop)]
 pub(crate) struct KeptBytes<const LIMIT: usize> {
     len: u32,

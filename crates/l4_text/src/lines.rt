@@ -75,7 +75,7 @@ impl Source {
         }
     }
 
-    /// What holds of the number of reads at all times. It does nothing.
+    /// Ghost function: gives a proof the bound on the number of reads. It compiles to nothing.
     fn law_few_reads(&self)
         ensures { self.now.1 ≤ most_reads }
     {
@@ -96,7 +96,7 @@ impl Source {
         self.has_line_behind(0)
     }
 
-    /// Whether a whole line was read behind this many of them.
+    /// Returns whether a whole line was read after this many bytes.
     fn has_line_behind(&self, count: usize) -> bool
         requires { count ≤ length self.now.0 }
         ensures { MatchBool result (NoNewline (drop count self.now.0) → ⊥) (NoNewline (drop count self.now.0)) }
@@ -107,7 +107,7 @@ impl Source {
         false
     }
 
-    /// How many bytes the next line has, where a whole one was read and not taken.
+    /// Returns the length of the next line, if a whole one was read and not taken.
     fn whole_line_len(&self) -> Option<usize>
         ensures { IfSome result (IsLineLen self.now) }
     {
@@ -209,7 +209,7 @@ impl Line {
         }
     }
 
-    /// How a line ended that a newline ended.
+    /// Returns how a line ended that ended with a newline.
     fn ending(&self) -> Ending
         ensures { result ≡ (if self.now.1 then Ending.Long else Ending.Whole) }
     {
@@ -221,7 +221,7 @@ impl Line {
     }
 }
 
-/// Where the first newline stands.
+/// Returns the index of the first newline.
 fn first_newline(bytes: &[u8]) -> Option<usize>
     ensures { result ≡ position is_newline bytes.now }
 {

@@ -2,7 +2,7 @@ ghost use Rattle.std.specs.Prelude.{◌≡◌, ◌≤◌, ◌^◌, Some, length}
 ghost use Rattle.l4_text.specs.Numbers.{digit_of, hex_digit_of, value_from, decimal_of, below, decimal_number_of, word_of, number_of};
 ghost use Rattle.l4_text.specs.Inside.Reading.{IsHexDigit};
 
-/// The value of a decimal digit.
+/// Returns the value of a decimal digit.
 pub(crate) fn digit(byte: u8) -> Option<u8>
     ensures { result ≡ digit_of byte }
 {
@@ -12,8 +12,8 @@ pub(crate) fn digit(byte: u8) -> Option<u8>
     }
 }
 
-/// What stands in the table for a byte that is no digit: a bit above those of a word, which stays above them when up to seven digits
-/// follow it.
+/// The entry in the table for a byte that is no digit: a bit above those of a word, which stays above them when up to seven digits follow
+/// it.
 const NO_DIGIT: u64 = 0x1_0000_0000;
 
 /// The value of each byte as a hexadecimal digit of either case.
@@ -47,7 +47,7 @@ const HEX_DIGITS: [u64; 256] = [
     NO_DIGIT, NO_DIGIT, NO_DIGIT, NO_DIGIT, NO_DIGIT, NO_DIGIT, NO_DIGIT,
 ];
 
-/// The number, where it is below 2^32.
+/// Returns the number, if it is below 2^32.
 fn small(value: u64) -> Option<u32>
     ensures { result ≡ below (2 ^ 32) (Some value) }
 {
@@ -58,7 +58,7 @@ fn small(value: u64) -> Option<u32>
     }
 }
 
-/// The value of a hexadecimal digit of either case, `NO_DIGIT` where the byte is none.
+/// Returns the value of a hexadecimal digit of either case, or `NO_DIGIT` for any other byte.
 #[inline(always)]
 fn hex_digit(byte: u8) -> u64
     ensures { IsHexDigit byte result }
@@ -66,7 +66,8 @@ fn hex_digit(byte: u8) -> u64
     HEX_DIGITS[byte as usize]
 }
 
-/// The number that at most eight hexadecimal digits of either case spell. Whether each byte was a digit is asked once, of their sum.
+/// Returns the number that at most eight hexadecimal digits of either case spell. Tests once, with their sum, whether each byte was a
+/// digit.
 #[inline(always)]
 pub(crate) fn hexadecimal(digits: &[u8]) -> Option<u32>
     requires { length digits.now ≤ 8 }
@@ -79,7 +80,7 @@ pub(crate) fn hexadecimal(digits: &[u8]) -> Option<u32>
     small(value)
 }
 
-/// The number that one to ten decimal digits spell, of any size.
+/// Returns the number that one to ten decimal digits spell, of any size.
 #[tactic(auto, unfolding(crate::specs::Numbers::decimal_of))]
 fn decimal(text: &[u8]) -> Option<u64>
     ensures { result ≡ decimal_of text.now }

@@ -74,7 +74,7 @@ impl Held {
         self.bytes.is_empty()
     }
 
-    /// Whether there is room for an answer's line.
+    /// Returns whether there is room for the line of an answer.
     fn has_room(&self) -> bool
         ensures yes { result ≡ true → length self.now + answer_bytes ≤ held_bytes }
         ensures no { result ≡ false → held_bytes < length self.now + answer_bytes }
@@ -379,7 +379,7 @@ impl Output {
         }
     }
 
-    /// Lets all that is held back go out, unless a write failed.
+    /// Writes all buffered bytes, unless a write failed.
     #[cold]
     #[inline(never)]
     fn send_all<W: Write>(&mut self, writer: &mut W)

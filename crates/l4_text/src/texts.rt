@@ -63,14 +63,14 @@ impl Model for Text {
     ghost view = { λ a. a.bytes.items };
 }
 
-/// The two hexadecimal digits of a byte, in lower case: the second stands in the higher byte.
+/// Returns the two hexadecimal digits of a byte, in lower case: the second one in the higher byte.
 fn pair(byte: u8) -> u16
     ensures { result ≡ hex_digit (byte / 16) + 256 * hex_digit (byte % 16) }
 {
     PAIRS[byte as usize]
 }
 
-/// A word in eight hexadecimal digits of lower case.
+/// Returns a word as eight lower-case hexadecimal digits.
 pub(crate) fn word_digits(word: u32) -> [u8; 8]
     ensures { result ≡ word_text word }
 {

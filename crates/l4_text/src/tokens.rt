@@ -3,21 +3,21 @@ ghost use Rattle.std.specs.List.{position, position_or_len};
 ghost use Rattle.l4_text.specs.Tokens.{tokens_of, is_space};
 ghost use Rattle.l4_text.specs.Inside.Reading.{is_no_space};
 
-/// Where the first byte stands that is no space.
+/// Returns the index of the first byte that is not a space.
 fn first_other(line: &[u8]) -> Option<usize>
     ensures { result ≡ position is_no_space line.now }
 {
     line.iter().position(|b| *b != b' ')
 }
 
-/// Where the first space stands.
+/// Returns the index of the first space.
 fn first_space(line: &[u8]) -> Option<usize>
     ensures { result ≡ position is_space line.now }
 {
     line.iter().position(|b| *b == b' ')
 }
 
-/// How many spaces a line begins with.
+/// Returns the number of spaces at the beginning of a line.
 pub(crate) fn spaces(line: &[u8]) -> usize
     ensures value { result ≡ position_or_len is_no_space line.now }
     ensures within { result ≤ length line.now }
@@ -45,7 +45,7 @@ pub fn next_token(line: &[u8]) -> Option<(&[u8], &[u8])>
     cut_token(line)
 }
 
-/// The first token of a line, which may be empty, and what follows it.
+/// Returns the first token of a line, which may be empty, and what follows it.
 #[inline(never)]
 fn cut_token(line: &[u8]) -> Option<(&[u8], &[u8])>
     ensures { MatchOption result (tokens_of line.now ≡ [])
@@ -60,7 +60,7 @@ fn cut_token(line: &[u8]) -> Option<(&[u8], &[u8])>
     Some((&rest[..end], &rest[end..]))
 }
 
-/// Whether a token in front of a text ends there: it is empty, or begins with a space.
+/// Returns whether a token before this text ends there: the text is empty, or begins with a space.
 #[inline(always)]
 pub(crate) fn ends_token(text: &[u8]) -> bool
     ensures { result ≡ (position_or_len is_space text.now == 0) }

@@ -20,7 +20,7 @@ use l4_msg::Item;
 use std::alloc::AllocError;
 use std::marker::Model;
 
-/// Which of an activity's places say what the thread is doing.
+/// The parts of an activity that say what the thread is doing.
 #[derive(Clone, Copy)]
 enum Phase {
     /// None: the thread runs, and none of its calls has ended.
@@ -71,8 +71,8 @@ impl Clone for Activity {
     }
 }
 
-/// Puts these elements into the place of those that the list has. Where there are as many, none of those is cleared first, and where there are
-/// none on either side nothing is done.
+/// Overwrites the elements of the list with these. If the numbers are equal, none is cleared first, and if both lists are empty, nothing is
+/// done.
 #[inline]
 fn refill<T: Copy + Default + Drop, const N: usize>(list: &mut ArrayVec<T, N>, elements: &[T])
     requires { length elements.now ≤ N }
@@ -88,7 +88,7 @@ fn refill<T: Copy + Default + Drop, const N: usize>(list: &mut ArrayVec<T, N>, e
     let _ = list.try_extend_from_slice(elements);
 }
 
-/// The reply of an Ipc that has nothing in it yet.
+/// Returns the reply of an Ipc, without content.
 fn blank_reply() -> IpcReply {
     IpcReply {
         tag: 0,
@@ -167,14 +167,14 @@ impl Activity {
         matches!(self.phase, Phase::Sending)
     }
 
-    /// Whether the thread waits for a message.
+    /// Returns whether the thread is receiving.
     pub(crate) fn is_receiving(&self) -> bool
         ensures { result ≡ is_receiving self.now }
     {
         matches!(self.phase, Phase::Receiving)
     }
 
-    /// Whether the thread waits with a timeout of zero.
+    /// Returns whether the thread waits with a zero timeout.
     pub(crate) fn expires(&self) -> bool
         ensures { result ≡ expires self.now }
     {
@@ -186,7 +186,7 @@ impl Activity {
         }
     }
 
-    /// Whether the activity ends with the thread of this number: it sends to it, or receives from it by name.
+    /// Returns whether the activity ends with the thread of this number: it sends to it, or receives from it by name.
     pub(crate) fn is_freed_by(&self, number: u32) -> bool
         ensures { result ≡ frees number self.now }
     {
@@ -201,7 +201,7 @@ impl Activity {
         }
     }
 
-    /// What the call replies whose partner is gone.
+    /// Returns the reply of the call when its partner no longer exists.
     pub(crate) fn reply_without_partner(&self) -> Reply
         ensures { result ≡ freed_reply self.now }
     {
@@ -213,7 +213,7 @@ impl Activity {
         }
     }
 
-    /// The thread sends.
+    /// Makes the thread send.
     #[inline(always)]
     pub(crate) fn send(&mut self, words: &[u32], items: &[Item], phase: SendPhase)
         requires words { length words.now ≤ max_words }
@@ -229,7 +229,7 @@ impl Activity {
         self.phase = Phase::Sending;
     }
 
-    /// The thread receives.
+    /// Makes the thread receive.
     pub(crate) fn receive(&mut self, receiving: Receiving)
         ensures { self.new ≡ Receives receiving }
     {
@@ -237,7 +237,7 @@ impl Activity {
         self.phase = Phase::Receiving;
     }
 
-    /// The thread runs on, and its call replies this.
+    /// Makes the thread run, with this reply of its call.
     pub(crate) fn run(&mut self, reply: Reply)
         ensures { self.new ≡ Running (Some reply) }
     {
@@ -245,7 +245,7 @@ impl Activity {
         self.phase = Phase::Running;
     }
 
-    /// The thread runs on, and its call replies this. The room of a reply is large, so where the last one was the same, nothing is written.
+    /// Makes the thread run, with this reply of its call. A reply is large, so nothing is written if the last one was the same.
     pub(crate) fn end(&mut self, ending: Wordless)
         ensures { self.new ≡ Running (Some (wordless_reply ending)) }
     {
@@ -255,7 +255,7 @@ impl Activity {
         }
     }
 
-    /// The thread runs on, and its Ipc replies this.
+    /// Makes the thread run, with these words as the reply of its Ipc.
     #[inline(always)]
     pub(crate) fn answer(&mut self, envelope: Envelope, words: &[u32])
         requires { length words.now ≤ max_words }
@@ -265,7 +265,7 @@ impl Activity {
         write_reply(&mut self.reply, envelope, words);
     }
 
-    /// The thread runs on, and its Ipc replies the words that the other thread sends behind their tag.
+    /// Makes the thread run, with the words after the tag that the other thread sends as the reply of its Ipc.
     #[inline(always)]
     pub(crate) fn take(&mut self, from: &Activity, envelope: Envelope)
         ensures { (sending : ASending) → sending_in from.now ≡ Some sending → self.new ≡ Running (Some (Ipc (message_of envelope (drop 1 sending.words.items)))) }
@@ -276,7 +276,7 @@ impl Activity {
     }
 }
 
-/// A message's words behind its tag.
+/// Returns the words of a message after its tag.
 fn behind_tag(words: &[u32]) -> &[u32]
     ensures { result.now ≡ drop 1 words.now }
 {
@@ -286,7 +286,7 @@ fn behind_tag(words: &[u32]) -> &[u32]
     }
 }
 
-/// Lets the reply be that of an Ipc with this message. The room of an Ipc's reply is used again.
+/// Overwrites the reply with that of an Ipc with this message. Reuses the room of an Ipc's reply.
 fn write_reply(reply: &mut Reply, envelope: Envelope, words: &[u32])
     requires { length words.now ≤ max_words }
     ensures { reply.new ≡ Ipc (message_of envelope words.now) }

@@ -21,7 +21,7 @@ pub fn lesser(least: Option<u32>, number: u32) -> u32
     }
 }
 
-/// Who sends in the transfer to this receiver.
+/// Returns the sender of the transfer to this receiver, if there is one.
 fn sender_to(transfers: &[(u32, u32)], receiver: u32) -> Option<u32>
     ensures { result ≡ sender_to transfers.now receiver }
 {
@@ -53,7 +53,7 @@ pub fn expires_beside(transfers: &[(u32, u32)], entry: &(u32, Thread)) -> bool
     receiving.expires && sender_to(transfers, entry.0).is_none()
 }
 
-/// Where the number belongs in a rising list.
+/// Returns the index of the number in a rising list.
 fn place_in_order(list: &[u32], number: u32) -> usize
     ensures within { result ≤ length list.now }
     ensures place { insert list.now result number ≡ rising_with list.now number }
@@ -66,7 +66,7 @@ fn place_in_order(list: &[u32], number: u32) -> usize
     list.len()
 }
 
-/// Puts the number where it belongs in a rising list.
+/// Inserts the number into a rising list.
 fn insert_rising(list: &mut ArrayVec<u32, MAX_THREADS>, number: u32)
     requires { array_vec_len list.old < max_threads }
     ensures items { list.new.items ≡ rising_with list.old.items number }
@@ -76,7 +76,7 @@ fn insert_rising(list: &mut ArrayVec<u32, MAX_THREADS>, number: u32)
     list.insert(at, number);
 }
 
-/// Whether the thread's call ends with the victim.
+/// Returns whether the thread's call ends with the victim.
 fn ends_with(entry: &(u32, Thread), victim: u32) -> bool
     ensures { result ≡ ends_with victim entry.now }
 {

@@ -235,7 +235,7 @@ impl ThreadId {
         ThreadId(0)
     }
 
-    /// Returns anythread, the id that stands for any thread.
+    /// Returns anythread, the id that means any thread.
     pub fn any() -> ThreadId
         ensures { result ≡ anythread }
     {
@@ -270,7 +270,7 @@ impl Wordless {
     ghost use Rattle.std.specs.Prelude.{◌≡◌, IsTrue};
     ghost use Rattle.l4_threads.specs.Endings.{wordless_reply};
 
-    /// The reply.
+    /// Returns the reply.
     fn reply(self) -> Reply
         ensures { result ≡ wordless_reply self }
     {
@@ -283,7 +283,7 @@ impl Wordless {
         }
     }
 
-    /// Whether this reply is the same.
+    /// Returns whether this reply is the same.
     fn is_same(self, reply: &Reply) -> bool
         ensures { IsTrue result → reply.now ≡ wordless_reply self }
     {

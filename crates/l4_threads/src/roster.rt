@@ -13,7 +13,7 @@ use l4_msg::Item;
 use std::alloc::{AllocError, Global};
 use std::marker::Model;
 
-/// How many hints there are.
+/// The number of hints.
 const HINTS: usize = 256;
 
 /// The threads, a second list of their numbers, and for the remainder of each number the index where its thread may be.
@@ -58,7 +58,7 @@ impl Clone for Roster {
     }
 }
 
-/// Where the number stands.
+/// Returns the index of the number.
 fn place_of(numbers: &[u32], number: u32) -> Option<usize>
     ensures { MatchOption result (IsNowhere numbers.now number) (IsFirst numbers.now number) }
 {
@@ -70,7 +70,7 @@ fn place_of(numbers: &[u32], number: u32) -> Option<usize>
     None
 }
 
-/// Where the number stands if it doesn't stand at its hint, which is rare.
+/// Returns the index of the number, by a search. It is rarely needed, because the number is mostly at its hint.
 #[cold]
 fn place_among(numbers: &[u32], number: u32) -> Option<usize>
     ensures { MatchOption result (IsNowhere numbers.now number) (IsFirst numbers.now number) }
@@ -78,7 +78,7 @@ fn place_among(numbers: &[u32], number: u32) -> Option<usize>
     place_of(numbers, number)
 }
 
-/// Hints at where each number stands.
+/// Sets the hint of each number.
 fn hint_all(hints: &mut [u8], numbers: &[u32])
     requires counted { length hints.old ≡ hint_count }
     requires few { length numbers.now ≤ max_threads }
@@ -136,7 +136,7 @@ impl Roster {
         self.numbers.push(number);
     }
 
-    /// Where the thread of this number stands, at its hint or where a walk finds it.
+    /// Returns the index of the thread with this number, from its hint or by a search.
     #[inline(always)]
     fn place(&self, number: u32) -> Option<usize>
         ensures { MatchOption result (found self.now number ≡ None) (IsAt self.now number) }
@@ -271,7 +271,7 @@ impl Roster {
         hint_all(&mut self.hints, self.numbers.as_slice());
     }
 
-    /// Whether there is a sending thread of this number.
+    /// Returns whether there is a sending thread with this number.
     fn sends(&self, number: u32) -> bool
         ensures { result ≡ sends_in self.now number }
     {

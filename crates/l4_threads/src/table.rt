@@ -54,8 +54,10 @@ impl Clone for Threads {
 
     ghost is_clone = { λ threads copy. copy ≡ threads };
 
-    /// The same threads with their message registers, and the same queue of senders, in memory of their own, as much as `boot` takes. What
-    /// is done with the one is not seen in the other.
+    /// Returns the same threads with their message registers, and the same queue of senders, in memory of their own, as much as `boot`
+    /// allocates. A change of one is not visible in the other.
+    ///
+    /// Returns `AllocError` if an allocation fails.
     fn clone(&self) -> Result<Self, AllocError> {
         Ok(Threads {
             threads: self.threads.clone()?,
@@ -68,7 +70,7 @@ impl Clone for Threads {
 
 ghost use Rattle.l4_threads.specs.Enabled.{offers_to};
 
-/// Whether the one state sends to the thread of the other, which takes its message.
+/// Returns whether the one state sends to the thread of the other, which accepts its message.
 fn offers(sends: Option<&Activity>, takes: Option<&Activity>, sender: u32, receiver: u32) -> bool
     ensures { result ≡ offers_to (option_copied sends.entry) (option_copied takes.entry) sender receiver }
 {
@@ -213,7 +215,7 @@ impl Threads {
         self.first_sender(receiver) == Some(sender)
     }
 
-    /// The number of the thread that the sender sends to, where that one takes its message.
+    /// Returns the number of the thread to which the sender sends, if that thread accepts its message.
     fn taker(&self, sender: u32) -> Option<u32>
         ensures { result ≡ taker self.now sender }
     {
@@ -227,7 +229,7 @@ impl Threads {
         }
     }
 
-    /// Whether the thread of this number sends.
+    /// Returns whether the thread of this number sends.
     fn sends(&self, number: u32) -> bool
         ensures { result ≡ sends self.now number }
     {
@@ -237,7 +239,7 @@ impl Threads {
         }
     }
 
-    /// The enabled transfer in which this thread takes part, where it does so in each.
+    /// Returns the enabled transfer in which this thread takes part, if the thread takes part in every enabled transfer.
     #[tactic(auto, using(crate::proofs::ActingLemmas::none_to, crate::proofs::ActingLemmas::none_from, crate::proofs::ActingLemmas::next_to, crate::proofs::ActingLemmas::next_from))]
     fn transfer_of(&self, number: u32) -> Option<(u32, u32)>
         requires { TakesPart self.now number }
@@ -252,7 +254,7 @@ impl Threads {
         Some((sender, number))
     }
 
-    /// The enabled transfer whose sender stands first in the queue, which a walk finds.
+    /// Returns the enabled transfer whose sender is first in the queue, by a search.
     fn first_transfer(&self) -> Option<(u32, u32)>
         ensures { MatchOption result ((s r : ℕ) → ¬ (IsFirstSender self.now r s)) (IsNextTransfer self.now) }
     {
@@ -295,7 +297,7 @@ impl Threads {
         receiving.expires && self.first_sender(number).is_none()
     }
 
-    /// The enabled transfers: of each, the sender's number and the receiver's.
+    /// Returns the enabled transfers: the numbers of the sender and the receiver of each.
     fn transfers(&self) -> ArrayVec<(u32, u32), MAX_THREADS>
         ensures { AreTransfers self.now result.items }
     {
@@ -308,7 +310,7 @@ impl Threads {
         transfers
     }
 
-    /// The least number of a thread that can expire, which a walk finds.
+    /// Returns the least number of a thread that can expire, by a search.
     fn first_expiry(&self) -> Option<u32>
         ensures { MatchOption result ((n : ℕ) → ¬ (CanExpire self.now n)) (IsNextExpiry self.now) }
     {
@@ -455,7 +457,7 @@ impl Threads {
         self.focus = self.focus.with_running(receiver);
     }
 
-    /// Whether the caller is in the root space.
+    /// Returns whether the caller is in the root space.
     fn is_privileged(&self, caller: u32) -> bool
         ensures { result ≡ is_privileged self.now caller }
     {
@@ -465,7 +467,7 @@ impl Threads {
         }
     }
 
-    /// The space of a new thread, if `space` names one or asks for a new one.
+    /// Returns the space of a new thread: the one that `space` names, or a new one if it requests that.
     fn space_for(&self, id: ThreadId, space: ThreadId) -> Option<u64>
         ensures { result ≡ space_for self.now id space }
     {
@@ -477,7 +479,7 @@ impl Threads {
         }
     }
 
-    /// Whether no thread can be created, or none in a new space where that is asked.
+    /// Returns whether no thread can be created, or, if a new space is requested, none in a new space.
     fn is_full(&self, new_space: bool) -> bool
         ensures { result ≡ is_full self.now new_space }
     {
@@ -584,7 +586,7 @@ impl Threads {
         Ok(number)
     }
 
-    /// The number of the thread that a deletion would take, or its refusal.
+    /// Returns the number of the thread that would be deleted, or the refusal.
     fn test_delete(&self, caller: u32, id: ThreadId) -> Result<u32, ThreadFault>
         ensures { result ≡ delete_test self.now caller id }
     {
@@ -600,7 +602,7 @@ impl Threads {
         Ok(number)
     }
 
-    /// The numbers of the threads whose calls end with this one, rising.
+    /// Returns the numbers of the threads whose calls end with this one, in rising order.
     fn ended_with(&self, number: u32) -> ArrayVec<u32, MAX_THREADS>
         ensures rising { IsStrictlyIncreasing result.items }
         ensures each { (n : ℕ) → is_in result.items n ≡ ends_at self.now number n }
@@ -617,7 +619,7 @@ impl Threads {
         keep_senders(&mut self.queue, &self.threads);
     }
 
-    /// The space, where no thread is in it.
+    /// Returns the space, if no thread is in it.
     fn without_thread(&self, space: u64) -> Option<u64>
         ensures { MatchOption result ((n : ℕ) × (space_of self.now n ≡ Some space)) (λ s. (s ≡ space) × HasEnded self.now space) }
     {

@@ -60,7 +60,7 @@ fn begin<R: Wait>(rt: &R, lock: &KernelLock) -> Result<Seats, Stop> {
     })
 }
 
-/// The seats in one list, by rising number.
+/// Returns the seats in one list, by rising number.
 fn listed(alloc: Global, seats: Seats) -> Result<Vec<Seat>, Stop> {
     let Seats { root, runs } = seats;
     let Runs {

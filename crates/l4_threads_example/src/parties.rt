@@ -66,7 +66,7 @@ pub fn create(number: u32, pager: u32) -> Call {
     Call::create(id(number), id(number), id(pager))
 }
 
-/// Looks at the board until it shows so many entries. The last number that it showed, or 0 where one was below the one before.
+/// Looks at the board until it shows this many entries. Returns the last number that it showed, or 0 if one was below the one before.
 fn watch(rt: &impl Clock, lock: &KernelLock, entries: u64) -> u64 {
     let mut watch = lock.board().watch();
     let mut last = 0u64;
@@ -104,7 +104,7 @@ fn hand_out<R: Wait + Clock>(rt: &R, lock: &KernelLock, mut seat: Seat) -> Seat 
     seat
 }
 
-/// Pages of the client and the pager's pages that stand for them, to be read and executed.
+/// Returns a pager's table: pages of the client, and the pager's pages for them, to be read and executed.
 fn regions() -> RegionPager {
     let mut regions = RegionPager::new(SIZE);
     let _ = regions.add(Entry {
@@ -125,7 +125,7 @@ fn answer_faults<R: Wait>(rt: &R, lock: &KernelLock, seat: Seat) -> Seat {
     gate.into_seat()
 }
 
-/// The registers of a message without words: its tag alone.
+/// Returns the registers of a message without words: its tag alone.
 fn no_words() -> ArrayVec<u32, MAX_WORDS> {
     let mut registers = ArrayVec::new();
     registers.push(0);

@@ -1,11 +1,11 @@
-//! What is printed.
+//! Prints the results.
 
 use crate::parties::{CLIENT, FIRST_PAGE};
 use l4_ipc::{Call, Kernel, Reply};
 use l4_lock::Seat;
 use std::io;
 
-/// What a call is.
+/// Returns the name of a call.
 fn call_name(call: &Call) -> &'static str {
     match call {
         Call::Ipc(_) => "ipc",

@@ -49,14 +49,14 @@ pub fn unmap(
     }
 }
 
-/// How many registers hold fpages.
+/// Returns the number of registers that hold fpages.
 fn register_count(control: u32) -> usize
     ensures { result ≡ fpage_count control }
 {
     (control & 0x3f) as usize + 1
 }
 
-/// Whether the caller's own pages are meant too.
+/// Returns whether the caller's own pages lose the rights too.
 fn means_own(control: u32) -> bool
     ensures { result ≡ with_own control }
 {

@@ -54,18 +54,18 @@ fn absent_text() -> Text
     text
 }
 
-/// What is found of a page of a thread's space.
+/// The answer about a page of a thread's space.
 #[derive(Drop)]
 pub(crate) enum Answer {
     /// There is no such thread at the end.
     Unknown,
     /// The page is not present at the end.
     Absent,
-    /// The page of the place came there by these links, and shows this.
+    /// These links brought the page to its place, where it has this mapping.
     Chain(Place, Vec<ChainLink>, Mapping),
 }
 
-/// What a history, which is done once more, says of a page. None where there is no memory for it.
+/// Executes the history again, and returns the answer about a page. Returns None if there is no memory for it.
 fn look(
     alloc: Global,
     frames: u32,
@@ -100,7 +100,7 @@ fn look(
     }
 }
 
-/// Tells what is found, and gives whether the page is there.
+/// Writes the answer, and returns whether the page is present.
 fn put_answer<W: Write>(
     history: &History,
     answer: &Answer,

@@ -14,7 +14,7 @@ use l4_record::{Entry, History};
 use l4_text::{Output, Text};
 use std::io::Write;
 
-/// The letters of the rights, and dashes in the place of those that are not there.
+/// Returns the letters of the rights, with a hyphen for each missing right.
 fn letters(rights: Rights) -> [u8; 3]
     ensures { result ≡ rights_text rights }
 {
@@ -35,7 +35,7 @@ fn add_rights(text: &mut Text, rights: Rights)
     text.add(letters(rights).as_slice());
 }
 
-/// The page of sigma0 at which the chain begins.
+/// Returns the page of sigma0 at which the chain begins.
 fn first_page(links: &[ChainLink], place: Place) -> u32
     ensures { result ≡ (origin_of links.now place).page }
 {
@@ -76,7 +76,7 @@ fn add_step(text: &mut Text, step: &Step)
     }
 }
 
-/// The same of an entry.
+/// Adds the sender and the receiver of an entry.
 #[tactic(auto, unfolding(crate::specs::Chains::entry_parties))]
 fn add_entry(text: &mut Text, entry: Option<Entry>)
     requires { length text.old + 60 ≤ text_bytes }
@@ -133,7 +133,7 @@ fn link_text(history: &History, link: &ChainLink) -> Text
     text
 }
 
-/// Tells the links in their order.
+/// Writes the links in their order.
 fn put_links<W: Write>(history: &History, links: &[ChainLink], out: &mut Output, writer: &mut W)
     ensures { Tells (W.contents writer.old) (W.contents writer.new) out.old out.new
         (link_lines history.now.entries links.now) }
@@ -143,7 +143,7 @@ fn put_links<W: Write>(history: &History, links: &[ChainLink], out: &mut Output,
     }
 }
 
-/// Tells the chain of links to a place, and what the place shows.
+/// Writes the chain of links to a place, and the mapping of the place.
 pub(crate) fn put_chain<W: Write>(
     history: &History,
     links: &[ChainLink],
