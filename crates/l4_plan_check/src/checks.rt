@@ -34,7 +34,7 @@ pub fn check(
 ) -> Result<Proved, Fault>
     ensures first { IfErr result (IsFirstFault size region.now items.now pages.now) }
 
-    // Proved is answered only where no fault holds, and then the claim is true.
+    // The result is Proved only if no fault applies, and then the claim is true.
     ensures none { OnOk result ((fault : AFault) → Holds size region.now items.now pages.now fault → ⊥) }
     ensures exact { OnOk result (IsRival size region.now items.now) }
     ensures certificate { OnOk result (IsCertificate region.now pages.now) }
@@ -68,7 +68,7 @@ pub fn check(
 pub fn check_too_long(region: &Region, size: PageSize, pages: &[u32]) -> Result<Proved, Fault>
     ensures first { IfErr result (IsFirstLongFault size region.now pages.now) }
 
-    // Proved is answered only where no fault holds, and then the claim is true.
+    // The result is Proved only if no fault applies, and then the claim is true.
     ensures none { OnOk result ((fault : AFault) → LongHolds size region.now pages.now fault → ⊥) }
     ensures certificate { OnOk result (IsCertificate region.now pages.now) }
     ensures many { OnOk result (length pages.now ≡ max_plan_items + 1) }

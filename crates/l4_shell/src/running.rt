@@ -87,9 +87,8 @@ pub fn run<R: Read, S: Sink>(
     requires some { 1 ≤ frames }
     requires fit { frames ≤ max_frames }
 
-    // What goes out is the script text of what was read: to its end, of the whole lines before a
-    // read that failed, or a beginning of it where a write failed. Want of memory comes before all
-    // else.
+    // The answers are those of what was read: to its end, of the whole lines before a failed read,
+    // or a prefix of them after a failed write. Lack of memory comes before everything else.
     ensures { Runs frames size (R.remaining reader.old) (R.remaining reader.new)
         S.has_told S.is_out S.closed sink.old sink.new result }
 {

@@ -148,7 +148,7 @@ impl Spaces {
     pub fn get(&self, space: u64, page: u32) -> Option<usize>
         ensures value { result ≡ key_of self.now space page }
 
-        // A present page's space is there.
+        // The space of a present page exists.
         ensures housed { IfSome result (λ _. IsSpace self.now space) }
     {
         let Some(at) = index_of(&self.spaces, space) else {
@@ -169,7 +169,7 @@ impl Spaces {
         ensures room { KeepsRoom self.old self.new }
         ensures err { OnErr result (self.new ≡ self.old) }
 
-        // Where there is room, and for no pages at all, no memory is needed.
+        // If there is room, or if there are no pages, no memory is needed.
         ensures succeeds { HasRoom self.old space pages.now → IsOk result }
         ensures nothing { pages.now ≡ [] → IsOk result }
     {
@@ -194,7 +194,7 @@ impl Spaces {
         ensures err { OnErr result ((key_of self.old space page ≡ None) × (self.new ≡ self.old)) }
         ensures room { KeepsRoom self.old self.new }
 
-        // Where there is room for the page, no memory is needed.
+        // If there is room for the page, no memory is needed.
         ensures succeeds { HasRoom self.old space (page ∷ []) → IsOk result }
     {
         let Some(at) = index_of(&self.spaces, space) else {
@@ -213,7 +213,7 @@ impl Spaces {
         ensures pages { self.new.pages ≡ map.insert self.old.pages (space, page) key }
         ensures spaces { self.new.spaces ≡ self.old.spaces }
 
-        // There is room for the pages that are left, and after a present page all room that there was.
+        // The room for the remaining pages is kept; if the page was present, all room is kept.
         ensures rest { (rest : List ℕ) → HasRoom self.old space (page ∷ rest) → HasRoom self.new space rest }
         ensures room { IsPresent self.old space page → KeepsRoom self.old self.new }
     {
