@@ -509,10 +509,10 @@ uint32_t l4_sigma0_new_sized(l4_sigma0 *sigma0, uint32_t frames, uint32_t page_b
 /* Frees a table, and leaves the handle empty. */
 void l4_sigma0_free(l4_sigma0 *sigma0);
 
-/* Computes sigma0's answer to a message of `count` words, the tag first, from a thread in this space. A request with attributes of 0 asks
- * for the frames of its fpage's pages, and a page fault asks for the frame of its page; the frame of a page has the page's number. If all
- * of these frames exist, and each has no owner or is owned by this space, then the space owns them from then on. The answer is then one map
- * item of all of them, with all rights, to the pages of the same numbers. The answer to anything else is a nil map item, and nothing
+/* Computes sigma0's answer to a message of `count` words, the tag first, from a thread in this space. A request with attributes of 0
+ * requests the frames of its fpage's pages, and a page fault requests the frame of its page. The frame of a page has the page's number. If
+ * all of these frames exist, and each has no owner or is owned by this space, then the space owns them from then on. The answer is then one
+ * map item of all of them, with all rights, to the pages of the same numbers. The answer to anything else is a nil map item, and nothing
  * changes.
  *
  * Words after the message are ignored. After a refusal nothing has changed. Refusals in this order: B1, then those of the message (M7, M1,
@@ -565,7 +565,7 @@ typedef struct l4_verdict {
     uint32_t detail;
 } l4_verdict;
 
-/* Checks a plan, whoever made it: that its items move exactly the region, and that its pages, one for each item, prove that no list of map
+/* Checks a plan from any source: that its items move exactly the region, and that its pages, one for each item, prove that no list of map
  * items that does so is shorter. The words are those of the items, two for each, message after message without the tags. Refusals in this
  * order: M1 (more than 3,968 words), M2 (an odd number of words), M4 or M3; C6, C1, C2, C5, C3, C4. */
 l4_verdict l4_check_plan(const l4_region *region, const uint32_t *words, size_t count, const uint32_t *pages, size_t page_count);
