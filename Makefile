@@ -11,7 +11,7 @@
 PREFIX ?= /usr/local
 VERSION = 0.1.0
 
-# The archive calls three functions of the toolchain's for memory, which stand in this one.
+# The archive calls three of the toolchain's functions for memory, which are in this archive.
 HEAP = $(dir $(firstword $(shell rt doc)))c/liblibc_c.a
 OUT = crates/l4_c/out
 SONAME = libl4.so.0
@@ -79,7 +79,7 @@ web/l4.html: $(MODULE) web/make-page $(wildcard web/*.mjs bindings/python/l4/vie
 check:
 	@tests/run $(TEST)
 
-# `rt run --backend rattle` leaves its build in the place of the one by LLVM, which is put back.
+# `rt run --backend rattle` overwrites the build by LLVM, which is restored afterwards.
 test-programs: programs
 	cd crates/l4_judge && rt run < stdin
 	cd crates/l4_growths && rt run < /dev/null > /dev/null

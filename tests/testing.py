@@ -203,7 +203,7 @@ def beside(file, ending, without=""):
 
 
 def errors(file, read=None):
-    """What standard error has: NAME.err, which speaks of standard input. If a file is read instead, it names that one."""
+    """The expected standard error: NAME.err, which names standard input. If a file is read instead, it names that file."""
     text = beside(file, ".err")
     return text.replace("standard input", f"'{shown(read)}'") if read else text
 

@@ -89,7 +89,7 @@ void rattle_dealloc(void *at) {
 struct tried rattle_realloc(void *at, size used, size bytes, size align) {
     size room = bytes ? bytes : align, old = *head(at), k = class_of(room);
     if (k <= old) return found(at);
-    // the last block grows where it stands
+    // the last block grows in place
     size more = k > MOST ? 0 : (1ul << k) - (1ul << old);
     if (more && is_last(at, old) && has_room(more) && is_last(at, old)) {
         next += more;

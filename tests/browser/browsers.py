@@ -119,7 +119,7 @@ class Page:
         return self.evaluate(f"[...document.querySelectorAll('#{name} tr')].map((row) => [...row.cells].map((cell) => cell.textContent))")
 
     def answers(self):
-        """The answers of the run, without what is said of refused ones."""
+        """The answers of the run, without the explanations of refused ones."""
         return self.evaluate("[...document.querySelectorAll('#lines pre')].map((it) => it.textContent.split('\\n')[0])")
 
 
@@ -165,7 +165,7 @@ class Chromium(Page):
 
 
 def _plain(told):
-    """A value that Firefox tells with its type."""
+    """A value that Firefox sends with its type."""
     if told["type"] == "array":
         return [_plain(it) for it in told["value"]]
     if told["type"] == "object":
@@ -207,7 +207,7 @@ class Firefox(Page):
 
 
 def found(kind):
-    """The program of a browser; None where it isn't installed. BROWSER names another Chromium."""
+    """The program of a browser; None if it is not installed. BROWSER names another Chromium."""
     named = [os.environ.get("BROWSER", "")] if kind == "chromium" else []
     return next(filter(None, map(shutil.which, [*named, *NAMES[kind]])), None)
 

@@ -236,7 +236,7 @@ static void copies(void) {
     l4_free(&copy);
 }
 
-/* What the words of messages tell a pager and sigma0. */
+/* Reading the words of messages to a pager and to sigma0. */
 static void readers(void) {
     static const uint32_t request[3] = {0xffa00002, 0x100f5, 1}, no_fpage[3] = {0xffa00002, 0x20, 0};
     uint32_t words[3];
@@ -437,7 +437,7 @@ static void chain_of_maps(l4_lock *lock) {
     EXPECT(l4_lock_provenance(lock, 9, 7, links, 3).there == 0 && l4_lock_provenance(lock, 0, 256, links, 3).there == 0);
 }
 
-/* Page 7 of thread 4 goes for good to page 3 of thread 2, to be read (entry 10), and then page 17 of sigma0 stands there (entry 13). */
+/* Page 7 of thread 4 is granted to page 3 of thread 2, to be read (entry 10), and then page 17 of sigma0 replaces it (entry 13). */
 static void provenance(void) {
     static const uint32_t grant[3] = {0x80, 0x300a, 0x70c4}, other[3] = {0x80, 0x3008, 0x110c7};
     l4_lock lock = L4_EMPTY;

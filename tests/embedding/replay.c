@@ -86,7 +86,7 @@ static void print_reply(const l4_reply *reply, const char *none) {
     }
 }
 
-/* Prints a refusal with the number that its code carries, where it carries one. */
+/* Prints a refusal, with its number if its code has one. */
 static void print_refusal(uint32_t refusal, uint32_t detail) {
     char code[16];
     l4_refusal_code(refusal, code, sizeof code);
@@ -210,7 +210,7 @@ static int start(l4_kernel *kernel, request *asked) {
     return 1;
 }
 
-/* Does a step or answers a question of so many numbers. */
+/* Executes a step, or answers a query, with this many numbers. */
 static int answer_named(l4_kernel *kernel, const char *name, const uint32_t *numbers, size_t count) {
     if (is(name, "transfer") && count == 2) {
         print_answer(kernel, l4_transfer(kernel, numbers[0], numbers[1]));
@@ -236,7 +236,7 @@ static int answer_named(l4_kernel *kernel, const char *name, const uint32_t *num
     return 1;
 }
 
-/* Answers a line; 0 where it can't be read. */
+/* Answers a line; 0 if it cannot be read. */
 static int answer(l4_kernel *kernel, char *line) {
     static request asked;
     if (line[0] == '#') {

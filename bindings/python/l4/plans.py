@@ -113,7 +113,7 @@ class Region:
         return Plan(self, page_bytes, told.items, told.messages)
 
     def check(self, words: Sequence[int], pages: Sequence[int], page_bytes: int = PAGE_BYTES) -> None:
-        """Checks a plan, whoever made it: that its items move exactly the region, and that its pages, one for each item, prove that no list
+        """Checks a plan from any source: that its items move exactly the region, and that its pages, one for each item, prove that no list
         of map items that does so is shorter. `words` has the words of the items, two for each.
 
         Refused, in this order, with B4; M1 (more than 3,968 words), M2 (an odd number), M4 or M3; C6, C1, C2, C5, C3, C4.

@@ -44,7 +44,7 @@ def send(kernel, thread, to, item):
 
 
 def cells(table):
-    """What stands in the rows of a table."""
+    """Returns the content of a table's rows."""
     return [[cell.text for cell in row] for row in ElementTree.fromstring(table).iter("tr")]
 
 

@@ -1,4 +1,4 @@
-"""What a message tells a pager or sigma0."""
+"""Reading messages to a pager or to sigma0."""
 import unittest
 
 from l4 import Call, Fpage, FrameRequest, Kernel, Message, PageFault, Refused, Rights, ThreadId

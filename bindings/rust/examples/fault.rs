@@ -2,7 +2,7 @@
 use l4::{Call, Fpage, Item, Kernel, Message, Rights, ThreadId, Timeout, PAGE_BYTES};
 use std::error::Error;
 
-/// The page of the pager that it hands out.
+/// The pager's page that it maps.
 const PAGE: u32 = 101;
 
 fn main() -> Result<(), Box<dyn Error>> {

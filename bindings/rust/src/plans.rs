@@ -220,7 +220,7 @@ impl Region {
         }
     }
 
-    /// Checks a plan, whoever made it, for pages of 4 KiB: that its items move exactly the region, and that its pages, one for each item,
+    /// Checks a plan from any source, for pages of 4 KiB: that its items move exactly the region, and that its pages, one for each item,
     /// prove that no list of map items that does so is shorter. `words` has the words of the items, two for each.
     ///
     /// # Errors

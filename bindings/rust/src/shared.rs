@@ -285,7 +285,7 @@ impl SharedKernel {
     ///
     /// # Errors
     ///
-    /// X1 if a seat is missing, and X2 if a seat belongs to another kernel. The error then hands back the kernel and all seats.
+    /// X1 if a seat is missing, and X2 if a seat belongs to another kernel. The error then contains the kernel and all seats.
     // The error is large, and rare.
     #[allow(clippy::result_large_err)]
     pub fn close(self, seats: Vec<Seat>) -> Result<Vec<Entry>, Unclosed> {
@@ -320,7 +320,7 @@ impl fmt::Debug for SharedKernel {
     }
 }
 
-/// The error of [`SharedKernel::close`]: the kernel was not closed, and everything is handed back.
+/// The error of [`SharedKernel::close`]: the kernel was not closed, and the error contains everything that was passed.
 ///
 /// ```
 /// use l4::SharedKernel;

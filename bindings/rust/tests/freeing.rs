@@ -2,7 +2,7 @@
 use l4::{Call, Kernel, Message, Reply, ThreadId, Timeout, MAX_FRAMES};
 use std::fs;
 
-/// The pages of memory that the process has in use; None where the system doesn't tell.
+/// The pages of memory that the process has in use; None if the system does not say.
 fn resident_pages() -> Option<u64> {
     fs::read_to_string("/proc/self/statm")
         .ok()?

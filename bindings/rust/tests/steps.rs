@@ -7,7 +7,7 @@ use std::fmt::Write;
 use std::path::{Path, PathBuf};
 use std::{fs, io};
 
-/// The frames of a machine where none are asked for.
+/// The default number of frames of a machine.
 const FRAMES: u32 = 256;
 
 /// The greatest number of bytes of a line.
@@ -202,7 +202,7 @@ fn lists() -> PathBuf {
     Path::new(env!("CARGO_MANIFEST_DIR")).join("../../tests/steps")
 }
 
-/// A file's text, or another where there is no such file.
+/// A file's text, or a default if there is no such file.
 fn text_or(path: &Path, other: &str) -> String {
     match fs::read_to_string(path) {
         Ok(text) => text,

@@ -70,7 +70,7 @@ class Maker:
         return self.random.choice(list(self.machine.threads))
 
     def free(self):
-        """The threads that run, but for root, which is to go on so that it can create and delete others."""
+        """The threads that run, except root, which has to stay running so that it can create and delete others."""
         return [number for number, thread in self.machine.threads.items() if thread.phase is None and number != ROOT]
 
     def running(self):
@@ -201,7 +201,7 @@ class Maker:
         return list(self.random.choice(pairs)) if pairs else self.pair()
 
     def plan_family(self):
-        """A space maps a page on within itself, and then hands on the page with its descendants in one message, most of it granted."""
+        """A space maps a page within itself, and then passes on the page with its descendants in one message, mostly by grants."""
         giver, taker = self.sharing()
         if self.machine.threads[giver].space != self.machine.threads[taker].space:
             taker = self.new_number()
@@ -309,7 +309,7 @@ class StepMaker(Maker):
         return self.ipc(partner, self.machine.threads[number].ident, 0, SEND_AT_ONCE, 0, self.message(partner))
 
     def ident_of(self, number):
-        """The id of a thread, or one that names nobody."""
+        """The id of a thread, or one that names no thread."""
         chance = self.random.random()
         if chance < 0.02:
             return self.random.choice([0, ANY_THREAD, 1, ident(number) + 1, ident(number) + 64, number * 16384, self.random.getrandbits(32)])

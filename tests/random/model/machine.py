@@ -41,7 +41,7 @@ class Mapping(NamedTuple):
 
 
 class Receiving(NamedTuple):
-    """A receive phase: from which id, or from anybody."""
+    """A receive phase: from which id, or from any thread."""
 
     partner: int
     window: Fpage
@@ -70,7 +70,7 @@ class Used(NamedTuple):
 
 
 class Thread:
-    """A thread: it runs where it has no phase."""
+    """A thread: it runs if it has no phase."""
 
     def __init__(self, ident, space, pager):
         self.ident = ident
@@ -327,7 +327,7 @@ class Machine:
         return any(place in targets for source in set(sources) for place in (source, *self.ancestors(source)))
 
     def move(self, used):
-        """What a transfer does to the places, where it isn't entangled."""
+        """What a transfer does to the places, if it is not entangled."""
         targets = {move.target for move in used}
         gone = {p for p in self.places if p in targets or any(a in targets for a in self.ancestors(p))} if used else set()
         renamed = {move.source: move.target for move in used if move.is_grant}

@@ -25,7 +25,7 @@ class Refused(Exception):
 
 
 class Fpage(NamedTuple):
-    """An fpage: 2^log bytes from its base on, or nil where there is no log."""
+    """An fpage: 2^log bytes from its base on, or nil if there is no log."""
 
     base: int
     log: int | None
@@ -52,7 +52,7 @@ class Message(NamedTuple):
 
 
 def read_fpage(word):
-    """The fpage of a word, or None where it is malformed."""
+    """The fpage of a word, or None if it is malformed."""
     size = word >> 4 & 63
     base = word & ~0x3FF
     if size == 0:
@@ -103,7 +103,7 @@ def read_message(words):
 
 
 def moved_block(item, window, page_log):
-    """What an item moves into a window: the first source page, the first target page and how many; None where it moves none."""
+    """What an item moves into a window: the first source page, the first target page and their number; None if it moves none."""
     size, room = item.fpage.log, window.log
     if size is None or room is None:
         return None

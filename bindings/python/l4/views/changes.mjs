@@ -1,7 +1,7 @@
 // What a step changed: the pages that came, went or lost rights, and the threads that came and went.
 import { pagesText } from "./texts.mjs";
 
-// Pages of a space stand in runs: [first page, count, first frame, rights, parent's space or null, parent's first page]. The frames of a run
+// The pages of a space are stored as runs: [first page, count, first frame, rights, parent's space or null, parent's first page]. The frames of a run
 // follow one another, and so do the parents.
 
 /** The run of a page in a list of runs, shortened to begin at that page; null where the page isn't present. */

@@ -38,7 +38,7 @@ export function chartOf(events, before, view) {
   const threads = [...new Set(events.flatMap(threadsOf))].sort((a, b) => a - b);
   const columns = new Map(threads.map((thread, place) => [thread, LEFT + COLUMN / 2 + place * COLUMN]));
   const height = 30 + ROW * (events.length + (before ? 1 : 0)), width = LEFT + COLUMN * Math.max(threads.length, 1) + TEXT;
-  // the names stand at both ends, since a long chart shows its newest events
+  // the names are at both ends, because a long chart shows its newest events
   const lives = [...columns].flatMap(([thread, x]) => [
     ...[12, height + 12].map((y) => drawn("text", { x, y, "text-anchor": "middle" }, `thread ${thread}`)),
     drawn("line", { x1: x, y1: 18, x2: x, y2: height, class: "life" })]);

@@ -19,7 +19,7 @@ function findSpace(space, view, acts) {
   return `Space ${space} is shown.`;
 }
 
-/** The space that is named, or that of the thread that is named; null where none is. */
+/** The named space, or that of the named thread; null if there is none. */
 function spaceOf(isSpace, first, view) {
   if (first === undefined) return null;
   return isSpace ? Number(first) : view.threads.find(({ number }) => number === Number(first))?.space ?? NaN;

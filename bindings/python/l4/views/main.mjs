@@ -18,7 +18,7 @@ let source = null;
 // whether the source is asked, and is to be asked again; how often the page was shown
 let isAsking = false, isWanted = false, shownCount = 0;
 
-// who said the error that stands
+// the origin of the error that is shown
 let errorOf = "run";
 
 /** How one asker announces an error, or that it has none any more. A run takes back every error, another asker its own. */
@@ -34,7 +34,7 @@ const sayError = sayErrorOf("run"), sayPlanError = sayErrorOf("plan"), sayTextEr
 /** Announces what has been done. */
 const sayDone = (text) => { it("status").textContent = text; };
 
-/** Shows that the source works, with a button that stops it, where it takes long. */
+/** Shows that the source is working, with a button that stops it, if it takes long. */
 async function busy(work) {
   const wait = setTimeout(() => { document.body.classList.add("busy"); it("progress").hidden = false; }, BUSY_AFTER);
   try {

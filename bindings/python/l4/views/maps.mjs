@@ -107,7 +107,7 @@ function pageUnder(event, areas, first) {
   return area ? area.start + Math.floor((y - area.y) / CELL) * COLUMNS + Math.min(Math.max(Math.floor(x / CELL), 0), COLUMNS - 1) : first;
 }
 
-/** The map of a space. A page that a step changed has a frame, a dashed one where it was taken away; the chosen page has a ring. */
+/** The map of a space. A page that a step changed has a frame, which is dashed if the page was removed. The chosen page has a ring. */
 export function mapOf(shown, changes, view) {
   const own = changes.filter(({ space }) => space === shown.space);
   const runs = shown.runs.slice(0, MOST_RUNS), areas = areasOf([...runs.map(([first, count]) => ({ first, count })), ...own]);

@@ -34,7 +34,7 @@ function linked() {
   try {
     const found = { script: decoded(parts.get("script")), frames: Number(parts.get("frames") ?? 256), pageBytes: Number(parts.get("page-size") ?? 4096) };
     if (isStart(found)) return found;
-  } catch { /* told below */ }
+  } catch { /* reported below */ }
   throw new Error("The link is damaged: the part behind # is not a whole script. The page shows an example in its place.");
 }
 
@@ -84,7 +84,7 @@ export function savePicture(id, say) {
   return save(`${id}.svg`, "image/svg+xml", new XMLSerializer().serializeToString(copy));
 }
 
-/** The rules of the page's style that speak of drawings. */
+/** The rules of the page's style for drawings. */
 function drawingRules() {
   const rules = [...document.styleSheets].flatMap((sheet) => [...sheet.cssRules]);
   return rules.filter((rule) => rule.selectorText?.startsWith("svg")).map((rule) => rule.cssText).join("\n");
