@@ -71,21 +71,21 @@ fn tell_words<W: Write>(
     }
 }
 
-/// Writes the lines of items, two words each, from an index among all words on.
+/// Writes the lines of items, two words each: this many of them, from an index among all words on.
 #[tactic(auto, unfolding(crate::specs::Decoded::items_lines))]
 fn tell_items<W: Write>(
     words: &[u32],
-    from: usize,
-    count: usize,
+    places: (usize, usize),
     size: PageSize,
     mark: &[u8],
     out: &mut Output,
     writer: &mut W,
 )
-    requires there { from + 2 * count ≤ length words.now }
+    requires there { places.0 + 2 * places.1 ≤ length words.now }
     requires short { length mark.now ≤ 2 }
-    ensures { Tells (W.contents writer.old) (W.contents writer.new) out.old out.new (items_lines mark.now size words.now from count) }
+    ensures { Tells (W.contents writer.old) (W.contents writer.new) out.old out.new (items_lines mark.now size words.now places.0 places.1) }
 {
+    let (from, count) = places;
     for k in 0..count {
         let at = from + 2 * k;
         tell_item(k, (words[at], words[at + 1]), size, mark, out, writer);
@@ -109,7 +109,7 @@ fn tell_each<W: Write>(words: &[u32], size: PageSize, mark: &[u8], out: &mut Out
     let end = 1 + untyped + typed;
     out.put_marked(writer, mark, &tag_line(words[0]));
     tell_words(b"untyped", words, (1, untyped), mark, out, writer);
-    tell_items(words, 1 + untyped, typed / 2, size, mark, out, writer);
+    tell_items(words, (1 + untyped, typed / 2), size, mark, out, writer);
     tell_words(b"half an item", words, (half, typed % 2), mark, out, writer);
     let ignored = words.len() - end;
     tell_words(b"ignored", words, (end, ignored), mark, out, writer);
