@@ -6,7 +6,7 @@ ghost use Rattle.l4_spaces.specs.Tables.{IsPage};
 ghost use Rattle.l4_nodes.specs.Keys.{IsKey};
 ghost use Rattle.l4_links.specs.Inside.Trees.{Sprouts, Rises};
 ghost use Rattle.l4_links.specs.Inside.Orders.{TakesOut, first_of};
-ghost use Rattle.l4_nodes.specs.Slots.{node_at, slot_at, spots, HasRoom};
+ghost use Rattle.l4_nodes.specs.Slots.{node_at, slot_at, spots, HasRoomFor};
 ghost use Rattle.l4_links.specs.Inside.Nodes.{limbs, links, values, AreKeys, IsOrder, IsForest, Parts, TakesSlot, CutsOff, ClosesGap, Comes, child, AddsUnder, Prunes, Clears};
 ghost use Rattle.l4_links.specs.Inside.Keeping.{IsIndexed};
 
@@ -140,7 +140,7 @@ pub(crate) fn add_under(
     requires fits { IsPage place.page }
     requires kept { IsKey nodes.old.vacant_key }
     requires vacant { slot_at nodes.old.slots nodes.old.vacant_key ≡ None }
-    requires room { HasRoom nodes.old }
+    requires room { HasRoomFor nodes.old 1 }
     ensures { AddsUnder parent place above.now rights nodes.old.slots nodes.new.slots nodes.old.vacant_key }
 {
     let node = child_of(parent, above, rights, nodes.capacity());

@@ -1,7 +1,8 @@
 -- What is read of the slots and of what is noted beside them, and what a write to one key does.
-use Rattle.std.proofs.Common.{◌≡◌, ◌≢◌, ℕ, zero, suc, ◌<◌, Bool, true, false, if◌then◌else◌, List, [], ◌∷◌, ◌++◌, drop, length, slice_index_or, slice_set, Option, Some, None, refl, sym, ap, ◌∙◌, subst, inl, inr}
+use Rattle.std.proofs.Common.{◌≡◌, ◌≢◌, ℕ, zero, suc, ◌+◌, ◌<◌, ◌≤◌, Bool, true, false, if◌then◌else◌, List, [], ◌∷◌, ◌++◌, drop, length, slice_index_or, slice_set, Option, Some, None, is_some, cond, count_by, arith, refl, sym, ap, ◌∙◌, subst, inl, inr}
 use Rattle.std.proofs.lemmas.Bool.{cases_eq, cases_lt}
 use Rattle.std.proofs.lemmas.List.{get_or-set_same, get_or-set_other, get_or_past}
+use Rattle.std.proofs.lemmas.List.Sums.{sum_by-cons}
 use Rattle.std.specs.Option.{option_map, option_and_then}
 use Rattle.l4_nodes.specs.declared.nodes.Node.{Node}
 use Rattle.l4_nodes.specs.declared.nodes.Slot.{Slot}
@@ -26,6 +27,29 @@ after (note ∷ notes) key = refl
 pub joined_long : (slots : List (Option Packed)) (notes : List Note) → length (joined slots notes) ≡ length slots
 joined_long [] notes = refl
 joined_long (slot ∷ slots) notes = ap suc (joined_long slots (drop 1 notes))
+
+one_more : {T : Type 0} (x : Option T) (xs : List (Option T)) → count_by is_some (x ∷ xs) ≡ cond (is_some x) 1 0 + count_by is_some xs
+one_more {T} x xs = sum_by-cons (λ (o : Option T). cond (is_some o) 1 0) x xs
+
+-- as many slots are in use
+pub joined_used : (slots : List (Option Packed)) (notes : List Note) → count_by is_some (joined slots notes) ≡ count_by is_some slots
+joined_used [] notes = refl
+joined_used (None ∷ slots) notes = omega (arith, joined_used slots (drop 1 notes), one_more None (joined slots (drop 1 notes)), one_more None slots)
+joined_used (Some p ∷ slots) notes = omega (arith, joined_used slots (drop 1 notes), one_more (Some (slot_shown p (note_of notes 0))) (joined slots (drop 1 notes)), one_more (Some p) slots)
+
+-- the room for more slots is that of the slab
+pub room_joined : (slots : List (Option Packed)) (notes : List Note) (more capacity : ℕ) → count_by is_some slots + more ≤ capacity → count_by is_some (joined slots notes) + more ≤ capacity
+room_joined slots notes more capacity le = subst (λ (n : ℕ). n + more ≤ capacity) (sym (joined_used slots notes)) le
+
+pub room_parted : (slots : List (Option Packed)) (notes : List Note) (more capacity : ℕ) → count_by is_some (joined slots notes) + more ≤ capacity → count_by is_some slots + more ≤ capacity
+room_parted slots notes more capacity le = subst (λ (n : ℕ). n + more ≤ capacity) (joined_used slots notes) le
+
+-- one slot more takes one place of the room
+pub room_taken : (old new : List (Option Packed)) (notes later : List Note) (more capacity : ℕ) → count_by is_some new ≡ count_by is_some old + 1 → count_by is_some (joined old notes) + (more + 1) ≤ capacity → count_by is_some (joined new later) + more ≤ capacity
+room_taken old new notes later more capacity len le =
+    let l : count_by is_some old + (more + 1) ≤ capacity = room_parted old notes (more + 1) capacity le in
+    let m : count_by is_some new + more ≤ capacity = omega (arith, l, len) in
+    room_joined new later more capacity m
 
 -- a slot is read with what is noted of its key
 pub joined_at : (slots : List (Option Packed)) (notes : List Note) (key : ℕ) → slot_at (joined slots notes) key ≡ option_map (λ (p : Packed). slot_shown p (note_of notes key)) (slice_index_or slots key None)

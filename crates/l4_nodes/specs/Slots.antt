@@ -1,5 +1,5 @@
 -- The slots of a slab as contracts see them, and what a write to one of them does.
-use Rattle.std.specs.Prelude.{◌≡◌, ◌≢◌, ℕ, ◌<◌, ◌≤◌, Bool, false, List, Option, Some, None, slice_index_or, option_and_then}
+use Rattle.std.specs.Prelude.{◌≡◌, ◌≢◌, ℕ, ◌+◌, ◌≤◌, Bool, false, List, Option, Some, None, is_some, count_by, slice_index_or, option_and_then}
 use Rattle.std.specs.Option.{option_map}
 use Rattle.l4_fpage.specs.Rights.{RightsSet}
 use Rattle.l4_nodes.specs.declared.Place.{Place}
@@ -38,17 +38,17 @@ unnoted n = record n { seen = 0; mark = 0; end = None }
 abbrev pub unnoted_slot : Slot → Slot
 unnoted_slot s = record s { node = option_map unnoted s.node }
 
--- what is in each slot, the key of the next one, how many more fit with no allocation, and of how many keys something can be noted with none
+-- what is in each slot, the key of the next one, how many slots fit with no allocation, and of how many keys something can be noted with none
 pub record Store : Type 0 where
   pub slots : Slots
   pub vacant_key : ℕ
-  pub free : ℕ
+  pub capacity : ℕ
   pub noted : ℕ
 
--- one more slot fits, and something can be noted of its key, with no allocation
-pub record HasRoom (s : Store) : Type 0 where
-  pub slot : 1 ≤ s.free
-  pub note : s.vacant_key < s.noted
+-- so many more slots fit, and something can be noted of each key that a slot can then have, with no allocation
+pub record HasRoomFor (s : Store) (more : ℕ) : Type 0 where
+  pub slots : count_by is_some s.slots + more ≤ s.capacity
+  pub notes : s.capacity ≤ s.noted
 
 -- the slot has this node now, and all else is as it was
 pub record Writes (key : ℕ) (node : Option Node) (old new : Slots) : Type 0 where

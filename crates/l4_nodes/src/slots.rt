@@ -1,10 +1,10 @@
 //! The slots, and beside them the records of walks for their keys. A slot is read together with its record.
 
-ghost use Rattle.std.specs.Prelude.{◌≡◌, ◌≢◌, ◌<◌, ◌≤◌, ℕ, [], false, None, Some, length, slice_index_or, vec_capacity, IfOk, OnOk, OnErr};
+ghost use Rattle.std.specs.Prelude.{◌≡◌, ◌≢◌, ◌+◌, ◌<◌, ◌≤◌, ℕ, [], false, None, Some, length, slice_index_or, vec_capacity, IfOk, OnOk, OnErr};
 ghost use Rattle.std.specs.Option.{option_map};
 ghost use Rattle.l4_spaces.specs.Tables.{IsPage};
 ghost use Rattle.l4_nodes.specs.Keys.{IsKey, no_key};
-ghost use Rattle.l4_nodes.specs.Slots.{slot_at, HasRoom, unnoted, unnoted_slot};
+ghost use Rattle.l4_nodes.specs.Slots.{slot_at, HasRoomFor, unnoted, unnoted_slot};
 ghost use Rattle.l4_nodes.specs.Inside.Packed.{no_note, slot_shown};
 
 use crate::Place;
@@ -60,17 +60,16 @@ pub(crate) fn note_at(notes: &Vec<Note>, key: usize) -> Note
     }
 }
 
-/// Allocates room for the record of the key, for which there is none.
+/// Allocates room for the records of this many keys, which the list has no room for.
 #[cold]
 #[inline(never)]
-fn grow(notes: &mut Vec<Note>, key: usize) -> Result<(), AllocError>
-    requires kept { IsKey key }
-    requires full { vec_capacity notes.old ≤ key }
-    ensures room { OnOk result (key < vec_capacity notes.new) }
+fn grow(notes: &mut Vec<Note>, keys: usize) -> Result<(), AllocError>
+    requires full { vec_capacity notes.old < keys }
+    ensures room { OnOk result (keys ≤ vec_capacity notes.new) }
     ensures same { notes.new.items ≡ notes.old.items }
     ensures capacity { vec_capacity notes.old ≤ vec_capacity notes.new }
 {
-    notes.reserve(key + 1 - notes.len())
+    notes.reserve(keys - notes.len())
 }
 
 /// Extends the list up to the key. A new record is an empty one.
@@ -162,7 +161,7 @@ impl Slots {
     /// Then nothing has changed.
     #[inline]
     pub fn make_room(&mut self) -> Result<(), NoMemory>
-        ensures room { OnOk result (HasRoom self.new) }
+        ensures room { OnOk result (HasRoomFor self.new 1) }
         ensures few { OnOk result (IsKey self.new.vacant_key) }
         ensures same { self.new.slots ≡ self.old.slots }
     {
@@ -170,25 +169,32 @@ impl Slots {
         if key >= NO_KEY as usize {
             return Err(NoMemory);
         }
-        self.packed.reserve(1)?;
-        if key >= self.notes.capacity() {
-            grow(&mut self.notes, key)?;
-        }
+        self.reserve(1)?;
         Ok(())
     }
 
-    /// Allocates room for this many more slots, and for the records of walks beside them, at once.
+    /// Allocates room for this many more slots, and for the records of walks beside them, at once. Then as many insertions find room.
+    ///
+    /// On `AllocError` no slot has changed.
+    #[inline]
     pub fn reserve(&mut self, slots: usize) -> Result<(), AllocError>
-        ensures { self.new.slots ≡ self.old.slots }
+        ensures room { OnOk result (HasRoomFor self.new slots) }
+        ensures key { self.new.vacant_key ≡ self.old.vacant_key }
+        ensures same { self.new.slots ≡ self.old.slots }
     {
         self.packed.reserve(slots)?;
-        self.notes.reserve(slots)
+        let keys = self.packed.capacity();
+        if keys > self.notes.capacity() {
+            grow(&mut self.notes, keys)?;
+        }
+        Ok(())
     }
 
     /// Puts this into a new slot whose key has no record, and returns its key. There must be room for it.
     #[inline]
     fn insert_reserved(&mut self, slot: Packed) -> usize
-        requires room { HasRoom self.old }
+        requires room { HasRoomFor self.old 1 }
+        ensures room { (more : ℕ) → HasRoomFor self.old (more + 1) → HasRoomFor self.new more }
         ensures key { result ≡ self.old.vacant_key }
         ensures was_vacant { slot_at self.old.slots result ≡ None }
         ensures here { slot_at self.new.slots result ≡ Some (slot_shown slot no_note) }
@@ -202,8 +208,9 @@ impl Slots {
     /// Puts a blank of the page into a new slot, and returns its key. There must be room for it.
     #[inline]
     pub fn insert_blank(&mut self, place: Place) -> usize
-        requires room { HasRoom self.old }
+        requires room { HasRoomFor self.old 1 }
         requires fits { IsPage place.page }
+        ensures room { (more : ℕ) → HasRoomFor self.old (more + 1) → HasRoomFor self.new more }
         ensures key { result ≡ self.old.vacant_key }
         ensures was_vacant { slot_at self.old.slots result ≡ None }
         ensures here { slot_at self.new.slots result ≡ Some (record { place = place; wanted = false; node = None }) }
@@ -215,9 +222,10 @@ impl Slots {
     /// Puts the page with this node into a new slot, without any record of a walk, and returns its key. There must be room for it.
     #[inline]
     pub fn insert_node(&mut self, place: Place, node: Node) -> usize
-        requires room { HasRoom self.old }
+        requires room { HasRoomFor self.old 1 }
         requires fits { IsPage place.page }
         requires depth { IsKey node.depth }
+        ensures room { (more : ℕ) → HasRoomFor self.old (more + 1) → HasRoomFor self.new more }
         ensures key { result ≡ self.old.vacant_key }
         ensures was_vacant { slot_at self.old.slots result ≡ None }
         ensures here { slot_at self.new.slots result ≡ Some (record { place = place; wanted = false; node = Some (unnoted node) }) }

@@ -1,7 +1,7 @@
 -- The slots, joined with what walks have noted of their keys.
-use Rattle.std.specs.Prelude.{◌≢◌, ℕ, ◌-◌, ◌<◌, List, [], ◌∷◌, drop, Option, None, slice_index_or, vec_capacity}
+use Rattle.std.specs.Prelude.{◌≢◌, ℕ, ◌<◌, List, [], ◌∷◌, drop, Option, None, slice_index_or, vec_capacity}
 use Rattle.std.specs.Option.{option_map}
-use Rattle.slab.specs.Slab.{get, slab_len}
+use Rattle.slab.specs.Slab.{get}
 use Rattle.l4_nodes.specs.declared.packed.Packed.{Packed}
 use Rattle.l4_nodes.specs.declared.slots.Note.{Note}
 use Rattle.l4_nodes.specs.declared.slots.Slots.TheInside.{Inside}
@@ -21,7 +21,7 @@ abbrev pub store_shown : Inside → Store
 store_shown a = record {
   slots = joined a.packed.slots a.notes.items;
   vacant_key = a.packed.vacant_key;
-  free = a.packed.capacity - slab_len a.packed;
+  capacity = a.packed.capacity;
   noted = vec_capacity a.notes;
 }
 
