@@ -90,7 +90,7 @@ class Judge:
         """
         line = step if isinstance(step, str) else step_line(step)
         expected = answers_to(self.kernel, line.encode("latin-1"))
-        if expected is None:
+        if not expected:
             raise ValueError(f"not a step or query: {line!r}")
         found = list(answer)
         self.steps += line.split()[0].encode() in _STEPS
