@@ -9,7 +9,7 @@ from contextlib import nullcontext
 from typing import List, Optional
 
 from . import draw
-from .judge import Adapter, Difference, Unfit, judge, shrink, steps_of
+from .judge import Adapter, Difference, Unfit, judge, shrink, unanswered
 from .kernel import Kernel
 from .lab import Lab, read_script
 from .lists import Unread, replay
@@ -54,10 +54,10 @@ def pass_judgement(options: argparse.Namespace) -> int:
             verdict = judge(kernel, lines)
         print(verdict)
         return int(isinstance(verdict, Difference))
-    adapter, steps = Adapter(options.command_line, options.frames, options.page_size), steps_of(lines)
-    verdict, text = adapter.judge(steps)
+    adapter, given = Adapter(options.command_line, options.frames, options.page_size), unanswered(lines)
+    verdict, text = adapter.judge(given)
     if isinstance(verdict, Difference) and options.shrink:
-        verdict, text = adapter.judge(shrink(adapter, steps))
+        verdict, text = adapter.judge(shrink(adapter, given))
         sys.stdout.write(text.decode("latin-1"))
         print(f"## {verdict}")
     else:

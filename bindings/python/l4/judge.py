@@ -1,6 +1,7 @@
 """Judges another kernel: compares its answers to a step list with those of the proved kernel, and shortens lists that differ."""
 from __future__ import annotations
 
+import collections
 import subprocess
 from dataclasses import dataclass
 from typing import Iterable, Iterator, List, NamedTuple, Optional, Sequence, Tuple, Union
@@ -55,6 +56,11 @@ class Difference:
         expected = _NO_FURTHER if self.expected is None else self.expected
         enabled = "" if self.enabled is None else f" ({self.enabled})"
         return f"{where}{self.step}: expected {expected}{enabled}, found {_NO_FURTHER if self.found is None else self.found}"
+
+
+def _is_step(line: str) -> bool:
+    """Returns whether a line of a list has a step or query: it is no comment or answer, and not empty."""
+    return bool(line.strip(" ")) and not line.startswith("#")
 
 
 def _first(expected: Sequence[str], found: Sequence[str]) -> Optional[int]:
@@ -132,7 +138,7 @@ def _entries(lines: Iterable[bytes]) -> Iterator[_Listed]:
                 raise Unread(number, "is an answer without a step or query above it")
             entry.answers.append(text[2:])
             entry.numbers.append(number)
-        elif text.strip(" ") and not text.startswith("#"):
+        elif _is_step(text):
             if entry:
                 yield entry
             entry = _Listed(number, text, [], [])
@@ -172,22 +178,22 @@ class Adapter:
     def __init__(self, command: str, frames: int, page_bytes: int, seconds: float = 60) -> None:
         self.command, self.sizes, self.seconds = command, (frames, page_bytes), seconds
 
-    def answered(self, steps: Sequence[str]) -> bytes:
+    def answered(self, lines: Sequence[str]) -> bytes:
         """Returns the list of these lines with the answers of the command. Raises Unfit if it does not write that list."""
-        given = "".join(f"{step}\n" for step in steps).encode("latin-1")
+        given = "".join(f"{line}\n" for line in lines).encode("latin-1")
         try:
             done = subprocess.run(self.command, shell=True, input=given, stdout=subprocess.PIPE, timeout=self.seconds)
         except subprocess.TimeoutExpired:
             raise Unfit(f"the command took more than {self.seconds:g} seconds") from None
         if done.returncode:
             raise Unfit(f"the command ended with status {done.returncode}")
-        if [entry.line for entry in _entries(done.stdout.splitlines(keepends=True))] != list(steps):
+        if [entry.line for entry in _entries(done.stdout.splitlines(keepends=True))] != list(filter(_is_step, lines)):
             raise Unfit("the command did not write the steps that it read")
         return done.stdout
 
-    def judge(self, steps: Sequence[str]) -> Tuple[Union[Agreement, Difference], bytes]:
-        """Runs the command on these lines. Returns what its answers amount to, and the list with them."""
-        text = self.answered(steps)
+    def judge(self, lines: Sequence[str]) -> Tuple[Union[Agreement, Difference], bytes]:
+        """Runs the command on these lines. Returns the agreement or the first difference, and the list with the answers."""
+        text = self.answered(lines)
         with Kernel(*self.sizes) as kernel:
             return judge(kernel, text.splitlines(keepends=True)), text
 
@@ -200,13 +206,14 @@ class Adapter:
             return False
 
 
-def shrink(adapter: Adapter, steps: Sequence[str]) -> List[str]:
-    """Shortens a list on which the command disagrees: it still disagrees on the list that is returned, and agrees if any single line of that
-    list is left out.
+def shrink(adapter: Adapter, lines: Sequence[str]) -> List[str]:
+    """Shortens a list on which the command disagrees. It still disagrees on the steps and queries that are returned, and agrees if any single
+    one of them is left out.
 
     A shorter list may still exist, if several lines must be left out at once. The command must answer the same list in the same way each time.
     """
-    kept, size = list(steps), max(len(steps) // 2, 1)
+    kept = list(filter(_is_step, lines))
+    size = max(len(kept) // 2, 1)
     while True:
         at, is_shorter = 0, False
         while at < len(kept):
@@ -220,6 +227,7 @@ def shrink(adapter: Adapter, steps: Sequence[str]) -> List[str]:
         size = max(size // 2, 1)
 
 
-def steps_of(lines: Iterable[bytes]) -> List[str]:
-    """Returns the steps and queries of a list, without answers and comments. Raises Unread as `judge` does."""
-    return [entry.line for entry in _entries(lines)]
+def unanswered(lines: Sequence[bytes]) -> List[str]:
+    """Returns the lines of a list without its answers. Raises Unread for a list that `judge` does not read."""
+    collections.deque(_entries(lines), maxlen=0)
+    return [line[:-1].decode("latin-1") for line in lines if not line.startswith(b"# ")]

@@ -6,7 +6,7 @@ import unittest
 from pathlib import Path
 
 from l4 import UNKNOWN, Agreement, Call, Difference, Judge, Kernel, Message, Start, ThreadId, Transfer
-from l4.judge import Adapter, Unfit, judge, shrink, steps_of
+from l4.judge import Adapter, Unfit, judge, shrink, unanswered
 from l4.lists import Unread
 
 TOP = Path(__file__).resolve().parents[3]
@@ -118,7 +118,7 @@ class Shrinking(unittest.TestCase):
     def shrunk(self, name, wrong):
         """The shortened list, of which no line can be left out."""
         adapter = Adapter(f"{KERNEL} --wrong {wrong}", 256, 4096)
-        short = shrink(adapter, steps_of(lines((SUITE / f"{name}.steps").read_text())))
+        short = shrink(adapter, unanswered(lines((SUITE / f"{name}.steps").read_text())))
         self.assertTrue(adapter.disagrees(short))
         for place in range(len(short)):
             self.assertFalse(adapter.disagrees(short[:place] + short[place + 1 :]), short[place])
