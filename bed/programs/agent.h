@@ -48,8 +48,8 @@ static inline void agent_unmap(L4_Word_t control, int count, const L4_Word_t *wo
     print_end(" unmapped\n");
 }
 
-/* start N fault ADDRESS IP ACCESS, for the access r and w. For x, the agent jumps to the address, where the test server has put a return. IP is
- * the address of the instruction that accesses memory, so the adapter writes the agent's own in its list. */
+/* start N fault ADDRESS IP ACCESS, for the access r and w. For x, the agent jumps to the address, where the test server has put a return. The
+ * kernel reports the agent's instruction, so the adapter writes the IP of the list in its place. */
 static inline void agent_fault(L4_Word_t address, L4_Word_t access) {
     volatile L4_Word_t *word = (volatile L4_Word_t *)(address & ~3u);
     if (access & L4_Writable)
