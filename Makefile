@@ -7,6 +7,7 @@
 # make install        puts the programs, the C library with its header and packages, the bed and the manual pages under PREFIX (/usr/local
 #                     if it isn't given); make install-library the C library alone, and make install-bed the bed alone
 # make web            builds web/l4.html, a page with the proved program that is opened as a file
+# make suite          writes the suite that judges other kernels to out/suite: step lists with answers, in a folder for each rule
 # make tidy           removes what the proofs left and keeps what is built; the next change is then proved from nothing
 PREFIX ?= /usr/local
 VERSION = 0.1.0
@@ -76,6 +77,10 @@ endif
 web/l4.html: $(MODULE) web/make-page $(wildcard web/*.mjs bindings/python/l4/views/* examples/*.script)
 	web/make-page $(MODULE)
 
+suite:
+	rm -rf out/suite
+	suite/make out/suite
+
 check:
 	@tests/run $(TEST)
 
@@ -120,4 +125,4 @@ install-bed: library
 	@missing=$$(bed/missing); if [ -n "$$missing" ]; then echo "l4_bed is not installed: $$missing"; \
 	else $(MAKE) -s -C bed install; fi
 
-.PHONY: all try programs library web bed check check-bed test-programs test tidy install install-library install-bed
+.PHONY: all try programs library web bed suite check check-bed test-programs test tidy install install-library install-bed

@@ -26,6 +26,7 @@ every object.
 """
 from . import draw
 from .calls import Call
+from .judge import UNKNOWN, Agreement, Difference, Judge
 from .kernel import Answer, Done, Entered, Expire, Kernel, Mapping, Outcome, Place, Reply, ReplyKind, Step, Transfer
 from .plans import Plan, Region
 from .protocols import FrameRequest, PageFault
@@ -59,8 +60,11 @@ __all__ = [
     "SMALL_PAGE_BYTES",
     "SMALL_SPACE_PAGES",
     "SPACE_PAGES",
+    "UNKNOWN",
+    "Agreement",
     "Answer",
     "Call",
+    "Difference",
     "Done",
     "Entered",
     "Entry",
@@ -69,6 +73,7 @@ __all__ = [
     "FrameRequest",
     "IpcFailed",
     "Item",
+    "Judge",
     "Kernel",
     "Link",
     "Mapping",

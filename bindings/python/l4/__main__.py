@@ -1,12 +1,15 @@
-"""The command line: executes a step list and prints its answers or a drawing, or shows the run of a script in a browser."""
+"""The command line: executes a step list and prints its answers or a drawing, judges the answers of another kernel, or shows the run of a
+script in a browser."""
 from __future__ import annotations
 
 import argparse
 import sys
 import webbrowser
+from contextlib import nullcontext
 from typing import List, Optional
 
 from . import draw
+from .judge import Adapter, Difference, Unfit, judge, shrink, unanswered
 from .kernel import Kernel
 from .lab import Lab, read_script
 from .lists import Unread, replay
@@ -17,7 +20,8 @@ from .words import PAGE_BYTES, SMALL_PAGE_BYTES
 def parse(words: Optional[List[str]]) -> argparse.Namespace:
     parser = argparse.ArgumentParser(
         prog="python -m l4",
-        description="Executes a step list from standard input (l4_steps --help describes the language), or shows a script (l4 --help) in a browser.",
+        description="Executes a step list from standard input (l4_steps --help describes the language), judges the answers of another kernel, or shows a "
+        "script (l4 --help) in a browser.",
     )
     parser.add_argument("--frames", type=int, default=256, help="number of frames of the machine, 1 to 4096 [default: %(default)s]")
     parser.add_argument("--page-size", type=int, choices=(PAGE_BYTES, SMALL_PAGE_BYTES), default=PAGE_BYTES, help="size of a page in bytes [default: %(default)s]")
@@ -27,11 +31,38 @@ def parse(words: Optional[List[str]]) -> argparse.Namespace:
     tree.add_argument("frame", type=int)
     space = commands.add_parser("space", help="execute the list, then print the mappings of a space as DOT text")
     space.add_argument("space", type=int)
+    judged = commands.add_parser("judge", help="compare the answers of another kernel, as l4 judge does, and shorten a list that differs")
+    judged.add_argument("list", nargs="?", metavar="FILE", help="a step list with answers in lines that begin with '# ' [default: standard input]")
+    judged.add_argument("--with", dest="command_line", metavar="COMMAND", help="judge the answers that this command of the shell writes for the list")
+    judged.add_argument("--shrink", action="store_true", help="leave out lines until the answers of COMMAND agree without any single one, and print that list")
     lab = commands.add_parser("lab", help="show the run of a script in a browser until interrupted")
     lab.add_argument("script", nargs="?", help="a file with a script, which you can edit on the page")
     lab.add_argument("--port", type=int, default=0, help="port of 127.0.0.1 for the page [default: a free one]")
     lab.add_argument("--no-open", action="store_true", help="do not open a browser")
-    return parser.parse_args(words)
+    options = parser.parse_args(words)
+    if options.command == "judge" and options.shrink and options.command_line is None:
+        parser.error("--shrink needs --with COMMAND")
+    return options
+
+
+def pass_judgement(options: argparse.Namespace) -> int:
+    """Judges a list, or the answers of a command to it. Returns the exit status."""
+    with open(options.list, "rb") if options.list else nullcontext(sys.stdin.buffer) as file:
+        lines = file.readlines()
+    if options.command_line is None:
+        with Kernel(options.frames, options.page_size) as kernel:
+            verdict = judge(kernel, lines)
+        print(verdict)
+        return int(isinstance(verdict, Difference))
+    adapter, given = Adapter(options.command_line, options.frames, options.page_size), unanswered(lines)
+    verdict, text = adapter.judge(given)
+    if isinstance(verdict, Difference) and options.shrink:
+        verdict, text = adapter.judge(shrink(adapter, given))
+        sys.stdout.write(text.decode("latin-1"))
+        print(f"## {verdict}")
+    else:
+        print(verdict)
+    return int(isinstance(verdict, Difference))
 
 
 def run(options: argparse.Namespace) -> None:
@@ -63,11 +94,13 @@ def show(options: argparse.Namespace) -> None:
 def main(words: Optional[List[str]] = None) -> int:
     options = parse(words)
     try:
+        if options.command == "judge":
+            return pass_judgement(options)
         if options.command == "lab":
             show(options)
         else:
             run(options)
-    except (Refused, Unread, ValueError, OSError, OverflowError) as why:
+    except (Refused, Unread, Unfit, ValueError, OSError, OverflowError) as why:
         sys.stdout.flush()
         print(f"error: {why}", file=sys.stderr)
         return 2

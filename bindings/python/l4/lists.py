@@ -85,7 +85,9 @@ def _answer(kernel: Kernel, step: Callable[[], Answer]) -> List[str]:
     return [_OUTCOMES[answer.outcome], *ended]
 
 
-def _step(step: Optional[Step]) -> str:
+def enabled_line(kernel: Kernel) -> str:
+    """Returns the answer to the query `enabled`."""
+    step = kernel.enabled()
     if isinstance(step, Transfer):
         return f"enabled transfer {step.sender} {step.receiver}"
     if isinstance(step, Expire):
@@ -104,7 +106,7 @@ def _pages(kernel: Kernel, space: int) -> List[str]:
 def _question(kernel: Kernel, name: bytes, numbers: List[int]) -> List[str]:
     """Returns the lines that answer a query."""
     if name == b"enabled" and not numbers:
-        return [_step(kernel.enabled())]
+        return [enabled_line(kernel)]
     if len(numbers) != 1:
         raise _NoLine
     if name == b"reply":
@@ -135,19 +137,32 @@ def _line(kernel: Kernel, line: bytes) -> List[str]:
     return _question(kernel, tokens[0], numbers)
 
 
+def answers_to(kernel: Kernel, line: bytes) -> Optional[List[str]]:
+    """Executes a line of a list, which has no newline, and returns the lines that answer it. Returns None if it is not a valid step or query."""
+    try:
+        return _line(kernel, line)
+    except _NoLine:
+        return None
+
+
+def whole_line(place: int, line: bytes) -> bytes:
+    """Returns the line at this place of a list, without its newline. Raises Unread if it has none, or has more than 4,096 bytes before it."""
+    whole = line.endswith(b"\n")
+    line = line[:-1] if whole else line
+    if len(line) > MAX_LINE:
+        raise Unread(place, f"is longer than {MAX_LINE} bytes")
+    if not whole:
+        raise Unread(place, "does not end with a newline")
+    return line
+
+
 def replay(kernel: Kernel, lines: Iterable[bytes]) -> Iterator[str]:
     """Executes the steps of a list, one line after another, and yields the lines that answer them. Each line ends with its newline.
 
     Raises Unread at the first line that is not a valid step or query, has no newline, or has more than 4,096 bytes before it.
     """
     for place, line in enumerate(lines, 1):
-        whole = line.endswith(b"\n")
-        line = line[:-1] if whole else line
-        if len(line) > MAX_LINE:
-            raise Unread(place, f"is longer than {MAX_LINE} bytes")
-        if not whole:
-            raise Unread(place, "does not end with a newline")
-        try:
-            yield from _line(kernel, line)
-        except _NoLine:
-            raise Unread(place, "is not a valid step or query") from None
+        answers = answers_to(kernel, whole_line(place, line))
+        if answers is None:
+            raise Unread(place, "is not a valid step or query")
+        yield from answers

@@ -28,6 +28,13 @@ class Start:
     call: Call
 
 
+def step_line(step: Union[Start, Transfer, Expire]) -> str:
+    """Returns the step as a line of a step list."""
+    if isinstance(step, Start):
+        return f"start {step.thread} {step.call.line}"
+    return f"transfer {step.sender} {step.receiver}" if isinstance(step, Transfer) else f"expire {step.thread}"
+
+
 @dataclass(frozen=True)
 class Entry:
     """An entry of a history: a step, its outcome, and the numbers of the threads whose calls ended in it.
@@ -42,11 +49,7 @@ class Entry:
     ended: Tuple[int, ...]
 
     def __str__(self) -> str:
-        if isinstance(self.step, Start):
-            return f"start {self.step.thread} {self.step.call.line}"
-        if isinstance(self.step, Transfer):
-            return f"transfer {self.step.sender} {self.step.receiver}"
-        return f"expire {self.step.thread}"
+        return step_line(self.step)
 
 
 @dataclass(frozen=True)

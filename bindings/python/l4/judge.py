@@ -1,0 +1,233 @@
+"""Judges another kernel: compares its answers to a step list with those of the proved kernel, and shortens lists that differ."""
+from __future__ import annotations
+
+import collections
+import subprocess
+from dataclasses import dataclass
+from typing import Iterable, Iterator, List, NamedTuple, Optional, Sequence, Tuple, Union
+
+from .kernel import Expire, Kernel, Transfer
+from .lists import Unread, answers_to, enabled_line, whole_line
+from .shared import Start, step_line
+
+#: An answer that the other kernel did not report. It stands for any one line.
+UNKNOWN = "?"
+
+_STEPS = (b"start", b"transfer", b"expire")
+_NO_FURTHER = "no further answer"
+
+
+class NoSteps(Unread):
+    """A list without a step or query. `args` has the number of the line after the last one, and the reason."""
+
+    def __str__(self) -> str:
+        return "line {}: {}".format(*self.args)
+
+
+@dataclass(frozen=True)
+class Agreement:
+    """All answers are those of the proved kernel. `steps` counts the steps, and `answers` the answer lines that were compared."""
+
+    steps: int
+    answers: int
+
+    def __str__(self) -> str:
+        return f"agrees: {self.steps} steps, {self.answers} answers"
+
+
+@dataclass(frozen=True)
+class Difference:
+    """The first answer line of a step or query that is not the proved kernel's.
+
+    `place` is its place among the answer lines of the step, from 0. `expected` is the proved kernel's line and `found` the other kernel's;
+    either is None if that kernel gives no further line. If the proved kernel refuses the step with K1, `enabled` is the step that is enabled,
+    as text. `line` is the number of the line in a list, or None for a step that was passed to `Judge.compare`.
+    """
+
+    step: str
+    place: int
+    expected: Optional[str]
+    found: Optional[str]
+    enabled: Optional[str] = None
+    line: Optional[int] = None
+
+    def __str__(self) -> str:
+        where = "" if self.line is None else f"line {self.line}: "
+        expected = _NO_FURTHER if self.expected is None else self.expected
+        enabled = "" if self.enabled is None else f" ({self.enabled})"
+        return f"{where}{self.step}: expected {expected}{enabled}, found {_NO_FURTHER if self.found is None else self.found}"
+
+
+def _is_step(line: str) -> bool:
+    """Returns whether a line of a list has a step or query: it is no comment or answer, and not empty."""
+    return bool(line.strip(" ")) and not line.startswith("#")
+
+
+def _first(expected: Sequence[str], found: Sequence[str]) -> Optional[int]:
+    """Returns the place of the first line that differs, or None."""
+    for place, (one, other) in enumerate(zip(expected, found)):
+        if other not in (UNKNOWN, one):
+            return place
+    return None if len(expected) == len(found) else min(len(expected), len(found))
+
+
+class Judge:
+    """Watches another kernel, step by step.
+
+    Pass each step that the other kernel executes, with its answer, to `compare`. The proved kernel executes the same step, so its state follows
+    the definition even after a difference. `steps` and `answers` count the steps, and the answer lines that were compared.
+
+    >>> judge = Judge()
+    >>> judge.compare("start 1 ipc 0x8001 0 0 0 0x70000", ["started"])
+    >>> judge.compare("start 2 ipc 0 0xffffffff 0 0", ["started"])
+    >>> judge.compare("transfer 1 2", ["done", "1 ipc 00000000 0 00000000", "2 ipc 00070000 0 00000000"])
+    Difference(step='transfer 1 2', place=2, expected='2 ipc 00070000 0 00004001', found='2 ipc 00070000 0 00000000', enabled=None, line=None)
+    """
+
+    def __init__(self, kernel: Optional[Kernel] = None) -> None:
+        self.kernel = Kernel() if kernel is None else kernel
+        self.steps = self.answers = 0
+
+    def compare(self, step: Union[str, Start, Transfer, Expire], answer: Iterable[str] = ()) -> Optional[Difference]:
+        """Executes a step or query on the proved kernel, and compares the other kernel's answer with it. Returns None if they agree.
+
+        `step` is a line of a step list, or a value that prints as one. `answer` has the lines that `l4_steps` would print. A line `UNKNOWN`
+        stands for any one line. If there are no lines, nothing is compared. Raises ValueError if the step is not a line of a step list.
+        """
+        line = step if isinstance(step, str) else step_line(step)
+        expected = answers_to(self.kernel, line.encode("latin-1"))
+        if not expected:
+            raise ValueError(f"not a step or query: {line!r}")
+        found = list(answer)
+        self.steps += line.split()[0].encode() in _STEPS
+        self.answers += sum(told != UNKNOWN for told in found)
+        place = _first(expected, found) if found else None
+        if place is None:
+            return None
+        due, came = (lines[place] if place < len(lines) else None for lines in (expected, found))
+        return Difference(line, place, due, came, enabled_line(self.kernel) if due == "refused K1" else None)
+
+
+class _Listed(NamedTuple):
+    """A step or query of a list with its answer lines, and the numbers of these lines."""
+
+    number: int
+    line: str
+    answers: List[str]
+    numbers: List[int]
+
+    def number_of(self, place: int) -> int:
+        """Returns the number of the answer line at this place, or of the last line if there are fewer."""
+        numbers = self.numbers or [self.number]
+        return numbers[min(place, len(numbers) - 1)]
+
+
+def _entries(lines: Iterable[bytes]) -> Iterator[_Listed]:
+    """Yields the steps and queries of a list, each with its answers. Raises Unread for a line that is not whole, for an answer without a step,
+    and for a list without steps."""
+    entry, number = None, 0
+    for number, line in enumerate(lines, 1):
+        try:
+            text = whole_line(number, line).decode("latin-1")
+        except Unread:
+            if entry:
+                yield entry
+            raise
+        if text.startswith("# "):
+            if entry is None:
+                raise Unread(number, "is an answer without a step or query above it")
+            entry.answers.append(text[2:])
+            entry.numbers.append(number)
+        elif _is_step(text):
+            if entry:
+                yield entry
+            entry = _Listed(number, text, [], [])
+    if entry is None:
+        raise NoSteps(number + 1, "the list has no step or query")
+    yield entry
+
+
+def judge(kernel: Kernel, lines: Iterable[bytes]) -> Union[Agreement, Difference]:
+    """Judges a list: steps and queries, with the other kernel's answers below each, in lines that begin with '# '. Returns the first difference,
+    or the agreement.
+
+    Raises Unread at the first line that is not valid: not a step or query, an answer without a step, a line that is not whole, or the end of a
+    list without steps.
+    """
+    watch = Judge(kernel)
+    for entry in _entries(lines):
+        try:
+            found = watch.compare(entry.line, entry.answers)
+        except ValueError:
+            raise Unread(entry.number, "is not a valid step or query") from None
+        if found is not None:
+            return Difference(found.step, found.place, found.expected, found.found, found.enabled, entry.number_of(found.place))
+    return Agreement(watch.steps, watch.answers)
+
+
+class Unfit(Exception):
+    """A command that cannot be used to shorten a list, with the reason."""
+
+
+class Adapter:
+    """A kernel behind a command of the shell, which reads a step list from standard input and writes the list with its answers.
+
+    `frames` and `page_bytes` are those of the machine. The command may take `seconds` for a list.
+    """
+
+    def __init__(self, command: str, frames: int, page_bytes: int, seconds: float = 60) -> None:
+        self.command, self.sizes, self.seconds = command, (frames, page_bytes), seconds
+
+    def answered(self, lines: Sequence[str]) -> bytes:
+        """Returns the list of these lines with the answers of the command. Raises Unfit if it does not write that list."""
+        given = "".join(f"{line}\n" for line in lines).encode("latin-1")
+        try:
+            done = subprocess.run(self.command, shell=True, input=given, stdout=subprocess.PIPE, timeout=self.seconds)
+        except subprocess.TimeoutExpired:
+            raise Unfit(f"the command took more than {self.seconds:g} seconds") from None
+        if done.returncode:
+            raise Unfit(f"the command ended with status {done.returncode}")
+        if [entry.line for entry in _entries(done.stdout.splitlines(keepends=True))] != list(filter(_is_step, lines)):
+            raise Unfit("the command did not write the steps that it read")
+        return done.stdout
+
+    def judge(self, lines: Sequence[str]) -> Tuple[Union[Agreement, Difference], bytes]:
+        """Runs the command on these lines. Returns the agreement or the first difference, and the list with the answers."""
+        text = self.answered(lines)
+        with Kernel(*self.sizes) as kernel:
+            return judge(kernel, text.splitlines(keepends=True)), text
+
+    def disagrees(self, steps: Sequence[str]) -> bool:
+        """Returns whether the command's answers to these lines differ from the proved kernel's. A list that the command does not answer
+        counts as agreement."""
+        try:
+            return bool(steps) and isinstance(self.judge(steps)[0], Difference)
+        except (Unfit, Unread):
+            return False
+
+
+def shrink(adapter: Adapter, lines: Sequence[str]) -> List[str]:
+    """Shortens a list on which the command disagrees. It still disagrees on the steps and queries that are returned, and agrees if any single
+    one of them is left out.
+
+    A shorter list may still exist, if several lines must be left out at once. The command must answer the same list in the same way each time.
+    """
+    kept = list(filter(_is_step, lines))
+    size = max(len(kept) // 2, 1)
+    while True:
+        at, is_shorter = 0, False
+        while at < len(kept):
+            fewer = kept[:at] + kept[at + size :]
+            if adapter.disagrees(fewer):
+                kept, is_shorter = fewer, True
+            else:
+                at += size
+        if size == 1 and not is_shorter:
+            return kept
+        size = max(size // 2, 1)
+
+
+def unanswered(lines: Sequence[bytes]) -> List[str]:
+    """Returns the lines of a list without its answers. Raises Unread for a list that `judge` does not read."""
+    collections.deque(_entries(lines), maxlen=0)
+    return [line[:-1].decode("latin-1") for line in lines if not line.startswith(b"# ")]

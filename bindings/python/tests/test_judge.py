@@ -1,0 +1,176 @@
+"""The judge: the lists of the suite agree, each kind of difference is found, and lists are shortened. The kernels that are judged are those of
+tests/suite at the top of the repository: the slow model, as it is and with one rule changed."""
+import subprocess
+import sys
+import unittest
+from pathlib import Path
+
+from l4 import UNKNOWN, Agreement, Call, Difference, Judge, Kernel, Message, Start, ThreadId, Transfer
+from l4.judge import Adapter, Unfit, judge, shrink, unanswered
+from l4.lists import Unread
+
+TOP = Path(__file__).resolve().parents[3]
+SUITE = TOP / "suite"
+KERNEL = f"{sys.executable} {TOP}/tests/suite/kernel"
+
+SENDS = """start 1 ipc 0x8001 0 0 0 0x70000
+# started
+start 2 ipc 0 0xffffffff 0 0
+# started
+"""
+ENDS = ["done", "1 ipc 00000000 0 00000000", "2 ipc 00070000 0 00004001"]
+
+
+def lines(text):
+    return text.encode("latin-1").splitlines(keepends=True)
+
+
+def answers(*told):
+    return "".join(f"# {line}\n" for line in told)
+
+
+def l4(*words, given=b""):
+    done = subprocess.run([sys.executable, "-m", "l4", "judge", *words], input=given, stdout=subprocess.PIPE, stderr=subprocess.PIPE)
+    return done.returncode, done.stdout.decode(), done.stderr.decode()
+
+
+class Lists(unittest.TestCase):
+    def of(self, text):
+        with Kernel() as kernel:
+            return judge(kernel, lines(text))
+
+    def test_the_suite_agrees(self):
+        files = sorted(SUITE.glob("*/*.steps"))
+        self.assertGreaterEqual(len(files), 40)
+        for file in files:
+            text = file.read_text()
+            steps = sum(line.startswith(("start ", "transfer ", "expire ")) for line in text.splitlines())
+            with self.subTest(file.name):
+                self.assertEqual(self.of(text), Agreement(steps, sum(line.startswith("# ") for line in text.splitlines())))
+
+    def test_differences(self):
+        transfer = SENDS + "transfer 1 2\n"
+        for told, wanted in [
+            (ENDS, "agrees: 3 steps, 5 answers"),
+            ([], "agrees: 3 steps, 2 answers"),
+            (["done", UNKNOWN, ENDS[2]], "agrees: 3 steps, 4 answers"),
+            ([UNKNOWN] * 3, "agrees: 3 steps, 2 answers"),
+            (["entangled", *ENDS[1:]], "line 6: transfer 1 2: expected done, found entangled"),
+            ([UNKNOWN, UNKNOWN, "2 gone"], "line 8: transfer 1 2: expected 2 ipc 00070000 0 00004001, found 2 gone"),
+            (ENDS[:2], "line 7: transfer 1 2: expected 2 ipc 00070000 0 00004001, found no further answer"),
+            (["done"], "line 6: transfer 1 2: expected 1 ipc 00000000 0 00000000, found no further answer"),
+            ([*ENDS, "2 gone"], "line 9: transfer 1 2: expected no further answer, found 2 gone"),
+            ([*ENDS, UNKNOWN], "line 9: transfer 1 2: expected no further answer, found ?"),
+        ]:
+            with self.subTest(told):
+                self.assertEqual(str(self.of(transfer + answers(*told))), wanted)
+
+    def test_a_step_that_is_not_enabled(self):
+        found = self.of(SENDS + "## it is the other one\n\ntransfer 2 1\n# done\n")
+        self.assertEqual(str(found), "line 8: transfer 2 1: expected refused K1 (enabled transfer 1 2), found done")
+        self.assertEqual(str(self.of("expire 1\n# expired\n")), "line 2: expire 1: expected refused K1 (enabled none), found expired")
+
+    def test_queries_are_judged(self):
+        self.assertEqual(self.of("enabled\n# enabled none\nspace 2\n# space 1\n"), Agreement(0, 2))
+        self.assertEqual(str(self.of("space 2\n# space 2\n")), "line 2: space 2: expected space 1, found space 2")
+
+    def test_lists_that_are_refused(self):
+        for text, wanted in [
+            ("", "line 1: the list has no step or query"),
+            ("## only a comment\n", "line 2: the list has no step or query"),
+            ("# a comment\nenabled\n", "line 1 is an answer without a step or query above it"),
+            ("enabled\nfrob\n", "line 2 is not a valid step or query"),
+            ("enabled\n# enabled none\ntransfer 1 2", "line 3 does not end with a newline"),
+            ("enabled\n# " + "x" * 4095 + "\n", "line 2 is longer than 4096 bytes"),
+        ]:
+            with self.subTest(text[:40]), self.assertRaises(Unread) as caught:
+                self.of(text)
+            self.assertEqual(str(caught.exception), wanted)
+
+    def test_a_difference_comes_before_a_later_line_that_is_refused(self):
+        self.assertEqual(str(self.of("space 2\n# space 2\nfrob\n")), "line 2: space 2: expected space 1, found space 2")
+
+
+class Steps(unittest.TestCase):
+    def test_values_and_lines(self):
+        watch = Judge()
+        self.assertIsNone(watch.compare(Start(1, Call.send(ThreadId.ROOT, Message.of(7))), ["started"]))
+        self.assertIsNone(watch.compare(Start(2, Call.receive()), ["started"]))
+        self.assertEqual(
+            watch.compare(Transfer(1, 2), ["done", ENDS[1], "2 ipc 00070000 0 00000000"]),
+            Difference("transfer 1 2", 2, ENDS[2], "2 ipc 00070000 0 00000000"),
+        )
+        self.assertIsNone(watch.compare("enabled", ["enabled none"]))
+        self.assertEqual((watch.steps, watch.answers), (3, 6))
+
+    def test_the_state_follows_the_definition_after_a_difference(self):
+        watch = Judge()
+        self.assertEqual(watch.compare("start 2 create 0xc001 0xc001 0", ["refused H1"]), Difference("start 2 create 0xc001 0xc001 0", 0, "started", "refused H1"))
+        self.assertIsNone(watch.compare("space 3", ["space 2"]))
+
+    def test_lines_that_are_no_steps(self):
+        for line in ("frob", "", "start", "transfer 1", "# done"):
+            with self.subTest(line), self.assertRaises(ValueError):
+                Judge().compare(line, ["done"])
+
+
+class Shrinking(unittest.TestCase):
+    def shrunk(self, name, wrong):
+        """The shortened list, of which no line can be left out."""
+        adapter = Adapter(f"{KERNEL} --wrong {wrong}", 256, 4096)
+        short = shrink(adapter, unanswered(lines((SUITE / f"{name}.steps").read_text())))
+        self.assertTrue(adapter.disagrees(short))
+        for place in range(len(short)):
+            self.assertFalse(adapter.disagrees(short[:place] + short[place + 1 :]), short[place])
+        return short
+
+    def test_no_line_can_be_left_out(self):
+        self.assertEqual(
+            self.shrunk("timeouts/receive_after_send", "timeouts"),
+            ["start 1 ipc 0 0xffffffff 0 0", "start 2 ipc 0x4001 0x4001 0x4000400 0 0x1 0x7", "transfer 2 1", "enabled"],
+        )
+        self.assertEqual(len(self.shrunk("grants/moves_the_page", "grants")), 9)
+
+    def test_commands_that_are_unfit(self):
+        for command, wanted in [
+            ("exit 3", "the command ended with status 3"),
+            ("echo enabled", "the command did not write the steps that it read"),
+            ("sleep 5", "the command took more than 0.2 seconds"),
+        ]:
+            with self.subTest(command):
+                adapter = Adapter(command, 256, 4096, 0.2 if "sleep" in command else 60)
+                with self.assertRaises(Unfit) as caught:
+                    adapter.judge(["space 1"])
+                self.assertEqual(str(caught.exception), wanted)
+                self.assertFalse(adapter.disagrees(["space 1"]))
+
+
+class Command(unittest.TestCase):
+    def test_a_list(self):
+        agrees = (SUITE / "timeouts/send.steps").read_bytes()
+        self.assertEqual(l4(given=agrees), (0, "agrees: 2 steps, 4 answers\n", ""))
+        differs = agrees.replace(b"8000 2", b"8000 3")
+        self.assertEqual(l4(given=differs)[:2], (1, "line 8: expire 2: expected 2 ipc 00008000 2 00000000, found 2 ipc 00008000 3 00000000\n"))
+        self.assertEqual(l4(given=b"# done\n"), (2, "", "error: line 1 is an answer without a step or query above it\n"))
+
+    def test_with_a_command(self):
+        file = str(SUITE / "timeouts/receive.steps")
+        self.assertEqual(l4(file, "--with", KERNEL), (0, "agrees: 2 steps, 4 answers\n", ""))
+        self.assertEqual(l4(file, "--with", KERNEL, "--shrink"), (0, "agrees: 2 steps, 4 answers\n", ""))
+        status, out, err = l4(file, "--with", f"{KERNEL} --wrong timeouts")
+        self.assertEqual((status, err), (1, ""))
+        self.assertEqual(out, "line 5: enabled: expected enabled expire 2, found enabled none\n")
+        status, out, err = l4(file, "--with", f"{KERNEL} --wrong timeouts", "--shrink")
+        self.assertEqual((status, err), (1, ""))
+        self.assertIn("start 2 ipc 0 0xffffffff 0x400 0\n# started\n", out)
+        self.assertEqual(len(out.splitlines()), 5)
+
+    def test_words_that_are_refused(self):
+        self.assertEqual(l4("--shrink")[0], 2)
+        self.assertIn("--shrink needs --with COMMAND", l4("--shrink")[2])
+        self.assertEqual(l4("no such file")[0], 2)
+        self.assertEqual(l4(given=b"enabled\n", *("--with", "exit 3")), (2, "", "error: the command ended with status 3\n"))
+
+
+if __name__ == "__main__":
+    unittest.main()
