@@ -122,7 +122,7 @@ fn refuses_page_sizes(rt: HostRuntime) {
     );
 }
 
-/// Checks that a plan of exactly this region of large pages is requested.
+/// Returns whether a plan of exactly this region of large pages is requested.
 fn is_planned(asked: &Options, owed: &Region) -> bool {
     match asked {
         Options::Plan { region, size } => region == owed && *size == PageSize::Kib4,
