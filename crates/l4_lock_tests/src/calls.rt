@@ -32,7 +32,7 @@ pub fn new_lock(rt: &impl Abort, alloc: Global) -> KernelLock {
         .0
 }
 
-/// The same for one thread alone.
+/// Returns such a lock for one thread alone.
 pub fn new_locked(rt: &impl Abort, alloc: Global) -> Locked {
     Locked::new(alloc, FRAMES, PageSize::Kib4, 0)
         .expect(rt, "a lock")
@@ -96,7 +96,7 @@ pub fn receive() -> Call {
     )
 }
 
-/// How many calls of this number the history starts.
+/// Returns the number of calls of this number that the history starts.
 pub fn starts_of(history: &History, number: u32) -> usize {
     history
         .entries_from(0)
@@ -112,7 +112,7 @@ pub fn closed<R: Abort>(rt: &R, lock: KernelLock, seats: Vec<Seat>) -> History {
     }
 }
 
-/// What a lock that is not closed hands back.
+/// Returns the error of a lock that is not closed.
 pub fn unclosed<R: Abort>(rt: &R, locked: Locked, seats: Vec<Seat>) -> Unclosed {
     match locked.close(seats) {
         Ok(_) => panic!(rt; "closed"),
