@@ -11,12 +11,12 @@ use l4_msg::Move;
 use l4_unmap::unmap;
 use std::io;
 
-/// The spaces that are looked at.
+/// The spaces that are printed.
 const SPACES: u64 = 4;
 
 const FRAMES: u32 = 8;
 
-/// Tells all pages of a space.
+/// Prints all pages of a space.
 fn show_pages(rt: &impl Print, forest: &Forest, space: u64) -> io::Result<()> {
     let mut from = 0;
     for _ in 0..MOST_PAGES {
@@ -29,7 +29,7 @@ fn show_pages(rt: &impl Print, forest: &Forest, space: u64) -> io::Result<()> {
     Ok(())
 }
 
-/// Tells what was done, all pages of all spaces, and where each frame is shown first.
+/// Prints what was done, all pages of all spaces, and where each frame is shown first.
 fn show(rt: &impl Print, told: &str, forest: &Forest) -> io::Result<()> {
     println!(rt; "{told}")?;
     for space in 0..SPACES {
@@ -41,7 +41,7 @@ fn show(rt: &impl Print, told: &str, forest: &Forest) -> io::Result<()> {
     println!(rt; ".")
 }
 
-/// An item that moves blocks of this size.
+/// Returns an item that moves blocks of this size.
 fn item(source: u32, target: u32, log: u8, grant: bool) -> ItemMove {
     let (Some(source), Some(target)) = (Block::new(source, log), Block::new(target, log)) else {
         return ItemMove::default();
@@ -128,7 +128,7 @@ fn tell_pages<R: Input + Print>(rt: &R, forest: &mut Forest) -> io::Result<()>
     take_back(rt, forest)
 }
 
-/// Makes a forest and does that. Answers whether there was memory for it.
+/// Makes a forest and does that. Returns whether there was memory for it.
 fn tell_once<R: AllocGlobal + Input + Print>(rt: &R) -> io::Result<bool> {
     let Ok(mut forest) = Forest::new(rt.alloc(), FRAMES) else {
         println!(rt; "refused new_forest\n.")?;

@@ -11,7 +11,7 @@ const FRAMES: u32 = 8;
 
 const ROOT: u32 = 2;
 
-/// The threads and the spaces that are looked at.
+/// The threads and the spaces that are printed.
 pub const THREADS: u32 = 8;
 
 const SPACES: u64 = 8;
@@ -37,7 +37,7 @@ pub fn send(to: u32, words: &[u32]) -> Call {
     Call::send(id(to), registers, Timeout::Never)
 }
 
-/// Receives anybody's message with a complete window, without an end.
+/// Receives a message from any thread with a complete window, without an end.
 pub fn receive() -> Call {
     Call::receive(
         ThreadId::any(),
@@ -64,7 +64,7 @@ fn unmap(words: &[u32]) -> Call {
     })
 }
 
-/// Tells all threads, and the step that comes next.
+/// Prints all threads, and the step that comes next.
 fn show_threads(rt: &impl Print, kernel: &Kernel) -> io::Result<()> {
     for number in 0..THREADS {
         let space = kernel.space_of(number);
@@ -76,7 +76,7 @@ fn show_threads(rt: &impl Print, kernel: &Kernel) -> io::Result<()> {
     println!(rt; "enabled {:?}", kernel.enabled())
 }
 
-/// Tells all pages of a space.
+/// Prints all pages of a space.
 fn show_pages(rt: &impl Print, kernel: &Kernel, space: u64) -> io::Result<()> {
     let mut from = 0;
     for _ in 0..MOST_PAGES {
@@ -89,7 +89,7 @@ fn show_pages(rt: &impl Print, kernel: &Kernel, space: u64) -> io::Result<()> {
     Ok(())
 }
 
-/// Tells all threads, the step that comes next, and all pages of all spaces.
+/// Prints all threads, the step that comes next, and all pages of all spaces.
 pub fn show(rt: &impl Print, kernel: &Kernel) -> io::Result<()> {
     show_threads(rt, kernel)?;
     for space in 0..SPACES {
@@ -111,7 +111,7 @@ fn step(rt: &impl Print, kernel: &mut Kernel, step: &Step) -> io::Result<()> {
     show(rt, kernel)
 }
 
-/// Tells steps of which none is refused. Answers whether there was memory for all of them.
+/// Prints steps of which none is refused. Returns whether there was memory for all of them.
 fn show_run(
     rt: &impl Print,
     kernel: &Kernel,
@@ -132,7 +132,7 @@ fn show_run(
     Ok(true)
 }
 
-/// Does these steps. Answers whether there was memory for all of them.
+/// Does these steps. Returns whether there was memory for all of them.
 fn run_once(rt: &impl Print, kernel: &mut Kernel, steps: &[Step]) -> io::Result<bool> {
     let Ok(answers) = kernel.run(steps) else {
         println!(rt; "refused run")?;
@@ -142,7 +142,7 @@ fn run_once(rt: &impl Print, kernel: &mut Kernel, steps: &[Step]) -> io::Result<
     show_run(rt, kernel, answers.as_slice())
 }
 
-/// The same, once more where memory was lacking.
+/// The same, once more if memory ran out.
 fn run(rt: &impl Print, kernel: &mut Kernel, steps: &[Step]) -> io::Result<()> {
     if run_once(rt, kernel, steps)? || run_once(rt, kernel, steps)? {
         return Ok(());
@@ -156,8 +156,8 @@ const REPLACES: [u32; 3] = [0x80, 0x40_0008, 0x50c4];
 /// The message whose two items map pages 4 and 5 to one page.
 const ENTANGLED: [u32; 5] = [0x100, 0x1009, 0x40c7, 0x1008, 0x50c7];
 
-/// The steps that take no memory: a transfer to a page that is present, an entangled one, a thread in a space that is there, its pager,
-/// its fault, a wait that expires, an Unmap, and the ends of two threads.
+/// Returns the steps that take no memory: a transfer to a page that is present, an entangled one, a thread in a space that is there, its
+/// pager, its fault, a wait that expires, an Unmap, and the ends of two threads.
 fn steps() -> [Step; 15] {
     let zero = Call::receive(id(3), Fpage::Nil, Timeout::Zero);
     [
@@ -189,7 +189,7 @@ fn spare<R: Input + Print>(rt: &R, kernel: &mut Kernel) -> io::Result<()> {
     Ok(())
 }
 
-/// Copies the kernel, once more where memory was lacking, and tells the copy.
+/// Copies the kernel, once more if memory ran out, and prints the copy.
 fn copy(rt: &impl Print, kernel: &Kernel) -> io::Result<()> {
     let copied = match kernel.copy() {
         Ok(copied) => copied,
@@ -206,7 +206,7 @@ fn copy(rt: &impl Print, kernel: &Kernel) -> io::Result<()> {
     show(rt, &copied)
 }
 
-/// Makes threads, so many that a space takes memory, and maps pages.
+/// Creates enough threads that a space needs memory, and maps pages.
 fn take_memory(rt: &impl Print, kernel: &mut Kernel) -> io::Result<()> {
     println!(rt; "done boot")?;
     show(rt, kernel)?;
@@ -224,7 +224,7 @@ fn take_memory(rt: &impl Print, kernel: &mut Kernel) -> io::Result<()> {
     copy(rt, kernel)
 }
 
-/// Boots, makes threads, maps pages, and does steps that take no memory. Answers whether there was memory to boot.
+/// Boots, makes threads, maps pages, and does steps that take no memory. Returns whether there was memory to boot.
 fn tell_once<R: AllocGlobal + Input + Print>(rt: &R) -> io::Result<bool> {
     let Ok(mut kernel) = Kernel::boot(rt.alloc(), FRAMES, PageSize::Kib4) else {
         println!(rt; "refused boot\n.")?;

@@ -6,10 +6,10 @@ use l4_ipc::{MOST_PAGES, Rights};
 use l4_links::{Links, NoMemory, Place};
 use std::io;
 
-/// The spaces that are looked at.
+/// The spaces that are printed.
 const SPACES: u64 = 2;
 
-/// Tells the keys of all pages of a space, and what stands under each.
+/// Prints the keys of all pages of a space, and what stands under each.
 fn show_keys(rt: &impl Print, links: &Links, space: u64) -> io::Result<()> {
     let mut from = 0;
     for _ in 0..MOST_PAGES {
@@ -25,7 +25,7 @@ fn show_keys(rt: &impl Print, links: &Links, space: u64) -> io::Result<()> {
     Ok(())
 }
 
-/// Tells what was done, the keys of all pages, and what stands under each.
+/// Prints what was done, the keys of all pages, and what stands under each.
 fn show(rt: &impl Print, told: &str, links: &Links) -> io::Result<()> {
     println!(rt; "{told}")?;
     for space in 0..SPACES {

@@ -21,7 +21,7 @@ enum Asked {
 }
 
 impl Asked {
-    /// The place of the seat that enters it.
+    /// Returns the place of the seat that enters it.
     fn place(self) -> usize {
         match self {
             Asked::Create => 0,
@@ -39,7 +39,7 @@ impl Asked {
     }
 }
 
-/// Tells the history.
+/// Prints the history.
 pub fn show_history(rt: &impl Print, history: &History) -> io::Result<()> {
     for entry in history.entries_from(0) {
         println!(rt; "entry {entry:?}")?;
@@ -47,7 +47,7 @@ pub fn show_history(rt: &impl Print, history: &History) -> io::Result<()> {
     Ok(())
 }
 
-/// Tells a seat and its receipts.
+/// Prints a seat and its receipts.
 pub fn show_seat(rt: &impl Print, seat: &Seat) -> io::Result<()> {
     println!(rt;
         "seat {} starts {} waiting {}",
@@ -61,7 +61,7 @@ pub fn show_seat(rt: &impl Print, seat: &Seat) -> io::Result<()> {
     Ok(())
 }
 
-/// Tells the seats, and then the kernel.
+/// Prints the seats, and then the kernel.
 fn show_seats(rt: &impl Print, seats: &[Seat], kernel: &Kernel) -> io::Result<()> {
     for seat in seats {
         show_seat(rt, seat)?;
@@ -69,7 +69,7 @@ fn show_seats(rt: &impl Print, seats: &[Seat], kernel: &Kernel) -> io::Result<()
     kernel::show(rt, kernel)
 }
 
-/// Tells the board's word, the history, the seats and the kernel.
+/// Prints the board's word, the history, the seats and the kernel.
 fn show(
     rt: &impl Print,
     locked: &Locked,
@@ -86,7 +86,7 @@ fn show(
     show_seats(rt, seats, locked.kernel())
 }
 
-/// Tells what was done, and all that `show` tells.
+/// Prints what was done, and all that `show` tells.
 fn show_done(
     rt: &impl Print,
     done: &str,
@@ -128,7 +128,7 @@ fn enter(
     show_done(rt, "enter", locked, seats, board, watch)
 }
 
-/// The seat of a number.
+/// Returns the seat of a number.
 fn seat(
     rt: &impl Print,
     locked: &mut Locked,
@@ -154,7 +154,7 @@ fn seat(
     Ok(seat)
 }
 
-/// The seats of the root and of the thread that it makes.
+/// Returns the seats of the root and of the thread that it makes.
 fn both_seats(
     rt: &impl Print,
     locked: &mut Locked,
@@ -170,7 +170,7 @@ fn both_seats(
     Ok((root, third))
 }
 
-/// The second seat takes its reply.
+/// Takes the reply of the second seat.
 fn take(
     rt: &impl Print,
     locked: &mut Locked,
@@ -208,7 +208,7 @@ fn exchange<R: Input + Print>(
     take(rt, locked, seats, board, watch)
 }
 
-/// Tells the history's length and the kernel.
+/// Prints the history's length and the kernel.
 fn show_parts(rt: &impl Print, told: &str, history: &History, kernel: &Kernel) -> io::Result<()> {
     println!(rt; "{told} {}", history.len())?;
     kernel::show(rt, kernel)
@@ -222,13 +222,13 @@ fn close(rt: &impl Print, locked: Locked, seats: Vec<Seat>) -> io::Result<()> {
     show_parts(rt, "done close", &history, &kernel)
 }
 
-/// Tells that there was no memory for what is told.
+/// Prints that there was no memory for this.
 fn refused(rt: &impl Print, told: &str) -> io::Result<bool> {
     println!(rt; "refused {told}\n.")?;
     Ok(false)
 }
 
-/// Lets a seat of another lock enter a call, which is refused. Answers whether its number was looked for: want of memory comes before.
+/// Lets a seat of another lock enter a call, which is refused. Returns whether its number was looked for: lack of memory comes before.
 fn enter_foreign(rt: &impl Print, locked: &mut Locked, seat: &mut Seat) -> io::Result<bool> {
     let Err(refusal) = locked.enter(seat, create(3)) else {
         return Err(stop());
@@ -242,19 +242,19 @@ fn enter_foreign(rt: &impl Print, locked: &mut Locked, seat: &mut Seat) -> io::R
     Ok(is_looked_for)
 }
 
-/// A seat of the root, of a lock of its own.
+/// Returns a seat of the root, of a lock of its own.
 fn foreign_seat(alloc: Global) -> Result<Seat, LockRefusal> {
     let (mut other, _, _) = Locked::new(alloc, FRAMES, PageSize::Kib4, 0)?;
     other.seat(ROOT)
 }
 
-/// A lock that threads may share, and a seat of another lock.
+/// Returns a lock that threads may share, and a seat of another lock.
 fn lock_and_seat(alloc: Global) -> Result<(KernelLock, Seat), LockRefusal> {
     let (lock, _) = KernelLock::new(alloc, FRAMES, PageSize::Kib4, 1)?;
     Ok((lock, foreign_seat(alloc)?))
 }
 
-/// Tells what was taken out of a lock, and lets a seat of another lock enter a call.
+/// Prints what was taken out of a lock, and lets a seat of another lock enter a call.
 fn show_unlocked(rt: &impl Print, locked: &mut Locked, seat: &mut Seat) -> io::Result<()> {
     show_parts(rt, "done unlock", locked.history(), locked.kernel())?;
     if !enter_foreign(rt, locked, seat)? && !enter_foreign(rt, locked, seat)? {
@@ -263,7 +263,7 @@ fn show_unlocked(rt: &impl Print, locked: &mut Locked, seat: &mut Seat) -> io::R
     Ok(())
 }
 
-/// Takes a kernel out of a lock that threads may share, and lets a seat of another lock enter a call. Answers whether there was memory for
+/// Takes a kernel out of a lock that threads may share, and lets a seat of another lock enter a call. Returns whether there was memory for
 /// the locks.
 fn unlock<R: AllocGlobal + Input + Print>(rt: &R) -> io::Result<bool> {
     let Ok((lock, mut seat)) = lock_and_seat(rt.alloc()) else {
@@ -275,7 +275,7 @@ fn unlock<R: AllocGlobal + Input + Print>(rt: &R) -> io::Result<bool> {
     Ok(true)
 }
 
-/// A lock with its board and a watch of it.
+/// Returns a lock with its board and a watch of it.
 fn watched_lock(alloc: Global) -> Result<(Locked, Board, Watch), LockRefusal>
     ensures { IfOk result (λ made. made.2.board ≡ made.1) }
 {
@@ -303,7 +303,7 @@ fn tell_calls<R: Input + Print>(
     exchange(rt, locked, seats.as_mut_slice(), board, watch)
 }
 
-/// Makes a lock, does that and closes it. Answers whether there was memory for a lock.
+/// Makes a lock, does that and closes it. Returns whether there was memory for a lock.
 fn tell_once<R: AllocGlobal + Input + Print>(rt: &R) -> io::Result<bool> {
     let Ok(mut seats) = Vec::with_capacity(rt.alloc(), 2) else {
         return refused(rt, "new_lock");

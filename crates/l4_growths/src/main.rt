@@ -18,12 +18,12 @@ mod words;
 use std::io::{self, Read};
 use std::process::ExitCode;
 
-/// A call was refused twice, or made where it can't be.
+/// Returns the error for a call that was refused twice, or made where it is not possible.
 fn stop() -> io::Error {
     io::Error::from(io::ErrorKind::OutOfMemory)
 }
 
-/// The calls that follow take no memory.
+/// Marks the point after which no call may allocate memory.
 fn end_memory<R: Input>(rt: &R) -> io::Result<()> {
     let mut byte = [0u8];
     let _ = rt.reader().read(&mut byte)?;

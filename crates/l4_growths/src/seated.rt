@@ -26,7 +26,7 @@ const SECOND: [u32; 3] = [0x80, 0x7008, 0x40_00c4];
 /// The page to which both messages bring sigma0's page 4.
 const PAGE: Place = Place { space: 3, page: 7 };
 
-/// The number of a seat and what it enters: each thread that sends waits for the one that receives.
+/// Returns the number of a seat and what it enters: each thread that sends waits for the one that receives.
 fn asked(call: usize) -> (u32, Call) {
     match call {
         0 => (2, create(3)),
@@ -38,7 +38,7 @@ fn asked(call: usize) -> (u32, Call) {
     }
 }
 
-/// Tells of each seat that was given.
+/// Prints each seat that was given.
 fn show_seats(rt: &impl Print, lock: &SeatedLock) -> io::Result<()> {
     for number in 1..SEATS + 1 {
         if let Some(seat) = lock.seat(number) {
@@ -48,20 +48,20 @@ fn show_seats(rt: &impl Print, lock: &SeatedLock) -> io::Result<()> {
     Ok(())
 }
 
-/// Tells the history, the seats and the kernel.
+/// Prints the history, the seats and the kernel.
 fn show(rt: &impl Print, lock: &SeatedLock) -> io::Result<()> {
     show_history(rt, lock.history())?;
     show_seats(rt, lock)?;
     kernel::show(rt, lock.kernel())
 }
 
-/// Tells what was done, and all that `show` tells.
+/// Prints what was done, and all that `show` tells.
 fn show_done(rt: &impl Print, done: &str, lock: &SeatedLock) -> io::Result<()> {
     println!(rt; "done {done}")?;
     show(rt, lock)
 }
 
-/// Whether the last step of the history found no memory.
+/// Returns whether the last step of the history found no memory.
 fn lacks(lock: &SeatedLock) -> bool {
     let history = lock.history();
     match history.get(history.len().wrapping_sub(1)) {
@@ -81,7 +81,7 @@ fn enter_up_to(lock: &mut SeatedLock, last: usize) -> Result<(), LockRefusal> {
     Ok(())
 }
 
-/// A lock in which that was done, where there is memory for all of it.
+/// Returns a lock in which that was done, where there is memory for all of it.
 fn entered(alloc: Global, last: usize) -> io::Result<SeatedLock> {
     let Ok(mut lock) = SeatedLock::new(alloc, FRAMES, PageSize::Kib4) else {
         return Err(stop());
@@ -112,7 +112,7 @@ fn give(rt: &impl Print, lock: &mut SeatedLock, number: u32) -> io::Result<()> {
     show_done(rt, "give", lock)
 }
 
-/// Tells that a transfer found no memory, which it finds as the history is done again, and goes on with a lock where it found some.
+/// Prints that a transfer found no memory, which it finds when the history is replayed, and continues with a lock in which it found some.
 fn renew<R: AllocGlobal + Print>(rt: &R, lock: &mut SeatedLock, call: usize) -> io::Result<()> {
     let Err(fault) = lock.provenance(rt.alloc(), PAGE) else {
         return Err(stop());
@@ -138,7 +138,7 @@ fn enter<R: AllocGlobal + Print>(rt: &R, lock: &mut SeatedLock, call: usize) -> 
     show_done(rt, "enter_by_seat", lock)
 }
 
-/// Tells links.
+/// Prints links.
 fn show_links(rt: &impl Print, links: &[ChainLink]) -> io::Result<()> {
     print!(rt; "done provenance")?;
     for link in links {
@@ -147,7 +147,7 @@ fn show_links(rt: &impl Print, links: &[ChainLink]) -> io::Result<()> {
     println!(rt; "")
 }
 
-/// How the page came to where it is, once more where memory was lacking.
+/// Returns how the page got there, once more if memory ran out.
 fn provenance<R: AllocGlobal + Print>(rt: &R, lock: &SeatedLock) -> io::Result<Vec<ChainLink>> {
     for _ in 0..2 {
         match lock.provenance(rt.alloc(), PAGE) {
@@ -166,7 +166,7 @@ fn provenance<R: AllocGlobal + Print>(rt: &R, lock: &SeatedLock) -> io::Result<V
     Err(stop())
 }
 
-/// Whether the links are that, once more where memory was lacking.
+/// Returns whether the links are that, once more if memory ran out.
 fn check<R: AllocGlobal + Print>(rt: &R, lock: &SeatedLock, links: &[ChainLink]) -> io::Result<()> {
     for _ in 0..2 {
         match lock.check_provenance(rt.alloc(), PAGE, links) {
@@ -183,7 +183,7 @@ fn check<R: AllocGlobal + Print>(rt: &R, lock: &SeatedLock, links: &[ChainLink])
     Err(stop())
 }
 
-/// Takes the replies that were left waiting, and looks how the page came to where it is.
+/// Takes the replies that were left waiting, and looks how the page got there.
 fn trace<R: AllocGlobal + Input + Print>(rt: &R, lock: &mut SeatedLock) -> io::Result<()> {
     end_memory(rt)?;
     for number in [1, 3] {
@@ -207,7 +207,7 @@ fn tell_calls<R: AllocGlobal + Input + Print>(rt: &R, lock: &mut SeatedLock) -> 
     trace(rt, lock)
 }
 
-/// Makes a lock and does that. Answers whether there was memory for it.
+/// Makes a lock and does that. Returns whether there was memory for it.
 fn tell_once<R: AllocGlobal + Input + Print>(rt: &R) -> io::Result<bool> {
     let Ok(mut lock) = SeatedLock::new(rt.alloc(), FRAMES, PageSize::Kib4) else {
         println!(rt; "refused new_seated\n.")?;

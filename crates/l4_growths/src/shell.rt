@@ -11,7 +11,7 @@ const FRAMES: u32 = 8;
 
 const SCRIPT: &[u8] = b"show 1 0 16\nparent 1 4\nfrob\nsteps\n";
 
-/// Answers a script that takes no memory. Answers whether there was memory for its kernel.
+/// Answers a script that takes no memory. Returns whether there was memory for its kernel.
 fn run_once<R: AllocGlobal + Print>(rt: &R) -> io::Result<bool> {
     let mut script = SCRIPT;
     println!(rt; "script")?;
@@ -34,7 +34,7 @@ fn run_once<R: AllocGlobal + Print>(rt: &R) -> io::Result<bool> {
     }
 }
 
-/// Reads the words of a command line. Answers whether there was memory to read them.
+/// Reads the words of a command line. Returns whether there was memory to read them.
 fn read_once<R: AllocGlobal + Print>(rt: &R, words: &[&str]) -> io::Result<bool> {
     let asked = options(rt.alloc(), words);
     if let Err(OptionFault::Memory) = asked {
@@ -45,7 +45,7 @@ fn read_once<R: AllocGlobal + Print>(rt: &R, words: &[&str]) -> io::Result<bool>
     Ok(true)
 }
 
-/// The same, once more where memory was lacking.
+/// The same, once more if memory ran out.
 fn read<R: AllocGlobal + Print>(rt: &R, words: &[&str]) -> io::Result<()> {
     if read_once(rt, words)? || read_once(rt, words)? {
         return Ok(());
@@ -53,7 +53,7 @@ fn read<R: AllocGlobal + Print>(rt: &R, words: &[&str]) -> io::Result<()> {
     Err(stop())
 }
 
-/// Reads the words of the command line of lists of steps. Answers whether there was memory to read them.
+/// Reads the words of the command line of lists of steps. Returns whether there was memory to read them.
 fn read_steps_once<R: AllocGlobal + Print>(rt: &R, words: &[&str]) -> io::Result<bool> {
     let asked = step_options(rt.alloc(), words);
     if let Err(OptionFault::Memory) = asked {
@@ -64,7 +64,7 @@ fn read_steps_once<R: AllocGlobal + Print>(rt: &R, words: &[&str]) -> io::Result
     Ok(true)
 }
 
-/// The same, once more where memory was lacking.
+/// The same, once more if memory ran out.
 fn read_steps<R: AllocGlobal + Print>(rt: &R, words: &[&str]) -> io::Result<()> {
     if read_steps_once(rt, words)? || read_steps_once(rt, words)? {
         return Ok(());

@@ -7,10 +7,10 @@ use l4_ipc::MOST_PAGES;
 use l4_spaces::{NoMemory, Spaces};
 use std::io;
 
-/// The spaces that are looked at.
+/// The spaces that are printed.
 const SPACES: u64 = 3;
 
-/// Tells whether a space is there, and all its pages.
+/// Prints whether a space is there, and all its pages.
 fn show_space(rt: &impl Print, spaces: &Spaces, space: u64) -> io::Result<()> {
     println!(rt; "space {space} {}", spaces.has(space))?;
     let mut from = 0;
@@ -24,7 +24,7 @@ fn show_space(rt: &impl Print, spaces: &Spaces, space: u64) -> io::Result<()> {
     Ok(())
 }
 
-/// Tells what was done, and all pages of all spaces.
+/// Prints what was done, and all pages of all spaces.
 fn show(rt: &impl Print, told: &str, spaces: &Spaces) -> io::Result<()> {
     println!(rt; "{told}")?;
     for space in 0..SPACES {
@@ -71,7 +71,7 @@ fn set(rt: &impl Print, spaces: &mut Spaces, space: u64, pages: &[u32]) -> io::R
     show(rt, "done prepare", spaces)
 }
 
-/// Sets a page for which room was made before memory ended. Answers whether there was memory for it.
+/// Sets a page for which room was made before memory ended. Returns whether there was memory for it.
 fn set_later<R: Input + Print>(rt: &R, spaces: &mut Spaces) -> io::Result<bool> {
     if !spaces.has(1) {
         return Err(stop());

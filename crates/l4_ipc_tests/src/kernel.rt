@@ -31,7 +31,7 @@ const COMPLETE: u32 = 0x10;
 /// The message that maps page 16 with all rights, to page 32 in a window of all pages.
 const MAPS: [u32; 3] = [0x80, 0x2_0008, 0x1_00c7];
 
-/// An Ipc.
+/// Returns an Ipc.
 fn ipc(
     number: u32,
     to: ThreadId,
@@ -52,19 +52,19 @@ fn ipc(
     Step::Start(number, Call::Ipc(call))
 }
 
-/// A send phase without an end.
+/// Returns a send phase without an end.
 fn send(number: u32, to: ThreadId, words: &[u32]) -> Step
     requires { length words.now ≤ max_words }
 {
     ipc(number, to, NOBODY, 0, 0, words)
 }
 
-/// A receive phase without an end.
+/// Returns a receive phase without an end.
 fn receive(number: u32, from: ThreadId, acceptor: u32) -> Step {
     ipc(number, NOBODY, from, 0, acceptor, &[])
 }
 
-/// An Unmap.
+/// Returns an Unmap.
 fn unmap(number: u32, control: u32, words: &[u32]) -> Step
     requires { length words.now ≤ max_words }
 {
@@ -75,7 +75,7 @@ fn unmap(number: u32, control: u32, words: &[u32]) -> Step
     Step::Start(number, Call::Unmap(call))
 }
 
-/// A page fault at this address with the instruction pointer 0x1234.
+/// Returns a page fault at this address with the instruction pointer 0x1234.
 fn fault(number: u32, address: u32, access: u8) -> Step {
     let call = FaultCall {
         address,
@@ -85,12 +85,12 @@ fn fault(number: u32, address: u32, access: u8) -> Step {
     Step::Start(number, Call::Fault(call))
 }
 
-/// A control of threads.
+/// Returns a control of threads.
 fn control(number: u32, control: Control) -> Step {
     Step::Start(number, Call::Control(control))
 }
 
-/// A new thread without a pager.
+/// Returns a new thread without a pager.
 fn create(number: u32, id: ThreadId, space: ThreadId) -> Step {
     control(
         number,
@@ -107,7 +107,7 @@ fn set_pager(number: u32, id: ThreadId, pager: ThreadId) -> Step {
     control(number, Control::SetPager(SetPager { id, pager }))
 }
 
-/// The end of a thread.
+/// Returns the end of a thread.
 fn delete(number: u32, id: ThreadId) -> Step {
     control(number, Control::Delete(id))
 }
@@ -120,7 +120,7 @@ fn step_all(kernel: &mut Kernel, steps: &[Step]) -> Result<(), Refused> {
     Ok(())
 }
 
-/// Whether the step is done with this outcome, and ends the calls of these threads.
+/// Returns whether the step is done with this outcome, and ends the calls of these threads.
 fn ends(kernel: &mut Kernel, step: &Step, outcome: Outcome, ended: &[u32]) -> bool {
     match kernel.step(step) {
         Ok(answer) => answer.outcome == outcome && answer.ended.as_slice() == ended,
@@ -128,32 +128,32 @@ fn ends(kernel: &mut Kernel, step: &Step, outcome: Outcome, ended: &[u32]) -> bo
     }
 }
 
-/// Whether the step starts, and ends the calls of these threads.
+/// Returns whether the step starts, and ends the calls of these threads.
 fn starts(kernel: &mut Kernel, step: &Step, ended: &[u32]) -> bool {
     ends(kernel, step, Outcome::Started, ended)
 }
 
-/// Whether the step is refused so.
+/// Returns whether the step is refused with this refusal.
 fn is_refused(kernel: &mut Kernel, step: &Step, want: Refused) -> bool {
     kernel.step(step).err() == Some(want)
 }
 
-/// Whether this transfer is the step that comes next.
+/// Returns whether this transfer is the step that comes next.
 fn transfers_next(kernel: &Kernel, from: u32, to: u32) -> bool {
     matches!(kernel.enabled(), Some(Step::Transfer(a, b)) if a == from && b == to)
 }
 
-/// Whether the thread's reply is that of a control.
+/// Returns whether the thread's reply is that of a control.
 fn is_controlled(kernel: &Kernel, number: u32) -> bool {
     matches!(kernel.reply(number), Some(Reply::Controlled))
 }
 
-/// Whether the thread's fault was a hit.
+/// Returns whether the thread's fault was a hit.
 fn is_hit(kernel: &Kernel, number: u32) -> bool {
     matches!(kernel.reply(number), Some(Reply::Hit))
 }
 
-/// A kernel in which root created thread 3, and that thread waits for anybody's message.
+/// Returns a kernel in which root created thread 3, and that thread waits for a message from any thread.
 fn waiting(alloc: Global, acceptor: u32) -> Result<Kernel, Refused> {
     let mut kernel = Kernel::boot(alloc, 256, PageSize::Kib4)?;
     step_all(
@@ -163,7 +163,7 @@ fn waiting(alloc: Global, acceptor: u32) -> Result<Kernel, Refused> {
     Ok(kernel)
 }
 
-/// The tag, the error, the sender and the words of the reply of an Ipc.
+/// Returns the tag, the error, the sender and the words of the reply of an Ipc.
 fn replied(
     kernel: &Kernel,
     number: u32,
@@ -181,12 +181,12 @@ fn replied(
     }
 }
 
-/// Whether the thread's Ipc failed with this ErrorCode.
+/// Returns whether the thread's Ipc failed with this ErrorCode.
 fn ipc_failed(kernel: &Kernel, number: u32, error: u32) -> bool {
     replied(kernel, number, 0x8000, error, NOBODY, &[])
 }
 
-/// The complete window.
+/// Returns the complete window.
 fn complete() -> Fpage {
     Fpage::Complete(Rights::of_bits(0))
 }
@@ -304,7 +304,7 @@ fn outcome(answer: &Result<Answer, Refused>) -> Option<Outcome> {
     }
 }
 
-/// Whether each step was done: it started a call, or, as the last, was a transfer.
+/// Returns whether each step was done: it started a call, or, as the last, was a transfer.
 fn all_done(answers: &[Result<Answer, Refused>]) -> bool {
     for (place, answer) in answers.iter().enumerate() {
         let want = if place + 1 < answers.len() {
@@ -380,7 +380,7 @@ fn maps_small_pages_of_sigma0(rt: HostRuntime) -> Result<(), Fail> {
     Ok(())
 }
 
-/// A receive, a send to it and their transfer, again and again.
+/// Returns a receive, a send to it and their transfer, again and again.
 fn many_messages(alloc: Global, rounds: u32) -> Result<Vec<Step>, Fail> {
     let mut steps = Vec::new(alloc);
     for round in 0..rounds {
@@ -414,7 +414,8 @@ fn a_hundred_thousand_steps(rt: HostRuntime) -> Result<(), Fail> {
     Ok(())
 }
 
-/// Whether this comes next and is told so: as a step that is done with this outcome and ends the calls of these threads, and without a list.
+/// Returns whether this comes next and is told so: as a step that is done with this outcome and ends the calls of these threads, and
+/// without a list.
 fn comes_next(
     kernel: &mut Kernel,
     step: &Step,
@@ -434,19 +435,19 @@ fn comes_next(
     }
 }
 
-/// Whether thread 2's message to thread 3 comes next, and ends both calls.
+/// Returns whether thread 2's message to thread 3 comes next, and ends both calls.
 fn comes_to_third(kernel: &mut Kernel) -> bool {
     let told = NextStep::Transfer(2, 3, Outcome::Done, true);
     comes_next(kernel, &Step::Transfer(2, 3), told, Outcome::Done, &[2, 3])
 }
 
-/// Whether the end of sigma0's wait comes next.
+/// Returns whether the end of sigma0's wait comes next.
 fn expires_for_sigma0(kernel: &mut Kernel) -> bool {
     let told = NextStep::Expire(1);
     comes_next(kernel, &Step::Expire(1), told, Outcome::Expired, &[1])
 }
 
-/// Whether this is what comes next.
+/// Returns whether this is what comes next.
 fn is_next(kernel: &Kernel, want: Option<Step>) -> bool {
     kernel.enabled() == want
 }
@@ -467,7 +468,7 @@ fn steps_that_come_next(rt: HostRuntime) -> Result<(), Fail> {
     Ok(())
 }
 
-/// Whether the call starts, and this is written in the place of another answer: the calls of these threads ended.
+/// Returns whether the call starts, and this is written in the place of another answer: the calls of these threads ended.
 fn writes(kernel: &mut Kernel, start: &Step, answer: &mut Answer, ended: &[u32]) -> bool {
     match start {
         Step::Start(number, call) => {
@@ -502,7 +503,8 @@ fn calls_that_start_in_a_lent_place(rt: HostRuntime) -> Result<(), Fail> {
     Ok(())
 }
 
-/// Whether what sigma0 sent was delivered in the one kernel, and in the other the one thread of its space was deleted that waited for it.
+/// Returns whether what sigma0 sent was delivered in the one kernel, and in the other the one thread of its space was deleted that waited
+/// for it.
 fn went_both_ways(kernel: &Kernel, copy: &Kernel) -> bool {
     kernel.mapping(2, 32) == mapped(16, 7, 0, 16)
         && replied(kernel, 3, 0x80, 0, SIGMA0, &[0x2_0008, 0x1_00c7])

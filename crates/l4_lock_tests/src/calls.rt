@@ -17,7 +17,7 @@ pub const SIGMA0: u32 = 1;
 /// The number of root, which may make and end threads.
 pub const ROOT: u32 = 2;
 
-/// The id of a thread in its first version.
+/// Returns the id of a thread in its first version.
 pub fn id(number: u32) -> ThreadId {
     match ThreadId::global(number, 1) {
         Some(id) => id,
@@ -25,36 +25,36 @@ pub fn id(number: u32) -> ThreadId {
     }
 }
 
-/// A lock that no call was entered in.
+/// Returns a lock that no call was entered in.
 pub fn new_lock(rt: &impl Abort, alloc: Global) -> KernelLock {
     KernelLock::new(alloc, FRAMES, PageSize::Kib4, 0)
         .expect(rt, "a lock")
         .0
 }
 
-/// The same for one thread alone.
+/// Returns such a lock for one thread alone.
 pub fn new_locked(rt: &impl Abort, alloc: Global) -> Locked {
     Locked::new(alloc, FRAMES, PageSize::Kib4, 0)
         .expect(rt, "a lock")
         .0
 }
 
-/// The seat of this number.
+/// Returns the seat of this number.
 pub fn seat<R: Wait + Abort>(rt: &R, lock: &KernelLock, number: u32) -> Seat {
     lock.seat(rt, number).expect(rt, "a seat")
 }
 
-/// The seat of this number, for one thread alone.
+/// Returns the seat of this number, for one thread alone.
 pub fn seat_of(rt: &impl Abort, locked: &mut Locked, number: u32) -> Seat {
     locked.seat(number).expect(rt, "a seat")
 }
 
-/// A list of these seats.
+/// Returns a list of these seats.
 pub fn list<const N: usize>(rt: &impl Abort, alloc: Global, seats: [Seat; N]) -> Vec<Seat> {
     Vec::from_array(alloc, seats).expect(rt, "memory")
 }
 
-/// A lock that no call was entered in, and a watch of its board.
+/// Returns a lock that no call was entered in, and a watch of its board.
 pub fn watched(rt: &impl Abort, alloc: Global) -> (KernelLock, Watch)
     ensures { result.1.board ≡ result.0 }
 {
@@ -87,7 +87,7 @@ pub fn send(to: u32, words: &[u32]) -> Call {
     Call::send(id(to), registers, Timeout::Never)
 }
 
-/// Receives anybody's message with a complete window. It waits for as long as it takes.
+/// Receives a message from any thread with a complete window. It waits for as long as it takes.
 pub fn receive() -> Call {
     Call::receive(
         ThreadId::any(),
@@ -96,7 +96,7 @@ pub fn receive() -> Call {
     )
 }
 
-/// How many calls of this number the history starts.
+/// Returns the number of calls of this number that the history starts.
 pub fn starts_of(history: &History, number: u32) -> usize {
     history
         .entries_from(0)
@@ -104,7 +104,7 @@ pub fn starts_of(history: &History, number: u32) -> usize {
         .count()
 }
 
-/// The history of a lock that is closed with its seats.
+/// Returns the history of a lock that is closed with its seats.
 pub fn closed<R: Abort>(rt: &R, lock: KernelLock, seats: Vec<Seat>) -> History {
     match lock.unlock().close(seats) {
         Ok((history, _)) => history,
@@ -112,7 +112,7 @@ pub fn closed<R: Abort>(rt: &R, lock: KernelLock, seats: Vec<Seat>) -> History {
     }
 }
 
-/// What a lock that is not closed hands back.
+/// Returns the error of a lock that is not closed.
 pub fn unclosed<R: Abort>(rt: &R, locked: Locked, seats: Vec<Seat>) -> Unclosed {
     match locked.close(seats) {
         Ok(_) => panic!(rt; "closed"),

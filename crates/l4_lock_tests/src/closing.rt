@@ -28,7 +28,7 @@ fn close(rt: &impl Abort, left: Unclosed) {
     assert!(rt; left.locked.close(left.seats).is_ok());
 }
 
-/// Judges a lock that was not closed for this reason, after one call and with so many seats.
+/// Judges a lock that was not closed for this reason, after one call and with this many seats.
 fn check_left(rt: &impl Abort, left: &Unclosed, mismatch: Mismatch, seats: usize) {
     assert_eq!(rt; left.mismatch, mismatch);
     assert_eq!(rt; left.locked.history().len(), 1);

@@ -41,7 +41,7 @@ struct Signs {
 /// What the threads share.
 type Shared<T> = Arc<T, Global>;
 
-/// Looks for a sign once a millisecond. Answers whether it came.
+/// Looks for a sign once a millisecond. Returns whether it came.
 fn comes(rt: &impl Clock, sign: &AtomicBool) -> bool {
     for _ in 0..LOOKS {
         if sign.load(Ordering::SeqCst) {
@@ -144,7 +144,7 @@ fn prepare<R: Threads + Wait + Sync + Abort>(
     assert!(rt; hand_out(rt, lock, sigma0, pager));
 }
 
-/// Runs the two threads to their end. Answers their seats.
+/// Runs the two threads to their end. Returns their seats.
 fn run<R: Threads + Wait + Clock + Abort + AllocGlobal + Copy + Send + Drop + 'static>(
     rt: &R,
     lock: &Shared<KernelLock>,

@@ -23,7 +23,7 @@ const MESSAGE: [u32; 11] = [10, 1, 2, 3, 4, 5, 6, 7, 8, 9, 10];
 /// How often a watch looks at most.
 const LOOKS: u32 = 10_000;
 
-/// Sends all messages. Answers whether each call was entered.
+/// Sends all messages. Returns whether each call was entered.
 fn send_all<R: Wait>(rt: &R, lock: &KernelLock, seat: &mut Seat) -> bool {
     for _ in 0..MESSAGES {
         if lock.call(rt, seat, send(PARTNER, &MESSAGE)).is_err() {
@@ -33,7 +33,7 @@ fn send_all<R: Wait>(rt: &R, lock: &KernelLock, seat: &mut Seat) -> bool {
     true
 }
 
-/// Receives as many. Answers whether each call was entered.
+/// Receives as many. Returns whether each call was entered.
 fn receive_all<R: Wait>(rt: &R, lock: &KernelLock, seat: &mut Seat) -> bool {
     for _ in 0..MESSAGES {
         if lock.call(rt, seat, receive()).is_err() {
@@ -43,7 +43,7 @@ fn receive_all<R: Wait>(rt: &R, lock: &KernelLock, seat: &mut Seat) -> bool {
     true
 }
 
-/// Looks until the board shows the last entry. Answers whether it came and no look was below the one before.
+/// Looks until the board shows the last entry. Returns whether it came and no look was below the one before.
 fn watch_all<R: Clock>(rt: &R, board: &Board, watch: &mut Watch) -> bool
     requires { watch.old.board ≡ board.now }
 {

@@ -15,7 +15,7 @@ const ROUNDS: u32 = 60;
 /// The registers of a message of 63 words.
 const REGISTERS: usize = 64;
 
-/// The message of a round, its tag first. Each word has four bytes that count.
+/// Returns the message of a round, its tag first. Each word has four bytes that count.
 fn message(round: u32) -> [u32; REGISTERS] {
     let mut words = [0x9e37_79b9u32.wrapping_mul(round.wrapping_add(1)); REGISTERS];
     for i in 1..REGISTERS {
@@ -37,14 +37,14 @@ fn exchange<R: Abort>(rt: &R, locked: &mut Locked, root: &mut Seat, third: &mut 
 /// The entries of a round: the start of a receive, that of a send, and the transfer. Before them all a thread is made.
 const ENTRIES: usize = 3;
 
-/// The place of the entry that ends both calls of a round. The two before it start them.
+/// Returns the place of the entry that ends both calls of a round. The two before it start them.
 fn transfer_of(round: u32) -> usize
     ensures { 2 ≤ result }
 {
     ENTRIES * round as usize + ENTRIES
 }
 
-/// Whether a receipt is of the call that sent the message of a round.
+/// Returns whether a receipt is of the call that sent the message of a round.
 fn has_sent(receipt: &Receipt, round: u32) -> bool {
     let Call::Ipc(call) = &receipt.call else {
         return false;
@@ -54,7 +54,7 @@ fn has_sent(receipt: &Receipt, round: u32) -> bool {
         && call.words.as_slice() == message(round).as_slice()
 }
 
-/// Whether a receipt is of a call that received the words of a round's message.
+/// Returns whether a receipt is of a call that received the words of a round's message.
 fn has_received(receipt: &Receipt, round: u32) -> bool {
     let Reply::Ipc(reply) = &receipt.reply else {
         return false;

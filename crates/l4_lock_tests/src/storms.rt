@@ -64,7 +64,7 @@ fn make_all<R: Wait + Abort>(rt: &R, lock: &KernelLock, root: &mut Seat) {
     }
 }
 
-/// The seats of the threads that have ended.
+/// Returns the seats of the threads that have ended.
 fn join_all<R: Threads + Wait + Abort + Copy + Send + Drop + 'static>(
     rt: &R,
     alloc: Global,

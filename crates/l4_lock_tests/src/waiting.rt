@@ -17,12 +17,12 @@ const THIRD: u32 = 3;
 /// How often the watch looks at most.
 const LOOKS: u32 = 10_000;
 
-/// Whether the call was left waiting.
+/// Returns whether the call was left waiting.
 fn waits(entered: Result<Entered, LockRefusal>) -> bool {
     matches!(entered, Ok(Entered::Waiting))
 }
 
-/// Whether the call has ended with this reply.
+/// Returns whether the call has ended with this reply.
 fn ends(entered: Result<Entered, LockRefusal>, reply: Reply) -> bool {
     match entered {
         Ok(Entered::Done(last)) => last == reply,
@@ -31,7 +31,7 @@ fn ends(entered: Result<Entered, LockRefusal>, reply: Reply) -> bool {
     }
 }
 
-/// Whether the call was refused so.
+/// Returns whether the call was refused with this refusal.
 fn is_refused(entered: Result<Entered, LockRefusal>, refusal: LockRefusal) -> bool {
     match entered {
         Ok(_) => false,
@@ -68,7 +68,7 @@ fn gone_once(rt: HostRuntime) {
     replace_once(&rt, &mut locked, &mut root, &mut third);
 }
 
-/// Waits until the board shows this number. Answers whether it does.
+/// Waits until the board shows this number. Returns whether it does.
 fn shows<R: Clock>(rt: &R, board: &Board, watch: &mut Watch, number: u64) -> bool
     requires { watch.old.board ≡ board.now }
 {

@@ -1,6 +1,6 @@
 use l4_fpage::{Block, Fpage, PageSize, Rights};
 
-/// The base, the log and the bits of the rights of a word that is read as a sized fpage.
+/// Returns the base, the log and the bits of the rights of a word that is read as a sized fpage.
 fn sized(word: u32) -> Option<(u32, u8, u8)> {
     match Fpage::read(word) {
         Ok(Fpage::Sized(extent)) => Some((extent.base, extent.log, extent.rights.bits())),
@@ -13,7 +13,7 @@ fn rewritten(word: u32) -> Option<u32> {
     Some(Fpage::read(word).ok()?.word())
 }
 
-/// The block of a word's fpage, of pages of this size.
+/// Returns the block of a word's fpage, of pages of this size.
 fn pages(word: u32, size: PageSize) -> Option<(u32, u8)> {
     let block = Fpage::read(word).ok()?.pages(size)?;
     Some((block.first, block.log))
@@ -99,7 +99,7 @@ fn blocks(rt: HostRuntime) {
     }
 }
 
-/// The pages that two blocks have in common.
+/// Returns the pages that two blocks have in common.
 fn common(left: Option<Block>, right: Option<Block>) -> Option<Block> {
     left?.intersection(right?)
 }
@@ -119,7 +119,7 @@ fn common_pages_of_blocks(rt: HostRuntime) {
     );
 }
 
-/// The word of the fpage of the block's pages of this size with all rights, where a space has these pages.
+/// Returns the word of the fpage of the block's pages of this size with all rights, where a space has these pages.
 fn word_of(block: Option<Block>, size: PageSize) -> Option<u32> {
     let block = block?;
     if !block.lies_in(size) {

@@ -1,4 +1,4 @@
-//! Tests of the crates that the kernel stands on, and of those for plans, texts and sigma0.
+//! Tests of the crates below the kernel, and of those for plans, texts and sigma0.
 #![tactic(auto)]
 
 #[cfg(test)]

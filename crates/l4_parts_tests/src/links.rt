@@ -6,12 +6,12 @@ use l4_fpage::Rights;
 use l4_links::{Entry, Links, NoMemory, Place, Standing};
 use std::test::Fail;
 
-/// A page of space 0.
+/// Returns a page of space 0.
 fn place(page: u32) -> Place {
     Place { space: 0, page }
 }
 
-/// A blank at the page of space 0, which has no key yet.
+/// Returns a blank at the page of space 0, which has no key yet.
 fn blank(links: &mut Links, page: u32) -> Result<usize, NoMemory>
     requires { IsPage page }
     ensures { IfOk result (IsBlank links.new.entries) }
@@ -25,7 +25,7 @@ fn blank(links: &mut Links, page: u32) -> Result<usize, NoMemory>
     Ok(key)
 }
 
-/// A child with all rights that its parent has, at the page.
+/// Returns a child with all rights that its parent has, at the page.
 fn child(links: &mut Links, parent: usize, page: u32) -> Result<usize, NoMemory>
     requires { IsPage page }
 {
@@ -55,7 +55,7 @@ fn child_at_once(links: &mut Links, parent: usize, page: u32) -> Result<Option<u
     links.add_child(parent, place, Rights::all())
 }
 
-/// A root with all rights.
+/// Returns a root with all rights.
 fn root(links: &mut Links, frame: u32) -> Result<usize, NoMemory>
     requires { IsPage frame }
 {
@@ -76,7 +76,7 @@ fn grant(links: &mut Links, key: usize, page: u32, rights: Rights) -> Result<(),
     Ok(())
 }
 
-/// Whether all that stands has a right.
+/// Returns whether all that stands has a right.
 fn have_rights(links: &Links) -> bool
     ensures { result ≡ true → HaveRights links.now.entries }
 {
@@ -104,7 +104,7 @@ fn cut_below(links: &mut Links, key: usize) {
     }
 }
 
-/// The rights under the key, and the parent.
+/// Returns the rights under the key, and the parent.
 fn shown(links: &Links, key: usize) -> Option<(Rights, Option<usize>)> {
     let Some(standing) = links.standing(key) else {
         return None;
@@ -112,7 +112,7 @@ fn shown(links: &Links, key: usize) -> Option<(Rights, Option<usize>)> {
     Some((standing.rights, standing.parent))
 }
 
-/// Whether these rights and parents stand under these keys.
+/// Returns whether these rights and parents stand under these keys.
 fn stand_so(links: &Links, rows: &[(usize, u8, Option<usize>)]) -> bool {
     for (key, rights, parent) in rows {
         if shown(links, *key) != Some((Rights::of_bits(*rights), *parent)) {
@@ -122,7 +122,7 @@ fn stand_so(links: &Links, rows: &[(usize, u8, Option<usize>)]) -> bool {
     true
 }
 
-/// A root, a child of it, and a child of that one: the three keys from the top.
+/// Returns a root, a child of it, and a child of that one: the three keys from the top.
 fn chain(links: &mut Links) -> Result<[usize; 3], NoMemory> {
     let top = root(links, 5)?;
     let middle = child(links, top, 10)?;
@@ -148,7 +148,7 @@ fn caps_a_chain(rt: HostRuntime) {
     assert!(rt; stand_so(&links, &[(top, 3, None), (low, 1, Some(middle))]));
 }
 
-/// The entry of a page where nothing stands.
+/// Returns the entry of a page where nothing stands.
 fn blank_entry(page: u32, wanted: bool) -> Option<Entry> {
     Some(Entry {
         place: place(page),
@@ -157,7 +157,7 @@ fn blank_entry(page: u32, wanted: bool) -> Option<Entry> {
     })
 }
 
-/// A root with three children, of which the second has a child, and that one too: the keys in the order of their pages.
+/// Returns a root with three children, of which the second has a child, and that one too: the keys in the order of their pages.
 fn three_children(links: &mut Links) -> Result<[usize; 6], NoMemory> {
     let top = root(links, 5)?;
     let last = child(links, top, 10)?;
@@ -217,7 +217,7 @@ fn cuts_off_what_descends(rt: HostRuntime) {
     assert!(rt; stand_so(&links, &rows));
 }
 
-/// A root at the frame's page with a child at the page: the two keys.
+/// Returns a root at the frame's page with a child at the page: the two keys.
 fn root_with_child(links: &mut Links, frame: u32, page: u32) -> Result<[usize; 2], NoMemory>
     requires frame { IsPage frame }
     requires page { IsPage page }
@@ -404,7 +404,7 @@ fn takes_a_blank_and_its_space(rt: HostRuntime) -> Result<(), Fail> {
     Ok(())
 }
 
-/// A root with two children, of which the first has a child: the four keys from the top.
+/// Returns a root with two children, of which the first has a child: the four keys from the top.
 fn nephew(links: &mut Links) -> Result<[usize; 4], NoMemory> {
     let top = root(links, 5)?;
     let left = child(links, top, 10)?;
@@ -425,7 +425,7 @@ fn finds_sources(rt: HostRuntime) {
     assert!(rt; !links.has_source_below(top) && !links.has_source_below(left));
 }
 
-/// A page of space 1.
+/// Returns a page of space 1.
 fn away(page: u32) -> Place {
     Place { space: 1, page }
 }
@@ -513,7 +513,7 @@ fn moves_no_page_where_one_cannot_go(rt: HostRuntime) {
     assert!(rt; stand_so(&links, &rows));
 }
 
-/// A root with two children, of which the second has a child, and that one too: the five keys from the top.
+/// Returns a root with two children, of which the second has a child, and that one too: the five keys from the top.
 fn family(links: &mut Links) -> Result<[usize; 5], NoMemory> {
     let top = root(links, 5)?;
     let left = child(links, top, 10)?;
@@ -523,7 +523,7 @@ fn family(links: &mut Links) -> Result<[usize; 5], NoMemory> {
     Ok([top, left, right, low, lowest])
 }
 
-/// Whether nothing stands at these keys, and no place is noted either.
+/// Returns whether nothing stands at these keys, and no place is noted either.
 fn are_free(links: &Links, keys: &[usize]) -> bool {
     for key in keys {
         if links.at(*key).is_some() {

@@ -12,7 +12,7 @@ fn root(frame: u32, rights: Rights) -> Mapping {
     }
 }
 
-/// An item that maps page 5 to page 5.
+/// Returns an item that maps page 5 to page 5.
 fn onto_itself() -> ItemMove {
     ItemMove {
         mv: Move {
@@ -88,7 +88,7 @@ fn ends_a_space(rt: HostRuntime) -> Result<(), Fail> {
     Ok(())
 }
 
-/// An item that moves page 5 to page 9.
+/// Returns an item that moves page 5 to page 9.
 fn page(grant: bool, rights: Rights) -> ItemMove {
     ItemMove {
         mv: Move {
@@ -100,7 +100,7 @@ fn page(grant: bool, rights: Rights) -> ItemMove {
     }
 }
 
-/// A page of space 0 granted to space 2 leaves its children with the rights of the item.
+/// A page of space 0 that is granted to space 2 leaves its children with the rights of the item.
 #[test]
 fn grants_a_page_with_a_child(rt: HostRuntime) -> Result<(), Fail> {
     let mut forest = Forest::new(rt.alloc(), 256)?;

@@ -4,14 +4,13 @@ use l4_msg::{
     map_answer,
 };
 
-/// The label, the number of untyped words and the number of items of the message that words begin
-/// with.
+/// Returns the label, the number of untyped words and the number of items of the message that words begin with.
 fn counted(words: &[u32]) -> Result<(u16, usize, usize), MsgFault> {
     let message = Message::read(words)?;
     Ok((message.label, message.untyped.len(), message.items.len()))
 }
 
-/// The first pages and the log of an item's move in a window, by pages of this size.
+/// Returns the first pages and the log of an item's move in a window, by pages of this size.
 fn moved_in(size: PageSize, first: u32, second: u32, window: u32) -> Option<(u32, u32, u8)> {
     let item = Item::read(first, second).ok()?;
     let pages = item_moves(&item, &Acceptor::read(window).ok()?, size)?;
@@ -41,7 +40,7 @@ fn refusals_of_messages(rt: HostRuntime) {
     }
 }
 
-/// The item of the message that words begin with, None where its tag is refused or does not count just one.
+/// Returns the item of the message that words begin with, None where its tag is refused or does not count just one.
 fn only_item(words: &[u32]) -> Option<Result<Item, MsgFault>> {
     let tag = Message::read_tag(words).ok()?;
     if tag.typed != 2 {
@@ -50,7 +49,7 @@ fn only_item(words: &[u32]) -> Option<Result<Item, MsgFault>> {
     Some(Message::read_only_item(words, &tag))
 }
 
-/// The item that maps all pages.
+/// Returns the item that maps all pages.
 fn map_all(base: u32) -> Item {
     Item::Map {
         base,
@@ -58,7 +57,7 @@ fn map_all(base: u32) -> Item {
     }
 }
 
-/// The item that grants all pages.
+/// Returns the item that grants all pages.
 fn grant_all(base: u32) -> Item {
     Item::Grant {
         base,

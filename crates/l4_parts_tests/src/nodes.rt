@@ -4,7 +4,7 @@ use l4_fpage::Rights;
 use l4_nodes::{Link, Node, Place, Slots, node_of, place_of, see};
 use l4_spaces::NoMemory;
 
-/// The top of a tree that shows the frame with all rights, and has no neighbours.
+/// Returns the top of a tree that shows the frame with all rights, and has no neighbours.
 fn top(frame: u32) -> Node
     ensures { result.depth ≡ 0 }
 {
@@ -25,7 +25,7 @@ fn top(frame: u32) -> Node
     }
 }
 
-/// A blank at page 5 and a node at page 6 of space 3.
+/// Returns a blank at page 5 and a node at page 6 of space 3.
 fn blank_and_node(slots: &mut Slots) -> Result<[usize; 2], NoMemory> {
     slots.make_room()?;
     let blank = slots.insert_blank(Place { space: 3, page: 5 });
@@ -34,7 +34,7 @@ fn blank_and_node(slots: &mut Slots) -> Result<[usize; 2], NoMemory> {
     Ok([blank, node])
 }
 
-/// The frame of the node under the key, and the stamp of the last walk that has come by it.
+/// Returns the frame of the node under the key, and the stamp of the last walk that has come by it.
 fn shown(slots: &Slots, key: usize) -> Option<(u32, u32)> {
     let Some(node) = node_of(slots, key) else {
         return None;

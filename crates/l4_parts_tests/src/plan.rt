@@ -3,7 +3,7 @@ use l4_fpage::{PageSize, Rights};
 use l4_msg::{MAX_ITEMS, Region};
 use l4_plan::{Plan, PlanRefusal, TOO_MANY, plan};
 
-/// A region with all rights.
+/// Returns a region with all rights.
 fn region(source: u32, target: u32, count: u32) -> Region {
     Region {
         source,
@@ -17,7 +17,7 @@ fn planned(source: u32, target: u32, count: u32) -> Option<Plan> {
     plan(&region(source, target, count), PageSize::Kib4).ok()
 }
 
-/// The word of the plan's message with this number, at this place.
+/// Returns the word of the plan's message with this number, at this place.
 fn word(plan: &Plan, number: u32, place: usize) -> Option<u32> {
     match plan.message(number) {
         Ok(message) => message.write().get(place).copied(),
@@ -25,7 +25,7 @@ fn word(plan: &Plan, number: u32, place: usize) -> Option<u32> {
     }
 }
 
-/// The pages of a region that is too long, as many as are asked for.
+/// Returns the requested number of pages of a region that is too long.
 fn too_long(source: u32, target: u32, count: u32) -> Option<ArrayVec<u32, TOO_MANY>> {
     let Err(PlanRefusal::TooLong(pages)) = plan(&region(source, target, count), PageSize::Kib4)
     else {

@@ -3,7 +3,7 @@ use l4_fpage::{PageSize, Rights};
 use l4_msg::{Item, MAX_ITEMS, Message, Region, TOO_MANY};
 use l4_plan_check::{Fault, Proved, check, check_too_long};
 
-/// A region with all rights.
+/// Returns a region with all rights.
 fn region(source: u32, target: u32, count: u32) -> Region {
     Region {
         source,
@@ -13,7 +13,7 @@ fn region(source: u32, target: u32, count: u32) -> Region {
     }
 }
 
-/// The items of a message.
+/// Returns the items of a message.
 fn items_of(words: &[u32]) -> Option<ArrayVec<Item, MAX_ITEMS>> {
     Some(Message::read(words).ok()?.items)
 }

@@ -2,7 +2,7 @@ use l4_fpage::{Fpage, PageSize, Rights};
 use l4_msg::{Message, PageFault, map_answer};
 use l4_sigma0::Sigma0;
 
-/// The fpage of a word.
+/// Returns the fpage of a word.
 fn fpage(word: u32) -> Fpage {
     Fpage::read(word).unwrap_or(Fpage::Nil)
 }

@@ -70,7 +70,7 @@ fn keeps_pages(rt: HostRuntime) -> Result<(), Fail> {
     Ok(())
 }
 
-/// Sets a page of the space, which is added if it isn't there.
+/// Sets a page of the space, which is added if it is not there.
 fn put(spaces: &mut Spaces, space: u64, page: u32, key: usize) -> Result<(), NoMemory>
     requires { IsPage page }
 {

@@ -58,7 +58,7 @@ fn receive(threads: &mut Threads, number: u32, receiving: Receiving) -> Result<(
     Ok(())
 }
 
-/// Whether the thread waits for its message to be taken.
+/// Returns whether the thread waits for its message to be taken.
 fn sends(threads: &Threads, number: u32) -> bool {
     match threads.state(number) {
         Some(activity) => activity.is_sending(),

@@ -4,7 +4,7 @@ use l4_msg::Move;
 use l4_unmap::{UnmapFault, unmap};
 use std::alloc::Global;
 
-/// The forest in which the pages 6 and 7 of space 2 are mapped from sigma0's 254 and 255 with all rights.
+/// Returns the forest in which the pages 6 and 7 of space 2 are mapped from sigma0's 254 and 255 with all rights.
 fn mapped(alloc: Global) -> Result<Forest, NoMemory> {
     let mut forest = Forest::new(alloc, 256)?;
     forest.new_space(2)?;

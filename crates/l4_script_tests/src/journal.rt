@@ -19,7 +19,7 @@ fn some_words() -> ArrayVec<u32, MAX_WORDS> {
     words
 }
 
-/// Whether this value was read, and no word is left.
+/// Returns whether this value was read, and no word is left.
 fn is_all<T: PartialEq + Drop>(read: Option<(T, Words<'_>)>, value: &T) -> bool {
     match read {
         Some((again, rest)) => &again == value && read_word(rest).is_none(),
@@ -27,7 +27,7 @@ fn is_all<T: PartialEq + Drop>(read: Option<(T, Words<'_>)>, value: &T) -> bool 
     }
 }
 
-/// Whether these are the words of the call behind its tag, and it is read again from them.
+/// Returns whether these are the words of the call behind its tag, and it is read again from them.
 fn check_call(rt: &impl Abort, call: &Call, tag: u32, fields: &[u32]) {
     let mut out = Record::new();
     put_fields(&mut out, call);
@@ -125,7 +125,7 @@ fn replies_are_read_back(rt: HostRuntime) {
     check_reply(&rt, &Reply::Gone, &[6]);
 }
 
-/// Whether a place is written as these two words, and read again from them.
+/// Returns whether a place is written as these two words, and read again from them.
 fn is_read_back(place: usize, lower: u32, upper: u32) -> bool {
     let mut out = Record::new();
     put_place(&mut out, place);
@@ -168,7 +168,7 @@ impl FromWords for Anything {
     }
 }
 
-/// Whether these are the words.
+/// Returns whether these are the words.
 fn are_words(found: Option<Words<'_>>, words: &[u32]) -> bool {
     match found {
         Some(found) => found.as_slice() == words,
@@ -179,7 +179,7 @@ fn are_words(found: Option<Words<'_>>, words: &[u32]) -> bool {
 /// More items than a list has room for that grew a few times.
 const MANY: u32 = 3000;
 
-/// An item of a few words and of those after them; of one word alone; and of none.
+/// Returns an item of a few words and of those after them; of one word alone; and of none.
 #[test]
 fn items_are_stored_in_order(rt: HostRuntime) -> Result<(), Fail> {
     let mut journal: Journal<Anything> = Journal::new(rt.alloc());
@@ -214,7 +214,7 @@ fn a_refused_growth_leaves_what_is_stored(rt: HostRuntime) -> Result<(), Fail> {
     Ok(())
 }
 
-/// The words 0xffff_ffff and 9.
+/// Returns the words 0xffff_ffff and 9.
 fn two_words() -> Record
     ensures { length result.items ≡ 2 }
 {
@@ -224,7 +224,7 @@ fn two_words() -> Record
     out
 }
 
-/// Words are lent as they lie, where there are so many.
+/// Words are lent without a copy, if there are enough.
 #[test]
 fn several_words_are_read(rt: HostRuntime) {
     let words = two_words();

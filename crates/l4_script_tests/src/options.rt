@@ -4,7 +4,7 @@ use l4_options::{OptionFault, Options, ScriptOptions, StepOptions, options, step
 use std::alloc::Global;
 use std::test::Fail;
 
-/// The frames and the pages of the script that is to be run by these words, if they ask for that.
+/// Returns the frames and the pages of the script that is to be run by these words, if they ask for that.
 fn run_of(alloc: Global, words: &[&str]) -> Option<(u32, PageSize)> {
     match options(alloc, words) {
         Ok(Options::Run { script, .. }) => Some((script.frames, script.size)),
@@ -20,7 +20,7 @@ fn steps_of(alloc: Global, words: &[&str]) -> Option<(u32, PageSize)> {
     }
 }
 
-/// The size of the pages that a plan is asked for.
+/// Returns the size of the pages that a plan is asked for.
 fn plan_size_of(alloc: Global, words: &[&str]) -> Option<PageSize> {
     match options(alloc, words) {
         Ok(Options::Plan { size, .. }) => Some(size),
@@ -28,7 +28,7 @@ fn plan_size_of(alloc: Global, words: &[&str]) -> Option<PageSize> {
     }
 }
 
-/// The size of the pages of which a plan is to be checked.
+/// Returns the size of the pages of which a plan is to be checked.
 fn check_size_of(alloc: Global, words: &[&str]) -> Option<PageSize> {
     match options(alloc, words) {
         Ok(Options::Check { size, .. }) => Some(size),
@@ -36,7 +36,7 @@ fn check_size_of(alloc: Global, words: &[&str]) -> Option<PageSize> {
     }
 }
 
-/// Whether this word can't be a number of frames.
+/// Returns whether this word cannot be a number of frames.
 fn is_refused_as_frames(alloc: Global, word: &str) -> bool {
     let words = ["l4", "run", "--frames", word];
     matches!(
@@ -122,7 +122,7 @@ fn refuses_page_sizes(rt: HostRuntime) {
     );
 }
 
-/// A plan of just this region of large pages is asked.
+/// Returns whether a plan of exactly this region of large pages is requested.
 fn is_planned(asked: &Options, owed: &Region) -> bool {
     match asked {
         Options::Plan { region, size } => region == owed && *size == PageSize::Kib4,

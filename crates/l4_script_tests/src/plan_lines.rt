@@ -4,7 +4,7 @@ use l4_plan_lines::{RunFault, check_lines, plan_lines};
 use l4_text::{Drip, Sip};
 use std::test::Fail;
 
-/// A region with all rights.
+/// Returns a region with all rights.
 fn region(source: u32, target: u32, count: u32) -> Region {
     Region {
         source,
@@ -14,14 +14,14 @@ fn region(source: u32, target: u32, count: u32) -> Region {
     }
 }
 
-/// Whether these lines are written for the plan of a region.
+/// Returns whether these lines are written for the plan of a region.
 fn is_planned(rt: &HostRuntime, region: &Region, lines: &[u8], plan: bool) -> Result<bool, Fail> {
     let mut out = Vec::new(rt.alloc());
     let answered = plan_lines(region, PageSize::Kib4, &mut out);
     Ok(answered == Ok(plan) && out.as_slice() == lines)
 }
 
-/// Whether this line is answered to these lines about a region.
+/// Returns whether this line is answered to these lines about a region.
 fn is_answered(rt: &HostRuntime, region: &Region, lines: &[u8], line: &[u8]) -> Result<bool, Fail> {
     let mut out = Vec::new(rt.alloc());
     let mut reader = lines;
@@ -156,7 +156,7 @@ fn refuses_the_first_page_past_2048(rt: HostRuntime) -> Result<(), Fail> {
     Ok(())
 }
 
-/// A writer that takes so many bytes.
+/// Returns a writer that takes this many bytes.
 fn taking(rt: &HostRuntime, calls: usize) -> Sip {
     Sip {
         taken: Vec::new(rt.alloc()),

@@ -38,7 +38,7 @@ fn send() -> Call {
     Call::send(THIRD_ID, words, Timeout::Never)
 }
 
-/// Receives anybody's message with a complete window. It waits for as long as it takes.
+/// Receives a message from any thread with a complete window. It waits for as long as it takes.
 fn receive() -> Call {
     Call::receive(
         ThreadId::any(),
@@ -47,7 +47,7 @@ fn receive() -> Call {
     )
 }
 
-/// Whether this is the message, as root sent it.
+/// Returns whether this is the message, as root sent it.
 fn is_message(reply: Option<&Reply>) -> bool {
     match reply {
         Some(
@@ -69,7 +69,7 @@ fn is_message(reply: Option<&Reply>) -> bool {
     }
 }
 
-/// A recorder, and a place for what is appended.
+/// Returns a recorder, and a place for what is appended.
 fn recorder(rt: &impl Abort, alloc: Global) -> (Recorder, Appended) {
     let (recorder, _, _) = Recorder::new(alloc, FRAMES, PageSize::Kib4, 0).expect(rt, "a recorder");
     (recorder, Appended::new())

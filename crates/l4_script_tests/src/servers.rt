@@ -39,7 +39,7 @@ fn serves_threads(rt: HostRuntime) -> Result<(), Fail> {
     Ok(())
 }
 
-/// A kernel in which sigma0, root and a third thread have called, and wait for nobody.
+/// Returns a kernel in which sigma0, root and a third thread have called, and wait for nobody.
 fn three_threads(alloc: Global) -> Option<Kernel> {
     let third = ThreadId(3 * 0x4000 + 1);
     let create = Call::create(third, third, ThreadId::nil());
