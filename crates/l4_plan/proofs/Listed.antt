@@ -26,7 +26,7 @@ use Rattle.l4_plan.specs.Inside.Listings.{InLargestSpace, GoesOn, IsAll, listing
 use Rattle.l4_plan.specs.Largest.{IsLargest}
 use Rattle.l4_plan.specs.Shortest.{IsShortest, IsTooLong}
 use Rattle.l4_plan.specs.Inside.Split.{size_of, block_fpage, largest, reached, starts_from, item_at}
-use Rattle.l4_plan.proofs.Progress.{Progress, progress_step, progress_end, progress_none, starts_of_walk}
+use Rattle.l4_plan.proofs.Progress.{Progress, progress_step, progress_end, progress_none, first_starts}
 use Rattle.l4_plan.proofs.Split.{in_largest, largest_is, largest_found, reached_more, starts_more, length_starts}
 
 -- ---- the item at a page
@@ -116,7 +116,7 @@ all_shortest size r n all =
       plan = plan;
       one_each = one;
       few = omega (arith, length_items size r r.source n, all.few);
-      starts = starts_of_walk r r.source _ _ (listed size r n all.sound.space all.within all.sound.some).walk;
+      starts = first_starts size r _ _ _ (listed size r n all.sound.space all.within all.sound.some);
       shortest = λ rival h. omega (arith, one, certificate_bounds size r (listing size r n).pages rival all.sound.space plan.certificate h);
     }
 
@@ -130,7 +130,7 @@ all_too_long size r n sound many within =
       sound = sound;
       many = same;
       certificate = cert;
-      starts = starts_of_walk r r.source _ _ h.walk;
+      starts = first_starts size r _ _ _ h;
       none = λ rival g. omega (arith, same, certificate_bounds size r (starts_from r r.source n) rival sound.space cert g);
     }
 

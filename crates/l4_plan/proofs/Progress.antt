@@ -1,5 +1,5 @@
 -- What holds of a plan that has reached a page.
-use Rattle.std.proofs.Common.{◌≡◌, ℕ, ◌+◌, ◌-◌, ◌*◌, ◌%◌, ◌^◌, ◌<◌, ◌≤◌, ◌⊎◌, inl, inr, refl, sym, ◌∙◌, subst, arith, List, [], ◌∷◌, ◌++◌, length, get_or, Some, ◌↔◌}
+use Rattle.std.proofs.Common.{◌≡◌, ℕ, ◌+◌, ◌-◌, ◌*◌, ◌%◌, ◌^◌, ◌<◌, ◌≤◌, ◌⊎◌, inl, inr, sym, ◌∙◌, subst, arith, List, [], ◌∷◌, ◌++◌, length, get_or, Some, ◌↔◌}
 use Rattle.std.proofs.lemmas.Bool.{cases_lt}
 use Rattle.std.proofs.lemmas.List.{get_or_push, length_push}
 use Rattle.std.proofs.lemmas.Nat.{pow_pos}
@@ -12,35 +12,41 @@ use Rattle.l4_msg.specs.Moves.{Shifts, ItemMoves, IsMap, base_of, fpage_of, comp
 use Rattle.l4_msg.specs.declared.items.Item.{Item}
 use Rattle.l4_msg.specs.declared.regions.Region.{Region}
 use Rattle.l4_plan.proofs.Greedy.{NoneCrosses, none_crosses_step, apart_from_crosses}
+use Rattle.l4_fpage.proofs.Powers.{aligned_step, aligned_down}
 use Rattle.l4_fpage.proofs.PageSizes.{whole_units}
 use Rattle.l4_fpage.specs.Pages.{page_log, page_bytes}
 use Rattle.l4_fpage.specs.declared.sizes.PageSize.{PageSize}
 use Rattle.l4_msg.proofs.Covered.{item_moves_is}
 use Rattle.l4_msg.specs.Regions.{IsAllowed, IsPlan, ShareBlock, StartsAt, InSpace, moved}
-use Rattle.l4_plan.specs.Largest.{IsLargest, AreStarts}
+use Rattle.l4_plan.specs.Largest.{IsLargest, BeginsLargest, AreFirstStarts}
 
--- largest allowed blocks begin at these pages, one after another, from a to b
-abbrev pub Walk : Region → ℕ → List ℕ → ℕ → Type 0
-Walk r a [] b = a ≡ b
-Walk r a (p ∷ ps) b = (p ≡ a) × ((log : ℕ) × IsLargest r p log × Walk r (p + 2 ^ log) ps b)
+-- the largest block at a page that no allowed block crosses is the largest that holds the page
+begins_here : (r : Region) (page log : ℕ) → IsLargest r page log → NoneCrosses r page → BeginsLargest r page
+begins_here r page log best h = record {
+  log = log;
+  allowed = best.allowed;
+  greatest = λ first k a holds. elim (cases_lt first page) [
+    | inl before ↦ absurd (omega (arith, h.ends first k a before, holds.below))
+    | inr from ↦ let e : first ≡ page = omega (arith, holds.from) in let b : IsAllowed r page k = rw e at a in best.greatest k b
+  ];
+}
 
-walk_push : (r : Region) (a : ℕ) (ps : List ℕ) (b log : ℕ) → Walk r a ps b → IsLargest r b log → Walk r a (ps ++ b ∷ []) (b + 2 ^ log)
-walk_push r a [] b log w best = (sym w, (log, best, refl))
-walk_push r a (p ∷ ps) b log w best = (w.0, (w.1.0, w.1.1, walk_push r (p + 2 ^ w.1.0) ps b log w.1.2 best))
-
-one_largest : (r : Region) (p j k : ℕ) → IsLargest r p j → IsLargest r p k → j ≡ k
-one_largest r p j k a b = omega (arith, a.greatest k b.allowed, b.greatest j a.allowed)
-
-pub starts_of_walk : (r : Region) (a : ℕ) (ps : List ℕ) (b : ℕ) → Walk r a ps b → AreStarts r a ps
-starts_of_walk r a [] b w = tt
-starts_of_walk r a (p ∷ ps) b w = (w.0, λ log best. subst (λ (k : ℕ). AreStarts r (p + 2 ^ k) ps) (one_largest r p w.1.0 log w.1.1 best) (starts_of_walk r (p + 2 ^ w.1.0) ps b w.1.2))
+-- of the pages of a largest block, only at its first one a largest block begins
+begins_once : (r : Region) (page log q : ℕ) → IsLargest r page log → BeginsLargest r q → page ≤ q → q < page + 2 ^ log → page ≡ q
+begins_once r page log q best b from below = elim (cases_lt page q) [
+  | inl after ↦
+      let le : log ≤ b.log = b.greatest page log best.allowed (record { from = from; below = below }) in
+      absurd (omega (arith, aligned_step log page q best.allowed.source.aligned (aligned_down log b.log q le b.allowed.source.aligned) after))
+  | inr same ↦ omega arith
+]
 
 -- the items move the pages below this one, and their first pages are a certificate with it
 pub record Progress (size : PageSize) (r : Region) (page : ℕ) (items : List Item) (pages : List ℕ) : Type 0 where
   pub from : r.source ≤ page
   pub to : page ≤ r.source + r.count
   pub crosses : NoneCrosses r page
-  pub walk : Walk r r.source pages page
+  pub begin : All (BeginsLargest r) pages
+  pub rest : (q : ℕ) → BeginsLargest r q → q < page → Any (λ p. p ≡ q) pages
   pub starts : AllZip (StartsAt size r) pages items
   pub maps : All IsMap items
   pub whole : All (λ item. base_of item % 1024 ≡ 0) items
@@ -55,7 +61,8 @@ progress_none size r = record {
   from = omega arith;
   to = omega arith;
   crosses = record { ends = λ first log a below. absurd (omega (arith, a.from)) };
-  walk = refl;
+  begin = All-nil (BeginsLargest r);
+  rest = λ q b lt. absurd (omega (arith, b.allowed.from));
   starts = tt;
   maps = All-nil IsMap;
   whole = All-nil (λ item. base_of item % 1024 ≡ 0);
@@ -122,7 +129,8 @@ progress_step size r page log items item pages space h best starts bytes = recor
   from = omega (arith, h.from);
   to = omega (arith, best.allowed.to);
   crosses = none_crosses_step r page log best h.crosses;
-  walk = walk_push r r.source pages page log h.walk best;
+  begin = All-push (BeginsLargest r) pages page h.begin (begins_here r page log best h.crosses);
+  rest = λ q b lt. (any_push (λ p. p ≡ q) pages page).1 (elim (cases_lt q page) [ inl before ↦ inl (h.rest q b before) | inr from ↦ inr (begins_once r page log q best b from lt) ]);
   starts = zip_push (StartsAt size r) pages items page item h.starts starts;
   maps = All-push IsMap items item h.maps starts.map;
   whole = All-push (λ i. base_of i % 1024 ≡ 0) items item h.whole (rw starts.base (whole_units size (moved r page)));
@@ -141,3 +149,10 @@ progress_end size r page items pages h done =
       rising = h.rising;
       certificate = record { inside = λ k d in_k. let i = h.inside k d in_k in (i.0, omega (arith, i.1, h.to)); apart = h.apart };
     }
+
+pub first_starts : (size : PageSize) → (r : Region) (page : ℕ) (items : List Item) (pages : List ℕ) → Progress size r page items pages → AreFirstStarts r pages
+first_starts size r page items pages h = record {
+  rising = h.rising;
+  begin = h.begin;
+  rest = λ q b. elim (cases_lt q page) [ inl lt ↦ inl (h.rest q b lt) | inr ge ↦ inr (λ k d in_k. let i = h.inside k d in_k in omega (arith, i.1)) ];
+}

@@ -1,5 +1,7 @@
--- The largest allowed block that begins at a page, and the pages that such blocks begin at (own).
-use Rattle.std.specs.Prelude.{◌≡◌, ℕ, ◌+◌, ◌^◌, ◌≤◌, List, [], ◌∷◌}
+-- The largest allowed blocks of a region, and the pages that they begin at (own).
+use Rattle.std.specs.Prelude.{◌≡◌, ◌⊎◌, ℕ, ◌<◌, ◌≤◌, List}
+use Rattle.std.specs.List.{Any, All, AllPairs}
+use Rattle.l4_fpage.specs.Pages.{InBlock}
 use Rattle.l4_msg.specs.Regions.{IsAllowed}
 use Rattle.l4_msg.specs.declared.regions.Region.{Region}
 
@@ -8,7 +10,14 @@ pub record IsLargest (r : Region) (page log : ℕ) : Type 0 where
   pub allowed : IsAllowed r page log
   pub greatest : (k : ℕ) → IsAllowed r page k → k ≤ log
 
--- largest allowed blocks, one straight after another from this page on, begin at these pages
-abbrev pub AreStarts : Region → ℕ → List ℕ → Type 0
-AreStarts r page [] = Unit {0}
-AreStarts r page (p ∷ ps) = (p ≡ page) × ((log : ℕ) → IsLargest r p log → AreStarts r (p + 2 ^ log) ps)
+-- an allowed block begins at the page, and no allowed block that holds the page is larger
+pub record BeginsLargest (r : Region) (page : ℕ) : Type 0 where
+  pub log : ℕ
+  pub allowed : IsAllowed r page log
+  pub greatest : (first k : ℕ) → IsAllowed r first k → InBlock first k page → k ≤ log
+
+-- the pages at which a largest allowed block begins, in rising order, from the least one on: each other one lies behind them
+pub record AreFirstStarts (r : Region) (pages : List ℕ) : Type 0 where
+  pub rising : AllPairs ◌<◌ pages
+  pub begin : All (BeginsLargest r) pages
+  pub rest : (page : ℕ) → BeginsLargest r page → Any (λ p. p ≡ page) pages ⊎ All (λ p. p < page) pages

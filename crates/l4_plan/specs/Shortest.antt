@@ -3,7 +3,7 @@ use Rattle.std.specs.Prelude.{◌≡◌, ℕ, ◌+◌, ◌≤◌, List, length}
 use Rattle.l4_msg.specs.Regions.{IsSound, IsPlan, IsCertificate, NeedsAtLeast, NeedsMoreThan, max_plan_items}
 use Rattle.l4_msg.specs.declared.regions.Region.{Region}
 use Rattle.l4_plan.specs.Plan.{Listing}
-use Rattle.l4_plan.specs.Largest.{AreStarts}
+use Rattle.l4_plan.specs.Largest.{AreFirstStarts}
 use Rattle.l4_fpage.specs.declared.sizes.PageSize.{PageSize}
 
 -- A list of map items that move exactly the region, 1,984 at most, each as large as it can be, and the first pages of its items, which
@@ -13,7 +13,7 @@ pub record IsShortest (size : PageSize) (r : Region) (p : Listing) : Type 0 wher
   pub plan : IsPlan size r p.items p.pages
   pub one_each : length p.pages ≡ length p.items
   pub few : length p.items ≤ max_plan_items
-  pub starts : AreStarts r r.source p.pages
+  pub starts : AreFirstStarts r p.pages
   pub shortest : NeedsAtLeast size r (length p.items)
 
 -- one page more than a plan has items, which show that each such list is too long
@@ -21,5 +21,5 @@ pub record IsTooLong (size : PageSize) (r : Region) (pages : List ℕ) : Type 0 
   pub sound : IsSound size r
   pub many : length pages ≡ max_plan_items + 1
   pub certificate : IsCertificate r pages
-  pub starts : AreStarts r r.source pages
+  pub starts : AreFirstStarts r pages
   pub none : NeedsMoreThan size r max_plan_items

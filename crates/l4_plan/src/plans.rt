@@ -1,7 +1,7 @@
 ghost use Rattle.std.specs.Prelude.{◌≡◌, ℕ, ◌<◌, ◌≤◌, ◌↔◌, IfOk, IfErr, IsOk, length};
 ghost use Rattle.l4_fpage.specs.declared.sizes.PageSize.{PageSize as APageSize};
 ghost use Rattle.l4_msg.specs.Messages.{CanBeWritten};
-ghost use Rattle.l4_msg.specs.Regions.{AreWholeInParts, NeedsMessages, messages_of, part_of_list, max_plan_items, max_plan_messages};
+ghost use Rattle.l4_msg.specs.Regions.{AreWholeInParts, IsPlan, NeedsMessages, messages_of, part_of_list, part_of_region, max_plan_items, max_plan_messages};
 ghost use Rattle.l4_msg.specs.declared.regions.Region.{Region as ARegion};
 ghost use Rattle.l4_plan.specs.Inside.Listings.{IsAll};
 ghost use Rattle.l4_plan.specs.Plan.{Sends};
@@ -109,7 +109,7 @@ impl Plan {
         // No fewer messages move the region.
         ensures fewest { (size : APageSize) (r : ARegion) → IsShortest size r self.now → NeedsMessages size r result }
 
-        // Each page of the region is moved by just one of them.
+        // Each page of the region is in just one of their parts, which they move exactly (the clause `moves` of `message`).
         ensures whole { (size : APageSize) (r : ARegion) → IsShortest size r self.now → AreWholeInParts r self.now.pages result }
     {
         self.items.div_ceil(MAX_ITEMS as u32)
@@ -119,6 +119,9 @@ impl Plan {
     /// and no untyped words. Returns `NoPart` if there is no such message.
     pub fn message(&self, number: u32) -> Result<Message, PlanRefusal>
         ensures sends { IfOk result (Sends (part_of_list self.now.items number)) }
+
+        // It moves exactly the part of the region with its number, and no list of map items that does is shorter.
+        ensures moves { IfOk result (λ m. (size : APageSize) (r : ARegion) → IsShortest size r self.now → IsPlan size (part_of_region r self.now.pages number) m.items.items (part_of_list self.now.pages number)) }
 
         // Its words fit into the message registers, and its send bases are multiples of 1 KiB.
         ensures writable { IfOk result CanBeWritten }

@@ -9,21 +9,21 @@ use Rattle.l4_plan.specs.Shortest.{IsShortest, IsTooLong}
 use Rattle.l4_plan_lines.specs.Plans.{IsPlanText, plan_text, too_long_text}
 use Rattle.l4_fpage.specs.declared.sizes.PageSize.{PageSize}
 
-same_pages : (size : PageSize) → (r : Region) (p q : Listing) → InSpace size r → IsShortest size r p → IsShortest size r q → p.pages ≡ q.pages
-same_pages size r p q space a b =
+same_pages : (size : PageSize) → (r : Region) (p q : Listing) → IsShortest size r p → IsShortest size r q → p.pages ≡ q.pages
+same_pages size r p q a b =
     let le = a.shortest q.items b.plan.rival in
     let ge = b.shortest p.items a.plan.rival in
-    same_starts size r r.source p.pages q.pages space a.plan.certificate.inside b.plan.certificate.inside a.starts b.starts (omega (arith, le, ge, a.one_each, b.one_each))
+    same_starts r p.pages q.pages a.starts b.starts (omega (arith, le, ge, a.one_each, b.one_each))
 
 same_plan : (size : PageSize) → (r : Region) (p q : Listing) → InSpace size r → IsShortest size r p → IsShortest size r q → plan_text p ≡ plan_text q
 same_plan size r p q space a b =
-    let pages : p.pages ≡ q.pages = same_pages size r p q space a b in
+    let pages : p.pages ≡ q.pages = same_pages size r p q a b in
     let again : IsPlan size r p.items q.pages = subst (λ (x : List ℕ). IsPlan size r p.items x) pages a.plan in
     let items : p.items ≡ q.items = same_items size r p.items q.items q.pages space again b.plan in
     λ i. plan_text (record { items = items i; pages = pages i })
 
 same_long : (size : PageSize) → (r : Region) (xs ys : List ℕ) → IsTooLong size r xs → IsTooLong size r ys → xs ≡ ys
-same_long size r xs ys a b = same_starts size r r.source xs ys a.sound.space a.certificate.inside b.certificate.inside a.starts b.starts (a.many ∙ sym b.many)
+same_long size r xs ys a b = same_starts r xs ys a.starts b.starts (a.many ∙ sym b.many)
 
 out_of : (size : PageSize) → (r : Region) → InSpace size r → IsOutOfSpace size r → ⊥
 out_of size r space out = elim out [ inl h ↦ omega (arith, space.source) | inr h ↦ omega (arith, space.target) ]

@@ -1,11 +1,11 @@
 -- Which served thread acts next, and what it enters (this profile's own).
-use Rattle.std.specs.Prelude.{◌≡◌, ◌≢◌, ◌⊎◌, ℕ, ◌-◌, ◌^◌, ◌≤◌, Some, IsTrue, IsSome}
+use Rattle.std.specs.Prelude.{◌≡◌, ◌≢◌, ◌⊎◌, ℕ, ◌-◌, ◌^◌, ◌≤◌, Some, IsTrue, IsSome, option_and_then}
 use Rattle.std.specs.Option.{unwrap_or}
 use Rattle.l4_msg.specs.Messages.{message_words}
 use Rattle.l4_msg.specs.declared.messages.Message.{Message}
 use Rattle.l4_threads.specs.declared.ThreadId.{ThreadId}
 use Rattle.l4_threads.specs.declared.Reply.{Reply}
-use Rattle.l4_threads.specs.Threads.{Threads, space_of, number_of}
+use Rattle.l4_threads.specs.Threads.{Threads, space_of, named}
 use Rattle.l4_ipc.specs.declared.calls.Call.{Call}
 use Rattle.l4_ipc.specs.Reading.{reply_of}
 use Rattle.l4_sigma0.specs.Owners.{Owners, Answers as GrantsFrames}
@@ -37,9 +37,9 @@ sigma0 = 1
 abbrev pub gone_space : ℕ
 gone_space = 2 ^ 64 - 1
 
--- the sender's space; the number alone tells the sender
+-- the space of the thread that the sender's id names: its version too, as another thread may have the number by now
 abbrev pub space_of_sender : Threads → ThreadId → ℕ
-space_of_sender t sender = unwrap_or (space_of t (number_of sender)) gone_space
+space_of_sender t sender = unwrap_or (option_and_then (space_of t) (named t sender)) gone_space
 
 -- sigma0 answers by its table of owners, which changes
 abbrev pub AnswersBySigma0 : Threads → Servers → ThreadId → Message → Message → Servers → Type 0

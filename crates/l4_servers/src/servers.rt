@@ -57,11 +57,18 @@ impl Model for Servers {
     ghost view = { λ s. servers s.owners (fin.from_entries s.tables.entries) s.served };
 }
 
-/// The space of a message's sender.
+/// The space of a message's sender. Another thread may have its number by now: the sender is gone then.
 fn space_of_sender(kernel: &Kernel, sender: ThreadId) -> u64
     ensures { result ≡ space_of_sender kernel.now.threads sender }
 {
-    kernel.space_of(sender.number()).unwrap_or(GONE_SPACE)
+    let Some(thread) = kernel.thread(sender.number()) else {
+        return GONE_SPACE;
+    };
+    if thread.id.0 == sender.0 {
+        thread.space
+    } else {
+        GONE_SPACE
+    }
 }
 
 ghost use Rattle.l4_servers.specs.Acting.{space_of_sender};
