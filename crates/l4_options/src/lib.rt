@@ -1,6 +1,7 @@
 //! The command lines of the programs `l4` and `l4_steps`, and what their `main` functions share.
 #![tactic(auto)]
 
+mod advice;
 mod commands;
 mod help;
 mod programs;

@@ -4,6 +4,7 @@ ghost use Rattle.clap.specs.Matches.{found_of};
 ghost use Rattle.l4_options.specs.Ranges.{IsFrameCount};
 ghost use Rattle.l4_options.specs.Inside.Words.{right_of, rights_of, underscored, spelled_anew, word_at, IsNumberAt, AreRightsAt, IsRegionIn};
 
+use crate::advice::without_advice;
 use crate::requests::{OptionFault, ScriptOptions};
 use arrayvec::ArrayVec;
 use clap::error::ErrorKind;
@@ -199,7 +200,10 @@ pub(crate) fn help_text(alloc: Global, error: &Error) -> Result<String, OptionFa
     match error.kind() {
         ErrorKind::DisplayHelp | ErrorKind::DisplayVersion => Ok(text),
         ErrorKind::OutOfMemory => Err(OptionFault::Memory),
-        _ => Err(OptionFault::Words(text)),
+        _ => match without_advice(alloc, text.as_str()) {
+            Ok(text) => Err(OptionFault::Words(text)),
+            Err(_) => Err(OptionFault::Memory),
+        },
     }
 }
 
