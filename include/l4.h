@@ -719,7 +719,9 @@ l4_chain l4_lock_provenance(l4_lock *lock, uint64_t space, uint32_t page, l4_lin
 
 /* Checks that exactly these links are the provenance of a page of a space. No list of links is, if the page is not present. Any value of
  * grant other than 0 means a grant. The check shares no code with l4_lock_provenance, replays the history once on a second kernel, and
- * changes nothing. Refusals in this order: B1; NoMemory, or L6 with an entry; L7. */
+ * changes nothing. Refusals in this order: B1; NoMemory, if there is no memory for the links or for a second kernel; then that of the first
+ * entry at which memory runs out (NoMemory), at which the replay gets another answer (L6 with the entry), or which the links do not pass
+ * (L7). The entries behind that one are not replayed. */
 l4_verdict l4_lock_check_provenance(l4_lock *lock, uint64_t space, uint32_t page, const l4_link *links, size_t count);
 
 /* Takes back the seats of these numbers, and frees the locked kernel with its history if exactly the seats that were given come back, each

@@ -98,7 +98,7 @@ pub fn last_arrival(
 }
 
 /// Replays all steps of a history on a kernel. Errors: `NoMemory` if an allocation failed, and `OtherAnswer` if a
-/// step gets another answer than the history says; the steps before it are then executed.
+/// step gets another answer than the history says. After an error, the state of the kernel is unspecified.
 pub fn replay(kernel: &mut Kernel, history: &History) -> Result<(), ReplayFault>
     ensures ok { IfOk result (λ _. Run kernel.old (steps_of history.now.entries) (answers_of history.now.entries) kernel.new) }
     ensures err { IfErr result (FailsIn kernel.old history.now.entries) }
