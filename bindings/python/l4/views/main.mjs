@@ -87,13 +87,13 @@ function takeView(view) {
   showChanges(view, choose);
   showThreads(view, acts());
   showSelection();
-  showChart(view, goStep);
+  showChart(view, go);
 }
 
 function showPlace(view) {
   it("step").max = view.count;
   [["at", view.at], ["count", view.count], ["step", view.at]].forEach(([id, value]) => { it(id).value = value; });
-  it("step").setAttribute("aria-valuetext", `${view.unit} ${view.at} of ${view.count}`);
+  it("step").setAttribute("aria-valuetext", `step ${view.at} of ${view.count}`);
   it("back").disabled = view.at === 0;
   it("on").disabled = view.at === view.count;
   it("notes").replaceChildren(...view.notes.map((note) => made("li", {}, note)));
@@ -107,7 +107,7 @@ function showSelection() {
 }
 
 /** What the views can do, and what is chosen. */
-const acts = () => ({ space: shown.space, page: shown.page, first: shown.first, colour: shown.colour, choose, chooseSpace, goStep, findThread: focusThread });
+const acts = () => ({ space: shown.space, page: shown.page, first: shown.first, colour: shown.colour, choose, chooseSpace, go, findThread: focusThread });
 
 function choosePlace(space, page) {
   Object.assign(shown, { space, page, first: page === null ? 0 : page });
@@ -117,13 +117,6 @@ function go(at) {
   shown.at = Math.max(0, at);
   shown.isFollowing = true;
   refresh();
-}
-
-/** Goes to where a step was made. */
-function goStep(step) {
-  const found = shown.view.steps.find(({ number: it }) => it === step);
-  if (found) return go(found.at);
-  return source.ask("place", { ...question(), step }).then(({ at }) => go(at), (fault) => sayError(fault.message));
 }
 
 /** Shows why a page is there, and the tree of its frame. */
@@ -247,7 +240,6 @@ export async function begin(given) {
   source = given;
   source.report = (text) => { it("doing").textContent = text; };
   document.body.dataset.source = source.name;
-  it("unit").textContent = source.unit;
   [listenToRun, listenToViews, listenToFiles, showFields].forEach((act) => act());
   listenToWords(source);
   try {

@@ -52,7 +52,7 @@ export function showRefusals(view, go) {
 export function showSteps(view, go) {
   fill("steps", view.steps.map((step) => {
     const isNow = step.number === view.stepCount, row = made("li", { value: step.number, class: place(step, isNow), "aria-current": isNow ? "step" : null });
-    row.append(made("span", { class: "jump" }, link(`${step.number}`, () => go(step.at), `step ${step.number}, line ${step.line}: ${step.text}`)), step.text);
+    row.append(made("span", { class: "jump" }, link(`${step.number}`, () => go(step.number), `step ${step.number}, line ${step.line}: ${step.text}`)), step.text);
     return row;
   }));
   follow(it("steps"), it("steps").querySelector(".now"));
@@ -60,7 +60,7 @@ export function showSteps(view, go) {
 
 /** What the step changed. */
 export function showChanges(view, choose) {
-  it("changes-title").textContent = view.at === 0 ? "At boot" : `What this ${view.unit} changed`;
+  it("changes-title").textContent = view.at === 0 ? "At boot" : "What this step changed";
   const rows = view.threadChanges.map(({ kind, text }) => made("li", { class: kind === "delete" ? "went" : "came" }, text));
   const pages = view.changes.map((change) => made("li", { class: change.kind }, link(change.text, () => choose(change.space, change.first))));
   const left = view.changeCount - view.changes.length;

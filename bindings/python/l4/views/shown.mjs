@@ -14,7 +14,7 @@ export function threadsAfter(steps, count, pageBytes) {
 /** The last steps up to the current one, and the next of those that come later. */
 function stepsShown(steps, count, pageBytes) {
   return steps.slice(Math.max(0, count - MOST_STEPS), count + MOST_LATER)
-    .map((step) => ({ number: step.number, line: step.line, at: step.at, text: stepText(step, pageBytes), isLater: step.number > count }));
+    .map((step) => ({ number: step.number, line: step.line, text: stepText(step, pageBytes), isLater: step.number > count }));
 }
 
 function threadsShown(threads, regions, served) {
