@@ -116,11 +116,14 @@ export class Run {
   /** The pages of every space at some places, which rise: each has a number of steps, and the spaces that there are after them. */
   states(places) {
     const asked = places.filter(({ count }) => !this.kept.has(count));
+    // those that are kept become the newest, so that the others do not displace them
+    places.forEach(({ count }) => { if (this.kept.has(count)) this.#keep(count, this.kept.get(count)); });
     if (asked.length) this.#pagesAfter(asked).forEach((spaces, k) => this.#keep(asked[k].count, { spaces }));
     return places.map(({ count }) => this.kept.get(count));
   }
 
   #keep(count, state) {
+    this.kept.delete(count);
     if (this.kept.size > MOST_KEPT) this.kept.delete(this.kept.keys().next().value);
     this.kept.set(count, state);
   }

@@ -79,7 +79,9 @@ async function showOnce() {
 function takeView(view) {
   shown.view = view;
   shown.at = view.at === view.count ? null : view.at;
-  if (shown.isFollowing || !view.spaces.some(({ space }) => space === shown.space)) choosePlace(view.focus.space, view.focus.page);
+  const { isFollowing, space } = shown, isGone = !view.spaces.some((it) => it.space === space);
+  if (isFollowing && view.focus) choosePlace(view.focus.space, view.focus.page);
+  else if (isGone || (isFollowing && space === 0)) chooseFirst(view.spaces);
   showPlace(view);
   showLines(view, go);
   showRefusals(view, go);
@@ -113,10 +115,16 @@ function choosePlace(space, page) {
   Object.assign(shown, { space, page, first: page === null ? 0 : page });
 }
 
+/** The first page of a space beside sigma0's, or else sigma0's space. */
+function chooseFirst(spaces) {
+  const found = spaces.find(({ space, runs }) => space !== 0 && runs.length);
+  choosePlace(found?.space ?? 0, found?.runs[0][0] ?? null);
+}
+
 function go(at) {
   shown.at = Math.max(0, at);
   shown.isFollowing = true;
-  refresh();
+  return refresh();
 }
 
 /** Shows why a page is there, and the tree of its frame. */
@@ -133,7 +141,7 @@ function chooseSpace(space) {
 
 function run() {
   const asked = fields();
-  Object.assign(shown, asked, { at: null, isFollowing: true });
+  Object.assign(shown, asked, { at: null, isFollowing: true, space: null, page: null });
   it("edited").hidden = true;
   keep();
   if (!Number.isInteger(asked.frames)) return fail("frames: the number of frames must be from 1 to 4,096.");
@@ -158,6 +166,7 @@ function enter() {
   const text = it("script").value, between = text === "" || text.endsWith("\n") ? "" : "\n";
   it("script").value = `${text}${between}${it("next-line").value}\n`;
   it("next-line").value = "";
+  sayDone("");
   run();
 }
 
@@ -193,7 +202,7 @@ function listenToRun() {
   on("back", "click", () => go(shown.view.at - 1));
   on("on", "click", () => go(Math.min(shown.view.at + 1, shown.view.count)));
   on("step", "input", () => go(number("step")));
-  on("script", "input", () => { keep(); it("edited").hidden = !isEdited(); });
+  on("script", "input", () => { keep(); sayDone(""); it("edited").hidden = !isEdited(); });
   ["frames", "page-bytes"].forEach((id) => on(id, "change", run));
   on("stop", "click", () => source.stop());
   document.addEventListener("keydown", onKey);
@@ -231,6 +240,7 @@ function listExamples(examples) {
   it("example").append(...examples.map(({ name }) => made("option", {}, name)));
   on("example", "change", () => {
     const found = examples.find(({ name }) => name === it("example").value);
+    sayDone("");
     if (found) load(found);
     it("example").selectedIndex = 0;
   });

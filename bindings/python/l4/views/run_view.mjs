@@ -27,7 +27,7 @@ function answerRow(answer, line, refusals) {
 /** A refusal in words, with the token that is wrong where the line can't be read. */
 function refusalText({ code, means }, text) {
   const token = code === "S1" || code === "S2" ? wrongToken(text) : "";
-  return token ? `${means}: ${token}` : means;
+  return token ? `${means}: ${token}; see “Commands of a script”` : means;
 }
 
 export function showLines(view, go) {
@@ -37,13 +37,19 @@ export function showLines(view, go) {
   follow(it("lines"), it("lines").querySelector(".now"));
 }
 
+/** Goes to the last step of a line or before it, and moves the line into view. */
+async function goToLine({ line, at }, go) {
+  await go(at);
+  follow(it("lines"), it("lines").querySelector(`li[value="${line}"]`));
+}
+
 /** The count of refused lines, and a link to the next one. */
 export function showRefusals(view, go) {
   const { count, first } = view.refusals;
   it("refusals").hidden = count === 0;
   if (!count) return fill("refusals", []);
   const next = first.find(({ at }) => at > view.at) ?? first[0];
-  const jump = link(`go to line ${next.line}`, () => go(next.at), `go to the refused line ${next.line}`);
+  const jump = link(`go to line ${next.line}`, () => goToLine(next, go), `go to the refused line ${next.line}`);
   const text = view.lines.find(({ number }) => number === next.line)?.text ?? "";
   const title = made("strong", {}, `${counted(count, "line")} refused`);
   return fill("refusals", [title, ` — line ${next.line}: ${next.code}, ${refusalText(next, text)} `, jump]);
