@@ -25,20 +25,16 @@ class Answers {
   }
 
   view(asked) {
-    const run = this.run(asked), { pageBytes } = run.machine, count = run.lines.length;
-    const at = Math.min(asked.at ?? count, count), done = run.ends[at].steps, before = run.ends[Math.max(0, at - 1)].steps;
+    const run = this.run(asked), { steps, machine: { pageBytes } } = run, count = steps.length;
+    const at = Math.min(asked.at ?? count, count), before = Math.max(0, at - 1), line = run.lineAt(at);
     this.report("Reading the pages of the spaces");
-    const threads = threadsAfter(run.steps, done, pageBytes), place = { count: at, threads };
-    // a line without a step changes nothing
-    const earlier = before === done ? place : { count: at - 1, threads: threadsAfter(run.steps, before, pageBytes) };
-    const [old, now] = run.states([earlier, place]);
-    const regions = run.regions(at, threads.deletions), served = run.served(at, threads.deletions);
-    const shown = shownAt({ steps: run.steps, done, before, now, old, pageBytes, threads, regions, served, text: run.lines[at - 1] ?? "" });
+    const threads = threadsAfter(steps, at, pageBytes), earlier = threadsAfter(steps, before, pageBytes);
+    const [old, now] = run.states([{ count: before, spaces: earlier.allSpaces() }, { count: at, spaces: threads.allSpaces() }]);
+    const regions = run.regions(line, threads.deletions), served = run.served(line, threads.deletions);
+    const shown = shownAt({ steps, done: at, before, now, old, pageBytes, threads, regions, served, text: run.lines[line - 1] ?? "" });
     shown.events.forEach((event) => { if (event.kind === "message" && !event.fault) event.says = this.message(event.words, pageBytes); });
-    return {
-      unit: "line", at, count, line: at, lineCount: count, lines: run.linesAround(at), refusals: run.refusals,
-      notes: run.notes(now.isWhole), pageBytes, ...shown,
-    };
+    const lines = run.linesAround(line, at);
+    return { at, count, line, lineCount: run.lines.length, lines, refusals: run.refusals, notes: [], pageBytes, ...shown };
   }
 
   /** What a message says, in one line. */
@@ -48,18 +44,14 @@ class Answers {
     return this.said.get(key);
   }
 
-  /** How a page of a space got there. */
+  /** How a page of a space got there. `l4 why` reads whole lines: between two steps of a line, the answer names the last one. */
   why(asked) {
-    const run = this.run(asked), at = Math.min(asked.at ?? run.lines.length, run.lines.length);
-    const thread = threadsAfter(run.steps, run.ends[at].steps, run.machine.pageBytes).threadsOf(asked.space)[0];
+    const run = this.run(asked), at = Math.min(asked.at ?? run.steps.length, run.steps.length), end = run.wholeLineAt(at);
+    const thread = threadsAfter(run.steps, at, run.machine.pageBytes).threadsOf(asked.space)[0];
     if (thread === undefined) return { lines: ["absent"] };
-    const lines = linesIn(this.program.why(ended(run.lines.slice(0, at)), run.machine, thread, asked.page).text);
+    if (end.steps > at) return { lines: [`known after step ${end.steps}, the last one of this line`], steps: [end.steps] };
+    const lines = linesIn(this.program.why(ended(run.lines.slice(0, end.line)), run.machine, thread, asked.page).text);
     return { lines: cutList(lines), steps: lines.map((line) => (line.startsWith("entry ") ? Number(line.split(" ")[1]) + 1 : null)) };
-  }
-
-  /** The line of a step. */
-  place(asked) {
-    return { at: this.run(asked).steps[asked.step - 1].at };
   }
 
   decode({ words, reading, pageBytes }) {

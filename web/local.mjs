@@ -11,7 +11,7 @@ const scriptFile = (id) => URL.createObjectURL(new Blob([it(id).textContent], { 
 
 export class LocalSource {
   constructor() {
-    Object.assign(this, { name: "page", hasTexts: true, unit: "line", waiting: new Map(), count: 0, report: () => {} });
+    Object.assign(this, { name: "page", hasTexts: true, waiting: new Map(), count: 0, report: () => {} });
     this.restart();
   }
 

@@ -107,6 +107,11 @@ export class Program {
     return this.call("page_history", script, frames, pageBytes, answers ? 1 : 0).text;
   }
 
+  /** The answers to a list of steps and queries. */
+  steps(list, { frames, pageBytes }) {
+    return this.call("page_steps", list, frames, pageBytes).text;
+  }
+
   /** How a page of a thread's space got there, and whether it is there. */
   why(script, { frames, pageBytes }, thread, page) {
     return this.call("page_why", script, frames, pageBytes, new Given(thread, page));

@@ -1,7 +1,7 @@
-// A run of a script, as the program's own texts show it after each line: its answers, its history, and the pages of every space.
-import { cut, cutList, ended, grouped, linesIn } from "../bindings/python/l4/views/texts.mjs";
+// A run of a script, as the program's own texts show it after each step: its answers, its history, and the pages of every space.
+import { cut, cutList, ended, linesIn } from "../bindings/python/l4/views/texts.mjs";
 
-const MOST_LINES = 200, MOST_PARENTS = 300_000, MOST_REFUSALS = 64, MOST_KEPT = 8;
+const MOST_LINES = 200, MOST_REFUSALS = 64, MOST_KEPT = 8;
 
 /** Where the answers of each line end among all answers, and how many steps there were by then: the query `steps` is put behind each line. */
 function endsIn(program, lines, machine) {
@@ -31,7 +31,7 @@ function stepsIn(text, ends) {
     }
     const number = steps.length + 1;
     while (ends[line].steps < number) line += 1;
-    steps.push({ number, line, at: line, text: row, answers: [] });
+    steps.push({ number, line, text: row, answers: [] });
   }
   return steps;
 }
@@ -49,25 +49,14 @@ export function runsOf(pages) {
   return runs;
 }
 
+/** A page as the query `pages` lists it: with its parent, or with `none`. */
 function pageIn(line) {
-  const [, page, , frame, rights] = line.split(" ");
-  return { page: Number(page), frame: Number(frame), rights, parent: null };
+  const [, page, , frame, rights, space, parent] = line.split(" ");
+  return { page: Number(page), frame: Number(frame), rights, parent: parent === undefined ? null : { space: Number(space), page: Number(parent) } };
 }
 
-/** Puts the pages that `show` lists into their spaces. */
-function readPages(lines, spaces) {
-  let place = 0;
-  for (const line of lines) {
-    if (line.startsWith("page ")) spaces[place].pages.push(pageIn(line));
-    else place += 1;
-  }
-}
-
-/** The parent that `parent` prints, or null. */
-function parentIn(line) {
-  const [, space, page] = line.split(" ");
-  return page === undefined ? null : { space: Number(space), page: Number(page) };
-}
+/** How many lines of its script line's answers a step has: `l4 run` does not say that a call has started. */
+const answerCount = ({ text, answers }) => answers.length - (text.startsWith("start ") ? 1 : 0);
 
 /** The lines of a script on a machine, and what the program answers to them. */
 export class Run {
@@ -102,41 +91,39 @@ export class Run {
     for (let place = 0; place < told.length && first.length < MOST_REFUSALS; place += 1) {
       if (!isRefused(told[place])) continue;
       const [, line, , ...code] = told[place].split(" ");
-      first.push({ line: Number(line), at: Number(line), code: code.join(" "), means: (told[place + 1] ?? "").replace(/^# /, "") });
+      first.push({ line: Number(line), at: this.ends[line].steps, code: code.join(" "), means: (told[place + 1] ?? "").replace(/^# /, "") });
     }
     return { count, first };
   }
 
-  /** The answers to queries behind some lines, in one run. An answer of several lines ends at one that `isLast` knows. */
-  #ask(places, queriesOf, isLast) {
-    const queries = places.map(queriesOf);
-    if (!queries.some(({ length }) => length)) return queries;
-    const told = linesIn(this.program.run(ended(places.flatMap(({ count }, k) => [...this.lines.slice(places[k - 1]?.count ?? 0, count), ...queries[k]])), this.machine));
+  /** The pages of these spaces after the first steps, by executing the steps as a list. The places rise. */
+  #pagesAfter(places) {
+    const list = places.flatMap(({ count, spaces }, k) => [
+      ...this.steps.slice(places[k - 1]?.count ?? 0, count).map(({ text }) => text), ...spaces.map((space) => `pages ${space}`)]);
+    const told = linesIn(this.program.steps(ended(list), this.machine));
     let at = 0;
-    return places.map(({ count }, k) => {
-      at += this.ends[count].answers - this.ends[places[k - 1]?.count ?? 0].answers;
-      const first = at;
-      for (let left = queries[k].length; left > 0 && at < told.length; at += 1) if (isLast(told[at])) left -= 1;
-      return told.slice(first, at);
+    return places.map(({ count, spaces }, k) => {
+      at += this.steps.slice(places[k - 1]?.count ?? 0, count).reduce((sum, { answers }) => sum + answers.length, 0);
+      return spaces.map((space) => {
+        const first = at;
+        while (!told[at].startsWith("shown ")) at += 1;
+        at += 1;
+        return { space, runs: runsOf(told.slice(first, at - 1).map(pageIn)) };
+      });
     });
   }
 
-  /** The pages of every space after some lines, which rise; each place has its count of lines and the threads by then. */
+  /** The pages of every space at some places, which rise: each has a number of steps, and the spaces that there are after them. */
   states(places) {
-    const asked = places.filter(({ count }) => !this.kept.has(count)), all = 2 ** 32 / this.machine.pageBytes;
-    if (asked.length) {
-      const spaces = asked.map(({ threads }) => threads.allSpaces().map((space) => ({ space, thread: threads.threadsOf(space)[0], pages: [] })));
-      const shown = this.#ask(asked, (_, k) => spaces[k].map(({ thread }) => `show ${thread} 0 ${all}`), (line) => line.startsWith("shown "));
-      shown.forEach((lines, k) => readPages(lines, spaces[k]));
-      const pages = spaces.map((it) => it.flatMap(({ thread, pages: own }) => own.map((page) => ({ thread, page }))));
-      const told = this.#ask(asked, (_, k) => pages[k].slice(0, MOST_PARENTS).map(({ thread, page }) => `parent ${thread} ${page.page}`), () => true);
-      told.forEach((lines, k) => lines.forEach((line, place) => { pages[k][place].page.parent = parentIn(line); }));
-      asked.forEach(({ count }, k) => this.#keep(count, { spaces: spaces[k].map(({ space, pages: own }) => ({ space, runs: runsOf(own) })), isWhole: pages[k].length <= MOST_PARENTS }));
-    }
+    const asked = places.filter(({ count }) => !this.kept.has(count));
+    // those that are kept become the newest, so that the others do not displace them
+    places.forEach(({ count }) => { if (this.kept.has(count)) this.#keep(count, this.kept.get(count)); });
+    if (asked.length) this.#pagesAfter(asked).forEach((spaces, k) => this.#keep(asked[k].count, { spaces }));
     return places.map(({ count }) => this.kept.get(count));
   }
 
   #keep(count, state) {
+    this.kept.delete(count);
     if (this.kept.size > MOST_KEPT) this.kept.delete(this.kept.keys().next().value);
     this.kept.set(count, state);
   }
@@ -162,16 +149,35 @@ export class Run {
     return [...new Set(numbers)];
   }
 
-  /** The lines around one, with their answers. */
-  linesAround(count) {
-    const first = Math.max(0, Math.min(count - MOST_LINES / 2, this.lines.length - MOST_LINES));
-    return this.lines.slice(first, first + MOST_LINES).map((text, place) => {
-      const number = first + place + 1;
-      return { number, at: number, text: cut(text), answers: cutList(this.answersTo(number)), isLater: number > count };
-    });
+  /** The last line that has begun after these steps. Before the first step there is none, unless the script has no step. */
+  lineAt(at) {
+    if (at === 0 && this.steps.length) return 0;
+    let line = this.lines.length;
+    while (line > 0 && this.ends[line].steps > at && this.ends[line - 1].steps >= at) line -= 1;
+    return line;
   }
 
-  notes(isWhole) {
-    return isWhole ? [] : [`The parents of the first ${grouped(MOST_PARENTS)} pages are shown.`];
+  /** The line by whose end there are these pages, and the number of steps by then. It is the current line, with its steps that come later,
+   * or the line before it if the current one has only started Ipcs and faults, which changes no page. */
+  wholeLineAt(at) {
+    const line = this.lineAt(at), { steps } = this.ends[line];
+    const hasOnlyStarted = steps > at && this.steps.slice(this.ends[line - 1].steps, at).every(({ text }) => /^start \d+ (ipc|fault) /.test(text));
+    return hasOnlyStarted ? { line: line - 1, steps: at } : { line, steps };
+  }
+
+  /** The answers to a line. If its last steps come later, their answers are left out. */
+  #answersBy(number, at) {
+    const answers = this.answersTo(number), first = this.ends[number - 1].steps;
+    if (at <= first || this.ends[number].steps <= at) return answers;
+    return answers.slice(0, this.steps.slice(first, at).reduce((sum, step) => sum + answerCount(step), 0));
+  }
+
+  /** The lines around the current one, with their answers, and the number of steps by the end of each. */
+  linesAround(line, at) {
+    const first = Math.max(0, Math.min(line - MOST_LINES / 2, this.lines.length - MOST_LINES));
+    return this.lines.slice(first, first + MOST_LINES).map((text, place) => {
+      const number = first + place + 1;
+      return { number, at: this.ends[number].steps, text: cut(text), answers: cutList(this.#answersBy(number, at)), isLater: number > line };
+    });
   }
 }

@@ -1,6 +1,6 @@
-// The page's module in node. What it writes for the files of tests/scripts, explained, histories, whys, plans and decodes must be NAME.out,
-// byte for byte. Then come cases on standard input, one per line in JSON: the words of `l4`, its input, and what it wrote with its status; or
-// what a model knows after a script, which must be what the page's views are made from.
+// The page's module in node. What it writes for the files of tests/scripts, explained, histories, steps, whys, plans and decodes must be
+// NAME.out, byte for byte. Then come cases on standard input, one per line in JSON: the words of `l4`, or `steps` for `l4_steps`, with the input,
+// and what the program wrote with its status; or what a model knows after a script, which must be what the page's views are made from.
 //
 // usage: node [--experimental-wasm-memory64] tests/browser/module.mjs MODULE
 import fs from "node:fs";
@@ -12,7 +12,7 @@ import { changesBetween } from "../../bindings/python/l4/views/changes.mjs";
 import { threadsAfter } from "../../bindings/python/l4/views/shown.mjs";
 
 const TESTS = path.dirname(import.meta.dirname);
-const KINDS = { scripts: ["run"], explained: ["run", "--explain"], histories: ["history", "--answers"], whys: ["why"], plans: [], decodes: [] };
+const KINDS = { scripts: ["run"], explained: ["run", "--explain"], histories: ["history", "--answers"], steps: ["steps"], whys: ["why"], plans: [], decodes: [] };
 let passed = 0, failed = 0, left = 0;
 
 const read = (file) => (fs.existsSync(file) ? fs.readFileSync(file) : Buffer.alloc(0));
@@ -39,6 +39,7 @@ function written(program, [command, ...words], input) {
   const { rest, options, machine } = parsed(words), done = (text) => ({ text, found: true });
   switch (command) {
     case "run": return done(options.explain ? program.explain(input, machine) : program.run(input, machine));
+    case "steps": return program.call("page_steps", input, machine.frames, machine.pageBytes);
     case "history": return done(program.history(input, machine, options.answers === true));
     case "why": return program.why(input, machine, Number(rest[0]), Number(rest[1]));
     case "plan": return program.plan(regionOf(rest), machine);
@@ -66,11 +67,11 @@ function tried(program, words, input) {
 function file(program, folder, name) {
   const place = path.join(TESTS, folder, name), words = [...KINDS[folder], ...wordsOf(read(`${place}.words`))];
   // a command line that is an error, and a strict run, are the program's alone
-  if (wordsOf(read(`${place}.status`))[0] === "2" || words.includes("--strict") || words.includes("--help")) {
+  if ((folder !== "steps" && wordsOf(read(`${place}.status`))[0] === "2") || words.includes("--strict") || words.includes("--help")) {
     left += 1;
     return;
   }
-  const input = new Uint8Array(fs.existsSync(`${place}.script`) ? read(`${place}.script`) : read(`${place}.in`));
+  const given = ["script", "steps", "in"].map((kind) => `${place}.${kind}`).find((it) => fs.existsSync(it)), input = new Uint8Array(read(given ?? ""));
   const asked = folder === "whys" ? read(`${place}.words`).toString().trim().split("\n").map((line) => ["why", ...wordsOf(line)]) : [words];
   const got = asked.map((it) => tried(program, it, input)).map(({ text, found }) => (folder === "whys" ? `${text}status ${found ? 0 : 1}\n` : text));
   say(`${folder}/${name}`, got.join(""), read(`${place}.out`).toString());
@@ -94,15 +95,27 @@ function changed(old, changes) {
   return [...found.values()].sort((a, b) => a[0] - b[0] || a[1] - b[1]);
 }
 
+/** The first step within a line after which the answers that are shown of the line do not end with the step's own. */
+function wrongStep(run) {
+  return run.steps.find(({ number, line, text, answers }) => {
+    if (run.ends[line].steps === number || (answers.length === 1 && text.startsWith("start "))) return false;
+    const wanted = answers.length > 1 ? answers.at(-1).split(" ")[0] : `${text} ${answers[0]}`.replace(" expired", "");
+    const row = run.linesAround(line, number).find((it) => it.number === line);
+    return !`${row.answers.at(-1)} `.startsWith(`${wanted} `);
+  });
+}
+
 /** What the views are made from, at the end of a script. The changes since its middle lead to the same mappings. */
 function factsOf(program, words, input) {
-  const run = new Run(program, input, parsed(words).machine, () => {}), { pageBytes } = run.machine, end = run.lines.length, middle = end >> 1;
-  const at = (count) => threadsAfter(run.steps, run.ends[count].steps, pageBytes), threads = at(end);
-  const [old, now] = run.states([{ count: middle, threads: at(middle) }, { count: end, threads }]), mappings = mappingsOf(now);
+  const run = new Run(program, input, parsed(words).machine, () => {}), { pageBytes } = run.machine, end = run.steps.length, middle = end >> 1;
+  const at = (count) => threadsAfter(run.steps, count, pageBytes), threads = at(end);
+  const [old, now] = run.states([middle, end].map((count) => ({ count, spaces: at(count).allSpaces() }))), mappings = mappingsOf(now);
   if (JSON.stringify(changed(old, changesBetween(old.spaces, now.spaces))) !== JSON.stringify(mappings)) return { mappings: "the changes lead to another state" };
+  const wrong = wrongStep(run);
+  if (wrong) return { mappings: `step ${wrong.number} has other answers` };
   return {
     spaces: [...threads.spaces].sort((a, b) => a[0] - b[0]), waiting: sorted(threads.waits.keys()), sending: sorted(threads.sending.keys()),
-    served: sorted(run.served(end, threads.deletions)), mappings,
+    served: sorted(run.served(run.lines.length, threads.deletions)), mappings,
   };
 }
 

@@ -4,7 +4,7 @@ import { shownAt } from "./views/shown.mjs";
 
 class ServerSource {
   constructor() {
-    Object.assign(this, { name: "lab", unit: "step", report: () => {}, run: null, stopper: new AbortController() });
+    Object.assign(this, { name: "lab", report: () => {}, run: null, stopper: new AbortController() });
   }
 
   async #fetch(path, question) {
@@ -37,12 +37,11 @@ class ServerSource {
     const shown = shownAt({ ...told, steps: run.steps, done: at, before: Math.max(0, at - 1), pageBytes: asked.pageBytes, text });
     shown.events.forEach((event) => { event.says = event.step.says; });
     const { lines, line, notes } = told;
-    return { unit: "step", at, count: run.steps.length, line, lineCount: run.lineCount, lines, refusals: run.refusals, notes, pageBytes: asked.pageBytes, ...shown };
+    return { at, count: run.steps.length, line, lineCount: run.lineCount, lines, refusals: run.refusals, notes, pageBytes: asked.pageBytes, ...shown };
   }
 
   async ask(name, asked) {
     if (name === "view") return this.#view(asked);
-    if (name === "place") return { at: asked.step };
     const at = asked.at ?? this.run?.steps.length ?? 0;
     return this.#fetch(`/${name}`, { ...asked, at });
   }

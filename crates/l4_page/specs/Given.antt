@@ -3,6 +3,7 @@ use Rattle.std.specs.Prelude.{◌≡◌, ◌≢◌, ◌⊎◌, ℕ, ◌<◌, ◌
 use Rattle.l4_fpage.specs.Pages.{page_bytes, max_frames}
 use Rattle.l4_fpage.specs.Rights.{set_of_bits}
 use Rattle.l4_fpage.specs.declared.sizes.PageSize.{PageSize}
+use Rattle.l4_refusals.specs.Texts.{spelled}
 use Rattle.l4_msg.specs.declared.regions.Region.{Region}
 use Rattle.l4_decode.specs.declared.decoding.Reading.{Reading}
 use Rattle.l4_decode.specs.declared.decoding.Reading.TheVariants.{Message, Each, Fpage, Window, Id}
@@ -26,6 +27,12 @@ HasFrames frames = (1 ≤ frames) × (frames ≤ max_frames)
 
 abbrev pub HasNoFrames : ℕ → Type 0
 HasNoFrames frames = (frames ≡ 0) ⊎ (max_frames < frames)
+
+-- why there is no machine with this number of page bytes (B4) and of frames (K6)
+abbrev pub IsNoMachine : ℕ → ℕ → ℕ → Type 0
+IsNoMachine bytes frames refusal =
+    (IsNoSize bytes × (refusal ≡ spelled (codes "B4")))
+    ⊎ ((size : PageSize) × (bytes ≡ page_bytes size) × HasNoFrames frames × (refusal ≡ spelled (codes "K6")))
 
 -- the call uses pages with this number of bytes, or no page has this number and the call is refused
 abbrev pub InBytes : ℕ → (PageSize → Type 0) → Type 0 → Type 0

@@ -1,4 +1,5 @@
 pub mod Given
+pub mod Lists
 pub mod Plans
 pub mod Scripts
 pub mod Told

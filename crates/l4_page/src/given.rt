@@ -1,8 +1,8 @@
 //! Machines and regions as the page passes them.
-ghost use Rattle.std.specs.Prelude.{◌≡◌, ◌≤◌, true, false, IfSome, IfNone, MatchOption};
+ghost use Rattle.std.specs.Prelude.{◌≡◌, ◌≤◌, true, false, IfSome, IfNone, MatchOption, MatchResult};
 ghost use Rattle.l4_fpage.specs.Pages.{page_bytes, max_frames};
 ghost use Rattle.l4_fpage.specs.Rights.{set_of_bits};
-ghost use Rattle.l4_page.specs.Given.{region_of, IsNoSize, HasFrames, HasNoFrames};
+ghost use Rattle.l4_page.specs.Given.{region_of, IsNoSize, HasFrames, HasNoFrames, IsNoMachine};
 
 use l4_fpage::{PageSize, Rights};
 use l4_msg::Region;
@@ -65,9 +65,23 @@ pub fn size_of(bytes: u32) -> Option<PageSize>
 }
 
 /// Returns whether a machine can have this number of frames.
-pub fn has_frames(frames: u32) -> bool
+fn has_frames(frames: u32) -> bool
     ensures yes { result ≡ true → HasFrames frames }
     ensures no { result ≡ false → HasNoFrames frames }
 {
     frames >= 1 && frames <= 4096
+}
+
+/// Returns the page size of a machine with this number of page bytes and frames. Refuses a number of bytes that no page has (B4), and then a
+/// number of frames that no machine has (K6).
+pub fn machine_of(bytes: u32, frames: u32) -> Result<PageSize, u32>
+    ensures { MatchResult result (λ size. (bytes ≡ page_bytes size) × HasFrames frames) (λ refusal. IsNoMachine bytes frames refusal) }
+{
+    let Some(size) = size_of(bytes) else {
+        return Err(NO_SUCH_SIZE);
+    };
+    if !has_frames(frames) {
+        return Err(BAD_FRAMES);
+    }
+    Ok(size)
 }

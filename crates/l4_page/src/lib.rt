@@ -4,12 +4,14 @@
 mod given;
 mod planning;
 mod running;
+mod stepping;
 mod telling;
 mod tracing;
 mod words;
 
 pub use planning::{page_check, page_plan};
 pub use running::{page_explain, page_history, page_run};
+pub use stepping::page_steps;
 pub use telling::Told;
 pub use tracing::page_why;
 pub use words::page_decode;

@@ -4,7 +4,7 @@ ghost use Rattle.l4_page.specs.Given.{HasFrames, InMachine};
 ghost use Rattle.l4_page.specs.Told.{TellsNothing};
 ghost use Rattle.l4_page.specs.Scripts.{TellsAnswers, TellsHistoryOf};
 
-use crate::given::{BAD_FRAMES, NO_SUCH_SIZE, has_frames, size_of};
+use crate::given::machine_of;
 use crate::telling::{NO_MEMORY, Told, refused, tell};
 use l4_fpage::PageSize;
 use l4_history::{answered_history, history};
@@ -46,13 +46,10 @@ pub extern "C" fn page_run(
 ) -> Told
     ensures { InMachine page_bytes frames (λ size. TellsAnswers frames size false script.now out.old out.new result) (λ code. TellsNothing code out.old out.new result) }
 {
-    let Some(size) = size_of(page_bytes) else {
-        return refused(NO_SUCH_SIZE);
-    };
-    if !has_frames(frames) {
-        return refused(BAD_FRAMES);
+    match machine_of(page_bytes, frames) {
+        Ok(size) => answered(alloc, script, frames, size, false, out),
+        Err(refusal) => refused(refusal),
     }
-    answered(alloc, script, frames, size, false, out)
 }
 
 /// Writes what `l4 run --explain` writes for a script.
@@ -66,13 +63,10 @@ pub extern "C" fn page_explain(
 ) -> Told
     ensures { InMachine page_bytes frames (λ size. TellsAnswers frames size true script.now out.old out.new result) (λ code. TellsNothing code out.old out.new result) }
 {
-    let Some(size) = size_of(page_bytes) else {
-        return refused(NO_SUCH_SIZE);
-    };
-    if !has_frames(frames) {
-        return refused(BAD_FRAMES);
+    match machine_of(page_bytes, frames) {
+        Ok(size) => answered(alloc, script, frames, size, true, out),
+        Err(refusal) => refused(refusal),
     }
-    answered(alloc, script, frames, size, true, out)
 }
 
 /// Runs a script, and writes its history.
@@ -112,11 +106,8 @@ pub extern "C" fn page_history(
 ) -> Told
     ensures { InMachine page_bytes frames (λ size. TellsHistoryOf frames size answers script.now out.old out.new result) (λ code. TellsNothing code out.old out.new result) }
 {
-    let Some(size) = size_of(page_bytes) else {
-        return refused(NO_SUCH_SIZE);
-    };
-    if !has_frames(frames) {
-        return refused(BAD_FRAMES);
+    match machine_of(page_bytes, frames) {
+        Ok(size) => recorded(alloc, script, frames, size, answers, out),
+        Err(refusal) => refused(refusal),
     }
-    recorded(alloc, script, frames, size, answers, out)
 }

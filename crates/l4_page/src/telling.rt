@@ -8,10 +8,10 @@ ghost use Rattle.l4_page.specs.Told.{placed, text_told, refused};
 #[derive(Clone, Copy)]
 pub struct Told {
     pub refusal: u32,
-    /// 0 if a page is not present, a region has no plan, or a plan is not proved; otherwise 1.
+    /// 0 if a page is not present, a region has no plan, a plan is not proved, or a step list has a line that cannot be read; otherwise 1.
     pub found: u32,
     pub length: u64,
-    /// The number of lines of a script.
+    /// The number of lines of a script, or the number of the line of a step list that cannot be read.
     pub lines: u64,
 }
 

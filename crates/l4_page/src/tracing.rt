@@ -4,7 +4,7 @@ ghost use Rattle.l4_page.specs.Given.{HasFrames, InMachine};
 ghost use Rattle.l4_page.specs.Told.{TellsNothing};
 ghost use Rattle.l4_page.specs.Scripts.{is_there, TellsWhyOf};
 
-use crate::given::{BAD_FRAMES, NO_SUCH_SIZE, PageGiven, has_frames, size_of};
+use crate::given::{PageGiven, machine_of};
 use crate::telling::{NO_MEMORY, Told, refused, tell};
 use l4_fpage::PageSize;
 use l4_why::{Presence, ThreadPage, why};
@@ -53,21 +53,18 @@ pub extern "C" fn page_why(
 ) -> Told
     ensures { InMachine page_bytes frames (λ size. TellsWhyOf frames size (record { thread = asked.now.thread; page = asked.now.page }) script.now out.old out.new result) (λ code. TellsNothing code out.old out.new result) }
 {
-    let Some(size) = size_of(page_bytes) else {
-        return refused(NO_SUCH_SIZE);
-    };
-    if !has_frames(frames) {
-        return refused(BAD_FRAMES);
+    match machine_of(page_bytes, frames) {
+        Ok(size) => traced(
+            alloc,
+            script,
+            frames,
+            size,
+            ThreadPage {
+                thread: asked.thread,
+                page: asked.page,
+            },
+            out,
+        ),
+        Err(refusal) => refused(refusal),
     }
-    traced(
-        alloc,
-        script,
-        frames,
-        size,
-        ThreadPage {
-            thread: asked.thread,
-            page: asked.page,
-        },
-        out,
-    )
 }

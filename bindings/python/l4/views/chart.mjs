@@ -30,7 +30,7 @@ function rowOf(event, columns, place, view) {
   const ground = drawn("rect", { x: 0, y: y - ROW / 2, width: right + TEXT, height: ROW, class: isNow ? "row now" : "row" });
   const label = drawn("text", { x: LEFT - 12, y: y + 4, "text-anchor": "end" }, `${number}`);
   const says = drawn("text", { x: right, y: y + 4, class: event.isDone === false ? "failed" : "" }, shortened(text));
-  return active(drawn("g", { class: is ? "message" : "event" }, ground, label, sign, says), name, () => view.goStep(number));
+  return active(drawn("g", { class: is ? "message" : "event" }, ground, label, sign, says), name, () => view.go(number));
 }
 
 /** The events one below another, with the number of those before them. The last is the newest. */

@@ -2,14 +2,15 @@
 import { ANY, NIL, callText, partnerText, receiveText, rightsText, threadOf } from "./words.mjs";
 import { hexadecimal } from "./texts.mjs";
 
-const SIGMA0 = 1, ROOT = 2;
+// threads 1 and 2, and the id of thread 1, which is root's pager at boot
+const SIGMA0 = 1, ROOT = 2, SIGMA0_ID = 0x4001;
 
 /** What the steps up to one have led to. */
 export class Threads {
   constructor(pageBytes) {
     this.pageBytes = pageBytes;
     this.spaces = new Map([[SIGMA0, 0], [ROOT, 1]]);
-    this.pagers = new Map();
+    this.pagers = new Map([[ROOT, SIGMA0_ID]]);
     // the call of each thread that waits, and the partners of those that wait to send, first come first
     this.waits = new Map();
     this.sending = new Map();

@@ -79,7 +79,9 @@ async function showOnce() {
 function takeView(view) {
   shown.view = view;
   shown.at = view.at === view.count ? null : view.at;
-  if (shown.isFollowing || !view.spaces.some(({ space }) => space === shown.space)) choosePlace(view.focus.space, view.focus.page);
+  const { isFollowing, space } = shown, isGone = !view.spaces.some((it) => it.space === space);
+  if (isFollowing && view.focus) choosePlace(view.focus.space, view.focus.page);
+  else if (isGone || (isFollowing && space === 0)) chooseFirst(view.spaces);
   showPlace(view);
   showLines(view, go);
   showRefusals(view, go);
@@ -87,13 +89,13 @@ function takeView(view) {
   showChanges(view, choose);
   showThreads(view, acts());
   showSelection();
-  showChart(view, goStep);
+  showChart(view, go);
 }
 
 function showPlace(view) {
   it("step").max = view.count;
   [["at", view.at], ["count", view.count], ["step", view.at]].forEach(([id, value]) => { it(id).value = value; });
-  it("step").setAttribute("aria-valuetext", `${view.unit} ${view.at} of ${view.count}`);
+  it("step").setAttribute("aria-valuetext", `step ${view.at} of ${view.count}`);
   it("back").disabled = view.at === 0;
   it("on").disabled = view.at === view.count;
   it("notes").replaceChildren(...view.notes.map((note) => made("li", {}, note)));
@@ -107,23 +109,22 @@ function showSelection() {
 }
 
 /** What the views can do, and what is chosen. */
-const acts = () => ({ space: shown.space, page: shown.page, first: shown.first, colour: shown.colour, choose, chooseSpace, goStep, findThread: focusThread });
+const acts = () => ({ space: shown.space, page: shown.page, first: shown.first, colour: shown.colour, choose, chooseSpace, go, findThread: focusThread });
 
 function choosePlace(space, page) {
   Object.assign(shown, { space, page, first: page === null ? 0 : page });
 }
 
+/** The first page of a space beside sigma0's, or else sigma0's space. */
+function chooseFirst(spaces) {
+  const found = spaces.find(({ space, runs }) => space !== 0 && runs.length);
+  choosePlace(found?.space ?? 0, found?.runs[0][0] ?? null);
+}
+
 function go(at) {
   shown.at = Math.max(0, at);
   shown.isFollowing = true;
-  refresh();
-}
-
-/** Goes to where a step was made. */
-function goStep(step) {
-  const found = shown.view.steps.find(({ number: it }) => it === step);
-  if (found) return go(found.at);
-  return source.ask("place", { ...question(), step }).then(({ at }) => go(at), (fault) => sayError(fault.message));
+  return refresh();
 }
 
 /** Shows why a page is there, and the tree of its frame. */
@@ -140,7 +141,7 @@ function chooseSpace(space) {
 
 function run() {
   const asked = fields();
-  Object.assign(shown, asked, { at: null, isFollowing: true });
+  Object.assign(shown, asked, { at: null, isFollowing: true, space: null, page: null });
   it("edited").hidden = true;
   keep();
   if (!Number.isInteger(asked.frames)) return fail("frames: the number of frames must be from 1 to 4,096.");
@@ -165,6 +166,7 @@ function enter() {
   const text = it("script").value, between = text === "" || text.endsWith("\n") ? "" : "\n";
   it("script").value = `${text}${between}${it("next-line").value}\n`;
   it("next-line").value = "";
+  sayDone("");
   run();
 }
 
@@ -200,7 +202,7 @@ function listenToRun() {
   on("back", "click", () => go(shown.view.at - 1));
   on("on", "click", () => go(Math.min(shown.view.at + 1, shown.view.count)));
   on("step", "input", () => go(number("step")));
-  on("script", "input", () => { keep(); it("edited").hidden = !isEdited(); });
+  on("script", "input", () => { keep(); sayDone(""); it("edited").hidden = !isEdited(); });
   ["frames", "page-bytes"].forEach((id) => on(id, "change", run));
   on("stop", "click", () => source.stop());
   document.addEventListener("keydown", onKey);
@@ -238,6 +240,7 @@ function listExamples(examples) {
   it("example").append(...examples.map(({ name }) => made("option", {}, name)));
   on("example", "change", () => {
     const found = examples.find(({ name }) => name === it("example").value);
+    sayDone("");
     if (found) load(found);
     it("example").selectedIndex = 0;
   });
@@ -247,7 +250,6 @@ export async function begin(given) {
   source = given;
   source.report = (text) => { it("doing").textContent = text; };
   document.body.dataset.source = source.name;
-  it("unit").textContent = source.unit;
   [listenToRun, listenToViews, listenToFiles, showFields].forEach((act) => act());
   listenToWords(source);
   try {

@@ -2,8 +2,8 @@
 import { chartOf } from "./chart.mjs";
 import { fill, it, made } from "./dom.mjs";
 
-export function showChart(view, goStep) {
-  const chart = view.events.length ? [chartOf(view.events, view.earlierEvents, { step: view.stepCount, goStep })] : [made("p", { class: "hint" }, "No message so far.")];
+export function showChart(view, go) {
+  const chart = view.events.length ? [chartOf(view.events, view.earlierEvents, { step: view.stepCount, go })] : [made("p", { class: "hint" }, "No message so far.")];
   fill("chart", chart);
   // the newest is at the bottom
   it("chart").scrollTop = it("chart").scrollHeight;

@@ -79,6 +79,6 @@ export function showWhy(told, acts) {
   if (!told) return fill("why", [made("li", { class: "hint" }, "Choose a page in a map or in the table.")]);
   return fill("why", told.lines.map((text, place) => {
     const step = told.steps?.[place] ?? null;
-    return made("li", {}, step === null ? text : link(text, () => acts.goStep(step), `step ${step}: ${text}`));
+    return made("li", {}, step === null ? text : link(text, () => acts.go(step), `step ${step}: ${text}`));
   }));
 }

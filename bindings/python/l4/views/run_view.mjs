@@ -27,7 +27,7 @@ function answerRow(answer, line, refusals) {
 /** A refusal in words, with the token that is wrong where the line can't be read. */
 function refusalText({ code, means }, text) {
   const token = code === "S1" || code === "S2" ? wrongToken(text) : "";
-  return token ? `${means}: ${token}` : means;
+  return token ? `${means}: ${token}; see “Commands of a script”` : means;
 }
 
 export function showLines(view, go) {
@@ -37,13 +37,19 @@ export function showLines(view, go) {
   follow(it("lines"), it("lines").querySelector(".now"));
 }
 
+/** Goes to the last step of a line or before it, and moves the line into view. */
+async function goToLine({ line, at }, go) {
+  await go(at);
+  follow(it("lines"), it("lines").querySelector(`li[value="${line}"]`));
+}
+
 /** The count of refused lines, and a link to the next one. */
 export function showRefusals(view, go) {
   const { count, first } = view.refusals;
   it("refusals").hidden = count === 0;
   if (!count) return fill("refusals", []);
   const next = first.find(({ at }) => at > view.at) ?? first[0];
-  const jump = link(`go to line ${next.line}`, () => go(next.at), `go to the refused line ${next.line}`);
+  const jump = link(`go to line ${next.line}`, () => goToLine(next, go), `go to the refused line ${next.line}`);
   const text = view.lines.find(({ number }) => number === next.line)?.text ?? "";
   const title = made("strong", {}, `${counted(count, "line")} refused`);
   return fill("refusals", [title, ` — line ${next.line}: ${next.code}, ${refusalText(next, text)} `, jump]);
@@ -52,7 +58,7 @@ export function showRefusals(view, go) {
 export function showSteps(view, go) {
   fill("steps", view.steps.map((step) => {
     const isNow = step.number === view.stepCount, row = made("li", { value: step.number, class: place(step, isNow), "aria-current": isNow ? "step" : null });
-    row.append(made("span", { class: "jump" }, link(`${step.number}`, () => go(step.at), `step ${step.number}, line ${step.line}: ${step.text}`)), step.text);
+    row.append(made("span", { class: "jump" }, link(`${step.number}`, () => go(step.number), `step ${step.number}, line ${step.line}: ${step.text}`)), step.text);
     return row;
   }));
   follow(it("steps"), it("steps").querySelector(".now"));
@@ -60,7 +66,7 @@ export function showSteps(view, go) {
 
 /** What the step changed. */
 export function showChanges(view, choose) {
-  it("changes-title").textContent = view.at === 0 ? "At boot" : `What this ${view.unit} changed`;
+  it("changes-title").textContent = view.at === 0 ? "At boot" : "What this step changed";
   const rows = view.threadChanges.map(({ kind, text }) => made("li", { class: kind === "delete" ? "went" : "came" }, text));
   const pages = view.changes.map((change) => made("li", { class: change.kind }, link(change.text, () => choose(change.space, change.first))));
   const left = view.changeCount - view.changes.length;

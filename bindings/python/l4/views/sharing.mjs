@@ -16,14 +16,19 @@ function decoded(text) {
   return new TextDecoder("utf-8", { fatal: true }).decode(Uint8Array.from(letters, (letter) => letter.charCodeAt(0)));
 }
 
-/** Keeps the fields for the next visit. A browser that keeps nothing is no fault. */
+/** Keeps the fields for the next visit. A browser that keeps nothing is no fault. A link to another script leaves the address, where a reload
+ * would take it in place of what was kept. */
 export function keep() {
   try { localStorage.setItem(STORE, JSON.stringify(fields())); } catch { /* the store is full or closed */ }
+  if (location.hash && location.hash !== linkPart(fields())) history.replaceState(null, "", location.href.split("#")[0]);
 }
 
 function kept() {
   try { return JSON.parse(localStorage.getItem(STORE)); } catch { return null; }
 }
+
+/** The part of a link that carries a script. */
+const linkPart = ({ script, frames, pageBytes }) => `#frames=${frames}&page-size=${pageBytes}&script=${encoded(script)}`;
 
 const isStart = (it) => it !== null && typeof it?.script === "string" && Number.isInteger(it.frames) && [1024, 4096].includes(it.pageBytes);
 
@@ -53,14 +58,14 @@ export function firstScript(start, isKeeping, say) {
 
 /** Puts the script into the address and the clipboard. */
 export async function shareLink(say) {
-  const { script, frames, pageBytes } = fields(), text = encoded(script);
-  if (text.length > MOST_LINK) return say(`The script is too long for a link, which carries up to ${grouped(MOST_LINK)} characters. Save it as a file instead.`);
-  history.replaceState(null, "", `#frames=${frames}&page-size=${pageBytes}&script=${text}`);
+  const part = linkPart(fields()), where = location.protocol === "file:" ? " It opens this file: a reader elsewhere needs the file too." : "";
+  if (part.length > MOST_LINK) return say(`The script is too long for a link, which carries up to ${grouped(MOST_LINK)} characters. Save it as a file instead.`);
+  history.replaceState(null, "", part);
   try {
     await navigator.clipboard.writeText(location.href);
-    return say("The link is in the address bar and on the clipboard.");
+    return say(`The link is in the address bar and on the clipboard.${where}`);
   } catch {
-    return say("The link is in the address bar: copy it from there.");
+    return say(`The link is in the address bar: copy it from there.${where}`);
   }
 }
 

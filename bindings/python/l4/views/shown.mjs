@@ -14,7 +14,7 @@ export function threadsAfter(steps, count, pageBytes) {
 /** The last steps up to the current one, and the next of those that come later. */
 function stepsShown(steps, count, pageBytes) {
   return steps.slice(Math.max(0, count - MOST_STEPS), count + MOST_LATER)
-    .map((step) => ({ number: step.number, line: step.line, at: step.at, text: stepText(step, pageBytes), isLater: step.number > count }));
+    .map((step) => ({ number: step.number, line: step.line, text: stepText(step, pageBytes), isLater: step.number > count }));
 }
 
 function threadsShown(threads, regions, served) {
@@ -35,14 +35,14 @@ function namedPage([command, , first, second], runs, pageBytes) {
 /** The first page of a space other than sigma0's. */
 const firstPage = (space, runs) => (space !== 0 && runs.length ? runs[0][0] : null);
 
-/** Where the page opens: at the first page that the step gave to a space other than sigma0's, else at any that it changed, else at what its
- * line names. */
+/** Where the page goes: to the first page that the step gave to a space other than sigma0's, else to any that it changed, else to what its line
+ * names. Null if there is none of these: then it stays where it is. */
 function focusOf(changes, threads, { text, now, pageBytes }) {
   const first = changes.find(({ space, is }) => space !== 0 && is !== null) ?? changes.find(({ space }) => space !== 0) ?? changes[0];
   if (first) return { space: first.space, page: first.first };
-  const tokens = text.split(" ").filter((token) => token !== ""), space = threads.spaces.get(Number(tokens[1])) ?? 0;
-  const runs = now.spaces.find((it) => it.space === space)?.runs ?? [];
-  return { space, page: namedPage(tokens, runs, pageBytes) ?? firstPage(space, runs) };
+  const tokens = text.split(" ").filter((token) => token !== ""), space = threads.spaces.get(Number(tokens[1]));
+  const runs = now.spaces.find((it) => it.space === space)?.runs ?? [], page = namedPage(tokens, runs, pageBytes) ?? firstPage(space, runs);
+  return page === null ? null : { space, page };
 }
 
 /** All of it. `given` has the steps, how many of them are done now and were before, the states of both places, regions and served threads,
