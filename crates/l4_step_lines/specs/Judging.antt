@@ -145,15 +145,15 @@ abbrev pub JudgesAt : Machine → Judged → ℕ → Ending → List ℕ → Lis
 JudgesAt m old number Whole line text n new = JudgesSaid m old number (said_in line) line text n new
 JudgesAt m old number ending line text n new = ⊥
 
--- the list is judged further: to the first difference where not all are wanted
-abbrev pub goes_on : Bool → Judged → Bool
-goes_on all judged = all || not judged.differs
+-- after the first difference nothing more is judged, unless all are wanted
+abbrev pub stops : Bool → Judged → Bool
+stops all judged = judged.differs && not all
 
 -- lines, of which the first has this number, one after another
 abbrev pub JudgesLines : Bool → Machine → Judged → ℕ → List TextLine → List ℕ → Machine → Judged → Type 0
 JudgesLines all m old number [] text n new = (text ≡ []) × (n ≡ m) × (new ≡ old)
 JudgesLines all m old number (line ∷ lines) text n new =
-    (goes_on all old ≡ true) × (first : List ℕ) × (rest : List ℕ) × (between : Machine) × (then' : Judged)
+    (stops all old ≡ false) × (first : List ℕ) × (rest : List ℕ) × (between : Machine) × (then' : Judged)
     × JudgesAt m old number (ending_of line) line.bytes first between then' × JudgesLines all between then' (number + 1) lines rest n new × (text ≡ first ++ rest)
 
 -- A RUN
@@ -195,8 +195,8 @@ verdict agrees judged = if agrees then codes "agrees: " ++ decimal judged.steps 
 -- a difference ended the list, or it was judged to its end, which it has a step or question before
 abbrev pub Concludes : Bool → Option (List ℕ) → List TextLine → List ℕ → Judged → Bool → List ℕ → Type 0
 Concludes all new later text judged agrees told =
-    ((goes_on all judged ≡ false) × (agrees ≡ false) × (told ≡ text))
-    ⊎ ((goes_on all judged ≡ true) × (later ≡ []) × IsAtEnd new × (expected : Expected) × (judged.expected ≡ Some expected)
+    ((stops all judged ≡ true) × (agrees ≡ false) × (told ≡ text))
+    ⊎ ((stops all judged ≡ false) × (later ≡ []) × IsAtEnd new × (expected : Expected) × (judged.expected ≡ Some expected)
     × (agrees ≡ not (judged.differs || is_short judged.expected)) × (told ≡ text ++ short_text judged.expected ++ verdict agrees judged))
 
 -- What a run has judged of what it read, and what went out of what it told: all of it, but where a write failed. Want of memory may come
@@ -214,7 +214,8 @@ Judges frames size all old new written now (Err (OfList (Stopped Write))) =
 Judges frames size all old new written now (Err (OfList (Stopped Memory))) =
     ((new ≡ old) × (now ≡ written)) ⊎ ((later : List TextLine) × (text : List ℕ) × (judged : Judged) × JudgesFirst frames size all old new later text judged × Appends written now text)
 Judges frames size all old new written now (Err (Empty number)) =
-    (text : List ℕ) × (judged : Judged) × (j : JudgesFirst frames size all old new [] text judged) × IsAtEnd new × (judged.expected ≡ None) × (number ≡ 1 + length j.lines) × Appends written now text
+    (later : List TextLine) × (text : List ℕ) × (judged : Judged) × (j : JudgesFirst frames size all old new later text judged)
+    × (later ≡ []) × IsAtEnd new × (judged.expected ≡ None) × (number ≡ 1 + length j.lines) × Appends written now text
 Judges frames size all old new written now (Err fault) =
     (later : List TextLine) × (text : List ℕ) × (judged : Judged) × (j : JudgesFirst frames size all old new later text judged)
     × EndsJudging judged (1 + length j.lines) later fault × Appends written now text

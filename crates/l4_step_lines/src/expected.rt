@@ -1,6 +1,6 @@
 //! The answer that is expected below a step or question.
 ghost use Rattle.std.specs.Prelude.{◌≡◌, ◌≤◌, ◌==◌, ◌+◌, [], length, Some, None};
-ghost use Rattle.std.specs.List.{position_or_len};
+ghost use Rattle.std.specs.List.{position, position_or_len};
 ghost use Rattle.l4_step_lines.specs.Judging.{is_unknown, first_line, later_lines, has_said};
 
 use l4_ipc::Step;
@@ -39,15 +39,19 @@ pub(crate) struct Expected {
     pub(crate) last: Option<u64>,
 }
 
+/// Where the first newline stands.
+fn first_newline(bytes: &[u8]) -> Option<usize>
+    ensures { result ≡ position (λ byte. byte == 10) bytes.now }
+{
+    bytes.iter().position(|byte| *byte == b'\n')
+}
+
 /// How many bytes stand before the first newline.
 fn line_len(bytes: &[u8]) -> usize
     ensures value { result ≡ position_or_len (λ byte. byte == 10) bytes.now }
     ensures within { result ≤ length bytes.now }
 {
-    bytes
-        .iter()
-        .position(|byte| *byte == b'\n')
-        .unwrap_or(bytes.len())
+    first_newline(bytes).unwrap_or(bytes.len())
 }
 
 /// Whether an answer is one that is not known.

@@ -1,9 +1,9 @@
 //! Step lists with another kernel's answers.
-ghost use Rattle.std.specs.Prelude.{◌≡◌, ◌<◌, ◌+◌, ◌^◌, ◌∷◌, [], ◌++◌, codes, decimal, option_map, IfSome, if◌then◌else◌};
+ghost use Rattle.std.specs.Prelude.{◌≡◌, ◌<◌, ◌+◌, ◌^◌, ◌∷◌, [], ◌++◌, codes, decimal, option_map, IfSome, if◌then◌else◌, ◌||◌, not};
 ghost use Rattle.std.specs.Option.{option_copied};
 ghost use Rattle.l4_step_lines.specs.Lists.{Answers};
 ghost use Rattle.l4_text.specs.Streams.{Tells};
-ghost use Rattle.l4_step_lines.specs.Judging.{said_in, has_said, wanted, difference, lacks, lack_of, is_short, short_text, step_count, goes_on, IsStart, IsExpected, Judges};
+ghost use Rattle.l4_step_lines.specs.Judging.{said_in, answer_count, after_answer, has_said, wanted, difference, lacks, lack_of, is_short, short_text, step_count, stops, IsStart, IsExpected, Judges};
 ghost use Rattle.l4_step_lines.specs.Inside.Judged.{MatchesAnswer, TellsRequest, TellsJudged, TellsEnd, TellsLines, EndsBy};
 
 use crate::answers::next_text;
@@ -138,6 +138,30 @@ fn compare<W: Write>(
     false
 }
 
+/// How many answers an answer counts for.
+fn answer_count(said: &[u8]) -> u64
+    ensures { result ≡ answer_count said.now }
+{
+    if is_unknown(said) { 0 } else { 1 }
+}
+
+/// Whether there was a difference, or this answer is not the one that is due.
+fn differs(before: bool, same: bool) -> bool
+    ensures { result ≡ (before || not same) }
+{
+    before || !same
+}
+
+/// What is expected behind the answer at the line of this number.
+fn after_answer(expected: Expected, number: u64) -> Expected
+    ensures { result ≡ after_answer expected number }
+{
+    let mut after = expected;
+    after.due.go_on();
+    after.last = Some(number);
+    after
+}
+
 /// Judges an answer, which is at the line of this number. Returns false if no step or question is above it.
 fn judge_answer<W: Write>(
     judged: &mut Judged,
@@ -149,17 +173,13 @@ fn judge_answer<W: Write>(
     requires { judged.old.answers < number }
     ensures { MatchesAnswer judged.old judged.new number said.now (W.contents writer.old) (W.contents writer.new) out.old out.new result }
 {
-    let Some(expected) = &mut judged.expected else {
+    let Some(expected) = judged.expected.take() else {
         return false;
     };
-    if !compare(expected, number, said, out, writer) {
-        judged.differs = true;
-    }
-    expected.due.go_on();
-    expected.last = Some(number);
-    if !is_unknown(said) {
-        judged.answers += 1;
-    }
+    let same = compare(&expected, number, said, out, writer);
+    judged.expected = Some(after_answer(expected, number));
+    judged.answers += answer_count(said);
+    judged.differs = differs(judged.differs, same);
     true
 }
 
@@ -256,7 +276,7 @@ fn judge_request<W: Write>(
     let short = put_short(judged.expected.as_ref(), out, writer);
     judged.expected = Some(expected);
     judged.steps += steps;
-    judged.differs = judged.differs || short;
+    judged.differs = differs(judged.differs, !short);
     Ok(())
 }
 
@@ -287,14 +307,14 @@ fn judge_line<W: Write>(
     judge_request(kernel, judged, request, line, out, writer)
 }
 
-/// Why a list ends with the line of this number, where its ending is why.
-fn ending_fault(number: u64, ending: Ending) -> Option<JudgeFault>
+/// Whether the line of this number ended as it has to, or why the list ends with it.
+fn check_ending(number: u64, ending: Ending) -> Result<(), JudgeFault>
     ensures { EndsBy number ending result }
 {
     match ending {
-        Ending::Whole => None,
-        Ending::Long => Some(JudgeFault::List(Fault::Long(number))),
-        Ending::Cut => Some(JudgeFault::List(Fault::Cut(number))),
+        Ending::Whole => Ok(()),
+        Ending::Long => Err(JudgeFault::List(Fault::Long(number))),
+        Ending::Cut => Err(JudgeFault::List(Fault::Cut(number))),
     }
 }
 
@@ -333,11 +353,11 @@ fn judge_end<W: Write>(
     Ok(true)
 }
 
-/// Whether the list is judged further.
-fn goes_on(all: bool, judged: &Judged) -> bool
-    ensures { result ≡ goes_on all judged.now }
+/// Whether a difference ends the list.
+fn stops(all: bool, judged: &Judged) -> bool
+    ensures { result ≡ stops all judged.now }
 {
-    all || !judged.differs
+    judged.differs && !all
 }
 
 /// Judges line after line, to the end of the list, or to the first difference where not all are wanted. Returns whether the list agrees.
@@ -355,7 +375,7 @@ fn judge_lines<R: Read, W: Write>(
 {
     let mut lines = LineReader::new();
     for number in 1..u64::MAX {
-        if !goes_on(all, judged) {
+        if stops(all, judged) {
             return Ok(false);
         }
         out.send_before_line(&lines, writer);
@@ -369,8 +389,9 @@ fn judge_lines<R: Read, W: Write>(
         let Some(ending) = next else {
             return judge_end(judged, number, out, writer);
         };
-        if let Some(fault) = ending_fault(number, ending) {
-            return Err(fault);
+        match check_ending(number, ending) {
+            Ok(()) => {}
+            Err(fault) => return Err(fault),
         }
         match judge_line(kernel, judged, number, lines.line(), out, writer) {
             Ok(()) => {}

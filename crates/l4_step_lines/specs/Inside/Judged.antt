@@ -33,9 +33,9 @@ TellsJudged m n old new number line written now before after (Err (OfList (Stopp
 TellsJudged m n old new number line written now before after (Err fault) = EndsAt old number Whole line fault × Tells written now before after []
 
 -- the ending of a line ends the list, or doesn't
-abbrev pub EndsBy : ℕ → Ending → Option JudgeFault → Type 0
-EndsBy number ending None = ending ≡ Whole
-EndsBy number ending (Some fault) = ((ending ≡ TooLong) × (fault ≡ OfList (Long number))) ⊎ ((ending ≡ IsCut) × (fault ≡ OfList (Cut number)))
+abbrev pub EndsBy : ℕ → Ending → Result (Unit {0}) JudgeFault → Type 0
+EndsBy number ending (Ok u) = ending ≡ Whole
+EndsBy number ending (Err fault) = ((ending ≡ TooLong) × (fault ≡ OfList (Long number))) ⊎ ((ending ≡ IsCut) × (fault ≡ OfList (Cut number)))
 
 -- the end of a list was judged
 abbrev pub TellsEnd : Judged → ℕ → Option (List ℕ) → Option (List ℕ) → List ℕ × Bool → List ℕ × Bool → Result Bool JudgeFault → Type 0
