@@ -1,8 +1,9 @@
 //! The program `l4`: answers scripts of kernel calls (`l4 --help`).
 //!
-//! Exit statuses: 0 at the end of the script, for a plan and for a proved one, 1 where there is no plan or it is not proved, where the page that
-//! is asked for isn't there, a refused line ended a strict run, or another kernel's answers differ, 2 for a command line that is not understood or a file that can't be
-//! opened, 3 where a read or a write failed, 4 for want of memory.
+//! Exit statuses: 0 at the end of the script, for a plan, for a proved one and for a list that agrees, 1 where there is no plan or it is not
+//! proved, where the page that is asked for isn't there, where a refused line ended a strict run, or where another kernel's answers differ,
+//! 2 for a command line or a list that is not understood or a file that can't be opened, 3 where a read or a write failed, 4 for want of
+//! memory.
 #![tactic(auto)]
 
 mod reports;

@@ -55,8 +55,8 @@ language of l4_steps, with another kernel's answers below each step or query.
 Executes the steps on this kernel, and compares the answers.
 
 A line that begins with '# ' is one line of the other kernel's answer to the step
-or query above it, in the form that l4_steps prints. 'l4 history --answers' writes
-such lists. Any other line that begins with # (such as '## text') is a comment.
+or query above it, in the form that l4_steps prints. 'l4 history --answers'
+writes such lists. Any other line that begins with # (as '## text') is a comment.
 
   transfer 3 5
   # done
@@ -65,18 +65,18 @@ such lists. Any other line that begins with # (such as '## text') is a comment.
 
 A step or query without answers is executed, but not compared. If it has answers,
 they must be all the lines that l4_steps prints, in the same order. The line
-'# ?' stands for any one line, and is not counted.
+'# ?' takes the place of any one line, and is not counted.
 
   agrees: N steps, A answers
                              all compared answers are those of this kernel
   line L: STEP: expected ANSWER, found ANSWER
                              line L is the first answer that differs: this
-                             kernel's answer, and the one in the list. 'no further
-                             answer' stands for a line that is not there. After
-                             'refused K1', the enabled step is named
+                             kernel's answer, and the one in the list. 'no
+                             further answer' takes the place of a missing line.
+                             After 'refused K1', the enabled step is named
 
-With --all, every difference is printed, and the list goes on from the state of
-this kernel.
+With --all, every difference is printed. After each, the steps continue from the
+state of this kernel.
 
 Exit status: 0 if the list agrees, 1 if it differs, 2 if the command line or the
 list is invalid or FILE cannot be opened, 3 if a read or a write failed, 4 if
