@@ -1,6 +1,6 @@
 -- The lines of a judged list, one by one.
-use Rattle.std.proofs.Common.{◌≡◌, ℕ, ◌+◌, ◌<◌, ◌≤◌, ◌==◌, ◌⊎◌, inl, inr, nat_lt, Bool, true, false, cond, List, [], ◌∷◌, ◌++◌, length, take, filter, Option, Some, None, Result, Ok, Err, ◌||◌, not, sym, ap, subst, ◌∙◌, refl, arith}
-use Rattle.std.specs.Io.KnownBytes.{Consumes, Appends, IsAtEnd}
+use Rattle.std.proofs.Common.{◌≡◌, ℕ, ◌+◌, ◌<◌, ◌≤◌, ◌⊎◌, inl, inr, nat_lt, Bool, true, false, cond, List, [], ◌∷◌, ◌++◌, length, take, Option, Some, None, Result, Ok, Err, ◌||◌, not, sym, ap, subst, ◌∙◌, refl, arith}
+use Rattle.std.specs.Io.KnownBytes.{Consumes, Appends}
 use Rattle.std.proofs.lemmas.List.{append-nil, take_all}
 use Rattle.std.proofs.lemmas.Bool.Decides.{nat_tests}
 use mathlib.Core.List.{append_assoc}
@@ -9,7 +9,7 @@ use Rattle.l4_ipc.specs.Machine.{Machine, IsBoot}
 use Rattle.l4_text.specs.Lines.{kept_of, TakesLine, GivesLine}
 use Rattle.l4_text.specs.Streams.{WentOut, HasTold, Tells}
 use Rattle.l4_text.specs.declared.lines.Ending.{Ending}
-use Rattle.l4_text.specs.declared.lines.Ending.TheVariants.{Whole, Long as TooLong, Cut as IsCut}
+use Rattle.l4_text.specs.declared.lines.Ending.TheVariants.{Whole, Long as TooLong}
 use Rattle.l4_text.specs.declared.faults.RunFault.{RunFault}
 use Rattle.l4_text.specs.declared.faults.RunFault.TheVariants.{Read, Write, Memory}
 use Rattle.l4_text.proofs.Telling.{all_out, some_out, tells_none, tells_more, tells_is}
@@ -23,7 +23,7 @@ use Rattle.l4_step_lines.specs.declared.running.Fault.{Fault}
 use Rattle.l4_step_lines.specs.declared.running.Fault.TheVariants.{Stopped, Cut, Long, Unread}
 use Rattle.l4_step_lines.specs.Lines.{TextLine, lines_of}
 use Rattle.l4_step_lines.specs.Lists.{asked_at, ending_of}
-use Rattle.l4_step_lines.specs.Judging.{said_in, has_said, is_unknown, lacks, lack_of, after_answer, difference, with_answer, with_request, IsExpected, answer_count, step_count, is_short, short_text, verdict, stops, JudgesAnswer, JudgesAsked, JudgesSaid, JudgesAt, JudgesLines, IsStart, JudgesFirst, EndsAt, EndsJudging, Concludes, Judges}
+use Rattle.l4_step_lines.specs.Judging.{said_in, has_said, is_unknown, lacks, lack_of, after_answer, difference, with_answer, IsExpected, answer_count, step_count, is_short, short_text, verdict, stops, JudgesAnswer, JudgesAsked, JudgesSaid, JudgesAt, JudgesLines, IsStart, JudgesFirst, EndsAt, EndsJudging, Concludes, Judges}
 use Rattle.l4_step_lines.specs.Inside.Judged.{MatchesAnswer, TellsRequest, TellsJudged, EndsBy, TellsEnd, JudgesSome, TellsLines}
 use Rattle.l4_step_lines.proofs.Going.{cut_line, none_whole, line_of_more, rest_is, nothing_kept, something_kept}
 use Rattle.l4_step_lines.proofs.Taking.{Taken, taken_none, taken_more, taken_parts, taken_with}

@@ -1,5 +1,5 @@
 -- The lines of a list that were taken so far, whatever was done with them.
-use Rattle.std.proofs.Common.{◌≡◌, ℕ, ◌+◌, ◌<◌, ◌≤◌, Bool, true, false, List, [], ◌∷◌, ◌++◌, length, length-append, Option, sym, ap, ◌∙◌, refl, arith}
+use Rattle.std.proofs.Common.{◌≡◌, ℕ, ◌+◌, ◌≤◌, Bool, true, List, [], ◌∷◌, ◌++◌, length, length-append, Option, sym, ap, ◌∙◌, refl, arith}
 use Rattle.std.specs.Io.KnownBytes.{Consumes}
 use mathlib.Core.List.{append_assoc}
 use Rattle.l4_text.specs.Lines.{TakesLine, left_of}

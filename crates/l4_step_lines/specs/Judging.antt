@@ -10,7 +10,7 @@ use Rattle.l4_ipc.specs.Machine.{Machine, IsBoot}
 use Rattle.l4_ipc.specs.Steps.{IsNext, IsIdle}
 use Rattle.l4_text.specs.Streams.{WentOut}
 use Rattle.l4_text.specs.declared.lines.Ending.{Ending}
-use Rattle.l4_text.specs.declared.lines.Ending.TheVariants.{Whole, Long as TooLong, Cut as IsCut}
+use Rattle.l4_text.specs.declared.lines.Ending.TheVariants.{Whole}
 use Rattle.l4_text.specs.declared.faults.RunFault.TheVariants.{Read, Write, Memory}
 use Rattle.l4_step_lines.specs.declared.expected.Expected.{Expected}
 use Rattle.l4_step_lines.specs.declared.judging.Judged.{Judged}

@@ -5,13 +5,12 @@ use Rattle.l4_ipc.specs.Machine.{Machine}
 use Rattle.l4_text.specs.Streams.{Tells}
 use Rattle.l4_text.specs.declared.lines.Ending.{Ending}
 use Rattle.l4_text.specs.declared.lines.Ending.TheVariants.{Whole, Long as TooLong, Cut as IsCut}
-use Rattle.l4_text.specs.declared.faults.RunFault.TheVariants.{Read, Write, Memory}
+use Rattle.l4_text.specs.declared.faults.RunFault.TheVariants.{Read, Memory}
 use Rattle.l4_step_lines.specs.declared.expected.Expected.{Expected}
 use Rattle.l4_step_lines.specs.declared.judging.Judged.{Judged}
 use Rattle.l4_step_lines.specs.declared.judging.JudgeFault.{JudgeFault}
-use Rattle.l4_step_lines.specs.declared.judging.JudgeFault.TheVariants.{List as OfList, NoStep, Empty}
+use Rattle.l4_step_lines.specs.declared.judging.JudgeFault.TheVariants.{List as OfList, Empty}
 use Rattle.l4_step_lines.specs.declared.requests.Request.{Request}
-use Rattle.l4_step_lines.specs.declared.running.Fault.{Fault}
 use Rattle.l4_step_lines.specs.declared.running.Fault.TheVariants.{Stopped, Cut, Long}
 use Rattle.l4_step_lines.specs.Lines.{TextLine, lines_of}
 use Rattle.l4_step_lines.specs.Judging.{JudgesAnswer, JudgesRequest, JudgesAt, JudgesLines, EndsAt, EndsJudging, Concludes, is_short, short_text, verdict}
