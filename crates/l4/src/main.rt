@@ -1,8 +1,8 @@
 //! The program `l4`: answers scripts of kernel calls (`l4 --help`).
 //!
-//! Exit statuses: 0 at the end of the script, for a plan and for a proved one; 1 if there is no plan, if it is not proved, if the page
-//! asked about is not present, or if a refused line ended a strict run; 2 for a command line that is not understood or a file that cannot
-//! be opened; 3 if a read or a write failed; 4 if there was no memory.
+//! Exit statuses: 0 at the end of the script, for a plan, for a proved one and for a list that agrees; 1 if there is no plan, if it is not
+//! proved, if the page asked about is not present, if a refused line ended a strict run, or if another kernel's answers differ; 2 for a
+//! command line or a list that is not understood or a file that cannot be opened; 3 if a read or a write failed; 4 if there was no memory.
 #![tactic(auto)]
 
 mod reports;
@@ -15,12 +15,13 @@ use l4_fpage::PageSize;
 use l4_history::{answered_history, history};
 use l4_msg::Region;
 use l4_options::{
-    Options, ScriptOptions, WatchedReader, WatchedWriter, cause, command_words, misread,
-    not_opened, options, show, status_of, stopped, warn_of_cut_line,
+    NOT_UNDERSTOOD, Options, ScriptOptions, WatchedReader, WatchedWriter, cause, command_words,
+    misread, not_opened, options, show, status_of, stopped, warn_of_cut_line,
 };
 use l4_plan::plan;
 use l4_plan_lines::{answer_lines, plan_lines};
 use l4_sinks::{Style, answer_script};
+use l4_step_lines::{Fault, JudgeFault, judge};
 use l4_text::{RunFault, ScriptReader};
 use l4_why::{Presence, ThreadPage, why};
 use reports::{report_no_plan, report_no_thread, report_unproved};
@@ -33,6 +34,9 @@ const NOT_FOUND: u8 = 1;
 
 /// The exit status of a strict run that a refused line ended.
 const REFUSED: u8 = 1;
+
+/// The exit status if another kernel's answers differ.
+const DIFFERS: u8 = 1;
 
 /// Opens the file, or standard input if no file is named. If the file cannot be opened, reports this and returns the exit status.
 fn opened<R: Files + Input + Eprint>(
@@ -138,6 +142,40 @@ fn tell_history<R: AllocGlobal + Files + Input + Print + Eprint>(
     ended(rt, told, file, &reader, &writer)
 }
 
+/// Judges a step list with another kernel's answers.
+#[inline(never)]
+fn judge_list<R: AllocGlobal + Files + Input + Print + Eprint>(
+    rt: &R,
+    list: &ScriptOptions,
+    all: bool,
+) -> u8 {
+    let file = list.file.as_deref();
+    let mut reader = match opened(rt, file) {
+        Ok(reader) => reader,
+        Err(status) => return status,
+    };
+    let mut writer = WatchedWriter::new(io::writer(rt));
+    let judged = judge(
+        rt.alloc(),
+        list.frames,
+        list.size,
+        all,
+        &mut reader,
+        &mut writer,
+    );
+    match judged {
+        Ok(true) => 0,
+        Ok(false) => DIFFERS,
+        Err(JudgeFault::List(Fault::Stopped(fault))) => {
+            stopped(rt, fault, file, cause(fault, &reader, &writer))
+        }
+        Err(fault) => {
+            let _ = rt.eprintln(&fault);
+            NOT_UNDERSTOOD
+        }
+    }
+}
+
 /// Prints how a page got to its place in a script.
 #[inline(never)]
 fn tell_why<R: AllocGlobal + Files + Input + Print + Eprint>(
@@ -230,6 +268,7 @@ fn obey<R: AllocGlobal + Files + Input + Print + Eprint>(rt: &R, words: &[String
             },
         ) => run(rt, &script, strict, explain),
         Ok(Options::History { script, answers }) => tell_history(rt, &script, answers),
+        Ok(Options::Judge { list, all }) => judge_list(rt, &list, all),
         Ok(
             Options::Why {
                 script,

@@ -3,17 +3,20 @@ ghost use Rattle.std.specs.Prelude.{◌≡◌, IfOk, IfSome, Some};
 ghost use Rattle.l4_options.specs.Ranges.{IsInRange};
 ghost use Rattle.l4_options.specs.Inside.Words.{spelled_anew};
 
-use crate::help::{ABOUT, CHECK, DECODE, HISTORY, PLAN, SCRIPT, WHY};
+use crate::help::{ABOUT, CHECK, DECODE, HISTORY, JUDGE, PLAN, SCRIPT, WHY};
 use crate::requests::{OptionFault, Options};
 use crate::values::{
-    answers_option, explain_option, file_argument, frames_option, help_text, number_of, reading_of,
-    reading_option, region_of, script_of, size_of, size_option, strict_option, without_hyphens,
-    words_argument, words_of,
+    all_option, answers_option, explain_option, file_argument, frames_option, help_text, number_of,
+    reading_of, reading_option, region_of, script_of, size_of, size_option, strict_option,
+    without_hyphens, words_argument, words_of,
 };
 use clap::error::ErrorKind;
 use clap::{Arg, ArgAction, ArgMatches, Command, Error};
 use std::alloc::{AllocError, Global};
 use std::convert::AsStr;
+
+/// What the help says of the file of a script.
+const SCRIPT_FILE: &str = "The script [default: standard input]";
 
 /// A word that has to be there.
 fn needed_word<'a>(alloc: Global, id: &'a str, name: &'a str, help: &'a str) -> Arg<'a> {
@@ -53,9 +56,23 @@ fn of_page<'a>(alloc: Global) -> Result<Command<'a>, AllocError> {
         .after_help(WHY)
         .arg(needed_word(alloc, "thread", "THREAD", "The number of the thread"))?
         .arg(needed_word(alloc, "page", "PAGE", "The number of the page in its space"))?
-        .arg(file_argument(alloc))?
+        .arg(file_argument(alloc, SCRIPT_FILE))?
         .arg(frames_option(alloc))?
         .arg(size_option(alloc))
+}
+
+/// The command `judge`.
+fn of_list<'a>(alloc: Global) -> Result<Command<'a>, AllocError> {
+    Command::new(alloc, "judge")
+        .about("Compares another kernel's answers to steps with those of this kernel")
+        .after_help(JUDGE)
+        .arg(file_argument(
+            alloc,
+            "The step list with answers [default: standard input]",
+        ))?
+        .arg(frames_option(alloc))?
+        .arg(size_option(alloc))?
+        .arg(all_option(alloc))
 }
 
 /// The commands and options that are known.
@@ -63,7 +80,7 @@ fn known<'a>(alloc: Global) -> Result<Command<'a>, AllocError> {
     let run = Command::new(alloc, "run")
         .about("Runs a script of kernel calls and prints the answers")
         .after_help(SCRIPT)
-        .arg(file_argument(alloc))?
+        .arg(file_argument(alloc, SCRIPT_FILE))?
         .arg(frames_option(alloc))?
         .arg(size_option(alloc))?
         .arg(strict_option(alloc))?
@@ -71,7 +88,7 @@ fn known<'a>(alloc: Global) -> Result<Command<'a>, AllocError> {
     let history = Command::new(alloc, "history")
         .about("Prints the steps of a script in the form that l4_steps reads")
         .after_help(HISTORY)
-        .arg(file_argument(alloc))?
+        .arg(file_argument(alloc, SCRIPT_FILE))?
         .arg(frames_option(alloc))?
         .arg(size_option(alloc))?
         .arg(answers_option(alloc))?;
@@ -88,6 +105,7 @@ fn known<'a>(alloc: Global) -> Result<Command<'a>, AllocError> {
         .subcommand_required(true)
         .subcommand(run)?
         .subcommand(history)?
+        .subcommand(of_list(alloc)?)?
         .subcommand(of_page(alloc)?)?
         .subcommand(of_region(
             alloc,
@@ -172,6 +190,19 @@ fn history_options(alloc: Global, matches: &ArgMatches<'_>) -> Result<Options, O
     }
 }
 
+/// What the matches of `judge` ask for.
+fn judge_options(alloc: Global, matches: &ArgMatches<'_>) -> Result<Options, OptionFault>
+    ensures { IfOk result IsInRange }
+{
+    match script_of(alloc, matches) {
+        Ok(list) => Ok(Options::Judge {
+            list,
+            all: matches.get_flag("all"),
+        }),
+        Err(fault) => Err(fault),
+    }
+}
+
 /// What the matches of `why` ask for.
 fn why_options(alloc: Global, matches: &ArgMatches<'_>) -> Result<Options, OptionFault>
     ensures { IfOk result IsInRange }
@@ -201,8 +232,8 @@ fn decode_options(alloc: Global, matches: &ArgMatches<'_>) -> Result<Options, Op
 }
 
 /// Reads the words of the command line, the program's name first:
-/// `l4 run [FILE] [--frames N] [--strict] [--explain]`, `l4 history [FILE] [--frames N] [--answers]`, `l4 why THREAD PAGE [FILE] [--frames N]`,
-/// `l4 plan SOURCE TARGET COUNT RIGHTS`, `l4 check` with the same words, `l4 decode [--as READING] WORD..`, each with
+/// `l4 run [FILE] [--frames N] [--strict] [--explain]`, `l4 history [FILE] [--frames N] [--answers]`,
+/// `l4 judge [FILE] [--frames N] [--all]`, `l4 why THREAD PAGE [FILE] [--frames N]`, `l4 plan SOURCE TARGET COUNT RIGHTS`, `l4 check` with the same words, `l4 decode [--as READING] WORD..`, each with
 /// `--page-size BYTES` where that is wanted, `--help`, `help` or `--version`. N is 256 and BYTES 4096 where they are left out; READING is
 /// message, fpage, window or id.
 ///
@@ -234,6 +265,7 @@ pub fn options<'a, S: AsStr>(alloc: Global, words: &'a [S]) -> Result<Options, O
             Err(fault) => Err(fault),
         },
         Some(("history", history)) => history_options(alloc, history),
+        Some(("judge", judge)) => judge_options(alloc, judge),
         Some(("why", why)) => why_options(alloc, why),
         Some(("decode", decode)) => decode_options(alloc, decode),
         Some((_, run)) => run_options(alloc, run),

@@ -49,6 +49,39 @@ no step and is not reported. Use 'l4 run --strict' to see refused lines.
 
 Exit status: the same as for 'l4 run'.";
 
+pub(crate) const JUDGE: &str = "\
+Reads a step list from FILE, or from standard input if FILE is omitted, in the
+language of l4_steps, with another kernel's answers below each step or query.
+Executes the steps on this kernel, and compares the answers.
+
+A line that begins with '# ' is one line of the other kernel's answer to the step
+or query above it, in the form that l4_steps prints. 'l4 history --answers'
+writes such lists. Any other line that begins with # (as '## text') is a comment.
+
+  transfer 3 5
+  # done
+  # 3 ipc 00000000 0 00000000
+  # ?
+
+A step or query without answers is executed, but not compared. If it has answers,
+they must be all the lines that l4_steps prints, in the same order. The line
+'# ?' takes the place of any one line, and is not counted.
+
+  agrees: N steps, A answers
+                             all compared answers are those of this kernel
+  line L: STEP: expected ANSWER, found ANSWER
+                             line L is the first answer that differs: this
+                             kernel's answer, and the one in the list. 'no
+                             further answer' takes the place of a missing line.
+                             After 'refused K1', the enabled step is named
+
+With --all, every difference is printed. After each, the steps continue from the
+state of this kernel.
+
+Exit status: 0 if the list agrees, 1 if it differs, 2 if the command line or the
+list is invalid or FILE cannot be opened, 3 if a read or a write failed, 4 if
+there is not enough memory.";
+
 pub(crate) const WHY: &str = "\
 Runs a script from FILE, or from standard input if FILE is omitted, as 'l4 run'
 does. Once the script has ended, prints how page PAGE got into the space of

@@ -28,6 +28,11 @@ pub enum Options {
         script: ScriptOptions,
         answers: bool,
     },
+    /// To judge a step list with another kernel's answers, to its first difference or to its end.
+    Judge {
+        list: ScriptOptions,
+        all: bool,
+    },
     /// To tell how a page of a thread's space came there, by a script.
     Why {
         script: ScriptOptions,

@@ -37,11 +37,11 @@ pub(crate) fn size_option<'a>(alloc: Global) -> Arg<'a> {
         .action(ArgAction::Set)
 }
 
-/// The file of a script.
-pub(crate) fn file_argument<'a>(alloc: Global) -> Arg<'a> {
+/// The file of a script or list, with this help.
+pub(crate) fn file_argument<'a>(alloc: Global, help: &'a str) -> Arg<'a> {
     Arg::new(alloc, "file")
         .value_name("FILE")
-        .help("The script [default: standard input]")
+        .help(help)
         .action(ArgAction::Set)
 }
 
@@ -66,6 +66,14 @@ pub(crate) fn answers_option<'a>(alloc: Global) -> Arg<'a> {
     Arg::new(alloc, "answers")
         .long("answers")
         .help("Print the answers to each step in lines that begin with #")
+        .action(ArgAction::SetTrue)
+}
+
+/// The option `--all`.
+pub(crate) fn all_option<'a>(alloc: Global) -> Arg<'a> {
+    Arg::new(alloc, "all")
+        .long("all")
+        .help("Report every difference, not only the first")
         .action(ArgAction::SetTrue)
 }
 

@@ -40,12 +40,12 @@ one_line (c ∷ bytes) h b e =
     ∙ ap (in_front b) (one_line bytes h.1 c h.0)
 
 -- the one line of some bytes without a newline
-cut_line : (bytes : List ℕ) → NoNewline bytes → 0 < length bytes → lines_of bytes ≡ record { bytes = bytes; whole = false } ∷ []
+pub cut_line : (bytes : List ℕ) → NoNewline bytes → 0 < length bytes → lines_of bytes ≡ record { bytes = bytes; whole = false } ∷ []
 cut_line [] h some = absurd (omega arith)
 cut_line (b ∷ bytes) h some = one_line bytes h.1 b h.0
 
 -- of bytes without a newline no line is whole
-none_whole : (bytes : List ℕ) → NoNewline bytes → filter (λ line. line.whole) (lines_of bytes) ≡ []
+pub none_whole : (bytes : List ℕ) → NoNewline bytes → filter (λ line. line.whole) (lines_of bytes) ≡ []
 none_whole [] h = refl
 none_whole (b ∷ bytes) h = ap (λ lines. filter (λ (line : TextLine). line.whole) lines) (one_line bytes h.1 b h.0)
 
@@ -73,7 +73,7 @@ answers_more old between new number (first ∷ lines) text line last are is =
     )
 
 -- what is kept of a line says what the line asks for
-asked_whole : (number : ℕ) (bytes : List ℕ) (kept : List ℕ × Bool) → kept ≡ kept_of bytes → kept.1 ≡ false → asked_at number Whole kept.0 ≡ asked_of number (record { bytes = bytes; whole = true })
+pub asked_whole : (number : ℕ) (bytes : List ℕ) (kept : List ℕ × Bool) → kept ≡ kept_of bytes → kept.1 ≡ false → asked_at number Whole kept.0 ≡ asked_of number (record { bytes = bytes; whole = true })
 asked_whole number bytes kept is short =
     let f : nat_lt 4096 (length bytes) ≡ false = sym (ap (λ k. k.1) is) ∙ short in
     let le : length bytes ≤ 4096 = grind (arith, nat_tests) in
@@ -189,7 +189,7 @@ first_with m last old mid new now after number written out before s read taken l
 }
 
 -- what is left at the end
-rest_is : (mid new : Option (List ℕ)) (now after : List ℕ × ℕ) (kept : List ℕ × Bool) (l : TakesRest mid new now after kept) → now.0 ++ l.takes.read ≡ l.bytes
+pub rest_is : (mid new : Option (List ℕ)) (now after : List ℕ × ℕ) (kept : List ℕ × Bool) (l : TakesRest mid new now after kept) → now.0 ++ l.takes.read ≡ l.bytes
 rest_is mid new now after kept l = l.takes.same ∙ ap (λ x. l.bytes ++ x) l.empty ∙ append-nil l.bytes
 
 -- reading failed
@@ -201,10 +201,10 @@ answered_read m last old mid new now after kept number written out before s e a 
     (first_with m last old mid new now after number written out before s l.takes.read l.bytes (lines_of l.bytes) a l.takes.from (rest_is mid new now after kept l) refl, none_whole l.bytes l.plain)
 
 -- where nothing is kept of a line there is nothing of it
-nothing_kept : (bytes : List ℕ) → take 4096 bytes ≡ [] → bytes ≡ []
+pub nothing_kept : (bytes : List ℕ) → take 4096 bytes ≡ [] → bytes ≡ []
 nothing_kept bytes h = empty_list bytes (omega (arith, ap length h, length-take 4096 bytes))
 
-something_kept : (bytes : List ℕ) → 0 < length (take 4096 bytes) → 0 < length bytes
+pub something_kept : (bytes : List ℕ) → 0 < length (take 4096 bytes) → 0 < length bytes
 something_kept bytes h = omega (arith, h, length-take 4096 bytes)
 
 -- at the end no line is left
@@ -253,7 +253,7 @@ ends_list (Long n) m last old new written out before after named t ends = (t, en
 ends_list (Unread n) m last old new written out before after named t ends = (t, ends)
 
 -- the line that ended it, with what came behind it
-line_of_more : (mid new : Option (List ℕ)) (now after : List ℕ × ℕ) (kept : List ℕ × Bool) (l : TakesLine mid new now after kept) → lines_of ((l.bytes ++ 10 ∷ []) ++ after.0) ≡ record { bytes = l.bytes; whole = true } ∷ lines_of after.0
+pub line_of_more : (mid new : Option (List ℕ)) (now after : List ℕ × ℕ) (kept : List ℕ × Bool) (l : TakesLine mid new now after kept) → lines_of ((l.bytes ++ 10 ∷ []) ++ after.0) ≡ record { bytes = l.bytes; whole = true } ∷ lines_of after.0
 line_of_more mid new now after kept l = ap lines_of (append_assoc l.bytes (10 ∷ []) after.0) ∙ lines_more l.bytes after.0 l.plain
 
 -- the line that is last in what was read ends the list, as it asks for this

@@ -177,6 +177,17 @@ pub(crate) fn enabled_text(step: Option<&Step>) -> Text
     text
 }
 
+/// ` (enabled transfer S R)`, ` (enabled expire N)` or ` (enabled none)`
+pub(crate) fn next_text(step: Option<&Step>) -> Text
+    ensures { result ≡ codes " (enabled " ++ next_name (option_copied step.entry) ++ codes ")" }
+{
+    let mut text = Text::new();
+    text.add(b" (enabled ");
+    add_step(&mut text, step);
+    text.add(b")");
+    text
+}
+
 /// `space K`, or `none`
 pub(crate) fn space_text(space: Option<u64>) -> Text
     ensures { result ≡ space_line space }

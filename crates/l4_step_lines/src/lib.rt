@@ -3,6 +3,8 @@
 
 mod answers;
 mod asked;
+mod expected;
+mod judging;
 mod laws;
 mod numbers;
 mod requests;
@@ -10,6 +12,7 @@ mod running;
 mod session;
 
 pub use asked::put_step;
+pub use judging::{JudgeFault, judge};
 pub use laws::the_line_of_a_step_reads_back;
 pub use running::{Fault, run};
 pub use session::do_step;

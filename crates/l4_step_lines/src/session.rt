@@ -112,7 +112,12 @@ fn tell_reply<W: Write>(reply: Option<&Reply>, out: &mut Output, writer: &mut W)
 }
 
 /// Does or answers what a line asks for.
-fn answer<W: Write>(kernel: &mut Kernel, request: Request, out: &mut Output, writer: &mut W)
+pub(crate) fn answer<W: Write>(
+    kernel: &mut Kernel,
+    request: Request,
+    out: &mut Output,
+    writer: &mut W,
+)
     ensures { (text : List ℕ) × Answers kernel.old request text kernel.new
         × Tells (W.contents writer.old) (W.contents writer.new) out.old out.new text }
 {
@@ -133,7 +138,7 @@ fn is_comment(line: &[u8]) -> bool
 }
 
 /// Whether a line is a comment, or has no token.
-fn is_silent(line: &[u8]) -> bool
+pub(crate) fn is_silent(line: &[u8]) -> bool
     ensures { result ≡ is_comment line.now || is_empty (tokens_of line.now) }
 {
     is_comment(line) || next_token(line).is_none()

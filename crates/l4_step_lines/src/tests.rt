@@ -1,5 +1,5 @@
 use crate::answers::{enabled_text, ended_text, outcome_text, page_text};
-use crate::{Fault, run};
+use crate::{Fault, judge, run};
 use arrayvec::ArrayVec;
 use l4_fpage::{PageSize, Rights};
 use l4_ipc::{Outcome, Step};
@@ -85,5 +85,26 @@ fn spells_a_page(rt: HostRuntime) -> Result<(), Fail> {
     assert!(rt;
         page_text(8, &mapping).as_slice() == b"page 8 frame 4095 -w- 70 1048575\n".as_slice()
     );
+    Ok(())
+}
+
+/// A list with another kernel's answers, of which the third and the fourth differ.
+const JUDGED: &[u8] = b"space 1\n# space 0\nenabled\n# ?\nspace 2\n# space 0\nspace 9\n# space 9\n";
+
+/// The first difference, and then both.
+const DIFFERENCES: [&[u8]; 2] = [
+    b"line 6: space 2: expected space 1, found space 0\n",
+    b"line 6: space 2: expected space 1, found space 0\nline 8: space 9: expected none, found space 9\n",
+];
+
+#[test]
+fn judges_to_the_first_difference_or_to_the_end(rt: HostRuntime) -> Result<(), Fail> {
+    for (all, told) in [(false, DIFFERENCES[0]), (true, DIFFERENCES[1])] {
+        let mut reader = JUDGED;
+        let mut written = Vec::new(rt.alloc());
+        let judged = judge(rt.alloc(), 4, PageSize::Kib4, all, &mut reader, &mut written);
+        assert!(rt; matches!(judged, Ok(false)), "all: {all}");
+        assert!(rt; written.as_slice() == told, "all: {all}");
+    }
     Ok(())
 }

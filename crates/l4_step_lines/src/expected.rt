@@ -1,0 +1,115 @@
+//! The answer that is expected below a step or question.
+ghost use Rattle.std.specs.Prelude.{◌≡◌, ◌≤◌, ◌==◌, ◌+◌, [], length, Some, None};
+ghost use Rattle.std.specs.List.{position, position_or_len};
+ghost use Rattle.l4_step_lines.specs.Judging.{is_unknown, first_line, later_lines, has_said};
+
+use l4_ipc::Step;
+use std::marker::Model;
+
+/// The line that stands for any line of an answer.
+const UNKNOWN: &[u8] = b"?";
+
+/// The lines of an answer that were not compared yet.
+#[derive(Drop)]
+pub(crate) struct DueLines {
+    text: Vec<u8>,
+    at: usize,
+}
+
+impl Model for DueLines {
+    ghost use Rattle.std.specs.Prelude.{ℕ, List, ◌≤◌, length, drop};
+
+    ghost Value = { List ℕ };
+
+    ghost view = { λ a. drop a.at a.text.items };
+
+    ghost invariant = { λ a. a.at ≤ length a.text.items };
+}
+
+/// A step or question, and what of the kernel's answer to it is still to be compared.
+#[derive(Drop)]
+pub(crate) struct Expected {
+    /// The line of the step or question.
+    pub(crate) line: Vec<u8>,
+    /// The lines of the answer that were not compared yet.
+    pub(crate) due: DueLines,
+    /// The step that is enabled then.
+    pub(crate) next: Option<Step>,
+    /// The number of the line of the last answer.
+    pub(crate) last: Option<u64>,
+}
+
+/// Where the first newline stands.
+fn first_newline(bytes: &[u8]) -> Option<usize>
+    ensures { result ≡ position (λ byte. byte == 10) bytes.now }
+{
+    bytes.iter().position(|byte| *byte == b'\n')
+}
+
+/// How many bytes stand before the first newline.
+fn line_len(bytes: &[u8]) -> usize
+    ensures value { result ≡ position_or_len (λ byte. byte == 10) bytes.now }
+    ensures within { result ≤ length bytes.now }
+{
+    first_newline(bytes).unwrap_or(bytes.len())
+}
+
+/// Whether an answer is one that is not known.
+pub(crate) fn is_unknown(said: &[u8]) -> bool
+    ensures { result ≡ is_unknown said.now }
+{
+    said == UNKNOWN
+}
+
+impl DueLines {
+    /// All lines of a text.
+    pub(crate) fn new(text: Vec<u8>) -> DueLines
+        ensures { result ≡ text.items }
+    {
+        DueLines { text, at: 0 }
+    }
+
+    /// Whether all lines were compared.
+    pub(crate) fn is_empty(&self) -> bool
+        ensures { result ≡ (length self.now == 0) }
+    {
+        self.at >= self.text.len()
+    }
+
+    fn rest(&self) -> &[u8]
+        ensures { result.now ≡ self.now }
+    {
+        &self.text.as_slice()[self.at..]
+    }
+
+    /// The first of the lines, without its newline.
+    pub(crate) fn first(&self) -> &[u8]
+        ensures { result.now ≡ first_line self.now }
+    {
+        let rest = self.rest();
+        &rest[..line_len(rest)]
+    }
+
+    /// Whether an answer is the first of the lines, or stands for it.
+    pub(crate) fn has_said(&self, said: &[u8]) -> bool
+        ensures { result ≡ has_said self.now said.now }
+    {
+        if self.is_empty() {
+            return false;
+        }
+        is_unknown(said) || said == self.first()
+    }
+
+    /// Goes on to the next line.
+    pub(crate) fn go_on(&mut self)
+        ensures { self.new ≡ later_lines self.old }
+    {
+        let len = line_len(self.rest());
+        let left = self.text.len() - self.at;
+        if len < left {
+            self.at += len + 1;
+        } else {
+            self.at += left;
+        }
+    }
+}
