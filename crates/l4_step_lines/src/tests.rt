@@ -102,7 +102,14 @@ fn judges_to_the_first_difference_or_to_the_end(rt: HostRuntime) -> Result<(), F
     for (all, told) in [(false, DIFFERENCES[0]), (true, DIFFERENCES[1])] {
         let mut reader = JUDGED;
         let mut written = Vec::new(rt.alloc());
-        let judged = judge(rt.alloc(), 4, PageSize::Kib4, all, &mut reader, &mut written);
+        let judged = judge(
+            rt.alloc(),
+            4,
+            PageSize::Kib4,
+            all,
+            &mut reader,
+            &mut written,
+        );
         assert!(rt; matches!(judged, Ok(false)), "all: {all}");
         assert!(rt; written.as_slice() == told, "all: {all}");
     }
