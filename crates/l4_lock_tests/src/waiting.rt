@@ -175,3 +175,12 @@ fn frames_in_range(rt: HostRuntime) {
         assert!(rt; KernelLock::new(rt.alloc(), frames, PageSize::Kib4, 0).is_ok());
     }
 }
+
+/// No clause says which kernel a lock holds: it is the one that was asked for, in frames and in their size.
+#[test]
+fn lock_holds_the_kernel_that_was_asked_for(rt: HostRuntime) {
+    let (lock, _) = KernelLock::new(rt.alloc(), 8, PageSize::Kib1, 0).expect(&rt, "a lock");
+    let locked = lock.unlock();
+    assert_eq!(rt; locked.frames(), 8);
+    assert!(rt; locked.kernel().page_size() == PageSize::Kib1);
+}
