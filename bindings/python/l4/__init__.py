@@ -25,6 +25,7 @@ threads, every call of the library raises RuntimeError. In other forked processe
 every object.
 """
 from . import draw
+from ._library import library_version
 from .calls import Call
 from .kernel import Answer, Done, Entered, Expire, Kernel, Mapping, Outcome, Place, Reply, ReplyKind, Step, Transfer
 from .plans import Plan, Region
@@ -44,6 +45,7 @@ from .words import (
     Item,
     Message,
     Rights,
+    Tag,
     ThreadId,
     Timeout,
     timeouts,
@@ -89,10 +91,12 @@ __all__ = [
     "Sigma0",
     "Start",
     "Step",
+    "Tag",
     "ThreadId",
     "Timeout",
     "TooLong",
     "Transfer",
     "draw",
+    "library_version",
     "timeouts",
 ]
