@@ -412,6 +412,15 @@ typedef struct l4_page {
 /* Returns the lowest present page of a space that is not below `page`. Refusals: B1. */
 l4_page l4_next_page(l4_kernel *kernel, uint64_t space, uint32_t page);
 
+/* Compares the mappings of a space in two kernels, and returns the lowest page, not below `page`, whose mapping differs: the page is present
+ * in only one of the kernels, or its frame, its rights or its parent differ. It works for any two kernels, and changes neither.
+ *
+ * To find the pages that a step changes, copy the kernel before the step with l4_copy. After the step, list the pages of each space of both
+ * kernels: start at 0, and continue at the page found plus 1. Before the next step, you can execute the same step in the copy instead of
+ * making a new copy. A call reads the mappings of all pages that are present in either kernel, from `page` to the page found, or to the end
+ * of the space. Refusals: B1 if a handle is empty. */
+l4_page l4_next_change(l4_kernel *before, l4_kernel *after, uint64_t space, uint32_t page);
+
 /* A region: `count` pages from the page `source` on, which go to the pages from `target` on with these rights. */
 typedef struct l4_region {
     uint32_t source;

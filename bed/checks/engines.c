@@ -167,7 +167,7 @@ static void check_mappings(void) {
     run("frame 5 is writable", &registers);
 }
 
-/* Code that comes to the place of other code, by another frame. */
+/* Maps a frame with other code to a page from which code was executed before. */
 static void check_replaced_code(void) {
     uint32_t page = CODE / PAGE_BYTES + 4;
     memcpy(frame(6), "\xb8\6\0\0\0\x0f\x0b", 7); /* mov eax, 6; ud2 */

@@ -1,4 +1,4 @@
-/* Writes a word that root and the middle read, and then reads what root has written. */
+/* Writes a word that root and the middle read, and then reads what root has written: in the same page, and in the page that replaces it. */
 #include "chain.h"
 #include "children.h"
 
@@ -16,5 +16,7 @@ int main(void) {
     tell(WRITTEN);
     print_word("client: reads ", *shared_word(), "\n");
     tell(READ);
+    print_word("client: reads again ", *shared_word(), "\n");
+    tell(READ_AGAIN);
     return 0;
 }

@@ -1,9 +1,13 @@
-/* A root task that handles its child's exceptions: it skips the instruction, and puts the exception's number into a register. */
+/* A root task that handles its child's exceptions: it skips the instruction, and puts the exception's number into a register. It also tries to
+ * let the child disable interrupts, which no handler may. */
 #include "children.h"
 
 #define EXCEPTION_LABEL 0xffb0u
 #define WORDS 12
-enum { EIP = 0, NUMBER = 2, EAX = 11 };
+enum { EIP = 0, EFLAGS = 1, NUMBER = 2, EAX = 11 };
+
+/* The I/O privilege level 3, in EFLAGS. */
+#define IO_PRIVILEGE 0x3000u
 
 /* The child's instructions that raise exceptions have two bytes. */
 static void answer_exception(void) {
@@ -11,6 +15,7 @@ static void answer_exception(void) {
     L4_StoreMRs(1, WORDS, words);
     print_number("handler: exception ", words[NUMBER], "\n");
     words[EIP] += 2;
+    words[EFLAGS] |= IO_PRIVILEGE;
     words[EAX] = 100 + words[NUMBER];
     L4_LoadMRs(1, WORDS, words);
     L4_Set_MsgTag(L4_MsgTagOfWord(WORDS));

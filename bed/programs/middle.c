@@ -13,12 +13,16 @@ static void ask(L4_Word_t label) {
     L4_Call(L4_Pager());
 }
 
-/* The answer maps the pages of the client's program. */
+/* The answer maps pages. */
+static void ask_for_pages(L4_Word_t label) {
+    L4_Accept(L4_MapGrantItems(L4_CompleteAddressSpace));
+    ask(label);
+    L4_Accept(L4_UntypedWordsAcceptor);
+}
+
 static void begin_client(void) {
     L4_Word_t ip;
-    L4_Accept(L4_MapGrantItems(L4_CompleteAddressSpace));
-    ask(GIVE_PROGRAM);
-    L4_Accept(L4_UntypedWordsAcceptor);
+    ask_for_pages(GIVE_PROGRAM);
     L4_StoreMR(1, &text_start);
     L4_StoreMR(2, &data_start);
     L4_StoreMR(3, &ip);
@@ -50,10 +54,13 @@ int main(void) {
     L4_MsgTag_t tag;
     begin_client();
     tag = L4_Wait(&from);
-    while (is_fault(tag) || L4_Label(tag) != READ) {
+    while (is_fault(tag) || L4_Label(tag) != READ_AGAIN) {
         L4_StoreMR(1, &address);
         if (is_fault(tag)) {
             answer_client(address, L4_Label(tag) & 7);
+        } else if (L4_Label(tag) == READ) {
+            ask_for_pages(REPLACE);
+            L4_Set_MsgTag(L4_Niltag);
         } else {
             print_word("middle: reads ", *shared_word(), "\n");
             ask(TAKE_BACK);

@@ -10,6 +10,8 @@ int main(void) {
     print_number("", second, "\n");
     __asm__ volatile("divl %%ecx" : "=a"(second) : "a"(1), "d"(0), "c"(0) : "cc");
     print_number("raiser: continues again with ", second, "\n");
+    __asm__ volatile("cli\n\tnop" : "=a"(first) : "a"(1) : "cc");
+    print_number("raiser: cannot disable interrupts, ", first, "\n");
     first = L4_ThreadControl(L4_GlobalId(9, 1), L4_Myself(), L4_Myself(), L4_nilthread, (void *)0xffffffffu);
     print_number("raiser: creates a thread: ", first, ", ");
     print_number("ErrorCode ", L4_ErrorCode(), "\n");

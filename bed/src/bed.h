@@ -117,6 +117,8 @@ uint32_t kernel_enter(struct bed *bed, uint32_t thread, const l4_call *call, con
 l4_reply kernel_reply(struct bed *bed, uint32_t thread);
 uint64_t kernel_space(struct bed *bed, uint32_t thread);
 l4_mapping kernel_mapping(struct bed *bed, uint64_t space, uint32_t page);
+/* Returns the words with which a thread entered its last call, and the window in which it receives. */
+struct entered *kernel_entered(struct bed *bed, uint32_t thread);
 void kernel_begin_sigma0(struct bed *bed);
 /* Prints a line of the kernel if lines are printed. */
 void print_line(const struct bed *bed, const char *format, ...) __attribute__((format(printf, 2, 3)));
@@ -176,7 +178,7 @@ void change_unmap(struct bed *bed, uint32_t thread, uint32_t control, const uint
 /* Forgets the pages of a space that no longer exists. */
 void change_lose_space(struct bed *bed, struct space *space);
 void change_apply(struct bed *bed);
-/* Ends the bed unless every page of every space is as the kernel has it. */
+/* Ends the bed unless every page of every space is as the kernel has it, and the places of each frame are the pages that have it. */
 void change_verify(struct bed *bed);
 
 /* thread.c */

@@ -1,31 +1,27 @@
-/* Which pages a step can have changed. The kernel's steps do not report it, so it is derived here: a step gives a page a mapping only in the
- * target of an item, and takes a mapping or a right only from pages that share their frame with a page that the step names. */
+/* Which pages a step can have changed. The kernel's steps do not report it, so it is derived here. A message changes only pages whose frame
+ * is that of a target of its items, before or after it: a page that was granted has kept its frame, and what descends from a page shares its
+ * frame. An Unmap changes only pages that share their frame with a page that it names. */
 #include "bed.h"
 #include "check.h"
 #include <stdlib.h>
 
 #define ITEM_WORDS 2
 #define COMPLETE_LOG 32u
-#define BASE_BITS (~UINT32_C(0x3ff))
 
 /* The pages from `first` on. */
 struct range {
     uint32_t first, count;
 };
 
-static uint32_t log_of(uint32_t fpage) {
-    uint32_t log = fpage >> 4 & 0x3f;
-    return log == 1 ? COMPLETE_LOG : log; /* a size field of 1 means the complete space */
-}
-
 static uint32_t low_bits(uint32_t log) {
-    return log >= COMPLETE_LOG ? ~UINT32_C(0) : (UINT32_C(1) << log) - 1;
+    return log == COMPLETE_LOG ? ~UINT32_C(0) : (UINT32_C(1) << log) - 1;
 }
 
+/* The block of 2^log bytes that has this address. A block that is smaller than a page has no page. */
 static struct range pages_at(uint32_t address, uint32_t log) {
     struct range range = {(address & ~low_bits(log)) / PAGE_BYTES, 0};
     if (log >= L4_PAGE_LOG)
-        range.count = UINT32_C(1) << ((log > COMPLETE_LOG ? COMPLETE_LOG : log) - L4_PAGE_LOG);
+        range.count = UINT32_C(1) << (log - L4_PAGE_LOG);
     return range;
 }
 
@@ -139,37 +135,29 @@ static void update_range(struct bed *bed, struct space *space, struct range rang
     check_library(next.refusal, "l4_next_page");
 }
 
-/* The pages that an item moves: the larger of fpage and window is cut to the size of the other, at the place of the send base. */
-static void change_item(struct bed *bed, struct space *source, struct space *target, const uint32_t *item, uint32_t window) {
-    uint32_t base = item[0] & BASE_BITS, log = log_of(item[1]), window_log = log_of(window);
-    uint32_t from = item[1] & BASE_BITS & ~low_bits(log), to = window & BASE_BITS & ~low_bits(window_log);
-    uint32_t least = log < window_log ? log : window_log;
-    if (log <= window_log)
-        to |= base & low_bits(window_log);
-    else
-        from |= base & low_bits(log);
-    if (source != NULL)
-        set_range_stale(bed, source, pages_at(from, least));
-    if (target == NULL)
-        return;
-    set_range_stale(bed, target, pages_at(to, least));
-    update_range(bed, target, pages_at(to, least));
+/* The pages that an item fills: the larger of fpage and window is cut to the size of the other, at the place of the send base. */
+static void change_item(struct bed *bed, struct space *target, const uint32_t *item, uint32_t window) {
+    uint32_t log = l4_fpage_log(item[1]), window_log = l4_fpage_log(window);
+    uint32_t within = l4_item_base(item[0]) & low_bits(window_log);
+    struct range filled = log <= window_log ? pages_at(l4_fpage_base(window) | within, log) : pages_at(l4_fpage_base(window), window_log);
+    set_range_stale(bed, target, filled);
+    update_range(bed, target, filled);
 }
 
+/* sigma0 is not a thread of the bed. Its window is nil, so no message with items is delivered to it. */
 void change_transfer(struct bed *bed, uint32_t sender, uint32_t receiver) {
-    struct thread *from = thread_numbered(bed, sender), *to = thread_numbered(bed, receiver);
-    const struct entered *sent = from == NULL ? &bed->sigma0_entered : &from->entered;
-    uint32_t untyped = sent->words[0] & 0x3f, typed = sent->words[0] >> 6 & 0x3f, k;
-    for (k = 0; k + 1 < typed; k += ITEM_WORDS)
-        change_item(bed, from == NULL ? NULL : from->space, to == NULL ? NULL : to->space, sent->words + 1 + untyped + k,
-                    to == NULL ? 0 : to->entered.acceptor);
+    struct thread *to = thread_numbered(bed, receiver);
+    const uint32_t *words = kernel_entered(bed, sender)->words;
+    uint32_t untyped = l4_tag_untyped(words[0]), typed = l4_tag_typed(words[0]), k;
+    for (k = 0; to != NULL && k + 1 < typed; k += ITEM_WORDS)
+        change_item(bed, to->space, words + 1 + untyped + k, to->entered.acceptor);
 }
 
 void change_unmap(struct bed *bed, uint32_t thread, uint32_t control, const uint32_t *words) {
     const struct thread *caller = thread_numbered(bed, thread);
     uint32_t k;
     for (k = 0; k <= (control & 0x3f); k++)
-        set_range_stale(bed, caller->space, pages_at(words[k] & BASE_BITS, log_of(words[k])));
+        set_range_stale(bed, caller->space, pages_at(l4_fpage_base(words[k]), l4_fpage_log(words[k])));
 }
 
 void change_lose_space(struct bed *bed, struct space *space) {
@@ -207,25 +195,40 @@ void change_apply(struct bed *bed) {
     bed->stale_count = 0;
 }
 
-static void verify_space(struct bed *bed, const struct space *space) {
-    uint32_t page, present = 0;
+/* Ends the bed unless each place of a frame is a page that has it. Returns the number of places. */
+static uint32_t verify_places(const struct bed *bed, uint32_t frame) {
+    const struct places *places = &bed->places[frame];
+    uint32_t k;
+    for (k = 0; k < places->count; k++) {
+        uint32_t entry = places->list[k].space->exists ? entry_at(places->list[k].space, places->list[k].page) : 0;
+        check_holds(entry != 0 && frame_of(entry) == frame, "verify: the bed keeps a page that does not have the frame");
+    }
+    return places->count;
+}
+
+/* Ends the bed unless each page of a space is as the kernel has it. Returns the number of pages. */
+static uint32_t verify_space(struct bed *bed, const struct space *space) {
+    uint32_t page, count = 0, present;
     l4_page next = l4_next_page(&bed->kernel, space->number, 0);
     while (next.there) {
         l4_mapping mapping = kernel_mapping(bed, space->number, next.page);
         check_holds(entry_at(space, next.page) == (MAPPED | mapping.frame << 3 | mapping.rights), "verify: a page is not as the kernel has it");
-        present++;
+        count++;
         next = l4_next_page(&bed->kernel, space->number, next.page + 1);
     }
     check_library(next.refusal, "l4_next_page");
+    present = count;
     for (page = 0; page < L4_SPACE_PAGES; page += space->leaves[page / LEAF_PAGES] == NULL ? LEAF_PAGES : 1)
         present -= entry_at(space, page) != 0;
     check_holds(present == 0, "verify: a page is mapped that the kernel does not have");
+    return count;
 }
 
 void change_verify(struct bed *bed) {
-    size_t k;
-    for (k = 0; k < L4_MAX_THREADS; k++) {
-        if (bed->spaces[k].exists && bed->spaces[k].engine_space != NULL)
-            verify_space(bed, &bed->spaces[k]);
-    }
+    uint32_t k, pages = 0, places = 0;
+    for (k = 0; k < L4_MAX_THREADS; k++)
+        pages += bed->spaces[k].exists ? verify_space(bed, &bed->spaces[k]) : 0;
+    for (k = 0; k < L4_MAX_FRAMES; k++)
+        places += verify_places(bed, k);
+    check_holds(pages == places, "verify: the bed keeps other pages than the kernel has");
 }

@@ -87,14 +87,14 @@ static void take_step(struct bed *bed, const l4_step *step) {
         change_transfer(bed, step->thread, step->receiver);
 }
 
-static struct entered *entered_of(struct bed *bed, uint32_t thread) {
+struct entered *kernel_entered(struct bed *bed, uint32_t thread) {
     struct thread *found = thread_numbered(bed, thread);
     return found == NULL ? &bed->sigma0_entered : &found->entered;
 }
 
 /* The words of this call are needed when its message is delivered, which a call of another thread may cause. */
 static void keep_entered(struct bed *bed, uint32_t thread, const l4_call *call, const uint32_t *words, size_t count) {
-    struct entered *entered = entered_of(bed, thread);
+    struct entered *entered = kernel_entered(bed, thread);
     entered->acceptor = call->kind == L4_FAULT ? 0x10u : call->acceptor;
     memset(entered->words, 0, sizeof entered->words);
     memcpy(entered->words, words, (count < L4_MAX_WORDS ? count : L4_MAX_WORDS) * sizeof *words);

@@ -236,6 +236,46 @@ static void copies(void) {
     l4_free(&copy);
 }
 
+/* Maps a page of one thread with all rights to a page of another thread. */
+static void maps_page(l4_kernel *kernel, uint32_t from, uint32_t page, uint32_t to, uint32_t target) {
+    uint32_t words[3] = {0x80, target << 12 | 8, page << 12 | 0xc7};
+    l4_call call = send(to);
+    EXPECT(plainly(kernel, to, receive(0x10)).refusal == L4_OK);
+    EXPECT(l4_enter(kernel, from, &call, words, 3, NULL, 0).step_count == 1 && l4_mapping_of(kernel, l4_space_of(kernel, to).space, target).there == 1);
+}
+
+/* The pages that differ between a kernel and a second one, which executes more steps. */
+static void changes(void) {
+    static const uint32_t page_16_w[1] = {0x100c2};
+    l4_kernel before = L4_EMPTY, after = L4_EMPTY;
+    l4_call call = kind(L4_UNMAP);
+    l4_page change;
+    EXPECT(l4_next_change(&before, &after, 0, 0).refusal == L4_B1 && l4_boot(&before, 256) == L4_OK);
+    EXPECT(l4_next_change(&before, &after, 0, 0).refusal == L4_B1 && l4_next_change(&after, &before, 0, 0).refusal == L4_B1);
+    EXPECT(l4_enabled(&before).refusal == L4_OK && l4_boot(&after, 255) == L4_OK);
+    change = l4_next_change(&before, &after, 0, 3);
+    EXPECT(change.refusal == L4_OK && change.there == 1 && change.page == 255 && l4_next_change(&after, &before, 0, 255).page == 255);
+    change = l4_next_change(&before, &after, 0, 256);
+    EXPECT(change.refusal == L4_OK && change.there == 0 && change.page == 0);
+    l4_free(&after);
+    EXPECT(l4_copy(&before, &after) == L4_OK && l4_next_change(&before, &after, 0, 0).there == 0);
+    delivers(&after);
+    EXPECT(l4_next_change(&before, &after, 2, 0).page == 32 && l4_next_change(&before, &after, 2, 33).there == 0);
+    EXPECT(l4_next_change(&after, &before, 2, 0).page == 32 && l4_next_change(&before, &after, 0, 0).there == 0);
+    maps_page(&after, 1, 16, 2, 40);
+    l4_free(&before);
+    EXPECT(l4_copy(&after, &before) == L4_OK && l4_next_change(&before, &after, 1, 0).there == 0);
+    /* the frame and the rights of page 32 stay, but its parent is another page */
+    maps_page(&after, 2, 40, 3, 32);
+    EXPECT(l4_next_change(&before, &after, 2, 0).page == 32 && l4_next_change(&before, &after, 1, 0).there == 0);
+    /* sigma0's page 16 loses w, and so do the pages that were mapped from it */
+    call.control = 0x40;
+    EXPECT(l4_start(&after, 1, &call, page_16_w, 1).refusal == L4_OK && l4_next_change(&before, &after, 0, 0).page == 16);
+    EXPECT(l4_next_change(&before, &after, 0, 17).there == 0 && l4_next_change(&before, &after, 1, 0).page == 40);
+    l4_free(&before);
+    l4_free(&after);
+}
+
 /* Reading the words of messages to a pager and to sigma0. */
 static void readers(void) {
     static const uint32_t request[3] = {0xffa00002, 0x100f5, 1}, no_fpage[3] = {0xffa00002, 0x20, 0};
@@ -742,6 +782,7 @@ int main(int count, char **words) {
     enters(&kernel);
     l4_free(&kernel);
     copies();
+    changes();
     readers();
     plans();
     small_kernels();

@@ -25,6 +25,7 @@ threads, every call of the library raises RuntimeError. In other forked processe
 every object.
 """
 from . import draw
+from ._library import library_version
 from .calls import Call
 from .judge import UNKNOWN, Agreement, Difference, Judge
 from .kernel import Answer, Done, Entered, Expire, Kernel, Mapping, Outcome, Place, Reply, ReplyKind, Step, Transfer
@@ -45,6 +46,7 @@ from .words import (
     Item,
     Message,
     Rights,
+    Tag,
     ThreadId,
     Timeout,
     timeouts,
@@ -94,10 +96,12 @@ __all__ = [
     "Sigma0",
     "Start",
     "Step",
+    "Tag",
     "ThreadId",
     "Timeout",
     "TooLong",
     "Transfer",
     "draw",
+    "library_version",
     "timeouts",
 ]

@@ -124,8 +124,8 @@ L4_ROOT_ID = 0x8001
 L4_NIL_FPAGE = 0
 L4_COMPLETE_FPAGE = 0x10
 
-# the buffer size for the text of a refusal: larger than every text
-TEXT_ROOM = 160
+# the room for a text of the library and its 0: the longest text is the line of a reply, of 656 bytes
+TEXT_ROOM = 657
 
 
 def numbers(names: str) -> List[Tuple[str, Any]]:
@@ -322,6 +322,7 @@ FUNCTIONS: Dict[str, Tuple[Any, List[Any]]] = {
     "l4_page_size_of": (l4_page_size, [KERNEL]),
     "l4_mapping_of": (l4_mapping, [KERNEL, c_uint64, c_uint32]),
     "l4_next_page": (l4_page, [KERNEL, c_uint64, c_uint32]),
+    "l4_next_change": (l4_page, [KERNEL, KERNEL, c_uint64, c_uint32]),
     "l4_read_fault": (l4_fault, [WORDS, c_size_t]),
     "l4_read_request": (l4_request, [WORDS, c_size_t]),
     "l4_pager_new": (c_uint32, [PAGER]),
@@ -457,15 +458,34 @@ def array(values: Sequence[int]) -> Any:
     return (c_uint32 * max(len(values), 1))(*values)
 
 
+def _text(function: Any, *values: Any) -> str:
+    """Returns the text that a function of the library writes."""
+    text = ctypes.create_string_buffer(TEXT_ROOM)
+    function(*values, text, TEXT_ROOM)
+    return text.value.decode()
+
+
 def refusal_code(refusal: int) -> str:
     """Returns the printed code of a refusal, or an empty text for a number that is not a refusal."""
-    text = ctypes.create_string_buffer(TEXT_ROOM)
-    library.l4_refusal_code(refusal, text, TEXT_ROOM)
-    return text.value.decode()
+    return _text(library.l4_refusal_code, refusal)
 
 
 def refusal_text(refusal: int) -> str:
     """Returns the text of a refusal, or an empty text for a number that is not a refusal."""
-    text = ctypes.create_string_buffer(TEXT_ROOM)
-    library.l4_refusal_text(refusal, text, TEXT_ROOM)
-    return text.value.decode()
+    return _text(library.l4_refusal_text, refusal)
+
+
+def reply_text(thread: int, reply: l4_reply) -> str:
+    """Returns the line that `l4 run` prints for a thread's reply."""
+    return _text(library.l4_reply_text, thread, ctypes.byref(reply))
+
+
+def step_text(step: l4_step) -> str:
+    """Returns the line that `l4 run` prints for a step."""
+    return _text(library.l4_step_text, ctypes.byref(step))
+
+
+def library_version() -> Tuple[int, int, int]:
+    """Returns the version of the library libl4: its major, minor and patch numbers."""
+    version = library.l4_version()
+    return version // 1_000_000, version // 1_000 % 1_000, version % 1_000

@@ -41,7 +41,7 @@ def _id(value: ThreadId, what: str) -> int:
 
 def _window(window: Optional[Fpage]) -> int:
     """Returns the acceptor word of a receive window."""
-    return 0 if window is None else int(of_type(window, Fpage, "a window").word)
+    return 0 if window is None else int(of_type(window, Fpage, "a window").acceptor)
 
 
 def _fpage_text(word: int) -> str:

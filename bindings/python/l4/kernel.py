@@ -12,7 +12,7 @@ from ._library import library, number, of_type
 from ._shown import hexadecimal
 from .calls import Call
 from .refusals import IpcFailed, Refused
-from .words import MAX_THREADS, PAGE_BYTES, SMALL_SPACE_PAGES, Item, Message, Rights, ThreadId, items_of
+from .words import MAX_THREADS, MAX_WORDS, PAGE_BYTES, SMALL_SPACE_PAGES, Item, Message, Rights, Tag, ThreadId, items_of
 
 
 class Outcome(enum.Enum):
@@ -34,10 +34,19 @@ class Outcome(enum.Enum):
 
 @dataclass(frozen=True)
 class Transfer:
-    """The step that delivers the sender's message to the receiver; both are thread numbers."""
+    """The step that delivers the sender's message to the receiver; both are thread numbers.
+
+    >>> Transfer(1, 3).line
+    'transfer 1 3'
+    """
 
     sender: int
     receiver: int
+
+    @property
+    def line(self) -> str:
+        """Returns the line of a step list that has this step, without its newline."""
+        return _library.step_text(_step_given(self, 0))
 
 
 @dataclass(frozen=True)
@@ -45,6 +54,11 @@ class Expire:
     """The step that ends the thread's wait with a timeout of zero."""
 
     thread: int
+
+    @property
+    def line(self) -> str:
+        """Returns the line of a step list that has this step, without its newline."""
+        return _library.step_text(_step_given(self, 0))
 
 
 #: A step that does not start a call.
@@ -64,11 +78,20 @@ class Answer:
 
 @dataclass(frozen=True)
 class Done:
-    """An executed step, its outcome, and the numbers of the threads whose calls ended in it."""
+    """An executed step, its outcome, and the numbers of the threads whose calls ended in it.
+
+    >>> Done(Transfer(1, 3), Outcome.DELIVERED, (1, 3)).line
+    'transfer 1 3 done'
+    """
 
     step: Step
     outcome: Outcome
     ended: Tuple[int, ...]
+
+    @property
+    def line(self) -> str:
+        """Returns the line that `l4 run` prints for this step, without its newline."""
+        return _library.step_text(_step_given(self.step, self.outcome.value))
 
 
 @dataclass(frozen=True)
@@ -139,17 +162,29 @@ class Reply:
     @property
     def label(self) -> int:
         """Returns the message's label."""
-        return self.tag >> 16
+        return Tag(self.tag).label
 
     @property
     def untyped(self) -> Tuple[int, ...]:
         """Returns the message's untyped words, which come before its items."""
-        return self.words[: self.tag & 0x3F]
+        return self.words[: Tag(self.tag).untyped]
 
     @property
     def items(self) -> Tuple[Item, ...]:
         """Returns the message's items."""
-        return items_of(self.words[self.tag & 0x3F :])
+        return items_of(self.words[Tag(self.tag).untyped :])
+
+    def line(self, thread: int) -> str:
+        """Returns the line that `l4 run` prints for this reply of a thread, without its newline.
+
+        >>> Reply(ReplyKind.IPC, 0x1, 0, ThreadId.SIGMA0, (5,)).line(3)
+        '3 ipc 00000001 0 1 00000005'
+        """
+        words = self.words[:MAX_WORDS]
+        given = _library.l4_reply(kind=self.kind.value, tag=self.tag, error=self.error, word_count=len(words))
+        setattr(given, "from", self.sender.word)
+        given.words[: len(words)] = words
+        return _library.reply_text(number(thread, "a thread number"), given)
 
     def __str__(self) -> str:
         if self.error:
@@ -198,6 +233,13 @@ def step_of(kind: int, thread: int, receiver: int) -> Optional[Step]:
     if kind == _library.L4_TRANSFER:
         return Transfer(thread, receiver)
     return Expire(thread) if kind == _library.L4_EXPIRE else None
+
+
+def _step_given(step: Step, outcome: int) -> _library.l4_step:
+    """Returns the step as the library has it, with the number of its outcome."""
+    if isinstance(step, Transfer):
+        return _library.l4_step(kind=_library.L4_TRANSFER, thread=step.sender, receiver=step.receiver, outcome=outcome)
+    return _library.l4_step(kind=_library.L4_EXPIRE, thread=step.thread, outcome=outcome)
 
 
 def _step(told: _library.l4_step) -> Optional[Step]:
@@ -358,10 +400,48 @@ class Kernel(Handle):
                 yield mapping
             page = self.next_page(space, page + 1) if page + 1 < SMALL_SPACE_PAGES else None
 
+    def changed_pages(self, before: Kernel, space: int) -> Tuple[int, ...]:
+        """Compares this kernel with an earlier copy of it, or with any other kernel. Returns the pages of a space whose mappings differ, by
+        rising page number.
+
+        A mapping differs if the page is present in only one of the kernels, or if its frame, its rights or its parent differ. The call
+        reads the mappings of all pages of the space that are present in either kernel.
+
+        >>> from l4 import Call, Fpage, Rights
+        >>> kernel = Kernel(256)
+        >>> before = kernel.copy()
+        >>> _ = kernel.enter(1, Call.unmap([Fpage.page(16, Rights.WRITE)], own=True))
+        >>> kernel.changed_pages(before, 0)
+        (16,)
+        """
+        of_type(before, Kernel, "what a kernel is compared with")
+        number(space, "a space", 64)
+        if before is self:
+            self._told(self._ask(library.l4_page_size_of))
+            return ()
+        # two threads that compare the same kernels take their locks in the same order
+        first, second = sorted((self, before), key=id)
+        with first._turn, second._turn:
+            return tuple(self._changes(before, space))
+
+    def _changes(self, before: Kernel, space: int) -> Iterator[int]:
+        """Yields the pages whose mappings differ."""
+        self._told(self._ask(library.l4_page_size_of))
+        told = before._told(before._ask(library.l4_next_change, byref(self._handle), space, 0))
+        while told.there:
+            yield told.page
+            told = before._ask(library.l4_next_change, byref(self._handle), space, told.page + 1)
+
     def threads(self) -> Tuple[int, ...]:
         """Returns the numbers of the threads, by rising number."""
         with self._turn:
             return tuple(self._listed(library.l4_next_thread, "thread"))
+
+    def threads_in(self, space: int) -> Tuple[int, ...]:
+        """Returns the numbers of the threads of a space, by rising number."""
+        number(space, "a space", 64)
+        with self._turn:
+            return tuple(thread for thread in self.threads() if self.space_of(thread) == space)
 
     def spaces(self) -> Tuple[int, ...]:
         """Returns the numbers of the spaces, by rising number."""

@@ -11,7 +11,7 @@ from typing import Callable, Dict, Iterable, Iterator, List, Optional, Set, Tupl
 
 from ._library import L4_DELETE
 from .calls import Call
-from .kernel import Kernel, Outcome, Reply, ReplyKind, Transfer
+from .kernel import Kernel, Reply, ReplyKind, Transfer
 from .plans import Plan, Region
 from .refusals import Refused
 from .tables import Pager, Sigma0
@@ -29,21 +29,6 @@ _NO_SPACE = (1 << 64) - 1
 
 _NUMBER = re.compile(r"0x[0-9A-Fa-f]{1,8}|[0-9]{1,10}")
 _RIGHTS = {str(rights): rights for rights in map(Rights.of_bits, range(8))}
-
-_OUTCOMES = {
-    Outcome.DELIVERED: "done",
-    Outcome.NO_WINDOW: "no-window",
-    Outcome.ENTANGLED: "entangled",
-    Outcome.WANTS_MEMORY: "no-memory",
-}
-
-_ENDS = {
-    ReplyKind.HIT: "fault hit",
-    ReplyKind.ANSWERED: "fault answered",
-    ReplyKind.UNMAPPED: "unmap ok",
-    ReplyKind.CONTROLLED: "control ok",
-    ReplyKind.GONE: "gone",
-}
 
 
 @dataclass(frozen=True)
@@ -129,13 +114,9 @@ def _text(refused: Refused) -> str:
     return refused.code if refused.detail is None else f"{refused.code} {refused.detail}"
 
 
-def _reply_text(reply: Optional[Reply]) -> str:
-    if reply is None:
-        return "gone"
-    if reply.kind is ReplyKind.IPC:
-        sender = "nil" if reply.sender == ThreadId.NIL else reply.sender.number
-        return f"ipc {reply.tag:08x} {reply.error} {sender}" + "".join(f" {word:08x}" for word in reply.words)
-    return f"fault failed {reply.error}" if reply.kind is ReplyKind.FAILED else _ENDS[reply.kind]
+def _reply_text(thread: int, reply: Optional[Reply]) -> str:
+    """Returns the line of a thread's reply. A thread that no longer exists has none."""
+    return (reply or Reply(ReplyKind.GONE)).line(thread)
 
 
 class Script:
@@ -348,13 +329,12 @@ class Script:
         """Executes the next step until no step is enabled."""
         for done in self.kernel.steps():
             self.steps += 1
+            texts = (done.line, *self._ended(done.ended))
             if isinstance(done.step, Transfer):
-                sender, receiver = done.step.sender, done.step.receiver
-                texts = (f"transfer {sender} {receiver} {_OUTCOMES[done.outcome]}", *self._ended(done.ended))
-                message = self._sent(sender, receiver)
+                message = self._sent(done.step.sender, done.step.receiver)
                 yield Event(self.line_count, texts, transfer=done.step, message=message, is_step=True)
             else:
-                yield Event(self.line_count, (f"expire {done.step.thread}", *self._ended(done.ended)), done.step.thread, is_step=True)
+                yield Event(self.line_count, texts, done.step.thread, is_step=True)
 
     def _sent(self, sender: int, receiver: int) -> Message:
         """Returns the message that was sent: the message of an Ipc's call, or the one that a pager received for a fault."""
@@ -363,7 +343,7 @@ class Script:
 
     def _ended(self, threads: Iterable[int]) -> Tuple[str, ...]:
         """Returns how the calls of these threads ended, as text."""
-        texts = tuple(f"{thread} {_reply_text(self.kernel.reply(thread))}" for thread in threads)
+        texts = tuple(_reply_text(thread, self.kernel.reply(thread)) for thread in threads)
         if self._waiting in threads:
             self._waiting = None
         return texts

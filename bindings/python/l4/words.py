@@ -84,6 +84,16 @@ class ThreadId:
         """Returns the version, below 16,384."""
         return self.word & 0x3FFF
 
+    @property
+    def is_valid(self) -> bool:
+        """Returns whether a thread can have this id. No thread can if the number is 0, if the low six bits of the version are all zero, or
+        if the id is `ThreadId.ANY`.
+
+        >>> ThreadId.ROOT.is_valid, ThreadId(0xc040).is_valid
+        (True, False)
+        """
+        return self.number != 0 and self.version & 0x3F != 0 and self.word != _library.L4_ANYTHREAD
+
     def __str__(self) -> str:
         if self in (ThreadId.NIL, ThreadId.ANY):
             return "nil" if self == ThreadId.NIL else "any"
@@ -202,6 +212,15 @@ class Fpage:
         size = 1 if self.log == _SPACE_LOG else self.log
         return self.base | size << 4 | self.rights.value
 
+    @property
+    def acceptor(self) -> int:
+        """Returns the acceptor word whose receive window is this fpage, as `Call.ipc` takes it. It has no rights.
+
+        >>> hex(Fpage.complete(Rights.ALL).acceptor)
+        '0x10'
+        """
+        return self.word & 0xFFFFFFF0
+
     def __str__(self) -> str:
         if self.log == _NIL_LOG:
             return "nil"
@@ -297,11 +316,61 @@ def _item_text(first: int, second: int) -> str:
         return f"no item in {hexadecimal([first, second])}"
 
 
-def _message_text(tag: int, words: Sequence[int]) -> str:
+@dataclass(frozen=True, repr=False)
+class Tag:
+    """The tag of a message: a label, the number of untyped words, and the number of words of items, two for each (L4 X.2 manual, MsgTag).
+
+    Every word is a Tag, also one that the kernel refuses.
+
+    >>> Tag.of(7, 1, 2), Tag.of(7, 1, 2).typed
+    (Tag(0x00070081), 2)
+    """
+
+    word: int
+
+    def __post_init__(self) -> None:
+        number(self.word, "the word of a tag")
+
+    @classmethod
+    def of(cls, label: int = 0, untyped: int = 0, typed: int = 0) -> Tag:
+        """Returns the tag with a label of 16 bits and these numbers of words, each below 64. Raises ValueError for other numbers."""
+        counts = number(typed, "a number of words of items", 6) << 6 | number(untyped, "a number of untyped words", 6)
+        return cls(number(label, "a label", 16) << 16 | counts)
+
+    @property
+    def label(self) -> int:
+        """Returns the label."""
+        return self.word >> 16
+
+    @property
+    def untyped(self) -> int:
+        """Returns the number of untyped words."""
+        return self.word & 0x3F
+
+    @property
+    def typed(self) -> int:
+        """Returns the number of words of items."""
+        return self.word >> 6 & 0x3F
+
+    @property
+    def _flags(self) -> int:
+        """Returns the flags. The kernel refuses a message with flags."""
+        return self.word >> 12 & 0xF
+
+    @property
+    def is_error(self) -> bool:
+        """Returns whether this is the tag of an Ipc that failed, which has the highest flag."""
+        return self._flags & 8 != 0
+
+    def __repr__(self) -> str:
+        return f"Tag({self.word:#010x})"
+
+
+def _message_text(tag: Tag, words: Sequence[int]) -> str:
     """Returns the tag of a message and the words after it as text."""
-    untyped, typed, flags = tag & 0x3F, tag >> 6 & 0x3F, tag >> 12 & 0xF
+    untyped, typed, flags = tag.untyped, tag.typed, tag._flags
     found = words[untyped : untyped + typed]
-    parts = [f"label {tag >> 16:#06x}", f"flags {flags:#x}" if flags else "", f"{untyped} untyped" if untyped else ""]
+    parts = [f"label {tag.label:#06x}", f"flags {flags:#x}" if flags else "", f"{untyped} untyped" if untyped else ""]
     parts += [_item_text(first, second) for first, second in zip(found[::2], found[1::2])]
     if typed % 2:
         parts.append(f"an odd number of words for the items: {typed}")
@@ -335,14 +404,18 @@ class Message:
         ['0x70081', '0x5', '0x20008', '0x100c7']
         """
         untyped, items = tuple(untyped), tuple(of_type(item, Item, "an item of a message") for item in items)
-        number(label, "a label", 16)
         if len(untyped) + 2 * len(items) >= MAX_WORDS:
             raise ValueError(f"more than {MAX_WORDS - 1} words after the tag")
         typed = [word for place, item in enumerate(items, 1) for word in item.words(place < len(items))]
-        return cls((label << 16 | len(items) << 7 | len(untyped), *untyped, *typed))
+        return cls((Tag.of(label, len(untyped), len(typed)).word, *untyped, *typed))
+
+    @property
+    def tag(self) -> Optional[Tag]:
+        """Returns the tag, or None if the message has no words."""
+        return Tag(self.words[0]) if self.words else None
 
     def __str__(self) -> str:
-        return _message_text(self.words[0], self.words[1:]) if self.words else "no tag"
+        return _message_text(Tag(self.words[0]), self.words[1:]) if self.words else "no tag"
 
     def __repr__(self) -> str:
         return f"<Message {hexadecimal(self.words)}: {self}>" if self.words else "<Message: no tag>"

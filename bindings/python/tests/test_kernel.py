@@ -23,6 +23,7 @@ from l4 import (
     Outcome,
     Place,
     Refused,
+    Reply,
     ReplyKind,
     Rights,
     ThreadId,
@@ -116,6 +117,54 @@ class Kernels(unittest.TestCase):
         self.assertEqual((kernel.threads(), kernel.spaces()), ((1, 2, 9), (0, 1, 2)))
         kernel.start(2, Call.delete(ThreadId.of(9)))
         self.assertEqual((kernel.threads(), kernel.spaces()), ((1, 2), (0, 1)))
+
+    def test_threads_of_a_space_are_listed(self):
+        kernel = delivered()
+        kernel.enter(2, Call.create(ThreadId.of(9), THREAD))
+        self.assertEqual([kernel.threads_in(space) for space in range(4)], [(1,), (2,), (3, 9), ()])
+        with self.assertRaises(ValueError):
+            kernel.threads_in(-1)
+
+    def test_changed_pages_are_listed(self):
+        before, kernel = Kernel(256), delivered()
+        self.assertEqual([kernel.changed_pages(before, space) for space in range(3)], [(), (), (32,)])
+        self.assertEqual(before.changed_pages(kernel, 2), (32,))
+        before = kernel.copy()
+        self.assertEqual((kernel.changed_pages(before, 2), kernel.changed_pages(kernel, 2)), ((), ()))
+        kernel.start(1, Call.unmap([Fpage.pages(16, 1, Rights.WRITE)], own=True))
+        self.assertEqual([kernel.changed_pages(before, space) for space in range(3)], [(16, 17), (), (32,)])
+        for space, other in ((1 << 64, before), (0, None)):
+            with self.assertRaises((ValueError, TypeError)):
+                kernel.changed_pages(other, space)
+        before.close()
+        for one, other in ((kernel, before), (before, kernel), (before, before)):
+            with self.assertRaisesRegex(ValueError, "closed"):
+                one.changed_pages(other, 0)
+
+    def test_two_threads_compare_the_same_kernels(self):
+        kernels, found = (Kernel(64), Kernel(63)), []
+        compare = lambda one, other: found.extend(one.changed_pages(other, 0) for _ in range(50))
+        workers = [threading.Thread(target=compare, args=kernels), threading.Thread(target=compare, args=kernels[::-1])]
+        for worker in workers:
+            worker.start()
+        for worker in workers:
+            worker.join(60)
+        self.assertEqual(found, [(63,)] * 100)
+
+    def test_steps_and_replies_have_the_lines_of_scripts(self):
+        kernel = delivered()
+        self.assertEqual((kernel.reply(3).line(3), kernel.reply(2).line(2)), ("3 ipc 00000080 0 1 00020008 000100c7", "2 control ok"))
+        kernel.start(2, Call.receive(timeout=Timeout.ZERO))
+        self.assertEqual((kernel.enabled().line, kernel.next().line), ("expire 2", "expire 2"))
+        self.assertEqual(kernel.reply(2).line(2), "2 ipc 00008000 3 nil")
+        kernel.start(3, Call.receive())
+        step = kernel.enter(1, Call.send(THREAD, Message((0x80, 0x20008, 0x100C7)))).steps[0]
+        self.assertEqual((step.step.line, step.line, step.outcome), ("transfer 1 3", "transfer 1 3 no-window", Outcome.NO_WINDOW))
+        lines = [Reply(kind, error=5 if kind is ReplyKind.FAILED else 0).line(4) for kind in ReplyKind]
+        self.assertEqual(
+            lines, ["4 ipc 00000000 0 nil", "4 fault hit", "4 fault answered", "4 fault failed 5", "4 unmap ok", "4 control ok", "4 gone"]
+        )
+        self.assertEqual(len(Reply(ReplyKind.IPC, 0x3F, 0, ThreadId(0xFFFFC001), (1,) * 63).line(262143)), 6 + 13 + 2 + 7 + 63 * 9)
 
     def test_a_run_is_taken_both_ways(self):
         kernel = delivered()
@@ -274,6 +323,8 @@ class Kernels(unittest.TestCase):
             (kernel.mapping, 0, 0),
             (kernel.next_page, 0, 0),
             (kernel.threads,),
+            (kernel.threads_in, 0),
+            (kernel.changed_pages, kernel, 0),
             (next, mappings),
         ):
             with self.assertRaisesRegex(ValueError, "closed"):

@@ -1,7 +1,7 @@
 """Thread ids, rights, fpages, items, messages and calls are the words that C gives."""
 import unittest
 
-from l4 import MAX_WORDS, SMALL_PAGE_BYTES, SMALL_SPACE_PAGES, SPACE_PAGES, Call, Fpage, Item, Message, Rights, ThreadId, Timeout
+from l4 import MAX_WORDS, SMALL_PAGE_BYTES, SMALL_SPACE_PAGES, SPACE_PAGES, Call, Fpage, Item, Message, Rights, Tag, ThreadId, Timeout
 
 
 class Words(unittest.TestCase):
@@ -17,6 +17,8 @@ class Words(unittest.TestCase):
                 ThreadId.of(number, version)
         with self.assertRaises(ValueError):
             ThreadId(1 << 32)
+        valid = [ThreadId(word).is_valid for word in (0, 1, 0x4000, 0x4001, 0x4040, 0x4041, 0xFFFFFFFE, 0xFFFFFFFF)]
+        self.assertEqual(valid, [False, False, False, True, False, True, True, False])
         shown = [str(ThreadId(word)) for word in (0, 0xFFFFFFFF, 0x8001, 0xC002)]
         self.assertEqual(shown, ["nil", "any", "thread 2", "thread 3 version 2"])
 
@@ -164,6 +166,22 @@ class Words(unittest.TestCase):
                 Item.map(fpage).words(more)
         with self.assertRaises(ValueError):
             Item.map(fpage, 0x7FF)
+
+    def test_tags_have_three_parts(self):
+        tag = Tag.of(0xFFE2, 2, 62)
+        self.assertEqual((tag.word, tag.label, tag.untyped, tag.typed), (0xFFE20F82, 0xFFE2, 2, 62))
+        self.assertEqual((Tag(tag.word), repr(tag), Tag.of().word), (tag, "Tag(0xffe20f82)", 0))
+        self.assertEqual([Tag(word).is_error for word in (0x8000, 0x7FFF, 0xFFFF0000)], [True, False, False])
+        self.assertEqual((Message.of(7, [5]).tag, Message().tag), (Tag.of(7, 1), None))
+        for parts in ((1 << 16,), (0, 64), (0, 0, 64), (0, -1)):
+            with self.assertRaises(ValueError):
+                Tag.of(*parts)
+        with self.assertRaises(TypeError):
+            Tag("0")
+
+    def test_windows_are_acceptors(self):
+        acceptors = [fpage.acceptor for fpage in (Fpage.nil(), Fpage.complete(Rights.ALL), Fpage.page(16, Rights.ALL))]
+        self.assertEqual(acceptors, [0, 0x10, 0x100C0])
 
     def test_messages_have_at_most_64_words(self):
         item = Item.grant(Fpage.page(5, Rights.READ), 0x3000)

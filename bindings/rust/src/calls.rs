@@ -150,7 +150,7 @@ impl Call {
             to: ThreadId::NIL,
             from,
             timeouts: Timeout::word(Timeout::Never, timeout),
-            acceptor: window.word(),
+            acceptor: window.acceptor(),
             message: Message::EMPTY,
         })
     }
@@ -169,7 +169,7 @@ impl Call {
             to,
             from: to,
             timeouts: Timeout::word(send, receive),
-            acceptor: window.word(),
+            acceptor: window.acceptor(),
             message: *message,
         })
     }
@@ -186,7 +186,7 @@ impl Call {
             to,
             from: ThreadId::ANY,
             timeouts: Timeout::word(send, receive),
-            acceptor: window.word(),
+            acceptor: window.acceptor(),
             message: *message,
         })
     }

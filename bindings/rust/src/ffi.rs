@@ -407,6 +407,7 @@ functions! {
     fn l4_page_size_of(kernel: *mut l4_kernel) -> l4_page_size;
     fn l4_mapping_of(kernel: *mut l4_kernel, space: u64, page: u32) -> l4_mapping;
     fn l4_next_page(kernel: *mut l4_kernel, space: u64, page: u32) -> l4_page;
+    fn l4_next_change(before: *mut l4_kernel, after: *mut l4_kernel, space: u64, page: u32) -> l4_page;
     fn l4_read_fault(words: *const u32, count: usize) -> l4_fault;
     fn l4_read_request(words: *const u32, count: usize) -> l4_request;
     fn l4_pager_new(pager: *mut l4_pager) -> u32;
@@ -445,7 +446,7 @@ functions! {
 }
 
 /// No step.
-const NO_STEP: l4_step = l4_step {
+pub(crate) const NO_STEP: l4_step = l4_step {
     refusal: L4_OK,
     kind: L4_NONE,
     thread: 0,
@@ -453,6 +454,18 @@ const NO_STEP: l4_step = l4_step {
     outcome: 0,
     ended_count: 0,
     ended: [0; 2],
+    reserved: [0; 2],
+};
+
+/// No reply.
+pub(crate) const NO_REPLY: l4_reply = l4_reply {
+    refusal: L4_OK,
+    kind: L4_NONE,
+    tag: 0,
+    error: 0,
+    from: 0,
+    word_count: 0,
+    words: [0; L4_MAX_WORDS as usize],
     reserved: [0; 2],
 };
 
@@ -480,8 +493,7 @@ fn fits(version: u32) -> bool {
 
 /// Panics if the archive has a version that does not fit this crate, since its structs may have another layout.
 fn check_version() {
-    // SAFETY: the function has no parameters, and the header states no condition for it.
-    let version = unsafe { l4_version() };
+    let version = version();
     let text = |number: u32| {
         format!(
             "{}.{}.{}",
@@ -663,6 +675,20 @@ impl Handle<l4_kernel> {
         // SAFETY: as in `enabled`.
         unsafe { l4_next_page(self.cell.get(), space, page) }
     }
+
+    /// Compares this kernel with another one, or returns `None` if both are the same object.
+    pub(crate) fn next_change(
+        &self,
+        after: &Handle<l4_kernel>,
+        space: u64,
+        page: u32,
+    ) -> Option<l4_page> {
+        if ptr::eq(self, after) {
+            return None;
+        }
+        // SAFETY: as in `enabled`, for both handles, which are two.
+        Some(unsafe { l4_next_change(self.cell.get(), after.cell.get(), space, page) })
+    }
 }
 
 impl Handle<l4_lock> {
@@ -833,6 +859,34 @@ pub(crate) fn check_too_long(region: &l4_region, pages: &[u32], page_bytes: u32)
     unsafe { l4_check_too_long_sized(region, pages.as_ptr(), pages.len(), page_bytes) }
 }
 
+/// Returns the version of the library, as one number.
+pub(crate) fn version() -> u32 {
+    // SAFETY: the function has no parameters, and the header states no condition for it.
+    unsafe { l4_version() }
+}
+
+/// The room for a text of the library and its 0: the longest text is the line of a reply, of 656 bytes.
+const TEXT_ROOM: usize = 657;
+
+/// Returns the text that a function of the library writes to a place with this room.
+fn text(write: impl FnOnce(*mut c_char, usize) -> usize) -> String {
+    let mut bytes = [0u8; TEXT_ROOM];
+    let length = write(bytes.as_mut_ptr().cast(), bytes.len());
+    String::from_utf8_lossy(&bytes[..length]).into_owned()
+}
+
+pub(crate) fn reply_text(thread: u32, reply: &l4_reply) -> String {
+    check_version();
+    // SAFETY: the reply lives as long as its borrow, and the room is that of the place, which belongs to `text`.
+    text(|out, room| unsafe { l4_reply_text(thread, reply, out, room) })
+}
+
+pub(crate) fn step_text(step: &l4_step) -> String {
+    check_version();
+    // SAFETY: as in `reply_text`.
+    text(|out, room| unsafe { l4_step_text(step, out, room) })
+}
+
 #[cfg(test)]
 pub(crate) use tests::{refusal_code, refusal_text};
 
@@ -843,28 +897,16 @@ mod tests {
     use std::path::Path;
     use std::{env, fs};
 
-    /// The room for a text of a refusal, which is longer than each of them.
-    const TEXT_ROOM: usize = 160;
-
-    /// What the function writes for this refusal.
-    fn told(
-        function: unsafe extern "C" fn(u32, *mut c_char, usize) -> usize,
-        refusal: u32,
-    ) -> String {
-        let mut bytes = [0u8; TEXT_ROOM];
-        // SAFETY: the bytes are this function's own, and their room is their length.
-        let length = unsafe { function(refusal, bytes.as_mut_ptr().cast(), bytes.len()) };
-        String::from_utf8_lossy(&bytes[..length]).into_owned()
-    }
-
-    /// The printed code of a refusal; nothing for a number that is none.
+    /// Returns the printed code of a refusal, or an empty text for a number that is not a refusal.
     pub(crate) fn refusal_code(refusal: u32) -> String {
-        told(l4_refusal_code, refusal)
+        // SAFETY: as in `reply_text`.
+        text(|out, room| unsafe { l4_refusal_code(refusal, out, room) })
     }
 
-    /// The line of text of a refusal; nothing for a number that is none.
+    /// Returns the text of a refusal, or an empty text for a number that is not a refusal.
     pub(crate) fn refusal_text(refusal: u32) -> String {
-        told(l4_refusal_text, refusal)
+        // SAFETY: as in `reply_text`.
+        text(|out, room| unsafe { l4_refusal_text(refusal, out, room) })
     }
 
     /// The type as C writes it.

@@ -40,6 +40,29 @@ impl Step {
             kind => unknown("step", kind),
         }
     }
+
+    /// Returns the step as the library has it, before it is executed.
+    fn given(&self) -> ffi::l4_step {
+        let (kind, thread, receiver) = match *self {
+            Step::Transfer { sender, receiver } => (ffi::L4_TRANSFER, sender, receiver),
+            Step::Expire { thread } => (ffi::L4_EXPIRE, thread, 0),
+        };
+        ffi::l4_step {
+            kind,
+            thread,
+            receiver,
+            ..ffi::NO_STEP
+        }
+    }
+
+    /// Returns the line of a step list that has this step, without its newline.
+    ///
+    /// ```
+    /// assert_eq!(l4::Step::Transfer { sender: 1, receiver: 3 }.line(), "transfer 1 3");
+    /// ```
+    pub fn line(&self) -> String {
+        ffi::step_text(&self.given())
+    }
 }
 
 /// What a step did.
@@ -70,6 +93,18 @@ impl Outcome {
             ffi::L4_WANTS_MEMORY => Outcome::WantsMemory,
             ffi::L4_EXPIRED => Outcome::Expired,
             number => unknown("outcome", number),
+        }
+    }
+
+    /// Returns the number of the outcome, as the library has it.
+    fn number(self) -> u32 {
+        match self {
+            Outcome::Started => ffi::L4_STARTED,
+            Outcome::Delivered => ffi::L4_DELIVERED,
+            Outcome::NoWindow => ffi::L4_NO_WINDOW,
+            Outcome::Entangled => ffi::L4_ENTANGLED,
+            Outcome::WantsMemory => ffi::L4_WANTS_MEMORY,
+            Outcome::Expired => ffi::L4_EXPIRED,
         }
     }
 }
@@ -114,6 +149,22 @@ impl Done {
             outcome: Outcome::of(told.outcome),
             ended: told.ended[..told.ended_count as usize].to_vec(),
         })
+    }
+
+    /// Returns the line that `l4 run` prints for this step, without its newline.
+    ///
+    /// ```
+    /// use l4::{Call, Fpage, Kernel, Message, ThreadId, Timeout};
+    /// let mut kernel = Kernel::boot(1)?;
+    /// kernel.enter(2, &Call::receive(ThreadId::ANY, Fpage::NIL, Timeout::Never))?;
+    /// let entered = kernel.enter(1, &Call::send(ThreadId::ROOT, &Message::new(0, &[], &[])?, Timeout::Never))?;
+    /// assert_eq!(entered.steps[0].line(), "transfer 1 2 done");
+    /// # Ok::<(), Box<dyn std::error::Error>>(())
+    /// ```
+    pub fn line(&self) -> String {
+        let mut given = self.step.given();
+        given.outcome = self.outcome.number();
+        ffi::step_text(&given)
     }
 }
 
@@ -324,6 +375,21 @@ impl Kernel {
         iter::successors(next(0), |thread| next(thread + 1)).collect()
     }
 
+    /// Returns the numbers of the threads of a space, by rising number.
+    ///
+    /// ```
+    /// use l4::{Call, Kernel, ThreadId};
+    /// let mut kernel = Kernel::boot(1)?;
+    /// kernel.enter(2, &Call::create(ThreadId::new(9, 1)?, ThreadId::ROOT, ThreadId::NIL))?;
+    /// assert_eq!((kernel.threads_in(1), kernel.threads_in(2)), (vec![2, 9], vec![]));
+    /// # Ok::<(), l4::Refusal>(())
+    /// ```
+    pub fn threads_in(&self, space: u64) -> Vec<u32> {
+        let mut threads = self.threads();
+        threads.retain(|&thread| self.space_of(thread) == Some(space));
+        threads
+    }
+
     /// Returns the numbers of the spaces, by rising number.
     pub fn spaces(&self) -> Vec<u64> {
         let next = |from| {
@@ -359,6 +425,29 @@ impl Kernel {
     pub fn next_page(&self, space: u64, page: u32) -> Option<u32> {
         let told = self.handle.next_page(space, page);
         (told.there != 0).then_some(told.page)
+    }
+
+    /// Compares this kernel with an earlier copy of it, or with any other kernel. Returns the pages of a space whose mappings differ, by
+    /// rising page number.
+    ///
+    /// A mapping differs if the page is present in only one of the kernels, or if its frame, its rights or its parent differ. The call
+    /// reads the mappings of all pages of the space that are present in either kernel.
+    ///
+    /// ```
+    /// use l4::{Call, Fpage, Kernel, Rights};
+    /// let mut kernel = Kernel::boot(256)?;
+    /// let before = kernel.try_clone()?;
+    /// let page = Fpage::page(16, Rights::WRITE)?;
+    /// kernel.enter(1, &Call::unmap(true, &[page])?)?;
+    /// assert_eq!((kernel.changed_pages(&before, 0), kernel.changed_pages(&before, 1)), (vec![16], vec![]));
+    /// # Ok::<(), Box<dyn std::error::Error>>(())
+    /// ```
+    pub fn changed_pages(&self, before: &Kernel, space: u64) -> Vec<u32> {
+        let next = |from| {
+            let told = before.handle.next_change(&self.handle, space, from)?;
+            (told.there != 0).then_some(told.page)
+        };
+        iter::successors(next(0), |page| next(page + 1)).collect()
     }
 
     /// Returns an iterator over the mappings of a space's present pages, by rising page number.

@@ -99,7 +99,21 @@ pub use refusals::Refusal;
 pub use replies::{ErrorCode, Received, Reply};
 pub use shared::{Entry, Link, Receipt, Recorded, Seat, SharedKernel, Unclosed};
 pub use tables::{Pager, Sigma0};
-pub use words::{BadFpage, Fpage, Item, Message, PageSize, Rights, ThreadId, TooManyWords};
+pub use words::{BadFpage, Fpage, Item, Message, PageSize, Rights, Tag, ThreadId, TooManyWords};
+
+/// Returns the version of the library `libl4.a`: its major, minor and patch numbers.
+///
+/// ```
+/// assert_eq!(l4::library_version(), (0, 1, 0));
+/// ```
+pub fn library_version() -> (u32, u32, u32) {
+    let version = ffi::version();
+    (
+        version / 1_000_000,
+        version / 1_000 % 1_000,
+        version % 1_000,
+    )
+}
 
 /// The size in bytes of a page of 4 KiB.
 pub const PAGE_BYTES: u32 = ffi::L4_PAGE_BYTES;

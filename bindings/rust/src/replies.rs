@@ -2,7 +2,7 @@
 use crate::ffi;
 use crate::refusals::unknown;
 use crate::words::{write_message, Hexadecimal};
-use crate::{Item, Message, ThreadId};
+use crate::{Item, Message, Tag, ThreadId, MAX_WORDS};
 use std::error::Error;
 use std::fmt;
 
@@ -79,12 +79,12 @@ pub struct Received {
 impl Received {
     /// Returns the message's label, which is in bits 31 to 16 of the tag.
     pub fn label(&self) -> u16 {
-        (self.tag >> 16) as u16
+        Tag::of_word(self.tag).label()
     }
 
     /// Returns the number of words before the items.
     fn untyped_count(&self) -> usize {
-        ((self.tag & 0x3f) as usize).min(self.words.len())
+        Tag::of_word(self.tag).untyped().min(self.words.len())
     }
 
     /// Returns the untyped words.
@@ -172,6 +172,46 @@ impl Reply {
             ffi::L4_REPLY_GONE => Reply::Gone,
             kind => unknown("reply", kind),
         })
+    }
+
+    /// Returns the reply as the library has it.
+    fn given(&self) -> ffi::l4_reply {
+        let mut given = ffi::NO_REPLY;
+        match self {
+            Reply::Ipc(received) => {
+                let count = received.words.len().min(MAX_WORDS);
+                given.kind = ffi::L4_REPLY_IPC;
+                given.tag = received.tag;
+                given.error = received.error.map_or(0, ErrorCode::number);
+                given.from = received.from.word();
+                given.word_count = count as u32;
+                given.words[..count].copy_from_slice(&received.words[..count]);
+            }
+            Reply::Hit => given.kind = ffi::L4_REPLY_HIT,
+            Reply::Answered => given.kind = ffi::L4_REPLY_ANSWERED,
+            Reply::Failed(error) => {
+                given.kind = ffi::L4_REPLY_FAILED;
+                given.error = error.number();
+            }
+            Reply::Unmapped => given.kind = ffi::L4_REPLY_UNMAPPED,
+            Reply::Controlled => given.kind = ffi::L4_REPLY_CONTROLLED,
+            Reply::Gone => given.kind = ffi::L4_REPLY_GONE,
+        }
+        given
+    }
+
+    /// Returns the line that `l4 run` prints for this reply of a thread, without its newline.
+    ///
+    /// ```
+    /// use l4::{Call, Fpage, Kernel, ThreadId, Timeout};
+    /// let mut kernel = Kernel::boot(1)?;
+    /// kernel.enter(1, &Call::receive(ThreadId::ANY, Fpage::NIL, Timeout::Zero))?;
+    /// let reply = kernel.reply(1).expect("the wait has ended");
+    /// assert_eq!(reply.line(1), "1 ipc 00008000 3 nil");
+    /// # Ok::<(), l4::Refusal>(())
+    /// ```
+    pub fn line(&self, thread: u32) -> String {
+        ffi::reply_text(thread, &self.given())
     }
 
     /// Returns what an Ipc received, or why it failed. Returns `None` for other calls.

@@ -80,6 +80,17 @@ impl ThreadId {
     pub const fn version(self) -> u32 {
         self.0 & 0x3fff
     }
+
+    /// Returns whether a thread can have this id. No thread can if the number is 0, if the low six bits of the version are all zero, or if
+    /// the id is [`ThreadId::ANY`].
+    ///
+    /// ```
+    /// use l4::ThreadId;
+    /// assert!(ThreadId::ROOT.is_valid() && !ThreadId::of_word(0xc040).is_valid());
+    /// ```
+    pub const fn is_valid(self) -> bool {
+        self.number() != 0 && self.version() & 0x3f != 0 && self.0 != ThreadId::ANY.0
+    }
 }
 
 /// Writes `thread 3`, with the version if it is not 1, or `nil` or `any`.
@@ -325,6 +336,26 @@ impl Fpage {
         self.base | size << 4 | self.rights.bits()
     }
 
+    /// Returns the acceptor word whose receive window is this fpage, as [`Ipc`](crate::Ipc) has it. It has no rights.
+    ///
+    /// ```
+    /// use l4::{Fpage, Rights};
+    /// assert_eq!(Fpage::complete(Rights::ALL).acceptor(), 0x10);
+    /// ```
+    pub const fn acceptor(self) -> u32 {
+        self.word() >> 4 << 4
+    }
+
+    /// Returns the address of the first byte: 0 for the nil fpage.
+    pub const fn base(self) -> u32 {
+        self.base
+    }
+
+    /// Returns the binary logarithm of the number of bytes: 10 to 31, 32 for the complete fpage, and 0 for the nil fpage.
+    pub const fn log(self) -> u8 {
+        self.log
+    }
+
     /// Returns whether it is the nil fpage.
     pub const fn is_nil(self) -> bool {
         self.log == NIL_SIZE
@@ -530,6 +561,65 @@ impl fmt::Debug for Item {
     }
 }
 
+/// The tag of a message: a label, the number of untyped words, and the number of words of items, two for each (L4 X.2 manual, MsgTag).
+///
+/// ```
+/// use l4::Tag;
+/// let tag = Tag::new(7, 1, 2);
+/// assert_eq!((tag.word(), tag.label(), tag.untyped(), tag.typed()), (0x70081, 7, 1, 2));
+/// ```
+#[derive(Clone, Copy, PartialEq, Eq, Hash)]
+pub struct Tag(u32);
+
+impl Tag {
+    /// Returns the tag with these parts. Of the numbers of words, only the low six bits are used.
+    pub const fn new(label: u16, untyped: usize, typed: usize) -> Tag {
+        let counts = (typed as u32 & 0x3f) << 6 | untyped as u32 & 0x3f;
+        Tag((label as u32) << 16 | counts)
+    }
+
+    /// Returns the tag of a word, which may be a tag that the kernel refuses.
+    pub const fn of_word(word: u32) -> Tag {
+        Tag(word)
+    }
+
+    /// Returns the word.
+    pub const fn word(self) -> u32 {
+        self.0
+    }
+
+    /// Returns the label.
+    pub const fn label(self) -> u16 {
+        (self.0 >> 16) as u16
+    }
+
+    /// Returns the number of untyped words, below 64.
+    pub const fn untyped(self) -> usize {
+        (self.0 & 0x3f) as usize
+    }
+
+    /// Returns the number of words of items, below 64.
+    pub const fn typed(self) -> usize {
+        (self.0 >> 6 & 0x3f) as usize
+    }
+
+    /// Returns the flags, below 16. The kernel refuses a message with flags.
+    const fn flags(self) -> u32 {
+        self.0 >> 12 & 0xf
+    }
+
+    /// Returns whether this is the tag of an Ipc that failed, which has the highest flag.
+    pub const fn is_error(self) -> bool {
+        self.flags() & 8 != 0
+    }
+}
+
+impl fmt::Debug for Tag {
+    fn fmt(&self, out: &mut fmt::Formatter<'_>) -> fmt::Result {
+        write!(out, "Tag({:#010x})", self.0)
+    }
+}
+
 /// The error for a message of more than 64 words, including the tag.
 #[derive(Clone, Copy, PartialEq, Eq, Debug)]
 pub struct TooManyWords;
@@ -583,12 +673,12 @@ impl Message {
         if after >= MAX_WORDS {
             return Err(TooManyWords);
         }
-        let tag = u32::from(label) << 16 | (items.len() as u32) << 7 | untyped.len() as u32;
+        let tag = Tag::new(label, untyped.len(), 2 * items.len());
         let typed = items
             .iter()
             .enumerate()
             .flat_map(|(place, item)| item.words(place + 1 < items.len()));
-        let mut message = Message::of_words(&[tag])?;
+        let mut message = Message::of_words(&[tag.word()])?;
         for word in untyped.iter().copied().chain(typed) {
             message.words[message.count] = word;
             message.count += 1;
@@ -616,6 +706,11 @@ impl Message {
     pub fn words(&self) -> &[u32] {
         &self.words[..self.count]
     }
+
+    /// Returns the tag, or `None` if the message has no words.
+    pub fn tag(&self) -> Option<Tag> {
+        self.words().first().copied().map(Tag::of_word)
+    }
 }
 
 impl PartialEq for Message {
@@ -628,12 +723,9 @@ impl Eq for Message {}
 
 /// Writes a message as text: its label, the number of untyped words, and its items.
 pub(crate) fn write_message(out: &mut fmt::Formatter<'_>, tag: u32, words: &[u32]) -> fmt::Result {
-    let (untyped, typed, flags) = (
-        (tag & 0x3f) as usize,
-        (tag >> 6 & 0x3f) as usize,
-        tag >> 12 & 0xf,
-    );
-    write!(out, "label {:#06x}", tag >> 16)?;
+    let tag = Tag::of_word(tag);
+    let (untyped, typed, flags) = (tag.untyped(), tag.typed(), tag.flags());
+    write!(out, "label {:#06x}", tag.label())?;
     if flags != 0 {
         write!(out, "; flags {flags:#x}")?;
     }
@@ -701,6 +793,55 @@ mod tests {
         assert_eq!(
             ThreadId::new((1 << 18) - 1, 1).map(ThreadId::number),
             Ok((1 << 18) - 1)
+        );
+    }
+
+    #[test]
+    fn some_ids_are_valid() {
+        let words = [
+            0,
+            1,
+            0x4000,
+            0x4001,
+            0x4040,
+            0x4041,
+            0xffff_fffe,
+            0xffff_ffff,
+        ];
+        assert_eq!(
+            words.map(|word| ThreadId::of_word(word).is_valid()),
+            [false, false, false, true, false, true, true, false]
+        );
+    }
+
+    #[test]
+    fn tags_have_three_parts() {
+        let tag = Tag::new(0xffe2, 2, 62);
+        assert_eq!(
+            (tag.word(), tag.label(), tag.untyped(), tag.typed()),
+            (0xffe2_0f82, 0xffe2, 2, 62)
+        );
+        assert_eq!(Tag::of_word(0xffe2_0f82), tag);
+        assert_eq!(format!("{tag:?}"), "Tag(0xffe20f82)");
+        assert_eq!(Tag::new(0, 64, 65), Tag::of_word(0x40));
+        assert_eq!(
+            [0x8000, 0x7fff, 0xffff_0000].map(|word| Tag::of_word(word).is_error()),
+            [true, false, false]
+        );
+        assert_eq!(
+            Message::new(7, &[5], &[]).unwrap().tag(),
+            Some(Tag::new(7, 1, 0))
+        );
+        assert_eq!(Message::EMPTY.tag(), None);
+    }
+
+    #[test]
+    fn fpages_have_a_base_and_a_log() {
+        let page = Fpage::page(16, Rights::ALL).unwrap();
+        let complete = Fpage::complete(Rights::ALL);
+        assert_eq!(
+            [Fpage::NIL, page, complete].map(|fpage| (fpage.base(), fpage.log(), fpage.acceptor())),
+            [(0, 0, 0), (0x10000, 12, 0x100c0), (0, 32, 0x10)]
         );
     }
 

@@ -209,6 +209,69 @@ fn a_message_maps_a_page() {
 }
 
 #[test]
+fn threads_of_a_space_are_listed() {
+    let mut kernel = delivered();
+    kernel
+        .enter(2, &Call::create(id(9), id(3), ThreadId::NIL))
+        .unwrap();
+    let threads: Vec<Vec<u32>> = (0..4).map(|space| kernel.threads_in(space)).collect();
+    assert_eq!(threads, [vec![1], vec![2], vec![3, 9], vec![]]);
+}
+
+#[test]
+fn changed_pages_are_listed() {
+    let (before, mut kernel) = (Kernel::boot(256).unwrap(), delivered());
+    let changed = |kernel: &Kernel, before: &Kernel| -> Vec<Vec<u32>> {
+        (0..3)
+            .map(|space| kernel.changed_pages(before, space))
+            .collect()
+    };
+    assert_eq!(changed(&kernel, &before), [vec![], vec![], vec![32]]);
+    assert_eq!(changed(&before, &kernel), [vec![], vec![], vec![32]]);
+    assert_eq!(changed(&kernel, &kernel), [vec![], vec![], vec![]]);
+    let before = kernel.try_clone().unwrap();
+    assert_eq!(changed(&kernel, &before), [vec![], vec![], vec![]]);
+    let pages = Fpage::pages(16, 1, Rights::WRITE).unwrap();
+    kernel
+        .start(1, &Call::unmap(true, &[pages]).unwrap())
+        .unwrap();
+    assert_eq!(changed(&kernel, &before), [vec![16, 17], vec![], vec![32]]);
+}
+
+#[test]
+fn steps_and_replies_have_the_lines_of_scripts() {
+    let mut kernel = delivered();
+    assert_eq!(
+        kernel.reply(3).unwrap().line(3),
+        "3 ipc 00000080 0 1 00020008 000100c7"
+    );
+    assert_eq!(kernel.reply(2).unwrap().line(2), "2 control ok");
+    let receive = Call::receive(ThreadId::ANY, Fpage::NIL, Timeout::Zero);
+    kernel.start(2, &receive).unwrap();
+    assert_eq!(kernel.enabled().unwrap().line(), "expire 2");
+    assert_eq!(kernel.next().unwrap().line(), "expire 2");
+    assert_eq!(kernel.reply(2).unwrap().line(2), "2 ipc 00008000 3 nil");
+    kernel.start(3, &receive).unwrap();
+    let send = Call::send(id(3), &message(&[0x80, 0x20008, 0x100c7]), Timeout::Never);
+    let entered = kernel.enter(1, &send).unwrap();
+    assert_eq!(entered.steps[0].step.line(), "transfer 1 3");
+    assert_eq!(entered.steps[0].line(), "transfer 1 3 no-window");
+    let replies = [Reply::Hit, Reply::Answered, Reply::Unmapped, Reply::Gone];
+    assert_eq!(
+        replies.map(|reply| reply.line(4)),
+        ["4 fault hit", "4 fault answered", "4 unmap ok", "4 gone"]
+    );
+    let reply = Reply::Ipc(Received {
+        tag: 0x3f,
+        error: None,
+        from: ThreadId::of_word(0xffff_c001),
+        words: vec![1; 63],
+    });
+    assert_eq!(reply.line(262_143).len(), 6 + 13 + 2 + 7 + 63 * 9);
+    assert_eq!(l4::library_version(), (0, 1, 0));
+}
+
+#[test]
 fn a_run_is_taken_both_ways() {
     let mut kernel = delivered();
     let send = Call::send(ThreadId::ROOT, &message(&[1, 5]), Timeout::Zero);

@@ -1,4 +1,5 @@
 pub mod Bytes
+pub mod Changes
 pub mod Following
 pub mod Placing
 pub mod Starting

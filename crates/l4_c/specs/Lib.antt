@@ -3,6 +3,7 @@ pub mod Copied
 pub mod Listed
 pub mod Read
 pub mod Checked
+pub mod Compared
 pub mod Exports
 pub mod InBytes
 pub mod Locking

@@ -3,6 +3,7 @@
 
 mod asking;
 mod checking;
+mod comparing;
 mod copying;
 mod entering;
 mod giving;
@@ -25,6 +26,7 @@ pub use asking::{l4_mapping_of, l4_next_page, l4_page_size_of, l4_space_of};
 pub use checking::{
     Verdict, l4_check_plan, l4_check_plan_sized, l4_check_too_long, l4_check_too_long_sized,
 };
+pub use comparing::l4_next_change;
 pub use copying::l4_copy;
 pub use entering::l4_enter;
 pub use giving::{l4_sigma0_answer, l4_sigma0_free, l4_sigma0_new, l4_sigma0_new_sized};
