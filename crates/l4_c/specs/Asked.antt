@@ -1,4 +1,4 @@
--- The answers to questions, as they are told to C (this profile's own).
+-- The results of the queries that C makes (this profile's own).
 use Rattle.std.specs.Prelude.{◌≡◌, ◌⊎◌, ℕ, [], codes, Option, None, Some}
 use Rattle.l4_fpage.specs.Pages.{page_bytes}
 use Rattle.l4_fpage.specs.Rights.{bits_of}
@@ -18,17 +18,17 @@ use Rattle.l4_c_values.specs.declared.results.SpaceResult.{SpaceResult}
 use Rattle.l4_c_values.specs.declared.results.MappingResult.{MappingResult}
 use Rattle.l4_c_values.specs.declared.results.PageResult.{PageResult}
 
--- a space that was found; the code is why it couldn't be looked for
+-- the result for a space that may have been found; the code says why the query was refused, or is 0
 abbrev pub space_result : ℕ → Option ℕ → SpaceResult
 space_result code None = record { refusal = code; there = 0; space = 0 }
 space_result code (Some space) = record { refusal = code; there = 1; space = space }
 
--- the bytes of a page of the kernel; an empty handle is refused (B1)
+-- the size of the kernel's pages in bytes; an empty handle is refused (B1)
 abbrev pub TellsSize : Option Machine → SizeResult → Type 0
 TellsSize None r = r ≡ record { refusal = spelled (codes "B1"); page_bytes = 0 }
 TellsSize (Some m) r = r ≡ record { refusal = 0; page_bytes = page_bytes m.size }
 
--- the space of a thread; an empty handle is refused (B1)
+-- the space of a thread, if there is such a thread; an empty handle is refused (B1)
 abbrev pub TellsSpace : Option Machine → ℕ → SpaceResult → Type 0
 TellsSpace None thread r = r ≡ space_result (spelled (codes "B1")) None
 TellsSpace (Some m) thread r = r ≡ space_result 0 (space_of m.threads thread)
@@ -62,18 +62,18 @@ abbrev pub mapping_result : Option Mapping → MappingResult
 mapping_result None = no_mapping_result 0
 mapping_result (Some mapping) = mapping_with mapping mapping.parent
 
--- what a page of a space shows
+-- the mapping of a page of a space, if the page is present; an empty handle is refused (B1)
 abbrev pub TellsMapping : Option Machine → ℕ → ℕ → MappingResult → Type 0
 TellsMapping None space page r = r ≡ no_mapping_result (spelled (codes "B1"))
 TellsMapping (Some m) space page r = r ≡ mapping_result (shown m.mappings (record { space = space; page = page }))
 
--- the least present page of a space that is not below this one
+-- the lowest present page of the space that is not below `page`, if there is one; an empty handle is refused (B1)
 abbrev pub TellsPage : Option Machine → ℕ → ℕ → PageResult → Type 0
 TellsPage None space page r = r ≡ no_page_result (spelled (codes "B1"))
 TellsPage (Some m) space page r =
     ((r ≡ no_page_result 0) × NonePresentFrom m.mappings space page) ⊎ ((found : ℕ) × (r ≡ page_result found) × IsNextPresent m.mappings space page found)
 
--- how the last ended call of a thread that runs ended
+-- the reply of the thread's last call, if that has ended; an empty handle is refused (B1)
 abbrev pub TellsReply : Option Machine → ℕ → ReplyResult → Type 0
 TellsReply None thread r = r ≡ plain_result (spelled (codes "B1")) 0 0
 TellsReply (Some m) thread r = r ≡ reply_result (reply_of m.threads thread)

@@ -1,4 +1,4 @@
--- Checks of plans as they are told to C (this profile's own).
+-- The results of checks of plans, as C gets them (this profile's own).
 use Rattle.std.specs.Prelude.{◌≡◌, ◌⊎◌, ℕ, ◌+◌, ◌*◌, ◌%◌, ◌<◌, ◌≤◌, List, length, codes}
 use Rattle.l4_fpage.specs.declared.sizes.PageSize.{PageSize}
 use Rattle.l4_msg.specs.Regions.{IsRival, IsCertificate, NeedsAtLeast, NeedsMoreThan, max_plan_items}
@@ -27,7 +27,7 @@ fault_verdict Count = verdict_of (spelled (codes "C5")) 0
 fault_verdict (Page i) = verdict_of (spelled (codes "C3")) (told_place i)
 fault_verdict (Pair i) = verdict_of (spelled (codes "C4")) (told_place i)
 
--- no fault holds of the items and the pages: they are a shortest plan
+-- the items and the pages have no fault: they are a shortest plan
 pub record IsProved (size : PageSize) (r : Region) (items : List Item) (pages : List ℕ) : Type 0 where
   pub none : (fault : AFault) → Holds size r items pages fault → ⊥
   pub exact : IsRival size r items
@@ -36,11 +36,11 @@ pub record IsProved (size : PageSize) (r : Region) (items : List Item) (pages : 
   pub few : length items ≤ max_plan_items
   pub shortest : NeedsAtLeast size r (length items)
 
--- the words of the items of a plan, at most
+-- the largest number of words that the items of a plan have
 abbrev pub max_plan_words : ℕ
 max_plan_words = 2 * max_plan_items
 
--- why words are no items of a plan, each fault where no earlier one holds
+-- the reason why words are not the items of a plan; each fault applies only if none of the earlier ones does
 abbrev pub ItemsFail : List ℕ → MsgFault → Type 0
 ItemsFail words TooManyWords = max_plan_words < length words
 ItemsFail words OddTyped = (length words ≤ max_plan_words) × (length words % 2 ≡ 1)
@@ -50,7 +50,8 @@ ItemsFail words Short = ⊥
 ItemsFail words Flags = ⊥
 ItemsFail words BadWindow = ⊥
 
--- the words are no items, or the first fault of the items and the pages is told, or there is none
+-- The result is the fault of the words, if they are not items. Otherwise it is the first fault of the items and the pages, or success if
+-- they have none.
 abbrev pub TellsCheck : PageSize → Region → List ℕ → List ℕ → Verdict → Type 0
 TellsCheck size r words pages v =
     ((fault : MsgFault) × ItemsFail words fault × (v ≡ verdict_of (spelled (message_refusal fault).name) (carried (message_refusal fault).number)))
@@ -58,14 +59,14 @@ TellsCheck size r words pages v =
     × (((fault : AFault) × IsFirstFault size r items pages fault × (v ≡ fault_verdict fault))
     ⊎ (IsProved size r items pages × (v ≡ verdict_of 0 0))))
 
--- no fault holds of the claim that these are 1,985 pages which show each list to be too long
+-- the claim has no fault: these are 1,985 pages that prove every list to be too long
 pub record IsProvedTooLong (size : PageSize) (r : Region) (pages : List ℕ) : Type 0 where
   pub none : (fault : AFault) → LongHolds size r pages fault → ⊥
   pub certificate : IsCertificate r pages
   pub many : length pages ≡ max_plan_items + 1
   pub too_long : NeedsMoreThan size r max_plan_items
 
--- the first fault of that claim is told, or there is none
+-- the result is the first fault of that claim, or success if it has none
 abbrev pub TellsLongCheck : PageSize → Region → List ℕ → Verdict → Type 0
 TellsLongCheck size r pages v =
     ((fault : AFault) × IsFirstLongFault size r pages fault × (v ≡ fault_verdict fault))

@@ -1,4 +1,4 @@
--- The pages of a space whose mappings differ between two kernels, as they are told to C (this profile's own).
+-- The pages of a space whose mappings differ between two kernels, as C gets them (this profile's own).
 use Rattle.std.specs.Prelude.{◌≡◌, ◌⊎◌, ℕ, ◌<◌, ◌≤◌, codes, Option, None, Some}
 use Rattle.l4_mapdb.specs.Mappings.{shown, IsPresent}
 use Rattle.l4_forest.specs.Places.{NonePresentFrom}
@@ -12,17 +12,17 @@ abbrev pub IsUnchanged : Machine → Machine → ℕ → ℕ → Type 0
 IsUnchanged before after space page =
     shown before.mappings (record { space = space; page = page }) ≡ shown after.mappings (record { space = space; page = page })
 
--- the mapping of no page from this one on differs
+-- each page from this one on is unchanged
 abbrev pub AreUnchangedFrom : Machine → Machine → ℕ → ℕ → Type 0
 AreUnchangedFrom before after space from = (page : ℕ) → from ≤ page → IsUnchanged before after space page
 
--- the least page that is not below `from` and whose mapping differs
+-- the lowest page that is not below `from` and whose mapping differs
 pub record IsNextChange (before after : Machine) (space from next : ℕ) : Type 0 where
   pub changed : ¬ (IsUnchanged before after space next)
   pub above : from ≤ next
   pub least : (page : ℕ) → from ≤ page → page < next → IsUnchanged before after space page
 
--- the least page that is not below `from` and whose mapping differs; an empty handle is refused (B1)
+-- the lowest page that is not below `from` and whose mapping differs, if there is one; an empty handle is refused (B1)
 abbrev pub TellsChange : Option Machine → Option Machine → ℕ → ℕ → PageResult → Type 0
 TellsChange None after space from r = r ≡ no_page_result (spelled (codes "B1"))
 TellsChange (Some before) None space from r = r ≡ no_page_result (spelled (codes "B1"))
@@ -34,7 +34,7 @@ TellsChange (Some before) (Some after) space from r =
 abbrev pub HaveNoneFrom : Machine → Machine → ℕ → ℕ → Type 0
 HaveNoneFrom before after space from = NonePresentFrom before.mappings space from × NonePresentFrom after.mappings space from
 
--- the least page that is not below `from` and is present in one of the kernels
+-- the lowest page that is not below `from` and is present in at least one of the kernels
 pub record IsNextInEither (before after : Machine) (space from next : ℕ) : Type 0 where
   pub present : IsPresent before.mappings (record { space = space; page = next }) ⊎ IsPresent after.mappings (record { space = space; page = next })
   pub above : from ≤ next

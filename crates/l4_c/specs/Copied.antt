@@ -1,10 +1,10 @@
--- What a copy of a kernel does (this profile's own).
+-- Copies of a kernel (this profile's own).
 use Rattle.std.specs.Prelude.{◌≡◌, ◌⊎◌, ℕ, codes, Option, None, Some}
 use Rattle.l4_ipc.specs.Machine.{Machine}
 use Rattle.l4_refusals.specs.Texts.{spelled}
 
--- A handle that is empty holds the same machine as the kernel from then on, or there was no memory for it. It is left as it was where there
--- is no kernel (B1), and where it holds one (B2).
+-- An empty second handle then holds the same machine as the first one, unless an allocation failed. If the first handle is empty (B1) or
+-- the second one is not (B2), the second handle is unchanged.
 abbrev pub Copies : Option Machine → Option Machine → ℕ → Option Machine → Type 0
 Copies None old number new = (number ≡ spelled (codes "B1")) × (new ≡ old)
 Copies (Some m) (Some held) number new = (number ≡ spelled (codes "B2")) × (new ≡ Some held)

@@ -1,4 +1,4 @@
--- The threads and the spaces of a kernel, as they are told to C (this profile's own).
+-- Lists of the threads and the spaces of a kernel, as C gets them (this profile's own).
 use Rattle.std.specs.Prelude.{◌≡◌, ◌⊎◌, ℕ, codes, Option, None, Some}
 use Rattle.l4_threads.specs.Listed.{NoThreadFrom, IsNextThread}
 use Rattle.l4_forest.specs.Listed.{NoSpaceFrom, IsNextSpace}
@@ -8,18 +8,18 @@ use Rattle.l4_c_values.specs.declared.results.SpaceResult.{SpaceResult}
 use Rattle.l4_c.specs.Asked.{space_result}
 use Rattle.l4_c.specs.declared.listing.ThreadResult.{ThreadResult}
 
--- a thread that was found; the code is why it couldn't be looked for
+-- the result for a thread that may have been found; the code says why the query was refused, or is 0
 abbrev pub thread_result : ℕ → Option ℕ → ThreadResult
 thread_result code None = record { refusal = code; there = 0; thread = 0 }
 thread_result code (Some thread) = record { refusal = code; there = 1; thread = thread }
 
--- the least number of a thread that is not below this one; an empty handle is refused (B1)
+-- the lowest thread number that is not below `from`, if there is one; an empty handle is refused (B1)
 abbrev pub TellsNextThread : Option Machine → ℕ → ThreadResult → Type 0
 TellsNextThread None from r = r ≡ thread_result (spelled (codes "B1")) None
 TellsNextThread (Some m) from r =
     ((r ≡ thread_result 0 None) × NoThreadFrom m.threads from) ⊎ ((found : ℕ) × (r ≡ thread_result 0 (Some found)) × IsNextThread m.threads from found)
 
--- the least number of a space that is not below this one; an empty handle is refused (B1)
+-- the lowest space number that is not below `from`, if there is one; an empty handle is refused (B1)
 abbrev pub TellsNextSpace : Option Machine → ℕ → SpaceResult → Type 0
 TellsNextSpace None from r = r ≡ space_result (spelled (codes "B1")) None
 TellsNextSpace (Some m) from r =

@@ -1,4 +1,4 @@
--- A locked kernel with its seats as C has it (this profile's own).
+-- Locked kernels with their seats, as C uses them (this profile's own).
 use Rattle.std.specs.Prelude.{◌≡◌, ◌≢◌, ◌⊎◌, ℕ, ◌<◌, ◌≤◌, false, List, [], ◌∷◌, ◌++◌, length, codes, Option, None, Some, slice_get}
 use Rattle.std.specs.Option.{option_and_then}
 use Rattle.l4_fpage.specs.Pages.{max_frames}
@@ -26,8 +26,8 @@ use Rattle.l4_c_values.specs.declared.results.ReplyResult.{ReplyResult}
 use Rattle.l4_c.specs.declared.locking.CountResult.{CountResult}
 use Rattle.l4_c.specs.declared.checking.Verdict.{Verdict}
 
--- A handle that is empty holds a locked kernel as it boots with pages of this size from then on, of which no seat was given, or there was no
--- memory for it or not 1 to 4,096 frames (K6). One that holds one keeps it (B2).
+-- An empty handle then holds a locked kernel in its boot state with pages of this size and without seats, unless the number of frames is
+-- not 1 to 4,096 (K6) or an allocation failed. A handle that is not empty is refused (B2) and unchanged.
 abbrev pub MakesLock : Option Lock → PageSize → ℕ → ℕ → Option Lock → Type 0
 MakesLock (Some old) size frames number new = (number ≡ spelled (codes "B2")) × (new ≡ Some old)
 MakesLock None size frames number new =
@@ -36,7 +36,7 @@ MakesLock None size frames number new =
     ⊎ (((frames ≡ 0) ⊎ (max_frames < frames)) × (number ≡ spelled (codes "K6")) × (new ≡ None))
     ⊎ ((1 ≤ frames) × (frames ≤ max_frames) × (number ≡ spelled (codes "NoMemory")) × (new ≡ None))
 
--- the seat of a number is given, once (L4), or there was no memory for it
+-- the seat of this number is given out, which happens at most once (L4), unless an allocation failed
 abbrev pub Gives : Lock → ℕ → ℕ → Lock → Type 0
 Gives old n number new =
     ((book_at old.books n ≡ None) × (number ≡ 0) × (new ≡ record old { books = old.books ++ book n None [] ∷ [] }))
@@ -47,7 +47,8 @@ abbrev pub GivesSeat : Option Lock → ℕ → ℕ → Option Lock → Type 0
 GivesSeat None n number new = (number ≡ spelled (codes "B1")) × (new ≡ None)
 GivesSeat (Some old) n number new = (after : Lock) × Gives old n number after × (new ≡ Some after)
 
--- the call that is given is entered by the seat of this number, or it is refused and nothing changes: its kind is none (B3), or the lock refuses it
+-- The call that C passed is entered under this seat. Or it is refused, and nothing changes: its kind is unknown (B3), or the lock refuses
+-- it.
 abbrev pub EntersCall : Lock → ℕ → CallGiven → List ℕ → SeatedResult → Lock → Type 0
 EntersCall old n g words r new =
     (IsNoKind g × (r ≡ unseated_result (spelled (codes "B3")) 0) × (new ≡ old))
@@ -59,7 +60,7 @@ abbrev pub EntersSeat : Option Lock → ℕ → CallGiven → List ℕ → Seate
 EntersSeat None n g words r new = (r ≡ unseated_result (spelled (codes "B1")) 0) × (new ≡ None)
 EntersSeat (Some old) n g words r new = (after : Lock) × EntersCall old n g words r after × (new ≡ Some after)
 
--- the reply of a call that was left waiting is taken, or none waits
+-- the reply of a call that was left waiting is taken, if the seat has one
 abbrev pub TakesReply : Lock → ℕ → ReplyResult → Lock → Type 0
 TakesReply old n r new =
     ((reply : Reply) × TakesBySeat old new n reply × (r ≡ reply_result (Some reply)))
@@ -69,28 +70,28 @@ abbrev pub TakesSeat : Option Lock → ℕ → ReplyResult → Option Lock → T
 TakesSeat None n r new = (r ≡ plain_result (spelled (codes "B1")) 0 0) × (new ≡ None)
 TakesSeat (Some old) n r new = (after : Lock) × TakesReply old n r after × (new ≡ Some after)
 
--- how many entries the history has
+-- the number of entries of the history; an empty handle is refused (B1)
 abbrev pub TellsLength : Option Lock → CountResult → Type 0
 TellsLength None r = r ≡ record { refusal = spelled (codes "B1"); count = 0 }
 TellsLength (Some l) r = r ≡ record { refusal = 0; count = length l.history }
 
--- the entry at a place, or none beyond the end
+-- the entry at a place of the history, or none beyond its end; an empty handle is refused (B1)
 abbrev pub TellsEntry : Option Lock → ℕ → EntryResult → Type 0
 TellsEntry None place r = r ≡ no_entry_result (spelled (codes "B1"))
 TellsEntry (Some l) place r = r ≡ entry_result (slice_get l.history place)
 
--- how many calls the seat of a number started, and how many receipts it has
+-- how many calls the seat of this number has started, and how many receipts it has; an empty handle is refused (B1)
 abbrev pub TellsSeat : Option Lock → ℕ → SeatResult → Type 0
 TellsSeat None n r = r ≡ no_seat_result (spelled (codes "B1"))
 TellsSeat (Some l) n r = r ≡ seat_result (seat_at l.books n)
 
--- the receipt of a seat at a place, or none beyond the end, or where the seat wasn't given
+-- the receipt of a seat at a place, or none if the place is beyond the end or the seat was not given; an empty handle is refused (B1)
 abbrev pub TellsReceipt : Option Lock → ℕ → ℕ → ReceiptResult → Type 0
 TellsReceipt None n place r = r ≡ no_receipt_result (spelled (codes "B1"))
 TellsReceipt (Some l) n place r = r ≡ receipt_result (option_and_then (λ (p : SeatState). slice_get p.receipts place) (seat_at l.books n))
 
--- The seats of these numbers come back: where they are just those that were given, the handle is empty from then on, and else the first mismatch is
--- told and nothing changes.
+-- The seats of these numbers are taken back. If they are exactly those that were given, the handle is empty from then on. Otherwise the
+-- result is the first mismatch, and nothing changes.
 abbrev pub ClosesLock : Option Lock → List ℕ → Verdict → Option Lock → Type 0
 ClosesLock None numbers r new = (r ≡ record { refusal = spelled (codes "B1"); detail = 0 }) × (new ≡ None)
 ClosesLock (Some old) numbers r new =

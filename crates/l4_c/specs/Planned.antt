@@ -1,4 +1,4 @@
--- Plans as they are told to C (this profile's own).
+-- Plans as C gets them (this profile's own).
 use Rattle.std.specs.Prelude.{◌≡◌, ◌⊎◌, ℕ, ◌<◌, ◌≤◌, List, [], ◌∷◌, length, codes}
 use Rattle.l4_fpage.specs.Rights.{set_of_bits}
 use Rattle.l4_fpage.specs.declared.sizes.PageSize.{PageSize}
@@ -17,11 +17,11 @@ use Rattle.l4_c.specs.declared.planning.PlanResult.{PlanResult}
 abbrev pub region_of : RegionGiven → Region
 region_of g = record { source = g.source; target = g.target; count = g.count; rights = set_of_bits g.rights }
 
--- so many items in so many messages, and why there is no plan, where there is none
+-- the number of items and of messages; or the code of the reason why there is no plan, and zeros
 abbrev pub plan_result : ℕ → ℕ → ℕ → PlanResult
 plan_result code items messages = record { refusal = code; items = items; messages = messages }
 
--- the shortest plan of a region of pages of this size, or why there is none
+-- the size of the shortest plan of a region for pages of this size, or the reason why there is none
 abbrev pub TellsPlan : PageSize → Region → PlanResult → Type 0
 TellsPlan size r p =
     ((list : Listing) × IsShortest size r list × (p ≡ plan_result 0 (length list.items) (messages_of (length list.items))))
@@ -30,7 +30,7 @@ TellsPlan size r p =
     ⊎ ((0 < r.count) × InSpace size r × HasNoRights r × (p ≡ plan_result (spelled (codes "N3")) 0 0))
     ⊎ ((pages : List ℕ) × IsTooLong size r pages × (p ≡ plan_result (spelled (codes "N4")) 0 0))
 
--- how many messages there are, the words and the pages of one, and why there is none, where there is none
+-- the number of messages, and the words and the pages of one of them; or the code of the reason why there is none
 abbrev pub part_result : ℕ → ℕ → List ℕ → List ℕ → PartResult
 part_result code messages words pages = record {
   refusal = code;
@@ -41,14 +41,14 @@ part_result code messages words pages = record {
   pages = filled 31 pages;
 }
 
--- the message with this number of the plan, and the first pages of its items, or that it has none with this number
+-- the message with this number of the plan, with the first page of each of its items; or N6, if the plan has no such message
 abbrev pub PartIsTold : Listing → ℕ → PartResult → Type 0
 PartIsTold plan number p =
     ((m : Message) × Sends (part_of_list plan.items number) m × (number < messages_of (length plan.items))
     × (p ≡ part_result 0 (messages_of (length plan.items)) (message_words m) (part_of_list plan.pages number)))
     ⊎ ((messages_of (length plan.items) ≤ number) × (p ≡ part_result (spelled (codes "N6")) (messages_of (length plan.items)) [] []))
 
--- a message of the shortest plan of a region of pages of this size, or why there is none
+-- a message of the shortest plan of a region for pages of this size, or the reason why there is none
 abbrev pub TellsPart : PageSize → Region → ℕ → PartResult → Type 0
 TellsPart size r number p =
     ((list : Listing) × IsShortest size r list × PartIsTold list number p)
@@ -57,13 +57,13 @@ TellsPart size r number p =
     ⊎ ((0 < r.count) × InSpace size r × HasNoRights r × (p ≡ part_result (spelled (codes "N3")) 0 [] []))
     ⊎ ((pages : List ℕ) × IsTooLong size r pages × (p ≡ part_result (spelled (codes "N4")) 0 [] []))
 
--- what items leave of some places: as many of them as there is room for, and the other places as they were
+-- the places after as many of the items as fit were written to them, from the first place on
 abbrev pub placed : {X : Type 0} → List X → List X → List X
 placed [] places = places
 placed (item ∷ items) [] = []
 placed (item ∷ items) (place ∷ places) = item ∷ placed items places
 
--- the pages of the plan of a region of pages of this size, or those that show that each list is too long, or none
+-- the pages of the shortest plan of the region for pages of this size, or those that prove every list to be too long, or none
 abbrev pub TellsPages : PageSize → Region → List ℕ → List ℕ → ℕ → Type 0
 TellsPages size r old new count =
     ((list : Listing) × IsShortest size r list × (count ≡ length list.pages) × (new ≡ placed list.pages old))

@@ -1,4 +1,4 @@
--- The tables of pagers and of sigma0 as C has them (this profile's own).
+-- The tables of pagers and of sigma0, as C uses them (this profile's own).
 use Rattle.std.specs.Prelude.{◌≡◌, ◌⊎◌, ℕ, ◌<◌, ◌≤◌, List, [], length, codes, Option, None, Some, MatchOption}
 use Rattle.std.specs.FinMap as fin
 use Rattle.l4_fpage.specs.Pages.{max_frames}
@@ -23,11 +23,12 @@ use Rattle.l4_c.specs.declared.messages.MessageResult.{MessageResult}
 abbrev pub entry_refusal : PagerRefusal → ℕ
 entry_refusal refusal = spelled (code_of refusal)
 
--- the region as an entry of a table: its target pages are those that are served
+-- the region as an entry of a table: its target pages are the pages that the entry serves
 abbrev pub entry_of : RegionGiven → Entry
 entry_of g = record { first = g.target; source = g.source; count = g.count; rights = set_of_bits g.rights }
 
--- a handle that is empty holds a table of pages of this size without an entry from then on, or there was no memory for it; one that holds a table keeps it (B2)
+-- An empty handle then holds a table without entries for pages of this size, unless an allocation failed. A handle that is not empty is
+-- refused (B2) and unchanged.
 abbrev pub MakesTable : Option Regions → PageSize → ℕ → Option Regions → Type 0
 MakesTable (Some t) size number new = (number ≡ spelled (codes "B2")) × (new ≡ Some t)
 MakesTable None size number new = ((number ≡ 0) × (new ≡ Some (no_entries size))) ⊎ ((number ≡ spelled (codes "NoMemory")) × (new ≡ None))
@@ -39,13 +40,13 @@ Adds (Some t) g number new =
     (CanAdd t (entry_of g) × (number ≡ 0) × (new ≡ Some (with_entry t (entry_of g))))
     ⊎ ((refusal : PagerRefusal) × AddFails t (entry_of g) refusal × (number ≡ entry_refusal refusal) × (new ≡ Some t))
 
--- the source page of a page whose entry holds the access, or there is none (P2)
+-- the source page of the page, by the entry whose rights include the access; or P2, if there is no such entry
 abbrev pub FindsSource : Option Regions → ℕ → ℕ → PageResult → Type 0
 FindsSource None page access r = r ≡ no_page_result (spelled (codes "B1"))
 FindsSource (Some t) page access r =
     MatchOption (entry_for t.entries page (set_of_bits access)) (r ≡ no_page_result (entry_refusal NoRegion)) (λ e. r ≡ page_result (source_of e page))
 
--- a refusal with its number, and no word
+-- no message; the code and its number say why
 abbrev pub no_message_result : ℕ → ℕ → MessageResult
 no_message_result code number = record { refusal = code; detail = number; word_count = 0; words = filled 64 [] }
 
@@ -53,20 +54,20 @@ no_message_result code number = record { refusal = code; detail = number; word_c
 abbrev pub message_result : Message → MessageResult
 message_result m = record { refusal = 0; detail = 0; word_count = length (message_words m); words = filled 64 (message_words m) }
 
--- the words are no message, and why they aren't is told
+-- the reason why the words are not a message
 abbrev pub TellsUnread : List ℕ → MessageResult → Type 0
 TellsUnread words r =
     (fault : MsgFault) × MessageFails words fault × (r ≡ no_message_result (spelled (message_refusal fault).name) (carried (message_refusal fault).number))
 
--- the words are a message, which is answered by the table
+-- the table's answer to the message, or the reason why the words are not a message
 abbrev pub TellsTablesAnswer : Option Regions → List ℕ → MessageResult → Type 0
 TellsTablesAnswer None words r = r ≡ no_message_result (spelled (codes "B1")) 0
 TellsTablesAnswer (Some t) words r =
     TellsUnread words r
     ⊎ ((m : Message) × MessageReads words m × (answer : Message) × AnswersByTable t m answer × (r ≡ message_result answer))
 
--- A handle that is empty holds a table of so many frames of this size that nobody owns from then on, or there was no memory for it or not 1 to
--- 4,096 frames (K6). One that holds a table keeps it (B2).
+-- An empty handle then holds a table of this many frames of this size, none of which has an owner, unless the number of frames is not 1 to
+-- 4,096 (K6) or an allocation failed. A handle that is not empty is refused (B2) and unchanged.
 abbrev pub MakesOwners : Option Owners → PageSize → ℕ → ℕ → Option Owners → Type 0
 MakesOwners (Some old) size frames number new = (number ≡ spelled (codes "B2")) × (new ≡ Some old)
 MakesOwners None size frames number new =
@@ -74,7 +75,7 @@ MakesOwners None size frames number new =
     ⊎ (((frames ≡ 0) ⊎ (max_frames < frames)) × (number ≡ spelled (codes "K6")) × (new ≡ None))
     ⊎ ((1 ≤ frames) × (frames ≤ max_frames) × (number ≡ spelled (codes "NoMemory")) × (new ≡ None))
 
--- the words are a message of the space, which sigma0 answers; after a refusal nothing has changed
+-- sigma0's answer to the message from this space, or the reason why the words are not a message, after which nothing has changed
 abbrev pub TellsSigma0sAnswer : Option Owners → ℕ → List ℕ → MessageResult → Option Owners → Type 0
 TellsSigma0sAnswer None space words r new = (r ≡ no_message_result (spelled (codes "B1")) 0) × (new ≡ None)
 TellsSigma0sAnswer (Some old) space words r new =

@@ -1,4 +1,4 @@
--- How a page of a locked kernel came to where it is, as it is told to C (this profile's own).
+-- The provenance of the pages of a locked kernel, as C gets it (this profile's own).
 use Rattle.std.specs.Prelude.{◌≡◌, ◌⊎◌, ℕ, List, length, map, codes, Option, None, Some}
 use Rattle.l4_mapdb.specs.declared.Place.{Place}
 use Rattle.l4_ipc.specs.Machine.{Machine, IsBoot}
@@ -15,12 +15,12 @@ use Rattle.l4_c.specs.Checked.{verdict_of}
 use Rattle.l4_c.specs.Planned.{placed}
 use Rattle.l4_c.specs.declared.checking.Verdict.{Verdict}
 
--- the machine as the locked kernel booted
+-- the machine that the locked kernel was at boot
 abbrev pub IsBootOf : Lock → Machine → Type 0
 IsBootOf l boot = IsBoot l.frames boot × (boot.size ≡ l.kernel.size)
 
--- The page is present: its provenance in the history is written, as far as there is room, and all its links are counted. Or it is absent, or
--- the history is not done once more, and nothing is written.
+-- If the page is present, as many links of its provenance in the history as fit are written, and all of them are counted. If it is absent,
+-- or the history cannot be replayed, nothing is written.
 abbrev pub TracesPage : Lock → Place → List Link → ChainResult → List Link → Type 0
 TracesPage l place old r new =
     ((boot : Machine) × (links : List ChainLink) × IsBootOf l boot × IsProvenance boot l.history place links
@@ -29,12 +29,12 @@ TracesPage l place old r new =
     ⊎ ((fault : ReplayFault) × IsNotReplayed l.frames l.kernel.size l.history fault
     × (r ≡ chain_result (fault_code fault) (fault_carries fault) 0 0) × (new ≡ old))
 
--- the same of a page of a space in what a handle holds; an empty handle is refused (B1)
+-- the same for a page of a space in a handle's lock; an empty handle is refused (B1)
 abbrev pub TellsProvenance : Option Lock → ℕ → ℕ → List Link → ChainResult → List Link → Type 0
 TellsProvenance None space page old r new = (r ≡ chain_result (spelled (codes "B1")) 0 0 0) × (new ≡ old)
 TellsProvenance (Some l) space page old r new = TracesPage l (record { space = space; page = page }) old r new
 
--- The links are the page's provenance in the history, or they are not (L7), or the history is not done once more, or there was no memory for
+-- The links are the page's provenance in the history, or they are not (L7), or the history cannot be replayed, or there was no memory for
 -- the links.
 abbrev pub JudgesLinks : Lock → Place → List Link → Verdict → Type 0
 JudgesLinks l place links v =
@@ -43,7 +43,7 @@ JudgesLinks l place links v =
     ⊎ ((fault : ReplayFault) × IsNotReplayed l.frames l.kernel.size l.history fault × (v ≡ verdict_of (fault_code fault) (fault_carries fault)))
     ⊎ (v ≡ verdict_of (spelled (codes "NoMemory")) 0)
 
--- the same of a page of a space in what a handle holds; an empty handle is refused (B1)
+-- the same for a page of a space in a handle's lock; an empty handle is refused (B1)
 abbrev pub TellsJudgement : Option Lock → ℕ → ℕ → List Link → Verdict → Type 0
 TellsJudgement None space page links v = v ≡ verdict_of (spelled (codes "B1")) 0
 TellsJudgement (Some l) space page links v = JudgesLinks l (record { space = space; page = page }) links v

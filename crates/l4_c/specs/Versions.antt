@@ -1,4 +1,4 @@
--- Versions as numbers, which are larger for later versions (this profile's own).
+-- A version as one number, which is larger for a later version (this profile's own).
 use Rattle.std.specs.Prelude.{ℕ, ◌+◌, ◌*◌}
 
 abbrev pub version_number : ℕ → ℕ → ℕ → ℕ

@@ -1,4 +1,4 @@
-//! Questions about a kernel.
+//! Queries a kernel.
 ghost use Rattle.std.specs.Prelude.{◌≡◌, None, Some, MatchOption};
 ghost use Rattle.l4_threads.specs.Threads.{space_of};
 ghost use Rattle.l4_mapdb.specs.Mappings.{shown};
@@ -11,7 +11,7 @@ use l4_handles::KernelHandle;
 use l4_ipc::Mapping;
 use std::alloc::Global;
 
-/// A space that was found.
+/// Returns the result for a space that may have been found.
 pub(crate) fn space_told(found: Option<u64>) -> SpaceResult
     ensures { result ≡ space_result 0 found }
 {
@@ -29,7 +29,7 @@ pub(crate) fn space_told(found: Option<u64>) -> SpaceResult
     }
 }
 
-/// The space of a thread.
+/// Returns the space of a thread. Refuses an empty handle (B1).
 #[unsafe(no_mangle)]
 pub extern "C" fn l4_space_of(alloc: Global, handle: &mut KernelHandle, thread: u32) -> SpaceResult
     ensures kept { handle.new.value ≡ handle.old.value }
@@ -47,7 +47,7 @@ pub extern "C" fn l4_space_of(alloc: Global, handle: &mut KernelHandle, thread: 
     space_told(found)
 }
 
-/// The size of the kernel's pages.
+/// Returns the size of the kernel's pages in bytes. Refuses an empty handle (B1).
 #[unsafe(no_mangle)]
 pub extern "C" fn l4_page_size_of(alloc: Global, handle: &mut KernelHandle) -> SizeResult
     ensures kept { handle.new.value ≡ handle.old.value }
@@ -67,7 +67,7 @@ pub extern "C" fn l4_page_size_of(alloc: Global, handle: &mut KernelHandle) -> S
     }
 }
 
-/// A mapping.
+/// Returns the result for a mapping.
 fn mapping_there(mapping: &Mapping) -> MappingResult
     ensures { result ≡ mapping_result (Some mapping.now) }
 {
@@ -87,7 +87,7 @@ fn mapping_there(mapping: &Mapping) -> MappingResult
     }
 }
 
-/// No mapping.
+/// Returns a result with this refusal and no mapping.
 fn no_mapping(refusal: u32) -> MappingResult
     ensures { result ≡ no_mapping_result refusal }
 {
@@ -103,7 +103,7 @@ fn no_mapping(refusal: u32) -> MappingResult
     }
 }
 
-/// A mapping that was found.
+/// Returns the result for a mapping that may have been found.
 fn mapping_told(found: Option<Mapping>) -> MappingResult
     ensures { result ≡ mapping_result found }
 {
@@ -113,7 +113,7 @@ fn mapping_told(found: Option<Mapping>) -> MappingResult
     }
 }
 
-/// What a page of a space shows.
+/// Returns the mapping of a page of a space. Refuses an empty handle (B1).
 #[unsafe(no_mangle)]
 pub extern "C" fn l4_mapping_of(
     alloc: Global,
@@ -132,7 +132,7 @@ pub extern "C" fn l4_mapping_of(
     mapping_told(found)
 }
 
-/// The least present page of a space that is not below this one.
+/// Returns the lowest present page of a space that is not below `page`. Refuses an empty handle (B1).
 #[unsafe(no_mangle)]
 pub extern "C" fn l4_next_page(
     alloc: Global,

@@ -1,4 +1,4 @@
-//! Checks of plans.
+//! Checks plans.
 ghost use Rattle.std.specs.Prelude.{◌≡◌, ◌%◌, ◌≤◌, length, IfOk, IfErr, codes};
 ghost use Rattle.l4_fpage.specs.declared.sizes.PageSize.TheVariants.{Kib4};
 ghost use Rattle.l4_msg.specs.Words.{ItemsRead, FirstFails};
@@ -16,7 +16,7 @@ use l4_ipc::PageSize;
 use l4_msg::{Item, ItemFault, MAX_PLAN_ITEMS, MsgFault};
 use l4_plan_check::{Fault, Proved, check, check_too_long};
 
-/// Why a claim about a region doesn't hold.
+/// The result of a check: 0 if the claim is proved, or the reason why it does not hold.
 #[repr(C)]
 #[derive(Clone, Copy)]
 pub struct Verdict {
@@ -24,14 +24,14 @@ pub struct Verdict {
     pub detail: u32,
 }
 
-/// A refusal of a claim, or none.
+/// Returns a result with this refusal, or with 0 if the claim is proved.
 pub(crate) fn verdict_of(refusal: u32, detail: u32) -> Verdict
     ensures { result ≡ verdict_of refusal detail }
 {
     Verdict { refusal, detail }
 }
 
-/// A fault of a plan.
+/// Returns the result for a fault of a plan.
 fn fault_told(fault: Fault) -> Verdict
     ensures { result ≡ fault_verdict fault }
 {
@@ -45,7 +45,7 @@ fn fault_told(fault: Fault) -> Verdict
     }
 }
 
-/// The items of these words, two words an item, or the first that fails, by its place from 0.
+/// Reads items from their words, two for each. Otherwise returns the position, from 0, and the fault of the first item that cannot be read.
 fn items_of(words: &[u32]) -> Result<ArrayVec<Item, MAX_PLAN_ITEMS>, (u32, ItemFault)>
     requires even { length words.now % 2 ≡ 0 }
     requires few { length words.now ≤ max_plan_words }
@@ -54,7 +54,7 @@ fn items_of(words: &[u32]) -> Result<ArrayVec<Item, MAX_PLAN_ITEMS>, (u32, ItemF
 {
     let mut items = ArrayVec::new();
     for i in 0..words.len() / 2 {
-        // The loop's proof needs the type of an item's part here.
+        // The proof of the loop needs the type `Fpage` to be mentioned here.
         let _fpage = Fpage::Nil;
         match Item::read(words[2 * i], words[2 * i + 1]) {
             Ok(item) => items.push(item),
@@ -64,7 +64,7 @@ fn items_of(words: &[u32]) -> Result<ArrayVec<Item, MAX_PLAN_ITEMS>, (u32, ItemF
     Ok(items)
 }
 
-/// The items of these words, or why they are none of a plan.
+/// Reads the items of a plan from their words, or returns the reason why the words are not the items of a plan.
 fn plan_items(words: &[u32]) -> Result<ArrayVec<Item, MAX_PLAN_ITEMS>, MsgFault>
     ensures ok { IfOk result (λ items. ItemsRead words.now items.items) }
     ensures err { IfErr result (ItemsFail words.now) }
@@ -82,7 +82,7 @@ fn plan_items(words: &[u32]) -> Result<ArrayVec<Item, MAX_PLAN_ITEMS>, MsgFault>
     }
 }
 
-/// Checks a plan of a region of pages of this size: two words an item, message after message without their tags.
+/// Checks a plan of a region for pages of this size. The words are two for each item, message after message without the tags.
 fn judged(given: &RegionGiven, size: PageSize, words: &[u32], pages: &[u32]) -> Verdict
     ensures { TellsCheck size (region_of given.now) words.now pages.now result }
 {
@@ -98,7 +98,8 @@ fn judged(given: &RegionGiven, size: PageSize, words: &[u32], pages: &[u32]) -> 
     }
 }
 
-/// Checks a plan of a region of pages of 4,096 bytes.
+/// Checks a plan of a region for pages of 4,096 bytes. The refusals are those of the words (M1, M2, M4 or M3), and then C6, C1, C2, C5, C3
+/// and C4.
 #[unsafe(no_mangle)]
 pub extern "C" fn l4_check_plan(given: &RegionGiven, words: &[u32], pages: &[u32]) -> Verdict
     ensures { TellsCheck Kib4 (region_of given.now) words.now pages.now result }
@@ -106,7 +107,7 @@ pub extern "C" fn l4_check_plan(given: &RegionGiven, words: &[u32], pages: &[u32
     judged(given, PageSize::Kib4, words, pages)
 }
 
-/// Checks a plan of a region of pages of so many bytes.
+/// Checks a plan of a region for pages of `page_bytes` bytes. Refuses a number of bytes that no page has (B4) before every other refusal.
 #[unsafe(no_mangle)]
 pub extern "C" fn l4_check_plan_sized(
     given: &RegionGiven,
@@ -122,7 +123,7 @@ pub extern "C" fn l4_check_plan_sized(
     }
 }
 
-/// Checks that each list of map items of pages of this size is too long.
+/// Checks that the pages prove every plan of the region to be too long, for pages of this size.
 fn judged_too_long(given: &RegionGiven, size: PageSize, pages: &[u32]) -> Verdict
     ensures { TellsLongCheck size (region_of given.now) pages.now result }
 {
@@ -132,7 +133,8 @@ fn judged_too_long(given: &RegionGiven, size: PageSize, pages: &[u32]) -> Verdic
     }
 }
 
-/// Checks that each list of map items of pages of 4,096 bytes is too long.
+/// Checks that the pages prove every plan of the region to have more than 1,984 items, for pages of 4,096 bytes. The refusals are C6, C5,
+/// C3 and C4.
 #[unsafe(no_mangle)]
 pub extern "C" fn l4_check_too_long(given: &RegionGiven, pages: &[u32]) -> Verdict
     ensures { TellsLongCheck Kib4 (region_of given.now) pages.now result }
@@ -140,7 +142,8 @@ pub extern "C" fn l4_check_too_long(given: &RegionGiven, pages: &[u32]) -> Verdi
     judged_too_long(given, PageSize::Kib4, pages)
 }
 
-/// Checks that each list of map items of pages of so many bytes is too long.
+/// Checks that the pages prove every plan of the region to have more than 1,984 items, for pages of `page_bytes` bytes. Refuses a number of
+/// bytes that no page has (B4) before every other refusal.
 #[unsafe(no_mangle)]
 pub extern "C" fn l4_check_too_long_sized(
     given: &RegionGiven,

@@ -1,4 +1,4 @@
-//! The pages whose mappings differ between two kernels.
+//! Finds the pages whose mappings differ between two kernels.
 ghost use Rattle.std.specs.Prelude.{◌≡◌, Decides, MatchOption};
 ghost use Rattle.l4_c.specs.Compared.{IsUnchanged, HaveNoneFrom, IsNextInEither, AreUnchangedFrom, IsNextChange, TellsChange};
 
@@ -7,7 +7,7 @@ use l4_handles::KernelHandle;
 use l4_ipc::Kernel;
 use std::alloc::Global;
 
-/// Returns the least page of a space that is not below `page`, and that is present in one of the kernels.
+/// Returns the lowest page of a space that is not below `page` and is present in at least one of the kernels.
 fn next_in_either(before: &Kernel, after: &Kernel, space: u64, page: u32) -> Option<u32>
     ensures { MatchOption result (HaveNoneFrom before.now after.now space page) (IsNextInEither before.now after.now space page) }
 {
@@ -30,7 +30,7 @@ fn is_unchanged(before: &Kernel, after: &Kernel, space: u64, page: u32) -> bool
     before.mapping(space, page) == after.mapping(space, page)
 }
 
-/// Returns the least page of a space that is not below `page`, and whose mapping differs between the kernels.
+/// Returns the lowest page of a space that is not below `page` and whose mapping differs between the kernels.
 #[tactic(auto, using(crate::proofs::Changes::unchanged_more))]
 fn next_change(before: &Kernel, after: &Kernel, space: u64, page: u32) -> Option<u32>
     ensures { MatchOption result (AreUnchangedFrom before.now after.now space page) (IsNextChange before.now after.now space page) }
@@ -49,7 +49,7 @@ fn next_change(before: &Kernel, after: &Kernel, space: u64, page: u32) -> Option
     }
 }
 
-/// Returns the least page of a space whose mapping differs between two kernels.
+/// Returns the lowest page of a space that is not below `page` and whose mapping differs between two kernels. Refuses an empty handle (B1).
 #[unsafe(no_mangle)]
 pub extern "C" fn l4_next_change(
     alloc: Global,

@@ -1,4 +1,4 @@
-//! A kernel is copied into another handle.
+//! Copies a kernel into another handle.
 ghost use Rattle.std.specs.Prelude.{◌≡◌, Some};
 ghost use Rattle.l4_c.specs.Copied.{Copies};
 
@@ -7,7 +7,7 @@ use l4_handles::KernelHandle;
 use l4_ipc::Kernel;
 use std::alloc::Global;
 
-/// Fills a handle with a copy of the kernel.
+/// Fills an empty handle with a copy of the kernel. Refuses a handle that is not empty (B2), or returns NoMemory.
 fn fill(alloc: Global, copy: &mut KernelHandle, kernel: &Kernel) -> u32
     ensures { Copies (Some kernel.now) copy.old.value result copy.new.value }
 {
@@ -28,7 +28,8 @@ fn fill(alloc: Global, copy: &mut KernelHandle, kernel: &Kernel) -> u32
     }
 }
 
-/// Copies a kernel into another handle.
+/// Copies a kernel into a second, empty handle. Refuses an empty first handle (B1) and a second one that is not empty (B2), or returns
+/// NoMemory.
 #[unsafe(no_mangle)]
 pub extern "C" fn l4_copy(alloc: Global, handle: &mut KernelHandle, copy: &mut KernelHandle) -> u32
     ensures kept { handle.new.value ≡ handle.old.value }

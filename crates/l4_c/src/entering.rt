@@ -1,4 +1,4 @@
-//! Calls that are entered: their start, and the steps that come next.
+//! Enters calls: starts a call, and then executes the steps that follow.
 ghost use Rattle.std.specs.Prelude.{◌≡◌, ◌≤◌, ◌<◌, length, slice_set};
 ghost use Rattle.l4_ipc.specs.NextSteps.{step_of, answer_of};
 ghost use Rattle.l4_c_values.specs.Told.{done_result};
@@ -10,7 +10,7 @@ use l4_handles::KernelHandle;
 use l4_ipc::{Kernel, NextStep};
 use std::alloc::Global;
 
-/// Writes down a step that was done, where there is room.
+/// Writes an executed step to the array at this place, if the array is long enough.
 fn note(steps: &mut [NextResult], at: u32, next: NextStep)
     ensures there { at < length steps.old → steps.new ≡ slice_set steps.old at (done_result (step_of next) (answer_of next)) }
     ensures beyond { length steps.old ≤ at → steps.new ≡ steps.old }
@@ -21,7 +21,7 @@ fn note(steps: &mut [NextResult], at: u32, next: NextStep)
     }
 }
 
-/// Does the steps that come next, until there is none, and counts them.
+/// Executes the next step until no step is enabled, and returns how many steps it executed.
 fn follow(kernel: &mut Kernel, steps: &mut [NextResult]) -> u32
     ensures { Follows kernel.old steps.old result steps.new kernel.new }
 {
@@ -34,7 +34,7 @@ fn follow(kernel: &mut Kernel, steps: &mut [NextResult]) -> u32
     count
 }
 
-/// Enters a call of a thread.
+/// Starts a call of a thread, and then executes the next step until no step is enabled.
 fn enter(
     kernel: &mut Kernel,
     thread: u32,
@@ -54,7 +54,7 @@ fn enter(
     entered
 }
 
-/// Enters a call of a thread: its start and the steps that come next.
+/// Starts a call of a thread, and then executes the next step until no step is enabled. The refusals are those of `l4_start`.
 #[unsafe(no_mangle)]
 pub extern "C" fn l4_enter(
     alloc: Global,

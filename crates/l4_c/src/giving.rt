@@ -1,4 +1,4 @@
-//! sigma0's tables.
+//! sigma0's tables of owners.
 ghost use Rattle.std.specs.Prelude.{◌≡◌, None, Some, codes};
 ghost use Rattle.l4_fpage.specs.declared.sizes.PageSize.TheVariants.{Kib4};
 ghost use Rattle.l4_refusals.specs.Texts.{spelled};
@@ -13,7 +13,7 @@ use l4_ipc::{Message, PageSize};
 use l4_sigma0::{MAX_FRAMES, Sigma0};
 use std::alloc::Global;
 
-/// Makes a table of frames of this size that nobody owns.
+/// Makes a table of frames of this size, none of which has an owner.
 fn make(alloc: Global, handle: &mut Sigma0Handle, size: PageSize, frames: u32) -> u32
     ensures { MakesOwners handle.old.value size frames result handle.new.value }
 {
@@ -33,7 +33,7 @@ fn make(alloc: Global, handle: &mut Sigma0Handle, size: PageSize, frames: u32) -
     }
 }
 
-/// Makes a table of frames of 4,096 bytes that nobody owns.
+/// Makes a table of frames of 4,096 bytes, none of which has an owner. The refusals are B2, K6 and NoMemory, in this order.
 #[unsafe(no_mangle)]
 pub extern "C" fn l4_sigma0_new(alloc: Global, handle: &mut Sigma0Handle, frames: u32) -> u32
     ensures { MakesOwners handle.old.value Kib4 frames result handle.new.value }
@@ -41,7 +41,8 @@ pub extern "C" fn l4_sigma0_new(alloc: Global, handle: &mut Sigma0Handle, frames
     make(alloc, handle, PageSize::Kib4, frames)
 }
 
-/// Makes a table of frames of so many bytes that nobody owns.
+/// Makes a table of frames of `page_bytes` bytes, none of which has an owner. Refuses a number of bytes that no page has (B4) before every
+/// other refusal.
 #[unsafe(no_mangle)]
 pub extern "C" fn l4_sigma0_new_sized(
     alloc: Global,
@@ -57,7 +58,7 @@ pub extern "C" fn l4_sigma0_new_sized(
     }
 }
 
-/// Frees a table.
+/// Frees a table, and leaves the handle empty.
 #[unsafe(no_mangle)]
 pub extern "C" fn l4_sigma0_free(alloc: Global, handle: &mut Sigma0Handle)
     ensures { handle.new.value ≡ None }
@@ -65,7 +66,7 @@ pub extern "C" fn l4_sigma0_free(alloc: Global, handle: &mut Sigma0Handle)
     let _table = handle.take(alloc);
 }
 
-/// The answer of a table to words that are a message from a space.
+/// Returns the table's answer to the words of a message from a space, or the refusal of words that are not a message.
 fn answer(table: &mut Sigma0, space: u64, words: &[u32]) -> MessageResult
     ensures { TellsSigma0sAnswer (Some table.old) space words.now result (Some table.new) }
 {
@@ -75,7 +76,7 @@ fn answer(table: &mut Sigma0, space: u64, words: &[u32]) -> MessageResult
     }
 }
 
-/// Answers a message from a space.
+/// Returns sigma0's answer to a message from a space. The refusals are B1, and then those of the message.
 #[unsafe(no_mangle)]
 pub extern "C" fn l4_sigma0_answer(
     alloc: Global,

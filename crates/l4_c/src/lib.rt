@@ -1,4 +1,4 @@
-//! The kernel, plans and checks for C: `include/l4.h` declares these functions.
+//! The kernel, plans and checks for C. `include/l4.h` declares these functions, and states units, ranges and refusals.
 #![tactic(auto)]
 
 mod asking;

@@ -1,4 +1,4 @@
-//! The threads and the spaces of a kernel, one after another.
+//! Lists the threads and the spaces of a kernel, one at a time.
 ghost use Rattle.std.specs.Prelude.{◌≡◌};
 ghost use Rattle.l4_c.specs.Listed.{TellsNextThread, TellsNextSpace, thread_result};
 
@@ -7,7 +7,7 @@ use l4_c_values::{EMPTY, SpaceResult};
 use l4_handles::KernelHandle;
 use std::alloc::Global;
 
-/// A thread.
+/// The number of a thread; `there` is 0 if there is none.
 #[repr(C)]
 #[derive(Clone, Copy)]
 pub struct ThreadResult {
@@ -16,7 +16,7 @@ pub struct ThreadResult {
     pub thread: u32,
 }
 
-/// A thread that was found.
+/// Returns the result for a thread that may have been found.
 fn thread_told(found: Option<u32>) -> ThreadResult
     ensures { result ≡ thread_result 0 found }
 {
@@ -34,7 +34,7 @@ fn thread_told(found: Option<u32>) -> ThreadResult
     }
 }
 
-/// The least number of a thread that is not below this one.
+/// Returns the lowest thread number that is not below `thread`. Refuses an empty handle (B1).
 #[unsafe(no_mangle)]
 pub extern "C" fn l4_next_thread(
     alloc: Global,
@@ -56,7 +56,7 @@ pub extern "C" fn l4_next_thread(
     thread_told(found)
 }
 
-/// The least number of a space that is not below this one.
+/// Returns the lowest space number that is not below `space`. Refuses an empty handle (B1).
 #[unsafe(no_mangle)]
 pub extern "C" fn l4_next_space(alloc: Global, handle: &mut KernelHandle, space: u64) -> SpaceResult
     ensures kept { handle.new.value ≡ handle.old.value }

@@ -1,4 +1,4 @@
-//! A locked kernel with its seats.
+//! Locked kernels with their seats, for C.
 ghost use Rattle.std.specs.Prelude.{◌≡◌, None, Some, codes, slice_get};
 ghost use Rattle.std.specs.Option.{option_and_then};
 ghost use Rattle.l4_fpage.specs.declared.sizes.PageSize.TheVariants.{Kib4};
@@ -22,7 +22,7 @@ use l4_ipc::{ArrayVec, Call, IpcCall, PageSize, ThreadId};
 use l4_seated_lock::SeatedLock;
 use std::alloc::Global;
 
-/// A count.
+/// A number of entries.
 #[repr(C)]
 #[derive(Clone, Copy)]
 pub struct CountResult {
@@ -30,7 +30,7 @@ pub struct CountResult {
     pub count: u64,
 }
 
-/// Makes a locked kernel with pages of this size.
+/// Boots a locked kernel with pages of this size.
 fn make(alloc: Global, handle: &mut LockHandle, size: PageSize, frames: u32) -> u32
     ensures { MakesLock handle.old.value size frames result handle.new.value }
 {
@@ -51,7 +51,7 @@ fn make(alloc: Global, handle: &mut LockHandle, size: PageSize, frames: u32) -> 
     }
 }
 
-/// Makes a locked kernel with pages of 4,096 bytes.
+/// Boots a locked kernel with pages of 4,096 bytes. The refusals are B2, K6 and NoMemory, in this order.
 #[unsafe(no_mangle)]
 pub extern "C" fn l4_lock_new(alloc: Global, handle: &mut LockHandle, frames: u32) -> u32
     ensures { MakesLock handle.old.value Kib4 frames result handle.new.value }
@@ -59,7 +59,7 @@ pub extern "C" fn l4_lock_new(alloc: Global, handle: &mut LockHandle, frames: u3
     make(alloc, handle, PageSize::Kib4, frames)
 }
 
-/// Makes a locked kernel with pages of so many bytes.
+/// Boots a locked kernel with pages of `page_bytes` bytes. Refuses a number of bytes that no page has (B4) before every other refusal.
 #[unsafe(no_mangle)]
 pub extern "C" fn l4_lock_new_sized(
     alloc: Global,
@@ -75,7 +75,7 @@ pub extern "C" fn l4_lock_new_sized(
     }
 }
 
-/// Frees a locked kernel.
+/// Frees a locked kernel, and leaves the handle empty.
 #[unsafe(no_mangle)]
 pub extern "C" fn l4_lock_free(alloc: Global, handle: &mut LockHandle)
     ensures { handle.new.value ≡ None }
@@ -83,7 +83,7 @@ pub extern "C" fn l4_lock_free(alloc: Global, handle: &mut LockHandle)
     let _lock = handle.take(alloc);
 }
 
-/// The seat of a number is given.
+/// Gives out the seat of a thread number.
 fn give(lock: &mut SeatedLock, number: u32) -> u32
     ensures { Gives lock.old number result lock.new }
 {
@@ -93,7 +93,7 @@ fn give(lock: &mut SeatedLock, number: u32) -> u32
     }
 }
 
-/// The seat of a number is given.
+/// Gives out the seat of a thread number, once. The refusals are B1, L4 and NoMemory, in this order.
 #[unsafe(no_mangle)]
 pub extern "C" fn l4_lock_give(alloc: Global, handle: &mut LockHandle, number: u32) -> u32
     ensures { GivesSeat handle.old.value number result handle.new.value }
@@ -106,7 +106,7 @@ pub extern "C" fn l4_lock_give(alloc: Global, handle: &mut LockHandle, number: u
     given
 }
 
-/// Enters a call by the seat of a number.
+/// Enters a call under this seat's number. Refuses an unknown kind of call (B3), and then as the lock does.
 fn enter(lock: &mut SeatedLock, number: u32, given: &CallGiven, words: &[u32]) -> SeatedResult
     ensures { EntersCall lock.old number given.now words.now result lock.new }
 {
@@ -126,7 +126,7 @@ fn enter(lock: &mut SeatedLock, number: u32, given: &CallGiven, words: &[u32]) -
     }
 }
 
-/// Enters a call by the seat of a number.
+/// Enters a call under this seat's number. The refusals are B1, B3, and then those of the lock (L3, L1, NoMemory, K2) and of the kernel.
 #[unsafe(no_mangle)]
 pub extern "C" fn l4_lock_enter(
     alloc: Global,
@@ -145,7 +145,7 @@ pub extern "C" fn l4_lock_enter(
     entered
 }
 
-/// The reply of a call that was left waiting and has ended since.
+/// Takes the reply of the seat's call that was left waiting and has since ended.
 fn take(lock: &mut SeatedLock, number: u32) -> ReplyResult
     ensures { TakesReply lock.old number result lock.new }
 {
@@ -155,7 +155,7 @@ fn take(lock: &mut SeatedLock, number: u32) -> ReplyResult
     }
 }
 
-/// The reply of a call that was left waiting and has ended since.
+/// Takes the reply of the seat's call that was left waiting and has since ended. Refuses an empty handle (B1).
 #[unsafe(no_mangle)]
 pub extern "C" fn l4_lock_take(alloc: Global, handle: &mut LockHandle, number: u32) -> ReplyResult
     ensures { TakesSeat handle.old.value number result handle.new.value }
@@ -168,7 +168,7 @@ pub extern "C" fn l4_lock_take(alloc: Global, handle: &mut LockHandle, number: u
     taken
 }
 
-/// How many entries the history has.
+/// Returns the number of entries of the history. Refuses an empty handle (B1).
 #[unsafe(no_mangle)]
 pub extern "C" fn l4_lock_length(alloc: Global, handle: &mut LockHandle) -> CountResult
     ensures kept { handle.new.value ≡ handle.old.value }
@@ -185,7 +185,7 @@ pub extern "C" fn l4_lock_length(alloc: Global, handle: &mut LockHandle) -> Coun
     CountResult { refusal: 0, count }
 }
 
-/// The entry at a place.
+/// Returns the entry at a place of the history.
 fn entry(lock: &SeatedLock, place: usize) -> EntryResult
     ensures { result ≡ entry_result (slice_get lock.now.history place) }
 {
@@ -195,7 +195,7 @@ fn entry(lock: &SeatedLock, place: usize) -> EntryResult
     }
 }
 
-/// The entry at a place.
+/// Returns the entry at a place of the history, from 0. Refuses an empty handle (B1).
 #[unsafe(no_mangle)]
 pub extern "C" fn l4_lock_entry(alloc: Global, handle: &mut LockHandle, place: usize) -> EntryResult
     ensures kept { handle.new.value ≡ handle.old.value }
@@ -209,7 +209,7 @@ pub extern "C" fn l4_lock_entry(alloc: Global, handle: &mut LockHandle, place: u
     told
 }
 
-/// What the seat of a number has done.
+/// Returns how many calls the seat has started, and how many receipts it has.
 fn seat(lock: &SeatedLock, number: u32) -> SeatResult
     ensures { result ≡ seat_result (seat_at lock.now.books number) }
 {
@@ -219,7 +219,7 @@ fn seat(lock: &SeatedLock, number: u32) -> SeatResult
     }
 }
 
-/// What the seat of a number has done.
+/// Returns how many calls the seat has started, and how many receipts it has. Refuses an empty handle (B1).
 #[unsafe(no_mangle)]
 pub extern "C" fn l4_lock_seat_of(alloc: Global, handle: &mut LockHandle, number: u32) -> SeatResult
     ensures kept { handle.new.value ≡ handle.old.value }
@@ -233,7 +233,7 @@ pub extern "C" fn l4_lock_seat_of(alloc: Global, handle: &mut LockHandle, number
     told
 }
 
-/// The receipt of a seat at a place.
+/// Returns the receipt of a seat at a place.
 fn receipt(lock: &SeatedLock, number: u32, place: usize) -> ReceiptResult
     ensures { result ≡ receipt_result (option_and_then (λ (p : SeatState). slice_get p.receipts place) (seat_at lock.now.books number)) }
 {
@@ -246,7 +246,7 @@ fn receipt(lock: &SeatedLock, number: u32, place: usize) -> ReceiptResult
     }
 }
 
-/// The receipt of a seat at a place.
+/// Returns the receipt of a seat at a place, from 0. Refuses an empty handle (B1).
 #[unsafe(no_mangle)]
 pub extern "C" fn l4_lock_receipt(
     alloc: Global,
@@ -265,7 +265,8 @@ pub extern "C" fn l4_lock_receipt(
     told
 }
 
-/// The seats of these numbers come back, and the locked kernel goes where they are just those that were given.
+/// Takes back the seats of these numbers, and frees the locked kernel if exactly the seats that were given come back. The refusals are B1,
+/// X1 and X2, in this order.
 #[unsafe(no_mangle)]
 pub extern "C" fn l4_lock_close(alloc: Global, handle: &mut LockHandle, numbers: &[u32]) -> Verdict
     ensures { ClosesLock handle.old.value numbers.now result handle.new.value }

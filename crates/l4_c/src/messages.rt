@@ -1,4 +1,4 @@
-//! Messages that answer others.
+//! Makes the results that contain a message.
 ghost use Rattle.std.specs.Prelude.{◌≡◌, ℕ, List};
 ghost use Rattle.l4_msg.specs.Messages.{CanBeWritten, MessageFails};
 ghost use Rattle.l4_c.specs.Served.{no_message_result, message_result, TellsUnread};
@@ -7,7 +7,7 @@ use l4_c_values::{message_detail, message_number, padded};
 use l4_ipc::{MAX_WORDS, Message};
 use l4_msg::MsgFault;
 
-/// The words of an answer, or why there is none.
+/// The words of an answer message, or the reason why there is none.
 #[repr(C)]
 #[derive(Clone, Copy)]
 pub struct MessageResult {
@@ -17,7 +17,7 @@ pub struct MessageResult {
     pub words: [u32; MAX_WORDS],
 }
 
-/// No message, for this refusal.
+/// Returns a result with this refusal and no message.
 pub fn no_message(refusal: u32, detail: u32) -> MessageResult
     ensures { result ≡ no_message_result refusal detail }
 {
@@ -29,14 +29,14 @@ pub fn no_message(refusal: u32, detail: u32) -> MessageResult
     }
 }
 
-/// Words that are no message.
+/// Returns the refusal of words that are not a message.
 pub fn unread(fault: MsgFault) -> MessageResult
     ensures { (words : List ℕ) → MessageFails words fault → TellsUnread words result }
 {
     no_message(message_number(fault), message_detail(fault))
 }
 
-/// The words of a message.
+/// Returns a result with the words of a message.
 pub fn message_told(message: &Message) -> MessageResult
     requires { CanBeWritten message.now }
     ensures { result ≡ message_result message.now }

@@ -1,4 +1,4 @@
-//! Handles are filled and emptied.
+//! Boots and frees kernels.
 ghost use Rattle.std.specs.Prelude.{◌≡◌, None, codes};
 ghost use Rattle.l4_fpage.specs.declared.sizes.PageSize.TheVariants.{Kib4};
 ghost use Rattle.l4_refusals.specs.Texts.{spelled};
@@ -11,7 +11,7 @@ use l4_handles::KernelHandle;
 use l4_ipc::{Kernel, PageSize};
 use std::alloc::Global;
 
-/// Boots a kernel with pages of this size.
+/// Boots a kernel with pages of this size. Refuses a handle that is not empty (B2) and a wrong number of frames (K6), or returns NoMemory.
 fn boot(alloc: Global, handle: &mut KernelHandle, size: PageSize, frames: u32) -> u32
     ensures { Boots handle.old.value size frames result handle.new.value }
 {
@@ -32,7 +32,7 @@ fn boot(alloc: Global, handle: &mut KernelHandle, size: PageSize, frames: u32) -
     }
 }
 
-/// Boots a kernel with pages of 4,096 bytes.
+/// Boots a kernel with 1 to 4,096 frames and with pages of 4,096 bytes. The refusals are B2, K6 and NoMemory, in this order.
 #[unsafe(no_mangle)]
 pub extern "C" fn l4_boot(alloc: Global, handle: &mut KernelHandle, frames: u32) -> u32
     ensures { Boots handle.old.value Kib4 frames result handle.new.value }
@@ -40,7 +40,7 @@ pub extern "C" fn l4_boot(alloc: Global, handle: &mut KernelHandle, frames: u32)
     boot(alloc, handle, PageSize::Kib4, frames)
 }
 
-/// Boots a kernel with pages of so many bytes.
+/// Boots a kernel with pages of `page_bytes` bytes. Refuses a number of bytes that no page has (B4) before every other refusal.
 #[unsafe(no_mangle)]
 pub extern "C" fn l4_boot_sized(
     alloc: Global,
@@ -56,7 +56,7 @@ pub extern "C" fn l4_boot_sized(
     }
 }
 
-/// Frees a kernel.
+/// Frees a kernel, and leaves the handle empty.
 #[unsafe(no_mangle)]
 pub extern "C" fn l4_free(alloc: Global, handle: &mut KernelHandle)
     ensures { handle.new.value ≡ None }

@@ -14,7 +14,7 @@ use l4_ipc::{Message, PageSize};
 use l4_pager::{PagerRefusal, RegionPager};
 use std::alloc::Global;
 
-/// The number of what a table refuses.
+/// Returns the number of a refusal of a pager's table.
 fn entry_number(refusal: PagerRefusal) -> u32
     ensures { result ≡ entry_refusal refusal }
 {
@@ -26,7 +26,7 @@ fn entry_number(refusal: PagerRefusal) -> u32
     }
 }
 
-/// Makes a table of pages of this size without a region.
+/// Makes a table without regions for pages of this size.
 fn make(alloc: Global, handle: &mut PagerHandle, size: PageSize) -> u32
     ensures { MakesTable handle.old.value size result handle.new.value }
 {
@@ -43,7 +43,7 @@ fn make(alloc: Global, handle: &mut PagerHandle, size: PageSize) -> u32
     }
 }
 
-/// Makes a table of pages of 4,096 bytes without a region.
+/// Makes a table without regions for pages of 4,096 bytes. The refusals are B2 and NoMemory, in this order.
 #[unsafe(no_mangle)]
 pub extern "C" fn l4_pager_new(alloc: Global, handle: &mut PagerHandle) -> u32
     ensures { MakesTable handle.old.value Kib4 result handle.new.value }
@@ -51,7 +51,8 @@ pub extern "C" fn l4_pager_new(alloc: Global, handle: &mut PagerHandle) -> u32
     make(alloc, handle, PageSize::Kib4)
 }
 
-/// Makes a table of pages of so many bytes without a region.
+/// Makes a table without regions for pages of `page_bytes` bytes. Refuses a number of bytes that no page has (B4) before every other
+/// refusal.
 #[unsafe(no_mangle)]
 pub extern "C" fn l4_pager_new_sized(
     alloc: Global,
@@ -66,7 +67,7 @@ pub extern "C" fn l4_pager_new_sized(
     }
 }
 
-/// Frees a table.
+/// Frees a table, and leaves the handle empty.
 #[unsafe(no_mangle)]
 pub extern "C" fn l4_pager_free(alloc: Global, handle: &mut PagerHandle)
     ensures { handle.new.value ≡ None }
@@ -74,7 +75,7 @@ pub extern "C" fn l4_pager_free(alloc: Global, handle: &mut PagerHandle)
     let _table = handle.take(alloc);
 }
 
-/// Adds a region to a table.
+/// Adds a region at the end of a table. The refusals are B1, P4, P1 and P3, in this order.
 #[unsafe(no_mangle)]
 pub extern "C" fn l4_pager_add(alloc: Global, handle: &mut PagerHandle, region: &RegionGiven) -> u32
     ensures { Adds handle.old.value region.now result handle.new.value }
@@ -90,7 +91,7 @@ pub extern "C" fn l4_pager_add(alloc: Global, handle: &mut PagerHandle, region: 
     }
 }
 
-/// The source page of a page.
+/// Returns the source page of a target page whose region has the rights that the access needs. The refusals are B1 and P2.
 #[unsafe(no_mangle)]
 pub extern "C" fn l4_pager_find(
     alloc: Global,
@@ -112,7 +113,7 @@ pub extern "C" fn l4_pager_find(
     }
 }
 
-/// The answer of a table to words that are a message.
+/// Returns the table's answer to the words of a message, or the refusal of words that are not a message.
 fn answer(table: &RegionPager, words: &[u32]) -> MessageResult
     ensures { TellsTablesAnswer (Some table.now) words.now result }
 {
@@ -122,7 +123,7 @@ fn answer(table: &RegionPager, words: &[u32]) -> MessageResult
     }
 }
 
-/// Answers a message by a table.
+/// Returns the pager's answer to a message. The refusals are B1, and then those of the message.
 #[unsafe(no_mangle)]
 pub extern "C" fn l4_pager_answer(
     alloc: Global,

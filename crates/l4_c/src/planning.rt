@@ -1,4 +1,4 @@
-//! Plans of regions.
+//! Plans regions.
 ghost use Rattle.std.specs.Prelude.{◌≡◌, ◌≤◌, [], length, codes};
 ghost use Rattle.l4_fpage.specs.declared.sizes.PageSize.TheVariants.{Kib4};
 ghost use Rattle.l4_refusals.specs.Texts.{spelled};
@@ -12,7 +12,7 @@ use l4_ipc::{MAX_WORDS, PageSize};
 use l4_msg::MAX_ITEMS;
 use l4_plan::{Pages, Plan, PlanRefusal, plan};
 
-/// How many items a plan has, and how many messages send them.
+/// The size of a plan: the number of its items, and the number of messages that send them.
 #[repr(C)]
 #[derive(Clone, Copy)]
 pub struct PlanResult {
@@ -21,7 +21,7 @@ pub struct PlanResult {
     pub messages: u32,
 }
 
-/// A message of a plan.
+/// One message of a plan: its words, one page for each item, and the number of messages of the whole plan.
 #[repr(C)]
 #[derive(Clone, Copy)]
 pub struct PartResult {
@@ -33,7 +33,7 @@ pub struct PartResult {
     pub pages: [u32; MAX_ITEMS],
 }
 
-/// A plan of so many items, in so many messages, or why there is none.
+/// Returns a result with this refusal and these numbers, which are 0 if there is no plan.
 fn plan_result(refusal: u32, items: u32, messages: u32) -> PlanResult
     ensures { result ≡ plan_result refusal items messages }
 {
@@ -44,7 +44,7 @@ fn plan_result(refusal: u32, items: u32, messages: u32) -> PlanResult
     }
 }
 
-/// The shortest plan of a region of pages of this size.
+/// Returns the size of the shortest plan of a region for pages of this size, or the refusal.
 fn planned(given: &RegionGiven, size: PageSize) -> PlanResult
     ensures { TellsPlan size (region_of given.now) result }
 {
@@ -59,7 +59,7 @@ fn planned(given: &RegionGiven, size: PageSize) -> PlanResult
     }
 }
 
-/// The shortest plan of a region of pages of 4,096 bytes.
+/// Returns the size of the shortest plan of a region for pages of 4,096 bytes. The refusals are N1, N2, N3 and N4, in this order.
 #[unsafe(no_mangle)]
 pub extern "C" fn l4_plan_region(given: &RegionGiven) -> PlanResult
     ensures { TellsPlan Kib4 (region_of given.now) result }
@@ -67,7 +67,8 @@ pub extern "C" fn l4_plan_region(given: &RegionGiven) -> PlanResult
     planned(given, PageSize::Kib4)
 }
 
-/// The shortest plan of a region of pages of so many bytes.
+/// Returns the size of the shortest plan of a region for pages of `page_bytes` bytes. Refuses a number of bytes that no page has (B4)
+/// before every other refusal.
 #[unsafe(no_mangle)]
 pub extern "C" fn l4_plan_region_sized(given: &RegionGiven, page_bytes: u32) -> PlanResult
     ensures { InBytes page_bytes (λ size. TellsPlan size (region_of given.now) result) (result ≡ plan_result (spelled (codes "B4")) 0 0) }
@@ -78,7 +79,7 @@ pub extern "C" fn l4_plan_region_sized(given: &RegionGiven, page_bytes: u32) -> 
     }
 }
 
-/// No message, for this refusal, of a plan of so many.
+/// Returns a result with this refusal and no message. `messages` is the number of messages of the plan, or 0 if there is no plan.
 fn no_part(refusal: u32, messages: u32) -> PartResult
     ensures { result ≡ part_result refusal messages [] [] }
 {
@@ -92,7 +93,7 @@ fn no_part(refusal: u32, messages: u32) -> PartResult
     }
 }
 
-/// The words and the pages of the message with this number of a plan.
+/// Returns the message of a plan with this number, from 0, or N6 if the plan has no such message.
 fn part_told(plan: &Plan, number: u32) -> PartResult
     ensures { PartIsTold plan.now number result }
 {
@@ -112,7 +113,7 @@ fn part_told(plan: &Plan, number: u32) -> PartResult
     }
 }
 
-/// A message of the shortest plan of a region of pages of this size.
+/// Returns the message with this number, from 0, of the shortest plan of a region for pages of this size.
 fn part(given: &RegionGiven, size: PageSize, number: u32) -> PartResult
     ensures { TellsPart size (region_of given.now) number result }
 {
@@ -127,7 +128,8 @@ fn part(given: &RegionGiven, size: PageSize, number: u32) -> PartResult
     }
 }
 
-/// A message, by its number from 0, of the shortest plan of a region of pages of 4,096 bytes.
+/// Returns the message with this number, from 0, of the shortest plan of a region for pages of 4,096 bytes. The refusals are N1, N2, N3, N4
+/// and N6, in this order.
 #[unsafe(no_mangle)]
 pub extern "C" fn l4_plan_message(given: &RegionGiven, number: u32) -> PartResult
     ensures { TellsPart Kib4 (region_of given.now) number result }
@@ -135,7 +137,8 @@ pub extern "C" fn l4_plan_message(given: &RegionGiven, number: u32) -> PartResul
     part(given, PageSize::Kib4, number)
 }
 
-/// A message, by its number from 0, of the shortest plan of a region of pages of so many bytes.
+/// Returns the message with this number, from 0, of the shortest plan of a region for pages of `page_bytes` bytes. Refuses a number of
+/// bytes that no page has (B4) before every other refusal.
 #[unsafe(no_mangle)]
 pub extern "C" fn l4_plan_message_sized(
     given: &RegionGiven,
@@ -150,7 +153,7 @@ pub extern "C" fn l4_plan_message_sized(
     }
 }
 
-/// Writes pages, as many as there is room for, and says how many there are.
+/// Writes as many pages as fit into the array, and returns how many pages there are.
 fn write_pages(pages: Pages, out: &mut [u32]) -> u32
     requires { length pages ≤ 1985 }
     ensures count { result ≡ length pages }
@@ -169,8 +172,8 @@ fn write_pages(pages: Pages, out: &mut [u32]) -> u32
     count
 }
 
-/// The first source pages of the items of the shortest plan of a region of pages of this size, or those that show that each list is too
-/// long.
+/// Writes the first source page of each item of the shortest plan, for pages of this size, and returns how many there are. If every plan is
+/// too long, writes the 1,985 pages that prove it. Returns 0 if the region is refused for another reason.
 fn pages(given: &RegionGiven, size: PageSize, out: &mut [u32]) -> u32
     ensures told { TellsPages size (region_of given.now) out.old out.new result }
     ensures room { length out.new ≡ length out.old }
@@ -186,8 +189,8 @@ fn pages(given: &RegionGiven, size: PageSize, out: &mut [u32]) -> u32
     }
 }
 
-/// The first source pages of the items of the shortest plan of a region of pages of 4,096 bytes, or those that show that each list is too
-/// long.
+/// Writes the first source page of each item of the shortest plan, for pages of 4,096 bytes, and returns how many there are. If every plan
+/// is too long, writes the 1,985 pages that prove it. Returns 0 if the region is refused for another reason.
 #[unsafe(no_mangle)]
 pub extern "C" fn l4_plan_pages(given: &RegionGiven, out: &mut [u32]) -> u32
     ensures told { TellsPages Kib4 (region_of given.now) out.old out.new result }
@@ -196,7 +199,7 @@ pub extern "C" fn l4_plan_pages(given: &RegionGiven, out: &mut [u32]) -> u32
     pages(given, PageSize::Kib4, out)
 }
 
-/// The same of a region of pages of so many bytes.
+/// Does the same as `l4_plan_pages` for pages of `page_bytes` bytes. Returns 0 if no page has that many bytes.
 #[unsafe(no_mangle)]
 pub extern "C" fn l4_plan_pages_sized(given: &RegionGiven, out: &mut [u32], page_bytes: u32) -> u32
     ensures told { InBytes page_bytes (λ size. TellsPages size (region_of given.now) out.old out.new result) ((result ≡ 0) × (out.new ≡ out.old)) }

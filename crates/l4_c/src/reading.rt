@@ -1,4 +1,4 @@
-//! What a message tells that a pager or sigma0 is sent.
+//! Reads page faults and requests for frames from the messages that a pager or sigma0 receives.
 ghost use Rattle.std.specs.Prelude.{◌≡◌};
 ghost use Rattle.l4_c.specs.Read.{TellsFault, TellsFaultOf, TellsRequest, TellsRequestOf, no_fault_result, no_request_result};
 
@@ -6,7 +6,7 @@ use l4_c_values::{message_detail, message_number};
 use l4_ipc::Message;
 use l4_msg::{FrameRequest, PageFault};
 
-/// A page fault.
+/// A page fault; `there` is 0 if the message is none.
 #[repr(C)]
 #[derive(Clone, Copy)]
 pub struct FaultResult {
@@ -18,7 +18,7 @@ pub struct FaultResult {
     pub access: u32,
 }
 
-/// A request for frames.
+/// A request for frames; `there` is 0 if the message is none.
 #[repr(C)]
 #[derive(Clone, Copy)]
 pub struct RequestResult {
@@ -29,7 +29,7 @@ pub struct RequestResult {
     pub attributes: u32,
 }
 
-/// No fault, for this refusal.
+/// Returns a result with this refusal and no fault.
 fn no_fault(refusal: u32, detail: u32) -> FaultResult
     ensures { result ≡ no_fault_result refusal detail }
 {
@@ -43,7 +43,7 @@ fn no_fault(refusal: u32, detail: u32) -> FaultResult
     }
 }
 
-/// The fault that a message is.
+/// Returns the page fault that the message is, if it is one.
 fn fault_of(message: &Message) -> FaultResult
     ensures { TellsFaultOf message.now result }
 {
@@ -60,7 +60,7 @@ fn fault_of(message: &Message) -> FaultResult
     }
 }
 
-/// The page fault that the words of a message tell.
+/// Reads the words of a message as a page fault. The refusals are those of the message.
 #[unsafe(no_mangle)]
 pub extern "C" fn l4_read_fault(words: &[u32]) -> FaultResult
     ensures { TellsFault words.now result }
@@ -71,7 +71,7 @@ pub extern "C" fn l4_read_fault(words: &[u32]) -> FaultResult
     }
 }
 
-/// No request, for this refusal.
+/// Returns a result with this refusal and no request.
 fn no_request(refusal: u32, detail: u32) -> RequestResult
     ensures { result ≡ no_request_result refusal detail }
 {
@@ -84,7 +84,7 @@ fn no_request(refusal: u32, detail: u32) -> RequestResult
     }
 }
 
-/// The request that a message is.
+/// Returns the request for frames that the message is, if it is one.
 fn request_of(message: &Message) -> RequestResult
     ensures { TellsRequestOf message.now result }
 {
@@ -100,7 +100,7 @@ fn request_of(message: &Message) -> RequestResult
     }
 }
 
-/// The request for frames that the words of a message are.
+/// Reads the words of a message as a request for frames. The refusals are those of the message.
 #[unsafe(no_mangle)]
 pub extern "C" fn l4_read_request(words: &[u32]) -> RequestResult
     ensures { TellsRequest words.now result }

@@ -1,4 +1,4 @@
-//! Regions as C gives them.
+//! Converts the regions that C passes.
 ghost use Rattle.std.specs.Prelude.{◌≡◌};
 ghost use Rattle.l4_c.specs.Planned.{region_of};
 ghost use Rattle.l4_c.specs.Served.{entry_of};
@@ -7,7 +7,7 @@ use l4_c_values::rights;
 use l4_msg::Region;
 use l4_pager::Entry;
 
-/// A region as C gives it.
+/// A region as C passes it: `count` pages from the page `source` on, which go to the pages from `target` on with these rights.
 #[repr(C)]
 #[derive(Clone, Copy)]
 pub struct RegionGiven {
@@ -17,7 +17,7 @@ pub struct RegionGiven {
     pub rights: u32,
 }
 
-/// The region that is given.
+/// Returns the region that C passed.
 pub fn region_of(given: &RegionGiven) -> Region
     ensures { result ≡ region_of given.now }
 {
@@ -29,7 +29,7 @@ pub fn region_of(given: &RegionGiven) -> Region
     }
 }
 
-/// The region that is given, as an entry of a pager's table.
+/// Returns the region that C passed, as an entry of a pager's table.
 pub fn entry_of(given: &RegionGiven) -> Entry
     ensures { result ≡ entry_of given.now }
 {

@@ -1,4 +1,4 @@
-//! How the calls of threads ended.
+//! Reads the replies of threads.
 ghost use Rattle.std.specs.Prelude.{◌≡◌};
 ghost use Rattle.l4_c.specs.Asked.{TellsReply};
 
@@ -6,7 +6,7 @@ use l4_c_values::{EMPTY, ReplyResult, no_reply, reply_told};
 use l4_handles::KernelHandle;
 use std::alloc::Global;
 
-/// The reply of the last ended call of a thread that runs.
+/// Returns the reply of the thread's last call, if that has ended. Refuses an empty handle (B1).
 #[unsafe(no_mangle)]
 pub extern "C" fn l4_reply_of(alloc: Global, handle: &mut KernelHandle, thread: u32) -> ReplyResult
     ensures kept { handle.new.value ≡ handle.old.value }

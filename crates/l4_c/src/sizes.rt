@@ -1,11 +1,11 @@
-//! Sizes of pages as C gives them.
+//! Converts page sizes between bytes and `PageSize`.
 ghost use Rattle.std.specs.Prelude.{◌≡◌, MatchOption};
 ghost use Rattle.l4_fpage.specs.Pages.{page_bytes};
 ghost use Rattle.l4_c.specs.InBytes.{IsNoSize};
 
 use l4_ipc::PageSize;
 
-/// The size of pages of so many bytes, where there are some.
+/// Returns the page size of this number of bytes, or None if no page has that size.
 pub fn size_of(bytes: u32) -> Option<PageSize>
     ensures { MatchOption result (IsNoSize bytes) (λ size. bytes ≡ page_bytes size) }
 {
@@ -18,7 +18,7 @@ pub fn size_of(bytes: u32) -> Option<PageSize>
     None
 }
 
-/// The bytes of a page of this size.
+/// Returns the number of bytes of a page of this size.
 pub fn bytes_of(size: PageSize) -> u32
     ensures { result ≡ page_bytes size }
 {

@@ -1,4 +1,4 @@
-//! Steps.
+//! Executes steps.
 ghost use Rattle.std.specs.Prelude.{◌≡◌, None, Some, MatchOption};
 ghost use Rattle.l4_ipc.specs.Machine.{Machine};
 ghost use Rattle.l4_ipc.specs.Steps.{Steps};
@@ -13,7 +13,7 @@ use l4_handles::KernelHandle;
 use l4_ipc::{Answer, ArrayVec, Call, IpcCall, Kernel, Outcome, Step, ThreadId};
 use std::alloc::Global;
 
-/// Does a step of the kernel that the handle holds.
+/// Executes a step of the handle's kernel. Refuses an empty handle (B1).
 fn step(alloc: Global, handle: &mut KernelHandle, step: &Step) -> StepResult
     ensures { Answers handle.old.value step.now result handle.new.value }
 {
@@ -25,7 +25,7 @@ fn step(alloc: Global, handle: &mut KernelHandle, step: &Step) -> StepResult
     told(&given)
 }
 
-/// The message of the sender goes to the receiver.
+/// Delivers the sender's message to the receiver. The refusals are B1 and K1, in this order.
 #[unsafe(no_mangle)]
 pub extern "C" fn l4_transfer(
     alloc: Global,
@@ -38,7 +38,7 @@ pub extern "C" fn l4_transfer(
     step(alloc, handle, &Step::Transfer(sender, receiver))
 }
 
-/// The thread's wait with a timeout of zero ends.
+/// Ends the thread's wait that has a timeout of zero. The refusals are B1 and K1, in this order.
 #[unsafe(no_mangle)]
 pub extern "C" fn l4_expire(alloc: Global, handle: &mut KernelHandle, thread: u32) -> StepResult
     ensures { Answers handle.old.value (Expire thread) result handle.new.value }
@@ -60,7 +60,7 @@ fn start_call(kernel: &mut Kernel, thread: u32, call: &Call) -> StepResult
     }
 }
 
-/// Starts a call of a thread.
+/// Starts a call of a thread. Refuses an unknown kind of call (B3), and then as the kernel does.
 #[inline(always)]
 pub fn start(kernel: &mut Kernel, thread: u32, given: &CallGiven, words: &[u32]) -> StepResult
     ensures { Starts (Some kernel.old) thread given.now words.now result (Some kernel.new) }
@@ -81,7 +81,7 @@ pub fn start(kernel: &mut Kernel, thread: u32, given: &CallGiven, words: &[u32])
     start_call(kernel, thread, &call)
 }
 
-/// Starts a call of a thread.
+/// Starts a call of a thread. The refusals are B1, B3, and then those of the kernel.
 #[unsafe(no_mangle)]
 pub extern "C" fn l4_start(
     alloc: Global,
@@ -100,7 +100,7 @@ pub extern "C" fn l4_start(
     started
 }
 
-/// The step that comes next.
+/// Returns the step that is executed next if no call is started. Refuses an empty handle (B1).
 #[unsafe(no_mangle)]
 pub extern "C" fn l4_enabled(alloc: Global, handle: &mut KernelHandle) -> NextResult
     ensures kept { handle.new.value ≡ handle.old.value }
@@ -117,7 +117,7 @@ pub extern "C" fn l4_enabled(alloc: Global, handle: &mut KernelHandle) -> NextRe
     }
 }
 
-/// Does the step that comes next.
+/// Executes the step that `l4_enabled` returns. Refuses an empty handle (B1).
 #[unsafe(no_mangle)]
 pub extern "C" fn l4_next(alloc: Global, handle: &mut KernelHandle) -> NextResult
     ensures { GoesOn handle.old.value result handle.new.value }

@@ -1,4 +1,4 @@
-//! Refusals, replies and steps in words.
+//! Writes refusals, replies and steps as text.
 ghost use Rattle.std.specs.Prelude.{◌≡◌, ◌<◌, ◌≤◌, length};
 ghost use Rattle.l4_refusals.specs.Texts.{texts, text_in};
 ghost use Rattle.l4_c_values.specs.Lines.{reply_given, reply_line, step_line};
@@ -7,7 +7,7 @@ ghost use Rattle.l4_c.specs.Written.{written};
 use l4_c_values::{NextResult, ReplyResult, reply_line, step_line};
 use l4_refusals::text_of;
 
-/// Writes what fits of the text, and a 0 after it. It gives the length of the text.
+/// Writes as much of the text as fits, and a 0 after it. Returns the length of the whole text.
 fn write_text(text: &[u8], out: &mut [u8]) -> usize
     ensures length { result ≡ length text.now }
     ensures written { out.new ≡ written text.now out.old }
@@ -23,7 +23,7 @@ fn write_text(text: &[u8], out: &mut [u8]) -> usize
     text.len()
 }
 
-/// The printed code of a refusal.
+/// Writes the printed code of a refusal, and returns its length.
 #[unsafe(no_mangle)]
 pub extern "C" fn l4_refusal_code(refusal: u32, out: &mut [u8]) -> usize
     ensures length { result ≡ length (text_in texts refusal).0 }
@@ -34,7 +34,7 @@ pub extern "C" fn l4_refusal_code(refusal: u32, out: &mut [u8]) -> usize
     write_text(text_of(refusal).code, out)
 }
 
-/// What a refusal means, in a line of text.
+/// Writes a line of text that explains a refusal, and returns its length.
 #[unsafe(no_mangle)]
 pub extern "C" fn l4_refusal_text(refusal: u32, out: &mut [u8]) -> usize
     ensures length { result ≡ length (text_in texts refusal).1 }
@@ -45,7 +45,7 @@ pub extern "C" fn l4_refusal_text(refusal: u32, out: &mut [u8]) -> usize
     write_text(text_of(refusal).line, out)
 }
 
-/// A thread's reply in a line of text.
+/// Writes a thread's reply as a line of text, and returns its length.
 #[unsafe(no_mangle)]
 pub extern "C" fn l4_reply_text(thread: u32, reply: &ReplyResult, out: &mut [u8]) -> usize
     ensures length { result ≡ length (reply_line thread (reply_given reply.now)) }
@@ -56,7 +56,7 @@ pub extern "C" fn l4_reply_text(thread: u32, reply: &ReplyResult, out: &mut [u8]
     write_text(reply_line(thread, reply).as_slice(), out)
 }
 
-/// A step in a line of text.
+/// Writes a step as a line of text, and returns its length.
 #[unsafe(no_mangle)]
 pub extern "C" fn l4_step_text(step: &NextResult, out: &mut [u8]) -> usize
     ensures length { result ≡ length (step_line step.now) }

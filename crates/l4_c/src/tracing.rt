@@ -1,4 +1,4 @@
-//! How a page of a locked kernel came to where it is.
+//! Finds and checks the provenance of pages of a locked kernel.
 ghost use Rattle.std.specs.Prelude.{◌≡◌, map, IfSome};
 ghost use Rattle.l4_c_values.specs.Linked.{link_result, link_given};
 ghost use Rattle.l4_c.specs.Planned.{placed};
@@ -15,7 +15,7 @@ use l4_ipc::Place;
 use l4_seated_lock::SeatedLock;
 use std::alloc::Global;
 
-/// Writes links, as many as there is room for.
+/// Writes as many links as fit into the array.
 fn write_links(links: &[ChainLink], out: &mut [Link])
     ensures { out.new ≡ placed (map link_result links.now) out.old }
 {
@@ -27,7 +27,7 @@ fn write_links(links: &[ChainLink], out: &mut [Link])
     }
 }
 
-/// Writes the links by which a page came to where it is, and says how many there are.
+/// Writes the provenance of a page as links, and returns the number of links.
 fn trace(alloc: Global, lock: &SeatedLock, place: Place, out: &mut [Link]) -> ChainResult
     ensures { TracesPage lock.now place out.old result out.new }
 {
@@ -41,7 +41,7 @@ fn trace(alloc: Global, lock: &SeatedLock, place: Place, out: &mut [Link]) -> Ch
     }
 }
 
-/// The links by which a page of a space came to where it is.
+/// Writes the provenance of a page of a space as links, and returns the number of links. The refusals are B1, and then NoMemory or L6.
 #[unsafe(no_mangle)]
 pub extern "C" fn l4_lock_provenance(
     alloc: Global,
@@ -61,7 +61,7 @@ pub extern "C" fn l4_lock_provenance(
     told
 }
 
-/// The links that C gives.
+/// Converts the links that C passed, or returns None if an allocation fails.
 fn links_of(alloc: Global, given: &[Link]) -> Option<Vec<ChainLink>>
     ensures { IfSome result (λ links. links.items ≡ map link_given given.now) }
 {
@@ -74,7 +74,7 @@ fn links_of(alloc: Global, given: &[Link]) -> Option<Vec<ChainLink>>
     Some(links)
 }
 
-/// Judges links that somebody says are those by which a page came to where it is.
+/// Checks that links from any source are the provenance of a page.
 fn judge(alloc: Global, lock: &SeatedLock, place: Place, given: &[Link]) -> Verdict
     ensures { JudgesLinks lock.now place given.now result }
 {
@@ -88,7 +88,7 @@ fn judge(alloc: Global, lock: &SeatedLock, place: Place, given: &[Link]) -> Verd
     }
 }
 
-/// Judges links that somebody says are those by which a page of a space came to where it is.
+/// Checks that links from any source are the provenance of a page of a space. The refusals are B1, NoMemory, L6 and L7.
 #[unsafe(no_mangle)]
 pub extern "C" fn l4_lock_check_provenance(
     alloc: Global,
