@@ -28,7 +28,7 @@ HasFrames frames = (1 ≤ frames) × (frames ≤ max_frames)
 abbrev pub HasNoFrames : ℕ → Type 0
 HasNoFrames frames = (frames ≡ 0) ⊎ (max_frames < frames)
 
--- why there is no machine with this number of page bytes (B4) and of frames (K6)
+-- the reason why there is no machine with these page bytes (B4) and this number of frames (K6)
 abbrev pub IsNoMachine : ℕ → ℕ → ℕ → Type 0
 IsNoMachine bytes frames refusal =
     (IsNoSize bytes × (refusal ≡ spelled (codes "B4")))

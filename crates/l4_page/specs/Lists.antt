@@ -15,8 +15,8 @@ IsEnd (Err (Long number)) whole line = (whole ≡ false) × (line ≡ number)
 IsEnd (Err (Unread number)) whole line = (whole ≡ false) × (line ≡ number)
 IsEnd (Err (Stopped fault)) whole line = ⊥
 
--- THE RESULT OF A STEP LIST: the text of the answers to its lines, or to those in front of the first one that cannot be read, with the number
--- of that line; or memory ran out
+-- THE RESULT OF A STEP LIST: the text of the answers to its lines, up to the first line that cannot be read, and the number of that line;
+-- or memory ran out
 abbrev pub TellsList : ℕ → PageSize → List ℕ → List ℕ → List ℕ → Answer → Type 0
 TellsList frames size list old new told =
     ((rest : List ℕ) × (text : List ℕ) × (ended : Result (Unit {0}) Fault) × (whole : Bool) × (line : ℕ)

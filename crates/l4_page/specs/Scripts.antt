@@ -19,7 +19,7 @@ TellsAnswers frames size explain script old new told =
     × IsTold text true ended.lines old new told)
     ⊎ TellsNothing (codes "NoMemory") old new told
 
--- the text of its history
+-- the text of the script's history
 abbrev pub TellsHistoryOf : ℕ → PageSize → Bool → List ℕ → List ℕ → List ℕ → Answer → Type 0
 TellsHistoryOf frames size answers script old new told =
     ((rest : List ℕ) × (count : ℕ) × (text : List ℕ) × HasText frames size answers (Some script) (Some rest) (Ok count) text × IsTold text true count old new told)
@@ -30,7 +30,7 @@ is_there Present = true
 is_there Absent = false
 is_there NoThread = false
 
--- how a page got to where it is
+-- the text that says how a page got to where it is
 abbrev pub TellsWhyOf : ℕ → PageSize → ThreadPage → List ℕ → List ℕ → List ℕ → Answer → Type 0
 TellsWhyOf frames size asked script old new told =
     ((rest : List ℕ) × (count : ℕ) × (found : Presence) × (text : List ℕ) × HasWhy frames size asked (Some script) (Some rest) count found text

@@ -3,7 +3,7 @@ use Rattle.std.specs.Prelude.{◌≡◌, ℕ, Bool, List, ◌++◌, length, take
 use Rattle.l4_refusals.specs.Texts.{spelled}
 use Rattle.l4_page.specs.declared.telling.Told.{Told as Answer}
 
--- the memory after a text was written to it: as much of the text as there is room for, and the rest as it was
+-- the memory after as much of the text as fits was written to it; the rest is unchanged
 abbrev pub placed : List ℕ → List ℕ → List ℕ
 placed text places = take (min (length text) (length places)) text ++ drop (min (length text) (length places)) places
 

@@ -10,7 +10,7 @@ use l4_fpage::PageSize;
 use l4_why::{Presence, ThreadPage, why};
 use std::alloc::Global;
 
-/// Returns whether a page is there.
+/// Returns whether a page is present.
 fn is_there(found: Presence) -> bool
     ensures { result ≡ is_there found }
 {

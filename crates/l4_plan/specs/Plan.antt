@@ -1,4 +1,4 @@
--- What contracts see of a plan (own).
+-- What contracts see of a plan (this profile's own).
 use Rattle.std.specs.Prelude.{◌≡◌, ℕ, List, []}
 use Rattle.l4_msg.specs.declared.items.Item.{Item}
 use Rattle.l4_msg.specs.declared.messages.Message.{Message}

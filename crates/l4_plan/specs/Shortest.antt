@@ -1,4 +1,4 @@
--- What is known of the plan of a region, and where there is none (own).
+-- The plan of a region, and when there is none (this profile's own).
 use Rattle.std.specs.Prelude.{◌≡◌, ℕ, ◌+◌, ◌≤◌, List, length}
 use Rattle.l4_msg.specs.Regions.{IsSound, IsPlan, IsCertificate, NeedsAtLeast, NeedsMoreThan, max_plan_items}
 use Rattle.l4_msg.specs.declared.regions.Region.{Region}
@@ -6,8 +6,8 @@ use Rattle.l4_plan.specs.Plan.{Listing}
 use Rattle.l4_plan.specs.Largest.{AreFirstStarts}
 use Rattle.l4_fpage.specs.declared.sizes.PageSize.{PageSize}
 
--- A list of map items that move exactly the region, 1,984 at most, each as large as it can be, and the first pages of its items, which
--- show that none is shorter.
+-- A list of at most 1,984 map items that move exactly the region, each as large as possible, and the first pages of its items, which prove
+-- that no list is shorter.
 pub record IsShortest (size : PageSize) (r : Region) (p : Listing) : Type 0 where
   pub sound : IsSound size r
   pub plan : IsPlan size r p.items p.pages
@@ -16,7 +16,7 @@ pub record IsShortest (size : PageSize) (r : Region) (p : Listing) : Type 0 wher
   pub starts : AreFirstStarts r p.pages
   pub shortest : NeedsAtLeast size r (length p.items)
 
--- one page more than a plan has items, which show that each such list is too long
+-- one page more than a plan can have items; these pages prove that every list of map items is too long
 pub record IsTooLong (size : PageSize) (r : Region) (pages : List ℕ) : Type 0 where
   pub sound : IsSound size r
   pub many : length pages ≡ max_plan_items + 1

@@ -18,10 +18,10 @@ pub fn plan(region: &Region, size: PageSize) -> Result<Plan, PlanRefusal>
     ensures out_of_space { (result ≡ Err PlanRefusal.OutOfSpace) ↔ (0 < region.now.count × IsOutOfSpace size region.now) }
     ensures no_rights { (result ≡ Err PlanRefusal.NoRights) ↔ (0 < region.now.count × InSpace size region.now × HasNoRights region.now) }
 
-    // The items move exactly the region, and their pages are a certificate with one page an item, so no list of map items is shorter.
+    // The items move exactly the region, and their pages are a certificate with one page for each item. So no list of map items is shorter.
     ensures shortest { IfOk result (IsShortest size region.now) }
 
-    // Too long is answered only where each list is, as the pages show.
+    // The plan is refused as too long only if every list of map items is too long. The pages in the refusal prove it.
     ensures too_long { IfErr result (λ e. IfTooLong e (IsTooLong size region.now)) }
     ensures others { IfErr result IsOfRegion }
     ensures possible { IsOk result ↔ (IsSound size region.now × HasShortRival size region.now) }

@@ -60,7 +60,7 @@ impl Model for Plan {
 }
 
 impl Plan {
-    /// The plan of the region, which has so many items.
+    /// Returns the plan of the region, which has this number of items.
     pub(crate) fn of(region: &Region, size: PageSize, items: u32) -> Plan
         requires { IsAll size region.now items }
         ensures { IsShortest size region.now result }
@@ -109,7 +109,7 @@ impl Plan {
         // No fewer messages move the region.
         ensures fewest { (size : APageSize) (r : ARegion) → IsShortest size r self.now → NeedsMessages size r result }
 
-        // Each page of the region is in just one of their parts, which they move exactly (the clause `moves` of `message`).
+        // Each page of the region is in exactly one part. The messages move the parts exactly (clause `moves` of `message`).
         ensures whole { (size : APageSize) (r : ARegion) → IsShortest size r self.now → AreWholeInParts r self.now.pages result }
     {
         self.items.div_ceil(MAX_ITEMS as u32)
@@ -120,7 +120,7 @@ impl Plan {
     pub fn message(&self, number: u32) -> Result<Message, PlanRefusal>
         ensures sends { IfOk result (Sends (part_of_list self.now.items number)) }
 
-        // It moves exactly the part of the region with its number, and no list of map items that does is shorter.
+        // It moves exactly the part of the region with this number, and no list of map items that moves that part is shorter.
         ensures moves { IfOk result (λ m. (size : APageSize) (r : ARegion) → IsShortest size r self.now → IsPlan size (part_of_region r self.now.pages number) m.items.items (part_of_list self.now.pages number)) }
 
         // Its words fit into the message registers, and its send bases are multiples of 1 KiB.
@@ -167,7 +167,7 @@ impl Plan {
         Ok(self.part(0))
     }
 
-    /// The message with this number, from 0, which is there.
+    /// Returns the message with this number, from 0, which exists.
     fn part(&self, number: u32) -> Message
         requires { number < messages_of (length self.now.items) }
         ensures sends { Sends (part_of_list self.now.items number) result }

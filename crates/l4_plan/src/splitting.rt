@@ -9,7 +9,7 @@ use arrayvec::ArrayVec;
 use l4_fpage::{Block, Fpage, PageSize};
 use l4_msg::{Item, MAX_ITEMS, Region};
 
-/// The log of the largest power of two, up to 2^32, that divides both pages.
+/// Returns the log of the largest power of two, up to 2^32, that divides both pages.
 #[tactic(auto, using(l4_fpage::proofs::Powers::trailing_aligned, l4_fpage::proofs::Powers::aligned_trailing))]
 fn alignment(source: u32, target: u32) -> u32
     ensures divides_source { (k : ℕ) → k ≤ result → source % 2 ^ k ≡ 0 }
@@ -19,7 +19,7 @@ fn alignment(source: u32, target: u32) -> u32
     source.trailing_zeros().min(target.trailing_zeros())
 }
 
-/// The log of the size, in pages, of the largest allowed block that begins at this page.
+/// Returns the log of the size, in pages, of the largest allowed block that begins at this page.
 pub(crate) fn largest_allowed(region: &Region, page: u32) -> u8
     requires space { InLargestSpace region.now }
     requires from { region.now.source ≤ page }
@@ -31,8 +31,9 @@ pub(crate) fn largest_allowed(region: &Region, page: u32) -> u8
     alignment(page, target).min(left.ilog2()) as u8
 }
 
-/// How many largest allowed blocks of this size begin at this page, one straight after another: one at least, and all up to the region's end
-/// where no larger one can begin anywhere, since source and target are never aligned further together.
+/// Returns how many largest allowed blocks of this size begin at this page, one directly after another. If no larger block can begin
+/// anywhere, because source and target are never aligned to more, this is the number of all blocks of this size up to the region's end;
+/// otherwise it is 1.
 fn run_of(region: &Region, page: u32, log: u8) -> u32
     requires space { InLargestSpace region.now }
     requires first { IsLargest region.now page log }
@@ -47,15 +48,15 @@ fn run_of(region: &Region, page: u32, log: u8) -> u32
     (region.source + region.count - page) >> log
 }
 
-/// The page behind some largest allowed blocks, and how many these are.
+/// The page after some largest allowed blocks, and the number of these blocks.
 #[derive(Clone, Copy)]
 pub(crate) struct Passed {
     pub(crate) page: u32,
     pub(crate) blocks: u32,
 }
 
-/// Passes over the largest allowed blocks that begin one straight after another from the region's first page on: so many, or all that there are.
-/// It takes time in the logarithm of the region's size.
+/// Counts the largest allowed blocks that begin one directly after another at the region's first page: at most `most`, or all if there are
+/// fewer. It takes time in the logarithm of the region's size.
 pub(crate) fn pass(region: &Region, most: u32) -> Passed
     requires { InLargestSpace region.now }
     ensures few { result.blocks ≤ most }
@@ -76,8 +77,8 @@ pub(crate) fn pass(region: &Region, most: u32) -> Passed
     Passed { page, blocks }
 }
 
-/// The map items that move so many largest allowed blocks of pages of this size, one straight after another from this page on: with the region's
-/// rights, the send base the target block's first byte.
+/// Returns the map items that move this number of largest allowed blocks, one directly after another from this page on. Each item has the
+/// region's rights, and its send base is the first byte of the target block.
 pub(crate) fn items_from(
     region: &Region,
     size: PageSize,
@@ -101,7 +102,7 @@ pub(crate) fn items_from(
     items
 }
 
-/// The pages at which so many largest allowed blocks begin, one straight after another from this page on.
+/// Returns the pages at which this number of largest allowed blocks begin, one directly after another from this page on.
 pub(crate) fn starts_of(region: &Region, first: u32, blocks: u32) -> ArrayVec<u32, MAX_ITEMS>
     requires goes { GoesOn region.now first blocks }
     requires few { blocks ≤ max_items }

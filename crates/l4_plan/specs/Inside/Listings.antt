@@ -1,4 +1,4 @@
--- What a plan and its pages keep besides what contracts see of them (own).
+-- What a plan and its pages preserve beyond what contracts see of them (this profile's own).
 use Rattle.std.specs.Prelude.{◌≡◌, ℕ, ◌+◌, ◌<◌, ◌≤◌, map}
 use Rattle.l4_fpage.specs.declared.sizes.PageSize.{PageSize}
 use Rattle.l4_fpage.specs.declared.sizes.PageSize.TheVariants.{Kib1}
@@ -7,17 +7,18 @@ use Rattle.l4_msg.specs.declared.regions.Region.{Region}
 use Rattle.l4_plan.specs.Plan.{Listing}
 use Rattle.l4_plan.specs.Inside.Split.{reached, starts_from, item_at}
 
--- source and target lie in the largest space, as they do wherever they lie in a space: blocks need no size of pages
+-- Source and target are in the largest space, as they are if they are in a space of any page size. So blocks do not depend on the page
+-- size.
 abbrev pub InLargestSpace : Region → Type 0
 InLargestSpace r = InSpace Kib1 r
 
--- so many largest allowed blocks begin in the region, one straight after another from this page on
+-- this number of largest allowed blocks begin in the region, one directly after another from this page on
 pub record GoesOn (r : Region) (page blocks : ℕ) : Type 0 where
   pub space : InLargestSpace r
   pub from : r.source ≤ page
   pub within : (i : ℕ) → i < blocks → reached r page i < r.source + r.count
 
--- so many of them, from the region's first page on, are all that there are, and few enough
+-- this number of largest allowed blocks, from the region's first page on, are all that the region has, and a plan can have as many items
 pub record IsAll (size : PageSize) (r : Region) (blocks : ℕ) : Type 0 where
   pub sound : IsSound size r
   pub few : blocks ≤ max_plan_items

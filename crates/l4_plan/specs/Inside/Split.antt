@@ -1,5 +1,5 @@
--- The items of a plan as functions of its region and of the size of pages: what a plan, which keeps these and the number of its items, stands for (own).
--- That these are a plan, and none is shorter, is what `plan` ensures.
+-- The items of a plan as functions of its region and of the page size. A plan stores only these two and the number of its items. `plan`
+-- ensures that these items are a plan, and that no plan is shorter (this profile's own).
 use Rattle.std.specs.Prelude.{ℕ, zero, suc, ◌+◌, ◌*◌, ◌/◌, ◌%◌, ◌^◌, min, Bool, ◌==◌, ◌&&◌, nat_le, if◌then◌else◌, List, [], ◌∷◌}
 use Rattle.l4_fpage.proofs.Powers.{rounded_aligned}
 use Rattle.l4_fpage.proofs.Known.{size_large, size_small}
@@ -14,11 +14,11 @@ use Rattle.l4_msg.specs.declared.items.Item.{Item}
 use Rattle.l4_msg.specs.declared.items.Item.TheVariants.{Map}
 use Rattle.l4_msg.specs.declared.regions.Region.{Region}
 
--- whether 2 ^ log pages from the page on are a block, also where they go, and end within the region
+-- whether 2 ^ log pages from the page on are aligned, as are their target pages, and end within the region
 abbrev pub fits : Region → ℕ → ℕ → Bool
 fits r page log = (page % 2 ^ log == 0) && ((moved r page % 2 ^ log == 0) && nat_le (page + 2 ^ log) (r.source + r.count))
 
--- the greatest log up to this one that fits, or 0
+-- the greatest log, up to this one, whose block fits; or 0
 unfoldable pub largest_up_to : Region → ℕ → ℕ → ℕ
 largest_up_to r page zero = 0
 largest_up_to r page (suc k) = if fits r page (suc k) then suc k else largest_up_to r page k
@@ -27,21 +27,21 @@ largest_up_to r page (suc k) = if fits r page (suc k) then suc k else largest_up
 unfoldable pub largest : Region → ℕ → ℕ
 largest r page = largest_up_to r page most_log
 
--- the page behind so many largest allowed blocks, one straight after another from this page on
+-- the page after this number of largest allowed blocks, one directly after another from this page on
 abbrev pub reached : Region → ℕ → ℕ → ℕ
 reached r page zero = page
 reached r page (suc n) = reached r (page + 2 ^ largest r page) n
 
--- and the pages that they begin at
+-- the pages at which these blocks begin
 abbrev pub starts_from : Region → ℕ → ℕ → List ℕ
 starts_from r page zero = []
 starts_from r page (suc n) = page ∷ starts_from r (page + 2 ^ largest r page) n
 
--- the log of the bytes of 2 ^ log pages that are not the whole space
+-- the log of the size in bytes of an fpage of 2 ^ log pages; at most 31, because the whole space has an fpage of its own
 abbrev pub size_of : PageSize → ℕ → ℕ
 size_of size log = min (log + page_log size) 31
 
--- the fpage of 2 ^ log pages from the page on, which are a block: the complete one for the whole space
+-- the fpage of an aligned block of 2 ^ log pages from this page on; for the whole space, the complete fpage
 abbrev pub extent_at : PageSize → ℕ → ℕ → RightsSet → Extent
 extent_at size page log rights = record {
   base = page * page_bytes size / 2 ^ size_of size log * 2 ^ size_of size log;
