@@ -1,4 +1,4 @@
--- Which served thread acts next, and what it enters (this profile's own).
+-- The served thread that acts next, and the call that it makes (this profile's own).
 use Rattle.std.specs.Prelude.{◌≡◌, ◌≢◌, ◌⊎◌, ℕ, ◌-◌, ◌^◌, ◌≤◌, Some, IsTrue, IsSome, option_and_then}
 use Rattle.std.specs.Option.{unwrap_or}
 use Rattle.l4_msg.specs.Messages.{message_words}
@@ -13,40 +13,40 @@ use Rattle.l4_pager.specs.Regions.{Answers as AnswersByRegion}
 use Rattle.l4_pager.specs.Serving.{Brings, waiting, sending}
 use Rattle.l4_servers.specs.Servers.{Servers, servers, regions_of, is_served}
 
--- WHO
+-- WHICH THREAD ACTS NEXT
 
--- The thread is served, and runs: who is served has called since, so it has a reply just where it runs.
+-- The thread is served, and it is running with a reply. A served thread has made a call, so it has a reply whenever it runs.
 abbrev pub IsReady : Threads → Servers → ℕ → Type 0
 IsReady t s thread = IsTrue (is_served s thread) × IsSome (reply_of t thread)
 
 abbrev pub NoneReady : Threads → Servers → Type 0
 NoneReady t s = (thread : ℕ) → ¬ IsReady t s thread
 
--- of the threads that are ready the one of the least number
+-- the ready thread with the least number
 pub record IsFirstReady (t : Threads) (s : Servers) (thread : ℕ) : Type 0 where
   pub ready : IsReady t s thread
   pub least : (other : ℕ) → IsReady t s other → thread ≤ other
 
--- WHAT
+-- WHICH CALL IT MAKES
 
--- sigma0's thread
+-- the number of sigma0's thread
 abbrev pub sigma0 : ℕ
 sigma0 = 1
 
--- the space that a sender who is no longer there counts as
+-- the space number of a sender that no longer exists
 abbrev pub gone_space : ℕ
 gone_space = 2 ^ 64 - 1
 
--- the space of the thread that the sender's id names: its version too, as another thread may have the number by now
+-- the space of the thread with the sender's id; its version counts too, since another thread may have the number by now
 abbrev pub space_of_sender : Threads → ThreadId → ℕ
 space_of_sender t sender = unwrap_or (option_and_then (space_of t) (named t sender)) gone_space
 
--- sigma0 answers by its table of owners, which changes
+-- sigma0 answers from its table of owners, which may change
 abbrev pub AnswersBySigma0 : Threads → Servers → ThreadId → Message → Message → Servers → Type 0
 AnswersBySigma0 t old sender m answer new =
     (owners : Owners) × GrantsFrames old.owners (space_of_sender t sender) m answer owners × (new ≡ servers owners old.tables old.served)
 
--- any other thread answers by its regions
+-- every other thread answers from its regions
 abbrev pub AnswersByRegions : Servers → ℕ → Message → Message → Servers → Type 0
 AnswersByRegions old thread m answer new = AnswersByRegion (regions_of old thread) m answer × (new ≡ old)
 
@@ -54,7 +54,7 @@ abbrev pub Answers : Threads → Servers → ℕ → ThreadId → Message → Me
 Answers t old thread sender m answer new =
     ((thread ≡ sigma0) × AnswersBySigma0 t old sender m answer new) ⊎ ((thread ≢ sigma0) × AnswersByRegions old thread m answer new)
 
--- the call sends the sender of the reply's message its answer
+-- the call sends the answer to the sender of the reply's message
 pub record IsAnswer (t : Threads) (old : Servers) (thread : ℕ) (reply : Reply) (call : Call) (new : Servers) : Type 0 where
   pub sender : ThreadId
   pub message : Message
@@ -63,14 +63,14 @@ pub record IsAnswer (t : Threads) (old : Servers) (thread : ℕ) (reply : Reply)
   pub answers : Answers t old thread sender message answer new
   pub is : call ≡ sending sender (message_words answer)
 
--- the thread's last reply brings no message, so it waits for the next one
+-- the thread's last reply has no message, so the thread waits for the next one
 abbrev pub IsWait : Servers → Reply → Call → Servers → Type 0
 IsWait old reply call new = ((sender : ThreadId) (m : Message) → ¬ Brings reply sender m) × (call ≡ waiting) × (new ≡ old)
 
 abbrev pub Follows : Threads → Servers → ℕ → Reply → Call → Servers → Type 0
 Follows t old thread reply call new = IsAnswer t old thread reply call new ⊎ IsWait old reply call new
 
--- the thread acts next: it enters this call
+-- the thread acts next, and makes this call
 pub record ActsNext (t : Threads) (old : Servers) (thread : ℕ) (call : Call) (new : Servers) : Type 0 where
   pub first : IsFirstReady t old thread
   pub reply : Reply

@@ -8,7 +8,7 @@ use l4_ipc::NoMemory;
 use std::alloc::Global;
 use std::marker::Model;
 
-/// The numbers of the threads that are served, by rising number: who is served is asked at each line, and seldom changes.
+/// The numbers of the served threads, in rising order. A number is looked up for every line of a script, and the list seldom changes.
 #[derive(Drop)]
 pub(crate) struct ServedThreads {
     numbers: Vec<u32>,
@@ -30,7 +30,7 @@ impl Model for ServedThreads {
 }
 
 impl ServedThreads {
-    /// Nobody is served.
+    /// Returns an empty list: no thread is served.
     pub(crate) fn new(alloc: Global) -> ServedThreads
         ensures { result ≡ set.empty }
     {
@@ -55,14 +55,14 @@ impl ServedThreads {
         Ok(true)
     }
 
-    /// The thread is served no longer.
+    /// Makes a thread no longer served. Changes nothing if it is not served.
     pub(crate) fn remove(&mut self, number: u32)
         ensures { self.new ≡ set.remove self.old number }
     {
         self.numbers.retain(|other| *other != number);
     }
 
-    /// The numbers, by rising number.
+    /// Returns the numbers, in rising order.
     pub(crate) fn as_slice(&self) -> &[u32]
         ensures is { set.from_list result.now ≡ self.now }
         ensures rising { IsStrictlySortedBy nat_cmp result.now }

@@ -1,4 +1,4 @@
-//! The servers, and the next call of a server.
+//! The servers, and the call that a server makes next.
 ghost use Rattle.std.specs.Prelude.{◌≡◌, ◌%◌, not, IfOk, OnErr, MatchOption, MatchResult};
 ghost use Rattle.l4_msg.specs.Messages.{CanBeWritten};
 
@@ -16,13 +16,13 @@ use std::alloc::Global;
 use std::collections::BTreeMap;
 use std::marker::Model;
 
-/// sigma0's thread.
+/// The number of sigma0's thread.
 const SIGMA0: u32 = 1;
 
-// sigma0's table has room for the frames of each kernel.
+// sigma0's table has room for the frames of every kernel.
 const _: () = prove!(l4_sigma0::MAX_FRAMES == l4_ipc::MAX_FRAMES as usize);
 
-/// The space that a sender who is no longer there counts as.
+/// The space number that sigma0 uses for a sender that no longer exists.
 const GONE_SPACE: u64 = u64::MAX;
 
 /// The reason why a region is not added to a thread's table.
@@ -41,7 +41,7 @@ pub struct Servers {
     owners: Sigma0,
     tables: BTreeMap<u32, RegionPager>,
     served: ServedThreads,
-    /// The place of the region that answered the last fault: a guess at which one answers the next, in whichever table.
+    /// The position of the region that answered the last fault, in the table of some thread. It is a guess for the next fault.
     guess: usize,
 }
 
@@ -57,7 +57,7 @@ impl Model for Servers {
     ghost view = { λ s. servers s.owners (fin.from_entries s.tables.entries) s.served };
 }
 
-/// The space of a message's sender. Another thread may have its number by now: the sender is gone then.
+/// Returns the space of a message's sender. If another thread has the sender's number by now, the sender no longer exists.
 fn space_of_sender(kernel: &Kernel, sender: ThreadId) -> u64
     ensures { result ≡ space_of_sender kernel.now.threads sender }
 {
@@ -103,6 +103,7 @@ impl Servers {
     }
 
     /// Adds a region to a thread's table. A refused region changes nothing. Errors: those of the table, in its order,
+    /// and then `NoMemory`, which is possible for a thread's first region only.
     /// and then `NoMemory`, which is possible for a thread's first region only.
     pub fn add_region(&mut self, thread: u32, entry: Entry) -> Result<(), RegionRefusal>
         ensures { MatchResult result
@@ -165,7 +166,7 @@ impl Servers {
         None
     }
 
-    /// What a thread's regions answer to a message.
+    /// Returns the answer to a message from the regions of a thread.
     fn region_answer(&self, thread: u32, message: &Message) -> Message
         ensures answers { AnswersByRegion (regions_of self.now thread) message.now result }
         ensures writable { CanBeWritten result }
@@ -176,7 +177,7 @@ impl Servers {
         }
     }
 
-    /// What a thread answers to a sender's message.
+    /// Returns a thread's answer to a sender's message.
     fn answer(
         &mut self,
         kernel: &Kernel,
@@ -193,7 +194,7 @@ impl Servers {
         self.region_answer(thread, message)
     }
 
-    /// What a thread's regions answer to a brief message: the send base and the fpage of the one map item.
+    /// Returns the answer to a brief message from the regions of a thread: the send base and the fpage of its map item.
     fn brief_region_answer(&mut self, thread: u32, brief: &BriefMessage) -> (u32, Fpage)
         ensures answers { AnswersByRegion (regions_of self.old thread) (brief_message brief.now) (one_item (Map result.0 result.1)) }
         ensures others { self.new ≡ self.old }
@@ -210,7 +211,7 @@ impl Servers {
         (base, fpage)
     }
 
-    /// What sigma0 answers to a brief message from a space: the send base and the fpage of the one map item.
+    /// Returns sigma0's answer to a brief message from a space: the send base and the fpage of its map item.
     fn brief_frame_answer(&mut self, from_space: u64, brief: &BriefMessage) -> (u32, Fpage)
         ensures answers { GrantsFrames self.old.owners from_space (brief_message brief.now) (one_item (Map result.0 result.1)) self.new.owners }
         ensures others { self.new ≡ servers self.new.owners self.old.tables self.old.served }
@@ -225,7 +226,7 @@ impl Servers {
         (0, Fpage::Nil)
     }
 
-    /// What a thread answers to a sender's brief message: the send base and the fpage of the one map item.
+    /// Returns a thread's answer to a sender's brief message: the send base and the fpage of its map item.
     fn brief_answer(
         &mut self,
         kernel: &Kernel,
@@ -242,8 +243,8 @@ impl Servers {
         self.brief_region_answer(thread, brief)
     }
 
-    /// Makes a call what a thread enters after any reply. It is apart from `next_call_into`, as a message has room for 63 words and 31
-    /// items, which no brief one is to clear.
+    /// Overwrites a call with the one that a thread makes after any reply. It is separate from `next_call_into`, because a message has room
+    /// for 63 words and 31 items, and a brief message should not clear that room.
     #[inline(never)]
     fn long_call_into(&mut self, kernel: &Kernel, thread: u32, reply: &Reply, call: &mut Call)
         ensures { Follows kernel.now.threads self.old thread reply.now call.new self.new }
@@ -254,7 +255,7 @@ impl Servers {
         *call = answering(sender, &self.answer(kernel, thread, sender, &message));
     }
 
-    /// Makes a call what a thread enters after a reply.
+    /// Overwrites a call with the one that a thread makes after a reply.
     fn next_call_into(&mut self, kernel: &Kernel, thread: u32, reply: &Reply, call: &mut Call)
         ensures { Follows kernel.now.threads self.old thread reply.now call.new self.new }
     {
