@@ -1,4 +1,4 @@
--- A call that was entered, with what was appended to the history. (this profile's own)
+-- A call that was entered, and what it appended to the history (this profile's own).
 use Rattle.std.specs.Prelude.{◌≡◌, ℕ, ◌∷◌, ◌++◌, length, map, Ok}
 use Rattle.l4_ipc.specs.declared.calls.Call.{Call}
 use Rattle.l4_ipc.specs.declared.steps.Step.TheVariants.{Start}
@@ -8,8 +8,8 @@ use Rattle.l4_record.specs.declared.appended.Appended.{Appended}
 use Rattle.l4_record.specs.Following.{Lasts, ComeNext, start_entry, next_entry}
 use Rattle.l4_seated.specs.Seated.{Seated, CanEnter}
 
--- The call was entered: the history goes on by its start and by the steps that come next, until there is none. The replies of all calls that
--- ended in them can still be read.
+-- The call was entered. Its start, and the next steps until no step is enabled, were appended to the history. The replies of all calls that
+-- ended in these steps can still be read.
 pub record Enters (old new : Seated) (n : ℕ) (call : Call) (appended : Appended) : Type 0 where
   pub can : CanEnter (length old.history) old.numbers n
   pub started : Machine

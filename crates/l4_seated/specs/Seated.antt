@@ -1,4 +1,5 @@
--- A recorded kernel and the numbers that have their seats, as one value: which calls it enters, and why it refuses one. (this profile's own)
+-- A recorded kernel and the numbers that have their seats, as one value; which calls it enters, and why it refuses one (this profile's
+-- own).
 use Rattle.std.specs.Prelude.{◌≡◌, ℕ, ◌<◌, ◌≤◌, ◌⊎◌, Bool, true, false, nat_eq, if◌then◌else◌, List, [], ◌∷◌, ◌++◌, Err, IsTrue, refl}
 use Rattle.std.specs.List.{list_any}
 use Rattle.std.specs.Coded.{Coded, code_by, coded×, coded_ℕ, coded_list}
@@ -15,11 +16,11 @@ use Rattle.l4_record.specs.declared.refusals.RecordRefusal.{RecordRefusal}
 use Rattle.l4_record.specs.declared.refusals.RecordRefusal.TheVariants.{HistoryFull, NoMemory, Kernel as ByKernel}
 use Rattle.l4_record.specs.Sizes.{last_start}
 
--- the number is one of these
+-- the number is in the list
 abbrev pub is_among : ℕ → List ℕ → Bool
 is_among n numbers = list_any (λ k. nat_eq k n) numbers
 
--- what a contract sees of it: the machine, the history, the numbers that have their seats, and the length of the history that was seen last
+-- what a contract sees: the machine, the history, the numbers that have their seats, and the length of the history that was seen last
 pub record Seated : Type 0 where
   pub machine : Machine
   pub history : List Entry
@@ -34,23 +35,24 @@ seated_code thread entry =
     code_by (Machine × (List Entry × (List ℕ × ℕ))) (coded× (machine_code thread) (coded× (coded_list entry) (coded× (coded_list coded_ℕ) coded_ℕ)))
     (λ s. (s.machine, (s.history, (s.numbers, s.seen)))) (λ p. seated p.0 p.1.0 p.1.1.0 p.1.1.1) (λ _. refl)
 
--- as it boots with pages of this size: the history is empty, and no number has its seat
+-- the value at boot, with pages of this size: the history is empty, and no number has its seat
 abbrev pub IsNew : ℕ → PageSize → Seated → Type 0
 IsNew frames size s = IsBoot frames s.machine × (s.history ≡ []) × (s.numbers ≡ []) × (s.seen ≡ 0) × (s.machine.size ≡ size)
 
--- the number has its seat too
+-- the list with this number, once
 abbrev pub with_number : List ℕ → ℕ → List ℕ
 with_number numbers n = if is_among n numbers then numbers else numbers ++ n ∷ []
 
--- the number has its seat, and a history of so many entries has room for another call
+-- the number has its seat, and a history with this many entries has room for another call
 abbrev pub CanEnter : ℕ → List ℕ → ℕ → Type 0
 CanEnter entries numbers n = (is_among n numbers ≡ true) × (entries ≤ last_start)
 
--- a call of the number's thread may be entered: the thread runs besides
+-- a call of the number's thread may be entered: the conditions of `CanEnter`, and the thread is running
 abbrev pub MayEnter : Machine → ℕ → List ℕ → ℕ → Type 0
 MayEnter m entries numbers n = CanEnter entries numbers n × IsTrue (runs m.threads n)
 
--- why a call is not entered: its number has no seat, else the history is full, else a growth was refused or the kernel refuses it
+-- The reason why a call is not entered: its number has no seat; else the history is full; else an allocation failed or the kernel refuses
+-- the call.
 abbrev pub Refuses : Machine → ℕ → List ℕ → ℕ → Call → RecordRefusal → Type 0
 Refuses m entries numbers n call HistoryFull = (is_among n numbers ≡ true) × (last_start < entries)
 Refuses m entries numbers n call NoMemory = CanEnter entries numbers n

@@ -9,7 +9,8 @@ use l4_record::{Appended, Board, History, RecordRefusal, Recorder, Watch};
 use std::alloc::Global;
 use std::marker::Model;
 
-/// A recorded kernel, the numbers that have their seats, and a watch of its board. A number without a seat cannot enter calls.
+/// A recorded kernel, the thread numbers that have their seats, and a watch of the kernel's board. A number without a seat cannot enter
+/// calls.
 #[derive(Drop)]
 pub struct SeatedKernel {
     recorder: Recorder,
@@ -105,8 +106,8 @@ impl SeatedKernel {
         self.recorder.kernel().runs(number)
     }
 
-    /// Enters a call of the number's thread, if the number has its seat. Executes the start of the call, and then the steps that come next,
-    /// until there is none. Writes what was appended to the history to `appended`.
+    /// Enters a call of the number's thread, if the number has its seat. Executes the start of the call, and then the next step until no
+    /// step is enabled. Writes what was appended to the history to `appended`.
     ///
     /// Returns these refusals, tested in this order: `Kernel(UnknownThread)` if the number has no seat, `HistoryFull`, `NoMemory`,
     /// `Kernel`. After a refusal, nothing has changed.
