@@ -1,4 +1,4 @@
--- The recorder as one value, and what its calls do. (this profile's own)
+-- The recorder as one value, and the effects of its calls (this profile's own).
 use Rattle.std.specs.Prelude.{◌≡◌, ℕ, ◌<◌, ◌≤◌, ◌⊎◌, List, ◌∷◌, ◌++◌, length, map, Ok, Err, refl}
 use Rattle.std.specs.Coded.{Coded, code_by, coded×, coded_ℕ, coded_list}
 use Rattle.atomic_table.specs.Seated.{TableId, table_id_coded}
@@ -37,16 +37,16 @@ recording_code thread entry =
     (λ r. (r.frames, (r.kernel, (r.history, (r.board, r.published)))))
     (λ p. recording p.0 p.1.0 p.1.1.0 p.1.1.1.0 p.1.1.1.1) (λ _. refl)
 
--- The history is legal, the kernel is its replay from boot, the mappings were a forest at all times, no step is enabled, and the publisher has
--- shown the length of the history.
+-- The history is legal, the kernel is the result of its replay, and the mappings were a forest throughout. No step is enabled, and the
+-- publisher has published the length of the history.
 pub record IsKept (r : Recording) : Type 0 where
   pub legal : IsLegal r.frames r.history r.kernel
   pub idle : IsIdle r.kernel
   pub few : length r.history ≤ max_entries
   pub shown : r.published ≡ length r.history
 
--- The call was entered, for which there was room: the history goes on by its start and by the steps that come next, at most 128, until there
--- is none. The replies of all calls that ended in them can still be read.
+-- The call was entered, for which the history had room. Its start, and the next steps until no step is enabled, at most 128, were appended.
+-- The replies of all calls that ended in these steps can still be read.
 pub record Enters (old new : Recording) (n : ℕ) (call : Call) (appended : Appended) : Type 0 where
   pub room : length old.history ≤ last_start
   pub started : Machine
@@ -58,13 +58,13 @@ pub record Enters (old new : Recording) (n : ℕ) (call : Call) (appended : Appe
   pub history : new.history ≡ old.history ++ start_entry n call appended.start ∷ map (next_entry n) appended.next.items
   pub same : (new.frames ≡ old.frames) × (new.board ≡ old.board)
 
--- why no recorder is made: the number of frames is out of range, or it is within, and a growth was refused
+-- the reason why no recorder is created: the number of frames is out of range, or it is in range and an allocation failed
 abbrev pub RefusesBoot : ℕ → RecordRefusal → Type 0
 RefusesBoot frames e =
     (((frames ≡ 0) ⊎ (max_frames < frames)) × (e ≡ ByKernel BadFrames))
     ⊎ ((1 ≤ frames) × (frames ≤ max_frames) × ((e ≡ NoMemory) ⊎ (e ≡ ByKernel (Lower LowerNoMemory))))
 
--- why a call is not entered: the first of these that applies
+-- the reason why a call is not entered: the first of these that applies
 abbrev pub Refuses : Recording → ℕ → Call → RecordRefusal → Type 0
 Refuses r n call HistoryFull = last_start < length r.history
 Refuses r n call NoMemory = length r.history ≤ last_start

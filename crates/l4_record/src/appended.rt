@@ -6,7 +6,7 @@ use arrayvec::ArrayVec;
 use l4_ipc::{Answer, MAX_THREADS, NextStep, Outcome};
 use std::marker::Model;
 
-/// The steps that came next, one after another. Removed steps are not overwritten until others take their place.
+/// The next steps that were executed, in order. Clearing the list does not overwrite them; later steps do.
 #[derive(Drop)]
 pub struct NextSteps {
     cells: [NextStep; MAX_THREADS],
@@ -36,7 +36,7 @@ impl NextSteps {
         }
     }
 
-    /// Takes all steps away.
+    /// Removes all steps.
     pub(crate) fn clear(&mut self)
         ensures { self.new.items ≡ [] }
     {
@@ -60,12 +60,12 @@ impl NextSteps {
     }
 }
 
-/// What a call appended to the history: its start and the steps that came next. `Recorder::enter` overwrites it.
+/// What a call appended to the history: its start and the next steps. `Recorder::enter` overwrites it.
 #[derive(Drop)]
 pub struct Appended {
     /// The result of the start, and the threads whose calls ended in it.
     pub start: Answer,
-    /// The steps that came next.
+    /// The next steps.
     pub next: NextSteps,
 }
 

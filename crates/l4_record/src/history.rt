@@ -101,7 +101,7 @@ impl History {
         self.entries.reserve(more)
     }
 
-    /// Appends the entry of a step that came next, for which there is room.
+    /// Appends the entry of a next step. There must be room for it.
     pub(crate) fn push_next(&mut self, seat: u32, next: NextStep)
         requires { length self.old.entries < self.old.room }
         ensures entries { self.new.entries ≡ self.old.entries ++ next_entry seat next ∷ [] }
@@ -118,7 +118,7 @@ impl History {
         }
     }
 
-    /// Appends the entry of the start of a call, for which there is room.
+    /// Appends the entry of the start of a call. There must be room for it.
     pub(crate) fn push_start(&mut self, number: u32, call: &Call, answer: &Answer)
         requires { length self.old.entries < self.old.room }
         ensures entries { self.new.entries ≡ self.old.entries ++ start_entry number call.now answer.now ∷ [] }

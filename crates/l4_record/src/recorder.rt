@@ -20,17 +20,17 @@ use std::marker::Model;
 /// The maximum number of entries of a history.
 pub const MAX_ENTRIES: usize = 1_000_000;
 
-/// The maximum number of steps that follow the start of a call.
+/// The maximum number of next steps that are executed after the start of a call.
 pub const MAX_STEPS: usize = 128;
 
-/// The entries of a call: its start and the steps that follow it.
+/// The maximum number of entries of a call: its start and the next steps.
 const CALL_ENTRIES: usize = MAX_STEPS + 1;
 
-/// The greatest number of entries with which another call is entered.
+/// The greatest number of entries at which another call can be entered.
 const LAST_START: usize = MAX_ENTRIES - CALL_ENTRIES;
 
 /// A kernel with the history of its steps. The history is legal, and leads from boot to the state of the kernel. No step is enabled. The
-/// board shows the number of entries.
+/// board has the number of entries.
 #[derive(Drop)]
 pub struct Recorder {
     frames: u32,
@@ -127,8 +127,8 @@ impl Recorder {
         let _ = &self.frames;
     }
 
-    /// Ghost function: gives a proof what holds of the whole history. The history is one run of the machine from boot. Each present page
-    /// has its provenance in it, a flush removes what came through its pages, and each delivered delegation has its whole effect. It
+    /// Ghost function: gives a proof the invariants of the whole history. The history is one run of the machine from boot. Each present
+    /// page has its provenance in it, a flush removes what came through its pages, and each delivered delegation has its whole effect. It
     /// compiles to nothing.
     pub fn law_history(&self)
         ensures { IsWholeRun self.now.frames self.now.history self.now.kernel }
@@ -136,7 +136,7 @@ impl Recorder {
         let _ = &self.frames;
     }
 
-    /// Enters a call of this thread. Appends its start to the history, and then the steps that come next, until there is none: at most 128.
+    /// Enters a call of this thread. Appends its start to the history, and then the next steps until no step is enabled: at most 128.
     /// Overwrites `appended` with what was appended.
     ///
     /// Returns these refusals, tested in this order: `HistoryFull`, `NoMemory`, `Kernel`. After a refusal, nothing has changed, and the
@@ -164,7 +164,7 @@ impl Recorder {
         Ok(())
     }
 
-    /// Returns the history and the kernel, with what holds of the whole history.
+    /// Returns the history and the kernel. The contract states the invariants of the whole history.
     #[inline(never)]
     pub fn into_parts(self) -> (History, Kernel)
         ensures same { (result.0.entries ≡ self.history) × (result.1 ≡ self.kernel) }

@@ -10,7 +10,7 @@ use crate::appended::{Appended, NextSteps};
 use crate::history::History;
 use l4_ipc::{Call, Kernel, Refused};
 
-/// Executes the next steps until there is none, and overwrites `next` with them.
+/// Executes the next step until no step is enabled, and overwrites `next` with these steps.
 fn follow(kernel: &mut Kernel, history: &mut History, number: u32, next: &mut NextSteps)
     requires { length history.old.entries + max_threads ≤ history.old.room }
     ensures went { Went number kernel.old kernel.new history.old.entries history.new.entries next.new.items }
@@ -25,7 +25,7 @@ fn follow(kernel: &mut Kernel, history: &mut History, number: u32, next: &mut Ne
     }
 }
 
-/// Executes the start of a call, and then the steps that come next, until there is none. After a refusal, nothing has changed.
+/// Executes the start of a call, and then the next step until no step is enabled. After a refusal, nothing has changed.
 pub fn begin(
     kernel: &mut Kernel,
     history: &mut History,

@@ -1,4 +1,4 @@
--- Entries as words: a tag, the seat, and a word for each field. (this profile's own)
+-- Entries as words: a tag, the seat, and a word for each field (this profile's own).
 use Rattle.std.specs.Prelude.{ℕ, Bool, true, false, List, [], ◌∷◌, ◌++◌, Option, Some, nat_eq, if◌then◌else◌}
 use Rattle.l4_ipc.specs.OwnCall.{own_answer}
 use Rattle.l4_ipc.specs.declared.calls.Call.{Call}
@@ -11,25 +11,25 @@ use Rattle.l4_journal.specs.Reading.{call_of, outcome_at, answer_at}
 use Rattle.l4_record.specs.Following.{start_entry, next_entry}
 use Rattle.l4_record.specs.declared.entries.Entry.{Entry}
 
--- The entry of a call's start in which no call ended has the call's tag, which is below six.
+-- The entry of a start in which no call ended has the call's tag, which is below 6.
 abbrev pub start_code : ℕ → Call → List ℕ
 start_code seat call = call_tag call ∷ seat ∷ call_fields call
 
--- that of a start with any answer
+-- the entry of a start with any answer
 abbrev pub answered_code : ℕ → Call → Answer → List ℕ
 answered_code seat call answer = 8 ∷ seat ∷ (answer_code answer ++ call_tag call ∷ call_fields call)
 
--- whether the sender's call ended too
+-- the word that says whether the sender's call ended too
 abbrev pub ends_word : Bool → ℕ
 ends_word true = 1
 ends_word false = 0
 
--- that of a step that came next
+-- the entry of a next step
 abbrev pub next_code : ℕ → NextStep → List ℕ
 next_code seat (Transferred sender receiver outcome ends) = 6 ∷ seat ∷ sender ∷ receiver ∷ outcome_code outcome ∷ ends_word ends ∷ []
 next_code seat (Expires n) = 7 ∷ seat ∷ n ∷ []
 
--- entries behind their tag and their seat
+-- Entries after their tag and their seat.
 
 abbrev pub start_at : ℕ → ℕ → List ℕ → Option Entry
 start_at tag seat words = do
@@ -56,14 +56,14 @@ answered_at seat words = do
   call ← call_of tag.0 tag.1
   Some (start_entry seat call answer.0)
 
--- the entry of this tag, seat and fields
+-- the entry with this tag, seat and fields
 unfoldable pub entry_of : ℕ → ℕ → List ℕ → Option Entry
 entry_of tag seat words =
     if nat_eq tag 6 then transfer_at seat words
     else (if nat_eq tag 7 then expire_at seat words
     else (if nat_eq tag 8 then answered_at seat words else start_at tag seat words))
 
--- the entry of these words
+-- the entry that these words are, or None
 unfoldable pub entry_at : List ℕ → Option Entry
 entry_at words = do
   tag ← word_at words
