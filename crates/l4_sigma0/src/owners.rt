@@ -8,8 +8,8 @@ use std::marker::Model;
 /// The greatest number of frames in a machine (this profile's own).
 pub const MAX_FRAMES: usize = l4_fpage::MAX_FRAMES as usize;
 
-/// sigma0's table: the space that owns each frame. A frame that was given to a space belongs to it for good (L4 X.2
-/// manual, sigma0 protocol; the rule is this profile's own).
+/// sigma0's table: the space that owns each frame. Once a space has been given a frame, it owns that frame
+/// for good (L4 X.2 manual, sigma0 protocol; the rule is this profile's own).
 #[derive(Drop)]
 pub struct Sigma0 {
     size: PageSize,
@@ -34,7 +34,7 @@ impl Model for Sigma0 {
 
 ghost use Rattle.l4_sigma0.specs.Owners.{NamesPages};
 
-/// Returns the frames that a request names. Returns None if it has attributes, or its fpage names no whole page.
+/// Returns the frames that a request names. Returns None if it has attributes, or if its fpage names no whole page.
 fn frames_of(request: &FrameRequest, size: PageSize) -> Option<Block>
     ensures { MatchOption result ((first log : ℕ) → request.now.attributes ≡ 0 → ¬ NamesPages size request.now.fpage first log)
         (λ block. (request.now.attributes ≡ 0) × NamesPages size request.now.fpage block.first block.log) }
@@ -47,7 +47,7 @@ fn frames_of(request: &FrameRequest, size: PageSize) -> Option<Block>
 
 ghost use Rattle.l4_sigma0.specs.Inside.Tables.{AreFree, IsFilled};
 
-/// Returns whether each of these frames is free or the space's.
+/// Returns whether each of these frames has no owner or is owned by the space.
 fn are_free(owners: &[Option<u64>], space: u64, first: usize, end: usize) -> bool
     requires { end ≤ length owners.now }
     ensures { IsTrue result ↔ AreFree owners.now space first end }
@@ -62,7 +62,7 @@ fn are_free(owners: &[Option<u64>], space: u64, first: usize, end: usize) -> boo
     true
 }
 
-/// Gives these frames to the space.
+/// Makes the space the owner of these frames.
 fn fill(owners: &mut [Option<u64>], space: u64, first: usize, end: usize)
     requires within { end ≤ length owners.old }
     requires order { first ≤ end }
@@ -103,8 +103,8 @@ impl Sigma0 {
         self.size
     }
 
-    /// Gives these frames to a space, if all of them exist, and each is free or the space's. Otherwise gives none. Returns the send base
-    /// and the fpage of the one map item of the answer.
+    /// Gives these frames to a space, if all of them exist, and each has no owner or is owned by the space. Otherwise gives none. Returns
+    /// the send base and the fpage of the answer's map item.
     fn give(&mut self, from_space: u64, block: Block) -> (u32, Fpage)
         ensures answers { (m : AMessage) → Wants self.old.size m block.first block.log → ((first log : ℕ) → Wants self.old.size m first log → (block.first ≡ first) × (block.log ≡ log))
             → Answers self.old from_space m (one_item (Map result.0 result.1)) self.new }
