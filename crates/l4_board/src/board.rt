@@ -1,4 +1,4 @@
-//! The board: one word that shows the length of the history to all watches.
+//! The board: one word with the length of the history, which every watch can read.
 ghost use Rattle.std.specs.Prelude.{◌≡◌, ◌+◌, ◌≤◌, ℕ, false, true, [], IfOk, vec_len};
 ghost use Rattle.std.specs.List.{All};
 ghost use Rattle.l4_board.specs.Board.{IsNewWatch, publishing, watching};
@@ -9,6 +9,7 @@ use std::marker::Model;
 use std::sync::Arc;
 
 /// The view of one participant: whether it is the publisher, how often it has looked, and the number that it has
+/// seen. It exists in contracts only.
 /// seen. It exists in contracts only.
 pub struct View {
     pub publishes: bool,
@@ -29,7 +30,7 @@ impl TableRule<(), View, ()> for BoardRule {
     ghost first = { λ _. view true 0 0 };
 }
 
-/// The step by which a new watch enters.
+/// The step in which a new watch joins the board.
 struct Begin;
 
 impl Play<(), View> for Begin {
@@ -56,7 +57,7 @@ impl Play<(), View> for Look {
     ghost then = { Looks };
 }
 
-/// A handle of the board. It lets you look, with a watch of this board. Contracts see which board it is.
+/// A handle of the board. You can look at the board through it with a watch of this board. Contracts see which board it is.
 #[derive(Drop)]
 pub struct Board {
     table: Arc<Table<(), View, (), BoardRule, Global>>,
@@ -188,7 +189,7 @@ impl Publisher {
     }
 }
 
-/// Stores a number by the publisher's seat.
+/// Stores a number under the publisher's seat.
 fn show(board: &Board, seat: &mut Seat<(), View>, number: u64)
     requires table { seat.old.table_id ≡ board.now }
     requires publishes { (seat.old.id ≡ 0) × (seat.old.me.0.publishes ≡ true) × (seat.old.me.0.seen ≤ number) }

@@ -1,4 +1,4 @@
-//! The board: one word with a number that never falls, from one publisher to all watches.
+//! The board: one word, from one publisher to all watches, whose number never falls.
 //!
 #![tactic(auto)]
 
