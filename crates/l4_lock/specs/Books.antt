@@ -1,4 +1,4 @@
--- What the lock keeps of each seat that it gave, and what a seat keeps itself. (this profile's own)
+-- What the lock stores for each seat that it gave, and what a seat stores itself (this profile's own).
 use Rattle.std.specs.Prelude.{◌≡◌, ℕ, ◌+◌, ◌<◌, ◌≤◌, nat_eq, Bool, true, false, if◌then◌else◌, List, [], ◌∷◌, ◌++◌, length, map, Option, Some, None, MatchOption, slice_get, Contains}
 use Rattle.std.specs.Option.{option_map, option_map_or, option_and_then}
 use Rattle.std.specs.List.{All, AllPairs, list_any}
@@ -15,7 +15,7 @@ use Rattle.l4_lock.specs.declared.entries.Pending.{Pending}
 use Rattle.l4_record.specs.History.{Replays, HasEvents}
 use Rattle.l4_lock.specs.Receipts.{Proves, StartsCall}
 
--- what a seat keeps: its number, how many of its calls were left waiting and not taken yet, and its receipts
+-- the state of a seat: its number, how many of its calls were left waiting and have not been taken yet, and its receipts
 pub record SeatState : Type 0 where
   pub number : ℕ
   pub waiting : ℕ
@@ -24,11 +24,11 @@ pub record SeatState : Type 0 where
 abbrev pub seat_state : ℕ → ℕ → List Receipt → SeatState
 seat_state number waiting receipts = record { number = number; waiting = waiting; receipts = receipts }
 
--- the calls that it started: each has its receipt or was left waiting
+-- the number of calls that the seat started; each has a receipt or was left waiting
 abbrev pub starts : SeatState → ℕ
 starts p = length p.receipts + p.waiting
 
--- what the lock keeps for a number whose seat it gave: the call that isn't taken yet, and a copy of each receipt
+-- The book of a number whose seat was given: the call that has not been taken yet, if there is one, and a copy of each receipt.
 pub record Book : Type 0 where
   pub number : ℕ
   pub pending : Option Pending
@@ -44,14 +44,14 @@ pending_count (Some o) = 1
 abbrev pub is_among : ℕ → List ℕ → Bool
 is_among n numbers = list_any (λ k. nat_eq k n) numbers
 
--- the book without what is known of the end of its pending call
+-- the pending call without its end
 abbrev pub unended : Pending → Pending
 unended o = record o { ended = None }
 
 abbrev pub plain : Book → Book
 plain b = record b { pending = option_map unended b.pending }
 
--- the call isn't taken yet and has ended
+-- the call has ended, and has not been taken yet
 abbrev pub has_ended : Pending → Bool
 has_ended p = option_map_or (λ e. true) p.ended false
 
@@ -62,7 +62,7 @@ receipt call start e = record { call = call; start = start; end = e.entry; reply
 abbrev pub receipt_of : Pending → Ended → Receipt
 receipt_of o e = receipt o.call o.start e
 
--- how many calls of the thread the history starts
+-- 1 if the step starts a call of this thread, and otherwise 0; and the number of such steps in a history
 abbrev pub one_if : ℕ → Step → ℕ
 one_if n (Start k call) = if nat_eq k n then 1 else 0
 one_if n (Transfer s r) = 0
@@ -77,7 +77,7 @@ pub record HasNotEnded (history : List Entry) (m : Machine) (n start : ℕ) : Ty
   pub waits : Waits m n
   pub not_ended : (k : ℕ) (entry : Entry) → start ≤ k → slice_get history k ≡ Some entry → ¬ (Contains entry.answer.ended.items n)
 
--- the call that isn't taken yet is the last one that the thread started; where it has ended, its receipt is right
+-- The call that has not been taken yet is the last one that the thread started. If it has ended, its receipt is right.
 pub record IsPending (frames : ℕ) (history : List Entry) (m : Machine) (n : ℕ) (o : Pending) : Type 0 where
   pub first : Entry
   pub start : slice_get history o.start ≡ Some first
@@ -85,7 +85,7 @@ pub record IsPending (frames : ℕ) (history : List Entry) (m : Machine) (n : �
   pub no_other : (k : ℕ) (entry : Entry) → o.start < k → slice_get history k ≡ Some entry → ¬ (StartsCall n entry.step)
   pub ended : MatchOption o.ended (HasNotEnded history m n o.start) (λ e. Proves frames history n (receipt_of o e))
 
--- what a book says is right
+-- the book's count and receipts are right about the history
 pub record IsRight (frames : ℕ) (history : List Entry) (m : Machine) (b : Book) : Type 0 where
   pub count : starts_of b.number history ≡ length b.receipts + pending_count b.pending
   pub receipts : All (Proves frames history b.number) b.receipts
@@ -93,19 +93,19 @@ pub record IsRight (frames : ℕ) (history : List Entry) (m : Machine) (b : Book
   pub pending : MatchOption b.pending (Unit {0}) (IsPending frames history m b.number)
   pub later : MatchOption b.pending (Unit {0}) (λ o. All (λ r. r.start < o.start) b.receipts)
 
--- the book of a number
+-- the book of a number, if there is one
 abbrev pub book_at : List Book → ℕ → Option Book
 book_at [] n = None
 book_at (b ∷ bs) n = if nat_eq b.number n then Some b else book_at bs n
 
--- the call of the number that isn't taken yet, and its receipts
+-- the call of this number that has not been taken yet, and the receipts of this number
 abbrev pub pending_at : List Book → ℕ → Option Pending
 pending_at books n = option_and_then (λ (b : Book). b.pending) (book_at books n)
 
 abbrev pub receipts_at : List Book → ℕ → Option (List Receipt)
 receipts_at books n = option_map (λ (b : Book). b.receipts) (book_at books n)
 
--- an ended call of the number hasn't been taken
+-- a call of this number has ended, and has not been taken yet
 abbrev pub reply_waits : List Book → ℕ → Bool
 reply_waits books n = option_map_or has_ended (option_and_then (λ (b : Book). b.pending) (book_at books n)) false
 
@@ -113,13 +113,13 @@ reply_waits books n = option_map_or has_ended (option_and_then (λ (b : Book). b
 abbrev pub numbers : List Book → List ℕ
 numbers books = map (λ b. b.number) books
 
--- no number stands twice
+-- no number is in the list twice
 abbrev pub IsOnce : List ℕ → Type 0
 IsOnce [] = Unit {0}
 IsOnce (n ∷ ns) = (is_among n ns ≡ false) × IsOnce ns
 
--- The history is legal, the machine is its replay, the mappings were a forest at all times, each book is right, each number has one book,
--- and only numbers with a book have started calls.
+-- The history is legal, the machine is the result of its replay, and the mappings were a forest throughout. Each book is right, each number
+-- has at most one book, and only numbers with a book have started calls.
 pub record AreRight (frames : ℕ) (history : List Entry) (m : Machine) (books : List Book) : Type 0 where
   pub replays : Replays frames history m
   pub events : HasEvents replays.boot history m
@@ -127,7 +127,7 @@ pub record AreRight (frames : ℕ) (history : List Entry) (m : Machine) (books :
   pub apart : IsOnce (numbers books)
   pub others : (n : ℕ) → is_among n (numbers books) ≡ false → starts_of n history ≡ 0
 
--- The book's call has ended and is taken: the seat gains its receipt, in which the seat's own account of the call stands, and answers the reply.
+-- The book's call has ended and is taken: the seat gains its receipt, with the call as the seat passed it, and gets the reply.
 pub record Settles (old new : Book) (before after : SeatState) (own : Call → Call) (reply : Reply) : Type 0 where
   pub pending : Pending
   pub pending_is : old.pending ≡ Some pending

@@ -1,4 +1,4 @@
--- How the seats that come back agree with the seats that were given. (this profile's own)
+-- How the seats that come back agree with the seats that were given (this profile's own).
 use Rattle.std.specs.Prelude.{◌≡◌, ℕ, ◌<◌, ◌⊎◌, List, length, Option, Some, None, slice_get}
 use Rattle.std.specs.List.{All, AllPairs}
 use Rattle.l4_record.specs.declared.entries.Entry.{Entry}
@@ -8,7 +8,7 @@ use Rattle.l4_lock.specs.Receipts.{Proves}
 use Rattle.l4_lock.specs.Books.{SeatState, starts, Book, starts_of}
 use Rattle.l4_lock.specs.Locked.{Lock}
 
--- one of the first so many books, or seats, has this number
+-- one of the first `before` books, or seats, has this number
 pub record HasBook (books : List Book) (before n : ℕ) : Type 0 where
   pub at : ℕ
   pub early : at < before
@@ -23,14 +23,14 @@ pub record HasSeat (seats : List SeatState) (before n : ℕ) : Type 0 where
   pub there : slice_get seats at ≡ Some seat
   pub number : seat.number ≡ n
 
--- this number's seat was given, or came back
+-- the seat of this number was given, or came back
 abbrev pub IsGiven : List Book → ℕ → Type 0
 IsGiven books n = HasBook books (length books) n
 
 abbrev pub IsBack : List SeatState → ℕ → Type 0
 IsBack seats n = HasSeat seats (length seats) n
 
--- this number's seat came back twice
+-- two seats of this number came back
 pub record IsTwice (seats : List SeatState) (n : ℕ) : Type 0 where
   pub at : ℕ
   pub second : SeatState
@@ -38,23 +38,23 @@ pub record IsTwice (seats : List SeatState) (n : ℕ) : Type 0 where
   pub number : second.number ≡ n
   pub first : HasSeat seats at n
 
--- the seat has as many starts as this, and the receipts that the lock kept
+-- the seat has as many starts as `counts` says, and the same receipts as the book
 abbrev pub Agrees : (Book → ℕ) → Book → SeatState → Type 0
 Agrees counts b p = (counts b ≡ starts p) × (b.receipts ≡ p.receipts)
 
--- each book of the seat's number agrees with it
+-- each book with the seat's number agrees with the seat
 abbrev pub AllAgree : (Book → ℕ) → List Book → SeatState → Type 0
 AllAgree counts books p = (k : ℕ) (b : Book) → slice_get books k ≡ Some b → b.number ≡ p.number → Agrees counts b p
 
--- X1: the number's seat was given and didn't come back
+-- X1: the seat of this number was given, but did not come back
 abbrev pub IsMissing : List Book → List SeatState → ℕ → Type 0
 IsMissing books seats n = IsGiven books n × ¬ (IsBack seats n)
 
--- X2: a seat of the number came back that wasn't given, or a second one
+-- X2: a seat of this number came back that was not given, or two seats of it did
 abbrev pub IsForeign : List Book → List SeatState → ℕ → Type 0
 IsForeign books seats n = (IsBack seats n × ¬ (IsGiven books n)) ⊎ IsTwice seats n
 
--- X3: a seat came back that doesn't agree with what was kept for its number
+-- X3: a seat of this number came back that does not agree with its book
 pub record IsWrong (counts : Book → ℕ) (books : List Book) (seats : List SeatState) (n : ℕ) : Type 0 where
   pub at : ℕ
   pub seat : SeatState
@@ -66,37 +66,37 @@ pub record IsWrong (counts : Book → ℕ) (books : List Book) (seats : List Sea
   pub same : book.number ≡ n
   pub differs : ¬ (Agrees counts book seat)
 
--- the least number of this kind, or none is
+-- the lowest number for which P holds, or None if it holds for no number
 abbrev pub Least : (ℕ → Type 0) → Option ℕ → Type 0
 Least P None = (n : ℕ) → ¬ (P n)
 Least P (Some n) = P n × ((k : ℕ) → k < n → ¬ (P k))
 
--- the first mismatch: missing ones before foreign ones before wrong ones, of each kind the least number
+-- the first mismatch: missing seats before foreign ones, and these before wrong ones; of each kind, the one with the lowest number
 abbrev pub Mismatches : (Book → ℕ) → List Book → List SeatState → Mismatch → Type 0
 Mismatches counts books seats (Missing n) = Least (IsMissing books seats) (Some n)
 Mismatches counts books seats (Foreign n) = Least (IsMissing books seats) None × Least (IsForeign books seats) (Some n)
 Mismatches counts books seats (WrongReceipt n) =
     Least (IsMissing books seats) None × Least (IsForeign books seats) None × Least (IsWrong counts books seats) (Some n)
 
--- Just the seats that were given came back, each once, and each agrees with what was kept for its number.
+-- Exactly the seats that were given came back, each once, and each agrees with its book.
 pub record AreBack (counts : Book → ℕ) (books : List Book) (seats : List SeatState) : Type 0 where
   pub back : (n : ℕ) → IsGiven books n → IsBack seats n
   pub given : (n : ℕ) → IsBack seats n → IsGiven books n
   pub once : (n : ℕ) → ¬ (IsTwice seats n)
   pub agree : (k : ℕ) (p : SeatState) → slice_get seats k ≡ Some p → AllAgree counts books p
 
--- as many starts as the history has
+-- the number of starts of the book's thread in the history
 abbrev pub by_history : List Entry → Book → ℕ
 by_history history b = starts_of b.number history
 
--- What is true of a seat that came back: the history has as many starts of its number as it counted, each of its receipts is right
--- about the history, and the starts of its receipts rise.
+-- What is proved about a seat that came back: the history has as many starts of its thread as the seat counted, each of its receipts is
+-- right about the history, and the starts of its receipts rise.
 pub record IsShown (l : Lock) (p : SeatState) : Type 0 where
   pub count : starts_of p.number l.history ≡ starts p
   pub receipts : All (Proves l.frames l.history p.number) p.receipts
   pub rising : AllPairs (λ r s. r.start < s.start) p.receipts
 
--- what is known where the lock is closed
+-- what is proved once the lock is closed
 pub record Closes (l : Lock) (seats : List SeatState) : Type 0 where
   pub back : AreBack (by_history l.history) l.books seats
   pub shown : (k : ℕ) (p : SeatState) → slice_get seats k ≡ Some p → IsShown l p

@@ -1,4 +1,4 @@
--- The locked kernel as one value, and what its calls do. (this profile's own)
+-- The locked kernel as one value, and the effects of its calls (this profile's own).
 use Rattle.std.specs.Prelude.{◌≡◌, ◌≢◌, ℕ, ◌+◌, ◌<◌, ◌≤◌, ◌⊎◌, List, [], ◌∷◌, ◌++◌, length, Some, None, IsTrue, slice_get, Ok, Err, Contains, refl}
 use Rattle.std.specs.Option.{option_map}
 use Rattle.std.specs.Coded.{Coded, code_by, coded×, coded_ℕ, coded_list}
@@ -46,8 +46,8 @@ lock_code thread entry book =
     (λ l. (l.frames, (l.kernel, (l.history, (l.books, (l.board, l.published))))))
     (λ p. lock p.0 p.1.0 p.1.1.0 p.1.1.1.0 p.1.1.1.1.0 p.1.1.1.1.1) (λ _. refl)
 
--- The history is legal, the kernel is its replay from boot, the mappings were a forest at all times, no step is enabled, each receipt that was
--- given is right, and the publisher has shown the length of the history.
+-- The history is legal, the kernel is the result of its replay, and the mappings were a forest throughout. No step is enabled, each receipt
+-- that was given is right, and the publisher has published the length of the history.
 pub record IsKept (l : Lock) : Type 0 where
   pub right : AreRight l.frames l.history l.kernel l.books
   pub idle : IsIdle l.kernel
@@ -58,7 +58,7 @@ pub record IsKept (l : Lock) : Type 0 where
 abbrev pub recording_of : Lock → Recording
 recording_of l = recording l.frames l.kernel l.history l.board l.published
 
--- The call was entered, as the recorder enters it. What is kept of other numbers stays, but for what is known of the ends of their calls.
+-- The call was entered, as the recorder enters it. The books of other numbers are unchanged, except that calls of theirs may have ended.
 pub record Enters (old new : Lock) (n : ℕ) (call : Call) : Type 0 where
   pub appended : Appended
   pub recorded : Recorded (recording_of old) (recording_of new) n call appended
@@ -87,19 +87,19 @@ pub record IsLeft (old new : Lock) (before after : SeatState) : Type 0 where
   pub not_ended : (k : ℕ) (entry : Entry) → length old.history ≤ k → slice_get new.history k ≡ Some entry → ¬ (Contains entry.answer.ended.items before.number)
   pub kept : receipts_at new.books before.number ≡ receipts_at old.books before.number
 
--- the lock's refusal that is the recorder's
+-- the lock's refusal for a refusal of the recorder
 abbrev pub refusal_of : RecordRefusal → LockRefusal
 refusal_of IsFull = HistoryFull
 refusal_of LacksMemory = NoMemory
 refusal_of (FromKernel e) = ByKernel e
 
--- why no locked kernel is made: the number of frames is out of range, or it is within, and a growth was refused
+-- the reason why no locked kernel is created: the number of frames is out of range, or it is in range and an allocation failed
 abbrev pub RefusesBoot : ℕ → LockRefusal → Type 0
 RefusesBoot frames e =
     (((frames ≡ 0) ⊎ (max_frames < frames)) × (e ≡ ByKernel BadFrames))
     ⊎ ((1 ≤ frames) × (frames ≤ max_frames) × ((e ≡ NoMemory) ⊎ (e ≡ ByKernel (Lower LowerNoMemory))))
 
--- why a call is not entered: the first of these that applies
+-- the reason why a call is not entered: the first of these that applies
 abbrev pub Refuses : Lock → ℕ → Call → LockRefusal → Type 0
 Refuses l n call ReplyWaiting = IsTrue (reply_waits l.books n)
 Refuses l n call HistoryFull = ¬ (IsTrue (reply_waits l.books n)) × (last_start < length l.history)
@@ -109,13 +109,13 @@ Refuses l n call (ByKernel e) =
     ¬ (IsTrue (reply_waits l.books n)) × (length l.history ≤ last_start)
     × (((book_at l.books n ≡ None) × (e ≡ UnknownThread)) ⊎ ((book_at l.books n ≢ None) × Steps l.kernel (Start n call) (Err e) l.kernel))
 
--- what `enter` answers of a call that was entered
+-- what the result of `enter` says about a call that was entered
 abbrev pub Tells : Lock → Lock → SeatState → SeatState → Call → Entered → Type 0
 Tells old new before after call (Done reply) = EndsAtOnce old new before after call reply
 Tells old new before after call Waiting = IsLeft old new before after
 
--- A call that was left waiting has ended since, and is taken: the seat gains its receipt, in which the seat's own account of the call stands.
--- It is taken once, and what is kept of other numbers stays.
+-- A call that was left waiting has since ended, and is taken: the seat gains its receipt, with the call as the seat passed it. The call is
+-- taken once, and the books of other numbers are unchanged.
 pub record Takes (old new : Lock) (before after : SeatState) (own : Call → Call) (reply : Reply) : Type 0 where
   pub book : Book
   pub at : book_at old.books before.number ≡ Some book

@@ -1,4 +1,4 @@
--- What a seat gains by a call through the shared lock. (this profile's own)
+-- The effect of a call through the shared lock on a seat (this profile's own).
 use Rattle.std.specs.Prelude.{◌≡◌, ℕ, List, [], ◌∷◌, ◌++◌, drop, map}
 use Rattle.l4_threads.specs.declared.Reply.{Reply}
 use Rattle.l4_ipc.specs.declared.calls.Call.{Call}
@@ -9,7 +9,7 @@ use Rattle.l4_lock.specs.Locked.{Lock, IsKept, Refuses}
 use Rattle.l4_lock.specs.declared.refusals.LockRefusal.{LockRefusal}
 use Rattle.l4_lock.specs.declared.refusals.LockRefusal.TheVariants.{HistoryFull, NoMemory, ReplyWaiting, SeatTaken, Kernel as ByKernel}
 
--- the seat gained one receipt, with the call that it was given and the reply that it was answered
+-- the seat gained one receipt, with the call that it entered and the reply that it got
 pub record IsAnswered (before after : SeatState) (call : Call) (reply : Reply) : Type 0 where
   pub receipt : Receipt
   pub number : after.number ≡ before.number
@@ -18,11 +18,12 @@ pub record IsAnswered (before after : SeatState) (call : Call) (reply : Reply) :
   pub gives : receipt.call ≡ call
   pub answers : receipt.reply ≡ reply
 
--- Why a call is not entered through the shared lock: what stood under it then, of which all holds that the type keeps, refuses it so.
+-- The reason why a call is not entered through the shared lock: the locked kernel that was under the lock at that time refuses it. Every
+-- invariant of its type held.
 abbrev pub Declines : ℕ → Call → LockRefusal → Type 0
 Declines n call e = (l : Lock) × IsKept l × Refuses l n call e
 
--- what a contract sees of a gate: its seat, and how many receipts the seat had when the gate began
+-- what a contract sees of a gate: its seat, and the number of receipts that the seat had when the gate was created
 pub record GateState : Type 0 where
   pub first : ℕ
   pub seat : SeatState
@@ -30,7 +31,7 @@ pub record GateState : Type 0 where
 abbrev pub gate_state : ℕ → SeatState → GateState
 gate_state first seat = record { first = first; seat = seat }
 
--- the calls and replies of a gate: those of the receipts that its seat gained in it, in order
+-- the calls and replies of a gate: those of the receipts that its seat gained through it, in order
 abbrev pub pairs_of : GateState → List (Call × Reply)
 pairs_of g = map (λ r. (r.call, r.reply)) (drop g.first g.seat.receipts)
 
@@ -42,11 +43,11 @@ refusal_number ReplyWaiting = 3
 refusal_number SeatTaken = 4
 refusal_number (ByKernel e) = 5
 
--- an accepted call gives the gate's seat just one receipt, of this call with this reply, and changes nothing else of it
+-- the gate accepts a call: its seat gains exactly one receipt, with this call and this reply, and is otherwise unchanged
 abbrev pub GateAccepts : GateState → Call → Reply → GateState → Type 0
 GateAccepts before call reply after = (after.first ≡ before.first) × IsAnswered before.seat after.seat call reply
 
--- a gate's fault has the number of a refusal of this call, and leaves the gate as it was
+-- the gate refuses a call: the fault has the number of a refusal of this call, and the gate is unchanged
 abbrev pub GateRefuses : GateState → Call → GateFault → GateState → Type 0
 GateRefuses before call fault after =
     (after ≡ before) × ((refusal : LockRefusal) × Declines before.seat.number call refusal × (fault.code ≡ refusal_number refusal))

@@ -10,8 +10,8 @@ use l4_ipc::{Call, Kernel, Reply};
 use std::alloc::{AllocError, Global};
 use std::marker::Model;
 
-/// The accounts of the numbers whose seats were given, and how many of their calls have ended and were not taken yet. If there are none of
-/// these, no account is searched.
+/// The accounts of the numbers whose seats were given, and the number of calls that have ended and were not taken yet. If there are no such
+/// calls, no account is searched.
 #[derive(Drop)]
 pub(crate) struct Accounts {
     items: Vec<Account>,
@@ -30,7 +30,7 @@ impl Model for Accounts {
 }
 
 impl Accounts {
-    /// Creates a value without accounts.
+    /// Creates an empty list of accounts.
     pub fn new(alloc: Global) -> Accounts
         ensures { result.items ≡ [] }
     {
@@ -152,7 +152,7 @@ fn position_among(accounts: &[Account], number: u32) -> Option<usize>
     None
 }
 
-/// Returns the index of the account of a number. Searches nothing if the seats were given in the order of their numbers, from 1 on.
+/// Returns the index of the account of a number, without a search if the seats were given in the order of their numbers, from 1 on.
 fn position(accounts: &[Account], number: u32) -> Option<usize>
     requires { IsOnce (numbers accounts.now) }
     ensures { MatchOption result (book_at accounts.now number ≡ None)

@@ -8,14 +8,15 @@ ghost use Rattle.l4_lock.specs.Inside.Closing.{keep, SoFarMissing, SoFarForeign,
 use crate::locked::Locked;
 use crate::seats::{Account, Seat};
 
-/// How the seats that came back differ from those that were given.
+/// A difference between the seats that came back and those that were given.
 #[derive(Clone, Copy, Debug, PartialEq, Eq)]
 pub enum Mismatch {
-    /// X1: the seat of this number was given and is not here.
+    /// X1: the seat of this number was given, but did not come back.
     Missing(u32),
-    /// X2: the seat of this number was not given, or is here twice.
+    /// X2: the seat of this number was not given, or came back twice.
     Foreign(u32),
-    /// X3: the count of this number's seat is not that of its starts in the history, or its receipts are not those that were kept.
+    /// X3: the count of this number's seat differs from the number of its starts in the history, or its receipts differ from the lock's
+    /// copies.
     Receipt(u32),
 }
 
@@ -40,7 +41,7 @@ fn has_account(accounts: &[Account], number: u32) -> bool
     false
 }
 
-/// Returns whether one of the first seats has this number.
+/// Returns whether one of the first `before` seats has this number.
 fn has_seat(seats: &[Seat], before: usize, number: u32) -> bool
     requires { before ≤ length seats.now }
     ensures has { result ≡ true → HasSeat seats.now before number }
@@ -54,7 +55,7 @@ fn has_seat(seats: &[Seat], before: usize, number: u32) -> bool
     false
 }
 
-/// Returns the less of the number that is kept and this one, if this one is bad.
+/// Returns the lesser of the number found so far and this one, if this one is bad; otherwise the number found so far.
 fn keep(found: Option<u32>, number: u32, bad: bool) -> Option<u32>
     ensures { result ≡ keep found number bad }
 {
@@ -86,7 +87,7 @@ fn first_missing(accounts: &[Account], seats: &[Seat]) -> Option<u32>
     found
 }
 
-/// Returns whether the seat at this place was not given, or an earlier one has its number.
+/// Returns whether the seat at this place was not given, or an earlier seat has its number.
 fn is_foreign(accounts: &[Account], seats: &[Seat], at: usize, number: u32) -> bool
     requires { at ≤ length seats.now }
     ensures foreign { result ≡ true → ¬ (IsGiven accounts.now number) ⊎ HasSeat seats.now at number }
@@ -122,7 +123,7 @@ fn agrees(account: &Account, seat: &Seat) -> bool
     account.receipts().same(seat.receipts())
 }
 
-/// Returns whether the account is of the seat's number and does not agree with it.
+/// Returns whether the account has the seat's number, but does not agree with the seat.
 fn disagrees(account: &Account, seat: &Seat) -> bool
     ensures disagree { result ≡ true → (account.now.number ≡ seat.now.number) × ¬ (Agrees started_by account.now seat.now) }
     ensures agree { result ≡ false → account.now.number ≡ seat.now.number → Agrees started_by account.now seat.now }

@@ -1,4 +1,4 @@
-//! The locked kernel: a recorded kernel, and the seats that enter calls.
+//! The locked kernel: a recorded kernel, and the seats that enter calls into it.
 #![tactic(auto)]
 
 mod accounts;

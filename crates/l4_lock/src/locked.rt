@@ -106,8 +106,8 @@ impl Locked {
         let _ = &self.alloc;
     }
 
-    /// Ghost function: gives a proof what holds of the whole history. The history is one run of the machine from boot. Each present page
-    /// has its provenance in it, a flush removes what came through its pages, and each delivered delegation has its whole effect. It
+    /// Ghost function: gives a proof the invariants of the whole history. The history is one run of the machine from boot. Each present
+    /// page has its provenance in it, a flush removes what came through its pages, and each delivered delegation has its whole effect. It
     /// compiles to nothing.
     pub fn law_history(&self)
         ensures { IsWholeRun self.now.frames self.now.history self.now.kernel }
@@ -145,8 +145,8 @@ impl Locked {
         Ok(())
     }
 
-    /// Enters a call of the seat's thread. Executes its start, and then the steps that come next, until there is none: at most 128. All of
-    /// them are appended to the history.
+    /// Enters a call of the seat's thread. Executes its start, and then the next step until no step is enabled: at most 128. All of them
+    /// are appended to the history.
     ///
     /// Returns these refusals, tested in this order: `ReplyWaiting` (L3), `HistoryFull` (L1), `NoMemory` (L2), `Kernel` (L5), which is
     /// `UnknownThread` if the seat was not given by this lock. After a refusal, nothing has changed.
@@ -171,7 +171,7 @@ impl Locked {
         Ok(Entered::Waiting)
     }
 
-    /// Enters a call up to what its seat gains, for which the seat has room. Returns the index of its account.
+    /// Does the part of `enter` that does not change the seat, for which the seat has room. Returns the index of the seat's account.
     fn admit(&mut self, number: u32, has_room: bool, call: &Call) -> Result<usize, LockRefusal>
         ensures ok { IfOk result (λ at. IsAdmitted self.old self.new number call.now at) }
         ensures room { IfOk result (λ _. has_room ≡ true) }
@@ -203,7 +203,7 @@ impl Locked {
         Ok(at)
     }
 
-    /// Takes the reply of a call that was left waiting and has ended since. Returns None if no reply waits.
+    /// Takes the reply of a call that was left waiting and has since ended. Returns None if there is no such reply.
     pub fn take(&mut self, seat: &mut Seat) -> Option<Reply>
         ensures some { IfSome result (λ reply. Takes self.old self.new seat.old seat.new (λ call. call) reply) }
         ensures none { IfNone result ((self.new ≡ self.old) × (seat.new ≡ seat.old)
@@ -232,10 +232,10 @@ impl Locked {
         self.accounts.finish(at, seat, Some(call))
     }
 
-    /// Closes the lock: returns the history and the kernel, with what holds of the whole history, if exactly the seats that were given come
-    /// back and agree with their accounts.
+    /// Closes the lock, if exactly the seats that were given come back and agree with their accounts. Returns the history and the kernel;
+    /// the contract states the invariants of the whole history.
     ///
-    /// Otherwise returns everything that was passed, and how the seats differ: X1, X2 or X3.
+    /// Otherwise returns everything that was passed, and the first difference: X1, X2 or X3.
     pub fn close(self, seats: Vec<Seat>) -> Result<(History, Kernel), Unclosed>
         ensures ok { IfOk result (λ r. (r.0.entries ≡ self.history) × (r.1 ≡ self.kernel) × Closes self seats.items) }
         ensures history { IfOk result (λ r. IsWholeRun self.frames r.0.entries r.1) }

@@ -28,7 +28,7 @@ impl Model for Receipts {
 }
 
 impl Receipts {
-    /// No receipts.
+    /// Returns an empty list.
     pub(crate) fn new(alloc: Global) -> Receipts
         ensures { (result.items ≡ []) × (result.room < 2 ^ 63) }
     {
@@ -139,7 +139,7 @@ fn same_receipt(a: &Receipt, b: &Receipt) -> bool
     true
 }
 
-/// Returns whether the receipts of this place are the same.
+/// Returns whether the receipts at this place are the same.
 fn same_at(a: &Receipts, b: &Receipts, place: usize) -> bool
     requires a { place < length a.now.items }
     requires b { place < length b.now.items }

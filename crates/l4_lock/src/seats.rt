@@ -85,7 +85,7 @@ impl Seat {
         true
     }
 
-    /// One call fewer is left waiting.
+    /// Counts one call fewer that is left waiting.
     pub(crate) fn wait_less(&mut self)
         requires { self.old.waiting ≢ 0 }
         ensures { self.old ≡ record self.new { waiting = self.new.waiting + 1 } }
@@ -93,7 +93,7 @@ impl Seat {
         self.waiting -= 1;
     }
 
-    /// A call that was left waiting has its receipt.
+    /// Adds the receipt of a call that was left waiting.
     fn receive(&mut self, call: &Call, start: usize, ended: &Ended)
         requires { self.old.waiting ≢ 0 }
         ensures receipts { self.new.receipts ≡ self.old.receipts ++ receipt call.now start ended.now ∷ [] }
@@ -104,7 +104,7 @@ impl Seat {
     }
 }
 
-/// Returns the reply of a thread's last ended call, or Gone if the thread no longer exists.
+/// Returns the reply of a thread's last ended call, or `Gone` if the thread no longer exists.
 fn last_reply(kernel: &Kernel, number: u32) -> Reply
     ensures { result ≡ reply_in kernel.now number }
 {
@@ -193,7 +193,7 @@ impl Account {
         self.pending.is_some()
     }
 
-    /// Returns whether a call has ended that has not been taken yet.
+    /// Returns whether a call has ended and has not been taken yet.
     pub fn has_reply(&self) -> bool
         ensures { result ≡ option_map_or has_ended self.now.pending false }
     {
@@ -226,7 +226,7 @@ impl Account {
         self.pending = None;
     }
 
-    /// Records that its pending call, if there is one, ended in the entry at this place. Returns whether there is a reply since then.
+    /// Records that its pending call, if there is one, ended in the entry at this place. Returns whether the call's reply is new.
     pub fn end(&mut self, kernel: &Kernel, place: usize) -> bool
         ensures noted { self.new ≡ noted kernel.now (self.old.number ∷ []) place self.old }
         ensures more { result ≡ true → (has_reply self.old ≡ false) × (has_reply self.new ≡ true) }
@@ -239,7 +239,7 @@ impl Account {
     }
 }
 
-/// Returns the call that the seat knows of, and else the account's.
+/// Returns the call that the seat passed, or the account's if it passed none.
 fn known<'a>(own: Option<&'a Call>, call: &'a Call) -> &'a Call
     ensures { result.now ≡ own_call (option_copied own.entry) call.now }
 {
@@ -249,8 +249,8 @@ fn known<'a>(own: Option<&'a Call>, call: &'a Call) -> &'a Call
     }
 }
 
-/// Takes the account's call, if it has ended, and answers its reply: the account and the seat gain its receipt. The seat's has the call that the
-/// seat knows of.
+/// Takes the account's call, if it has ended, and returns its reply. The account and the seat gain its receipt. The seat's receipt has the
+/// call that the seat passed.
 pub(crate) fn settle(account: &mut Account, seat: &mut Seat, own: Option<&Call>) -> Option<Reply>
     requires { seat.old.waiting ≢ 0 }
     ensures some { IfSome result (λ reply. Settles account.old account.new seat.old seat.new (own_call (option_copied own.entry)) reply) }

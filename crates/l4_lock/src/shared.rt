@@ -19,8 +19,8 @@ use std::alloc::Global;
 use std::marker::Model;
 use std::sync::{Condvar, Mutex, Wait};
 
-/// A locked kernel that threads share, and its board. Contracts see which board it is. Of the value under the lock, they know the invariant
-/// of the type `Locked`.
+/// A locked kernel that threads share, and its board. Contracts see which board it is. They know the invariant of `Locked` for the value
+/// under the lock, but not the value.
 #[derive(Drop)]
 pub struct KernelLock {
     locked: Mutex<Locked>,
@@ -124,7 +124,7 @@ impl KernelLock {
         }
     }
 
-    /// Returns the locked kernel, with its invariant. It waits for nobody.
+    /// Returns the locked kernel, with its invariant. No thread can hold the lock, so the call does not wait.
     pub fn unlock(self) -> Locked
         ensures { IsKept result }
     {

@@ -16,7 +16,7 @@ use crate::refusals::{LockRefusal, refusal_of};
 use l4_ipc::{Call, Kernel, NextStep, Refused};
 use l4_record::{Appended, Recorder};
 
-/// Notes at the account of this number that its call ended in the entry of this place.
+/// Records in the account of this number that its call ended in the entry at this place.
 fn note_one(accounts: &mut Accounts, kernel: &Kernel, number: u32, place: usize)
     requires { IsOnce (numbers accounts.old.items) }
     ensures { accounts.new.items ≡ map (noted kernel.now (number ∷ []) place) accounts.old.items }
@@ -26,7 +26,7 @@ fn note_one(accounts: &mut Accounts, kernel: &Kernel, number: u32, place: usize)
     }
 }
 
-/// Notes at each account that these calls ended in the entry of this place.
+/// Records in each account of these numbers that its call ended in the entry at this place.
 #[inline(always)]
 fn note_all(accounts: &mut Accounts, kernel: &Kernel, ended: &[u32], place: usize)
     requires { IsOnce (numbers accounts.old.items) }
@@ -37,7 +37,7 @@ fn note_all(accounts: &mut Accounts, kernel: &Kernel, ended: &[u32], place: usiz
     }
 }
 
-/// Notes at each account the calls that ended in a step that came next, whose entry is that of this place.
+/// Records in each account the calls that ended in a next step, whose entry is at this place.
 fn note_next(accounts: &mut Accounts, kernel: &Kernel, next: NextStep, place: usize)
     requires { IsOnce (numbers accounts.old.items) }
     ensures { accounts.new.items ≡ map (noted kernel.now (answer_of next).ended.items place) accounts.old.items }

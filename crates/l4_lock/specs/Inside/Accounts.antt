@@ -1,4 +1,4 @@
--- The books of the numbers whose seats were given, and how many of them have a reply. (this profile's own)
+-- The books of the numbers whose seats were given, and how many of them have a reply (this profile's own).
 use Rattle.std.specs.Prelude.{◌≡◌, ℕ, ◌+◌, Bool, false, if◌then◌else◌, List, [], ◌∷◌, Some, slice_get, slice_set}
 use Rattle.std.specs.Option.{option_map_or}
 use Rattle.l4_threads.specs.declared.Reply.{Reply}
@@ -12,19 +12,19 @@ pub record BookList : Type 0 where
 abbrev pub book_list : List Book → BookList
 book_list items = record { items = items }
 
--- the book's call has ended and isn't taken yet
+-- the book's call has ended and has not been taken yet
 abbrev pub has_reply : Book → Bool
 has_reply b = option_map_or has_ended b.pending false
 
 abbrev pub reply_count : Book → ℕ
 reply_count b = if has_reply b then 1 else 0
 
--- how many books have such a call
+-- the number of books that have such a call
 abbrev pub replies_in : List Book → ℕ
 replies_in [] = 0
 replies_in (b ∷ bs) = reply_count b + replies_in bs
 
--- The call of the book at this place has ended and is taken by the seat; the other books stay.
+-- The call of the book at this place has ended, and the seat takes it. The other books are unchanged.
 pub record SettlesAt (books later : List Book) (place : ℕ) (before after : SeatState) (own : Call → Call) (reply : Reply) : Type 0 where
   pub former : Book
   pub at : slice_get books place ≡ Some former

@@ -1,14 +1,15 @@
--- What the loops of `close` have found so far. (this profile's own)
+-- What the loops of `close` have found so far (this profile's own).
 use Rattle.std.specs.Prelude.{◌≡◌, ℕ, ◌<◌, Bool, if◌then◌else◌, nat_le, List, Option, Some, None, slice_get}
 use Rattle.std.specs.Option.{option_map_or}
 use Rattle.l4_lock.specs.Books.{SeatState, Book}
 use Rattle.l4_lock.specs.Closing.{HasSeat, IsGiven, IsBack, AllAgree, IsMissing, IsForeign, IsWrong}
 
--- the number that is kept after one more
+-- the least bad number so far, after one more number
 abbrev pub keep : Option ℕ → ℕ → Bool → Option ℕ
 keep found n bad = if bad then Some (option_map_or (λ m. if nat_le m n then m else n) found n) else found
 
--- What is known once the first books, or seats, were looked at: each of them is fine, or the least number of those that aren't is kept.
+-- The state of a loop after the first i books, or seats: None if all of them are fine, and otherwise the least number of those that are
+-- not.
 abbrev pub SoFarMissing : List Book → List SeatState → ℕ → Option ℕ → Type 0
 SoFarMissing books seats i None = (k : ℕ) (b : Book) → k < i → slice_get books k ≡ Some b → IsBack seats b.number
 SoFarMissing books seats i (Some n) =

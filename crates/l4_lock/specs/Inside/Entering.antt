@@ -1,4 +1,4 @@
--- A call as it is entered. (this profile's own)
+-- A call as it is entered (this profile's own).
 use Rattle.std.specs.Prelude.{◌≡◌, ℕ, ◌+◌, List, Some, None, length, map, slice_get, slice_set}
 use Rattle.l4_ipc.specs.declared.calls.Call.{Call}
 use Rattle.l4_ipc.specs.Machine.{Machine}
@@ -9,12 +9,12 @@ use Rattle.l4_lock.specs.declared.entries.Pending.{Pending}
 use Rattle.l4_lock.specs.Books.{SeatState, Book, plain, numbers, IsOnce, HasNotEnded, AreRight}
 use Rattle.l4_lock.specs.Locked.{Lock, recording_of}
 
--- the book at this place is the number's, and its call that isn't taken yet has not ended
+-- the book at this place has this number, and its pending call, if there is one, has not ended
 abbrev pub IsReady : List Book → ℕ → ℕ → List Entry → Machine → Type 0
 IsReady books place n history m =
     (b : Book) × (slice_get books place ≡ Some b) × (b.number ≡ n) × ((p : Pending) → b.pending ≡ Some p → HasNotEnded history m n p.start)
 
--- A call was begun: it was entered, its book knows of it, and what ended is noted.
+-- A call was begun: it was entered, its book has it, and the calls that ended are recorded in their books.
 pub record Begins (n : ℕ) (call : Call) (old new : Recording) (books later : List Book) (place : ℕ) : Type 0 where
   pub appended : Appended
   pub recorded : Recorded old new n call appended
@@ -33,11 +33,11 @@ pub record Begins (n : ℕ) (call : Call) (old new : Recording) (books later : L
   pub pending_call : pending.call ≡ call
   pub pending_start : pending.start ≡ length old.history
 
--- A call was entered, and its seat has not gained its receipt: it is left waiting so far.
+-- A call was entered, and its seat has not gained its receipt yet: so far, the call is left waiting.
 pub record IsAdmitted (old new : Lock) (n : ℕ) (call : Call) (place : ℕ) : Type 0 where
   pub apart : IsOnce (numbers old.books)
   pub begins : Begins n call (recording_of old) (recording_of new) old.books new.books place
 
--- the seat has one call more that is left waiting
+-- one more call of the seat is left waiting
 abbrev pub WaitsMore : SeatState → SeatState → Type 0
 WaitsMore before after = after ≡ record before { waiting = before.waiting + 1 }

@@ -1,4 +1,4 @@
--- How a book is noted after each step. (this profile's own)
+-- How a book changes with each step (this profile's own).
 use Rattle.std.specs.Prelude.{ℕ, ◌+◌, if◌then◌else◌, List, [], ◌∷◌, length, map, Option, Some, None, false}
 use Rattle.std.specs.Option.{option_map, option_map_or}
 use Rattle.l4_threads.specs.declared.Reply.{Reply}
@@ -11,7 +11,7 @@ use Rattle.l4_ipc.specs.Reading.{reply_of}
 use Rattle.l4_lock.specs.declared.entries.Pending.{Pending}
 use Rattle.l4_lock.specs.Books.{Book, pending_count, is_among, has_ended}
 
--- the calls that were begun for a number
+-- the number of calls that were begun for the book's number
 abbrev pub started_by : Book → ℕ
 started_by b = length b.receipts + pending_count b.pending
 
@@ -19,7 +19,7 @@ started_by b = length b.receipts + pending_count b.pending
 abbrev pub reply_in : Machine → ℕ → Reply
 reply_in m n = option_map_or (λ reply. reply) (reply_of m.threads n) Gone
 
--- a pending call after a step at this place, in which these calls ended
+-- a pending call after the step whose entry is at this place and in which these calls ended
 abbrev pub noted_call : Machine → List ℕ → ℕ → ℕ → Pending → Pending
 noted_call m ended place number o =
     option_map_or (λ e. o) o.ended
@@ -28,11 +28,11 @@ noted_call m ended place number o =
 abbrev pub noted : Machine → List ℕ → ℕ → Book → Book
 noted m ended place b = record b { pending = option_map (noted_call m ended place b.number) b.pending }
 
--- the call that a seat knows of, and else the one that the lock kept
+-- the call that the seat passed, or the lock's copy if it passed none
 abbrev pub own_call : Option Call → Call → Call
 own_call own call = option_map_or (λ c. c) own call
 
--- the books once the steps that came next are noted, whose entries stand from this place on
+-- the books after the next steps are recorded in them; the entries of the steps begin at this place
 abbrev pub noted_steps : Machine → ℕ → List NextStep → List Book → List Book
 noted_steps m place [] books = books
 noted_steps m place (next ∷ steps) books = noted_steps m (place + 1) steps (map (noted m (answer_of next).ended.items place) books)
