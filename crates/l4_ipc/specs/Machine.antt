@@ -1,4 +1,4 @@
--- The kernel as one value, and what it is at the start.
+-- The kernel as one value, and its state at boot.
 use Rattle.std.specs.Prelude.{◌≡◌, ℕ, refl}
 use Rattle.std.specs.FinSet as set
 use Rattle.std.specs.Coded.{Coded, code_by, coded×}
@@ -9,7 +9,7 @@ use Rattle.l4_threads.specs.Threads.{Threads, first_threads, threads_code}
 use Rattle.l4_fpage.specs.declared.sizes.PageSize.{PageSize}
 use Rattle.l4_fpage.specs.Pages.{size_code}
 
--- the size of its pages, who there is and what each does, and what each space shows
+-- the page size, the threads with their states, and the mappings of every space
 pub record Machine : Type 0 where
   pub size : PageSize
   pub threads : Threads
@@ -19,7 +19,8 @@ pub record Machine : Type 0 where
 abbrev pub machine : PageSize → Threads → Mappings → Machine
 machine size t s = record { size = size; threads = t; mappings = s }
 
--- the kernel as it boots, whatever the size of its pages (this profile's own): sigma0 and root run, space 0 shows each frame at the page of its number, and space 1 shows none
+-- The kernel at boot, with any page size (this profile's own). sigma0 and root are running, space 0 has each frame mapped at the page of
+-- its number, and space 1 is empty.
 pub record IsBoot (frames : ℕ) (m : Machine) : Type 0 where
   pub threads : m.threads ≡ first_threads
   pub first : Mappings

@@ -1,5 +1,5 @@
--- What the items of a message do to the mappings when it is delivered. (L4 X.2 manual: map and grant items; that a message which
--- contradicts itself moves nothing is this profile's own.)
+-- The effect of a message's items on the mappings when the message is delivered (L4 X.2 manual: map and grant items; that a message with
+-- conflicting items moves nothing is this profile's own).
 use Rattle.std.specs.Prelude.{◌≡◌, ◌≢◌, ℕ, List, [], Some, slice_get}
 use Rattle.l4_fpage.specs.Rights.{common, no_rights}
 use Rattle.l4_fpage.specs.Fpages.{rights_of}
@@ -13,8 +13,8 @@ use Rattle.l4_ipc.specs.declared.steps.Outcome.{Outcome}
 use Rattle.l4_ipc.specs.declared.steps.Outcome.TheVariants.{Started, Done, NoWindow, Entangled, NoMemory, Expired}
 use Rattle.l4_fpage.specs.declared.sizes.PageSize.{PageSize}
 
--- The move is used: the item of its number moves its source to its target in the window, the source is present, and the rights
--- that it has in common with the item are not none. All is read from the mappings before the step.
+-- The move is used: the item with its number moves its source to its target in the window, the source is present, and source and item have
+-- a right in common. All of this is about the mappings before the step.
 pub record IsUsedBy (size : PageSize) (old : Mappings) («from» to : ℕ) (items : List Item) (window : Fpage) (move : PageMove) : Type 0 where
   pub by : Item
   pub item : slice_get items move.item ≡ Some by
@@ -34,7 +34,7 @@ module _ (size : PageSize) (old : Mappings) («from» to : ℕ) (items : List It
   abbrev pub LacksWindow : Type 0
   LacksWindow = (items ≢ []) × (window ≡ Nil)
 
-  -- the mappings after a transfer of this outcome: no page moves but by a delivery
+  -- the mappings after a transfer with this outcome; pages move only if the message is delivered
   abbrev pub Moves : Outcome → Mappings → Type 0
   Moves NoWindow new = LacksWindow × (new ≡ old)
   Moves Entangled new = ¬ LacksWindow × IsEntangled Used old × (new ≡ old)

@@ -1,4 +1,4 @@
--- Steps that come next, told without a list of threads. (this profile's own)
+-- Next steps with their answers, without a list of threads (this profile's own).
 use Rattle.std.specs.Prelude.{ℕ, Bool, [], ◌∷◌, ◌++◌}
 use Rattle.l4_ipc.specs.declared.steps.Answer.{Answer}
 use Rattle.l4_ipc.specs.declared.steps.NextStep.{NextStep}
@@ -9,7 +9,7 @@ use Rattle.l4_ipc.specs.declared.steps.Step.{Step}
 use Rattle.l4_ipc.specs.declared.steps.Step.TheVariants.{Transfer, Expire}
 use Rattle.l4_ipc.specs.OwnCall.{ended_if}
 
--- the answer of a transfer: the receiver's call ended, and before it the sender's, where it did
+-- the answer of a transfer: the receiver's call ended, and before it the sender's if `ends` is true
 abbrev pub transfer_answer : ℕ → ℕ → Outcome → Bool → Answer
 transfer_answer sender receiver outcome ends = record { outcome = outcome; ended = record { items = ended_if ends sender ++ receiver ∷ [] } }
 

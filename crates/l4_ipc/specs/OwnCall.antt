@@ -1,4 +1,4 @@
--- The answer of a start in which no other thread's call ended. (this profile's own)
+-- The answer of a start in which no other thread's call ended (this profile's own).
 use Rattle.std.specs.Prelude.{ℕ, Bool, true, false, List, [], ◌∷◌}
 use Rattle.l4_ipc.specs.declared.steps.Answer.{Answer}
 use Rattle.l4_ipc.specs.declared.steps.Outcome.TheVariants.{Started}
@@ -8,6 +8,6 @@ abbrev pub ended_if : Bool → ℕ → List ℕ
 ended_if true n = n ∷ []
 ended_if false n = []
 
--- the answer of a start in which this thread's call ended alone, or none did
+-- the answer of a start in which this thread's call ended, or none did
 abbrev pub own_answer : Bool → ℕ → Answer
 own_answer ended n = record { outcome = Started; ended = record { items = ended_if ended n } }

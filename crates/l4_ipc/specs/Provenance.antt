@@ -1,5 +1,5 @@
--- From where a present place has what it shows: the chain of moves that led to it, told by the steps of a run and never by the parents
--- of places (this profile's own).
+-- How the mapping of a present place got there: the chain of moves that led to it, defined by the steps of a run and not by the parents of
+-- places (this profile's own).
 use Rattle.std.specs.Prelude.{◌≡◌, ◌≢◌, ℕ, ◌⊎◌, List, [], ◌∷◌, ◌++◌, Some, Ok, Contains, IsTrue, slice_get}
 use Rattle.std.specs.List.{All}
 use Rattle.l4_fpage.specs.Rights.{Right, has, Within}
@@ -29,7 +29,7 @@ IsOfSigma0 place = place.space ≡ 0
 
 -- CHAINS OF MOVES
 
--- One transfer of a chain: the move of a page, with what its source showed just before, and the item that named it.
+-- One transfer of a chain: the move of a page, with the mapping of its source just before the transfer, and the item that named the page.
 pub record Link : Type 0 where
   pub move : PageMove
   pub item : Item
@@ -50,8 +50,8 @@ pub record LeavesAlone (event : Event) (place : Place) : Type 0 where
   pub after : IsPresent event.after.mappings place
   pub not_written : (link : Link) → Brings event link → link.move.target ≢ place
 
--- Over these events, in their order, the links lead from the first place to the last: an event leaves alone the place that was
--- reached, or it is a delivered transfer and one of its used moves goes on from there.
+-- Over these events, in order, the links lead from the first place to the last. Each event leaves the place that was reached alone, or it
+-- is a delivered transfer, and one of its used moves continues from that place.
 abbrev pub Leads : List Event → Place → List Link → Place → Type 0
 Leads [] first links last = (links ≡ []) × (first ≡ last)
 Leads (event ∷ events) first links last =
@@ -59,9 +59,9 @@ Leads (event ∷ events) first links last =
     ⊎ ((link : Link) × (later : List Link) × (links ≡ link ∷ later)
     × Brings event link × (link.move.source ≡ first) × Leads events link.move.target later last)
 
--- A place that is present after the events has a provenance, and only one: links lead to it from a place of sigma0 that was there before them all,
--- and no other links do, nor from another place. It shows the frame that this one showed. Its rights are within those that each link's
--- source showed just before the transfer, those that each link's item named, and those of each place from which it descends now.
+-- A place that is present after the events has exactly one provenance: the links lead to it from a place of sigma0 that was present before
+-- all events, and no other links and no other place do. Its frame is that of the place of sigma0. Its rights are within those that each
+-- link's source had just before the transfer, those that each link's item named, and those of each place from which it now descends.
 pub record HasProvenance (start : Mappings) (events : List Event) (now : Mappings) (place : Place) (shows : Mapping) : Type 0 where
   pub origin : Place
   pub of_sigma0 : IsOfSigma0 origin
@@ -81,7 +81,7 @@ HaveProvenance start events now = (place : Place) (shows : Mapping) → shown no
 
 -- WHAT A FLUSH ENDS
 
--- the event is an Unmap with f that names the place, as a page of the caller's own, with every right
+-- the event is an Unmap with f that names the place, in the caller's own space, with every right
 pub record Flushes (event : Event) (place : Place) : Type 0 where
   pub number : ℕ
   pub call : UnmapCall
@@ -96,8 +96,8 @@ pub record Flushes (event : Event) (place : Place) : Type 0 where
   pub space : place.space ≡ caller.space
   pub named : (right : Right) → (fpage : Fpage) × Contains fpages fpage × IsTrue (has (rights_of fpage) right) × HoldsPage event.before.size fpage place.page
 
--- The provenance of the last place leads through this one, as it stood before the rest of the events: it reached the place after
--- the earlier events, none of the events since then removed the place or wrote it again, and from there it leads on.
+-- The provenance of the last place leads through this one, as it was before `rest`: the links reached this place after the earlier events,
+-- no event since then removed it or wrote it again, and further links lead on from it.
 pub record LeadsThrough (start : Mappings) (earlier since rest : List Event) (through last : Place) : Type 0 where
   pub origin : Place
   pub of_sigma0 : IsOfSigma0 origin
@@ -108,7 +108,7 @@ pub record LeadsThrough (start : Mappings) (earlier since rest : List Event) (th
   pub further : List Link
   pub on : Leads (since ++ rest) through further last
 
--- after a flush no place that is present has a provenance through a place that was named, as it stood just before
+-- after a flush, no present place has a provenance through a place that the flush named, as that place was just before
 abbrev pub NoneThroughFlushed : Mappings → List Event → Mappings → Type 0
 NoneThroughFlushed start events now =
     (earlier since later : List Event) (event : Event) → events ≡ earlier ++ (since ++ event ∷ later)

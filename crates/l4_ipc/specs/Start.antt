@@ -1,5 +1,5 @@
--- How a call starts: each refusal in its order, and what the caller does next.
--- (L4 X.2 manual: Ipc, Unmap, ThreadControl and the page fault protocol; the timeouts, the fault label and the ErrorCodes are this profile's own.)
+-- How a call starts: the refusals in their order, and what the caller does next (L4 X.2 manual: Ipc, Unmap, ThreadControl and the page
+-- fault protocol; the timeouts, the fault label and the ErrorCodes are this profile's own).
 use Rattle.std.specs.Prelude.{◌≡◌, ℕ, ◌+◌, ◌/◌, ◌%◌, ◌^◌, ◌==◌, ◌&&◌, ◌||◌, not, ◌⊎◌, Bool, true, false, if◌then◌else◌, List, [], ◌∷◌, take, Option, Some, None, option_and_then, MatchOption, Err}
 use Rattle.std.specs.Option.{option_map_or}
 use Rattle.l4_fpage.specs.Rights.{RightsSet, is_none, without, all_rights}
@@ -38,9 +38,9 @@ use Rattle.l4_ipc.specs.declared.sent.Sent.{Sent}
 use Rattle.l4_ipc.specs.Machine.{Machine}
 use Rattle.l4_fpage.specs.declared.sizes.PageSize.{PageSize}
 
--- WHAT THE PHASES OF AN IPC BRING
+-- WHAT THE PHASES OF AN IPC PASS ON
 
--- the values of a timeout, one half of the timeouts word
+-- the number of values of a timeout, which is one half of the timeouts word
 abbrev pub timeout_values : ℕ
 timeout_values = 2 ^ 16
 
@@ -60,7 +60,7 @@ receive_timeout call = call.timeouts % timeout_values
 abbrev pub is_timeout : ℕ → Bool
 is_timeout timeout = (timeout == 0) || (timeout == 0x400)
 
--- the timeout of a phase that the call has is neither
+-- the timeout of a phase that the call has is neither never nor zero
 abbrev pub has_bad_timeout : IpcCall → Bool
 has_bad_timeout call = (has_send call && not (is_timeout (send_timeout call))) || (has_receive call && not (is_timeout (receive_timeout call)))
 
@@ -78,7 +78,7 @@ abbrev pub IsWindow : Bool → ℕ → Fpage → Type 0
 IsWindow true acceptor window = WindowReads acceptor window
 IsWindow false acceptor window = window ≡ Nil
 
--- nothing in the words of the call is refused, and this is what its phases bring
+-- no word of the call is refused, and this is the message that it sends and the window in which it receives
 pub record IsAccepted (call : IpcCall) (sent : Sent) (window : Fpage) : Type 0 where
   pub timeouts : has_bad_timeout call ≡ false
   pub sends : IsSent (has_send call) call.words.items sent
@@ -86,7 +86,7 @@ pub record IsAccepted (call : IpcCall) (sent : Sent) (window : Fpage) : Type 0 w
 
 -- REFUSALS
 
--- the message is refused, or it is not and the window is malformed
+-- the message is refused; or it is valid, and the window is not
 abbrev pub PhaseFails : IpcCall → MsgFault → Type 0
 PhaseFails call fault =
     ((has_send call ≡ true) × MessageFails call.words.items fault)
@@ -118,30 +118,30 @@ StartRefuses m n call e = MatchOption (state_of m.threads n) (e ≡ UnknownThrea
 
 -- WHAT THE CALLER DOES NEXT
 
--- the reply of an Ipc that moves nothing and names nobody
+-- the reply of an Ipc that received nothing
 abbrev pub plain_reply : Reply
 plain_reply = IpcReply (record { tag = 0; error = 0; «from» = nilthread; words = record { items = [] } })
 
--- the receive phase begins: it takes messages of anybody, or of a thread that is there
+-- the receive phase begins: it accepts messages from any thread, or from one that exists; if that thread does not exist, the call fails
 abbrev pub receiving : Threads → Later → Bool → Next
 receiving t later fault =
     if later.«from».0 == 0xffff_ffff then Receives (record { «from» = Anyone; window = later.window; expires = later.expires; fault = fault }) else
     option_map_or (λ n. Receives (record { «from» = One n; window = later.window; expires = later.expires; fault = fault })) (named t later.«from») (Ends (failed fault 5))
 
--- the receive phase of a call
+-- the receive phase of a call, if it has one
 abbrev pub later_of : IpcCall → Fpage → Option Later
 later_of call window = if has_receive call then Some (record { «from» = call.«from»; window = window; expires = receive_timeout call == 0x400 }) else None
 
--- what is left of a call once it has sent: its receive phase, or nothing
+-- what a call does after its send phase: its receive phase, or it ends
 abbrev pub going_on : Threads → Option Later → Bool → Next
 going_on t None fault = Ends plain_reply
 going_on t (Some later) fault = receiving t later fault
 
--- the partner of a send phase: a thread other than the caller; anythread names nobody
+-- the partner of a send phase, a thread other than the caller; anythread names none
 abbrev pub partner : Threads → ℕ → ThreadId → Option ℕ
 partner t caller id = if id.0 == 0xffff_ffff then None else option_and_then (λ n. if n == caller then None else Some n) (named t id)
 
--- an Ipc starts: it sends to its partner, if it is there, and without a send phase it receives
+-- An Ipc starts: it sends to its partner, if that exists, and fails if it does not. Without a send phase it receives.
 abbrev pub ipc_next : Threads → ℕ → IpcCall → Sent → Fpage → Next
 ipc_next t n call sent window =
     if has_send call then
@@ -149,30 +149,30 @@ ipc_next t n call sent window =
     (partner t n call.to) (Ends (failed false 4))
     else going_on t (later_of call window) false
 
--- the space shows the page, with all rights of the access
+-- the page is present in the space, with at least one right and all rights of the access
 abbrev pub has_page : PageSize → Mappings → ℕ → FaultCall → Bool
 has_page size s space call = holds (rights_at s (record { space = space; page = call.address / page_bytes size })) where
   holds : RightsSet → Bool
   holds rights = is_none (without call.access rights) && not (is_none rights)
 
--- the words that tell the fault to the pager: those of the message of a page fault
+-- the words with which the fault is reported to the pager: those of the message of a page fault
 abbrev pub fault_words : FaultCall → List ℕ
 fault_words call = message_words (fault_message (record { address = call.address; ip = call.ip; access = call.access }))
 
--- a fault starts: it is a hit, or it is sent to the pager, from which it then receives
+-- a fault starts: it is a hit, or it is sent to the pager, from which the thread then receives
 abbrev pub fault_next : PageSize → Threads → Mappings → ℕ → ℕ → ThreadId → FaultCall → Next
 fault_next size t s n space pager call =
     if has_page size s space call then Ends Hit else
     option_map_or (λ to. Sends (record { words = record { items = fault_words call }; items = record { items = [] }; to = to; expires = false; «then» = Some (record { «from» = pager; window = Complete all_rights; expires = false }); fault = true }))
     (partner t n pager) (Ends (failed true 4))
 
--- the thread does this next
+-- the threads after the thread does this next
 abbrev pub enters : Threads → ℕ → Next → Threads
 enters t n (Ends reply) = end_call t n reply
 enters t n (Sends s) = start_send t n s
 enters t n (Receives r) = start_receive t n r
 
--- the list of the thread if its call ends with this
+-- the list with this thread if its call ends, and otherwise the empty list
 abbrev pub ended_by : ℕ → Next → List ℕ
 ended_by n (Ends reply) = n ∷ []
 ended_by n (Sends s) = []

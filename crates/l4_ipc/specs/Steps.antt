@@ -1,5 +1,5 @@
--- The machine's steps. From one state a step may give an answer, or a refusal, and go on to another state.
--- (L4 X.2 manual: IPC, ThreadControl, Unmap; the step as one atomic event is this profile's own.)
+-- The machine's steps. From one state, a step may give an answer or a refusal, and lead to another state (L4 X.2 manual: IPC,
+-- ThreadControl, Unmap; that a step is one atomic event is this profile's own).
 use Rattle.std.specs.Prelude.{◌≡◌, ℕ, ◌⊎◌, Bool, true, false, if◌then◌else◌, List, [], ◌∷◌, ◌++◌, drop, slice_index, ◌↔◌, Contains, IsTrue, Some, Result, Ok, Err}
 use Rattle.std.specs.List.Sorted.{IsStrictlyIncreasing}
 use Rattle.std.specs.FinSet as set
@@ -48,7 +48,7 @@ pub record IsDeleteList (caller victim : ℕ) (old new : Machine) (ended : List 
   pub rising : IsStrictlyIncreasing others
   pub each : (n : ℕ) → Contains others n ↔ IsEndedBy old.threads new.threads victim n
 
--- the thread is deleted, and its space ends with its last thread
+-- the thread is deleted, and its space is deleted with its last thread
 pub record DeletesThread (caller victim space : ℕ) (old new : Machine) : Type 0 where
   pub left : Threads
   pub deleted : Deletes victim old.threads left
@@ -58,7 +58,7 @@ pub record DeletesThread (caller victim space : ℕ) (old new : Machine) : Type 
       (HasEnded left space × EndsSpace space old.mappings new.mappings)
       ⊎ (¬ (HasEnded left space) × (new.mappings ≡ old.mappings))
 
--- with a new space there is one more space, which shows nothing
+-- the mappings with one more space, which is empty, if a new space was requested
 abbrev pub with_space : Mappings → Bool → ℕ → Mappings
 with_space s true space = record s { spaces = set.insert s.spaces space }
 with_space s false space = s
@@ -87,7 +87,7 @@ Starts old n caller (Controls (Delete id)) ended new =
     (victim : ℕ) × (thread : Thread) × (delete_test old.threads n id ≡ Ok victim) × (thread_at old.threads victim ≡ Some thread)
     × IsDeleteList n victim old new ended × DeletesThread n victim thread.space old new
 
--- memory is wanted by a Create of a new space alone, which no refusal stops
+-- only a Create of a new space that no refusal prevents can run out of memory
 abbrev pub LacksMemory : Machine → ℕ → Call → Type 0
 LacksMemory m n (Ipc call) = ⊥
 LacksMemory m n (Fault call) = ⊥
@@ -99,8 +99,8 @@ LacksMemory m n (Controls (Delete id)) = ⊥
 
 -- TRANSFER
 
--- A transfer that is enabled: the sender sends to the receiver, which accepts it, and no other such sender stands before it.
--- These are the two threads, and what each does.
+-- An enabled transfer: the sender sends to the receiver, which accepts it, and no other such sender is before it in the queue. These are
+-- the two threads, with the state of each.
 pub record Meets (t : Threads) (sender receiver : ℕ) («from» to : Thread) (sends : Sending) (takes : Receiving) : Type 0 where
   pub from_at : thread_at t sender ≡ Some «from»
   pub to_at : thread_at t receiver ≡ Some to
@@ -108,7 +108,7 @@ pub record Meets (t : Threads) (sender receiver : ℕ) («from» to : Thread) (s
   pub to_state : to.state ≡ IsReceiver takes
   pub enabled : IsFirstSender t receiver sender
 
--- what the receiver's call replies: the sender's tag, words and id; an answered fault discards them
+-- the receiver's reply: the sender's tag, words and id; if the call is a fault that was answered, these are discarded
 abbrev pub received : Thread → Sending → Receiving → Reply
 received «from» sends takes =
     if takes.fault then Answered else
@@ -122,28 +122,29 @@ is_done Entangled = false
 is_done NoMemory = false
 is_done Expired = false
 
--- what the receiver's call replies: the message where it was delivered, else ErrorCode 9
+-- the receiver's reply: the message, if it was delivered, and otherwise ErrorCode 9
 abbrev pub receiver_reply : Bool → Thread → Sending → Receiving → Reply
 receiver_reply true «from» sends takes = received «from» sends takes
 receiver_reply false «from» sends takes = failed takes.fault 9
 
--- what the sender does next: it goes on to its receive phase where the message was delivered, else its call ends with ErrorCode 8
+-- what the sender does next: if the message was delivered, it continues with its receive phase; otherwise its call ends with ErrorCode 8
 abbrev pub sender_next : Bool → Threads → Sending → Next
 sender_next true t sends = going_on t sends.«then» sends.fault
 sender_next false t sends = Ends (failed sends.fault 8)
 
--- the threads after a transfer: the receiver's call has ended, and the sender does what comes next
+-- the threads after a transfer: the receiver's call has ended, and the sender does what it does next
 abbrev pub after_transfer : Bool → Threads → ℕ → ℕ → Thread → Sending → Receiving → Threads
 after_transfer done t sender receiver «from» sends takes =
     enters (end_call t receiver (receiver_reply done «from» sends takes)) sender (sender_next done t sends)
 
--- the sender, where its call ended, and then the receiver
+-- the sender, if its call ended, and then the receiver
 abbrev pub ended_in_transfer : Bool → Threads → ℕ → ℕ → Sending → List ℕ
 ended_in_transfer done t sender receiver sends = ended_by sender (sender_next done t sends) ++ receiver ∷ []
 
 -- EXPIRE
 
--- what a call that expires replies: ErrorCode 2 as it sends, 3 as it receives (L4 X.2 manual, IPC: timeouts; the numbers are this profile's own)
+-- the reply of a call that expires: ErrorCode 2 while it sends, 3 while it receives (L4 X.2 manual, IPC: timeouts; the numbers are this
+-- profile's own)
 abbrev pub expiry : State → Reply
 expiry (Running reply) = failed false 0
 expiry (IsSender s) = failed s.fault 2
@@ -170,10 +171,10 @@ Steps old (Expire n) (Ok answer) new =
     × (answer.outcome ≡ Expired) × (answer.ended.items ≡ n ∷ []) × (new ≡ record old { threads = end_call old.threads n (expiry able.state) })
 Steps old (Expire n) (Err e) new = ¬ (CanExpire old.threads n) × (e ≡ NotEnabled) × (new ≡ old)
 
--- WHICH STEP COMES NEXT
+-- THE NEXT STEP
 
--- the step that `enabled` names: the enabled transfer whose sender stands first in the queue, and where there
--- is none the enabled expiry of the least number
+-- The step that `enabled` names: the enabled transfer whose sender is first in the queue, or, if no transfer is enabled, the enabled expiry
+-- of the lowest thread number.
 abbrev pub IsNext : Machine → Step → Type 0
 IsNext m (Start n call) = ⊥
 IsNext m (Transfer sender receiver) = IsNextTransfer m.threads (sender, receiver)

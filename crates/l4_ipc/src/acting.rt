@@ -1,4 +1,4 @@
-//! The steps on the kernel's parts.
+//! Executes the steps on the parts of the kernel.
 ghost use Rattle.std.specs.Prelude.{◌≡◌, ◌≤◌, ◌++◌, ◌∷◌, [], ℕ, length, true, false, IsTrue, IsSome, MatchOption, Ok, Err, IfOk, IfErr, OnOk, OnErr};
 ghost use Rattle.l4_mapdb.specs.Mappings.{Mappings};
 ghost use Rattle.l4_threads.specs.Threads.{state_of, runs, end_call};
@@ -40,10 +40,10 @@ use l4_msg::{Item, Message, Tag};
 use l4_threads::{Activity, Envelope, MAX_THREADS, SendPhase, ThreadId, Threads, Wordless};
 use l4_unmap::unmap;
 
-/// The typed words of a message with one item.
+/// The number of typed words of a message with one item.
 const ITEM_WORDS: u8 = 2;
 
-/// Returns a list of one thread, if its call ends.
+/// Returns a list with this thread if its call ends, and otherwise an empty list.
 fn list_if(ends: bool, number: u32) -> ArrayVec<u32, MAX_THREADS>
     ensures items { result.items ≡ ended_if ends number }
     ensures few { length result.items ≤ 1 }
@@ -55,7 +55,7 @@ fn list_if(ends: bool, number: u32) -> ArrayVec<u32, MAX_THREADS>
     list
 }
 
-/// Writes that a call was entered, in which this thread's call ended or none did.
+/// Overwrites the answer: a call was started, in which either this thread's call ended or none did.
 fn write_started(answer: &mut Answer, number: u32, ends: bool)
     ensures { answer.new ≡ own_answer ends number }
 {
@@ -66,7 +66,7 @@ fn write_started(answer: &mut Answer, number: u32, ends: bool)
     }
 }
 
-/// Writes what a call that was entered did, or hands on why it is refused.
+/// Overwrites the answer of a call that was started, or returns the refusal.
 #[inline(always)]
 fn tell(entered: Result<bool, Refused>, number: u32, answer: &mut Answer) -> Result<(), Refused>
     ensures { written result answer.new ≡ answered_if number entered }
@@ -80,7 +80,7 @@ fn tell(entered: Result<bool, Refused>, number: u32, answer: &mut Answer) -> Res
     }
 }
 
-/// Starts an Ipc without a send phase of a running thread: of the message, nothing is read. True says that the call has ended.
+/// Starts an Ipc of a running thread that has no send phase, so that no message is read. Returns whether the call has ended.
 fn start_receive(threads: &mut Threads, number: u32, call: &IpcCall) -> Result<bool, Refused>
     requires running { IsTrue (runs threads.old number) }
     requires receives { has_send call.now ≡ false }
@@ -97,8 +97,8 @@ fn start_receive(threads: &mut Threads, number: u32, call: &IpcCall) -> Result<b
     Ok(enter(threads, number, turn))
 }
 
-/// Starts the send phase of a running thread's Ipc, with the registers of its message and the items in them. True says that the call
-/// has ended.
+/// Starts the send phase of a running thread's Ipc, with the registers of its message and the items in them. Returns whether the call has
+/// ended.
 #[inline(always)]
 fn start_message(
     threads: &mut Threads,
@@ -133,8 +133,8 @@ fn start_message(
     Ok(false)
 }
 
-/// Starts the send phase of a running thread's Ipc whose message has items. It is apart from `start_items`, as the list of them has room for all
-/// that a message may have, which no message of one item is to clear.
+/// Starts the send phase of a running thread's Ipc whose message has items. It is a function of its own because its list has room for all
+/// items of a message, and no message with one item should clear that room.
 #[inline(never)]
 fn start_listed(
     threads: &mut Threads,
@@ -162,7 +162,7 @@ fn start_listed(
     )
 }
 
-/// Starts the send phase of a running thread's Ipc whose message has items. Of one item no list is made.
+/// Starts the send phase of a running thread's Ipc whose message has items. It makes no list for a message with one item.
 fn start_items(
     threads: &mut Threads,
     number: u32,
@@ -186,7 +186,7 @@ fn start_items(
     start_message(threads, number, call, call.counted_words(tag), &[item])
 }
 
-/// Starts an Ipc of a running thread.
+/// Starts an Ipc of a running thread. Returns whether the call has ended.
 #[inline(always)]
 fn start_ipc(threads: &mut Threads, number: u32, call: &IpcCall) -> Result<bool, Refused>
     requires { IsTrue (runs threads.old number) }
@@ -231,7 +231,7 @@ fn start_fault(
     Ok(ends)
 }
 
-/// Takes rights away for a running thread.
+/// Revokes rights for a running thread.
 fn start_unmap(
     threads: &mut Threads,
     forest: &mut Forest,
@@ -252,7 +252,7 @@ fn start_unmap(
     Ok(true)
 }
 
-/// Ends the call of a control of threads.
+/// Ends the thread's call to ThreadControl.
 fn controlled(threads: &mut Threads, number: u32)
     requires { IsSome (state_of threads.old number) }
     ensures { threads.new ≡ end_call threads.old number Controlled }
@@ -260,7 +260,7 @@ fn controlled(threads: &mut Threads, number: u32)
     threads.end_wordless(number, Wordless::Controlled);
 }
 
-/// Creates the space of a new thread, unless the thread is put into the space of another one.
+/// Creates the space of a new thread, unless the thread shares the space of another one.
 fn begin_space(forest: &mut Forest, call: &Create, space: u64) -> Result<(), NoMemory>
     ensures ok { OnOk result (forest.new ≡ with_space forest.old (asks_new call.now.id call.now.space) space) }
     ensures err { OnErr result (forest.new ≡ forest.old) }
@@ -295,7 +295,7 @@ fn create(
     Ok(true)
 }
 
-/// Gives a thread another pager for a running thread.
+/// Changes the pager of a thread for a running thread.
 fn set_pager(threads: &mut Threads, number: u32, call: &SetPager) -> Result<bool, Refused>
     requires { IsTrue (runs threads.old number) }
     ensures { (size : APageSize) (s : Mappings) → Steps (machine size threads.old s) (Start number (Controls (SetsPager call.now))) (answered_if number result) (machine size threads.new s) }
@@ -307,7 +307,7 @@ fn set_pager(threads: &mut Threads, number: u32, call: &SetPager) -> Result<bool
     Ok(true)
 }
 
-/// Starts a control of threads by a running thread.
+/// Starts a thread control of a running thread.
 fn start_control(
     threads: &mut Threads,
     forest: &mut Forest,
@@ -339,7 +339,7 @@ fn not_running(threads: &Threads, number: u32) -> Option<Refused>
     Some(Refused::Busy)
 }
 
-/// Starts a call, and overwrites the answer that it is lent.
+/// Starts a call, and overwrites the answer that the caller passes.
 #[inline(always)]
 pub fn start(
     threads: &mut Threads,
@@ -457,7 +457,7 @@ pub fn transfer(
     Ok(transfer_answer(sender, receiver, outcome, ends))
 }
 
-/// Returns the end of a call that expires.
+/// Returns how a call that expires ends.
 fn expiry(state: &Activity) -> Ending
     ensures { reply_of result ≡ expiry state.now }
 {
@@ -470,7 +470,7 @@ fn expiry(state: &Activity) -> Ending
     Ending::Failed(false, 0)
 }
 
-/// Expires a zero timeout, without an answer.
+/// Expires a zero timeout, and returns no answer.
 pub fn expire_untold(threads: &mut Threads, number: u32) -> Result<(), Refused>
     ensures ok { IfOk result (λ _. (size : APageSize) (s : Mappings) → Steps (machine size threads.old s) (Expires number) (Ok (expire_answer number)) (machine size threads.new s)) }
     ensures err { IfErr result (λ e. (size : APageSize) (s : Mappings) → Steps (machine size threads.old s) (Expires number) (Err e) (machine size threads.new s)) }

@@ -35,7 +35,7 @@ fn caller_first(number: u32, others: ArrayVec<u32, MAX_THREADS>) -> ArrayVec<u32
     ended
 }
 
-/// Deletes a thread for a running thread, and overwrites the answer that it is lent with the threads whose calls
+/// Deletes a thread for a running thread, and overwrites the answer that the caller passes with the threads whose calls
 /// ended. It is a function of its own because its list has room for all threads, and no other call should clear that
 /// room.
 #[inline(never)]

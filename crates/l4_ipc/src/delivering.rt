@@ -1,4 +1,4 @@
-//! Transfers: what a message's items do, and what its two threads do next.
+//! Transfers: the effect of a message's items, and what the sender and the receiver do next.
 ghost use Rattle.std.specs.Prelude.{◌≡◌, ◌≢◌, ◌≤◌, ◌↔◌, List, [], length, drop, slice_index, IsTrue, IsSome, MatchOption, Some};
 ghost use Rattle.std.specs.List.{AllZip};
 ghost use Rattle.std.specs.FinSet as set;
@@ -38,8 +38,8 @@ pub struct Meeting<'a> {
     pub takes: &'a Receiving,
 }
 
-/// Returns the two threads of a transfer if the one is sending and the other is receiving, which holds if the
-/// transfer is enabled.
+/// Returns the two threads of a transfer, and their states, if the first is sending and the second is receiving. This
+/// is the case if the transfer is enabled.
 pub fn meet(threads: &Threads, sender: u32, receiver: u32) -> Option<Meeting<'_>>
     ensures { MatchOption result (¬ (IsFirstSender threads.now receiver sender))
         (λ m. IsFirstSender threads.now receiver sender → Meets threads.now sender receiver m.from.now m.to.now m.sends.now m.takes.now) }
@@ -128,7 +128,7 @@ fn no_move() -> Move
     }
 }
 
-/// Returns what an item moves in a window. An item that moves no page has no right here, so that nothing of it is used.
+/// Returns what an item moves in a window. An item that moves no page gets no rights here, so that none of its moves is used.
 #[inline(always)]
 fn item_move(item: &Item, window: &Fpage, size: PageSize) -> ItemMove
     ensures { IsListed size window.now item.now result }
@@ -180,7 +180,7 @@ fn outcome_of(cause: Cause) -> Outcome
     }
 }
 
-/// Moves the pages of a message whose items move this from the one space to the other, two that are there.
+/// Moves the pages of a message between two spaces that exist, by these moves of its items.
 fn move_pages(forest: &mut Forest, from: u64, to: u64, moves: &[ItemMove]) -> Outcome
     requires from_there { IsTrue (set.contains forest.old.spaces from) }
     requires to_there { IsTrue (set.contains forest.old.spaces to) }
@@ -194,8 +194,8 @@ fn move_pages(forest: &mut Forest, from: u64, to: u64, moves: &[ItemMove]) -> Ou
     }
 }
 
-/// Moves the pages of a message with a list of what its items move. It is apart, as the list has room for the moves of all items that a message may
-/// have, which no message of fewer than two is to clear.
+/// Moves the pages of a message by a list of the moves of its items. It is a function of its own because the list has room for the moves of
+/// all items of a message, and no message with fewer than two items should clear that room.
 #[inline(never)]
 fn move_listed(
     forest: &mut Forest,

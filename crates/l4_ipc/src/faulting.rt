@@ -15,7 +15,7 @@ use l4_fpage::{Fpage, PageSize, Rights};
 use l4_msg::{FAULT_LABEL, Tag};
 use l4_threads::{Later, SendPhase, ThreadId, Threads};
 
-/// The words of a fault's message behind its tag: the address and the instruction pointer.
+/// The number of words of a fault's message after its tag: the address and the instruction pointer.
 const UNTYPED: usize = 2;
 
 /// Returns the rights of a page, or none if it is not present.
@@ -49,8 +49,8 @@ fn fault_words(call: &FaultCall) -> [u32; UNTYPED + 1]
     [tag.word(), call.address, call.ip]
 }
 
-/// Returns what a thread does when it faults. Its call is a hit if the page is present. Otherwise it sends to its pager, and then waits for
-/// it.
+/// Returns what a thread does when it faults. If the page is present, its call ends as a hit. Otherwise the thread sends to its pager, and
+/// then receives from it.
 fn fault_turn(
     threads: &Threads,
     forest: &Forest,

@@ -135,8 +135,8 @@ impl Kernel {
         }
     }
 
-    /// Executes the step that starts this call, and overwrites the answer that it is lent. Its errors are those of
-    /// `step`. After an error, the content of the lent answer is unspecified.
+    /// Executes the step that starts this call, and overwrites the answer that you pass. Its errors are those of
+    /// `step`. After an error, the content of the answer is unspecified.
     pub fn start(&mut self, number: u32, call: &Call, answer: &mut Answer) -> Result<(), Refused>
         ensures ok { IfOk result (λ _. Steps self.old (Start number call.now) (Ok answer.new) self.new) }
         ensures err { IfErr result (λ e. Steps self.old (Start number call.now) (Err e) self.new) }

@@ -1,4 +1,4 @@
-//! Steps that were next, with their answers.
+//! Next steps that were executed, with their answers.
 ghost use Rattle.std.specs.Prelude.{◌≡◌};
 ghost use Rattle.l4_ipc.specs.NextSteps.{step_of, answer_of};
 

@@ -33,7 +33,7 @@ fn receiving(threads: &Threads, later: Later, fault: bool) -> Turn
     })
 }
 
-/// Returns what a thread does after its send phase, or if it has none.
+/// Returns what a thread does after its send phase, or at once if its call has none.
 pub fn going_on(threads: &Threads, later: Option<Later>, fault: bool) -> Turn
     ensures { next_of result ≡ going_on threads.now later fault }
 {
@@ -57,7 +57,7 @@ pub fn partner(threads: &Threads, caller: u32, id: ThreadId) -> Option<u32>
     Some(number)
 }
 
-/// Ends the thread's Ipc without words, with this tag and ErrorCode.
+/// Ends the thread's Ipc with a reply that has this tag, this ErrorCode and no words.
 fn end_bare(threads: &mut Threads, number: u32, tag: u32, error: u32)
     requires { IsSome (state_of threads.old number) }
     ensures { threads.new ≡ end_call threads.old number (Ipc (record { tag = tag; error = error; «from» = nilthread; words = record { items = [] } })) }

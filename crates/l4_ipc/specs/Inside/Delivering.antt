@@ -1,4 +1,4 @@
--- How the kernel asks the mapping database for a delivery. (this profile's own)
+-- The form in which the kernel passes a delivery to the mapping database (this profile's own).
 use Rattle.std.specs.Prelude.{◌≡◌, ◌↔◌, ◌⊎◌, ℕ, Some}
 use Rattle.l4_fpage.specs.Rights.{no_rights}
 use Rattle.l4_fpage.specs.Fpages.{rights_of}
@@ -12,7 +12,8 @@ use Rattle.l4_ipc.specs.declared.steps.Outcome.{Outcome}
 use Rattle.l4_ipc.specs.declared.steps.Outcome.TheVariants.{Entangled, NoMemory}
 use Rattle.l4_fpage.specs.declared.sizes.PageSize.{PageSize}
 
--- what the item moves in this window, by blocks of pages of a space; where it moves no page there is no right, so that no move is used
+-- What the item moves in this window, as blocks of pages of a space. If it moves no page, it has no rights here, so that none of its moves
+-- is used.
 pub record IsListed (size : PageSize) (window : Fpage) (item : Item) (listed : ItemMove) : Type 0 where
   pub grant : listed.grant ≡ is_grant item
   pub inside : StaysIn size listed.mv
@@ -20,7 +21,7 @@ pub record IsListed (size : PageSize) (window : Fpage) (item : Item) (listed : I
       (((source target : ℕ) → MovePairs (Some listed.mv) source target ↔ ItemMoves size item window source target) × (listed.rights ≡ rights_of (fpage_of item)))
       ⊎ (((source target : ℕ) → ¬ (ItemMoves size item window source target)) × (listed.rights ≡ no_rights))
 
--- the outcome where nothing was delivered
+-- the outcome if nothing was delivered
 abbrev pub outcome_of : Cause → Outcome
 outcome_of IsEntangled = Entangled
 outcome_of WantOfMemory = NoMemory

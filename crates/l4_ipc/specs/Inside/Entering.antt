@@ -1,10 +1,10 @@
--- What holds where a call enters a phase. (this profile's own)
+-- Conditions under which a call enters a phase (this profile's own).
 use Rattle.std.specs.Prelude.{ℕ, IsSome, IsTrue}
 use Rattle.l4_threads.specs.Threads.{Threads, state_of, runs, may_receive}
 use Rattle.l4_ipc.specs.declared.next.Next.{Next}
 use Rattle.l4_ipc.specs.declared.next.Next.TheVariants.{Ends, Sends, Receives}
 
--- the thread can do this next: it is there; to send it runs, and to receive it doesn't receive yet
+-- The thread can do this next: it exists; to send, it is running; and to receive, it is not receiving yet.
 abbrev pub CanEnter : Threads → ℕ → Next → Type 0
 CanEnter t n (Ends reply) = IsSome (state_of t n)
 CanEnter t n (Sends s) = IsTrue (runs t n)

@@ -1,4 +1,4 @@
--- What a contract sees of the kernel, and what it keeps. (this profile's own)
+-- What a contract sees of the kernel, and the kernel's invariant (this profile's own).
 use Rattle.l4_ipc.specs.declared.kernel.Kernel.TheInside.{Inside}
 use Rattle.l4_ipc.specs.Machine.{Machine, machine}
 use Rattle.l4_ipc.specs.SpacePages.{FitIn}

@@ -1,4 +1,4 @@
--- What holds of the kernel at all times. (this profile's own)
+-- The invariant of the kernel (this profile's own).
 use Rattle.std.specs.Prelude.{◌≡◌, ℕ, ◌<◌, Some, IsTrue}
 use Rattle.std.specs.Ordering.{nat_cmp}
 use Rattle.std.specs.FinSet as set
@@ -10,16 +10,16 @@ use Rattle.l4_threads.specs.declared.Thread.{Thread}
 use Rattle.l4_threads.specs.Threads.{Threads, thread_at}
 use Rattle.l4_ipc.specs.Machine.{Machine}
 
--- each thread's space is there
+-- each thread's space exists
 abbrev pub HaveSpaces : set.FinSet nat_cmp → Threads → Type 0
 HaveSpaces spaces t = (n : ℕ) (thread : Thread) → thread_at t n ≡ Some thread → IsTrue (set.contains spaces thread.space)
 
--- the items of a message that is sent are those of its words
+-- the items of a message that a thread sends are those in its words
 abbrev pub IsOfWords : Sending → Type 0
 IsOfWords s = ItemsRead (typed_words s.words.items) s.items.items
 
--- Each thread's space is there, every space that is there has a number below the next new one's, and the items of a message that
--- waits are those of its words.
+-- Each thread's space exists, the number of every space is below that of the next new one, and the items of each waiting message are those
+-- in its words.
 pub record AreSound (spaces : set.FinSet nat_cmp) (t : Threads) : Type 0 where
   pub have_spaces : HaveSpaces spaces t
   pub below : (space : ℕ) → IsTrue (set.contains spaces space) → space < t.next_space

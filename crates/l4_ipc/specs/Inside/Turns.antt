@@ -1,4 +1,4 @@
--- What a thread does next, said in few words. (this profile's own)
+-- What a thread does next, in a small value (this profile's own).
 use Rattle.std.specs.Prelude.{ℕ, true, false, List, [], drop, slice_index, Option, Some, None}
 use Rattle.l4_fpage.specs.Rights.{all_rights}
 use Rattle.l4_fpage.specs.declared.fpages.Fpage.TheVariants.{Complete}
@@ -28,12 +28,12 @@ reply_of (Failed fault code) = failed fault code
 reply_of Answered = IsAnswered
 reply_of Hit = IsHit
 
--- the reply of an ending, where there is one, and else the message
+-- the reply of an ending, if there is one, and otherwise the message
 abbrev pub reply_or : Option Ending → Reply → Reply
 reply_or None message = message
 reply_or (Some ending) message = reply_of ending
 
--- the reply of a message that was taken
+-- the reply of a message that was received
 abbrev pub message_reply : Thread → Sending → Reply
 message_reply «from» sends = IpcReply (message_of (record { tag = slice_index sends.words.items 0; error = 0; «from» = «from».id }) (drop 1 sends.words.items))
 
@@ -42,12 +42,12 @@ abbrev pub next_of : Turn → Next
 next_of (Ends ending) = NextEnds (reply_of ending)
 next_of (Receives receiving) = NextReceives receiving
 
--- what a thread does as it faults: where it isn't ended it tells its pager, and then waits for it
+-- what a thread does when it faults: if its call does not end, it reports the fault to its pager, and then receives from it
 abbrev pub next_of_fault : ThreadId → FaultCall → FaultTurn → Next
 next_of_fault pager call (FaultEnds ending) = NextEnds (reply_of ending)
 next_of_fault pager call (Tells to) =
     NextSends (sending_of (fault_words call) [] (record { to = to; expires = false; «then» = Some (record { «from» = pager; window = Complete all_rights; expires = false }); fault = true }))
 
--- what is sent where these are the words and the items in them
+-- what is sent: these words, and the items in them
 abbrev pub sent_of : List ℕ → List Item → Sent
 sent_of words items = record { words = record { items = words }; items = record { items = items } }
