@@ -1,4 +1,4 @@
--- Messages of two untyped words and no item.
+-- Messages of two untyped words and no item (this profile's own).
 use Rattle.std.specs.Prelude.{[], ◌∷◌}
 use Rattle.l4_msg.specs.declared.messages.Message.{Message}
 use Rattle.l4_pager.specs.declared.briefs.BriefMessage.{BriefMessage}

@@ -1,4 +1,4 @@
--- What a served pager enters: it answers the last message, waits for the next one, and so on (this profile's own).
+-- The calls of a pager that is served: it answers the last message, receives the next one, and so on (this profile's own).
 use Rattle.std.specs.Prelude.{◌≡◌, ℕ, ◌+◌, Bool, true, false, List, [], ◌∷◌, if◌then◌else◌}
 use Rattle.l4_msg.specs.Messages.{MessageReads, message_words}
 use Rattle.l4_msg.specs.declared.messages.Message.{Message}
@@ -11,20 +11,21 @@ use Rattle.l4_ipc.specs.declared.calls.Call.TheVariants.{Ipc}
 use Rattle.l4_pager.specs.declared.regions.Entry.{Entry}
 use Rattle.l4_pager.specs.Regions.{Answers, Regions}
 
--- the call that waits for anybody's message, with a nil window and no timeout
+-- the call that receives from any thread, with a nil window and without a timeout
 abbrev pub waiting : Call
 waiting = Ipc (record { to = nilthread; «from» = anythread; timeouts = 0; acceptor = 0; words = record { items = [] } })
 
--- the timeouts of an answer: zero for the send phase, since who asked waits for it, and never for the receive phase
+-- the timeouts of an answer: zero for the send phase, because the thread that sent the message is waiting for it, and never for the receive
+-- phase
 abbrev pub at_once : ℕ
 at_once = 0x0400_0000
 
--- the call that sends the words to somebody who waits for them, and then waits for anybody's message
+-- the call that sends the words to a waiting thread, and then receives from any thread
 abbrev pub sending : ThreadId → List ℕ → Call
 sending to words = Ipc (record { to = to; «from» = anythread; timeouts = at_once; acceptor = 0; words = record { items = words } })
 
--- A reply brings this message of this sender: it is one of an Ipc, and its tag and words are read as the message. A failed Ipc brings
--- none, since its tag has a flag.
+-- The reply has this message from this sender: it is the reply of an Ipc, and its tag and words are read as the message. The reply of a
+-- failed Ipc has none, because its tag has a flag.
 abbrev pub Brings : Reply → ThreadId → Message → Type 0
 Brings (IpcReply r) sender m = (sender ≡ r.«from») × MessageReads (r.tag ∷ r.words.items) m
 Brings Hit sender m = ⊥
@@ -34,7 +35,7 @@ Brings Unmapped sender m = ⊥
 Brings Controlled sender m = ⊥
 Brings Gone sender m = ⊥
 
--- the call answers the reply's message by the table
+-- the call sends the table's answer to the reply's message
 pub record IsAnswer (es : Regions) (reply : Reply) (call : Call) : Type 0 where
   pub sender : ThreadId
   pub message : Message
@@ -43,29 +44,30 @@ pub record IsAnswer (es : Regions) (reply : Reply) (call : Call) : Type 0 where
   pub answers : Answers es message answer
   pub is : call ≡ sending sender (message_words answer)
 
--- what is entered after a reply, and whether it is an answer: an answer where the reply brings a message, and else a call that waits
+-- The call that is entered after a reply, and whether it is an answer. If the reply has a message, the call answers it; otherwise it only
+-- receives.
 abbrev pub Follows : Regions → Reply → Call → Bool → Type 0
 Follows es reply call true = IsAnswer es reply call
 Follows es reply call false = ((sender : ThreadId) (m : Message) → ¬ Brings reply sender m) × (call ≡ waiting)
 
--- what is entered after a reply, one call after another, with so many answers
+-- the calls that are entered after a reply, one after another, with this number of answers
 abbrev pub Turns : Regions → Reply → List (Call × Reply) → ℕ → Type 0
 Turns es reply [] answers = answers ≡ 0
 Turns es reply (pair ∷ pairs) answers =
     (is_answer : Bool) × (later : ℕ) × Follows es reply pair.0 is_answer × Turns es pair.1 pairs later × (answers ≡ (if is_answer then 1 else 0) + later)
 
--- all that is entered, with so many answers: first a call that waits
+-- all calls that are entered, with this number of answers; the first one only receives
 abbrev pub Serves : Regions → List (Call × Reply) → ℕ → Type 0
 Serves es [] answers = answers ≡ 0
 Serves es (pair ∷ pairs) answers = (pair.0 ≡ waiting) × Turns es pair.1 pairs answers
 
--- the call is the one that comes after what was entered
+-- the call is the one to enter after those that were entered
 abbrev pub ComesNext : Regions → List (Call × Reply) → Call → Type 0
 ComesNext es [] call = call ≡ waiting
 ComesNext es (pair ∷ []) call = (is_answer : Bool) × Follows es pair.1 call is_answer
 ComesNext es (pair ∷ (next ∷ pairs)) call = ComesNext es (next ∷ pairs) call
 
--- the gate accepted these calls with these replies, one after another, and did nothing else
+-- the gate accepted these calls with these replies, one after another, and accepted no others
 abbrev pub Accepted : {G : Type 0} → (G → Call → Reply → G → Type 0) → G → List (Call × Reply) → G → Type 0
 Accepted accepts before [] after = after ≡ before
 Accepted accepts before (pair ∷ pairs) after = (between : _) × accepts before pair.0 pair.1 between × Accepted accepts between pairs after

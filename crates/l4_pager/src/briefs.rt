@@ -1,4 +1,4 @@
-//! Messages of two untyped words and no item, such as page faults and requests, read from a reply without a list.
+//! Messages of two untyped words and no item, such as page faults and requests. They are read from a reply without building a list.
 ghost use Rattle.std.specs.Prelude.{◌≡◌, ◌∷◌, MatchOption};
 ghost use Rattle.l4_msg.specs.Messages.{MessageReads};
 ghost use Rattle.l4_threads.specs.declared.ThreadId.{ThreadId as AnId};
@@ -18,7 +18,7 @@ pub struct BriefMessage {
     pub label: u16,
     /// The first untyped word.
     pub first: u32,
-    /// The second one.
+    /// The second untyped word.
     pub second: u32,
 }
 

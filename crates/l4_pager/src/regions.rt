@@ -11,8 +11,8 @@ use std::marker::Model;
 /// The greatest number of entries in a pager's table (this profile's own).
 pub const MAX_REGIONS: usize = 64;
 
-/// A region: pages of the threads that a pager serves, the pages of the pager's own space that it gives for them, and
-/// the rights that it gives (this profile's own).
+/// A region: pages of the threads that a pager serves, the pages of the pager's own space that it maps for them, and
+/// the rights that it maps (this profile's own).
 #[derive(Clone, Copy, PartialEq, Eq, Debug)]
 pub struct Entry {
     /// The first page, below the number of pages in a space.
@@ -21,7 +21,7 @@ pub struct Entry {
     pub source: u32,
     /// The number of pages, at least 1.
     pub count: u32,
-    /// The rights that are given, at least one. An access that needs other rights is not answered.
+    /// The rights that are mapped, at least one. An access that needs other rights gets a nil answer.
     pub rights: Rights,
 }
 
@@ -74,7 +74,7 @@ impl Entry {
         self.rights.is_empty()
     }
 
-    /// Returns whether a page is one of both entries. Both lie in the largest space.
+    /// Returns whether a page is in both entries. Both are in the largest space.
     fn meets(&self, other: &Entry) -> bool
         requires good { ¬ IsBad Kib1 self.now }
         requires other { ¬ IsBad Kib1 other.now }
@@ -83,7 +83,7 @@ impl Entry {
         self.first < other.first + other.count && other.first < self.first + self.count
     }
 
-    /// Returns whether the entry is for a page, and its rights hold the access.
+    /// Returns whether the entry contains the page, and its rights include those of the access.
     fn serves(&self, page: u32, access: Rights) -> bool
         ensures { result ≡ serves page access self.now }
     {
@@ -93,7 +93,7 @@ impl Entry {
 
 ghost use Rattle.l4_pager.specs.Regions.{IsBad, Meet};
 
-/// Whether a page of the entry is one of another. None of them is bad.
+/// Returns whether some entry of the list shares a page with this entry. None of the entries is bad.
 fn meets_one(entries: &[Entry], entry: &Entry) -> bool
     requires good { All (λ e. ¬ IsBad Kib1 e) entries.now }
     requires entry { ¬ IsBad Kib1 entry.now }
@@ -110,14 +110,14 @@ fn meets_one(entries: &[Entry], entry: &Entry) -> bool
 
 ghost use Rattle.l4_pager.specs.Regions.{serves, entry_for, IsPlaced};
 
-/// Returns the place of the first entry for a page whose rights hold the access.
+/// Returns the position of the first entry that contains the page and whose rights include those of the access.
 fn place_of(entries: &[Entry], page: u32, access: Rights) -> Option<usize>
     ensures { result ≡ position (serves page access) entries.now }
 {
     entries.iter().position(|entry| entry.serves(page, access))
 }
 
-/// Returns the entry for a page whose rights hold the access, and its place.
+/// Returns the position of the entry that contains the page and whose rights include those of the access, and the entry.
 fn entry_for(entries: &[Entry], page: u32, access: Rights) -> Option<(usize, Entry)>
     ensures { IsPlaced entries.now page access result }
 {
@@ -127,7 +127,7 @@ fn entry_for(entries: &[Entry], page: u32, access: Rights) -> Option<(usize, Ent
     Some((place, entries[place]))
 }
 
-/// Returns the entry at a place, if it is for the page and its rights hold the access.
+/// Returns the entry at a position, if it contains the page and its rights include those of the access.
 fn entry_at(entries: &[Entry], place: usize, page: u32, access: Rights) -> Option<Entry>
     ensures { IfSome result (λ entry. (slice_get entries.now place ≡ Some entry) × (serves page access entry ≡ true)) }
 {
@@ -221,8 +221,8 @@ impl RegionPager {
         }
     }
 
-    /// Returns the entry for a page whose rights hold the access, and its place. The entry at the guess is looked at first, and then the
-    /// next one.
+    /// Returns the position of the entry that contains the page and whose rights include those of the access, and the entry. Tests the
+    /// entry at the guess first, and then the next one.
     fn entry_near(&self, page: u32, access: Rights, guess: usize) -> Option<(usize, Entry)>
         ensures { IsPlaced self.now.entries page access result }
     {

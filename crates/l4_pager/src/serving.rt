@@ -19,7 +19,7 @@ use l4_ipc::{Call, IpcCall, Reply};
 use l4_msg::{MAX_WORDS, Message, map_answer};
 use l4_threads::ThreadId;
 
-/// A tag and the words of a reply, at most.
+/// The maximum number of words of a reply: its tag, and the words after it.
 const REPLY_WORDS: usize = MAX_WORDS + 1;
 
 /// The timeouts of an answer: zero for the send phase, and never for the receive phase.
@@ -28,7 +28,7 @@ const AT_ONCE: u32 = 0x0400_0000;
 /// The tag of an answer: label 0, one item, no untyped word.
 const ANSWER_TAG: u32 = 0x80;
 
-/// The kind of a map item in the first word of the last item of a message, beside its send base.
+/// The kind of a map item: the low bits of the first word of the last item of a message.
 const MAP_KIND: u32 = 8;
 
 /// The reason why a gate did not enter a call.
@@ -44,13 +44,13 @@ pub trait Gate {
     /// The calls that were entered, with their replies.
     ghost pairs: { Self → List (ACall × AReply) };
 
-    /// That the gate accepts a call with this reply, and how it is left.
+    /// The gate accepts a call with this reply, and is in this state afterwards.
     ghost accepts: { Self → ACall → AReply → Self → Type 0 };
 
-    /// That the gate refuses a call with this fault, and how it is left.
+    /// The gate refuses a call with this fault, and is in this state afterwards.
     ghost refuses: { Self → ACall → AFault → Self → Type 0 };
 
-    /// Enters a call and takes its reply. After a `GateFault` nothing was entered: room for the pair is made before all else.
+    /// Enters a call and takes its reply. After a `GateFault` nothing was entered, because room for the pair is allocated first.
     fn enter(&mut self, call: Call) -> Result<Reply, GateFault>
         ensures { MatchResult result
             (λ reply. (pairs self.new ≡ pairs self.old ++ (call, reply) ∷ []) × accepts self.old call reply self.new)
@@ -108,7 +108,7 @@ pub fn answering(sender: ThreadId, answer: &Message) -> Call
     })
 }
 
-/// Makes an Ipc a receive phase from any thread.
+/// Makes an Ipc a receive phase from any thread, with a nil window and without a timeout.
 fn set_wait(ipc: &mut IpcCall)
     ensures { Ipc ipc.new ≡ waiting }
 {
@@ -131,8 +131,8 @@ pub fn wait_into(call: &mut Call)
     }
 }
 
-/// Puts three words into message registers. If there are already three, as an earlier answer left them, each is overwritten. So none is
-/// cleared first, and none is read as part of a wider load that waits for a store.
+/// Writes three words to message registers. If they already contain three words, as after an earlier answer, each word is overwritten in
+/// place. So no register is cleared first, and no wider load has to wait for the stores.
 fn set_words(registers: &mut ArrayVec<u32, MAX_WORDS>, first: u32, second: u32, third: u32)
     ensures { registers.new.items ≡ first ∷ second ∷ third ∷ [] }
 {

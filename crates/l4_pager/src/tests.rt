@@ -150,7 +150,7 @@ fn answers_the_same_whatever_place_is_guessed(rt: HostRuntime) {
     );
 }
 
-/// The same words.
+/// Returns a copy of the words.
 fn copied_words(words: &ArrayVec<u32, MAX_WORDS>) -> ArrayVec<u32, MAX_WORDS>
     ensures { result ≡ words.now }
 {
@@ -159,7 +159,7 @@ fn copied_words(words: &ArrayVec<u32, MAX_WORDS>) -> ArrayVec<u32, MAX_WORDS>
     copy
 }
 
-/// The same reply.
+/// Returns a copy of the reply.
 fn copied(reply: &Reply) -> Reply
     ensures { result ≡ reply.now }
 {
@@ -179,7 +179,7 @@ fn copied(reply: &Reply) -> Reply
     }
 }
 
-/// A gate that replies by a list, in order, and refuses calls after it.
+/// A gate that returns the replies of a list, in order, and refuses every call after the last one.
 #[derive(Drop)]
 struct Replies {
     replies: Vec<Reply>,
@@ -207,7 +207,7 @@ impl Gate for Replies {
     }
 }
 
-/// Message registers.
+/// Returns message registers with these words.
 fn registers(words: &[u32]) -> ArrayVec<u32, MAX_WORDS> {
     let mut registers = ArrayVec::new();
     let _ = registers.try_extend_from_slice(words);
@@ -224,7 +224,7 @@ fn reply(tag: u32, error: u32, from: ThreadId, words: &[u32]) -> Reply {
     })
 }
 
-/// Returns a call that sends these words to a thread, or nothing to nobody, and receives from anybody.
+/// Returns a call that sends these words to a thread, or to none if that is nilthread, and receives from any thread.
 fn call(to: ThreadId, timeouts: u32, words: &[u32]) -> Call {
     Call::Ipc(IpcCall {
         to,
