@@ -1,4 +1,4 @@
--- Calls, answers, replies and places as words: a tag, and behind it a word for each field. (this profile's own)
+-- Calls, answers, replies and places as words: a tag, followed by a word for each field (this profile's own).
 use Rattle.std.specs.Prelude.{ℕ, ◌/◌, ◌%◌, ◌^◌, ◌≤◌, ⊤, List, [], ◌∷◌, length}
 use Rattle.l4_fpage.specs.Rights.{bits_of}
 use Rattle.l4_msg.specs.Sizes.{max_words}
@@ -29,7 +29,7 @@ control_fields (Create c) = c.id.0 ∷ c.space.0 ∷ c.pager.0 ∷ []
 control_fields (SetPager s) = s.id.0 ∷ s.pager.0 ∷ []
 control_fields (Delete id) = id.0 ∷ []
 
--- a call's fields: its list comes last, and ends with the words
+-- the fields of a call; its list comes last, and ends with the words
 abbrev pub call_fields : Call → List ℕ
 call_fields (Ipc c) = c.to.0 ∷ c.«from».0 ∷ c.timeouts ∷ c.acceptor ∷ c.words.items
 call_fields (Fault f) = f.address ∷ f.ip ∷ bits_of f.access ∷ []
@@ -44,7 +44,7 @@ outcome_code Entangled = 3
 outcome_code NoMemory = 4
 outcome_code Expired = 5
 
--- a list that others follow stands behind its length
+-- a list that is followed by other words: its length, and then the list
 abbrev pub counted : List ℕ → List ℕ
 counted words = length words ∷ words
 
@@ -64,7 +64,7 @@ reply_code Gone = 6 ∷ []
 abbrev pub place_code : ℕ → List ℕ
 place_code place = place % 2 ^ 32 ∷ place / 2 ^ 32 ∷ []
 
--- what has words: the lists hold no more than their types have room for
+-- Values that have words: their lists hold no more than their types have room for.
 
 abbrev pub CallFits : Call → Type 0
 CallFits (Ipc c) = length c.words.items ≤ max_words

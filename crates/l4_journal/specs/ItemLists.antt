@@ -1,7 +1,7 @@
--- Journals: lists of items, each stored as the words of a record. (this profile's own)
+-- Journals: lists of items, each stored as the words of a record (this profile's own).
 use Rattle.std.specs.Prelude.{ℕ, List}
 
--- what a contract sees of a journal: its items, and for how many there is room
+-- what a contract sees of a journal: its items, and the number of items for which there is room
 pub record ItemList (X : Type 0) : Type 0 where
   pub items : List X
   pub room : ℕ

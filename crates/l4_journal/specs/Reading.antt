@@ -1,4 +1,4 @@
--- Reading calls, answers, replies and places from words: the value, and the words after it where others may follow. (this profile's own)
+-- Reading calls, answers, replies and places from words: the value, and the words after it if there may be others (this profile's own).
 use Rattle.std.specs.Prelude.{ℕ, zero, suc, ◌+◌, ◌*◌, ◌^◌, List, length, Option, Some, None, nat_lt, if◌then◌else◌}
 use Rattle.l4_fpage.specs.Rights.{set_of_bits}
 use Rattle.l4_msg.specs.Sizes.{max_words}
@@ -18,11 +18,11 @@ use Rattle.l4_ipc.specs.declared.steps.Outcome.TheVariants.{Started, Done, NoWin
 use Rattle.l4_ipc.specs.declared.steps.Answer.{Answer}
 use Rattle.l4_journal.specs.Words.{◌>>=◌, word_at, words_at}
 
--- a list of all words that are left, at most the limit
+-- a list of all remaining words, if there are no more than the limit
 unfoldable pub list_at : ℕ → List ℕ → Option (List ℕ)
 list_at limit words = if nat_lt limit (length words) then None else Some words
 
--- a list behind its length, which is at most the limit
+-- a list after its length, if that is no more than the limit
 unfoldable pub counted_at : ℕ → List ℕ → Option (List ℕ × List ℕ)
 counted_at limit words = do
   count ← word_at words
@@ -65,7 +65,7 @@ set_pager_at words = do
   pager ← word_at id.1
   Some (record { id = record { 0 = id.0 }; pager = record { 0 = pager.0 } })
 
--- the call of this tag and these fields
+-- the call with this tag and these fields
 abbrev pub call_of : ℕ → List ℕ → Option Call
 call_of zero words = ipc_at words >>= (λ call. Some (Ipc call))
 call_of (suc zero) words = fault_at words >>= (λ call. Some (Fault call))
@@ -96,7 +96,7 @@ answer_at words = do
   ended ← counted_at max_threads outcome.1
   Some (record { outcome = outcome.0; ended = record { items = ended.0 } }, ended.1)
 
--- an Ipc's reply behind its tag
+-- an Ipc's reply after its tag
 abbrev pub received_at : List ℕ → Option (Reply × List ℕ)
 received_at words = do
   tag ← word_at words
@@ -105,7 +105,7 @@ received_at words = do
   message ← counted_at max_words sender.1
   Some (ByIpc (record { tag = tag.0; error = error.0; «from» = record { 0 = sender.0 }; words = record { items = message.0 } }), message.1)
 
--- a reply behind its tag
+-- a reply after its tag
 abbrev pub reply_of : ℕ → List ℕ → Option (Reply × List ℕ)
 reply_of zero words = received_at words
 reply_of (suc zero) words = Some (Hit, words)
@@ -123,7 +123,7 @@ reply_at words = do
   tag ← word_at words
   reply_of tag.0 tag.1
 
--- a place, of a lower and an upper word
+-- a place, from its lower and its upper word
 abbrev pub place_at : List ℕ → Option (ℕ × List ℕ)
 place_at words = do
   lower ← word_at words

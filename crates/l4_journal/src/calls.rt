@@ -18,13 +18,13 @@ pub const FAULT: u32 = 1;
 /// The tag of an Unmap.
 const UNMAP: u32 = 2;
 
-/// The tag of the making of a thread.
+/// The tag of the creation of a thread.
 const CREATE: u32 = 3;
 
 /// The tag of a change of a thread's pager.
 const SET_PAGER: u32 = 4;
 
-/// The tag of the end of a thread.
+/// The tag of the deletion of a thread.
 const DELETE: u32 = 5;
 
 /// The maximum number of words of a call's fields.
@@ -69,7 +69,7 @@ pub fn put_fields(out: &mut Record, call: &Call)
     }
 }
 
-/// Appends the fields of the control of a thread.
+/// Appends the fields of a thread control.
 fn put_control(out: &mut Record, control: &Control)
     requires { length out.old.items + FIELD_WORDS ≤ RECORD_WORDS }
     ensures { out.new.items ≡ out.old.items ++ control_fields control.now }
@@ -153,7 +153,7 @@ fn read_set_pager(words: Words<'_>) -> Option<SetPager>
     })
 }
 
-/// Reads the call of this tag and these fields. A call takes all the words. Returns None if the words are not those of such a call.
+/// Reads the call with this tag and these fields, which are all of the words. Returns None if the words are not those of such a call.
 pub fn read_call(tag: u32, words: Words<'_>) -> Option<Call>
     ensures { result ≡ call_of tag words.entry }
 {

@@ -9,9 +9,9 @@ use crate::words::{RECORD_WORDS, Words};
 use std::alloc::{AllocError, Global};
 use std::marker::{Model, PhantomData};
 
-/// A type that is read from words.
+/// A type whose values are read from words.
 pub trait FromWords {
-    /// The item that words begin with.
+    /// The item at the beginning of the words, if there is one.
     ghost item_at: { List ℕ → Option Self };
 
     /// Reads the item at the beginning of the words.

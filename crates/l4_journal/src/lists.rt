@@ -1,4 +1,4 @@
-//! Lists as words: one that ends the words, and one that follows its length.
+//! Lists as words. A list either ends the words, or follows its length.
 ghost use Rattle.std.specs.Prelude.{◌≡◌};
 ghost use Rattle.l4_journal.specs.Words.{Gives};
 ghost use Rattle.l4_journal.specs.Reading.{list_at, counted_at};
@@ -6,7 +6,7 @@ ghost use Rattle.l4_journal.specs.Reading.{list_at, counted_at};
 use crate::words::{Words, read_word, read_words};
 use arrayvec::ArrayVec;
 
-/// Reads the list of all remaining words. Returns None if it is longer than its type has room for.
+/// Reads a list of all remaining words. Returns None if there are more than its type has room for.
 #[tactic(auto, unfolding(crate::specs::Reading::list_at))]
 pub(crate) fn read_list<const LIMIT: usize>(words: Words<'_>) -> Option<ArrayVec<u32, LIMIT>>
     ensures { Gives (λ x. x.items) result (list_at LIMIT words.entry) }
@@ -19,7 +19,7 @@ pub(crate) fn read_list<const LIMIT: usize>(words: Words<'_>) -> Option<ArrayVec
     Some(list)
 }
 
-/// Reads a list that follows its length. Returns it with the words after it, or None if it is longer than its type has room for.
+/// Reads a list that follows its length. Returns the list and the words after it, or None if the list is longer than its type has room for.
 #[tactic(auto, unfolding(crate::specs::Reading::counted_at))]
 pub(crate) fn read_counted<const LIMIT: usize>(
     words: Words<'_>,

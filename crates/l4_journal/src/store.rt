@@ -1,4 +1,4 @@
-//! Records of words in one list, and a second list of the places where they end.
+//! Records of words in one list, and a second list with the place at which each record ends.
 ghost use Rattle.std.specs.Prelude.{◌≡◌, ◌+◌, ◌*◌, ◌≤◌, ◌<◌, ◌++◌, ◌∷◌, ◌^◌, [], length, slice_get, slice_index_or, vec_len, vec_capacity, OnOk};
 ghost use Rattle.l4_journal.specs.Inside.Stored.{AreEnds, RecordList, record_list, start_at};
 
@@ -12,7 +12,7 @@ const MOST_WORDS: usize = 0xffff_ffff;
 /// The maximum number of records for which room is allocated.
 const MOST_ASKED: usize = MOST_WORDS / RECORD_WORDS;
 
-/// Returns where the record at this place begins and ends, among all words.
+/// Returns the places, among all words, at which the record with this index begins and ends.
 #[inline(always)]
 fn bounds(ends: &[u32], place: usize, _all: usize) -> (usize, usize)
     requires ends { AreEnds 0 ends.now _all }
@@ -28,7 +28,7 @@ fn bounds(ends: &[u32], place: usize, _all: usize) -> (usize, usize)
     (ends[place - 1] as usize, end)
 }
 
-/// Appends words, for which there is room. If their number is a constant, each is one store.
+/// Appends words, for which there must be room. If their number is a constant, each of them is one store.
 #[inline(always)]
 fn put_few(out: &mut Vec<u32>, words: &[u32])
     requires { vec_len out.old + length words.now ≤ vec_capacity out.old }
@@ -41,7 +41,7 @@ fn put_few(out: &mut Vec<u32>, words: &[u32])
     }
 }
 
-/// Appends a few words and those after them, for which there is room.
+/// Appends a few words and the words after them, for which there must be room.
 #[inline(always)]
 fn put_parts(out: &mut Vec<u32>, head: &[u32], tail: &[u32])
     requires { vec_len out.old + (length head.now + length tail.now) ≤ vec_capacity out.old }
@@ -53,7 +53,7 @@ fn put_parts(out: &mut Vec<u32>, head: &[u32], tail: &[u32])
     let _ = out.extend_from_slice(tail);
 }
 
-/// Records, lists of at most `RECORD_WORDS` words each. Contracts see the records, and for how many there is room.
+/// Records, each a list of at most `RECORD_WORDS` words. Contracts see the records, and the number of records for which there is room.
 #[derive(Drop)]
 pub(crate) struct Store {
     words: Vec<u32>,

@@ -1,14 +1,14 @@
-//! Words, one after another.
+//! Words that are written and read one after another.
 ghost use Rattle.std.specs.Prelude.{◌≡◌, ◌+◌, ◌<◌, ◌≤◌, ◌++◌, ◌∷◌, [], length};
 ghost use Rattle.l4_journal.specs.Words.{Lends, word_at, words_at};
 
 use std::marker::Model;
 
-/// The maximum number of words of a record: two lists of 64 words, and the numbers beside them.
+/// The maximum number of words of a record: two lists of 64 words, and the numbers that go with them.
 pub const RECORD_WORDS: usize = 144;
 
-/// The words of one value, or of several that are stored together, in a buffer. Removed words are not overwritten until others take their
-/// place; a list of the library would write blanks.
+/// A buffer for the words of one value, or of several values that are stored together. Clearing it does not overwrite the words; a list of
+/// the library would write zeros.
 #[derive(Drop)]
 pub struct Record {
     cells: [u32; RECORD_WORDS],

@@ -1,9 +1,9 @@
--- Records of words, each read as an item. (this profile's own)
+-- Records of words, each read as an item (this profile's own).
 use Rattle.std.specs.Prelude.{ℕ, List, Option, IsTrue, is_some}
 use Rattle.std.specs.List.{flat_map, All}
 use Rattle.std.specs.Option.{option_to_list}
 
--- what records of words are, those read that can be
+-- the items of those records that can be read
 abbrev pub read_all : {X : Type 0} → (List ℕ → Option X) → List (List ℕ) → List X
 read_all read records = flat_map (λ words. option_to_list (read words)) records
 

@@ -1,11 +1,11 @@
--- Records of words in one list, and beside them where each ends. (this profile's own)
+-- Records of words in one list, and a second list with the place at which each record ends (this profile's own).
 use Rattle.std.specs.Prelude.{◌≡◌, ℕ, zero, suc, ◌+◌, ◌-◌, ◌*◌, ◌≤◌, ◌<◌, List, [], ◌∷◌, length, take, drop, ◌^◌, slice_index_or}
 
 -- the greatest number of words of a record
 abbrev pub record_words : ℕ
 record_words = 144
 
--- what is seen of a store: the records, and for how many there is room
+-- what a contract sees of a store: the records, and the number of records for which there is room
 pub record RecordList : Type 0 where
   pub records : List (List ℕ)
   pub room : ℕ
@@ -13,22 +13,22 @@ pub record RecordList : Type 0 where
 abbrev pub record_list : List (List ℕ) → ℕ → RecordList
 record_list records room = record { records = records; room = room }
 
--- the records of these words, of which the first begins at start and each ends where it says
+-- the records of these words; the first one begins at `start`, and each ends at its place
 abbrev pub cut : ℕ → List ℕ → List ℕ → List (List ℕ)
 cut start [] words = []
 cut start (end ∷ ends) words = take (end - start) (drop start words) ∷ cut end ends words
 
--- where the record at a place begins
+-- the place at which the record with this index begins
 abbrev pub start_at : ℕ → List ℕ → ℕ → ℕ
 start_at start ends zero = start
 start_at start ends (suc place) = slice_index_or ends place 0
 
--- none ends before it begins, and the last ends with the words
+-- no record ends before it begins, and the last one ends with the words
 abbrev pub AreEnds : ℕ → List ℕ → ℕ → Type 0
 AreEnds start [] all = start ≡ all
 AreEnds start (end ∷ ends) all = (start ≤ end) × AreEnds end ends all
 
--- There is room for so many records in all, whatever their words, and the place where any of them ends is a word.
+-- There is room for this many records in all, whatever their words, and the place at which any of them ends fits into a word.
 pub record IsStore (ends words : List ℕ) (ends_capacity words_capacity room : ℕ) : Type 0 where
   pub cuts : AreEnds 0 ends (length words)
   pub within : length ends ≤ room
