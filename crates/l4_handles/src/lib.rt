@@ -1,5 +1,5 @@
-//! The handles that C holds for a kernel, for a locked kernel and for the tables. Each is one pointer. It is null before the object is
-//! created and after it is freed.
+//! The handles that C holds for a kernel, a locked kernel and the tables. Each is one pointer, which is null before the object is created
+//! and after it is freed.
 #![tactic(auto)]
 
 mod kernels;

@@ -1,4 +1,4 @@
-// A box as its pointer.
+// Conversion of a box to its pointer and back.
 ghost use Rattle.std.specs.Prelude.{◌≡◌};
 ghost use Rattle.std.specs.Box.Ownership.{box_owns};
 

@@ -6,11 +6,11 @@ use denote.RawPtr.{Ptr, null_ptr, block_ptr}
 use Rattle.std.specs.Box.Ownership.{box_owns}
 use Rattle.std.specs.contracts.impls.GlobalAllocator.TheImpl.{ghosts}
 
--- what never is
+-- a formula that never holds
 abbrev never : Fml
 never = fex ⊥ (λ _. ftrue)
 
--- at null there is nothing, and elsewhere there is a value in a block of its own
+-- a null pointer owns nothing, and any other pointer owns a block with a value
 abbrev pub held : (R : RattleType) → Ptr → Option R.Denot → Fml
 held R null_ptr None = ftrue
 held R null_ptr (Some x) = never
