@@ -1,4 +1,4 @@
--- The calls that C gives (this profile's own).
+-- The calls that C passes (this profile's own).
 use Rattle.std.specs.Prelude.{◌≡◌, ◌⊎◌, ℕ, ◌<◌, List, [], take}
 use Rattle.l4_fpage.specs.Rights.{set_of_bits}
 use Rattle.l4_ipc.specs.declared.calls.Call.{Call}
@@ -6,7 +6,7 @@ use Rattle.l4_ipc.specs.declared.calls.Call.TheVariants.{Ipc, Fault, Unmap, Cont
 use Rattle.l4_ipc.specs.declared.calls.Control.TheVariants.{Create, SetPager, Delete}
 use Rattle.l4_c_values.specs.declared.calls.CallGiven.{CallGiven}
 
--- the kind is none of the six
+-- the kind is not one of the six
 abbrev pub IsNoKind : CallGiven → Type 0
 IsNoKind g = (g.kind ≡ 0) ⊎ (6 < g.kind)
 
@@ -17,7 +17,7 @@ IsBlank (Fault call) = ⊥
 IsBlank (Unmap call) = ⊥
 IsBlank (Controls control) = ⊥
 
--- The call that is given by its kind, its members and the words, of which those beyond the first 64 mean nothing.
+-- The call that C passed by its kind, its members and the words. Words beyond the first 64 are ignored.
 abbrev pub IsCall : CallGiven → List ℕ → Call → Type 0
 IsCall g words (Ipc call) =
     (g.kind ≡ 1) × (call.to.0 ≡ g.to) × (call.«from».0 ≡ g.«from») × (call.timeouts ≡ g.timeouts) × (call.acceptor ≡ g.acceptor)

@@ -1,4 +1,4 @@
--- Replies and steps that C has, in text as scripts are answered (this profile's own).
+-- Replies and steps that C passes, as lines of text like the answers to a script (this profile's own).
 use Rattle.std.specs.Prelude.{ℕ, ◌==◌, List, [], ◌++◌, min, take, Option, None, Some, if◌then◌else◌, codes, decimal}
 use Rattle.l4_threads.specs.declared.IpcReply.{IpcReply}
 use Rattle.l4_threads.specs.declared.Reply.{Reply}
@@ -11,7 +11,7 @@ use Rattle.l4_c_values.specs.declared.results.NextResult.{NextResult}
 abbrev pub ipc_given : ReplyResult → IpcReply
 ipc_given r = record { tag = r.tag; error = r.error; «from» = record { 0 = r.«from» }; words = record { items = take (min r.word_count 64) r.words } }
 
--- the reply that C has, if its kind is one
+-- the reply that C passed, or None if its kind is not that of a reply
 abbrev pub reply_given : ReplyResult → Option Reply
 reply_given r =
     if r.kind == 1 then Some (Ipc (ipc_given r))
@@ -23,12 +23,12 @@ reply_given r =
     else if r.kind == 7 then Some Gone
     else None
 
--- the line of a thread's reply without its end; nothing where there is no reply
+-- the line of a thread's reply, without its newline; empty if there is no reply
 abbrev pub reply_line : ℕ → Option Reply → List ℕ
 reply_line number None = []
 reply_line number (Some reply) = reply_head number (Some reply) ++ words_text (reply_words (Some reply))
 
--- what came of a transfer, by the number that C has for it
+-- the outcome of a transfer in words, from its number in C
 abbrev pub outcome_text : ℕ → List ℕ
 outcome_text number =
     if number == 2 then codes " done"
@@ -37,7 +37,7 @@ outcome_text number =
     else if number == 5 then codes " no-memory"
     else []
 
--- the line of a step without its end; nothing where there is no step
+-- the line of a step, without its newline; empty if there is no step
 abbrev pub step_line : NextResult → List ℕ
 step_line r =
     if r.kind == 1 then codes "transfer " ++ decimal r.thread ++ space ++ decimal r.receiver ++ outcome_text r.outcome

@@ -1,4 +1,4 @@
--- Chains of moves as C gives and gets them (this profile's own).
+-- Links of a page's provenance, as C passes and gets them (this profile's own).
 use Rattle.std.specs.Prelude.{ℕ, Bool, true, false, nat_eq, if◌then◌else◌, codes}
 use Rattle.l4_fpage.specs.Rights.{bits_of, set_of_bits}
 use Rattle.l4_chains.specs.declared.links.ChainLink.{ChainLink}
@@ -9,7 +9,7 @@ use Rattle.l4_c_values.specs.Told.{told_place}
 use Rattle.l4_c_values.specs.declared.links.Link.{Link}
 use Rattle.l4_c_values.specs.declared.links.ChainResult.{ChainResult}
 
--- a link as C gets it: grant is 1 where the item gave the page away, and 0 where it shared it
+-- a link as C gets it: `grant` is 1 if the item granted the page, and 0 if it mapped the page
 abbrev pub link_result : ChainLink → Link
 link_result link = record {
   entry = link.entry;
@@ -23,7 +23,7 @@ link_result link = record {
   reserved = 0;
 }
 
--- a link as C gives it: the item gave the page away where grant is not 0
+-- a link as C passes it: the item granted the page if `grant` is not 0
 abbrev pub link_given : Link → ChainLink
 link_given link = record {
   entry = link.entry;
@@ -34,7 +34,7 @@ link_given link = record {
   item_rights = set_of_bits link.item_rights;
 }
 
--- the number of why a history is not done once more, and the entry that it names, or 0
+-- the number of the reason why a history cannot be replayed; and the entry that it names, or 0
 abbrev pub fault_code : ReplayFault → ℕ
 fault_code BadFrames = spelled (codes "K6")
 fault_code NoMemory = spelled (codes "NoMemory")
@@ -45,6 +45,6 @@ fault_carries BadFrames = 0
 fault_carries NoMemory = 0
 fault_carries (OtherAnswer entry) = told_place entry
 
--- whether a page is there and by how many links, or why that can't be said
+-- whether a page is present and how many links it has, or the reason why the query was refused
 abbrev pub chain_result : ℕ → ℕ → ℕ → ℕ → ChainResult
 chain_result code number there count = record { refusal = code; detail = number; there = there; count = count }

@@ -1,4 +1,4 @@
--- What a locked kernel tells C: calls that were entered by seats, entries of the history, and receipts (this profile's own).
+-- The results of a locked kernel for C: calls that seats entered, entries of the history, and receipts (this profile's own).
 use Rattle.std.specs.Prelude.{ℕ, ◌+◌, List, [], length, codes, Option, None, Some}
 use Rattle.l4_fpage.specs.Rights.{bits_of}
 use Rattle.l4_ipc.specs.declared.calls.Call.{Call}
@@ -26,7 +26,7 @@ use Rattle.l4_c_values.specs.declared.recorded.ReceiptResult.{ReceiptResult}
 use Rattle.l4_c_values.specs.declared.recorded.SeatResult.{SeatResult}
 use Rattle.l4_c_values.specs.declared.recorded.SeatedResult.{SeatedResult}
 
--- the number of what the lock refuses, and the number that it carries, or 0
+-- the number of a refusal of the lock; and the number that it carries, or 0
 abbrev pub lock_code : LockRefusal → ℕ
 lock_code HistoryFull = spelled (codes "L1")
 lock_code NoMemory = spelled (codes "NoMemory")
@@ -56,12 +56,12 @@ mismatch_seat (WrongReceipt n) = n
 abbrev pub unseated_result : ℕ → ℕ → SeatedResult
 unseated_result code number = record { refusal = code; detail = number; reply = plain_result 0 0 0 }
 
--- what became of a call that was entered: the reply with which it has ended, or none
+-- the result for a call that was entered: its reply if it has ended, or none
 abbrev pub entered_result : Entered → SeatedResult
 entered_result (Done reply) = record { refusal = 0; detail = 0; reply = reply_result (Some reply) }
 entered_result Waiting = record { refusal = 0; detail = 0; reply = reply_result None }
 
--- a call of this kind, all of whose members are 0 but for its own
+-- a call of this kind whose other members are 0
 abbrev pub no_call : ℕ → CallGiven
 no_call kind = record {
   kind = kind;
@@ -79,7 +79,7 @@ no_call kind = record {
   reserved = filled 4 [];
 }
 
--- a call as C gives it, and its words
+-- a call as C gets it; and its words
 abbrev pub given_of : Call → CallGiven
 given_of (Ipc c) = record (no_call 1) { to = c.to.0; «from» = c.«from».0; timeouts = c.timeouts; acceptor = c.acceptor }
 given_of (Fault c) = record (no_call 2) { address = c.address; ip = c.ip; access = bits_of c.access }
@@ -115,7 +115,7 @@ entry_of_step e (Start n call) = entry_with e 3 n 0 (given_of call) (words_of ca
 entry_of_step e (Transfer sender receiver) = entry_with e 1 sender receiver (no_call 0) []
 entry_of_step e (Expire n) = entry_with e 2 n 0 (no_call 0) []
 
--- no entry, for this refusal or none
+-- no entry; the code is a refusal, or 0
 abbrev pub no_entry_result : ℕ → EntryResult
 no_entry_result code = record {
   refusal = code;
@@ -136,7 +136,7 @@ abbrev pub entry_result : Option Entry → EntryResult
 entry_result None = no_entry_result 0
 entry_result (Some e) = entry_of_step e e.step
 
--- no receipt, for this refusal or none
+-- no receipt; the code is a refusal, or 0
 abbrev pub no_receipt_result : ℕ → ReceiptResult
 no_receipt_result code = record { refusal = code; there = 0; start = 0; end = 0; word_count = 0; words = filled 64 []; call = no_call 0; reply = plain_result 0 0 0 }
 
@@ -154,7 +154,7 @@ receipt_result (Some r) = record {
   reply = reply_result (Some r.reply);
 }
 
--- how many calls a seat started and how many receipts it has; all 0 where there is no seat
+-- the number of calls that a seat has started, and the number of its receipts; all members are 0 if there is no such seat
 abbrev pub no_seat_result : ℕ → SeatResult
 no_seat_result code = record { refusal = code; there = 0; starts = 0; receipts = 0 }
 

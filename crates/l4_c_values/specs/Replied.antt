@@ -1,11 +1,11 @@
--- How calls ended, as it is told to C (this profile's own).
+-- How calls ended, as C gets it (this profile's own).
 use Rattle.std.specs.Prelude.{ℕ, [], Option, None, Some, length}
 use Rattle.l4_threads.specs.declared.Reply.{Reply}
 use Rattle.l4_threads.specs.declared.Reply.TheVariants.{Ipc, Hit, Answered, FaultFailed, Unmapped, Controlled, Gone}
 use Rattle.l4_c_values.specs.Told.{filled}
 use Rattle.l4_c_values.specs.declared.results.ReplyResult.{ReplyResult}
 
--- a reply of this kind, with this ErrorCode, and no message
+-- a reply of this kind with this ErrorCode, and without a message
 abbrev pub plain_result : ℕ → ℕ → ℕ → ReplyResult
 plain_result code kind error = record { refusal = code; kind = kind; tag = 0; error = error; «from» = 0; word_count = 0; words = filled 64 []; reserved = filled 2 [] }
 

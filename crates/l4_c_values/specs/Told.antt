@@ -1,4 +1,4 @@
--- Results as they are told to C (this profile's own).
+-- Results as C gets them (this profile's own).
 use Rattle.std.specs.Prelude.{ℕ, ◌-◌, List, [], ◌++◌, length, min, replicate, Option, None, Some, Result, Ok, Err}
 use Rattle.l4_ipc.specs.declared.steps.Refused.{Refused}
 use Rattle.l4_ipc.specs.declared.steps.Answer.{Answer}
@@ -17,11 +17,11 @@ abbrev pub carried : Option ℕ → ℕ
 carried None = 0
 carried (Some number) = number
 
--- a place, where detail has that number, and else the greatest that it has
+-- a place as `detail` has it: the greatest number of `detail` if the place is greater
 abbrev pub told_place : ℕ → ℕ
 told_place place = min place 0xffffffff
 
--- so many places: the numbers, and 0 after them
+-- this number of places: the numbers, and zeros after them
 abbrev pub filled : ℕ → List ℕ → List ℕ
 filled places numbers = numbers ++ replicate (places - length numbers) 0
 
@@ -33,7 +33,7 @@ outcome_number Entangled = 4
 outcome_number NoMemory = 5
 outcome_number Expired = 6
 
--- a refusal, and no outcome
+-- a refusal, without an outcome
 abbrev pub refusal_result : ℕ → ℕ → StepResult
 refusal_result code number = record { refusal = code; detail = number; outcome = 0; ended_count = 0; ended = filled 64 []; reserved = filled 2 [] }
 
@@ -48,7 +48,7 @@ answer_result answer = record {
   reserved = filled 2 [];
 }
 
--- what a step gave
+-- the result of a step: its answer, or its refusal
 abbrev pub step_result : Result Answer Refused → StepResult
 step_result (Ok answer) = answer_result answer
 step_result (Err e) = refusal_result (spelled (kernel_refusal e).name) (carried (kernel_refusal e).number)
@@ -68,11 +68,11 @@ receiver_of (Start n call) = 0
 receiver_of (Transfer sender receiver) = receiver
 receiver_of (Expire n) = 0
 
--- no step comes next, or why that can't be said
+-- no next step; the code is a refusal, or 0
 abbrev pub no_step_result : ℕ → NextResult
 no_step_result code = record { refusal = code; kind = 0; thread = 0; receiver = 0; outcome = 0; ended_count = 0; ended = filled 2 []; reserved = filled 2 [] }
 
--- the step that comes next; no Start does
+-- the next step, which is never a Start
 abbrev pub next_result : Step → NextResult
 next_result step = record {
   refusal = 0;
@@ -85,7 +85,7 @@ next_result step = record {
   reserved = filled 2 [];
 }
 
--- a step that came next, and what it did
+-- a next step that was executed, and its outcome
 abbrev pub done_result : Step → Answer → NextResult
 done_result step answer = record {
   refusal = 0;
@@ -98,7 +98,7 @@ done_result step answer = record {
   reserved = filled 2 [];
 }
 
--- no page, for this refusal
+-- no page; the code is a refusal, or 0
 abbrev pub no_page_result : ℕ → PageResult
 no_page_result code = record { refusal = code; there = 0; page = 0 }
 

@@ -11,7 +11,7 @@ use l4_ipc::{
 /// The kind of a Delete.
 pub const DELETE: u32 = 6;
 
-/// A call of a thread. Only the members of its kind are read.
+/// A call of a thread. Only the members that its kind uses are read.
 #[repr(C)]
 #[derive(Clone, Copy)]
 pub struct CallGiven {
@@ -30,7 +30,7 @@ pub struct CallGiven {
     pub reserved: [u32; 4],
 }
 
-/// Returns the first words, as many as a message has.
+/// Returns the first 64 words, or all if there are fewer.
 fn registers(words: &[u32]) -> &[u32]
     ensures first { result.now ≡ take 64 words.now }
     ensures fits { length result.now ≤ 64 }
@@ -41,7 +41,7 @@ fn registers(words: &[u32]) -> &[u32]
     &words[..MAX_WORDS]
 }
 
-/// Puts the first words into an empty list.
+/// Appends the first 64 words to an empty list.
 fn fill(list: &mut ArrayVec<u32, MAX_WORDS>, words: &[u32])
     requires { list.old.items ≡ [] }
     ensures { list.new.items ≡ take 64 words.now }
@@ -124,8 +124,8 @@ pub fn delete(given: &CallGiven, words: &[u32]) -> Call
     Call::Control(Control::Delete(ThreadId(given.id)))
 }
 
-/// Overwrites a blank call with the call that C passed. (A call has room for a whole message, which a move would copy.) Returns false if
-/// its kind is unknown.
+/// Overwrites a blank call with the call that C passed, because a call has room for a whole message, which a move would copy. Returns false
+/// if its kind is unknown.
 #[inline(always)]
 pub fn write_call(call: &mut Call, given: &CallGiven, words: &[u32]) -> bool
     requires { IsBlank call.old }

@@ -1,4 +1,4 @@
-//! The lines of replies and steps, as scripts are answered.
+//! The lines of replies and steps, as the answers to a script have them.
 ghost use Rattle.std.specs.Prelude.{◌≡◌, ◌≤◌, ◌+◌, ◌*◌, ◌∷◌, ◌++◌, length, Some, decimal, codes};
 ghost use Rattle.l4_threads.specs.declared.Reply.TheVariants.{FaultFailed};
 ghost use Rattle.l4_text.specs.Texts.{word_text, words_text};
@@ -31,7 +31,7 @@ fn ipc_given(given: &ReplyResult) -> IpcReply
     }
 }
 
-/// Returns the reply that C has, if its kind is one.
+/// Returns the reply that C passed, or None if its kind is not that of a reply.
 fn reply_given(given: &ReplyResult) -> Option<Reply>
     ensures { result ≡ reply_given given.now }
 {
@@ -54,7 +54,7 @@ fn reply_given(given: &ReplyResult) -> Option<Reply>
     }
 }
 
-/// Returns a thread's number, and these bytes.
+/// Returns a thread's number, followed by these bytes.
 fn numbered(number: u32, rest: &[u8]) -> Text
     requires { length rest.now ≤ 20 }
     ensures value { result ≡ decimal number ++ rest.now }
@@ -66,7 +66,7 @@ fn numbered(number: u32, rest: &[u8]) -> Text
     text
 }
 
-/// The number of a thread, or `nil`.
+/// Appends the number of a thread, or `nil`.
 fn add_thread(text: &mut Text, id: ThreadId)
     requires { length text.old ≤ 100 }
     ensures value { text.new ≡ text.old ++ from_text id }
@@ -143,7 +143,7 @@ fn add_words(line: &mut Line, words: &[u32])
     }
 }
 
-/// Adds the words of the message that a call brought.
+/// Appends the words of the message that a call received.
 fn add_message(line: &mut Line, reply: &Reply)
     requires { length line.old.items ≤ 80 }
     ensures { line.new.items ≡ line.old.items ++ words_text (reply_words (Some reply.now)) }
@@ -188,7 +188,7 @@ fn outcome_text(outcome: u32) -> &'static [u8]
     }
 }
 
-/// Returns the line of a transfer without its end.
+/// Returns the line of a transfer, without its newline.
 fn transfer_line(given: &NextResult) -> Text
     ensures { result ≡ codes "transfer " ++ decimal given.now.thread ++ space ++ decimal given.now.receiver ++ outcome_text given.now.outcome }
 {

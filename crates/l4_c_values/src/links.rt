@@ -1,4 +1,4 @@
-//! Chains of moves as C passes and gets them.
+//! Links of a page's provenance, as C passes and gets them.
 ghost use Rattle.std.specs.Prelude.{◌≡◌};
 ghost use Rattle.l4_c_values.specs.Linked.{link_result, link_given, fault_code, fault_carries, chain_result};
 
@@ -70,7 +70,7 @@ pub fn link_given(link: &Link) -> ChainLink
     }
 }
 
-/// Returns the number of the refusal for a history that is not replayed.
+/// Returns the number of the refusal for a history that cannot be replayed.
 pub fn fault_number(fault: ReplayFault) -> u32
     ensures { result ≡ fault_code fault }
 {

@@ -30,7 +30,7 @@ pub const OTHER_ANSWER: u32 = 0x4c36;
 /// L7: the given links do not match the way the page got there.
 pub const OTHER_CHAIN: u32 = 0x4c37;
 
-/// NoMemory.
+/// NoMemory: there was not enough memory.
 pub const NO_MEMORY: u32 = 0x4e6f;
 
 /// Returns the number of an outcome.

@@ -141,7 +141,7 @@ fn no_call(kind: u32) -> CallGiven
     }
 }
 
-/// Returns an Ipc as C gives it.
+/// Returns an Ipc as C gets it.
 fn ipc_given(call: &IpcCall) -> CallGiven
     ensures { result ≡ record (no_call 1) { to = call.now.to.0; «from» = call.now.«from».0; timeouts = call.now.timeouts; acceptor = call.now.acceptor } }
 {
@@ -153,7 +153,7 @@ fn ipc_given(call: &IpcCall) -> CallGiven
     given
 }
 
-/// Returns a control of threads as C gives it.
+/// Returns a thread control as C gets it.
 fn control_given(control: &Control) -> CallGiven
     ensures { result ≡ given_of (Controls control.now) }
 {
@@ -179,7 +179,7 @@ fn control_given(control: &Control) -> CallGiven
     }
 }
 
-/// Returns a call as C gives it.
+/// Returns a call as C gets it.
 fn given(call: &Call) -> CallGiven
     ensures { result ≡ given_of call.now }
 {

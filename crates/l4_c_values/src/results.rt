@@ -19,7 +19,7 @@ pub struct StepResult {
     pub reserved: [u32; 2],
 }
 
-/// The next step; after it was executed, also its outcome.
+/// The next step. Once it has been executed, it also has its outcome.
 #[repr(C)]
 #[derive(Clone, Copy)]
 pub struct NextResult {
@@ -167,7 +167,7 @@ pub fn step_told(step: &Step) -> NextResult
     told
 }
 
-/// Returns a transfer that came next, with what it did and whose calls ended in it.
+/// Returns the result for a transfer that was executed as the next step, with its outcome and the threads whose calls ended in it.
 fn transfer_told(
     sender: u32,
     receiver: u32,
