@@ -90,7 +90,8 @@ impl<T: FromWords> Journal<T> {
 
     /// Allocates room for this many more items, whatever their words.
     ///
-    /// Returns `AllocError` if an allocation fails, or if the journal could then exceed 2^32 - 1 words. The items and the room are unchanged.
+    /// Returns `AllocError` if an allocation fails, or if the journal could then exceed 2^32 - 1 words. After an error, the items and the
+    /// room are unchanged.
     pub fn reserve(&mut self, more: usize) -> Result<(), AllocError>
         ensures items { self.new.items ≡ self.old.items }
         ensures room { (self.old.room ≤ self.new.room) × (self.new.room < 2 ^ 63) }

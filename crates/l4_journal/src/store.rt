@@ -28,7 +28,7 @@ fn bounds(ends: &[u32], place: usize, _all: usize) -> (usize, usize)
     (ends[place - 1] as usize, end)
 }
 
-/// Appends words, for which there must be room. If their number is a constant, each of them is one store.
+/// Appends words. There must be room for them. If their number is a constant, each of them is one store.
 #[inline(always)]
 fn put_few(out: &mut Vec<u32>, words: &[u32])
     requires { vec_len out.old + length words.now ≤ vec_capacity out.old }
@@ -41,7 +41,7 @@ fn put_few(out: &mut Vec<u32>, words: &[u32])
     }
 }
 
-/// Appends a few words and the words after them, for which there must be room.
+/// Appends a few words and the words after them. There must be room for all of them.
 #[inline(always)]
 fn put_parts(out: &mut Vec<u32>, head: &[u32], tail: &[u32])
     requires { vec_len out.old + (length head.now + length tail.now) ≤ vec_capacity out.old }

@@ -50,7 +50,7 @@ AllAgree counts books p = (k : ℕ) (b : Book) → slice_get books k ≡ Some b 
 abbrev pub IsMissing : List Book → List SeatState → ℕ → Type 0
 IsMissing books seats n = IsGiven books n × ¬ (IsBack seats n)
 
--- X2: a seat of this number came back that was not given, or two seats of it did
+-- X2: a seat of this number came back that was not given, or the seat of this number came back twice
 abbrev pub IsForeign : List Book → List SeatState → ℕ → Type 0
 IsForeign books seats n = (IsBack seats n × ¬ (IsGiven books n)) ⊎ IsTwice seats n
 

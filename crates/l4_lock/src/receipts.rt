@@ -75,7 +75,7 @@ impl Receipts {
         self.receipts.reserve(more)
     }
 
-    /// Appends the receipt of a call that has ended, for which there is room.
+    /// Appends the receipt of a call that has ended. There must be room for it.
     pub(crate) fn push(&mut self, call: &Call, start: usize, ended: &Ended)
         requires { length self.old.items < self.old.room }
         ensures items { self.new.items ≡ self.old.items ++ receipt call.now start ended.now ∷ [] }
