@@ -61,8 +61,8 @@ impl SeatedKernel {
         self.recorder.kernel()
     }
 
-    /// Returns whether the number has its seat. Seats are mostly given in the order of their numbers, from 1 on, so that index is tested
-    /// first.
+    /// Returns whether the number has its seat. Seats are mostly given in the order of their numbers, from 1 on, so the entry at that index
+    /// is tested first.
     fn has_seat(&self, number: u32) -> bool
         ensures { result ≡ is_among number self.now.numbers }
     {
