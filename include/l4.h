@@ -119,8 +119,8 @@ uint32_t l4_version(void);
 #define L4_SMALL_SPACE_PAGES UINT32_C(4194304)
 #define L4_MAX_REGIONS 64
 
-/* The thread ids nilthread (no thread) and anythread (any thread), and the timeout of zero. A timeout of 0 means never. The timeouts member of a
- * call has the send timeout in bits 31 to 16 and the receive timeout in bits 15 to 0. */
+/* The thread ids nilthread (no thread) and anythread (any thread), and the timeout of zero. A timeout of 0 means never. The timeouts member
+ * of a call has the send timeout in bits 31 to 16 and the receive timeout in bits 15 to 0. */
 #define L4_NILTHREAD UINT32_C(0)
 #define L4_ANYTHREAD UINT32_C(0xFFFFFFFF)
 #define L4_ZERO_TIMEOUT UINT32_C(0x400)
@@ -343,8 +343,8 @@ typedef struct l4_reply {
  * call yet. Refusals: B1. */
 l4_reply l4_reply_of(l4_kernel *kernel, uint32_t thread);
 
-/* Write the line of text that `l4 run` prints for a reply of a thread, such as "3 ipc 00000080 0 1 00020008 000100c7", or for a step, such as
- * "transfer 1 3 done", to out. The text is empty if the kind is L4_NONE. At most the first `room` - 1 bytes are written, and a 0 after
+/* Write the line of text that `l4 run` prints for a reply of a thread, such as "3 ipc 00000080 0 1 00020008 000100c7", or for a step, such
+ * as "transfer 1 3 done", to out. The text is empty if the kind is L4_NONE. At most the first `room` - 1 bytes are written, and a 0 after
  * them; nothing is written if room is 0. Both functions return the length of the whole text without the 0. A line has no newline, and at
  * most 656 bytes, or 160 for a step. */
 size_t l4_reply_text(uint32_t thread, const l4_reply *reply, char *out, size_t room);
@@ -412,13 +412,13 @@ typedef struct l4_page {
 /* Returns the lowest present page of a space that is not below `page`. Refusals: B1. */
 l4_page l4_next_page(l4_kernel *kernel, uint64_t space, uint32_t page);
 
-/* Compares the mappings of a space in two kernels, and returns the lowest page, not below `page`, whose mapping differs: the page is present
- * in only one of the kernels, or its frame, its rights or its parent differ. It works for any two kernels, and changes neither.
+/* Compares the mappings of a space in two kernels, and returns the lowest page, not below `page`, whose mapping differs: the page is
+ * present in only one of the kernels, or its frame, its rights or its parent differ. It works for any two kernels, and changes neither.
  *
- * To find the pages that a step changes, copy the kernel before the step with l4_copy. After the step, list the pages of each space of both
- * kernels: start at 0, and continue at the page found plus 1. Before the next step, you can execute the same step in the copy instead of
- * making a new copy. A call reads the mappings of all pages that are present in either kernel, from `page` to the page found, or to the end
- * of the space. Refusals: B1 if a handle is empty. */
+ * To find the pages that a step changes, copy the kernel before the step with l4_copy. After the step, list the changed pages of each space
+ * of both kernels: start at 0, and continue at the page found plus 1. Before the next step, you can execute the same step in the copy
+ * instead of making a new copy. A call reads the mappings of all pages that are present in either kernel, from `page` to the page found, or
+ * to the end of the space. Refusals: B1 if a handle is empty. */
 l4_page l4_next_change(l4_kernel *before, l4_kernel *after, uint64_t space, uint32_t page);
 
 /* A region: `count` pages from the page `source` on, which go to the pages from `target` on with these rights. */
@@ -666,8 +666,8 @@ typedef struct l4_entry {
 /* Returns the entry at a place of the history, from 0. Refusals: B1. */
 l4_entry l4_lock_entry(l4_lock *lock, size_t place);
 
-/* The counts of a seat: how many calls it has started, each of which is in the history once, and how many receipts it has. `there` is 0 if
- * the seat was not given. */
+/* The counts of a seat: the number of calls that it has started, each of which is in the history once, and the number of its receipts.
+ * `there` is 0 if the seat was not given. */
 typedef struct l4_seat {
     uint32_t refusal;
     uint32_t there;
@@ -726,11 +726,11 @@ typedef struct l4_chain {
  * Refusals in this order: B1; NoMemory, or L6 with an entry. */
 l4_chain l4_lock_provenance(l4_lock *lock, uint64_t space, uint32_t page, l4_link *links, size_t room);
 
-/* Checks that exactly these links are the provenance of a page of a space. No list of links is, if the page is not present. Any value of
- * grant other than 0 means a grant. The check shares no code with l4_lock_provenance, replays the history once on a second kernel, and
- * changes nothing. Refusals in this order: B1; NoMemory, if there is no memory for the links or for a second kernel; then that of the first
- * entry at which memory runs out (NoMemory), at which the replay gets another answer (L6 with the entry), or which the links do not pass
- * (L7). The entries behind that one are not replayed. */
+/* Checks that exactly these links are the provenance of a page of a space. If the page is not present, the check refuses every list of
+ * links. Any value of grant other than 0 means a grant. The check shares no code with l4_lock_provenance, replays the history once on a
+ * second kernel, and changes nothing. Refusals in this order: B1; NoMemory, if there is no memory for the links or for a second kernel;
+ * then the refusal at the first entry where the check fails: NoMemory if memory runs out, L6 with the entry if the replay gets another
+ * answer, and L7 if the links do not agree with the entry. Later entries are not replayed. */
 l4_verdict l4_lock_check_provenance(l4_lock *lock, uint64_t space, uint32_t page, const l4_link *links, size_t count);
 
 /* Takes back the seats of these numbers, and frees the locked kernel with its history if exactly the seats that were given come back, each
@@ -815,7 +815,7 @@ static inline uint32_t l4_fpage_rights(uint32_t fpage) {
     return l4_fpage_log(fpage) == 0 ? 0 : fpage & 7;
 }
 
-/* Writes the two words of an item that maps the pages of an fpage, or grants them, at the send base, an address that is a multiple of 1,024.
+/* Write the two words of an item that maps the pages of an fpage, or grants them. The send base is an address that is a multiple of 1,024.
  * Set bit 0 of the first word if another item follows in the message; the kernel ignores that bit. */
 static inline void l4_map_item(uint32_t words[2], uint32_t send_base, uint32_t fpage) {
     words[0] = (send_base >> 10 << 10) | 8;
