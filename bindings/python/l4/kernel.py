@@ -285,7 +285,8 @@ class Kernel(Handle):
         """Returns a copy of the kernel, in memory of its own.
 
         The copy has each thread with what it is doing and its message registers, the queue of senders, every space, and every mapping.
-        Changes to one kernel are not visible in the other, so you can try two continuations of one run. Refused with NoMemory.
+        Changes to one kernel are not visible in the other, so you can try two continuations of one run. Raises Refused with
+        NoMemory if an allocation fails.
 
         >>> from l4 import Call, Message, ThreadId, Timeout
         >>> kernel = Kernel(1)
@@ -320,14 +321,14 @@ class Kernel(Handle):
     def start(self, thread: int, call: Call) -> Answer:
         """Starts a call of a thread.
 
-        The call ends at once if it needs no partner or can have none; otherwise the thread waits. Refused, in this order, with K2, K3, K4;
-        then with those of the message (M7, M1, M5, M2, M4 or M3) and the window (M6), of an Unmap (U2, U1), or of a Create, SetPager or
-        Delete (H1 to H6; NoMemory for a Create in a new space).
+        The call ends at once if it needs no partner or can have none; otherwise the thread waits. Raises Refused, in this order, with K2,
+        K3 or K4; then with the refusals of the message (M7, M1, M5, M2, M4 or M3) and of the window (M6), of an Unmap (U2, U1), or of a
+        Create, SetPager or Delete (H1 to H6; NoMemory for a Create in a new space).
         """
         return _answer(self._told(self._begin(library.l4_start, thread, call)))
 
     def enter(self, thread: int, call: Call) -> Entered:
-        """Starts a call as `start` does, and then executes the next step until no step is enabled. Refused as `start` is."""
+        """Starts a call as `start` does, and then executes the next step until no step is enabled. Raises Refused as `start` does."""
         steps = (_library.l4_step * MAX_THREADS)()
         told = self._begin(library.l4_enter, thread, call, steps, MAX_THREADS)
         start = _answer(self._told(told.start))
@@ -337,13 +338,14 @@ class Kernel(Handle):
     def transfer(self, sender: int, receiver: int) -> Answer:
         """Delivers the sender's message to the receiver.
 
-        Refused with K1 if the sender does not wait to send to this receiver, or the receiver does not wait for a message from this sender.
+        Raises Refused with K1 if the sender does not wait to send to this receiver, or the receiver does not wait for a message from this
+        sender.
         """
         partners = number(sender, "a thread number"), number(receiver, "a thread number")
         return _answer(self._told(self._ask(library.l4_transfer, *partners)))
 
     def expire(self, thread: int) -> Answer:
-        """Ends the thread's wait with a timeout of zero. Refused with K1 if the thread has no such wait."""
+        """Ends the thread's wait with a timeout of zero. Raises Refused with K1 if the thread has no such wait."""
         return _answer(self._told(self._ask(library.l4_expire, number(thread, "a thread number"))))
 
     def enabled(self) -> Optional[Step]:

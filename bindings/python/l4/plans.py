@@ -31,15 +31,15 @@ class Plan:
     message_count: int
 
     def message(self, k: int) -> Message:
-        """Returns the message with this number, from 0. It has label 0 and no untyped words. Refused with N6 if the plan has no message
-        with this number."""
+        """Returns the message with this number, from 0. It has label 0 and no untyped words. Raises Refused with N6 if the plan has no
+        message with this number."""
         told = library.l4_plan_message_sized(byref(self.region.given()), number(k, "a message's number"), self.page_bytes)
         if told.refusal:
             raise Refused(told.refusal)
         return Message(tuple(told.words[: told.word_count]))
 
     def only(self) -> Message:
-        """Returns the message that sends all items. Refused with N5 if the plan has several messages."""
+        """Returns the message that sends all items. Raises Refused with N5 if the plan has several messages."""
         if self.message_count > 1:
             raise Refused(_library.L4_N5)
         return self.message(0)
@@ -98,7 +98,7 @@ class Region:
     def plan(self, page_bytes: int = PAGE_BYTES) -> Plan:
         """Returns the shortest list of map items that moves exactly the region, for pages of 4,096 or 1,024 bytes.
 
-        Refused, in this order, with B4, N1, N2, N3 and N4. N4 is raised as TooLong, which has the pages that prove it.
+        Raises Refused, in this order, with B4, N1, N2 or N3, and then TooLong (N4), which has the pages that prove it.
 
         >>> plan = Region(4, 12, 12, Rights.ALL).plan()
         >>> [hex(word) for word in plan.only().words], plan.pages()
@@ -116,7 +116,7 @@ class Region:
         """Checks a plan from any source: that its items move exactly the region, and that its pages, one for each item, prove that no list
         of map items that does so is shorter. `words` has the words of the items, two for each.
 
-        Refused, in this order, with B4; M1 (more than 3,968 words), M2 (an odd number), M4 or M3; C6, C1, C2, C5, C3, C4.
+        Raises Refused, in this order, with B4; M1 (more than 3,968 words), M2 (an odd number of words), M4 or M3; C6, C1, C2, C5, C3, C4.
         """
         words = [number(word, "a word") for word in words]
         pages = [number(page, "a page") for page in pages]
@@ -128,7 +128,7 @@ class Region:
     def check_too_long(self, pages: Sequence[int], page_bytes: int = PAGE_BYTES) -> None:
         """Checks that 1,985 pages prove the following: every list of map items that moves exactly the region has more than 1,984 items.
 
-        Refused, in this order, with B4, C6, C5, C3, C4.
+        Raises Refused, in this order, with B4, C6, C5, C3 or C4.
         """
         pages = [number(page, "a page") for page in pages]
         given = array(pages), len(pages), number(page_bytes, "the number of bytes")

@@ -185,8 +185,8 @@ class SharedKernel(Unique):
         return self._lock.closed
 
     def seat(self, number_of_thread: int) -> Seat:
-        """Gives out the seat of a thread number. Each seat is given once, and the thread need not exist yet. Refused with L4 or
-        NoMemory."""
+        """Gives out the seat of a thread number. Each seat is given once, and the thread need not exist yet. Raises Refused with
+        L4 if the seat was given before, and with NoMemory."""
         return Seat(self, number(number_of_thread, "a thread number"))
 
     def steps(self) -> int:
@@ -204,8 +204,8 @@ class SharedKernel(Unique):
         Returns the transfers that brought the page there, one after another, from a page that sigma0 had at boot. A page that sigma0 has
         had since boot has no transfers. Returns None if the page is not present.
 
-        The history is replayed on a second kernel; calls of seats wait meanwhile. Refused with NoMemory, and with L6 if a transfer of the
-        history found no memory.
+        The history is replayed on a second kernel; calls of seats wait meanwhile. Raises Refused with NoMemory, or with L6 if a transfer of
+        the history found no memory.
         """
         place = number(space, "a space", 64), number(page, "a page")
         with self._lock.entered:
@@ -225,8 +225,8 @@ class SharedKernel(Unique):
     def check_provenance(self, space: int, page: int, links: Iterable[Link]) -> None:
         """Checks that exactly these links are how a page of a space got to where it is. The check shares no code with `provenance`.
 
-        Refused with L7 if they are not; no links are, if the page is not present. Refused also as `provenance` is. The sender and the
-        receiver of a link follow from its entry, and are not checked.
+        Raises Refused with L7 if they are not. If the page is not present, every list of links is refused. Also raises Refused as
+        `provenance` does. The sender and the receiver of a link follow from its entry, and are not checked.
         """
         place = number(space, "a space", 64), number(page, "a page")
         given = [of_type(link, Link, "a link").given() for link in links]
@@ -238,7 +238,8 @@ class SharedKernel(Unique):
         """Takes back the seats, frees the kernel, and returns the history, if exactly the seats that were given come back. Every later call
         raises ValueError, and so does each call that still waits.
 
-        Refused with X1 if a seat is missing, and with X2 if a seat belongs to another kernel or comes twice. Nothing has changed then.
+        Raises Refused with X1 if a seat is missing, and with X2 if a seat belongs to another kernel or is passed twice. Nothing has changed
+        then.
         """
         seats = [of_type(seat, Seat, "what comes back") for seat in seats]
         with self._lock.entered:
@@ -282,8 +283,8 @@ class Seat(Unique):
         An exception that ends the wait, such as KeyboardInterrupt, does not end the call. Get its reply with `take`. Raises ValueError if
         the kernel is closed meanwhile.
 
-        Refused, in this order, with L3 (an earlier call has ended, whose reply you must `take` first), L1, NoMemory, K2 if there is no such
-        thread, and as `Kernel.start` is.
+        Raises Refused, in this order, with L3 (an earlier call has ended, whose reply you must `take` first), L1, NoMemory, K2 if there is
+        no such thread, and as `Kernel.start` does.
         """
         words = of_type(call, Call, "what a thread starts").words
         given = (byref(call.given()), _library.array(words), len(words))

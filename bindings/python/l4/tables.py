@@ -41,7 +41,7 @@ class Pager(Handle):
         self._regions: List[Region] = []
 
     def add(self, region: Region) -> None:
-        """Adds a region at the end. Refused, in this order, with P4, P1 and P3; nothing has changed then."""
+        """Adds a region at the end. Raises Refused, in this order, with P4, P1 or P3; nothing has changed then."""
         given = byref(of_type(region, Region, "what a table gets").given())
         with self._turn:
             told = self._told(_library.l4_verdict(self._ask(library.l4_pager_add, given), 0))
@@ -62,7 +62,7 @@ class Pager(Handle):
     def find(self, page: int, access: Rights) -> int:
         """Returns the source page of a target page whose region has all the rights that the access needs.
 
-        An access that needs no right finds the page in any region. Refused with P2.
+        An access that needs no right finds the page in any region. Raises Refused with P2.
         """
         needed = of_type(access, Rights, "what an access needs").value
         told = self._told(self._ask(library.l4_pager_find, number(page, "a page"), needed))
@@ -74,7 +74,8 @@ class Pager(Handle):
         """Returns the pager's answer to a message.
 
         The answer to a page fault is one map item: the source page, with its region's rights, for the page of the fault. It is a nil map
-        item if `find` refuses the page; so is the answer to any other message. Refused with M7, M1, M5, M2, M4 or M3.
+        item if `find` refuses the page; so is the answer to any other message. Raises Refused with M7, M1, M5, M2, M4 or M3 for words that
+        are not a message.
         """
         words = of_type(message, Message, "what is answered").words
         return _answer(self._told(self._ask(library.l4_pager_answer, array(words), len(words))))
@@ -102,10 +103,10 @@ class Sigma0(Handle):
     def answer(self, space: int, message: Message) -> Message:
         """Returns sigma0's answer to a message from a thread in this space.
 
-        A request with attributes of 0 asks for the frames of its fpage's pages, and a page fault asks for the frame of its page; the frame
+        A request with attributes of 0 requests the frames of its fpage's pages, and a page fault requests the frame of its page. The frame
         of a page has the page's number. If all of these frames exist, and each has no owner or is owned by this space, then the space owns
         them from then on. The answer is then one map item of all of them, with all rights, to the pages of the same numbers. The answer to
-        anything else is a nil map item, and nothing changes. Refused with M7, M1, M5, M2, M4 or M3.
+        anything else is a nil map item, and nothing changes. Raises Refused with M7, M1, M5, M2, M4 or M3 for words that are not a message.
         """
         words = of_type(message, Message, "what is answered").words
         given = number(space, "a space", 64), array(words), len(words)

@@ -270,7 +270,7 @@ impl SharedKernel {
     ///
     /// # Errors
     ///
-    /// NoMemory or L6, as for `provenance`; L7 if these links are not how the page got there. No links are, if the page is not present.
+    /// NoMemory or L6, as for `provenance`; L7 if these links are not how the page got there, or the page is not present.
     pub fn check_provenance(&self, space: u64, page: u32, links: &[Link]) -> Result<(), Refusal> {
         let given: Vec<_> = links.iter().map(Link::given).collect();
         let verdict = self.shared.lock().check_provenance(space, page, &given);

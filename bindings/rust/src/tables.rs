@@ -151,7 +151,7 @@ impl Sigma0 {
 
     /// Returns sigma0's answer to a message from a thread in this space.
     ///
-    /// A request with attributes of 0 asks for the frames of its fpage's pages, and a page fault asks for the frame of its page; the frame
+    /// A request with attributes of 0 requests the frames of its fpage's pages, and a page fault requests the frame of its page. The frame
     /// of a page has the page's number. If all of these frames exist, and each has no owner or is owned by this space, then the space owns
     /// them from then on. The answer is then one map item of all of them, with all rights, to the pages of the same numbers. The answer to
     /// anything else is a nil map item, and nothing changes.
