@@ -1,4 +1,4 @@
-/* Makes every call of l4.h, and fails where one answers otherwise than the rules of the core say. */
+/* Makes every call of l4.h, and fails if a result differs from what the rules of the core require. */
 #include <l4.h>
 #include <stdio.h>
 #include <string.h>
@@ -211,7 +211,7 @@ static void lists(l4_kernel *kernel) {
     EXPECT(l4_next_space(kernel, 2).space == 2 && l4_next_space(kernel, 3).there == 0);
 }
 
-/* The run of the machine that `delivers` leaves, taken both ways: thread 1 waits to send to thread 2, for no time. */
+/* Two continuations of the run that `delivers` leaves: thread 1 waits to send to thread 2, with a timeout of zero. */
 static void copies(void) {
     static const uint32_t words[2] = {1, 5}, whole[1] = {0x12};
     l4_kernel kernel = L4_EMPTY, copy = L4_EMPTY, other = L4_EMPTY;
@@ -318,7 +318,7 @@ static void calls(l4_kernel *kernel) {
     EXPECT(l4_space_of(kernel, 3).there == 0 && l4_reply_of(kernel, 3).kind == L4_NONE);
 }
 
-/* What is refused as it comes from C. */
+/* Refusals of what only C can pass. */
 static void refusals(l4_kernel *kernel) {
     uint32_t words[70];
     l4_call call = send(2);

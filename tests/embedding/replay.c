@@ -1,4 +1,4 @@
-/* Does a list of kernel steps over l4.h, and prints its answers as l4_steps does: l4_steps(1) says what a line asks for. */
+/* Executes a step list over l4.h, and prints its answers as l4_steps does. l4_steps(1) describes the lines. */
 #include <l4.h>
 #include <stdio.h>
 #include <stdlib.h>

@@ -1,11 +1,11 @@
-/* Stands between a program and its standard input, its standard output and its memory, by LD_PRELOAD, as the environment says:
- *   READ_BYTES=N    a read gives at most N bytes
+/* Intercepts a program's standard input, standard output and memory, by LD_PRELOAD, as the environment says:
+ *   READ_BYTES=N    a read returns at most N bytes
  *   READ_FAILS=K    read K, counted from 1, and all after it fail
- *   READ_ENDLESS=C  each read gives this character, and none is the last
- *   WRITE_BYTES=N, WRITE_FAILS=K    the same of writes to standard output
- *   WRITE_NONE=K    write K and all after it take nothing
- *   MEMORY_FAILS=K  growth K of the memory fails, and no other
- *   MEMORY_ENDS=K   from read K on every growth of the memory fails
+ *   READ_ENDLESS=C  every read returns this character, without an end
+ *   WRITE_BYTES=N, WRITE_FAILS=K    the same for writes to standard output
+ *   WRITE_NONE=K    write K and all after it write 0 bytes
+ *   MEMORY_FAILS=K  allocation K fails, and no other
+ *   MEMORY_ENDS=K   from read K on every allocation fails
  */
 #define _GNU_SOURCE
 #include <errno.h>

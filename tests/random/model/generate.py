@@ -18,13 +18,13 @@ def ident(number):
 
 
 def pools(pages):
-    """Where pages lie that are mapped on: at the ends of a space of so many, over a border between two tables of 2,048 pages, and over one
-    of 64 or 1,024 pages."""
+    """Returns where pages are placed that are passed on: at the ends of a space with this number of pages, across a border between two
+    tables of 2,048 pages, and across a border between groups of 64 or 1,024 pages."""
     return [range(0, 12), range(0, 40), range(2040, 2060), range(pages - 16, pages), range(4, 9), range(60, 68), range(1020, 1028)]
 
 
 class Maker:
-    """What lists of steps and scripts have in common: words, partners, and the kinds of lists by their weights."""
+    """The common part of the generators of step lists and scripts: words, partners, and the kinds of lines with their weights."""
 
     def __init__(self, random, model):
         self.random = random
@@ -41,7 +41,7 @@ class Maker:
         self.weights = [weight * random.choice([0.1, 1, 1, 4]) for weight in self.PLANS.values()]
 
     def line(self):
-        """The next line: of what is planned, or one that lets a thread go on where few run, or any."""
+        """Returns the next line: one of the current plan, or one that ends the wait of a thread if few threads run, or any line."""
         if self.planned and self.random.random() < 0.97:
             return self.planned.pop(0)
         if (len(self.free()) < 3 or self.machine.threads[ROOT].phase) and self.random.random() < 0.8:
@@ -52,25 +52,25 @@ class Maker:
         return self.any_line()
 
     def hear(self, answer):
-        """What the last line was answered: a plan is mostly given up where something in it is refused."""
+        """Takes the answer to the last line. If a line of a plan was refused, the plan is mostly dropped."""
         self.refusals = self.refusals + 1 if "refused" in answer else 0
         if self.refusals and self.random.random() < 0.3:
             self.planned = []
 
     def is_stuck(self):
-        """Whether nothing seems to go on any more, as where root and sigma0 wait for each other."""
+        """Returns whether no thread seems to continue any more, as when root and sigma0 wait for each other."""
         return self.refusals > MOST_REFUSALS
 
     # threads
 
     def thread(self):
-        """A thread's number: mostly one that is there."""
+        """Returns a thread number, mostly that of a thread that exists."""
         if self.random.random() < 0.03:
             return self.random.randrange(0, 70)
         return self.random.choice(list(self.machine.threads))
 
     def free(self):
-        """The threads that run, except root, which has to stay running so that it can create and delete others."""
+        """Returns the running threads, except root, which must keep running so that it can create and delete others."""
         return [number for number, thread in self.machine.threads.items() if thread.phase is None and number != ROOT]
 
     def running(self):
@@ -85,7 +85,7 @@ class Maker:
         return [number for number, thread in self.machine.threads.items() if thread.phase is not None]
 
     def blocked(self, waiting):
-        """A thread that waits, and one that runs and could let it go on; or one that root is to delete, and None."""
+        """Returns a waiting thread, and a running one that could end its wait; or a thread that root is to delete, and None."""
         threads = self.machine.threads
         number = ROOT if threads[ROOT].phase is not None else self.random.choice(waiting)
         phase = threads[number].phase
@@ -99,7 +99,7 @@ class Maker:
         return number, partner
 
     def partner_to_send(self, number):
-        """Whom to send to: mostly somebody who waits for it."""
+        """Returns the receiver of a message, mostly a thread that waits for it."""
         waits = [n for n in self.machine.threads if self.machine.accepts(n, number)] if number in self.machine.threads else []
         return self.random.choice(waits) if waits and self.random.random() < 0.7 else self.thread()
 
@@ -113,7 +113,7 @@ class Maker:
         return self.random.choice(self.pool)
 
     def page_of(self, number):
-        """A page that the thread shows, or any."""
+        """Returns a present page of the thread's space, or any page."""
         thread = self.machine.threads.get(number)
         pages = self.machine.pages(thread.space) if thread else []
         return self.random.choice(pages)[0] if pages and self.random.random() < 0.9 else self.page()
@@ -122,7 +122,7 @@ class Maker:
         return self.random.choice([7, 7, 7, 7, 6, 5, 4, 3, 2, 1, 0])
 
     def fpage(self, page, rights):
-        """A word for an fpage about this page, spelled in any of its ways."""
+        """Returns a word for an fpage that has this page, in any of its forms."""
         chance = self.random.random()
         if chance < 0.02:
             return self.random.choice([rights, 0x10 | rights, 0x200 | rights | self.page() << self.page_log, 0xA0 | rights, 0xB0 | rights])
@@ -183,7 +183,7 @@ class Maker:
         return control, words
 
     def pair(self, count=2):
-        """Different threads that run, as many as are asked for where there are as many, and in front one that shows a page."""
+        """Returns this number of different running threads, or fewer if there are not as many. The first one has a page."""
         numbers = self.free() if self.random.random() < 0.95 else list(self.machine.threads)
         self.random.shuffle(numbers)
         shows = {space for space, _ in self.machine.places}
@@ -193,7 +193,7 @@ class Maker:
     # plans
 
     def sharing(self):
-        """Two threads that run and share a space, with pages where there are such, or any two."""
+        """Returns two running threads of one space, with pages if there are such threads, or any two."""
         runs = self.free()
         pairs = [(a, b) for a in runs for b in runs if a != b and self.machine.threads[a].space == self.machine.threads[b].space]
         shows = {space for space, _ in self.machine.places}
@@ -219,7 +219,7 @@ class Maker:
         yield from self.hand_on(giver, other, words)
 
     def plan_ranges(self):
-        """Two ranges in one message, often within one space, over pages that sigma0 has handed on as a range before; then some are taken back."""
+        """Sends two ranges in one message, often within one space, of pages that sigma0 passed on as a range before. Then revokes some."""
         giver, taker = self.sharing() if self.random.random() < 0.4 else self.pair()
         log = self.random.choice([1, 2, 3, 6])
         begin = self.page() >> log << log
@@ -263,7 +263,7 @@ class Maker:
         yield self.any_unmap(giver)
 
     def plan_grants(self):
-        """A page with children is granted from thread to thread, with fewer and fewer rights, and mapped on in between."""
+        """Grants a page with children from thread to thread, with fewer rights each time, and maps it to others in between."""
         giver, taker, other = self.pair(3)
         page = self.page_of(giver)
         for rights in (7, self.random.choice([7, 6, 5]), self.random.choice([6, 4, 3]), self.random.choice([4, 2, 0])):
@@ -293,7 +293,7 @@ class StepMaker(Maker):
         return getattr(self, "any_" + kind)(number)
 
     def freeing_line(self):
-        """Lets somebody go on who waits: it gets a message or is received from, or is deleted, or there is a thread more."""
+        """Ends the wait of a thread: it gets a message, its message is received, or it is deleted; or creates another thread."""
         random = self.random
         step = self.machine.enabled()
         if step is not None:
@@ -372,7 +372,7 @@ class StepMaker(Maker):
         yield f"transfer {giver} {taker}"
 
     def plan_queue(self):
-        """As many senders as there can be, of which some give up at once, one is deleted and one receives in turn."""
+        """Starts as many senders as there can be. Some of them have a zero timeout, one is deleted, and one receives in turn."""
         receiver = self.random.choice([1, 2, 3])
         for number in range(3, 66):
             if number not in self.machine.threads:
@@ -407,7 +407,7 @@ class StepMaker(Maker):
         yield f"transfer {pager} {user}"
 
     def plan_spaces(self):
-        """A thread gets pages in a space of its own, hands them on, and is deleted while others wait for it."""
+        """A thread gets pages in a space of its own, passes them on, and is deleted while others wait for it."""
         number = self.new_number()
         giver, taker = self.pair()
         yield self.create(ident(number), ident(number), 0x4001)
@@ -434,7 +434,7 @@ class ScriptMaker(Maker):
         return getattr(self, "any_" + kind)(number)
 
     def freeing_line(self):
-        """Lets somebody go on who waits: it gets a message or is received from, or is deleted, or there is a thread more."""
+        """Ends the wait of a thread: it gets a message, its message is received, or it is deleted; or creates another thread."""
         random = self.random
         waiting = [number for number in self.waiting() if number not in self.model.served]
         if not waiting or (len(self.machine.threads) < self.most_threads and random.random() < 0.6):
@@ -542,11 +542,11 @@ class ScriptMaker(Maker):
                 yield f"delete {number}"
 
     def frame(self):
-        """A frame that sigma0 has, of which there are few, so that many ask for the same."""
+        """Returns one of a few frames of sigma0, so that many threads request the same one."""
         return self.random.randrange(min(self.model.sigma0.frames, 6))
 
     def plan_serve(self):
-        """sigma0 is served: threads fault and ask for frames."""
+        """Serves sigma0: threads fault and request frames."""
         yield "serve 1"
         for _ in range(self.random.randint(2, 8)):
             number, page = self.running(), self.frame()
@@ -556,7 +556,8 @@ class ScriptMaker(Maker):
             yield f"ipc {self.running()} 1 1 0 {self.window():#x} 0xffa00002 {asked:#x} {self.random.choice([0, 0, 0, 1])}"
 
     def plan_pagers(self):
-        """A pager behind a pager behind sigma0, each served, and threads that fault at them; one may be deleted and made again."""
+        """Serves sigma0, a pager whose pager is sigma0, and a second pager whose pager is the first one. Threads fault to them, and one of
+        them may be deleted and created again."""
         pagers = [number for number in self.free() if number != 1]
         if len(pagers) < 3:
             return
@@ -585,7 +586,7 @@ class ScriptMaker(Maker):
             yield f"fault {users[0]} {pages[first] << self.page_log:#x} 0 {self.rights_text()}"
 
     def plan_regions(self):
-        """A table of regions is filled up."""
+        """Fills a table of regions."""
         number = self.thread()
         for k in range(self.random.choice([3, 3, 5, 66])):
             yield f"region {number} {2 * k} {self.page()} {self.random.choice([1, 1, 2, 3])} {self.rights_text()}"

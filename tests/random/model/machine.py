@@ -33,7 +33,7 @@ SEND_OVERFLOW, RECEIVE_OVERFLOW = 8, 9
 
 
 class Mapping(NamedTuple):
-    """What a place shows, and its parent place or None."""
+    """The mapping of a place: its frame, its rights, and its parent place or None."""
 
     frame: int
     rights: int
@@ -60,7 +60,7 @@ class Sending(NamedTuple):
 
 
 class Used(NamedTuple):
-    """A used move of an item: a page that is there, with a right in common with the item."""
+    """A used move of an item: the source page is present, and has a right in common with the item."""
 
     source: tuple
     target: tuple
@@ -98,10 +98,10 @@ class Machine:
         self.queue = []
         self.next_space = 2
 
-    # what is asked
+    # queries
 
     def named(self, ident):
-        """The number of the thread of this id, or None."""
+        """Returns the number of the thread with this id, or None."""
         number = ident >> 14
         found = self.threads.get(number)
         return number if found is not None and found.ident == ident else None
@@ -111,7 +111,7 @@ class Machine:
         return isinstance(phase, Receiving) and phase.partner in (ANY_THREAD, self.threads[sender].ident)
 
     def first_sender(self, receiver):
-        """The first in the queue that sends to this thread and that it accepts."""
+        """Returns the first sender in the queue that sends to this thread and that the thread accepts."""
         for sender in self.queue:
             if self.threads[sender].phase.partner == receiver and self.accepts(receiver, sender):
                 return sender
@@ -138,10 +138,10 @@ class Machine:
         return None
 
     def pages(self, space):
-        """The pages that are present in a space, rising, each with what it shows."""
+        """Returns the present pages of a space in rising order, each with its mapping."""
         return sorted((place[1], mapping) for place, mapping in self.places.items() if place[0] == space)
 
-    # steps: each answers its outcome and the calls that ended, in their order
+    # steps: each returns its outcome and the calls that ended, in order
 
     def start(self, number, call):
         """Starts a call: ('ipc', to, from, timeouts, window, words), ('fault', address, ip, access), ('unmap', control, words),

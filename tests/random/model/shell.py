@@ -1,4 +1,4 @@
-"""What is answered to a script, line by line: the commands, the served threads, sigma0's table and the tables of regions."""
+"""The answers to a script, line by line: the commands, the served threads, sigma0's table and the tables of regions."""
 from machine import SIGMA0_ID, Machine
 from steps import RIGHTS
 from words import ANY_THREAD, ERROR_TAG, FULL_RIGHTS, NIL_THREAD, PAGE_LOG, SPACE_LOG, WORDS, Refused, read_fpage, write_fpage
@@ -24,7 +24,7 @@ def ident(number):
 
 
 def fault_of(words, page_log):
-    """The access and the page of a fault message, or None where the message is none."""
+    """Returns the access and the page of a fault message, or None if the message is not one."""
     label, counts = words[0] >> 16, words[0] & 0xFFF
     if counts == 2 and 0xFFE0 <= label <= 0xFFE7:
         return label & FULL_RIGHTS, words[1] >> page_log
@@ -32,7 +32,7 @@ def fault_of(words, page_log):
 
 
 class Sigma0:
-    """Who owns which frame."""
+    """sigma0's table: the space that owns each frame."""
 
     def __init__(self, frames, page_log):
         self.frames = frames
@@ -68,7 +68,7 @@ def region_answer(regions, words, page_log):
 
 
 def plan_messages(source, target, count, rights, page_log):
-    """The messages that move just a region by the fewest map items: again and again the largest block that may move."""
+    """Returns the messages that move exactly a region with the fewest map items: each moves the largest allowed block."""
     if count == 0:
         raise Refused("N1")
     pages = 1 << (SPACE_LOG - page_log)
@@ -106,7 +106,7 @@ def is_allowed(page, log, source, target, count):
 
 
 class BadTokens(Exception):
-    """A token that can't be read, or too few or too many."""
+    """A token that cannot be read, or too few or too many tokens."""
 
 
 class Tokens:
@@ -162,7 +162,7 @@ class Tokens:
 
 
 class Shell:
-    """The machine behind a script. `answer` is the text that a line is answered by; a line is a string with a character for each byte."""
+    """The machine of a script. `answer` returns the text of the answer to a line, a string with one character for each byte."""
 
     def __init__(self, frames, page_log=PAGE_LOG):
         self.machine = Machine(frames, page_log)
@@ -373,7 +373,7 @@ class Shell:
         self.regions = {number: regions for number, regions in self.regions.items() if number in self.machine.threads}
 
     def questions(self):
-        """The lines that ask for everything that is to be seen."""
+        """Returns the lines that query everything that is visible."""
         lines = ["steps"]
         told = set()
         for number in sorted(self.machine.threads):

@@ -1,4 +1,4 @@
-"""What is answered to a list of kernel steps, line by line."""
+"""The answers to a step list, line by line."""
 from machine import Machine
 from words import PAGE_LOG, Refused
 
@@ -14,7 +14,7 @@ def reply_text(reply):
 
 
 class StepLines:
-    """The machine behind a list of steps. `answer` is the text that a line is answered by."""
+    """The machine of a step list. `answer` returns the text of the answer to a line."""
 
     def __init__(self, frames, page_log=PAGE_LOG):
         self.machine = Machine(frames, page_log)
@@ -57,7 +57,7 @@ class StepLines:
         return "".join(lines) + f"shown {len(lines)}\n"
 
     def questions(self):
-        """The lines that ask for everything that is to be seen, and for a thread and a space that are not there."""
+        """Returns the lines that query everything that is visible, and a thread and a space that do not exist."""
         numbers = sorted(self.machine.threads) + [0, max(self.machine.threads) + 1]
         return (
             ["enabled"]
