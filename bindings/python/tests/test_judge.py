@@ -108,7 +108,7 @@ class Steps(unittest.TestCase):
         self.assertEqual(watch.compare("start 2 create 0xc001 0xc001 0", ["refused H1"]), Difference("start 2 create 0xc001 0xc001 0", 0, "started", "refused H1"))
         self.assertIsNone(watch.compare("space 3", ["space 2"]))
 
-    def test_lines_that_are_no_steps(self):
+    def test_lines_that_are_not_steps(self):
         for line in ("frob", "", "start", "transfer 1", "# done"):
             with self.subTest(line), self.assertRaises(ValueError):
                 Judge().compare(line, ["done"])

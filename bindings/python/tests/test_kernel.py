@@ -77,12 +77,12 @@ class Kernels(unittest.TestCase):
             self.assertEqual([kernel.space_of(thread) for thread in (1, 2, 3)], [0, 1, None])
             self.assertIsNone(kernel.reply(1))
 
-    def test_two_kernels_do_not_meet(self):
+    def test_two_kernels_are_independent(self):
         one, other = delivered(), Kernel(1)
         one.close()
         self.assertEqual(len(list(other.mappings(0))), 1)
 
-    def test_steps_are_done_one_by_one(self):
+    def test_steps_are_executed_one_by_one(self):
         kernel = Kernel(256)
         answer = kernel.start(2, Call.create(THREAD, THREAD))
         self.assertEqual((answer.outcome, answer.ended), (Outcome.STARTED, (2,)))
@@ -166,7 +166,7 @@ class Kernels(unittest.TestCase):
         )
         self.assertEqual(len(Reply(ReplyKind.IPC, 0x3F, 0, ThreadId(0xFFFFC001), (1,) * 63).line(262143)), 6 + 13 + 2 + 7 + 63 * 9)
 
-    def test_a_run_is_taken_both_ways(self):
+    def test_a_run_has_two_continuations(self):
         kernel = delivered()
         kernel.start(1, Call.send(ThreadId.ROOT, Message((1, 5)), Timeout.ZERO))
         copied = kernel.copy()
@@ -263,7 +263,7 @@ class Kernels(unittest.TestCase):
         entered = kernel.enter(1, Call.receive(timeout=Timeout.ZERO))
         self.assertEqual([done.ended for done in entered.steps], [(thread,) for thread in range(1, MAX_THREADS + 1)])
 
-    def test_numbers_that_do_not_fit_are_told(self):
+    def test_numbers_that_do_not_fit_raise_value_error(self):
         kernel = Kernel(1)
         for step, values in (
             (Kernel, (1 << 32,)),
@@ -282,7 +282,7 @@ class Kernels(unittest.TestCase):
             with self.assertRaises(ValueError):
                 step(*values)
 
-    def test_what_is_no_number_and_no_call_is_told(self):
+    def test_values_of_other_types_raise_type_error(self):
         kernel = Kernel(7)
         self.assertEqual(kernel.frames, 7)
         for step, values, text in (

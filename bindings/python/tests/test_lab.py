@@ -102,7 +102,7 @@ class Labs(unittest.TestCase):
         self.assertEqual(view["regions"], [{"thread": 4, "first": 4, "source": 100, "count": 4, "rights": "r-x"}])
         self.assertEqual(view["served"], [4])
 
-    def test_words_say_what_they_mean(self):
+    def test_words_are_decoded(self):
         message = self.ask("/decode", words=[0x80, 0x20008, 0x100C7], reading="message", pageBytes=4096)
         self.assertEqual(message["lines"], ["label 0x0000; map 4 KiB at 0x10000 rwx, send base 0x20000"])
         self.assertEqual(self.ask("/decode", words=[0x10], reading="window", pageBytes=4096)["lines"], ["complete ---"])
@@ -135,7 +135,7 @@ class Labs(unittest.TestCase):
         self.assertEqual(self.send("POST", "/view", body, Content_Type=json_type, Origin=f"http://{own}")[0], 200)
         self.assertEqual(self.send("POST", "/view", body, Content_Type="text/plain")[0], 400)
 
-    def test_requests_that_are_no_questions_get_an_answer(self):
+    def test_invalid_requests_get_an_answer(self):
         for path in ("/no", "/../lab.py", "/lab.py", "/%2e%2e/lab.py", "/view", "/views/page.html", "/views/../lab.py"):
             self.assertEqual(self.send("GET", path)[0], 404)
         self.assertEqual(self.send("POST", "/start", "{}", Content_Type="application/json")[0], 404)
@@ -177,7 +177,7 @@ class Labs(unittest.TestCase):
         self.assertEqual((len(shows["notes"]), len(shows["lines"][49]["answers"])), (1, 0))
         self.assertEqual([len(line["answers"]) for line in self.view("show 1 0 4096\n", frames=4096)["lines"]], [65])
 
-    def test_the_page_takes_what_the_server_takes(self):
+    def test_the_page_and_the_server_have_the_same_limit(self):
         self.assertEqual(json.loads(self.send("GET", "/start")[1])["mostBytes"], MOST_BYTES)
         self.assertEqual(self.ask("/view", 400, script="steps\n" * 2_000_000)["error"], "a request has up to 2,097,152 bytes")
 
@@ -188,7 +188,7 @@ class Labs(unittest.TestCase):
         self.assertEqual(view["now"]["spaces"][2]["runs"], [[0, 4096, 0, "rwx", 0, 0]])
         self.assertLess(len(json.dumps(view)), 1 << 20)
 
-    def test_files_are_read_up_to_what_the_lab_takes(self):
+    def test_files_are_read_up_to_the_limit(self):
         with tempfile.TemporaryDirectory() as folder:
             file = Path(folder) / "long.script"
             file.write_text("steps\n" * 2_000_000)

@@ -53,11 +53,11 @@ def layout():
 
 
 class Library(unittest.TestCase):
-    def test_functions_are_the_headers(self):
+    def test_functions_are_those_of_the_header(self):
         self.assertEqual(_library.FUNCTIONS, declared())
 
     @unittest.skipUnless("L4_LAYOUT" in os.environ, "tests/embedding/bindings runs it, with the layout that a C compiler gives in L4_LAYOUT")
-    def test_structs_and_constants_are_the_headers(self):
+    def test_structs_and_constants_are_those_of_the_header(self):
         self.assertEqual(sorted(layout()), sorted(Path(os.environ["L4_LAYOUT"]).read_text().splitlines()))
 
     def test_versions(self):
@@ -86,7 +86,7 @@ class Library(unittest.TestCase):
             self.assertIn(f"\nImportError: {file} {why}", done.stderr)
             self.assertIn("set L4_LIBRARY to its file", done.stderr)
 
-    def test_numbers_have_their_bits(self):
+    def test_numbers_have_at_most_32_bits(self):
         self.assertEqual(_library.number(0xFFFFFFFF, "a word"), 0xFFFFFFFF)
         for value in (-1, 1 << 32):
             with self.assertRaises(ValueError):

@@ -25,7 +25,7 @@ class Protocols(unittest.TestCase):
         for message in [Message.of(0xFFA0, [0x20, 0]), Message.of(0xFFA1, [0x100C0, 0]), Message.of(0xFFA0, [0x100C0])]:
             self.assertIsNone(FrameRequest.read(message))
 
-    def test_words_that_are_no_message_are_refused(self):
+    def test_words_that_are_not_a_message_are_refused(self):
         for read in [PageFault.read, FrameRequest.read]:
             for words, code in [((), "M7"), ((0x40, 0), "M2"), ((0x1000,), "M5")]:
                 with self.assertRaises(Refused) as caught:

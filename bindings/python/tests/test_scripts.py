@@ -29,7 +29,7 @@ class Scripts(unittest.TestCase):
                 got = answers(script.read_bytes().decode("utf-8", "surrogateescape"), *options(script.with_suffix(".words")))
                 self.assertEqual(got, script.with_suffix(".out").read_text())
 
-    def test_what_there_is_after_each_step(self):
+    def test_the_state_after_each_step(self):
         script = Script(256)
         seen = []
         for event in script.run("recv 2 any 0x10\nsend 1 2 0x80 0x20008 0x100c7\nshow 2 0 64\n"):

@@ -167,7 +167,7 @@ class Shared(unittest.TestCase):
             kernel.close([root, third, third])
         self.assertEqual(kernel.close([third, root]), ())
 
-    def test_a_call_goes_on_after_its_wait_was_interrupted(self):
+    def test_a_call_continues_after_its_wait_was_interrupted(self):
         handler = signal.signal(signal.SIGINT, signal.default_int_handler)
         self.addCleanup(signal.signal, signal.SIGINT, handler)
         kernel = SharedKernel(1)
@@ -250,7 +250,7 @@ class Shared(unittest.TestCase):
                 with self.assertRaisesRegex(TypeError, f"^a {name} can't be pickled, nor copied"):
                     way(value)
 
-    def test_what_is_given(self):
+    def test_arguments_that_are_refused(self):
         with self.assertRaisesRegex(Refused, "^K6"):
             SharedKernel(0)
         kernel = SharedKernel(1, 1024)

@@ -30,7 +30,7 @@ class Lists(unittest.TestCase):
             with self.subTest(steps.name):
                 self.assertEqual(l4("steps", lines=steps.read_bytes()), wanted)
 
-    def test_lines_that_are_no_steps(self):
+    def test_lines_that_are_not_steps(self):
         words = " ".join("1" for _ in range(65))
         lines = f"""spaces 1;Space 1;space;space 1 2;space x;space -1;space +1;space 1_0;space 0x;space 0X1;space 0x123456789;space 4294967296
 space 00000000001;space\t1; # no comment;start;start 1;start 1 call;start 1 ipc 0 0 0;start x ipc 0 0 0 0;start 1 fault 0 0 8;start 1 fault 0 0

@@ -86,7 +86,7 @@ class Tables(unittest.TestCase):
         self.assertIs(kernel.reply(3).kind, ReplyKind.ANSWERED)
         self.assertEqual(kernel.mapping(space, 5).frame, 5)
 
-    def test_numbers_that_do_not_fit_are_told(self):
+    def test_numbers_that_do_not_fit_raise_value_error(self):
         for step, values in (
             (Pager().find, (1 << 32, Rights.NONE)),
             (Sigma0, (-1,)),
@@ -97,7 +97,7 @@ class Tables(unittest.TestCase):
             with self.assertRaises(ValueError):
                 step(*values)
 
-    def test_other_types_are_told(self):
+    def test_other_types_raise_type_error(self):
         for step, values in (
             (Region, (0, 0, 1, 7)),
             (Region, (0, 0, "1", Rights.ALL)),

@@ -22,7 +22,7 @@ class Words(unittest.TestCase):
         shown = [str(ThreadId(word)) for word in (0, 0xFFFFFFFF, 0x8001, 0xC002)]
         self.assertEqual(shown, ["nil", "any", "thread 2", "thread 3 version 2"])
 
-    def test_a_bare_number_is_no_id(self):
+    def test_a_plain_number_is_not_an_id(self):
         message = Message((0,))
         for make in (
             lambda: Call.send(3, message),
@@ -40,7 +40,7 @@ class Words(unittest.TestCase):
             with self.assertRaisesRegex(TypeError, "is a ThreadId, as ThreadId.of"):
                 make()
 
-    def test_other_types_are_told_where_they_are_given(self):
+    def test_other_types_raise_type_error_where_they_are_passed(self):
         to, fpage, message = ThreadId.of(3), Fpage.complete(), Message((0,))
         for make in (
             lambda: Call.send(to, (0,)),
@@ -123,7 +123,7 @@ class Words(unittest.TestCase):
             with self.assertRaisesRegex(ValueError, "^the word of an fpage is from 0 to 4294967295: "):
                 Fpage.read(word)
 
-    def test_fpages_know_their_pages(self):
+    def test_the_pages_of_an_fpage(self):
         self.assertEqual(Fpage.pages(8, 2, Rights.ALL).page_range, range(8, 12))
         self.assertEqual(Fpage.complete().page_range, range(SPACE_PAGES))
         self.assertEqual(Fpage.pages(0, 20, Rights.READ), Fpage.complete(Rights.READ))
@@ -135,7 +135,7 @@ class Words(unittest.TestCase):
             with self.assertRaises(ValueError):
                 Fpage(base, log)
 
-    def test_fpages_know_their_small_pages(self):
+    def test_the_small_pages_of_an_fpage(self):
         small = SMALL_PAGE_BYTES
         self.assertEqual(Fpage.pages(20, 2, Rights.ALL, small), Fpage.page(5, Rights.ALL))
         self.assertEqual(Fpage.page(5, Rights.ALL).range_of(small), range(20, 24))
@@ -204,7 +204,7 @@ class Words(unittest.TestCase):
         self.assertEqual(list(given.reserved), [0] * 4)
         return {name: getattr(given, name) for name, _ in given._fields_ if name != "reserved" and getattr(given, name)}
 
-    def test_calls_are_the_words_that_c_gives(self):
+    def test_calls_have_the_members_of_the_struct_in_c(self):
         to, message = ThreadId.of(3), Message.of(0, [5])
         ipc = {"kind": 1, "to": 0xC001, "from": 0xC001, "timeouts": 0x400}
         self.assertEqual(self.given(Call.call(to, message, receive=Timeout.ZERO)), ipc)

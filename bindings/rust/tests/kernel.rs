@@ -162,7 +162,7 @@ fn forty_items_go_in_two_messages() {
 }
 
 #[test]
-fn two_kernels_do_not_meet() {
+fn two_kernels_are_independent() {
     let mut one = delivered();
     let other = Kernel::boot(1).unwrap();
     one.start(2, &Call::delete(id(3))).unwrap();
@@ -272,7 +272,7 @@ fn steps_and_replies_have_the_lines_of_scripts() {
 }
 
 #[test]
-fn a_run_is_taken_both_ways() {
+fn a_run_has_two_continuations() {
     let mut kernel = delivered();
     let send = Call::send(ThreadId::ROOT, &message(&[1, 5]), Timeout::Zero);
     kernel.start(1, &send).unwrap();
@@ -521,7 +521,7 @@ fn a_region_may_need_too_many_items() {
 }
 
 #[test]
-fn sixty_two_senders_are_told() {
+fn sixty_two_calls_end_at_once() {
     let mut kernel = Kernel::boot(1).unwrap();
     for number in 3..=MAX_THREADS as u32 {
         kernel
