@@ -145,8 +145,8 @@ impl Locked {
         Ok(())
     }
 
-    /// Enters a call of the seat's thread. Executes its start, and then the next step until no step is enabled: at most 128. All of them
-    /// are appended to the history.
+    /// Enters a call of the seat's thread. Executes its start, and then the next step until no step is enabled, at most 128 times. All of
+    /// these steps are appended to the history.
     ///
     /// Returns these refusals, tested in this order: `ReplyWaiting` (L3), `HistoryFull` (L1), `NoMemory` (L2), `Kernel` (L5), which is
     /// `UnknownThread` if the seat was not given by this lock. After a refusal, nothing has changed.

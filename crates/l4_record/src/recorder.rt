@@ -136,7 +136,7 @@ impl Recorder {
         let _ = &self.frames;
     }
 
-    /// Enters a call of this thread. Appends its start to the history, and then the next steps until no step is enabled: at most 128.
+    /// Enters a call of this thread. Appends its start to the history, and then the next step until no step is enabled, at most 128 times.
     /// Overwrites `appended` with what was appended.
     ///
     /// Returns these refusals, tested in this order: `HistoryFull`, `NoMemory`, `Kernel`. After a refusal, nothing has changed, and the
