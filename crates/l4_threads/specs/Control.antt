@@ -1,5 +1,5 @@
--- Creating, changing and deleting threads: each refusal in its order, and the effect. A profile of
--- L4 X.2 manual, ThreadControl: the caller must be in the root space.
+-- Creating, changing and deleting threads: the refusals in their order, and the effect. This is a profile of the L4 X.2 manual,
+-- ThreadControl: the caller must be in root's space.
 use Rattle.std.specs.List.Sorted.{IsStrictlyIncreasing}
 use Rattle.std.specs.Prelude.{◌≡◌, ◌≢◌, ◌⊎◌, ◌↔◌, List, Contains, true, ℕ, ◌+◌, ◌-◌, ◌%◌, ◌<◌, ◌≤◌, ◌==◌, ◌&&◌, ◌||◌, not, nat_lt, nat_le, Bool, false, if◌then◌else◌, Option, Some, None, is_some, option_and_then, Result, Ok, Err}
 use Rattle.std.specs.Option.{option_map_or, option_map}
@@ -16,12 +16,12 @@ use Rattle.l4_threads.specs.declared.State.TheVariants.{Running, Sending as Send
 use Rattle.l4_threads.specs.declared.Thread.{Thread}
 use Rattle.l4_threads.specs.Threads.{Threads, thread_at, state_of, space_of, named, number_of, version_of, failed, sends, is_running}
 
--- the caller is in the root space, which is space 1
+-- the caller is in root's space, which is space 1
 abbrev pub is_privileged : Threads → ℕ → Bool
 is_privileged t caller = option_map_or (λ space. space == 1) (space_of t caller) false
 
--- no thread can have this id: it is nilthread or anythread, its number is 0, or the lower six bits of its
--- version are 0, which mark a local id (L4 X.2 manual, ThreadId)
+-- No thread can have this id: it is nilthread or anythread, its number is 0, or the low six bits of its version are 0, which mark a local
+-- id (L4 X.2 manual, ThreadId).
 abbrev pub is_bad_id : ThreadId → Bool
 is_bad_id id = (id.0 == 0) || ((id.0 == 0xffff_ffff) || ((number_of id == 0) || (id.0 % local_marks == 0)))
 
@@ -32,15 +32,15 @@ pub record IsGlobalId (number version : ℕ) (id : ThreadId) : Type 0 where
   pub one_word : id.0 < word_values
   pub good : is_bad_id id ≡ false
 
--- `space` is the new thread's own id, which asks for a new space
+-- `space` is the new thread's own id, which requests a new space
 abbrev pub asks_new : ThreadId → ThreadId → Bool
 asks_new id space = space.0 == id.0
 
--- the space of a new thread
+-- the space of a new thread, if there is one
 abbrev pub space_for : Threads → ThreadId → ThreadId → Option ℕ
 space_for t id space = if asks_new id space then Some t.next_space else option_and_then (space_of t) (named t space)
 
--- there is no room for a thread, or a new space is asked and the space numbers are used up (this profile's own)
+-- there are as many threads as there can be, or a new space is requested and the space numbers are used up (this profile's own)
 abbrev pub is_full : Threads → Bool → Bool
 is_full t new_space = nat_le max_threads (fin.len t.threads) || (new_space && nat_lt (space_numbers - 2) t.next_space)
 
@@ -52,15 +52,15 @@ create_test t caller id space =
     (if is_some (thread_at t (number_of id)) then Err Taken else
     (option_map_or (λ own. if is_full t (asks_new id space) then Err Full else Ok own) (space_for t id space) (Err Unknown))))
 
--- what a test that passed leaves to be known: the number is free, there is room, and the space is one that
--- there was or the next one
+-- What holds after a test that passed: the number is free, there is room for a thread, and the space is one that exists or the next new
+-- one.
 pub record CanCreate (t : Threads) (id : ThreadId) (own : ℕ) : Type 0 where
   pub free : thread_at t (number_of id) ≡ None
   pub room : fin.len t.threads < max_threads
   pub space : own ≤ t.next_space
   pub space_fits : own < space_numbers - 1
 
--- a new thread runs at once, and has no reply yet (this profile's own)
+-- a new thread is running at once, and has no reply yet (this profile's own)
 abbrev pub created : Threads → ThreadId → ℕ → ThreadId → Threads
 created t id space pager = record t {
   threads = fin.insert t.threads (number_of id) (record { id = id; space = space; pager = pager; state = Running None });
@@ -72,32 +72,32 @@ abbrev pub set_pager_test : Threads → ℕ → ThreadId → Result ℕ ThreadFa
 set_pager_test t caller id =
     if not (is_privileged t caller) then Err NoPrivilege else option_map_or (λ n. Ok n) (named t id) (Err Unknown)
 
--- the thread's pager is this one, and nothing else changes
+-- the thread has this pager, and nothing else changes
 abbrev pub with_pager : Threads → ℕ → ThreadId → Threads
 with_pager t n pager = option_map_or (λ thread. record t { threads = fin.insert t.threads n (record thread { pager = pager }) }) (thread_at t n) t
 
--- the first refusal of a Delete that applies, or the thread's number: sigma0, root and the caller are kept
+-- the first refusal of a Delete that applies, or the thread's number; sigma0, root and the caller cannot be deleted
 abbrev pub delete_test : Threads → ℕ → ThreadId → Result ℕ ThreadFault
 delete_test t caller id =
     if not (is_privileged t caller) then Err NoPrivilege else
     option_map_or (λ n. if (n == 1) || ((n == 2) || (n == caller)) then Err Kept else Ok n) (named t id) (Err Unknown)
 
--- a receive phase waits for the thread n by name
+-- a receive phase that accepts only messages of thread n
 abbrev pub waits_for : ℕ → Source → Bool
 waits_for n Anyone = false
 waits_for n (One from) = from == n
 
--- the state once the thread n is gone: a call that waits for n by name has failed
+-- the state after thread n was deleted: a receive phase that accepts only messages of n has failed, and so has a send phase to n
 abbrev pub without_partner : ℕ → State → State
 without_partner n (Running reply) = Running reply
 without_partner n (Sends s) = if s.to == n then Running (Some (failed s.fault 4)) else Sends s
 without_partner n (Receives r) = if waits_for n r.«from» then Running (Some (failed r.fault 5)) else Receives r
 
--- the thread, freed from its wait for n
+-- the thread after its wait for n, if it waits for n, has ended
 abbrev pub freed : ℕ → Thread → Thread
 freed n thread = record thread { state = without_partner n thread.state }
 
--- the thread is gone, and so is each wait for it
+-- the thread is deleted, and every wait for it has ended
 pub record Deletes (n : ℕ) (old new : Threads) : Type 0 where
   pub threads : (other : ℕ) → thread_at new other ≡ (if other == n then None else option_map (freed n) (thread_at old other))
   pub queue : (a b : ℕ) → set.contains new.before (a, b) ≡ (set.contains old.before (a, b) && (sends new a && sends new b))
@@ -107,12 +107,12 @@ pub record Deletes (n : ℕ) (old new : Threads) : Type 0 where
 abbrev pub waits : Threads → ℕ → Type 0
 waits t n = option_map is_running (state_of t n) ≡ Some false
 
--- the thread's call ended with the victim: it waited for that one, or is that one
+-- the thread's call ended when the victim was deleted: the thread waited for the victim, or is the victim
 abbrev pub IsEndedBy : Threads → Threads → ℕ → ℕ → Type 0
 IsEndedBy old new victim n =
     ((n ≡ victim) × waits old n) ⊎ ((n ≢ victim) × waits old n × (option_map is_running (state_of new n) ≡ Some true))
 
--- the threads whose calls ended with the victim, by rising number
+-- the threads whose calls ended when the victim was deleted, in rising order
 pub record IsEndedList (old new : Threads) (victim : ℕ) (ended : List ℕ) : Type 0 where
   pub rising : IsStrictlyIncreasing ended
   pub each : (n : ℕ) → Contains ended n ↔ IsEndedBy old new victim n
@@ -121,7 +121,7 @@ pub record IsEndedList (old new : Threads) (victim : ℕ) (ended : List ℕ) : T
 abbrev pub HasEnded : Threads → ℕ → Type 0
 HasEnded t space = (n : ℕ) → space_of t n ≢ Some space
 
--- the victim's space is named just where it has ended
+-- the victim's space is returned exactly if it has no threads any more
 abbrev pub TellsEnd : Threads → Threads → ℕ → Option ℕ → Type 0
 TellsEnd old new victim None = (n : ℕ) × (space_of new n ≡ space_of old victim)
 TellsEnd old new victim (Some space) = (space_of old victim ≡ Some space) × HasEnded new space

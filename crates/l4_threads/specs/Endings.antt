@@ -1,4 +1,4 @@
--- What calls reply whose replies have no words. (this profile's own)
+-- The replies of calls whose replies have no words (this profile's own).
 use Rattle.l4_threads.specs.declared.Reply.{Reply}
 use Rattle.l4_threads.specs.declared.Reply.TheVariants.{Hit as IsHit, Answered as IsAnswered, FaultFailed as HasFailed, Unmapped as IsUnmapped, Controlled as IsControlled}
 use Rattle.l4_threads.specs.declared.Wordless.{Wordless}

@@ -1,4 +1,4 @@
--- The queue of senders as a list of numbers. (this profile's own)
+-- The queue of senders as a list of numbers (this profile's own).
 use Rattle.std.specs.Prelude.{◌≡◌, ℕ, ◌==◌, Bool, false, List, [], ◌∷◌, ◌++◌, map}
 use Rattle.std.specs.List.{list_any}
 
@@ -11,7 +11,7 @@ pairs_of (a ∷ rest) = map (λ b. (a, b)) rest ++ pairs_of rest
 abbrev pub is_in : List ℕ → ℕ → Bool
 is_in queue n = list_any (λ m. n == m) queue
 
--- no number stands twice in the list
+-- no number is in the list twice
 abbrev pub IsOnce : List ℕ → Type 0
 IsOnce [] = Unit {0}
 IsOnce (a ∷ rest) = (is_in rest a ≡ false) × IsOnce rest

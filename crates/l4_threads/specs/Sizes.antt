@@ -1,12 +1,12 @@
--- The sizes of threads and of their ids (L4 X.2 manual, ThreadId: global thread ids; the threads at most and the numbers of
+-- The sizes of threads and of their ids (L4 X.2 manual, ThreadId: global thread ids; the maximum number of threads and the numbers of
 -- spaces are this profile's own).
 use Rattle.std.specs.Prelude.{ℕ, ◌^◌}
 
--- the threads that there are at a time, at most
+-- the greatest number of threads that exist at a time
 abbrev pub max_threads : ℕ
 max_threads = 64
 
--- the values of a thread number, of a version, and of the part of a version that is 0 in a local id
+-- the number of values of a thread number, of a version, and of the part of a version that is 0 in a local id
 abbrev pub numbers : ℕ
 numbers = 2 ^ 18
 
@@ -16,10 +16,10 @@ versions = 2 ^ 14
 abbrev pub local_marks : ℕ
 local_marks = 2 ^ 6
 
--- the values of a word
+-- the number of values of a word
 abbrev pub word_values : ℕ
 word_values = 2 ^ 32
 
--- the numbers of spaces, of which each is given once
+-- the number of space numbers, each of which is used once
 abbrev pub space_numbers : ℕ
 space_numbers = 2 ^ 64

@@ -1,4 +1,4 @@
--- The threads as one value: who there is, what each does, and who stands before whom in the queue of senders.
+-- The threads as one value: the threads that exist, what each is doing, and the order of the queue of senders.
 use Rattle.std.specs.Prelude.{◌≡◌, ◌≢◌, ℕ, ◌/◌, ◌%◌, ◌<◌, ◌≤◌, ◌⊎◌, ◌==◌, ◌&&◌, not, Bool, true, false, if◌then◌else◌, List, [], map, filter_map, Option, Some, None, IsTrue, option_and_then, refl}
 use Rattle.std.specs.Option.{option_map_or, option_map}
 use Rattle.std.specs.Ordering.{nat_cmp, ordering_then}
@@ -24,26 +24,26 @@ use Rattle.l4_threads.specs.declared.Thread.{Thread}
 abbrev pub pair_cmp : ℕ × ℕ → ℕ × ℕ → Ordering
 pair_cmp a b = ordering_then (nat_cmp a.0 b.0) (nat_cmp a.1 b.1)
 
--- The threads by number, which sender stands before which, and the number of the next new space. A space
--- number is never used twice (this profile's own).
+-- The threads by number, the pairs of senders of which the first is before the second in the queue, and the number of the next new space.
+-- No space number is used twice (this profile's own).
 pub record Threads : Type 0 where
   pub threads : fin.FinMap nat_cmp Thread
   pub before : set.FinSet pair_cmp
   pub next_space : ℕ
 
--- the thread of this number
+-- the thread with this number, if it exists
 abbrev pub thread_at : Threads → ℕ → Option Thread
 thread_at t n = fin.get t.threads n
 
--- what the thread of this number does
+-- what the thread with this number is doing
 abbrev pub state_of : Threads → ℕ → Option State
 state_of t n = option_map (λ thread. thread.state) (thread_at t n)
 
--- the space of the thread of this number
+-- the space of the thread with this number
 abbrev pub space_of : Threads → ℕ → Option ℕ
 space_of t n = option_map (λ thread. thread.space) (thread_at t n)
 
--- the pager of the thread of this number
+-- the pager of the thread with this number
 abbrev pub pager_of : Threads → ℕ → Option ThreadId
 pager_of t n = option_map (λ thread. thread.pager) (thread_at t n)
 
@@ -51,7 +51,7 @@ pager_of t n = option_map (λ thread. thread.pager) (thread_at t n)
 abbrev pub nilthread : ThreadId
 nilthread = record { 0 = 0 }
 
--- the id that stands for any thread (L4 X.2 manual, ThreadId: anythread)
+-- the id that means any thread (L4 X.2 manual, ThreadId: anythread)
 abbrev pub anythread : ThreadId
 anythread = record { 0 = 0xffff_ffff }
 
@@ -63,37 +63,37 @@ number_of id = id.0 / versions
 abbrev pub version_of : ThreadId → ℕ
 version_of id = id.0 % versions
 
--- the number of the thread that the id names: its whole word is equal, so its version too
+-- the number of the thread with this id: the whole word must be equal, so the version too
 abbrev pub named : Threads → ThreadId → Option ℕ
 named t id = option_and_then (λ thread. if thread.id.0 == id.0 then Some (number_of id) else None) (thread_at t (number_of id))
 
--- the state waits for its message to be taken
+-- the thread waits for its message to be received
 abbrev pub is_sending : State → Bool
 is_sending (Running reply) = false
 is_sending (Sends s) = true
 is_sending (Receives r) = false
 
--- the state waits for nobody
+-- the thread does not wait
 abbrev pub is_running : State → Bool
 is_running (Running reply) = true
 is_running (Sends s) = false
 is_running (Receives r) = false
 
--- the state waits for a message
+-- the thread waits for a message
 abbrev pub is_receiving : State → Bool
 is_receiving (Running reply) = false
 is_receiving (Sends s) = false
 is_receiving (Receives r) = true
 
--- there is such a thread, and it is sending
+-- the thread exists, and is sending
 abbrev pub sends : Threads → ℕ → Bool
 sends t n = option_map_or is_sending (state_of t n) false
 
--- there is such a thread, and it is running
+-- the thread exists, and is running
 abbrev pub runs : Threads → ℕ → Bool
 runs t n = option_map_or is_running (state_of t n) false
 
--- there is such a thread, and it is running or sending: a receive phase may begin
+-- the thread exists, and is running or sending, so that a receive phase may begin
 abbrev pub may_receive : Threads → ℕ → Bool
 may_receive t n = option_map_or (λ state. not (is_receiving state)) (state_of t n) false
 
@@ -101,46 +101,46 @@ may_receive t n = option_map_or (λ state. not (is_receiving state)) (state_of t
 abbrev pub senders : Threads → List ℕ
 senders t = filter_map (λ e. if is_sending e.1.state then Some e.0 else None) (fin.entries t.threads)
 
--- one sender stands before the other in the queue
+-- one sender is before the other in the queue
 abbrev pub Before : Threads → ℕ → ℕ → Type 0
 Before t a b = IsTrue (set.contains t.before (a, b))
 
--- the thread's state is this one, and nothing else changes
+-- the thread has this state, and nothing else changes
 abbrev pub with_state : Threads → ℕ → State → Threads
 with_state t n state = option_map_or (λ thread. record t { threads = fin.insert t.threads n (record thread { state = state }) }) (thread_at t n) t
 
--- the thread stands in no pair of the queue
+-- the queue without the thread
 abbrev pub out_of_queue : Threads → ℕ → Threads
 out_of_queue t n = record t { before = set.retain t.before (λ p. not (p.0 == n) && not (p.1 == n)) }
 
--- the send phase of these words and of the items in them
+-- the send phase with these words and the items in them
 abbrev pub sending_of : List ℕ → List Item → SendPhase → Sending
 sending_of words items phase = record { words = record { items = words }; items = record { items = items }; to = phase.to; expires = phase.expires; «then» = phase.«then»; fault = phase.fault }
 
--- the reply of these words
+-- the reply with these words
 abbrev pub message_of : Envelope → List ℕ → IpcReply
 message_of envelope words = record { tag = envelope.tag; error = envelope.error; «from» = envelope.«from»; words = record { items = words } }
 
--- a thread that starts to send comes after all that send (this profile's own: one queue, in the order of the starts)
+-- a thread that starts to send is last in the queue (this profile's own: one queue, in the order in which send phases start)
 abbrev pub start_send : Threads → ℕ → Sending → Threads
 start_send t n s =
     with_state (record t { before = set.union t.before (set.from_list (map (λ m. (m, n)) (senders t))) }) n (Sends s)
 
--- the pairs of a thread that stops to send are taken out
+-- a thread that starts to receive is no longer in the queue
 abbrev pub start_receive : Threads → ℕ → Receiving → Threads
 start_receive t n r = with_state (out_of_queue t n) n (Receives r)
 
--- the thread runs on with this reply
+-- the thread's call ends with this reply, and the thread runs
 abbrev pub end_call : Threads → ℕ → Reply → Threads
 end_call t n reply = with_state (out_of_queue t n) n (Running (Some reply))
 
--- what a call that failed with this ErrorCode replies (L4 X.2 manual, IPC: the error indicator of the tag, and ErrorCode)
+-- the reply of a call that failed with this ErrorCode (L4 X.2 manual, IPC: the error indicator of the tag, and ErrorCode)
 abbrev pub failed : Bool → ℕ → Reply
 failed true code = FaultFailed code
 failed false code = Ipc (record { tag = 0x8000; error = code; «from» = nilthread; words = record { items = [] } })
 
--- the threads of the start: sigma0 is thread 1 in space 0 without a pager, and root is thread 2 in space 1,
--- whose pager is sigma0; both run with no reply yet (this profile's own)
+-- The threads at boot: sigma0 is thread 1 in space 0, without a pager. Root is thread 2 in space 1, and its pager is sigma0. Both are
+-- running, with no reply yet (this profile's own).
 abbrev pub first_threads : Threads
 first_threads = record {
   threads = fin.insert (fin.insert fin.empty 1 (record { id = record { 0 = 0x4001 }; space = 0; pager = nilthread; state = Running None }))
@@ -149,8 +149,8 @@ first_threads = record {
   next_space = 2;
 }
 
--- What holds of the threads at all times: each thread's id has its number, its space was handed out before, and
--- the queue's pairs are a strict total order of the senders.
+-- The invariant of the threads: each thread's id has its number, the number of its space is below that of the next new one, and the pairs
+-- of the queue are a strict total order of the senders.
 pub record IsConsistent (t : Threads) : Type 0 where
   pub number : (n : ℕ) (thread : Thread) → thread_at t n ≡ Some thread → number_of thread.id ≡ n
   pub small : (n : ℕ) (thread : Thread) → thread_at t n ≡ Some thread → n < numbers
