@@ -1,4 +1,5 @@
--- A locked kernel whose seats are all in one hand: what each keeps, and what is entered and taken by its number. (this profile's own)
+-- A locked kernel that holds all its seats itself: the state of each seat, and the calls that are entered and taken by seat number (this
+-- profile's own).
 use Rattle.std.specs.Prelude.{◌≡◌, ℕ, List, [], map, Option, Some}
 use Rattle.std.specs.Option.{option_map, option_map_or}
 use Rattle.l4_threads.specs.declared.Reply.{Reply}
@@ -7,7 +8,8 @@ use Rattle.l4_lock.specs.declared.refusals.Entered.{Entered}
 use Rattle.l4_lock.specs.Books.{SeatState, seat_state, Book, pending_count, book_at}
 use Rattle.l4_lock.specs.Locked.{Lock, Enters, Tells, Takes}
 
--- what a book's seat keeps, where nobody else ever had it: a call that isn't taken yet was left waiting, and the receipts are the book's
+-- the state of a book's seat, which never left the lock: a call that has not been taken was left waiting, and the receipts are those of the
+-- book
 abbrev pub seat_of : Book → SeatState
 seat_of b = seat_state b.number (pending_count b.pending) b.receipts
 
@@ -15,7 +17,7 @@ seat_of b = seat_state b.number (pending_count b.pending) b.receipts
 abbrev pub seat_at : List Book → ℕ → Option SeatState
 seat_at books n = option_map seat_of (book_at books n)
 
--- the call was entered by the seat of this number, of which this is told
+-- the call was entered under the seat of this number, with this result
 pub record EntersBySeat (old new : Lock) (n : ℕ) (call : Call) (told : Entered) : Type 0 where
   pub before : SeatState
   pub after : SeatState
@@ -33,7 +35,7 @@ pub record TakesBySeat (old new : Lock) (n : ℕ) (reply : Reply) : Type 0 where
   pub number : before.number ≡ n
   pub takes : Takes old new before after (λ call. call) reply
 
--- the seats that come back by their numbers: each as its book says, and one that was not given has entered nothing
+-- the state of a seat that comes back by its number: as its book says, or a seat that has entered nothing if it was not given
 abbrev pub seat_back : List Book → ℕ → SeatState
 seat_back books n = option_map_or seat_of (book_at books n) (seat_state n 0 [])
 
