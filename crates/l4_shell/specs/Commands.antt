@@ -1,4 +1,4 @@
--- What the tokens of a line ask for (this profile's own).
+-- The commands of a script, from the tokens of a line (this profile's own).
 use Rattle.std.specs.Prelude.{ℕ, ◌==◌, Bool, true, false, List, [], ◌∷◌, length, nat_le, slice_index, Option, Some, None, Result, Err, option_and_then, ok_or, if◌then◌else◌, codes}
 use Rattle.std.specs.Str.{bytes_eq}
 use Rattle.l4_fpage.specs.Rights.{RightsSet}
@@ -15,7 +15,7 @@ use Rattle.l4_shell.specs.declared.commands.ScriptFault.{ScriptFault}
 use Rattle.l4_shell.specs.declared.commands.ScriptFault.TheVariants.{UnknownCommand, BadTokens}
 use Rattle.l4_text.specs.Numbers.{below, number_of}
 
--- what a line asks for; threads go by their numbers, below 2^18, and words come with the tag first
+-- A command. Threads are named by their numbers, below 2^18; the first of the words is the tag.
 pub data Command : Type 0 where
   -- root creates a thread of this number, in this space and with this pager
   Thread : ℕ → NewSpace → Partner → Command
@@ -25,23 +25,23 @@ pub data Command : Type 0 where
   Delete : ℕ → Command
   -- a thread receives from a partner, with this window
   Receive : ℕ → Partner → ℕ → Command
-  -- a thread sends a partner these words
+  -- a thread sends these words to a partner
   Send : ℕ → Partner → List ℕ → Command
-  -- a thread sends a partner these words, and then receives from another with these timeouts and this window
+  -- a thread sends these words to a partner, and then receives from another one, with these timeouts and this window
   Ipc : ℕ → Partner → Partner → ℕ → ℕ → List ℕ → Command
   -- a thread raises a page fault
   Fault : ℕ → FaultCall → Command
-  -- a thread sends a partner the only message of the region's plan
+  -- a thread sends the only message of the region's plan to a partner
   Delegate : ℕ → Partner → Delegated → Command
-  -- a thread sends a partner the message with this number, from 0, of the region's plan
+  -- a thread sends the message with this number, from 0, of the region's plan to a partner
   Part : ℕ → Partner → ℕ → Delegated → Command
   -- a thread revokes rights: the control word, and the message registers
   Unmap : ℕ → ℕ → List ℕ → Command
-  -- the present pages of a thread's space, from a first on among so many
+  -- the present pages of a thread's space among this number of pages from a first one on
   Show : ℕ → ℕ → ℕ → Command
   -- the parent of a page of a thread's space
   Parent : ℕ → ℕ → Command
-  -- a thread's table gets a region
+  -- a region is added to a thread's table
   Region : ℕ → Entry → Command
   -- a thread is served
   Serve : ℕ → Command
@@ -72,11 +72,11 @@ partner_of token = if is_word (codes "any") token then Some Any else nil_or_thre
 unfoldable pub new_space_of : List ℕ → Option NewSpace
 new_space_of token = if is_word (codes "new") token then Some New else (thread_of token >>= λ n. Some (Of n))
 
--- a right's letter, or a dash in its place
+-- the letter of a right, or a hyphen in its place
 abbrev pub right_of : ℕ → ℕ → Option Bool
 right_of letter byte = if byte == letter then Some true else (if byte == 45 then Some false else None)
 
--- r, w and x in turn, each of them or a dash in its place
+-- r, w and x in this order, or a hyphen in place of each
 unfoldable pub rights_of : List ℕ → Option RightsSet
 rights_of token = if length token == 3 then (do
   r ← right_of 114 (slice_index token 0)
@@ -84,37 +84,37 @@ rights_of token = if length token == 3 then (do
   x ← right_of 120 (slice_index token 2)
   Some (record { r = r; w = w; x = x })) else None
 
--- the numbers that all tokens spell
+-- the numbers that the tokens spell, if each of them spells one
 abbrev pub numbers_of : List (List ℕ) → Option (List ℕ)
 numbers_of [] = Some []
 numbers_of (token ∷ tokens) = number_of token >>= λ n. numbers_of tokens >>= λ ns. Some (n ∷ ns)
 
--- words that message registers hold
+-- the numbers of words, at most as many as there are message registers
 unfoldable pub words_of : List (List ℕ) → Option (List ℕ)
 words_of tokens = if nat_le (length tokens) max_words then numbers_of tokens else None
 
--- TOKENS IN THEIR ORDER
+-- TOKENS IN ORDER
 
--- what the first token spells, and the tokens after it
+-- the value that the first token spells, and the tokens after it
 abbrev pub first_by : {A : Type 0} → (List ℕ → Option A) → List (List ℕ) → Option (A × List (List ℕ))
 first_by read [] = None
 first_by read (token ∷ tokens) = read token >>= λ a. Some (a, tokens)
 
--- one token, and what the tokens after it ask for, given what it spells
+-- reads one token, and then the tokens after it, which may depend on the token's value
 infixr 10 ◌▹◌
 abbrev pub ◌▹◌ : {A B : Type 0} → (List ℕ → Option A) → (A → List (List ℕ) → Option B) → List (List ℕ) → Option B
 (read ▹ asks) tokens = first_by read tokens >>= λ a. asks a.0 a.1
 
--- no token is left
+-- there are no more tokens
 abbrev pub no_more : {A : Type 0} → A → List (List ℕ) → Option A
 no_more a [] = Some a
 no_more a (token ∷ tokens) = None
 
--- what is made of all the tokens that are left
+-- a value made from all remaining tokens
 abbrev pub all_by : {A B : Type 0} → (List (List ℕ) → Option A) → (A → B) → List (List ℕ) → Option B
 all_by read make tokens = read tokens >>= λ a. Some (make a)
 
--- rights, and no token after them
+-- rights, with no token after them
 abbrev pub last_rights_of : List (List ℕ) → Option RightsSet
 last_rights_of tokens = (rights_of ▹ no_more) tokens
 
@@ -194,7 +194,7 @@ pager_command_of name tokens =
     else (if is_word (codes "steps") name then ok_or (steps_asked tokens) BadTokens
     else Err UnknownCommand)))
 
--- what the tokens of a line that has some ask for, or why they can't be read
+-- the command of a line that has tokens, or the reason why they cannot be read
 unfoldable pub command_of : List (List ℕ) → Result Command ScriptFault
 command_of [] = Err UnknownCommand
 command_of (name ∷ tokens) =

@@ -1,4 +1,4 @@
--- The codes of what a script's line is refused for before it reaches the kernel (this profile's own).
+-- The codes of the refusals of a script's line that come before the kernel's (this profile's own).
 use Rattle.std.specs.Prelude.{codes}
 use Rattle.l4_answers.specs.Refusals.{Refusal, plainly, at_place, kernel_refusal}
 use Rattle.l4_record.specs.declared.refusals.RecordRefusal.{RecordRefusal}
@@ -12,15 +12,15 @@ use Rattle.l4_plan.specs.declared.plans.PlanRefusal.TheVariants.{Empty, OutOfSpa
 use Rattle.l4_shell.specs.declared.commands.ScriptFault.{ScriptFault}
 use Rattle.l4_shell.specs.declared.commands.ScriptFault.TheVariants.{UnknownCommand, BadTokens, LineTooLong, CutLine}
 
--- the code of a line that can't be read
+-- the code of a line that cannot be read
 abbrev pub script_refusal : ScriptFault → Refusal
 script_refusal UnknownCommand = plainly (codes "S1")
 script_refusal BadTokens = plainly (codes "S2")
 script_refusal LineTooLong = plainly (codes "S3")
 script_refusal CutLine = plainly (codes "S4")
 
--- the code of a delegation without a plan, or without such a message; of a plan that is too long no pages are told, and of others how many
--- messages they have
+-- The code of a delegation without a plan, or without such a message. For a plan that is too long, no pages are reported; for N5 and N6,
+-- the number of messages is.
 abbrev pub plan_refusal : PlanRefusal → Refusal
 plan_refusal Empty = plainly (codes "N1")
 plan_refusal OutOfSpace = plainly (codes "N2")
@@ -29,21 +29,21 @@ plan_refusal (TooLong pages) = plainly (codes "N4")
 plan_refusal (Several messages) = at_place (codes "N5") messages
 plan_refusal (NoPart messages) = at_place (codes "N6") messages
 
--- want of memory
+-- an allocation failed
 abbrev pub lacks_memory : Refusal
 lacks_memory = plainly (codes "NoMemory")
 
--- the code of a call that is not entered; of the kernel's own refusals the innermost one
+-- the code of a call that is not entered; for a refusal of the kernel, that of the lowest layer
 abbrev pub call_refusal : RecordRefusal → Refusal
 call_refusal HistoryFull = plainly (codes "L1")
 call_refusal WantOfMemory = lacks_memory
 call_refusal (ByKernel refusal) = kernel_refusal refusal
 
--- the code of what a pager's table refuses
+-- the code of a refusal of a pager's table
 abbrev pub pager_refusal : PagerRefusal → Refusal
 pager_refusal refusal = plainly (code_of refusal)
 
--- the code of a region that isn't added
+-- the code of a region that is not added
 abbrev pub region_refusal : RegionRefusal → Refusal
 region_refusal (Pager refusal) = pager_refusal refusal
 region_refusal NoMemory = lacks_memory

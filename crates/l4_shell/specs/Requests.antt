@@ -1,4 +1,4 @@
--- What a line asks for, and the call that it enters (this profile's own).
+-- The request of a line, and the call that it enters (this profile's own).
 use Rattle.std.specs.Prelude.{ℕ, ◌+◌, ◌*◌, ◌%◌, ◌==◌, ◌||◌, nat_lt, Bool, true, false, List, [], ◌∷◌, length, Option, Some, None, Result, Ok, Err, if◌then◌else◌}
 use Rattle.l4_threads.specs.declared.ThreadId.{ThreadId}
 use Rattle.l4_threads.specs.Threads.{nilthread, anythread}
@@ -24,7 +24,7 @@ use Rattle.l4_shell.specs.Commands.{Command, Thread, SetPager, Delete, Receive, 
 
 -- THE CALLS
 
--- the id of a script's thread: its number in the bits from 14 on, and version 1; of a number below 2^18 no bit is lost
+-- the thread id of a script's thread: its number in bits 31 to 14, and version 1; a number below 2^18 fits into these bits
 abbrev pub script_id : ℕ → ThreadId
 script_id number = record { 0 = number * versions % word_values + 1 }
 
@@ -33,21 +33,21 @@ partner_id Nil = nilthread
 partner_id Any = anythread
 partner_id (One number) = script_id number
 
--- the id that names the space of a new thread: its own for a new space
+-- the id that determines the space of a new thread: its own id for a new space
 abbrev pub space_id : ℕ → NewSpace → ThreadId
 space_id number New = script_id number
 space_id number (Of other) = script_id other
 
--- `thread`: a thread is created
+-- `thread`: creates a thread
 abbrev pub create_call : ℕ → NewSpace → Partner → Call
 create_call number space pager =
     Controls (Create (record { id = script_id number; space = space_id number space; pager = partner_id pager }))
 
--- `setpager`: a thread's pager is changed
+-- `setpager`: changes a thread's pager
 abbrev pub set_pager_call : ℕ → Partner → Call
 set_pager_call number pager = Controls (ChangePager (record { id = script_id number; pager = partner_id pager }))
 
--- `delete`: a thread is deleted
+-- `delete`: deletes a thread
 abbrev pub delete_call : ℕ → Call
 delete_call number = Controls (End (script_id number))
 
@@ -56,11 +56,11 @@ abbrev pub ipc_call : Partner → Partner → ℕ → ℕ → List ℕ → Call
 ipc_call to «from» timeouts window words =
     Exchanges (record { to = partner_id to; «from» = partner_id «from»; timeouts = timeouts; acceptor = window; words = record { items = words } })
 
--- `recv`: a receive phase alone, which waits for ever
+-- `recv`: only a receive phase, without a timeout
 abbrev pub receive_call : Partner → ℕ → Call
 receive_call partner window = ipc_call Nil partner 0 window []
 
--- `send`: a send phase alone, which waits for ever
+-- `send`: only a send phase, without a timeout
 abbrev pub send_call : Partner → List ℕ → Call
 send_call partner words = ipc_call partner Nil 0 0 words
 
@@ -68,11 +68,11 @@ send_call partner words = ipc_call partner Nil 0 0 words
 abbrev pub unmap_call : ℕ → List ℕ → Call
 unmap_call control words = Unmaps (record { control = control; words = record { items = words } })
 
--- the thread that creates and deletes threads, and names their pagers
+-- the number of root, the thread that creates and deletes threads, and changes their pagers
 abbrev pub root : ℕ
 root = 2
 
--- what a command comes to
+-- the request of a command
 abbrev pub request_of : Command → Request
 request_of (Thread number space pager) = CreateThread number (create_call number space pager)
 request_of (SetPager number pager) = Enter root (set_pager_call number pager)
@@ -90,7 +90,7 @@ request_of (Region number entry) = AddRegion number entry
 request_of (Serve number) = ServeThread number
 request_of Steps = TellSteps
 
--- WHAT A LINE ASKS FOR
+-- THE REQUEST OF A LINE
 
 -- how a line ends
 abbrev pub ending_of : ScriptLine → Ending
@@ -105,7 +105,7 @@ abbrev pub is_empty : List (List ℕ) → Bool
 is_empty [] = true
 is_empty (token ∷ tokens) = false
 
--- a comment, or a line without tokens
+-- a comment, or a line without tokens; it gets no answer
 abbrev pub is_silent : List ℕ → Bool
 is_silent bytes = is_comment bytes || is_empty (tokens_of bytes)
 
@@ -113,7 +113,7 @@ abbrev pub some_command : Result Command ScriptFault → Result (Option Command)
 some_command (Ok command) = Ok (Some command)
 some_command (Err fault) = Err fault
 
--- what a line with this ending asks for, None where it is empty or a comment, or its first refusal
+-- the command of a line with this ending, None if the line is empty or a comment, or its first refusal
 abbrev pub asked_at : Ending → List ℕ → Result (Option Command) ScriptFault
 asked_at Cut bytes = Err CutLine
 asked_at Long bytes = Err LineTooLong

@@ -1,4 +1,4 @@
--- A script from its first line to its last.
+-- A script from its first line to its last (this profile's own).
 use Rattle.std.specs.Prelude.{ℕ, ◌≡◌, ◌⊎◌, Bool, true, false, List, [], ◌∷◌, ◌++◌, length, filter, Option, Result, Ok, Err}
 use Rattle.std.specs.List.{All}
 use Rattle.std.specs.Io.KnownBytes.{Consumes, IsAtEnd}
@@ -10,11 +10,11 @@ use Rattle.l4_shell.specs.Sessions.{IsAnswered}
 use Rattle.l4_text.specs.declared.faults.RunFault.{RunFault}
 use Rattle.l4_text.specs.declared.faults.RunFault.TheVariants.{Read, Write, Memory}
 
--- a line of this number was answered without its refusal, or by its refusal alone
+-- the line with this number was answered without a refusal, or only by its refusal
 abbrev pub IsOneAnswer : ℕ → List Report → Type 0
 IsOneAnswer number told = (has_refusal told ≡ false) ⊎ ((refusal : Refusal) × (told ≡ RefusedLine number refusal ∷ []))
 
--- the sink was open before the last line, of this number, was answered
+-- the sink was open before the last line, which has this number, was answered
 pub record WasOpen {T : Type 0} (has_told : T → T → List Report → Type 0) (closed : T → Bool) (old : T) (number : ℕ) (told : List Report) : Type 0 where
   pub earlier : List Report
   pub last : List Report
@@ -24,8 +24,8 @@ pub record WasOpen {T : Type 0} (has_told : T → T → List Report → Type 0) 
   pub adds : AddsAll has_told old between earlier
   pub opened : closed between ≡ false
 
--- The first lines of what was read were answered, each of them whole unless the input has ended, so that any script that goes on from here has
--- these answers first. Nothing was told, or the sink was open before the last of these lines.
+-- The first lines of the input were answered. Each of them is whole unless the input has ended, so any longer script has these answers
+-- first. Nothing was reported, or the sink was open before the last of these lines.
 pub record AnswersFirst {T : Type 0} (frames : ℕ) (size : PageSize) (old new : Option (List ℕ)) (has_told : T → T → List Report → Type 0) (closed : T → Bool) (sink : T) : Type 0 where
   pub read : List ℕ
   pub from : Consumes old new read
@@ -37,12 +37,12 @@ pub record AnswersFirst {T : Type 0} (frames : ℕ) (size : PageSize) (old new :
   pub is_answered : IsAnswered frames size lines told
   pub was_open : (told ≡ []) ⊎ WasOpen has_told closed sink (length lines) told
 
--- whatever was reported before, it and these answers are out
+-- whatever was reported before, that and these answers have been written
 abbrev pub AddsOut : {T : Type 0} → (T → T → List Report → Type 0) → (T → T → List Report → Type 0) → T → T → List Report → Type 0
 AddsOut has_told is_out old new told = (first : _) (earlier : List Report) → has_told first old earlier → is_out first new (earlier ++ told)
 
--- A run of a script: to its end or until the sink closed; to a read that failed, and all whole lines before it; to a write that failed.
--- Want of memory comes before all else.
+-- A run of a script: to its end, or until the sink closed; or to a read that failed, with the answers to all whole lines before it; or to a
+-- write that failed. NoMemory comes before everything else.
 abbrev pub Runs : {T : Type 0} → ℕ → PageSize → Option (List ℕ) → Option (List ℕ) → (T → T → List Report → Type 0) → (T → T → List Report → Type 0) → (T → Bool) → T → T → Result ℕ RunFault → Type 0
 Runs frames size old new has_told is_out closed before after (Ok count) =
     (a : AnswersFirst frames size old new has_told closed before) × (count ≡ length a.lines) × AddsOut has_told is_out before after a.told

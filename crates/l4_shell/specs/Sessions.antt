@@ -44,17 +44,17 @@ use Rattle.l4_servers.specs.declared.servers.RegionRefusal.{RegionRefusal}
 
 -- STEPS
 
--- the answer to a step itself
+-- the report of a step itself
 abbrev pub own_report : Step → Outcome → List Report
 own_report (Start n call) outcome = []
 own_report (Transfer sender receiver) outcome = Transferred sender receiver outcome ∷ []
 own_report (Expire n) outcome = TimedOut n ∷ []
 
--- how these threads' calls ended, as the machine has it right after the step
+-- how the calls of these threads ended, in the machine right after the step
 abbrev pub ended_reports : Machine → List ℕ → List Report
 ended_reports m numbers = flat_map (λ n. Ended n (reply_of m.threads n) ∷ []) numbers
 
--- the answers to a step: its own, and then the calls that ended in it
+-- the reports of a step: its own, and then those of the calls that ended in it
 abbrev pub step_reports : Step → Answer → Machine → List Report
 step_reports step answer new = own_report step answer.outcome ++ ended_reports new answer.ended.items
 
@@ -65,14 +65,14 @@ done_reports done = step_reports done.step done.answer done.after
 abbrev pub ended_in : List Done → List ℕ
 ended_in steps = flat_map (λ done. done.answer.ended.items) steps
 
--- that a thread's call has not ended
+-- the report that a thread's call has not ended, unless it has
 abbrev pub waiting_reports : ℕ → Bool → List Report
 waiting_reports thread ended = if ended then [] else (Waits thread ∷ [])
 
 -- SESSIONS
 
--- What a script has: the kernel, the servers, the history, the numbers that have their seats, and the count that was told last. An entry of
--- the history is the start of a call, or a step that followed one.
+-- The state of a script: the kernel, the servers, the history, the numbers that have their seats, and the count that was reported last. An
+-- entry of the history is the start of a call, or a step that followed one.
 pub record Session : Type 0 where
   pub machine : Machine
   pub servers : Servers
@@ -80,29 +80,30 @@ pub record Session : Type 0 where
   pub numbers : List ℕ
   pub seen : ℕ
 
--- the session of a kernel with its seats, and of its servers
+-- the session with this kernel, its seats and these servers
 abbrev pub session : Seated → Servers → Session
 session kernel servers =
     record { machine = kernel.machine; servers = servers; history = kernel.history; numbers = kernel.numbers; seen = kernel.seen }
 
--- at the start sigma0 and root have their seats, and the servers go by the size of the pages of the machine
+-- at the start, sigma0 and root have their seats, and the servers use the page size of the machine
 abbrev pub first_session : ℕ → Machine → Session
 first_session frames boot = record { machine = boot; servers = no_servers boot.size frames; history = []; numbers = 1 ∷ 2 ∷ []; seen = 0 }
 
--- the entries of a call: its start, and the steps that followed
+-- the entries of a call: its start, and the steps that followed it
 abbrev pub done_entry : ℕ → Done → HistoryEntry
 done_entry n done = record { seat = n; step = done.step; answer = done.answer }
 
 abbrev pub call_entries : ℕ → Call → Answer → List Done → List HistoryEntry
 call_entries n call answer steps = start_entry n call answer ∷ map (done_entry n) steps
 
--- once a call was entered, whose entries these are
+-- the session after a call was entered that has these entries
 abbrev pub gone_on : Session → Servers → List HistoryEntry → Machine → Session
 gone_on old servers entries settled = record old { machine = settled; servers = servers; history = old.history ++ entries }
 
 -- SERVED THREADS
 
--- a served thread's call: what its start answered, the steps that followed, and the servers once its words were made
+-- the act of a served thread: its call, the answer of the call's start, the steps that followed, and the servers after the call was
+-- computed
 pub record Act : Type 0 where
   pub thread : ℕ
   pub call : Call
@@ -112,7 +113,7 @@ pub record Act : Type 0 where
   pub steps : List Done
   pub after : Machine
 
--- the served thread that acts next entered its call, and the step that comes next was done, again and again until there was none
+-- the served thread that acts next entered its call, and then the next step was executed until no step was enabled
 pub record IsAct (old : Session) (act : Act) : Type 0 where
   pub acts : ActsNext old.machine.threads old.servers act.thread act.call act.servers
   pub can : CanEnter (length old.history) old.numbers act.thread
@@ -130,24 +131,24 @@ ended_by acts = flat_map (λ act. act.answer.ended.items ++ ended_in act.steps) 
 abbrev pub act_entries : Act → List HistoryEntry
 act_entries act = call_entries act.thread act.call act.answer act.steps
 
--- one act after another
+-- the acts were executed one after another
 abbrev pub AreActs : Session → List Act → Session → Type 0
 AreActs old [] new = new ≡ old
 AreActs old (act ∷ acts) new = IsAct old act × AreActs (gone_on old act.servers (act_entries act) act.after) acts new
 
--- the acts of a line, at most
+-- the greatest number of acts on a line
 abbrev pub most_acts : ℕ
 most_acts = 256
 
--- no served thread runs
+-- no served thread is running
 abbrev pub IsQuiet : Session → List Report → Session → Type 0
 IsQuiet old told new = NoneReady old.machine.threads old.servers × (told ≡ []) × (new ≡ old)
 
--- the line has had all its acts
+-- the line has had as many acts as it can have
 abbrev pub IsSpent : Session → ℕ → List Report → Session → Type 0
 IsSpent old count told new = (count ≡ most_acts) × (told ≡ []) × (new ≡ old)
 
--- the call of the served thread that acts next was refused, and the only answer is the refusal
+-- the call of the served thread that acts next was refused, and the only report is the refusal
 pub record RefusesAct (old : Session) (count : ℕ) (told : List Report) (new : Session) : Type 0 where
   pub few : count < most_acts
   pub thread : ℕ
@@ -158,14 +159,14 @@ pub record RefusesAct (old : Session) (count : ℕ) (told : List Report) (new : 
   pub same : new ≡ record old { servers = new.servers }
   pub told_is : told ≡ RefusedAct thread (call_refusal refusal) ∷ []
 
--- why no served thread acts further on a line that has had so many acts
+-- the reason why no served thread acts any more on a line that has had this number of acts
 abbrev pub StopsActing : Session → ℕ → List Report → Session → Type 0
 StopsActing old count told new = IsQuiet old told new ⊎ (IsSpent old count told new ⊎ RefusesAct old count told new)
 
 -- ONE CALL
 
--- The served threads acted, one after another, and that is told; at last that the caller waits, where its call had not ended before and did
--- not end then.
+-- The served threads acted, one after another, and this was reported. The last report says that the caller waits, if its call has not
+-- ended.
 pub record GoesOn (old : Session) (thread : ℕ) (ended : List ℕ) (told : List Report) (new : Session) : Type 0 where
   pub acts : List Act
   pub between : Session
@@ -175,8 +176,8 @@ pub record GoesOn (old : Session) (thread : ℕ) (ended : List ℕ) (told : List
   pub stops : StopsActing between (length acts) last new
   pub told_is : told ≡ (flat_map act_reports acts ++ last) ++ waiting_reports thread (is_among thread (ended ++ ended_by acts))
 
--- The call was started, and the step that comes next was done, again and again until there was none, and all of it is told; the servers
--- are these since; and then what follows.
+-- The call was started, then the next step was executed until no step was enabled, and all of it was reported. The servers are these from
+-- then on. Then follows what `GoesOn` states.
 pub record Follows (old : Session) (thread : ℕ) (call : Call) (servers : Servers) (told : List Report) (new : Session) : Type 0 where
   pub can : CanEnter (length old.history) old.numbers thread
   pub answer : Answer
@@ -190,7 +191,7 @@ pub record Follows (old : Session) (thread : ℕ) (call : Call) (servers : Serve
   pub goes_on : GoesOn (gone_on old servers (call_entries thread call answer steps) settled) thread (answer.ended.items ++ ended_in steps) rest new
   pub told_is : told ≡ (step_reports (Start thread call) answer started ++ flat_map done_reports steps) ++ rest
 
--- the call of this line was refused, and the only answer is the refusal
+-- the call of this line was refused, and the only report is the refusal
 pub record Refuses (old : Session) (line thread : ℕ) (call : Call) (told : List Report) (new : Session) : Type 0 where
   pub refusal : RecordRefusal
   pub refused : RefusesCall old.machine (length old.history) old.numbers thread call refusal
@@ -200,16 +201,17 @@ pub record Refuses (old : Session) (line thread : ℕ) (call : Call) (told : Lis
 abbrev pub Enters : Session → ℕ → ℕ → Call → List Report → Session → Type 0
 Enters old line thread call told new = Follows old thread call old.servers told new ⊎ Refuses old line thread call told new
 
--- root deletes a thread, which is served no longer and has no table
+-- root deletes a thread, which is no longer served and has no table any more
 abbrev pub Deletes : Session → ℕ → ℕ → List Report → Session → Type 0
 Deletes old line thread told new =
     Follows old root (delete_call thread) (without old.servers thread) told new ⊎ Refuses old line root (delete_call thread) told new
 
--- there was no memory, and nothing was done
+-- an allocation failed, and nothing has changed
 abbrev pub LacksMemory : Session → ℕ → List Report → Session → Type 0
 LacksMemory old line told new = (told ≡ RefusedLine line lacks_memory ∷ []) × (new ≡ old)
 
--- Root creates a thread, whose number has its seat from then on, also where the call is refused. Memory is wanted for a number that had none.
+-- Root creates a thread, whose number has its seat from then on, even if the call is refused. NoMemory is possible only if the number had
+-- no seat.
 abbrev pub Creates : Session → ℕ → ℕ → Call → List Report → Session → Type 0
 Creates old line number call told new =
     Enters (record old { numbers = with_number old.numbers number }) line root call told new
@@ -217,13 +219,14 @@ Creates old line number call told new =
 
 -- PAGERS
 
--- There was no memory for one more served thread, whose call would else have been entered: so whatever else it is refused for comes before.
+-- An allocation for one more served thread failed. The thread's call would otherwise have been entered, so every other refusal comes before
+-- this one.
 pub record LacksRoom (old : Session) (line thread : ℕ) (told : List Report) (new : Session) : Type 0 where
   pub first : is_served old.servers thread ≡ false
   pub may : MayEnter old.machine (length old.history) old.numbers thread
   pub lacks : LacksMemory old line told new
 
--- a thread waits for anybody's message, and is served from then on
+-- a thread receives from any thread, and is served from then on
 abbrev pub ServesThread : Session → ℕ → ℕ → List Report → Session → Type 0
 ServesThread old line thread told new =
     Follows old thread waiting (with_served old.servers thread) told new ⊎ (Refuses old line thread waiting told new ⊎ LacksRoom old line thread told new)
@@ -238,7 +241,7 @@ abbrev pub RegionRefused : Session → ℕ → ℕ → Entry → List Report →
 RegionRefused old line thread entry told new =
     (refusal : RegionRefusal) × RegionFails old.servers thread entry refusal × (told ≡ RefusedLine line (region_refusal refusal) ∷ []) × (new ≡ old)
 
--- a thread's table gets a region; a thread that isn't there is refused
+-- a region is added to a thread's table; a thread that does not exist is refused
 abbrev pub AddsRegion : Session → ℕ → ℕ → Entry → List Report → Session → Type 0
 AddsRegion old line thread entry told new =
     MatchOption (space_of old.machine.threads thread) ((told ≡ RefusedLine line (kernel_refusal UnknownThread) ∷ []) × (new ≡ old))
@@ -246,12 +249,12 @@ AddsRegion old line thread entry told new =
 
 -- DELEGATIONS
 
--- the only message of the region's shortest plan is sent, or the one with this number
+-- the only message of the region's shortest plan is sent, or the message with this number
 abbrev pub SendsPlan : Session → ℕ → ℕ → Partner → Which → Region → List Report → Session → Type 0
 SendsPlan old line thread to which r told new =
     (words : List ℕ) × ArePlanWords old.machine.size r which words × Enters old line thread (send_call to words) told new
 
--- the region has no plan, or the plan no such message, and the only answer is the refusal; whether the call would be refused is not looked at
+-- The region has no plan, or the plan no such message, and the only report is the refusal. Whether the call would be refused is not tested.
 abbrev pub RefusesPlan : Session → ℕ → Which → Region → List Report → Session → Type 0
 RefusesPlan old line which r told new =
     (refusal : PlanRefusal) × HasNoPlan old.machine.size r which refusal × (told ≡ RefusedLine line (plan_refusal refusal) ∷ []) × (new ≡ old)
@@ -264,17 +267,17 @@ Delegates old line thread to which r told new = SendsPlan old line thread to whi
 abbrev pub place_in : ℕ → ℕ → Place
 place_in space page = record { space = space; page = page }
 
--- the answer about a page, where it is present
+-- the report of a page, if it is present
 abbrev pub place_reports : Machine → ℕ → ℕ → List Report
 place_reports m space page = option_map_or (λ mapping. Page page mapping ∷ []) (shown m.mappings (place_in space page)) []
 
--- the present pages of the space among so many from the first on, not beyond the space, by rising number
+-- the present pages of the space among this number of pages from the first one on, in rising order, not beyond the space
 pub record ArePages (m : Machine) (space first count : ℕ) (pages : List ℕ) : Type 0 where
   pub rising : AllPairs (λ a b. a < b) pages
   pub each : (page : ℕ) → Contains pages page
       ↔ ((first ≤ page) × (page < first + count) × (page < space_pages m.size) × IsPresent m.mappings (place_in space page))
 
--- the present pages of the space from the first on and below an end were told, and there are so many
+-- the present pages of the space from the first one to below the end were reported, and this is their number
 pub record ListsBelow {T : Type 0} (m : Machine) (space first end shown : ℕ) (has_told : T → T → List Report → Type 0) (before after : T) : Type 0 where
   pub pages : List ℕ
   pub rising : AllPairs (λ a b. a < b) pages
@@ -282,32 +285,32 @@ pub record ListsBelow {T : Type 0} (m : Machine) (space first end shown : ℕ) (
   pub number : shown ≡ length pages
   pub tells : AddsAll has_told before after (flat_map (place_reports m space) pages)
 
--- their lines, and then their number
+-- the lines of these pages, and then their number
 pub record ListsPages (m : Machine) (space first count : ℕ) (told : List Report) : Type 0 where
   pub pages : List ℕ
   pub are : ArePages m space first count pages
   pub told_is : told ≡ flat_map (place_reports m space) pages ++ Shown (length pages) ∷ []
 
--- the pages of a thread's space; a thread that isn't there is refused
+-- the pages of a thread's space; a thread that does not exist is refused
 abbrev pub Shows : Machine → ℕ → ℕ → ℕ → ℕ → List Report → Type 0
 Shows m line thread first count told =
     MatchOption (space_of m.threads thread) (told ≡ RefusedLine line (kernel_refusal UnknownThread) ∷ []) (λ space. ListsPages m space first count told)
 
--- the parent of a page of a thread's space; a thread that isn't there is refused
+-- the parent of a page of a thread's space; a thread that does not exist is refused
 abbrev pub parent_answer : Machine → ℕ → ℕ → ℕ → Report
 parent_answer m line thread page =
     option_map_or (λ space. Parent (shown m.mappings (place_in space page))) (space_of m.threads thread) (RefusedLine line (kernel_refusal UnknownThread))
 
 -- COUNTS
 
--- How many entries the history has, as its board shows it: of the number that the board gives at that moment it is known that it is not below the
--- number that it gave before, and that a word of 64 bits holds it.
+-- The number of entries of the history, as its board has it. All that is known about this number is that it is not below the number that
+-- was read before, and that it fits into 64 bits.
 abbrev pub TellsCount : Session → List Report → Session → Type 0
 TellsCount old told new = (count : ℕ) × (old.seen ≤ count) × (count < 2 ^ 64) × (told ≡ StepCount count ∷ []) × (new ≡ record old { seen = count })
 
 -- LINES
 
--- a line's request was carried out, with these answers
+-- the request of a line was executed, with these reports
 abbrev pub CarriesOut : Session → ℕ → Request → List Report → Session → Type 0
 CarriesOut old line (Enter thread call) told new = Enters old line thread call told new
 CarriesOut old line (CreateThread number call) told new = Creates old line number call told new
@@ -319,20 +322,20 @@ CarriesOut old line (AddRegion thread entry) told new = AddsRegion old line thre
 CarriesOut old line (ServeThread thread) told new = ServesThread old line thread told new
 CarriesOut old line TellSteps told new = TellsCount old told new
 
--- the answer to a line of this number that asks for this
+-- the reports of a line with this number and this command
 abbrev pub AnswersLine : Session → ℕ → Result (Option Command) ScriptFault → List Report → Session → Type 0
 AnswersLine old line (Ok None) told new = (told ≡ []) × (new ≡ old)
 AnswersLine old line (Ok (Some command)) told new = CarriesOut old line (request_of command) told new
 AnswersLine old line (Err fault) told new = (told ≡ RefusedLine line (script_refusal fault) ∷ []) × (new ≡ old)
 
--- the answers to lines, of which the first has this number, one after another
+-- the reports of lines, one after another, of which the first has this number
 abbrev pub AnswersLines : Session → ℕ → List ScriptLine → List Report → Session → Type 0
 AnswersLines old number [] told new = (told ≡ []) × (new ≡ old)
 AnswersLines old number (line ∷ lines) told new =
     (first : List Report) × (rest : List Report) × (between : Session) × AnswersLine old number (asked_of line) first between
     × AnswersLines between (number + 1) lines rest new × (told ≡ first ++ rest)
 
--- THE ANSWERS TO A SCRIPT'S LINES, over a machine with so many frames of this size as it boots, and without servers
+-- THE ANSWERS TO A SCRIPT'S LINES, over a machine at boot with this number of frames of this size, and without servers
 pub record IsAnswered (frames : ℕ) (size : PageSize) (lines : List ScriptLine) (told : List Report) : Type 0 where
   pub boot : Machine
   pub boots : IsBoot frames boot

@@ -1,4 +1,4 @@
--- The size of pages that a script goes by (this profile's own).
+-- The page size that a script uses (this profile's own).
 use Rattle.std.specs.Prelude.{◌≡◌, ℕ, List}
 use Rattle.l4_fpage.specs.declared.sizes.PageSize.{PageSize}
 use Rattle.l4_ipc.specs.Machine.{Machine}
@@ -7,17 +7,17 @@ use Rattle.l4_answers.specs.Reports.{Report}
 use Rattle.l4_shell.specs.Lines.{ScriptLine}
 use Rattle.l4_shell.specs.Sessions.{Session, first_session, AnswersLines}
 
--- sigma0's table and each thread's table of regions go by this size of pages
+-- sigma0's table and each thread's table of regions use this page size
 pub record GoBy (size : PageSize) (s : Servers) : Type 0 where
   pub owners : s.owners.size ≡ size
   pub regions : (thread : ℕ) → (regions_of s thread).size ≡ size
 
--- the machine and the servers go by this size of pages
+-- the machine and the servers use this page size
 pub record HasSize (size : PageSize) (s : Session) : Type 0 where
   pub machine : s.machine.size ≡ size
   pub servers : GoBy size s.servers
 
--- the session at the start has the machine's size, and whatever lines are answered leave a session of the size that it had
+-- the first session has the machine's page size, and answering lines does not change the page size of a session
 abbrev pub SizeStays : Type 0
 SizeStays =
     ((frames : ℕ) (boot : Machine) → HasSize boot.size (first_session frames boot))
