@@ -1,4 +1,4 @@
--- The text of a chain of moves, link after link, and of the page that it leads to (this profile's own).
+-- The text of a chain of moves, link by link, and of the page to which it leads (this profile's own).
 use Rattle.std.specs.Prelude.{ℕ, Bool, true, false, List, ◌++◌, Option, Some, None, codes, decimal, slice_get}
 use Rattle.std.specs.List.{flat_map}
 use Rattle.l4_mapdb.specs.declared.Mapping.{Mapping}
@@ -21,12 +21,12 @@ step_parties (Transfer sender receiver) = codes " transfer " ++ decimal sender +
 step_parties (Start number call) = codes " start"
 step_parties (Expire number) = codes " expire"
 
--- the same of an entry, if there is one
+-- the sender and the receiver of an entry, if there is one
 unfoldable pub entry_parties : Option Entry → List ℕ
 entry_parties (Some entry) = step_parties entry.step
 entry_parties None = codes " none"
 
--- the item that moved the page gave it away, or shared it
+-- whether the item granted the page or mapped it
 unfoldable pub kind_text : Bool → List ℕ
 kind_text true = codes " grant "
 kind_text false = codes " map "
@@ -37,14 +37,14 @@ moved_text link =
     kind_text link.grant ++ decimal link.source.page ++ space ++ decimal link.target.page ++ space ++ rights_text link.source_rights ++ space
     ++ rights_text link.item_rights ++ newline
 
--- a link: the number of its entry, from 0, who sent to whom, and what was moved
+-- a link: the number of its entry, from 0, the sender and the receiver, and what was moved
 unfoldable pub link_line : List Entry → ChainLink → List ℕ
 link_line history link = codes "entry " ++ decimal link.entry ++ entry_parties (slice_get history link.entry) ++ moved_text link
 
--- the links in their order
+-- the links in order
 abbrev pub link_lines : List Entry → List ChainLink → List ℕ
 link_lines history links = flat_map (link_line history) links
 
--- from sigma0's page to the place and what it shows
+-- from sigma0's page to the place and its mapping
 abbrev pub chain_text : List Entry → List ChainLink → Place → Mapping → List ℕ
 chain_text history links place shows = sigma0_line links place ++ link_lines history links ++ page_text place.page shows

@@ -1,4 +1,4 @@
--- How a page of a thread's space came there, as it is told of a script (this profile's own).
+-- How a page of a thread's space got there, as it is written for a script (this profile's own).
 use Rattle.std.specs.Prelude.{ℕ, ◌≡◌, ◌⊎◌, List, ◌++◌, Option, Some, None, Result, Ok, Err, codes}
 use Rattle.std.specs.Io.KnownBytes.{Appends}
 use Rattle.l4_fpage.specs.declared.sizes.PageSize.{PageSize}
@@ -23,15 +23,15 @@ use Rattle.l4_why.specs.declared.asking.ThreadPage.{ThreadPage}
 use Rattle.l4_why.specs.declared.asking.Presence.{Presence}
 use Rattle.l4_why.specs.declared.asking.Presence.TheVariants.{Present, Absent, NoThread}
 
--- of a thread that isn't there
+-- the text for a thread that does not exist
 abbrev pub unknown_text : List ℕ
 unknown_text = codes "refused K2" ++ newline
 
--- of a page that isn't there
+-- the text for a page that is not present
 abbrev pub absent_text : List ℕ
 absent_text = codes "absent" ++ newline
 
--- the links are the provenance of the place in the history, which shows this at the end, and this is their text
+-- the links are the provenance of the place in the history, the place has this mapping at the end, and this is their text
 pub record IsChainText (boot now : Machine) (history : List Entry) (place : Place) (text : List ℕ) : Type 0 where
   pub links : List ChainLink
   pub provenance : IsProvenance boot history place links
@@ -39,18 +39,18 @@ pub record IsChainText (boot now : Machine) (history : List Entry) (place : Plac
   pub at : shown now.mappings place ≡ Some shows
   pub is_text : text ≡ chain_text history links place shows
 
--- of a place: its chain, or that it is absent
+-- the text for a place: its chain, or that it is absent
 abbrev pub IsPlaceText : Machine → Machine → List Entry → Place → Presence → List ℕ → Type 0
 IsPlaceText boot now history place Present text = IsChainText boot now history place text
 IsPlaceText boot now history place Absent text = IsAbsent boot history place × (text ≡ absent_text)
 IsPlaceText boot now history place NoThread text = ⊥
 
--- of a page of the space of a thread, if that is there at the end
+-- the text for a page of a thread's space, if the thread exists at the end
 abbrev pub IsThreadText : Machine → Machine → List Entry → Option Thread → ℕ → Presence → List ℕ → Type 0
 IsThreadText boot now history None page found text = (found ≡ NoThread) × (text ≡ unknown_text)
 IsThreadText boot now history (Some thread) page found text = IsPlaceText boot now history (record { space = thread.space; page = page }) found text
 
--- Whether the space of the asked thread has the page at the end of the history, and what is told of it.
+-- Whether the space of the requested thread has the page at the end of the history, and the text about it.
 pub record IsWhy (frames : ℕ) (size : PageSize) (history : List Entry) (asked : ThreadPage) (found : Presence) (text : List ℕ) : Type 0 where
   pub boot : Machine
   pub boots : IsBoot frames boot
@@ -59,19 +59,19 @@ pub record IsWhy (frames : ℕ) (size : PageSize) (history : List Entry) (asked 
   pub run : Run boot (steps_of history) (answers_of history) now
   pub is_text : IsThreadText boot now history (thread_at now.threads asked.thread) asked.page found text
 
--- a script was carried out to its end, in so many lines, and this is told of the page
+-- a script of this number of lines was executed to its end, and this is the text about the page
 pub record HasWhy (frames : ℕ) (size : PageSize) (asked : ThreadPage) (old new : Option (List ℕ)) (count : ℕ) (found : Presence) (text : List ℕ) : Type 0 where
   pub history : List Entry
   pub records : Records frames size old new history (Ok count)
   pub is_why : IsWhy frames size history asked found text
 
--- a script was carried out in part, and nothing was written
+-- a script was executed in part, and nothing was written
 pub record HasStopped (frames : ℕ) (size : PageSize) (old new written now : Option (List ℕ)) (fault : RunFault) : Type 0 where
   pub history : List Entry
   pub records : Records frames size old new history (Err fault)
   pub unwritten : now ≡ written
 
--- a beginning of what is told went out
+-- a prefix of the text was written
 pub record HasBegun (frames : ℕ) (size : PageSize) (asked : ThreadPage) (old new written now : Option (List ℕ)) : Type 0 where
   pub count : ℕ
   pub found : Presence
@@ -79,8 +79,8 @@ pub record HasBegun (frames : ℕ) (size : PageSize) (asked : ThreadPage) (old n
   pub has_why : HasWhy frames size asked old new count found text
   pub out : WentOut written now text
 
--- What is told of a script that was read to its end went out, or where a write failed a beginning of it. Nothing was written where a read
--- failed, or memory was wanting.
+-- For a script that was read to its end, the text was written, or a prefix of it if a write failed. Nothing was written if a read failed or
+-- memory ran out.
 abbrev pub TellsWhy : ℕ → PageSize → ThreadPage → Option (List ℕ) → Option (List ℕ) → Option (List ℕ) → Option (List ℕ) → Result Presence RunFault → Type 0
 TellsWhy frames size asked old new written now (Ok found) =
     (count : ℕ) × (text : List ℕ) × HasWhy frames size asked old new count found text × Appends written now text
