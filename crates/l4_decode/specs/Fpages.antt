@@ -11,17 +11,17 @@ use Rattle.l4_answers.specs.Pages.{rights_text}
 use Rattle.l4_decode.specs.Spelling.{hex_text, meaning_line}
 use Rattle.l4_decode.specs.Refusals.{refusal_text}
 
--- a run of pages, by its first, its last and their number
+-- a range of pages: its first page, its last page and their number
 unfoldable pub pages_text : ℕ → ℕ → List ℕ
 pages_text first count =
     if count == 1 then codes "page " ++ decimal first
     else codes "pages " ++ decimal first ++ codes " to " ++ decimal (first + count - 1) ++ codes " (" ++ decimal count ++ codes ")"
 
--- bytes that are less than a page
+-- a range of bytes that is smaller than a page
 unfoldable pub bytes_text : ℕ → ℕ → List ℕ
 bytes_text base log = decimal (2 ^ log) ++ codes " bytes at " ++ hex_text base ++ codes ", less than a page"
 
--- 2 ^ log bytes from base on, by pages of this size
+-- 2 ^ log bytes from `base` on, as pages of this size
 unfoldable pub extent_text : PageSize → ℕ → ℕ → List ℕ
 extent_text size base log =
     if nat_lt log (page_log size) then bytes_text base log else pages_text (base / page_bytes size) (2 ^ (log - page_log size))
@@ -29,7 +29,7 @@ extent_text size base log =
 unfoldable pub complete_text : PageSize → List ℕ
 complete_text size = codes "complete, " ++ pages_text 0 (space_pages size)
 
--- THE TEXT OF AN FPAGE: where it is, and its rights
+-- THE TEXT OF AN FPAGE: its pages, and its rights
 unfoldable pub place_text : PageSize → Fpage → List ℕ
 place_text size Nil = codes "nil"
 place_text size (Complete rights) = complete_text size
@@ -40,7 +40,7 @@ granted_text Nil = []
 granted_text (Complete rights) = codes ", " ++ rights_text rights
 granted_text (Sized e) = codes ", " ++ rights_text e.rights
 
--- THE SAME OF ITS WORD, by the word's fields: the size field and the base decide what it is
+-- THE SAME FOR ITS WORD: the size field and the base determine what it is
 unfoldable pub is_complete : ℕ → ℕ → Bool
 is_complete log base = ((log == 1) && (base == 0)) || (log == 32)
 
@@ -65,7 +65,7 @@ fpage_text size word =
 unfoldable pub fpage_line : PageSize → ℕ → List ℕ
 fpage_line size word = meaning_line (codes "fpage ") word (fpage_text size word)
 
--- THE TEXT OF A RECEIVE WINDOW, whose rights mean nothing
+-- THE TEXT OF A RECEIVE WINDOW, whose rights are ignored
 unfoldable pub taken_text : PageSize → Fpage → List ℕ
 taken_text size Nil = codes "nil, accepts no items"
 taken_text size (Complete rights) = complete_text size
@@ -74,7 +74,7 @@ taken_text size (Sized e) = extent_text size e.base e.log
 unfoldable pub taken_of : PageSize → ℕ → ℕ → List ℕ
 taken_of size log base = if log == 0 then codes "nil, accepts no items" else place_of size log base
 
--- the word that an acceptor's is read as: its low four bits mean nothing
+-- the word as which an acceptor is read: its low four bits are ignored
 abbrev pub window_word : ℕ → ℕ
 window_word word = word / 16 * 16
 

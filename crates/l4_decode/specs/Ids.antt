@@ -6,11 +6,11 @@ use Rattle.l4_threads.specs.Threads.{nilthread, anythread, number_of, version_of
 use Rattle.l4_threads.specs.Control.{is_bad_id}
 use Rattle.l4_decode.specs.Spelling.{meaning_line}
 
--- the id that stands for any thread of the caller's own space: all ones but its low six bits (L4 X.2 manual, ThreadId: anylocalthread)
+-- the id that means any thread of the caller's own space: all bits are 1 except the low six (L4 X.2 manual, ThreadId: anylocalthread)
 abbrev pub anylocalthread : ThreadId
 anylocalthread = record { 0 = 0xffff_ffc0 }
 
--- said of an id that no thread can have
+-- the text after an id that no thread can have
 unfoldable pub bad_text : ThreadId → List ℕ
 bad_text id = if is_bad_id id then codes ", not a valid thread id" else []
 

@@ -8,19 +8,19 @@ use Rattle.l4_msg.specs.declared.items.Item.TheVariants.{Map, Grant}
 use Rattle.l4_decode.specs.Spelling.{hex_text}
 use Rattle.l4_decode.specs.Fpages.{place_text, granted_text, fpage_text}
 
--- THE TEXT OF AN ITEM; its lowest bit says that another item follows, and means nothing
+-- THE TEXT OF AN ITEM. Its lowest bit says that another item follows; the kernel ignores it.
 unfoldable pub read_item_text : PageSize → ℕ → Item → List ℕ
 read_item_text size more (Map base fpage) =
     codes "map" ++ codes ", send base " ++ hex_text base ++ codes ", C " ++ decimal more ++ codes ", " ++ (place_text size fpage ++ granted_text fpage)
 read_item_text size more (Grant base fpage) =
     codes "grant" ++ codes ", send base " ++ hex_text base ++ codes ", C " ++ decimal more ++ codes ", " ++ (place_text size fpage ++ granted_text fpage)
 
--- THE SAME OF ITS TWO WORDS. An item that carries pages: its kind, its send base, its lowest bit, and its fpage
+-- THE SAME FOR ITS TWO WORDS. An item that moves pages: its kind, its send base, its lowest bit, and its fpage.
 unfoldable pub carrying_text : List ℕ → PageSize → ℕ → ℕ → List ℕ
 carrying_text kind size first second =
     kind ++ codes ", send base " ++ hex_text (first / base_unit * base_unit) ++ codes ", C " ++ decimal (first % 2) ++ codes ", " ++ fpage_text size second
 
--- by its kind
+-- the text of an item, by its kind
 unfoldable pub item_text : PageSize → ℕ → ℕ → List ℕ
 item_text size first second =
     if kind_of first == 4 then carrying_text (codes "map") size first second

@@ -14,14 +14,14 @@ use Rattle.l4_decode.specs.Spelling.{hex_text}
 use Rattle.l4_decode.specs.declared.meanings.Meaning.{Meaning}
 use Rattle.l4_decode.specs.declared.meanings.Meaning.TheVariants.{Refused, Fault, Request, Plain}
 
--- a message of neither protocol, with so many untyped words and items
+-- a message of neither protocol, with this number of untyped words and of items
 pub record IsPlain (m : Message) (untyped items : ℕ) : Type 0 where
   pub no_fault : (fault : PageFault) → ¬ FaultReads m fault
   pub no_request : (request : FrameRequest) → ¬ RequestReads m request
   pub untyped_are : untyped ≡ length m.untyped.items
   pub items_are : items ≡ length m.items.items
 
--- THE MEANING OF WORDS: why they are refused, or what the message that they are read as is
+-- THE MEANING OF WORDS: the reason why they are refused, or what the message is
 abbrev pub Means : List ℕ → Meaning → Type 0
 Means words (Refused fault) = MessageFails words fault
 Means words (Fault fault) = (m : Message) × MessageReads words m × FaultReads m fault

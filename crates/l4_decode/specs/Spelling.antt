@@ -6,11 +6,11 @@ use Rattle.l4_text.specs.Texts.{word_text}
 unfoldable pub hex_text : ℕ → List ℕ
 hex_text word = codes "0x" ++ word_text word
 
--- a label, of which the lower sixteen bits alone may be set: 0x and four digits
+-- a label, which has at most sixteen bits: 0x and four digits
 unfoldable pub label_text : ℕ → List ℕ
 label_text label = codes "0x" ++ drop 4 (word_text label)
 
--- what a word is taken as, the word, and what it means then
+-- the reading of a word, the word, and its meaning in this reading
 unfoldable pub meaning_line : List ℕ → ℕ → List ℕ → List ℕ
 meaning_line name word meaning = name ++ hex_text word ++ codes ": " ++ meaning ++ 10 ∷ []
 

@@ -6,7 +6,7 @@ use Rattle.l4_msg.specs.Tags.{untyped_of, typed_of, flags_of, label_of}
 use Rattle.l4_answers.specs.Pages.{rights_text}
 use Rattle.l4_decode.specs.Spelling.{label_text, meaning_line}
 
--- said of the label of a page fault, which has its access in the low three bits
+-- the text after the label of a page fault, which has the access in its low three bits
 unfoldable pub access_text : RightsSet → List ℕ
 access_text access = codes " (page fault, " ++ rights_text access ++ codes ")"
 
