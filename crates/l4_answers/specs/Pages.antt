@@ -26,7 +26,7 @@ abbrev pub place_or_none : Option Place → List ℕ
 place_or_none None = codes "none"
 place_or_none (Some place) = decimal place.space ++ space ++ decimal place.page
 
--- the parent of a page that shows this: a root has none, and a page that shows nothing is absent
+-- the parent of a page with this mapping; a root has none, and a page without a mapping is absent
 abbrev pub parent_text : Option Mapping → List ℕ
 parent_text None = codes "absent" ++ newline
 parent_text (Some mapping) = codes "parent " ++ place_or_none mapping.parent ++ newline

@@ -48,7 +48,7 @@ abbrev pub unmap_refusal : UnmapFault → Refusal
 unmap_refusal (BadFpage word) = at_place (codes "U1") word
 unmap_refusal TooFew = plainly (codes "U2")
 
--- the innermost code of what the kernel refuses
+-- the code of a refusal of the kernel; for `Lower`, that of the lower layer
 abbrev pub kernel_refusal : Refused → Refusal
 kernel_refusal NotEnabled = plainly (codes "K1")
 kernel_refusal UnknownThread = plainly (codes "K2")

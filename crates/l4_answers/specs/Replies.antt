@@ -15,7 +15,7 @@ space = 32 ∷ []
 abbrev pub newline : List ℕ
 newline = 10 ∷ []
 
--- what came of a transfer
+-- the outcome of a transfer
 abbrev pub outcome_word : Outcome → List ℕ
 outcome_word Started = []
 outcome_word Done = codes "done"
@@ -45,7 +45,7 @@ from_text id = if id.0 == 0 then codes "nil" else decimal (number_of id)
 abbrev pub ipc_head : ℕ → IpcReply → List ℕ
 ipc_head number reply = decimal number ++ codes " ipc " ++ word_text reply.tag ++ space ++ decimal reply.error ++ space ++ from_text reply.from
 
--- how a thread's call ended, but for the words of its message; a thread that is gone has no reply
+-- how a thread's call ended, without the words of its message; a deleted thread has no reply
 abbrev pub reply_head : ℕ → Option Reply → List ℕ
 reply_head number (Some (Ipc reply)) = ipc_head number reply
 reply_head number (Some Hit) = decimal number ++ codes " fault hit"

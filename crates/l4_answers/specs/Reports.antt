@@ -13,19 +13,19 @@ pub data Report : Type 0 where
   RefusedLine : ℕ → Refusal → Report
   -- a served thread's call is refused
   RefusedAct : ℕ → Refusal → Report
-  -- a transfer between two threads, and what came of it
+  -- a transfer between two threads, and its outcome
   Transferred : ℕ → ℕ → Outcome → Report
   -- a thread's zero timeout expired
   TimedOut : ℕ → Report
   -- a thread's call blocks
   Waits : ℕ → Report
-  -- a thread's call ended; a thread that is gone has no reply
+  -- a thread's call ended; a deleted thread has no reply
   Ended : ℕ → Option Reply → Report
   -- a page that is present
   Page : ℕ → Mapping → Report
   -- the number of pages that were listed
   Shown : ℕ → Report
-  -- what is mapped at the page whose parent was asked for
+  -- the mapping of the page of a `parent` line
   Parent : Option Mapping → Report
   -- a region was added to a table
   AddedRegion : Report
@@ -60,12 +60,12 @@ abbrev pub is_refusal : Report → Bool
 is_refusal (RefusedLine line refusal) = true
 is_refusal report = false
 
--- whether one of these is
+-- whether the list has a refusal of a line of the script
 abbrev pub has_refusal : List Report → Bool
 has_refusal [] = false
 has_refusal (report ∷ reports) = is_refusal report || has_refusal reports
 
--- SINKS, over what it means that these were reported to a sink since it was another
+-- SINKS. `has_told first old told` means that exactly `told` was reported to the sink between the states `first` and `old`.
 
 -- whatever was reported before, this was reported after it
 abbrev pub Adds : {T : Type 0} → (T → T → List Report → Type 0) → T → T → Report → Type 0
@@ -79,6 +79,6 @@ AddsAll has_told old new reports = (first : _) (told : List Report) → has_told
 abbrev pub Keeps : {T : Type 0} → (T → T → List Report → Type 0) → T → T → Type 0
 Keeps has_told old new = (first : _) (told : List Report) → has_told first old told → has_told first new told
 
--- whatever was reported has gone out
+-- everything that was reported has been written
 abbrev pub AllOut : {T : Type 0} → (T → T → List Report → Type 0) → (T → T → List Report → Type 0) → T → T → Type 0
 AllOut has_told is_out old new = (first : _) (told : List Report) → has_told first old told → is_out first new told
