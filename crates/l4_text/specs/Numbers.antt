@@ -15,12 +15,12 @@ hex_digit_of byte =
     if is_in 48 57 byte then Some (byte - 48)
     else (if is_in 97 102 byte then Some (byte - 97 + 10) else (if is_in 65 70 byte then Some (byte - 65 + 10) else None))
 
--- the number that digits spell after those whose value is known
+-- the number that the digits spell after digits with this value
 abbrev pub value_from : ℕ → (ℕ → Option ℕ) → ℕ → List ℕ → Option ℕ
 value_from base digit value [] = Some value
 value_from base digit value (byte ∷ bytes) = option_and_then (λ d. value_from base digit (value * base + d) bytes) (digit byte)
 
--- one to most digits
+-- between one and `most` digits
 abbrev pub digits_of : ℕ → (ℕ → Option ℕ) → ℕ → List ℕ → Option ℕ
 digits_of base digit most text = if nat_le 1 (length text) && nat_le (length text) most then value_from base digit 0 text else None
 

@@ -14,6 +14,6 @@ has_bytes (b ∷ bs) = true
 unfoldable pub tokens_of : List ℕ → List (List ℕ)
 tokens_of line = filter has_bytes (slice_split is_space line)
 
--- the number that a line's first token spells, None where it spells none, and what follows the token
+-- the number that a line's first token spells, None if it spells none, and the rest of the line after the token
 abbrev pub FirstNumber : List ℕ → Option ℕ → List ℕ → Type 0
 FirstNumber line number after = (token : List ℕ) × (tokens_of line ≡ token ∷ tokens_of after) × (number ≡ number_of token)
