@@ -1,4 +1,4 @@
--- What is answered to an input about a region, and how that is spelled (own).
+-- The answer to an input about a region, and its text (this profile's own).
 use Rattle.std.specs.Prelude.{◌≡◌, ℕ, ◌+◌, ◌*◌, ◌<◌, ◌⊎◌, Bool, true, false, List, ◌++◌, length, get_or, Option, Some, codes}
 use Rattle.std.specs.Io.KnownBytes.{Consumes, IsAtEnd}
 use Rattle.l4_plan_lines.specs.Lines.{ended}
@@ -20,8 +20,8 @@ use Rattle.l4_plan_lines.specs.declared.found.LineFault.{LineFault}
 use Rattle.l4_plan_lines.specs.declared.found.LineFault.TheVariants.{BadTokens, LineTooLong, CutLine}
 use Rattle.l4_fpage.specs.declared.sizes.PageSize.{PageSize}
 
--- the message with this number, from 0, has the tag of its items: label 0, no untyped words, two words an item (L4 X.2
--- manual, IPC: message tag)
+-- The message with this number, from 0, has the right tag: label 0, no untyped words, and two words for each item (L4 X.2 manual, IPC:
+-- message tag).
 abbrev pub IsRightTag : List ℕ → List Item → ℕ → Type 0
 IsRightTag tags items k = get_or tags k 0 ≡ 128 * length (part_of_list items k)
 
@@ -39,12 +39,12 @@ pub record ClaimsPlan (input : List ℕ) (claim : Claim) : Type 0 where
   pub head : claim.head ≡ Some Plan
   pub fits : AreRightTags claim.tags.items claim.items.items
 
--- the input claims that each plan is too long
+-- the input claims that every plan is too long
 pub record ClaimsTooLong (input : List ℕ) (claim : Claim) : Type 0 where
   pub whole : IsWhole input claim
   pub head : claim.head ≡ Some TooLong
 
--- no other line is wrong, but a tag is not that of its items, and this is the first one's line
+-- No other line is wrong, but a tag is not the right one for its items. This is the line of the first such tag.
 pub record HasWrongTag (input : List ℕ) (wrong : WrongLine) : Type 0 where
   pub claim : Claim
   pub whole : IsWhole input claim
@@ -54,7 +54,7 @@ pub record HasWrongTag (input : List ℕ) (wrong : WrongLine) : Type 0 where
   pub number : wrong.number ≡ (max_items + 1) * place + 1
   pub fault : wrong.fault ≡ BadTokens
 
--- the one answer to an input
+-- the answer to an input, of which there is one
 abbrev pub IsAnswer : PageSize → Region → List ℕ → Answer → Type 0
 IsAnswer size r input (Refused wrong) = IsRefused input wrong ⊎ HasWrongTag input wrong
 IsAnswer size r input (Faulty fault) =
@@ -66,7 +66,7 @@ IsAnswer size r input (ProvedPlan items) =
 IsAnswer size r input ProvedTooLong =
     (claim : Claim) × ClaimsTooLong input claim × ((fault : Fault) → LongHolds size r claim.pages.items fault → ⊥)
 
--- ---- how an answer is spelled, without its newline
+-- ---- the text of an answer, without its newline
 
 abbrev pub wrong_code : LineFault → List ℕ
 wrong_code BadTokens = codes " refused S2"
@@ -97,7 +97,7 @@ is_proved (Faulty fault) = false
 is_proved (ProvedPlan items) = true
 is_proved ProvedTooLong = true
 
--- the reader gave an input to its end, and this is the answer to it and the text of that
+-- the reader delivered an input to its end; this is the answer to it, and the text of the answer
 pub record Answered (size : PageSize) (r : Region) (before after : Option (List ℕ)) (answer : Answer) (text : List ℕ) : Type 0 where
   pub input : List ℕ
   pub read : Consumes before after input

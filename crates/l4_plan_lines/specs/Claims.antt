@@ -1,4 +1,4 @@
--- What lines claim of a region: that items are its plan, or that each plan is too long (own).
+-- The claims of lines about a region: that items are its plan, or that every plan is too long (this profile's own).
 use Rattle.std.specs.Prelude.{◌≡◌, ℕ, zero, suc, ◌^◌, ◌<◌, ◌≤◌, List, [], ◌∷◌, ◌++◌, length, Option, Some, None}
 use Rattle.std.specs.List.{AllZip}
 use Rattle.l4_msg.specs.Moves.{IsMap}
@@ -27,19 +27,19 @@ pub record IsItemLine (line : List ℕ) (item : Item) (page : ℕ) : Type 0 wher
   pub map : IsMap item
   pub reads : ItemReads first second item
 
--- Messages of a plan, line by line, where so many items may still come before the next tag line is due: a tag line gives its
--- tag and is followed by up to 31 items; any other line gives an item and its page.
+-- Messages of a plan, line by line. `left` is the number of items that may still come before the next tag line. A tag line has a tag, and
+-- up to 31 items follow it. Every other line has an item and its page.
 abbrev pub AreGroups : List (List ℕ) → ℕ → List ℕ → List Item → List ℕ → Type 0
 AreGroups [] left [] [] [] = Unit {0}
 AreGroups (line ∷ lines) zero (tag ∷ tags) items pages = IsTagLine line tag × AreGroups lines max_items tags items pages
 AreGroups (line ∷ lines) (suc left) tags (item ∷ items) (page ∷ pages) = IsItemLine line item page × AreGroups lines left tags items pages
 AreGroups lines left tags items pages = ⊥
 
--- the items or pages of a claim, at most
+-- the greatest number of items or pages of a claim
 abbrev pub claim_lines : ℕ
 claim_lines = 2048
 
--- The first line says which of the two is claimed. Those of a plan are its messages; each line after `too-long` adds a page.
+-- The first line determines which of the two is claimed. The lines of a plan are its messages; each line after `too-long` adds a page.
 abbrev pub IsClaim : List (List ℕ) → Option Head → List ℕ → List Item → List ℕ → Type 0
 IsClaim [] None tags items pages = (tags ≡ []) × (items ≡ []) × (pages ≡ [])
 IsClaim [] (Some head) tags items pages = ⊥
@@ -50,11 +50,11 @@ IsClaim (line ∷ lines) (Some TooLong) tags items pages = (line ≡ long_line) 
 abbrev pub IsClaimOf : List (List ℕ) → Claim → Type 0
 IsClaimOf lines claim = IsClaim lines claim.head claim.tags.items claim.items.items claim.pages.items
 
--- the lines are a claim, whole or so far
+-- the lines are a claim, or the beginning of one
 abbrev pub IsBeginning : List (List ℕ) → Type 0
 IsBeginning lines = (head : Option Head) × (tags : List ℕ) × (items : List Item) × (pages : List ℕ) × IsClaim lines head tags items pages
 
--- the last line is a tag line, so its message has no item
+-- the last line is a tag line, so its message has no items
 pub record EndsInTag (lines : List (List ℕ)) : Type 0 where
   pub before : List (List ℕ)
   pub line : List ℕ
@@ -62,6 +62,6 @@ pub record EndsInTag (lines : List (List ℕ)) : Type 0 where
   pub split : lines ≡ before ++ line ∷ []
   pub is_tag : IsTagLine line tag
 
--- a tag line right behind a tag line
+-- a tag line directly after a tag line
 abbrev pub IsSecondTag : List (List ℕ) → List ℕ → Type 0
 IsSecondTag before line = EndsInTag before × ((tag : ℕ) × IsTagLine line tag)

@@ -1,4 +1,4 @@
--- How the lines of plans and of pages are spelled, without their newlines (own).
+-- The text of the lines of plans and of pages, without their newlines (this profile's own).
 use Rattle.std.specs.Prelude.{ℕ, List, [], ◌∷◌, ◌++◌, codes}
 use Rattle.std.specs.Fmt.{decimal}
 use Rattle.l4_text.specs.Texts.{word_text}
@@ -13,7 +13,7 @@ page_line page = codes "page " ++ decimal page
 abbrev pub item_line : ℕ → ℕ → ℕ → List ℕ
 item_line first second page = codes "item " ++ (word_text first ++ (codes " " ++ (word_text second ++ (codes " " ++ page_line page))))
 
--- the first line of the pages that show that each plan is too long
+-- the first line before the pages that prove every plan to be too long
 abbrev pub long_line : List ℕ
 long_line = codes "too-long"
 

@@ -1,4 +1,4 @@
--- What is written of the plan of a region (own).
+-- The text of the plan of a region (this profile's own).
 use Rattle.std.specs.Prelude.{◌≡◌, ℕ, zero, suc, ◌*◌, ◌<◌, ◌⊎◌, Bool, true, false, List, [], ◌∷◌, ◌++◌, length, codes}
 use Rattle.std.specs.List.{flat_map}
 use Rattle.l4_msg.specs.Regions.{IsEmpty, InSpace, IsOutOfSpace, HasNoRights, messages_of, part_of_list}
@@ -11,7 +11,7 @@ use Rattle.l4_plan.specs.Shortest.{IsShortest, IsTooLong}
 use Rattle.l4_plan_lines.specs.Lines.{ended, tag_line, item_line, page_line, long_line}
 use Rattle.l4_fpage.specs.declared.sizes.PageSize.{PageSize}
 
--- two words and a page a line
+-- lines with two words and a page each
 abbrev pub item_texts : List ℕ → List ℕ → List ℕ
 item_texts (first ∷ second ∷ words) (page ∷ pages) = ended (item_line first second page) ++ item_texts words pages
 item_texts words pages = []
@@ -41,7 +41,7 @@ plan_text p = parts_text p (messages_of (length p.items))
 abbrev pub too_long_text : List ℕ → List ℕ
 too_long_text pages = ended long_line ++ flat_map (λ page. ended (page_line page)) pages
 
--- the text of a region's plan; the truth value says whether there is one
+-- the text of a region's plan, or of the reason why there is none; the truth value says which
 abbrev pub IsPlanText : PageSize → Region → Bool → List ℕ → Type 0
 IsPlanText size r true text = (p : Listing) × IsShortest size r p × (text ≡ plan_text p)
 IsPlanText size r false text =
