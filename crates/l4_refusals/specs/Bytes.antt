@@ -1,4 +1,4 @@
--- A text as it is kept (this profile's own).
+-- A text as it is stored (this profile's own).
 use Rattle.std.specs.Prelude.{ℕ, List}
 use Rattle.l4_refusals.specs.declared.Text.{Text}
 

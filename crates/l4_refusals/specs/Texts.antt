@@ -1,11 +1,11 @@
--- What refusals mean, in words (this profile's own).
+-- The meanings of refusals in words (this profile's own).
 use Rattle.std.specs.Prelude.{ℕ, ◌+◌, ◌*◌, List, [], ◌∷◌, ◌++◌, nat_eq, slice_index_or, if◌then◌else◌, codes}
 
 -- a refusal's number is the first two bytes of its printed code
 abbrev pub spelled : List ℕ → ℕ
 spelled code = slice_index_or code 0 0 * 256 + slice_index_or code 1 0
 
--- what the library and the kernel refuse: the codes, each with a line that says what it means
+-- the codes of the library and of the kernel, each with a line that says what it means
 abbrev pub kernel_texts : List (List ℕ × List ℕ)
 kernel_texts =
     (codes "B1", codes "the handle is empty: it was never created, or it was freed")
@@ -19,7 +19,7 @@ kernel_texts =
     ∷ (codes "K6", codes "the number of frames must be from 1 to 4,096")
     ∷ []
 
--- what is refused of a message: the codes, each with a line that says what it means
+-- the codes of messages, each with a line that says what it means
 abbrev pub message_texts : List (List ℕ × List ℕ)
 message_texts =
     (codes "M1", codes "the tag counts more than 63 words, untyped and typed together")
@@ -31,7 +31,7 @@ message_texts =
     ∷ (codes "M7", codes "the tag is missing, or fewer words follow it than it counts")
     ∷ []
 
--- what a control of threads and an Unmap refuse: the codes, each with a line that says what it means
+-- the codes of thread controls and of Unmaps, each with a line that says what it means
 abbrev pub control_texts : List (List ℕ × List ℕ)
 control_texts =
     (codes "H1", codes "the caller is not in root's address space")
@@ -44,7 +44,7 @@ control_texts =
     ∷ (codes "U2", codes "Unmap got fewer words than its control word requires")
     ∷ []
 
--- why there is no plan of a region, or no such message of a plan: the codes, each with a line that says what it means
+-- the codes of regions without a plan and of missing messages, each with a line that says what it means
 abbrev pub plan_texts : List (List ℕ × List ℕ)
 plan_texts =
     (codes "N1", codes "the region has no pages")
@@ -55,7 +55,7 @@ plan_texts =
     ∷ (codes "N6", codes "the plan has no message with this number")
     ∷ []
 
--- why a plan isn't one: the codes, each with a line that says what it means
+-- the codes of the faults of a plan, each with a line that says what it means
 abbrev pub check_texts : List (List ℕ × List ℕ)
 check_texts =
     (codes "C1", codes "the item does not fit the region: it is a grant, has other rights, moves a page outside it, or moves a page to the wrong target")
@@ -66,7 +66,7 @@ check_texts =
     ∷ (codes "C6", codes "the region itself is refused with N1, N2 or N3")
     ∷ []
 
--- what a pager's table and a locked kernel refuse, and want of memory: the codes, each with a line that says what it means
+-- the codes of a pager's table, of a locked kernel and of running out of memory, each with a line that says what it means
 abbrev pub table_texts : List (List ℕ × List ℕ)
 table_texts =
     (codes "P1", codes "the region overlaps another region in the table")
@@ -88,7 +88,7 @@ table_texts =
 abbrev pub texts : List (List ℕ × List ℕ)
 texts = kernel_texts ++ (message_texts ++ (control_texts ++ (plan_texts ++ (check_texts ++ table_texts))))
 
--- the code and the line of a refusal's number; nothing, where it is none
+-- the code and the line of a refusal's number; both are empty if there is no such refusal
 abbrev pub text_in : List (List ℕ × List ℕ) → ℕ → List ℕ × List ℕ
 text_in [] number = ([], [])
 text_in (text ∷ rest) number = if nat_eq (spelled text.0) number then text else text_in rest number
