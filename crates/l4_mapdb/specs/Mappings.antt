@@ -1,5 +1,5 @@
--- The mappings of all spaces as one value: what each place shows, and which spaces there are.
--- (L4 X.2 manual: recursive mapping by map and grant items; the one value is this profile's own.)
+-- The mappings of all spaces as one value: the mapping of each present place, and the spaces that exist (L4 X.2 manual: recursive mapping
+-- by map and grant items; the one value is this profile's own).
 use Rattle.std.specs.Prelude.{◌≡◌, ℕ, ◌<◌, Option, Some, None, IsTrue, is_some, option_and_then, ◌⊎◌, refl}
 use Rattle.std.specs.Ordering.{nat_cmp, ordering_then}
 use Rattle.std.specs.Option.{option_map_or}
@@ -24,7 +24,7 @@ mapping_code =
     code_by (ℕ × (RightsSet × Option Place)) (coded× coded_ℕ (coded× rights_code (coded_option place_code)))
     (λ m. (m.frame, (m.rights, m.parent))) (λ p. record { frame = p.0; rights = p.1.0; parent = p.1.1 }) (λ _. refl)
 
--- what each present place shows, and the spaces that there are
+-- the mapping of each present place, and the spaces that exist
 pub record Mappings : Type 0 where
   pub places : map.FinMap place_cmp Mapping
   pub spaces : set.FinSet nat_cmp
@@ -34,7 +34,7 @@ mappings_code =
     code_by (map.FinMap place_cmp Mapping × set.FinSet nat_cmp) (coded× (map.code place_code mapping_code) (set.code coded_ℕ))
     (λ s. (s.places, s.spaces)) (λ p. record { places = p.0; spaces = p.1 }) (λ _. refl)
 
--- what a place shows, if it is present
+-- the mapping of a place, if it is present
 abbrev pub shown : Mappings → Place → Option Mapping
 shown s place = map.get s.places place
 
@@ -45,7 +45,7 @@ IsPresent s place = IsTrue (is_some (shown s place))
 abbrev pub parent_of : Mappings → Place → Option Place
 parent_of s place = option_and_then (λ m. m.parent) (shown s place)
 
--- the rights of a place, none where it is absent
+-- the rights of a place; none if it is absent
 abbrev pub rights_at : Mappings → Place → RightsSet
 rights_at s place = option_map_or (λ m. m.rights) (shown s place) no_rights
 
@@ -58,25 +58,25 @@ pub data Chain (parent : Place → Option Place) : Place → Place → Type 0 wh
 abbrev pub Descends : Mappings → Place → Place → Type 0
 Descends s low high = Chain (parent_of s) low high
 
--- the place is the second, or descends from it
+-- the place is the second one, or descends from it
 abbrev pub IsOrDescends : Mappings → Place → Place → Type 0
 IsOrDescends s low high = (low ≡ high) ⊎ Descends s low high
 
--- the place without a parent that shows the frame
+-- the place with this frame that has no parent
 pub record IsRoot (s : Mappings) (frame : ℕ) (place : Place) : Type 0 where
   pub mapping : Mapping
   pub at : shown s place ≡ Some mapping
   pub frame_is : mapping.frame ≡ frame
   pub top : mapping.parent ≡ None
 
--- a present place's parent is present, shows the same frame, and has all its rights
+-- the parent of a present place is present, has the same frame, and has all rights of the place
 pub record ParentHolds (s : Mappings) (m : Mapping) (parent : Place) : Type 0 where
   pub above : Mapping
   pub at : shown s parent ≡ Some above
   pub same_frame : above.frame ≡ m.frame
   pub within : Within m.rights above.rights
 
--- the mappings are trees: one for each frame that is shown
+-- the mappings are trees: one for each frame that is mapped
 pub record IsForest (s : Mappings) : Type 0 where
   pub in_space : (place : Place) (m : Mapping) → shown s place ≡ Some m → IsTrue (set.contains s.spaces place.space)
   pub page_fits : (place : Place) (m : Mapping) → shown s place ≡ Some m → place.page < most_pages

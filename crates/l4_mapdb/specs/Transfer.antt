@@ -1,6 +1,6 @@
--- What a message's items do to the mappings (L4 X.2 manual, IPC: map and grant items; which messages are entangled, that a target is
--- replaced with all its descendants, and the cut of a grant are this profile's own). The used moves and what goes are read from the
--- mappings before the step, and nothing depends on the order of the items or of the pages.
+-- The effect of a message's items on the mappings (L4 X.2 manual, IPC: map and grant items; which messages are entangled, that a target is
+-- replaced with all its descendants, and the cut of a grant are this profile's own). The used moves and the places that are removed depend
+-- only on the mappings before the step, and nothing depends on the order of the items or of the pages.
 use Rattle.std.specs.Prelude.{◌≡◌, ◌≢◌, ℕ, ◌↔◌, Bool, List, Option, Some, None, IsTrue, ◌⊎◌, slice_get}
 use Rattle.l4_fpage.specs.Rights.{RightsSet, Right, has, no_rights, common}
 use Rattle.l4_msg.specs.Moves.{MovePairs}
@@ -10,7 +10,7 @@ use Rattle.l4_mapdb.specs.declared.ItemMove.{ItemMove}
 use Rattle.l4_mapdb.specs.Mappings.{Mappings, shown, IsPresent, Descends, IsOrDescends}
 use Rattle.l4_mapdb.specs.Losing.{LosesRights}
 
--- one page's move by one item, with what its source shows and the rights that page and item have in common
+-- the move of one page by one item, with the mapping of its source and the rights that page and item have in common
 pub record PageMove : Type 0 where
   pub item : ℕ
   pub source : Place
@@ -32,14 +32,14 @@ pub record IsUsed (old : Mappings) (from to : ℕ) (items : List ItemMove) (move
   pub some_right : move.rights ≢ no_rights
 
 module _ (Used : PageMove → Type 0) where
-  -- a used move of a grant item takes the place away
+  -- a used move of a grant item has the place as its source
   pub record IsGranted (place : Place) : Type 0 where
     pub move : PageMove
     pub used : Used move
     pub grant : IsTrue move.grant
     pub source : move.source ≡ place
 
-  -- two used moves have the same target. They are of two items, since an item fills no target twice
+  -- two used moves have the same target; they are of different items, because an item fills no target twice
   pub record SharesTarget : Type 0 where
     pub one : PageMove
     pub other : PageMove
@@ -70,14 +70,14 @@ module _ (Used : PageMove → Type 0) where
   abbrev pub IsEntangled : Mappings → Type 0
   IsEntangled old = SharesTarget ⊎ (GrantsTwice ⊎ ReplacesSource old)
 
-  -- the place is a present used target or descends from one
+  -- the place is a present target of a used move, or descends from one
   pub record IsGone (old : Mappings) (place : Place) : Type 0 where
     pub move : PageMove
     pub used : Used move
     pub present : IsPresent old move.target
     pub below : IsOrDescends old place move.target
 
-  -- where what stood at a place stands afterwards: a granted place is renamed, any other stays
+  -- the later place of what is at a place: a granted place is renamed, and any other one stays
   abbrev pub StandsAt : Place → Place → Type 0
   StandsAt place later =
       ((move : PageMove) × Used move × IsTrue move.grant × (move.source ≡ place) × (move.target ≡ later))
@@ -108,7 +108,7 @@ module _ (Used : PageMove → Type 0) where
     pub rights : m.rights ≡ move.rights
     pub parent : ParentLater move.shows.parent m.parent
 
-  -- the place was there, and is neither gone nor granted away
+  -- the place was present, and is neither removed nor granted
   pub record Stays (old : Mappings) (place : Place) (m : Mapping) : Type 0 where
     pub before : Mapping
     pub at : shown old place ≡ Some before
@@ -121,12 +121,12 @@ module _ (Used : PageMove → Type 0) where
   abbrev pub Becomes : Mappings → Place → Mapping → Type 0
   Becomes old place m = IsMapped place m ⊎ (IsHandedOver place m ⊎ Stays old place m)
 
-  -- the places before the cuts: they show just what the used moves and the places that stay give them
+  -- the places before the cuts: their mappings are exactly those of the used moves and of the places that stay
   pub record Moved (old new : Mappings) : Type 0 where
     pub spaces : new.spaces ≡ old.spaces
     pub places : (place : Place) (m : Mapping) → (shown new place ≡ Some m) ↔ Becomes old place m
 
-  -- what a granted place's descendants lose: the rights that the source had and the target has not
+  -- a descendant of a granted place loses the rights that the source had and the target does not have
   pub record IsCut (middle : Mappings) (place : Place) (right : Right) : Type 0 where
     pub move : PageMove
     pub used : Used move
@@ -135,7 +135,7 @@ module _ (Used : PageMove → Type 0) where
     pub lacks : ¬ (IsTrue (has move.rights right))
     pub below : Descends middle place move.target
 
-  -- the effect of the used moves: the places move, and then the granted places' descendants are cut
+  -- the effect of the used moves: the places move, and then the rights of the granted places' descendants are cut
   pub record Transfers (old new : Mappings) : Type 0 where
     pub middle : Mappings
     pub moved : Moved old middle
