@@ -1,4 +1,5 @@
--- What a contract sees of the nodes: the spaces that there are, the page of each key, and what stands there.
+-- What a contract sees of the nodes: the spaces that exist, the page of each key, and the node there (this profile's own). A node "stands"
+-- if it is a mapping and not a blank.
 use Rattle.std.specs.Prelude.{◌≡◌, ◌≢◌, ◌↔◌, ◌⊎◌, ◌<◌, ◌≤◌, ◌+◌, ◌-◌, ℕ, Bool, true, false, List, Option, Some, None, slice_index_or, option_and_then, if◌then◌else◌, IsTrue, refl}
 use Rattle.std.specs.Option.{option_map}
 use Rattle.std.specs.Ordering.{nat_cmp}
@@ -11,7 +12,7 @@ use Rattle.l4_links.specs.declared.Standing.{Standing}
 use Rattle.l4_links.specs.declared.Entry.{Entry}
 use Rattle.l4_links.specs.Leads.{Leads}
 
--- the entry or nothing under each key from 0 on
+-- the entry under each key from 0 on, if there is one
 abbrev pub Entries : Type 0
 Entries = List (Option Entry)
 
@@ -31,7 +32,7 @@ entry_code =
 abbrev pub entries_code : Coded Entries
 entries_code = coded_list (coded_option entry_code)
 
--- the entries, and the spaces that there are
+-- the entries, and the spaces that exist
 pub record Linked : Type 0 where
   pub entries : Entries
   pub spaces : set.FinSet nat_cmp
@@ -39,19 +40,19 @@ pub record Linked : Type 0 where
 abbrev pub linked_code : Coded Linked
 linked_code = code_by (Entries × set.FinSet nat_cmp) (coded× entries_code (set.code coded_ℕ)) (λ s. (s.entries, s.spaces)) (λ p. record { entries = p.0; spaces = p.1 }) (λ _. refl)
 
--- the entry under a key
+-- the entry under a key, if there is one
 abbrev pub entry_at : Entries → ℕ → Option Entry
 entry_at s key = slice_index_or s key None
 
--- what stands under a key
+-- the mapping under a key, if there is one
 abbrev pub standing_at : Entries → ℕ → Option Standing
 standing_at s key = option_and_then (λ (e : Entry). e.stands) (entry_at s key)
 
--- something stands under the key
+-- there is a mapping under the key
 abbrev pub IsStanding : Entries → ℕ → Type 0
 IsStanding s key = standing_at s key ≢ None
 
--- the key is of a blank: a page where nothing stands
+-- the key is that of a blank: a page without a mapping
 pub record IsBlank (s : Entries) (key : ℕ) : Type 0 where
   pub there : entry_at s key ≢ None
   pub blank : standing_at s key ≡ None
@@ -60,11 +61,11 @@ pub record IsBlank (s : Entries) (key : ℕ) : Type 0 where
 abbrev pub parent_of : Entries → ℕ → Option ℕ
 parent_of s key = option_and_then (λ (t : Standing). t.parent) (standing_at s key)
 
--- the key is of the page
+-- the key is that of the page
 abbrev pub IsAt : Entries → Place → ℕ → Type 0
 IsAt s place key = option_map {T = Entry} (λ e. e.place) (entry_at s key) ≡ Some place
 
--- the key, and no other, is of the page
+-- the key is that of the page, and no other key is
 abbrev pub IsKeyOf : Entries → Place → ℕ → Type 0
 IsKeyOf s place key = (other : ℕ) → (other ≡ key) ↔ IsAt s place other
 
@@ -76,7 +77,7 @@ HasKey s space page = (key : ℕ) × IsAt s (record { space = space; page = page
 abbrev pub NoKeyFrom : Entries → ℕ → ℕ → Type 0
 NoKeyFrom s space page = (other : ℕ) → page ≤ other → ¬ (HasKey s space other)
 
--- the least page of the space with a key that is not below this one
+-- the least page of the space that has a key and is not below this one
 pub record IsNextKey (s : Entries) (space page next : ℕ) : Type 0 where
   pub there : HasKey s space next
   pub from : page ≤ next
@@ -86,7 +87,7 @@ pub record IsNextKey (s : Entries) (space page next : ℕ) : Type 0 where
 abbrev pub NoKeyIn : Entries → ℕ → ℕ → ℕ → Type 0
 NoKeyIn s space page end = (other : ℕ) → page ≤ other → other < end → ¬ (HasKey s space other)
 
--- the least page of the space with a key that is not below this one, and it is below the end
+-- the least page of the space that has a key, is not below this one, and is below the end
 pub record IsNextKeyIn (s : Entries) (space page end next : ℕ) : Type 0 where
   pub there : HasKey s space next
   pub from : page ≤ next
@@ -97,11 +98,11 @@ pub record IsNextKeyIn (s : Entries) (space page end next : ℕ) : Type 0 where
 abbrev pub Descends : Entries → ℕ → ℕ → Type 0
 Descends s low high = Leads (parent_of s) low high
 
--- no page of the space from this one on and below the end has a key that something descends from
+-- no page of the space from this one on and below the end has a key from which another key descends
 abbrev pub NoParentIn : Entries → ℕ → ℕ → ℕ → Type 0
 NoParentIn s space page end = (other key low : ℕ) → page ≤ other → other < end → IsAt s (record { space = space; page = other }) key → ¬ (Descends s low key)
 
--- the least page of the space with a key that something descends from that is not below this one, and it is below the end
+-- the least page of the space that has a key from which another key descends, is not below this one, and is below the end
 pub record IsNextParentIn (s : Entries) (space page end next key : ℕ) : Type 0 where
   pub at : IsAt s (record { space = space; page = next }) key
   pub parent : (low : ℕ) × Descends s low key
@@ -109,49 +110,49 @@ pub record IsNextParentIn (s : Entries) (space page end next key : ℕ) : Type 0
   pub before : next < end
   pub least : NoParentIn s space page next
 
--- the key is of a source
+-- the key is that of a source
 abbrev pub IsSource : Entries → ℕ → Type 0
 IsSource s key = option_map (λ (t : Standing). t.source) (standing_at s key) ≡ Some true
 
--- what stands has a right
+-- each mapping has a right
 abbrev pub HaveRights : Entries → Type 0
 HaveRights s = (key : ℕ) (t : Standing) → standing_at s key ≡ Some t → t.rights ≢ no_rights
 
--- each page lies in a space that is there, and has one key
+-- each page is in a space that exists, and has one key
 pub record HavePlaces (s : Linked) : Type 0 where
   pub housed : (key : ℕ) (e : Entry) → entry_at s.entries key ≡ Some e → IsTrue (set.contains s.spaces e.place.space)
   pub fits : (key : ℕ) (e : Entry) → entry_at s.entries key ≡ Some e → IsPage e.place.page
   pub once : (place : Place) (a b : ℕ) → IsAt s.entries place a → IsAt s.entries place b → a ≡ b
 
--- the parent stands, shows the same frame, and has all rights of its child
+-- the parent is a mapping, has the same frame, and has all rights of its child
 pub record ParentStands (s : Entries) (t : Standing) (parent : ℕ) : Type 0 where
   pub above : Standing
   pub at : standing_at s parent ≡ Some above
   pub frame : t.frame ≡ above.frame
   pub within : common t.rights above.rights ≡ t.rights
 
--- what stands, stands in trees
+-- the mappings are trees
 pub record AreTrees (s : Entries) : Type 0 where
   pub parents : (key : ℕ) (t : Standing) (parent : ℕ) → standing_at s key ≡ Some t → t.parent ≡ Some parent → ParentStands s t parent
   pub apart : (key : ℕ) → ¬ (Descends s key key)
   pub decided : (low high : ℕ) → Descends s low high ⊎ ¬ (Descends s low high)
 
--- what stands has no other rights than these
+-- the entry with only those of its rights that are in `cap`
 abbrev pub capped : RightsSet → Entry → Entry
 capped cap e = record e { stands = option_map (λ (t : Standing). record t { rights = common t.rights cap }) e.stands }
 
--- a blank for the place has come under the key
+-- a blank for the place was added under the key
 pub record AddsBlank (place : Place) (old new : Entries) (key : ℕ) : Type 0 where
   pub vacant : entry_at old key ≡ None
   pub filled : entry_at new key ≡ Some (record { place = place; wanted = false; stands = None })
   pub others : (other : ℕ) → other ≢ key → entry_at new other ≡ entry_at old other
 
--- this stands under the key now, and all else is as it was
+-- this mapping is under the key now, and everything else is unchanged
 pub record Stands (key : ℕ) (standing : Standing) (old new : Entries) : Type 0 where
   pub here : entry_at new key ≡ option_map {T = Entry} (λ e. record e { stands = Some standing }) (entry_at old key)
   pub others : (other : ℕ) → other ≢ key → entry_at new other ≡ entry_at old other
 
--- a child of the parent stands under the key, with the parent's frame and what it has of these rights
+-- a child of the parent is under the key now, with the parent's frame and those of these rights that the parent has
 pub record Sprouts (parent key : ℕ) (rights : RightsSet) (old new : Entries) : Type 0 where
   pub above : Standing
   pub at_parent : standing_at old parent ≡ Some above
@@ -159,7 +160,8 @@ pub record Sprouts (parent key : ℕ) (rights : RightsSet) (old new : Entries) :
   pub leads : (low high : ℕ) → low ≢ key → Descends new low high ↔ Descends old low high
   pub from_new : (high : ℕ) → Descends new key high ↔ ((high ≡ parent) ⊎ Descends old parent high)
 
--- a child of the parent has come under a new key to the place, with the parent's frame and what it has of these rights, and all else is as it was
+-- A child of the parent was added under a new key at the place, with the parent's frame and those of these rights that the parent has.
+-- Everything else is unchanged.
 pub record AddsChild (parent : ℕ) (place : Place) (rights : RightsSet) (old new : Entries) (key : ℕ) : Type 0 where
   pub above : Standing
   pub at_parent : standing_at old parent ≡ Some above
@@ -167,53 +169,54 @@ pub record AddsChild (parent : ℕ) (place : Place) (rights : RightsSet) (old ne
   pub filled : entry_at new key ≡ Some (record { place = place; wanted = false; stands = Some (record { frame = above.frame; rights = common above.rights rights; source = false; granted = None; parent = Some parent }) })
   pub others : (other : ℕ) → other ≢ key → entry_at new other ≡ entry_at old other
 
--- what is left of a page that is cut off: a blank where it is wanted, else nothing
+-- what is left of a page that is cut off: a blank if the page is wanted, otherwise nothing
 abbrev pub cut_off : Option Entry → Option Entry
 cut_off cut = option_and_then (λ (e : Entry). if e.wanted then Some (record e { stands = None }) else None) cut
 
--- what descends from the key is cut off, nothing stands under the key, and all else is as it was
+-- the keys that descend from the key are cut off, there is no mapping under the key, and everything else is unchanged
 pub record Clears (top : ℕ) (old new : Entries) : Type 0 where
   pub gone : (key : ℕ) → Descends old key top → entry_at new key ≡ cut_off (entry_at old key)
   pub here : entry_at new top ≡ option_map {T = Entry} (λ e. record e { stands = None }) (entry_at old top)
   pub kept : (key : ℕ) → key ≢ top → ¬ (Descends old key top) → entry_at new key ≡ entry_at old key
 
--- what descends from the key is cut off, and all else is as it was
+-- the keys that descend from the key are cut off, and everything else is unchanged
 pub record CutsBelow (top : ℕ) (old new : Entries) : Type 0 where
   pub gone : (key : ℕ) → Descends old key top → entry_at new key ≡ cut_off (entry_at old key)
   pub kept : (key : ℕ) → ¬ (Descends old key top) → entry_at new key ≡ entry_at old key
 
--- what stands without a right has gone with its page, and all else is as it was
+-- mappings without rights are removed with their pages, and everything else is unchanged
 pub record Buries (old new : Entries) : Type 0 where
   pub gone : (key : ℕ) (t : Standing) → standing_at old key ≡ Some t → t.rights ≡ no_rights → entry_at new key ≡ None
   pub kept : (key : ℕ) → ((t : Standing) → standing_at old key ≡ Some t → t.rights ≢ no_rights) → entry_at new key ≡ entry_at old key
 
--- what descends from the key has no other rights than these, and all else is as it was
+-- the mappings that descend from the key have lost all rights but these, and everything else is unchanged
 pub record CapsBelow (top : ℕ) (cap : RightsSet) (old new : Entries) : Type 0 where
   pub capped : (key : ℕ) → Descends old key top → entry_at new key ≡ option_map (capped cap) (entry_at old key)
   pub kept : (key : ℕ) → ¬ (Descends old key top) → entry_at new key ≡ entry_at old key
 
--- what stands under the key and what descends from it has no other rights than these, and all else is as it was
+-- the mapping under the key and those that descend from it have lost all rights but these, and everything else is unchanged
 pub record CapsTree (top : ℕ) (cap : RightsSet) (old new : Entries) : Type 0 where
   pub top_capped : entry_at new top ≡ option_map (capped cap) (entry_at old top)
   pub below_capped : (key : ℕ) → Descends old key top → entry_at new key ≡ option_map (capped cap) (entry_at old key)
   pub kept : (key : ℕ) → key ≢ top → ¬ (Descends old key top) → entry_at new key ≡ entry_at old key
 
--- what stands under the key is a source now or none, and all else is as it was
+-- the mapping under the key is now a source, or is not one, and everything else is unchanged
 pub record SetsSource (key : ℕ) (source : Bool) (old new : Entries) : Type 0 where
   pub here : entry_at new key ≡ option_map {T = Entry} (λ e. record e { stands = option_map (λ (t : Standing). record t { source = source }) e.stands }) (entry_at old key)
   pub others : (other : ℕ) → other ≢ key → entry_at new other ≡ entry_at old other
 
--- what stands under the key is neither a source nor granted any more, and all else is as it was
+-- the mapping under the key is neither a source nor granted any more, and everything else is unchanged
 pub record SetsPlain (key : ℕ) (old new : Entries) : Type 0 where
   pub here : entry_at new key ≡ option_map {T = Entry} (λ e. record e { stands = option_map (λ (t : Standing). record t { source = false; granted = None }) e.stands }) (entry_at old key)
   pub others : (other : ℕ) → other ≢ key → entry_at new other ≡ entry_at old other
 
--- the page of the key is wanted now or not, and all else is as it was
+-- the page of the key is now wanted, or is not wanted, and everything else is unchanged
 pub record SetsWanted (key : ℕ) (wanted : Bool) (old new : Entries) : Type 0 where
   pub here : entry_at new key ≡ option_map {T = Entry} (λ e. record e { wanted = wanted }) (entry_at old key)
   pub others : (other : ℕ) → other ≢ key → entry_at new other ≡ entry_at old other
 
--- what stands under the key has taken the blank's page, with a note of the rights of the item that grants it; the blank has gone, and all else is as it was
+-- The mapping under the key has the blank's page now, with a note of the rights of the item that grants it. The blank is removed, and
+-- everything else is unchanged.
 pub record TakesOver (key blank : ℕ) (rights : RightsSet) (old new : Entries) : Type 0 where
   pub page : Entry
   pub was : entry_at old blank ≡ Some page
@@ -221,16 +224,16 @@ pub record TakesOver (key blank : ℕ) (rights : RightsSet) (old new : Entries) 
   pub gone : entry_at new blank ≡ None
   pub others : (other : ℕ) → other ≢ key → other ≢ blank → entry_at new other ≡ entry_at old other
 
--- the place is one of the pages from this one on and before the end
+-- the place is one of the pages from this one on and below the end
 abbrev pub IsInPages : Place → ℕ → Place → Type 0
 IsInPages first end place = (place.space ≡ first.space) × (first.page ≤ place.page) × (place.page < end)
 
--- the place that lies as far behind the target as this one lies behind the source
+-- the place that is as far after the target as this one is after the source
 abbrev pub moved_place : Place → Place → Place → Place
 moved_place source target place = record { space = target.space; page = place.page - source.page + target.page }
 
--- What is at the pages from the source on and before the end is at the places from the target on, with its keys, and all else is as it was.
--- It had no other rights than these, and those places had no keys.
+-- The entries of the pages from the source on and below the end are at the places from the target on now, with their keys, and everything
+-- else is unchanged. They had no rights but these, and those places had no keys.
 pub record MovesPages (source : Place) (end : ℕ) (target : Place) (rights : RightsSet) (old new : Entries) : Type 0 where
   pub moved : (key : ℕ) (e : Entry) → entry_at old key ≡ Some e → IsInPages source end e.place → entry_at new key ≡ Some (record e { place = moved_place source target e.place })
   pub kept : (key : ℕ) (e : Entry) → entry_at old key ≡ Some e → ¬ (IsInPages source end e.place) → entry_at new key ≡ Some e
@@ -238,7 +241,7 @@ pub record MovesPages (source : Place) (end : ℕ) (target : Place) (rights : Ri
   pub within : (key : ℕ) (e : Entry) (t : Standing) → entry_at old key ≡ Some e → IsInPages source end e.place → e.stands ≡ Some t → Within t.rights rights
   pub absent : (key : ℕ) (e : Entry) → entry_at old key ≡ Some e → IsInPages source end e.place → (other : ℕ) → ¬ (IsAt old (moved_place source target e.place) other)
 
--- a page of these has other rights than these, or the place that it would go to has a key
+-- one of these pages has a right that is not one of these, or the place to which it would go has a key
 pub record Hinders (source : Place) (end : ℕ) (target : Place) (rights : RightsSet) (s : Entries) : Type 0 where
   pub key : ℕ
   pub entry : Entry
@@ -246,7 +249,7 @@ pub record Hinders (source : Place) (end : ℕ) (target : Place) (rights : Right
   pub inside : IsInPages source end entry.place
   pub why : ((t : Standing) × (entry.stands ≡ Some t) × ¬ (Within t.rights rights)) ⊎ ((other : ℕ) × IsAt s (moved_place source target entry.place) other)
 
--- a page of these has no other rights than these, and the place that it would go to has no key
+-- one of these pages has no rights but these, and the place to which it would go has no key
 pub record LacksPlace (source : Place) (end : ℕ) (target : Place) (rights : RightsSet) (s : Entries) : Type 0 where
   pub key : ℕ
   pub entry : Entry

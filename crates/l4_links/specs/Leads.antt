@@ -1,4 +1,4 @@
--- Chains of parents.
+-- Chains of parents (this profile's own).
 use Rattle.std.specs.Prelude.{◌≡◌, ℕ, Option, Some}
 
 -- one or more steps to the parent lead from the first key to the second
