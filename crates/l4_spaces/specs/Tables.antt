@@ -1,4 +1,4 @@
--- The page tables of all spaces as one value: the node of each present page, which spaces there are, and which tables (this profile's own).
+-- The page tables of all spaces as one value: the node of each present page, the spaces that exist, and their tables (this profile's own).
 use Rattle.std.specs.Prelude.{◌≡◌, ◌≢◌, ℕ, ◌<◌, ◌≤◌, ◌==◌, ◌+◌, ◌*◌, ◌/◌, List, Option, None, cond, length, slice_index_or, not, IsTrue, is_some, refl}
 use Rattle.std.specs.List.{count_by}
 use Rattle.std.specs.Ordering.{nat_cmp, ordering_then}
@@ -7,8 +7,8 @@ use Rattle.std.specs.Coded.{Coded, code_by, coded×, coded_ℕ}
 use Rattle.std.specs.FinMap as map
 use Rattle.std.specs.FinSet as set
 
--- how many pages a table has, and how many tables a space: enough for pages of 1,024 bytes. Of a space with pages of 4,096 bytes the first 512
--- tables have the pages.
+-- The number of pages of a table, and the number of tables of a space, which is enough for pages of 1,024 bytes. In a space with pages of
+-- 4,096 bytes, the first 512 tables have the pages.
 abbrev pub table_pages : ℕ
 table_pages = 2048
 
@@ -22,7 +22,7 @@ space_pages = space_tables * table_pages
 abbrev pub place_cmp : ℕ × ℕ → ℕ × ℕ → Ordering
 place_cmp a b = ordering_then (nat_cmp a.0 b.0) (nat_cmp a.1 b.1)
 
--- the nodes' keys of the present pages, the spaces that there are, the tables that there are, and what room there is for more, of which `HasRoom` speaks
+-- the keys of the nodes of present pages, the spaces and the tables that exist, and the room for more tables, which `HasRoom` uses
 pub record Tables : Type 0 where
   pub pages : map.FinMap place_cmp ℕ
   pub spaces : set.FinSet nat_cmp
@@ -45,24 +45,23 @@ IsPresent s space page = IsTrue (is_some (key_of s space page))
 abbrev pub IsSpace : Tables → ℕ → Type 0
 IsSpace s space = IsTrue (set.contains s.spaces space)
 
--- the page lies in a space
+-- the number is that of a page of a space
 abbrev pub IsPage : ℕ → Type 0
 IsPage page = page < space_pages
 
--- these pages of the space can be set in turn, one after another, without memory:
--- of them, those whose table isn't there are no more than the room
+-- These pages of the space can be set one after another without an allocation: those whose table does not exist are no more than the room.
 unfoldable pub HasRoom : Tables → ℕ → List ℕ → Type 0
 HasRoom s space pages = count_by (λ page. not (set.contains s.tables (space, page / table_pages))) pages ≤ s.room
 
--- all room that there was is there
+-- there is at least as much room as before
 abbrev pub KeepsRoom : Tables → Tables → Type 0
 KeepsRoom old new = (space : ℕ) (pages : List ℕ) → HasRoom old space pages → HasRoom new space pages
 
--- all room that there was for the other spaces is there
+-- there is at least as much room for the other spaces as before
 abbrev pub KeepsOthersRoom : ℕ → Tables → Tables → Type 0
 KeepsOthersRoom space old new = (other : ℕ) (pages : List ℕ) → other ≢ space → HasRoom old other pages → HasRoom new other pages
 
--- the space has no page left, and the others have theirs
+-- the space has no pages any more, and the other spaces have theirs
 abbrev pub Empties : ℕ → Tables → Tables → Type 0
 Empties space old new = (other page : ℕ) → key_of new other page ≡ cond (other == space) None (key_of old other page)
 
@@ -87,7 +86,8 @@ pub record IsNextIn (s : Tables) (space page end next : ℕ) : Type 0 where
   pub before : next < end
   pub least : (other : ℕ) → page ≤ other → IsPresent s space other → next ≤ other
 
--- these are the keys of the table that begins with this page: the first table that is there of those with pages from the page on, and it begins below the end
+-- The keys of the table that begins with the page `start`. It is the first existing table with pages from `page` on, and it begins below
+-- the end.
 pub record IsTableIn (s : Tables) (space page end start : ℕ) (keys : List (Option ℕ)) : Type 0 where
   pub shows : (low : ℕ) → low < table_pages → key_of s space (start + low) ≡ slice_index_or keys low None
   pub whole : length keys ≡ table_pages
@@ -96,7 +96,7 @@ pub record IsTableIn (s : Tables) (space page end start : ℕ) (keys : List (Opt
   pub before : start < end
   pub least : NonePresentIn s space page start
 
--- how many places of a table, one after another, are a block
+-- the number of consecutive places of a table that are a block
 abbrev pub row_block : ℕ
 row_block = 64
 
