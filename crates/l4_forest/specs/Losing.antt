@@ -1,4 +1,4 @@
--- What a revocation takes, and the end of a space. (L4 X.2 manual, Unmap; the end of a space is this profile's own)
+-- The effect of a revocation, and the end of a space (L4 X.2 manual, Unmap; the end of a space is this profile's own).
 use Rattle.std.specs.Prelude.{◌≡◌, ℕ, ◌↔◌, Bool, Some, IsTrue, ◌⊎◌}
 use Rattle.std.specs.FinSet as set
 use Rattle.l4_fpage.specs.Pages.{InBlock}
@@ -8,7 +8,7 @@ use Rattle.l4_mapdb.specs.declared.Mapping.{Mapping}
 use Rattle.l4_mapdb.specs.Mappings.{Mappings, shown, Descends, IsOrDescends}
 use Rattle.l4_mapdb.specs.Losing.{LosesRights}
 
--- the rights go from all that descends from the place, and from the place too where that is asked
+-- every place that descends from this one loses these rights, and so does this one if `with_self` is true
 abbrev pub RevokedAt : Mappings → Place → RightsSet → Bool → Place → Right → Type 0
 RevokedAt old from rights with_self place right =
     IsTrue (has rights right) × ((IsTrue with_self × (place ≡ from)) ⊎ Descends old place from)
@@ -16,7 +16,7 @@ RevokedAt old from rights with_self place right =
 abbrev pub Revokes : Place → RightsSet → Bool → Mappings → Mappings → Type 0
 Revokes from rights with_self old new = LosesRights (RevokedAt old from rights with_self) old new
 
--- what a revocation of any page of the block would take
+-- the rights that a revocation of any page of the block would remove
 abbrev pub RevokedInBlock : Mappings → ℕ → ℕ → ℕ → RightsSet → Bool → Place → Right → Type 0
 RevokedInBlock old space first log rights with_self place right =
     (page : ℕ) × InBlock first log page × RevokedAt old (record { space = space; page = page }) rights with_self place right
@@ -24,11 +24,11 @@ RevokedInBlock old space first log rights with_self place right =
 abbrev pub RevokesBlock : ℕ → ℕ → ℕ → RightsSet → Bool → Mappings → Mappings → Type 0
 RevokesBlock space first log rights with_self old new = LosesRights (RevokedInBlock old space first log rights with_self) old new
 
--- the place is one of the space's or descends from one
+-- the place is in the space, or descends from a place in it
 abbrev pub GoesWithSpace : Mappings → ℕ → Place → Type 0
 GoesWithSpace old space place = (own : Place) × (own.space ≡ space) × IsOrDescends old place own
 
--- the space ends: its places go with all their descendants, and all else stays
+-- the space ends: its places are removed with all their descendants, and everything else stays
 pub record EndsSpace (space : ℕ) (old new : Mappings) : Type 0 where
   pub spaces : new.spaces ≡ set.remove old.spaces space
   pub places : (place : Place) (m : Mapping) →

@@ -1,4 +1,4 @@
--- The present places of a space, by rising page (this profile's own).
+-- The present places of a space, in rising order of their pages (this profile's own).
 use Rattle.std.specs.Prelude.{ℕ, ◌≤◌}
 use Rattle.l4_mapdb.specs.Mappings.{Mappings, IsPresent}
 
