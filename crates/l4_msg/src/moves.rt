@@ -22,6 +22,7 @@ fn place(larger: Block, log: u8, page: u32) -> Block
 /// Returns the pages of this size that an item moves into a receive window, and where they land (L4 X.2 manual, IPC:
 /// map item; the table is this profile's own). Returns `None` if it moves none, because the item's fpage or the
 /// window covers no whole page. The window's rights are ignored.
+#[inline(always)]
 pub fn item_moves(item: &Item, window: &Fpage, size: PageSize) -> Option<Move>
     ensures pages { (source target : ℕ) → MovePairs result source target ↔ ItemMoves size item.now window.now source target }
     ensures inside { IfSome result (StaysIn size) }

@@ -101,6 +101,7 @@ fn one_digit(line: &[u8]) -> Option<(u32, &[u8])>
 
 /// Returns the number of a line's first token, plus 2^32 for each byte up to the token's end, if one space precedes it and it can be read
 /// quickly. Returns 0 otherwise. So the result fits into one register.
+#[inline(always)]
 fn longer_number(line: &[u8]) -> u64
     ensures packed { IsPacked line.now result }
     ensures none { result < 2 ^ 32 → result ≡ 0 }

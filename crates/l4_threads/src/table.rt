@@ -241,6 +241,7 @@ impl Threads {
 
     /// Returns the enabled transfer in which this thread takes part, if the thread takes part in every enabled transfer.
     #[tactic(auto, using(crate::proofs::ActingLemmas::none_to, crate::proofs::ActingLemmas::none_from, crate::proofs::ActingLemmas::next_to, crate::proofs::ActingLemmas::next_from))]
+    #[inline(always)]
     fn transfer_of(&self, number: u32) -> Option<(u32, u32)>
         requires { TakesPart self.now number }
         ensures { MatchOption result ((s r : ℕ) → ¬ (IsFirstSender self.now r s)) (IsNextTransfer self.now) }
@@ -270,6 +271,7 @@ impl Threads {
     }
 
     /// Returns the enabled transfer whose sender is first in the queue: the sender's number and the receiver's.
+    #[inline(always)]
     pub fn next_transfer(&self) -> Option<(u32, u32)>
         ensures { MatchOption result ((s r : ℕ) → ¬ (IsFirstSender self.now r s)) (IsNextTransfer self.now) }
     {
@@ -329,6 +331,7 @@ impl Threads {
     }
 
     /// Returns the least number of a thread that can expire.
+    #[inline(always)]
     pub fn next_expiry(&self) -> Option<u32>
         ensures { MatchOption result ((n : ℕ) → ¬ (CanExpire self.now n)) (IsNextExpiry self.now) }
     {
