@@ -174,9 +174,7 @@ impl Word {
         requires { IsPage page }
         ensures { self.new ≡ record self.old { page = page } }
     {
-        let mut parts = self.parts();
-        parts.page = page;
-        *self = Word::of(parts);
+        self.bits = self.bits / RIGHTS_PLACE * RIGHTS_PLACE + page;
     }
 
     /// Sets the digit of the rights.
