@@ -1,10 +1,10 @@
-//! Advice in messages about the command line.
+//! The tips in messages about the command line.
 use std::alloc::{AllocError, Global};
 
-/// How a line begins that advises to put `--` before an option that is not known. No argument of the programs takes such a word.
+/// The beginning of a tip to write `--` before an unknown option. It would not help: no argument of the programs takes such a word.
 const ADVICE: &str = "\n  tip: to pass '";
 
-/// A message without that line.
+/// Returns a message without that tip.
 pub(crate) fn without_advice(alloc: Global, text: &str) -> Result<String, AllocError> {
     let Some((before, advice)) = text.split_once(ADVICE) else {
         return String::from_str(alloc, text);

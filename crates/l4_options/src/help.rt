@@ -294,4 +294,7 @@ l4 plan, l4 check, l4 decode and l4_steps print these codes too:
 
 Exit status: 0 at the end of the script, 1 if a refused line ended it (with
 --strict), 2 if the command line is invalid or FILE cannot be opened, 3 if a read
-or a write failed, 4 if there is not enough memory.";
+or a write failed, 4 if there is not enough memory.
+
+docs/profile.md of the source lists how this kernel differs from the L4 X.2
+manual.";

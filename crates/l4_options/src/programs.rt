@@ -1,4 +1,4 @@
-//! What the programs share: the words of the command line, and the statuses to end with.
+//! What the programs share: the words of the command line, and the exit statuses.
 ghost use Rattle.std.specs.Prelude.{◌≡◌, ◌⊎◌, IfErr, MatchResult};
 ghost use Rattle.std.specs.Fn.{FnOnceReturnsAt};
 ghost use Rattle.l4_options.specs.Statuses.{run_status, option_status};
@@ -12,16 +12,16 @@ use std::io::{ErrorKind, Read};
 use std::rt::Env;
 use std::{env, fmt, io};
 
-/// The exit status where the command line, or a line of a list of steps, is not understood.
+/// The exit status if the command line, or a line of a step list, is invalid.
 pub const NOT_UNDERSTOOD: u8 = 2;
 
-/// The exit status where a read or a write failed.
+/// The exit status if a read or a write failed.
 const STREAM_FAILED: u8 = 3;
 
-/// The exit status for want of memory at the start.
+/// The exit status if there is not enough memory at the start.
 const NO_MEMORY: u8 = 4;
 
-/// Says on standard error what went wrong, and answers the status to end with.
+/// Prints what went wrong on standard error, and returns the exit status.
 fn failed(rt: &impl Eprint, text: &str, status: u8) -> u8
     ensures { result ≡ status }
 {
@@ -29,7 +29,7 @@ fn failed(rt: &impl Eprint, text: &str, status: u8) -> u8
     status
 }
 
-/// The name of an input in messages: that of a file in quotes, or standard input.
+/// The name of an input in messages: the name of a file in quotes, or standard input.
 #[derive(Drop)]
 struct Source<'a>(Option<&'a str>);
 
@@ -42,7 +42,7 @@ impl Display for Source<'_> {
     }
 }
 
-/// What the system says of a failure, behind a colon, if it said anything.
+/// The error that the system reported, after a colon, if it reported one.
 #[derive(Drop)]
 struct Cause(Option<io::Error>);
 
@@ -55,7 +55,7 @@ impl Display for Cause {
     }
 }
 
-/// Says on standard error that a file can't be opened, and answers the status to end with.
+/// Prints on standard error that a file cannot be opened, and returns the exit status.
 pub fn not_opened(rt: &impl Eprint, name: &str, error: io::Error) -> u8
     ensures { result ≡ 2 }
 {
@@ -67,8 +67,8 @@ pub fn not_opened(rt: &impl Eprint, name: &str, error: io::Error) -> u8
     NOT_UNDERSTOOD
 }
 
-/// Says on standard error that standard output can't be written, and answers the status to end with. Nothing is said of a closed pipe: the
-/// program that reads it has ended.
+/// Prints on standard error that standard output cannot be written, and returns the exit status. Prints nothing for a closed pipe, because
+/// the program that reads it has ended.
 fn not_written(rt: &impl Eprint, cause: Option<io::Error>) -> u8
     ensures { result ≡ 3 }
 {
@@ -81,8 +81,8 @@ fn not_written(rt: &impl Eprint, cause: Option<io::Error>) -> u8
     STREAM_FAILED
 }
 
-/// Says on standard error why a run over this file, or standard input, stopped, and answers the status to end with: 4 for want of memory, else
-/// 3.
+/// Prints on standard error why a run over this file, or standard input, stopped. Returns the exit status: 4 if there was not enough
+/// memory, else 3.
 pub fn stopped(
     rt: &impl Eprint,
     fault: RunFault,
@@ -101,7 +101,7 @@ pub fn stopped(
     }
 }
 
-/// Says on standard error that the last line of a script was refused (S4), if it was.
+/// Prints a warning on standard error if the last line of a script was refused because it has no newline (S4).
 pub fn warn_of_cut_line<R: Read>(rt: &impl Eprint, reader: &WatchedReader<R>, file: Option<&str>) {
     if reader.is_cut() {
         let _ = eprintln!(rt;
@@ -111,8 +111,8 @@ pub fn warn_of_cut_line<R: Read>(rt: &impl Eprint, reader: &WatchedReader<R>, fi
     }
 }
 
-/// Says on standard error why the command line is not understood, and answers the status to end with: 4 for
-/// want of memory, 2 for any other fault.
+/// Prints on standard error why the command line is invalid. Returns the exit status: 4 if there was not enough memory, 2 for any other
+/// fault.
 pub fn misread(rt: &impl Eprint, fault: &OptionFault) -> u8
     ensures { result ≡ option_status fault.now }
 {
@@ -131,7 +131,7 @@ pub fn misread(rt: &impl Eprint, fault: &OptionFault) -> u8
     }
 }
 
-/// Prints the usage or the version, and answers the status to end with: 3 where the write failed.
+/// Prints the usage or the version. Returns the exit status: 3 if the write failed, else 0.
 pub fn show<R: Print + Eprint>(rt: &R, text: &str) -> u8
     ensures { (result ≡ 0) ⊎ (result ≡ 3) }
 {
@@ -141,8 +141,8 @@ pub fn show<R: Print + Eprint>(rt: &R, text: &str) -> u8
     }
 }
 
-/// The words of the command line, the program's name first. Where there are none to be had it says why on
-/// standard error, and answers the status to end with: 2 where a word is not UTF-8, 4 for want of memory.
+/// Returns the words of the command line, the program's name first. If they cannot be had, prints the reason on standard error, and returns
+/// the exit status: 2 if a word is not UTF-8, 4 if there was not enough memory.
 pub fn command_words<R: AllocGlobal + Env + Eprint>(rt: &R) -> Result<Vec<String>, u8>
     ensures { IfErr result (λ status. (status ≡ 2) ⊎ (status ≡ 4)) }
 {
@@ -161,8 +161,7 @@ pub fn command_words<R: AllocGlobal + Env + Eprint>(rt: &R) -> Result<Vec<String
     }
 }
 
-/// The status to end with: what `obey` answers to the words of the command line, and where there are none to be had the status that
-/// says why.
+/// Returns the exit status: what `obey` returns for the words of the command line, or the status in place of words that could not be had.
 pub fn status_of<F: FnOnce(&[String]) -> u8>(words: Result<Vec<String>, u8>, obey: F) -> u8
     requires { F.IsAlwaysCallable obey }
     ensures { MatchResult words (λ some. FnOnceReturnsAt F.FnOnce obey some.items result) (λ status. result ≡ status) }

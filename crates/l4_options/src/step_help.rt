@@ -33,4 +33,7 @@ ACCESS is the sum of r (4), w (2) and x (1).
                              lists the codes)
 
 Exit status: 0 at the end of the list, 2 if the command line or a line is
-invalid, 3 if a read or a write failed, 4 if there is not enough memory.";
+invalid, 3 if a read or a write failed, 4 if there is not enough memory.
+
+docs/profile.md of the source lists how this kernel differs from the L4 X.2
+manual.";

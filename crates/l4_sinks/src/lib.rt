@@ -1,4 +1,4 @@
-//! Where the answers of a script go: a writer that gets them as text, to the first refused line, or each with what it means.
+//! The sink that writes a script's answers as text, up to the first refused line or each with its explanation.
 #![tactic(auto)]
 
 mod scripts;

@@ -15,7 +15,7 @@ use std::io::{Read, Write};
 pub struct Style {
     /// Whether the script ends at the first refused line.
     pub strict: bool,
-    /// Whether what each answer means is written below it.
+    /// Whether an explanation is written below each answer.
     pub explain: bool,
 }
 

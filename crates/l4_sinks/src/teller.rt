@@ -27,11 +27,11 @@ use l4_text::{LineReader, Output, RunFault};
 use l4_threads::{IpcReply, Reply};
 use std::io::Write;
 
-/// A tag and the words behind it, at most.
+/// The greatest number of words of a message, with its tag.
 const MOST: usize = 65;
 
-/// Writes answers as text. A strict one takes nothing after the first refused line. One that explains writes below each answer what it means,
-/// in lines that begin with `# `. It is one type for all of these, so that the code that answers a script is compiled once.
+/// Writes answers as text. A strict teller takes no answer after the first refused line. An explaining teller writes below each answer what
+/// it means, in lines that begin with `# `. Both are one type, so that the code that answers a script is compiled once.
 #[derive(Drop)]
 pub struct Teller<W> {
     out: Output,
@@ -41,7 +41,7 @@ pub struct Teller<W> {
     refused: bool,
 }
 
-/// Adds a sentence in a line behind the mark.
+/// Adds a sentence in a line that begins with the mark.
 #[tactic(auto, unfolding(crate::specs::Texts::sentence_text))]
 fn add_sentence(says: &[u8], out: &mut Output)
     requires short { length says.now ≤ 160 }
@@ -53,7 +53,7 @@ fn add_sentence(says: &[u8], out: &mut Output)
     out.push(b'\n');
 }
 
-/// Tells a sentence in a line behind the mark.
+/// Writes a sentence in a line that begins with the mark.
 #[cold]
 #[inline(never)]
 fn put_sentence<W: Write>(says: &[u8], out: &mut Output, writer: &mut W)
@@ -64,7 +64,7 @@ fn put_sentence<W: Write>(says: &[u8], out: &mut Output, writer: &mut W)
     add_sentence(says, out);
 }
 
-/// Tells a sentence where answers are explained.
+/// Writes a sentence if answers are explained.
 #[inline(always)]
 fn say<W: Write>(explains: Option<PageSize>, says: &[u8], out: &mut Output, writer: &mut W)
     requires { length says.now ≤ 160 }
@@ -76,7 +76,7 @@ fn say<W: Write>(explains: Option<PageSize>, says: &[u8], out: &mut Output, writ
     }
 }
 
-/// Tells what happened to a transfer where answers are explained.
+/// Writes what happened to a transfer if answers are explained.
 #[inline(always)]
 fn say_transfer<W: Write>(
     explains: Option<PageSize>,
@@ -108,7 +108,7 @@ fn add_number_says(code: &Code, out: &mut Output)
     out.add(b")");
 }
 
-/// Adds what a code and its number mean, in a line behind the mark.
+/// Adds what a code and its number mean, in a line that begins with the mark.
 #[tactic(auto, unfolding(crate::specs::Texts::sentence_text, crate::specs::Words::refusal_says))]
 fn add_refusal(code: &Code, out: &mut Output)
     requires { length out.old.0 + 400 ≤ held_bytes }
@@ -120,7 +120,7 @@ fn add_refusal(code: &Code, out: &mut Output)
     out.push(b'\n');
 }
 
-/// Tells what a code and its number mean.
+/// Writes what a code and its number mean.
 #[cold]
 #[inline(never)]
 fn put_refusal<W: Write>(code: &Code, out: &mut Output, writer: &mut W)
@@ -130,7 +130,7 @@ fn put_refusal<W: Write>(code: &Code, out: &mut Output, writer: &mut W)
     add_refusal(code, out);
 }
 
-/// Tells what a code and its number mean where answers are explained.
+/// Writes what a code and its number mean if answers are explained.
 #[inline(always)]
 fn say_refusal<W: Write>(explains: Option<PageSize>, code: &Code, out: &mut Output, writer: &mut W)
     ensures { Tells (W.contents writer.old) (W.contents writer.new) out.old out.new (said explains (refusal_says code.now)) }
@@ -141,7 +141,7 @@ fn say_refusal<W: Write>(explains: Option<PageSize>, code: &Code, out: &mut Outp
     }
 }
 
-/// The reply of an Ipc that received a message from a thread. None for one that didn't.
+/// The reply of an Ipc that received a message from a thread. None if it received none.
 fn with_message(reply: &IpcReply) -> Option<&IpcReply>
     ensures { option_map (λ (r : AnIpcReply). r.tag ∷ r.words.items) (option_copied result) ≡ words_of reply.now }
 {
@@ -154,7 +154,7 @@ fn with_message(reply: &IpcReply) -> Option<&IpcReply>
     Some(reply)
 }
 
-/// The same of any reply.
+/// The same for any reply.
 fn received(reply: &Reply) -> Option<&IpcReply>
     ensures { option_map (λ (r : AnIpcReply). r.tag ∷ r.words.items) (option_copied result) ≡ received (Some reply.now) }
 {
@@ -169,7 +169,7 @@ fn received(reply: &Reply) -> Option<&IpcReply>
     }
 }
 
-/// Tells a message that was received, as it is decoded.
+/// Writes a received message as `l4_decode` explains it.
 #[inline(never)]
 fn put_received<W: Write>(reply: &IpcReply, size: PageSize, out: &mut Output, writer: &mut W)
     ensures { (text : List ℕ) × IsMessageText mark size (reply.now.tag ∷ reply.now.words.items) text
@@ -181,7 +181,7 @@ fn put_received<W: Write>(reply: &IpcReply, size: PageSize, out: &mut Output, wr
     put_message(words.as_slice(), size, b"# ", out, writer);
 }
 
-/// Tells what a reply means.
+/// Writes what a reply means.
 fn put_known<W: Write>(reply: &Reply, size: PageSize, out: &mut Output, writer: &mut W)
     ensures { (words : List ℕ) × Means size (Some reply.now) words
         × Tells (W.contents writer.old) (W.contents writer.new) out.old out.new words }
@@ -192,7 +192,7 @@ fn put_known<W: Write>(reply: &Reply, size: PageSize, out: &mut Output, writer: 
     }
 }
 
-/// Tells what a reply means, or that the thread is gone.
+/// Writes what a reply means, or that the thread was deleted.
 fn put_meaning<W: Write>(reply: Option<&Reply>, size: PageSize, out: &mut Output, writer: &mut W)
     ensures { (words : List ℕ) × Means size (option_copied reply.entry) words
         × Tells (W.contents writer.old) (W.contents writer.new) out.old out.new words }
@@ -203,7 +203,7 @@ fn put_meaning<W: Write>(reply: Option<&Reply>, size: PageSize, out: &mut Output
     }
 }
 
-/// Tells how a call ended, and what that means. It is apart, so that nothing is kept for it where nothing is explained.
+/// Writes how a call ended, and what that means. It is a function of its own, so that runs without explanations reserve nothing for it.
 #[cold]
 #[inline(never)]
 fn put_explained_reply<W: Write>(
@@ -221,7 +221,8 @@ fn put_explained_reply<W: Write>(
 }
 
 impl<W: Write> Teller<W> {
-    /// A teller to a writer. A strict one takes nothing after the first refused line. One with a size of pages explains each answer.
+    /// Returns a teller that writes to this writer. A strict teller takes no answer after the first refused line. A teller with a page size
+    /// explains each answer.
     pub fn new(writer: W, strict: bool, explains: Option<PageSize>) -> Teller<W>
         ensures writer { result.writer ≡ writer }
         ensures out { result.out ≡ ([], false) }

@@ -55,7 +55,7 @@ pub(crate) fn refused_text(mark: &[u8], refused: Refused) -> Text
     text
 }
 
-/// Adds `ipc TAG ERROR FROM`, after which the words stand.
+/// Adds `ipc TAG ERROR FROM`. The words of the message follow it.
 fn add_ipc(text: &mut Text, reply: &IpcReply)
     requires { length text.old + 60 ≤ text_bytes }
     ensures value { text.new ≡ text.old ++ ipc_name reply.now }
@@ -79,7 +79,7 @@ fn add_failed(text: &mut Text, code: u32)
     text.add_number(u64::from(code));
 }
 
-/// Adds how a call ended, but for the words of its message, or this word where there is no reply.
+/// Adds how a call ended, without the words of its message, or the given word if there is no reply.
 fn add_reply(text: &mut Text, reply: Option<&Reply>, word: &[u8])
     requires room { length text.old + 60 ≤ text_bytes }
     requires short { length word.now ≤ 8 }
@@ -98,7 +98,7 @@ fn add_reply(text: &mut Text, reply: Option<&Reply>, word: &[u8])
     }
 }
 
-/// How the call of this thread ended, after a mark, but for the words of its message and the newline. A thread that is gone has no reply.
+/// How the call of this thread ended, after a mark, without the words of its message and the newline. A deleted thread has no reply.
 pub(crate) fn ended_text(mark: &[u8], number: u32, reply: Option<&Reply>) -> Text
     requires { length mark.now ≤ 8 }
     ensures { result ≡ mark.now ++ decimal number ++ space ++ reply_name (codes "gone") (option_copied reply.entry) }
@@ -111,7 +111,7 @@ pub(crate) fn ended_text(mark: &[u8], number: u32, reply: Option<&Reply>) -> Tex
     text
 }
 
-/// The reply of a thread, or `none`, but for the words of its message and the newline.
+/// The reply of a thread, or `none`, without the words of its message and the newline.
 pub(crate) fn reply_text(reply: Option<&Reply>) -> Text
     ensures { result ≡ reply_name (codes "none") (option_copied reply.entry) }
 {
@@ -120,7 +120,7 @@ pub(crate) fn reply_text(reply: Option<&Reply>) -> Text
     text
 }
 
-/// Tells the words of a reply's message, and the end of the line.
+/// Writes the words of a reply's message, and the end of the line.
 pub(crate) fn put_rest<W: Write>(reply: Option<&Reply>, out: &mut Output, writer: &mut W)
     ensures { Tells (W.contents writer.old) (W.contents writer.new) out.old out.new
         (words_text (words_of (option_copied reply.entry)) ++ newline) }
@@ -129,7 +129,7 @@ pub(crate) fn put_rest<W: Write>(reply: Option<&Reply>, out: &mut Output, writer
     out.end_line(writer);
 }
 
-/// Tells how the call of this thread ended, after a mark.
+/// Writes how the call of this thread ended, after a mark.
 pub(crate) fn put_ended<W: Write>(
     mark: &[u8],
     number: u32,

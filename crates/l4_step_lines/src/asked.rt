@@ -1,4 +1,4 @@
-//! The lines that ask for steps.
+//! The lines that request steps.
 ghost use Rattle.std.specs.Prelude.{◌≡◌, ◌≤◌, ◌+◌, ◌++◌, length, codes, decimal};
 ghost use Rattle.l4_answers.specs.Replies.{space, newline};
 ghost use Rattle.l4_fpage.specs.Rights.{bits_of};
@@ -10,7 +10,7 @@ use l4_ipc::{Call, Control, FaultCall, IpcCall, Step, UnmapCall};
 use l4_text::{Output, Text};
 use std::io::Write;
 
-/// Tells a word in hexadecimal, after a space.
+/// Writes a word in hexadecimal, after a space.
 fn put_word<W: Write>(word: u32, out: &mut Output, writer: &mut W)
     ensures { Tells (W.contents writer.old) (W.contents writer.new) out.old out.new (hex_text word) }
 {
@@ -19,7 +19,7 @@ fn put_word<W: Write>(word: u32, out: &mut Output, writer: &mut W)
     out.add_word(word);
 }
 
-/// Tells words in hexadecimal, each after a space.
+/// Writes words in hexadecimal, each after a space.
 fn put_words<W: Write>(words: &[u32], out: &mut Output, writer: &mut W)
     ensures { Tells (W.contents writer.old) (W.contents writer.new) out.old out.new (hex_texts words.now) }
 {
@@ -38,7 +38,7 @@ fn text_of(bytes: &[u8]) -> Text
     text
 }
 
-/// Tells ` KIND WORD..`.
+/// Writes ` KIND WORD..`.
 fn put_kind<W: Write>(kind: &[u8], words: &[u32], out: &mut Output, writer: &mut W)
     requires { length kind.now ≤ 16 }
     ensures { Tells (W.contents writer.old) (W.contents writer.new) out.old out.new (kind.now ++ hex_texts words.now) }
@@ -47,7 +47,7 @@ fn put_kind<W: Write>(kind: &[u8], words: &[u32], out: &mut Output, writer: &mut
     put_words(words, out, writer);
 }
 
-/// Tells an Ipc.
+/// Writes an Ipc.
 fn put_ipc<W: Write>(call: &IpcCall, out: &mut Output, writer: &mut W)
     ensures { Tells (W.contents writer.old) (W.contents writer.new) out.old out.new (ipc_words call.now) }
 {
@@ -66,7 +66,7 @@ fn access_text(call: &FaultCall) -> Text
     text
 }
 
-/// Tells a fault.
+/// Writes a fault.
 fn put_fault<W: Write>(call: &FaultCall, out: &mut Output, writer: &mut W)
     ensures { Tells (W.contents writer.old) (W.contents writer.new) out.old out.new (fault_words call.now) }
 {
@@ -74,7 +74,7 @@ fn put_fault<W: Write>(call: &FaultCall, out: &mut Output, writer: &mut W)
     out.put(writer, &access_text(call));
 }
 
-/// Tells an Unmap.
+/// Writes an Unmap.
 fn put_unmap<W: Write>(call: &UnmapCall, out: &mut Output, writer: &mut W)
     ensures { Tells (W.contents writer.old) (W.contents writer.new) out.old out.new (unmap_words call.now) }
 {
@@ -82,7 +82,7 @@ fn put_unmap<W: Write>(call: &UnmapCall, out: &mut Output, writer: &mut W)
     put_words(call.words.as_slice(), out, writer);
 }
 
-/// Tells a control of threads.
+/// Writes a ThreadControl.
 fn put_control<W: Write>(control: &Control, out: &mut Output, writer: &mut W)
     ensures { Tells (W.contents writer.old) (W.contents writer.new) out.old out.new (control_words control.now) }
 {
@@ -100,7 +100,7 @@ fn put_control<W: Write>(control: &Control, out: &mut Output, writer: &mut W)
     }
 }
 
-/// Tells a call.
+/// Writes a call.
 fn put_call<W: Write>(call: &Call, out: &mut Output, writer: &mut W)
     ensures { Tells (W.contents writer.old) (W.contents writer.new) out.old out.new (call_words call.now) }
 {
@@ -112,7 +112,7 @@ fn put_call<W: Write>(call: &Call, out: &mut Output, writer: &mut W)
     }
 }
 
-/// `start N`, of a line that goes on.
+/// `start N`, the beginning of a line.
 fn start_text(number: u32) -> Text
     ensures { result ≡ codes "start " ++ decimal number }
 {
@@ -135,7 +135,7 @@ fn transfer_text(sender: u32, receiver: u32) -> Text
     text
 }
 
-/// Tells the line of the start of a call.
+/// Writes the line of the start of a call.
 fn put_start<W: Write>(number: u32, call: &Call, out: &mut Output, writer: &mut W)
     ensures { Tells (W.contents writer.old) (W.contents writer.new) out.old out.new
         (codes "start " ++ decimal number ++ call_words call.now ++ newline) }
@@ -145,7 +145,7 @@ fn put_start<W: Write>(number: u32, call: &Call, out: &mut Output, writer: &mut 
     out.end_line(writer);
 }
 
-/// Tells the line that asks for a step.
+/// Writes the line that requests a step.
 pub fn put_step<W: Write>(step: &Step, out: &mut Output, writer: &mut W)
     ensures { Tells (W.contents writer.old) (W.contents writer.new) out.old out.new (step_line step.now) }
 {

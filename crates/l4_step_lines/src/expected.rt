@@ -1,4 +1,4 @@
-//! The answer that is expected below a step or question.
+//! The answer that is expected below a step or query.
 ghost use Rattle.std.specs.Prelude.{◌≡◌, ◌≤◌, ◌==◌, ◌+◌, [], length, Some, None};
 ghost use Rattle.std.specs.List.{position, position_or_len};
 ghost use Rattle.l4_step_lines.specs.Judging.{is_unknown, first_line, later_lines, has_said};
@@ -6,10 +6,10 @@ ghost use Rattle.l4_step_lines.specs.Judging.{is_unknown, first_line, later_line
 use l4_ipc::Step;
 use std::marker::Model;
 
-/// The line that stands for any line of an answer.
+/// The line that matches any line of an answer.
 const UNKNOWN: &[u8] = b"?";
 
-/// The lines of an answer that were not compared yet.
+/// The lines of an answer that have not been compared yet.
 #[derive(Drop)]
 pub(crate) struct DueLines {
     text: Vec<u8>,
@@ -26,27 +26,27 @@ impl Model for DueLines {
     ghost invariant = { λ a. a.at ≤ length a.text.items };
 }
 
-/// A step or question, and what of the kernel's answer to it is still to be compared.
+/// A step or query, and the part of the kernel's answer to it that has not been compared yet.
 #[derive(Drop)]
 pub(crate) struct Expected {
-    /// The line of the step or question.
+    /// The line of the step or query.
     pub(crate) line: Vec<u8>,
     /// The lines of the answer that were not compared yet.
     pub(crate) due: DueLines,
-    /// The step that is enabled then.
+    /// The step that is enabled after it.
     pub(crate) next: Option<Step>,
     /// The number of the line of the last answer.
     pub(crate) last: Option<u64>,
 }
 
-/// Where the first newline stands.
+/// The position of the first newline.
 fn first_newline(bytes: &[u8]) -> Option<usize>
     ensures { result ≡ position (λ byte. byte == 10) bytes.now }
 {
     bytes.iter().position(|byte| *byte == b'\n')
 }
 
-/// How many bytes stand before the first newline.
+/// The number of bytes before the first newline.
 fn line_len(bytes: &[u8]) -> usize
     ensures value { result ≡ position_or_len (λ byte. byte == 10) bytes.now }
     ensures within { result ≤ length bytes.now }
@@ -54,7 +54,7 @@ fn line_len(bytes: &[u8]) -> usize
     first_newline(bytes).unwrap_or(bytes.len())
 }
 
-/// Whether an answer is one that is not known.
+/// Whether an answer is `?`, which matches any line.
 pub(crate) fn is_unknown(said: &[u8]) -> bool
     ensures { result ≡ is_unknown said.now }
 {
@@ -90,7 +90,7 @@ impl DueLines {
         &rest[..line_len(rest)]
     }
 
-    /// Whether an answer is the first of the lines, or stands for it.
+    /// Whether an answer is the first of the lines, or matches any line.
     pub(crate) fn has_said(&self, said: &[u8]) -> bool
         ensures { result ≡ has_said self.now said.now }
     {
@@ -100,7 +100,7 @@ impl DueLines {
         is_unknown(said) || said == self.first()
     }
 
-    /// Goes on to the next line.
+    /// Continues with the next line.
     pub(crate) fn go_on(&mut self)
         ensures { self.new ≡ later_lines self.old }
     {

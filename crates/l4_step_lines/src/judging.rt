@@ -20,18 +20,18 @@ use thiserror::Error;
 /// Why a list was not judged to its end. All lines before a fault have been judged, unless a write failed.
 #[derive(Debug, Drop, Error)]
 pub enum JudgeFault {
-    /// The list can't be executed further, or the run stopped.
+    /// The list cannot be executed further, or the run stopped.
     #[error("{0}")]
     List(Fault),
-    /// The line of this number is an answer, and no step or question is above it.
+    /// The line of this number is an answer, and no step or query is above it.
     #[error("error: line {0} is an answer without a step or query above it")]
     NoStep(u64),
-    /// The list has no step or question. It ended before the line of this number.
+    /// The list has no step or query. It ended before the line of this number.
     #[error("error: line {0}: the list has no step or query")]
     Empty(u64),
 }
 
-/// What was judged of a list so far.
+/// The part of a list that has been judged.
 #[derive(Drop)]
 pub(crate) struct Judged {
     alloc: Global,
@@ -41,7 +41,7 @@ pub(crate) struct Judged {
     differs: bool,
 }
 
-/// The answer that a line has behind `# `. None for another line.
+/// The answer that a line has after `# `. None for any other line.
 fn said_in(line: &[u8]) -> Option<&[u8]>
     ensures { option_map (λ s. s.now) result ≡ said_in line.now }
 {
@@ -55,7 +55,7 @@ fn said_in(line: &[u8]) -> Option<&[u8]>
     }
 }
 
-/// Tells a byte.
+/// Writes a byte.
 fn put_byte<W: Write>(byte: u8, out: &mut Output, writer: &mut W)
     ensures { Tells (W.contents writer.old) (W.contents writer.new) out.old out.new (byte ∷ []) }
 {
@@ -63,7 +63,7 @@ fn put_byte<W: Write>(byte: u8, out: &mut Output, writer: &mut W)
     out.push(byte);
 }
 
-/// Tells bytes, however many.
+/// Writes any number of bytes.
 fn put_bytes<W: Write>(bytes: &[u8], out: &mut Output, writer: &mut W)
     ensures { Tells (W.contents writer.old) (W.contents writer.new) out.old out.new bytes.now }
 {
@@ -86,7 +86,7 @@ fn line_text(number: u64) -> Text
 /// The answer to a step that is not enabled.
 const NOT_ENABLED: &[u8] = b"refused K1";
 
-/// Tells the line of an answer that is wanted, and behind K1 which step is enabled.
+/// Writes the expected line of an answer, and after K1 which step is enabled.
 fn put_wanted<W: Write>(expected: &Expected, out: &mut Output, writer: &mut W)
     ensures { Tells (W.contents writer.old) (W.contents writer.new) out.old out.new (wanted expected.now.due expected.now.next) }
 {
@@ -100,7 +100,7 @@ fn put_wanted<W: Write>(expected: &Expected, out: &mut Output, writer: &mut W)
     }
 }
 
-/// Tells that something else is expected than what was found at the line of this number.
+/// Writes the expected answer, and the one found at the line of this number.
 fn put_difference<W: Write>(
     expected: &Expected,
     number: u64,
@@ -119,7 +119,7 @@ fn put_difference<W: Write>(
     out.end_line(writer);
 }
 
-/// Tells where an answer is not the one that is due. Returns whether it is.
+/// Compares an answer with the expected one, and reports a difference. Returns whether they agree.
 fn compare<W: Write>(
     expected: &Expected,
     number: u64,
@@ -138,21 +138,21 @@ fn compare<W: Write>(
     false
 }
 
-/// How many answers an answer counts for.
+/// 1 for an answer that is counted, 0 for `?`.
 fn answer_count(said: &[u8]) -> u64
     ensures { result ≡ answer_count said.now }
 {
     if is_unknown(said) { 0 } else { 1 }
 }
 
-/// Whether there was a difference, or this answer is not the one that is due.
+/// Whether there was a difference before, or this answer differs.
 fn differs(before: bool, same: bool) -> bool
     ensures { result ≡ (before || not same) }
 {
     before || !same
 }
 
-/// What is expected behind the answer at the line of this number.
+/// What is expected after the answer at the line of this number.
 fn after_answer(expected: Expected, number: u64) -> Expected
     ensures { result ≡ after_answer expected number }
 {
@@ -162,7 +162,7 @@ fn after_answer(expected: Expected, number: u64) -> Expected
     after
 }
 
-/// Judges an answer, which is at the line of this number. Returns false if no step or question is above it.
+/// Judges the answer at the line of this number. Returns false if no step or query is above it.
 fn judge_answer<W: Write>(
     judged: &mut Judged,
     number: u64,
@@ -183,7 +183,7 @@ fn judge_answer<W: Write>(
     true
 }
 
-/// Tells where fewer answers were given than are due, but some. Returns whether it is so.
+/// Reports an answer that has some of its lines, but not all. Returns whether there is one.
 fn put_lack<W: Write>(expected: &Expected, out: &mut Output, writer: &mut W) -> bool
     ensures value { result ≡ lacks expected.now expected.now.last }
     ensures told { Tells (W.contents writer.old) (W.contents writer.new) out.old out.new (lack_of expected.now expected.now.last) }
@@ -198,7 +198,7 @@ fn put_lack<W: Write>(expected: &Expected, out: &mut Output, writer: &mut W) -> 
     true
 }
 
-/// The same where a step or question may be above.
+/// The same for the step or query above, if there is one.
 fn put_short<W: Write>(expected: Option<&Expected>, out: &mut Output, writer: &mut W) -> bool
     ensures value { result ≡ is_short (option_copied expected.entry) }
     ensures told { Tells (W.contents writer.old) (W.contents writer.new) out.old out.new (short_text (option_copied expected.entry)) }
@@ -209,7 +209,7 @@ fn put_short<W: Write>(expected: Option<&Expected>, out: &mut Output, writer: &m
     }
 }
 
-/// A copy of a line. None where there is no memory.
+/// A copy of a line. None if there is not enough memory.
 fn copied(alloc: Global, line: &[u8]) -> Option<Vec<u8>>
     ensures { IfSome result (λ v. v.items ≡ line.now) }
 {
@@ -220,7 +220,7 @@ fn copied(alloc: Global, line: &[u8]) -> Option<Vec<u8>>
     }
 }
 
-/// The text of the answer to what a line asks for. None where there is no memory for it.
+/// The text of the answer to a request. None if there is not enough memory.
 fn answered(alloc: Global, kernel: &mut Kernel, request: Request) -> Option<Vec<u8>>
     ensures { IfSome result (λ text. Answers kernel.old request text.items kernel.new) }
 {
@@ -233,7 +233,7 @@ fn answered(alloc: Global, kernel: &mut Kernel, request: Request) -> Option<Vec<
     }
 }
 
-/// What is expected below the line of this request. None where there is no memory for it.
+/// What is expected below the line of this request. None if there is not enough memory.
 fn expect(alloc: Global, kernel: &mut Kernel, request: Request, line: &[u8]) -> Option<Expected>
     ensures { IfSome result (λ expected. IsExpected kernel.old request line.now expected kernel.new) }
 {
@@ -247,7 +247,7 @@ fn expect(alloc: Global, kernel: &mut Kernel, request: Request, line: &[u8]) -> 
     })
 }
 
-/// The number of steps that a request is.
+/// 1 for a step, 0 for a query.
 fn step_count(request: &Request) -> u64
     ensures { result ≡ step_count request.now }
 {
@@ -257,7 +257,7 @@ fn step_count(request: &Request) -> u64
     }
 }
 
-/// Executes a step or answers a question, and tells where fewer answers were given than the one before it has.
+/// Executes a step or query. Reports the answer above it if that has some of its lines, but not all.
 fn judge_request<W: Write>(
     kernel: &mut Kernel,
     judged: &mut Judged,
@@ -280,7 +280,7 @@ fn judge_request<W: Write>(
     Ok(())
 }
 
-/// Judges a line that a newline ends, and that is not too long. It has this number.
+/// Judges the line of this number, which ends with a newline and is not too long.
 fn judge_line<W: Write>(
     kernel: &mut Kernel,
     judged: &mut Judged,
@@ -307,7 +307,7 @@ fn judge_line<W: Write>(
     judge_request(kernel, judged, request, line, out, writer)
 }
 
-/// Whether the line of this number ended as it has to, or why the list ends with it.
+/// Checks the ending of the line of this number. Returns the fault if it ends the list.
 fn check_ending(number: u64, ending: Ending) -> Result<(), JudgeFault>
     ensures { EndsBy number ending result }
 {
@@ -360,7 +360,7 @@ fn stops(all: bool, judged: &Judged) -> bool
     judged.differs && !all
 }
 
-/// Judges line after line, to the end of the list, or to the first difference where not all are wanted. Returns whether the list agrees.
+/// Judges line after line, to the end of the list, or to the first difference unless `all`. Returns whether the list agrees.
 fn judge_lines<R: Read, W: Write>(
     kernel: &mut Kernel,
     judged: &mut Judged,
@@ -401,15 +401,15 @@ fn judge_lines<R: Read, W: Write>(
     Err(JudgeFault::List(Fault::Stopped(RunFault::Read)))
 }
 
-/// Judges the list that the reader gives: executes its steps and answers its questions as `run` does, and compares the answers below them,
-/// which stand in lines behind `# `, with those that `run` writes. Writes the first difference, or each difference if `all`; if there is none,
+/// Judges the list that the reader gives: executes its steps and queries as `run` does, and compares the answers below them, in lines that
+/// begin with `# `, with those that `run` writes. Writes the first difference, or each difference if `all`. If there is none, writes
 /// `agrees` with the number of steps and of answers that were compared. Returns whether the list agrees.
 ///
-/// Below a step or question there are no answers, or as many as `run` writes lines; `?` stands for any one of them, and is not counted. Other
+/// A step or query has no answers below it, or as many lines as `run` writes. `?` matches any one of them, and is not counted. Other
 /// comments are skipped.
 ///
-/// Returns the faults of `run`; `NoStep` for an answer above the first step or question; `Empty` for a list without a step or question.
-/// `Memory` can come at any step or question.
+/// Returns the faults of `run`, `NoStep` for an answer above the first step or query, and `Empty` for a list without a step or query.
+/// `Memory` is possible at any step or query.
 pub fn judge<R: Read, W: Write>(
     alloc: Global,
     frames: u32,

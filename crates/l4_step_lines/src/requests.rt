@@ -1,4 +1,4 @@
-//! What a line asks for.
+//! What a line requests.
 ghost use Rattle.std.specs.Prelude.{◌≡◌, option_map};
 ghost use Rattle.l4_text.specs.Tokens.{tokens_of};
 ghost use Rattle.l4_step_lines.specs.Requests.{only_of, registers_of, access_of, ipc_of, fault_of, unmap_of, create_of, set_pager_of, control_of, call_of, start_of, named_of, request_of};
@@ -10,10 +10,10 @@ use l4_ipc::{Call, Control, Create, FaultCall, IpcCall, MAX_WORDS, SetPager, Ste
 use l4_text::{next_token, number};
 use l4_threads::ThreadId;
 
-/// A step of the kernel, or a question about its state.
+/// A step of the kernel, or a query about its state.
 #[derive(Drop)]
 pub(crate) enum Request {
-    /// To do this step.
+    /// Executes this step.
     Do(Step),
     /// Which step is enabled.
     Enabled,
@@ -51,7 +51,7 @@ const SETPAGER: &[u8] = b"setpager";
 
 const DELETE: &[u8] = b"delete";
 
-/// A copy of the words, where they are no more than a message has.
+/// A copy of the words. None if a message cannot have as many.
 fn registers(words: &[u32]) -> Option<ArrayVec<u32, MAX_WORDS>>
     ensures { option_map (λ ws. ws.items) result ≡ registers_of words.now }
 {
@@ -196,7 +196,7 @@ fn start(line: &[u8]) -> Option<Step>
     Some(Step::Start(caller, call(kind, numbers.as_slice())?))
 }
 
-/// The step or question of this name.
+/// The step or query of this name.
 fn named(name: &[u8], numbers: &[u32]) -> Option<Request>
     ensures { result ≡ named_of name.now numbers.now }
 {
@@ -224,7 +224,7 @@ fn named(name: &[u8], numbers: &[u32]) -> Option<Request>
     None
 }
 
-/// What a line asks for. None where it can't be read.
+/// What a line requests. None if it cannot be read.
 pub(crate) fn read_request(line: &[u8]) -> Option<Request>
     ensures { result ≡ request_of (tokens_of line.now) }
 {

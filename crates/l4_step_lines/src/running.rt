@@ -22,7 +22,7 @@ pub enum Fault {
     /// The line of this number has more than 4,096 bytes.
     #[error("error: line {0} is longer than 4096 bytes")]
     Long(u64),
-    /// The line of this number can't be read.
+    /// The line of this number cannot be read.
     #[error("error: line {0} is not a valid step or query")]
     Unread(u64),
 }
@@ -58,11 +58,11 @@ fn answer_all<R: Read, W: Write>(
     Err(Fault::Stopped(RunFault::Read))
 }
 
-/// Answers the list that the reader gives, line by line, over a kernel of its own with this many frames, 1 to 4,096, of this size; with any
-/// other number there is no kernel, and that is want of memory. A line's answers go out before the read that asks for the next.
+/// Answers the list that the reader gives, line by line, on a new kernel with this many frames, 1 to 4,096, of this size. Any other number
+/// of frames is the fault `Memory`. The answers to a line are written before the next line is read.
 ///
-/// A read asks for 4,096 bytes, and there are at most 16,777,216 reads. An error of any kind is a fault, and so is a write that takes no
-/// byte. What was answered goes out after a fault too.
+/// Each read requests 4,096 bytes, and there are at most 16,777,216 reads. An error of any kind is a fault, and so is a write that accepts
+/// no byte. After a fault too, the answers before it are written.
 pub fn run<R: Read, W: Write>(
     alloc: Global,
     frames: u32,

@@ -1,4 +1,4 @@
-//! Lines over a kernel.
+//! The lines of a list, executed on a kernel.
 ghost use Rattle.std.specs.Prelude.{◌≡◌, ◌≤◌, ◌||◌, length, ℕ, List, Result};
 ghost use Rattle.std.specs.Option.{option_copied};
 ghost use Rattle.l4_ipc.specs.declared.steps.Answer.{Answer};
@@ -23,7 +23,7 @@ use l4_text::{Ending, Output, next_token};
 use l4_threads::Reply;
 use std::io::Write;
 
-/// Tells how the calls of these threads ended, each after a mark.
+/// Writes how the calls of these threads ended, each after a mark.
 fn tell_ended<W: Write>(
     kernel: &Kernel,
     numbers: &[u32],
@@ -61,7 +61,7 @@ pub fn do_step<W: Write>(
     tell_ended(kernel, answer.ended.as_slice(), mark, out, writer);
 }
 
-/// Tells what a page shows, if it is present.
+/// Writes the line of a page, if it is present.
 fn tell_page<W: Write>(kernel: &Kernel, space: u64, page: u32, out: &mut Output, writer: &mut W)
     ensures { Tells (W.contents writer.old) (W.contents writer.new) out.old out.new
         (place_line kernel.now space page) }
@@ -102,7 +102,7 @@ fn show_pages<W: Write>(kernel: &Kernel, space: u64, out: &mut Output, writer: &
     put_shown(shown, out, writer);
 }
 
-/// Tells the reply of a thread.
+/// Writes the reply of a thread.
 fn tell_reply<W: Write>(reply: Option<&Reply>, out: &mut Output, writer: &mut W)
     ensures { Tells (W.contents writer.old) (W.contents writer.new) out.old out.new
         (reply_line (option_copied reply.entry)) }
@@ -111,7 +111,7 @@ fn tell_reply<W: Write>(reply: Option<&Reply>, out: &mut Output, writer: &mut W)
     put_rest(reply, out, writer);
 }
 
-/// Does or answers what a line asks for.
+/// Executes a request, and writes its answer.
 pub(crate) fn answer<W: Write>(
     kernel: &mut Kernel,
     request: Request,
@@ -144,7 +144,7 @@ pub(crate) fn is_silent(line: &[u8]) -> bool
     is_comment(line) || next_token(line).is_none()
 }
 
-/// Answers a line that a newline ends, and that is not too long. It has this number.
+/// Answers the line of this number, which ends with a newline and is not too long.
 fn answer_whole<W: Write>(
     kernel: &mut Kernel,
     number: u64,
@@ -165,7 +165,7 @@ fn answer_whole<W: Write>(
     Ok(())
 }
 
-/// Answers the line that has this number, or says why the list ends with it.
+/// Answers the line of this number. Returns the fault if it ends the list.
 pub(crate) fn answer_line<W: Write>(
     kernel: &mut Kernel,
     number: u64,

@@ -36,7 +36,7 @@ fn a_failing_read_loses_no_answer(rt: HostRuntime) -> Result<(), Fail> {
     Ok(())
 }
 
-/// What the kernel doesn't give yet, or seldom.
+/// Answers that the kernel does not give yet, or seldom gives.
 #[test]
 fn spells_every_answer(rt: HostRuntime) -> Result<(), Fail> {
     for (outcome, text) in [
