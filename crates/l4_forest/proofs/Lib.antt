@@ -7,5 +7,6 @@ pub mod Capped
 pub mod Buried
 pub mod Cut
 pub mod Presence
+pub mod Below
 pub mod FirstPlaces
 pub mod SpaceGone

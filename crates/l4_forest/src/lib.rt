@@ -10,6 +10,7 @@ ghost use Rattle.l4_fpage.specs.Pages.{max_frames};
 mod booting;
 mod copying;
 mod ending;
+mod listing;
 mod reading;
 mod revoking;
 mod taking;
@@ -48,6 +49,7 @@ impl Model for Forest {
 impl Forest {
     ghost use Rattle.l4_forest.specs.Listed.{NoSpaceFrom, IsNextSpace};
     ghost use Rattle.l4_mapdb.specs.Mappings.{Mappings, shown, IsForest, IsRoot};
+    ghost use Rattle.l4_forest.specs.Descendants.{AreDescendants};
     ghost use Rattle.l4_forest.specs.Boot.{IsFirst};
     ghost use Rattle.l4_forest.specs.Places.{NonePresentFrom, IsNextPresent};
     ghost use Rattle.l4_mapdb.specs.Transfer.{IsUsed, IsEntangled, TargetsPresent, Delivers};
@@ -109,6 +111,25 @@ impl Forest {
     {
         self.links.law_places();
         self.links.next_key(space, page)
+    }
+
+    /// Returns the places that descend from a place, each once: none if the place is not present. The number of steps
+    /// depends only on the number of these places. Returns `NoMemory` if an allocation failed.
+    pub fn descendants(&self, alloc: Global, from: Place) -> Result<Vec<Place>, NoMemory>
+        ensures { IfOk result (λ places. AreDescendants self.now from places.items) }
+    {
+        self.links.law_places();
+        self.links.law_trees();
+        let page = l4_links::Place {
+            space: from.space,
+            page: from.page,
+        };
+        let Some(key) = self.links.find(page) else {
+            return Ok(Vec::new(alloc));
+        };
+        let keys = self.links.descendants(alloc, key)?;
+        let places = listing::places_under(alloc, &self.links, keys.as_slice())?;
+        Ok(places)
     }
 
     /// Returns whether the used moves of a message from one space to the other conflict: two have the same target, a

@@ -9,7 +9,7 @@ use crate::{Mapping, Place};
 use l4_links::{Entry, Links};
 
 /// Returns the place of the key.
-fn place_of(links: &Links, key: Option<usize>) -> Option<Place>
+pub(crate) fn place_of(links: &Links, key: Option<usize>) -> Option<Place>
     ensures { result ≡ option_and_then (place_at links.now.entries) key }
 {
     let Some(key) = key else {

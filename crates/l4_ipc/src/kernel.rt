@@ -41,6 +41,7 @@ impl Kernel {
     ghost use Rattle.l4_fpage.specs.Pages.{max_frames};
     ghost use Rattle.l4_threads.specs.Threads.{runs, space_of, thread_at, IsConsistent};
     ghost use Rattle.l4_mapdb.specs.Mappings.{shown, IsForest};
+    ghost use Rattle.l4_forest.specs.Descendants.{AreDescendants};
     ghost use Rattle.l4_forest.specs.Places.{NonePresentFrom, IsNextPresent};
     ghost use Rattle.l4_threads.specs.Listed.{NoThreadFrom, IsNextThread};
     ghost use Rattle.l4_forest.specs.Listed.{NoSpaceFrom, IsNextSpace};
@@ -298,6 +299,15 @@ impl Kernel {
         ensures { result ≡ shown self.now.mappings (record { space = space; page = page }) }
     {
         self.forest.at(space, page)
+    }
+
+    /// Returns the places that descend from a page of a space, each once: none if the page is not present. The number
+    /// of steps depends only on the number of these places. Returns `NoMemory` if an allocation failed.
+    pub fn descendants(&self, space: u64, page: u32) -> Result<Vec<l4_forest::Place>, NoMemory>
+        ensures { IfOk result (λ places. AreDescendants self.now.mappings (record { space = space; page = page }) places.items) }
+    {
+        self.forest
+            .descendants(self.alloc, l4_forest::Place { space, page })
     }
 
     /// Returns the least present page of a space that is at least `page`, or `None`.

@@ -147,6 +147,95 @@ limb_in slots ks order k x is = elim (node_at slots k) as (λ o. node_at slots k
   | Some n ↦ λ e w. order.all k n e
 ] refl is
 
+-- a walk has passed the run of deeper keys after the top, and has come to a key that is not deeper, or to the end
+pub record PassesRun (slots : Slots) (top depth : ℕ) (at : Option ℕ) (front run back : List ℕ) : Type 0 where
+  pub forest : IsForest slots (front ++ top ∷ (run ++ back))
+  pub at_is : at ≡ first_of back None
+  pub deeper : (k : ℕ) (x : Limb) → IsIn run k → limbs slots k ≡ Some x → depth < x.depth
+  pub stops : (b : ℕ) (x : Limb) → at ≡ Some b → limbs slots b ≡ Some x → x.depth ≤ depth
+  pub limb : Limb
+  pub at_top : limbs slots top ≡ Some limb
+  pub depth_is : limb.depth ≡ depth
+
+-- a key of the run is of the top's run, in the order of the list
+run_is_run : (slots : Slots) (top depth : ℕ) (at : Option ℕ) (front run back : List ℕ) (h : PassesRun slots top depth at front run back) (k : ℕ)
+    → IsIn run k → IsInRun (limbs slots) (position (front ++ top ∷ (run ++ back))) top k
+run_is_run slots top depth at front run back h k i =
+    let once = h.forest.order.once in
+    let n = in_list slots (front ++ top ∷ (run ++ back)) h.forest.order k (in_right front (top ∷ (run ++ back)) k (inr (in_left run back k i))) in
+    let t = pos_top front top run back once in
+    let r = pos_run front top run back once k i in
+    let r0 = r.0 in
+    let r1 = r.1 in
+    let is_k : limbs slots k ≡ Some (limb_of n.0) = ap (option_map limb_of) n.1 in
+    let d : depth < n.0.depth = h.deeper k (limb_of n.0) i is_k in
+    let di = h.depth_is in
+    record {
+      top = h.limb;
+      at_top = h.at_top;
+      limb = limb_of n.0;
+      at_limb = is_k;
+      after = omega (arith, t, r0);
+      deeper = omega (arith, d, di);
+      between = λ b y is lo hi. elim (stands front top run back b (limb_in slots (front ++ top ∷ (run ++ back)) h.forest.order b y is)) [
+        | in_front j ↦ absurd (let q = pos_front front top run back once b j in omega (arith, q, lo, t))
+        | is_top e ↦ absurd (
+            let q : position (front ++ top ∷ (run ++ back)) top ≡ position (front ++ top ∷ (run ++ back)) b = ap (position (front ++ top ∷ (run ++ back))) e in
+            omega (arith, q, lo))
+        | in_run j ↦ (let q = h.deeper b y j is in omega (arith, q, di))
+        | in_back j ↦ absurd (let q = pos_back front top run back once b j in omega (arith, q, hi, r1))
+      ];
+    }
+
+-- and the other way round
+run_from_run : (slots : Slots) (top depth : ℕ) (at : Option ℕ) (front run back : List ℕ) (h : PassesRun slots top depth at front run back) (k : ℕ)
+    → IsInRun (limbs slots) (position (front ++ top ∷ (run ++ back))) top k → IsIn run k
+run_from_run slots top depth at front run back h k r =
+    let once = h.forest.order.once in
+    let t = pos_top front top run back once in
+    let after = r.after in
+    let di = h.depth_is in
+    let same_top : r.top ≡ h.limb = one_limb (limbs slots) top r.at_top h.at_top in
+    let dt : r.top.depth ≡ h.limb.depth = ap (λ (z : Limb). z.depth) same_top in
+    let rd = r.deeper in
+    elim (stands front top run back k (limb_in slots (front ++ top ∷ (run ++ back)) h.forest.order k r.limb r.at_limb)) [
+      | in_front j ↦ absurd (let q = pos_front front top run back once k j in omega (arith, q, after, t))
+      | is_top e ↦ absurd (
+          let q : position (front ++ top ∷ (run ++ back)) top ≡ position (front ++ top ∷ (run ++ back)) k = ap (position (front ++ top ∷ (run ++ back))) e in
+          omega (arith, q, after))
+      | in_run j ↦ j
+      | in_back j ↦ absurd (
+          elim back as (λ (bs : List ℕ). back ≡ bs → ⊥) [
+            | [] ↦ λ e. subst (λ (z : List ℕ). IsIn z k) e j
+            | b ∷ bs ↦ λ e.
+                let i_b : IsIn back b = subst (λ (z : List ℕ). IsIn z b) (sym e) (inl refl) in
+                let nb = in_list slots (front ++ top ∷ (run ++ back)) h.forest.order b (in_right front (top ∷ (run ++ back)) b (inr (in_right run back b i_b))) in
+                let is_b : limbs slots b ≡ Some (limb_of nb.0) = ap (option_map limb_of) nb.1 in
+                let s : nb.0.depth ≤ depth = h.stops b (limb_of nb.0) (h.at_is ∙ ap (λ (z : List ℕ). first_of z None) e) is_b in
+                let pb = pos_back front top run back once b i_b in
+                let pk = pos_back front top run back once k j in
+                let b_here : position back b ≡ 0 = ap (λ (z : List ℕ). position z b) e ∙ position_here b bs b refl in
+                elim (cases_eq b k) [
+                  | inl bk ↦
+                      let same : limb_of nb.0 ≡ r.limb = one_limb (limbs slots) b is_b (ap (limbs slots) bk ∙ r.at_limb) in
+                      let ds : nb.0.depth ≡ r.limb.depth = ap (λ (z : Limb). z.depth) same in
+                      omega (arith, s, ds, rd, dt, di)
+                  | inr ne ↦
+                      let k_there : position back k ≡ position bs k + 1 = ap (λ (z : List ℕ). position z k) e ∙ position_further b bs k ne in
+                      let q = r.between b (limb_of nb.0) is_b (omega (arith, t, pb)) (omega (arith, pb, pk, b_here, k_there)) in
+                      omega (arith, q, s, dt, di)
+                ]
+          ] refl)
+    ]
+
+-- what the walk has passed is what descends from the top
+pub run_leads : (slots : Slots) (top depth : ℕ) (at : Option ℕ) (front run back : List ℕ) → PassesRun slots top depth at front run back → (k : ℕ) → Leads (parent_at (limbs slots)) k top ↔ IsIn run k
+run_leads slots top depth at front run back h k =
+    let d = descendants (limbs slots) (position (front ++ top ∷ (run ++ back))) h.forest.tree top k in (
+      λ l. run_from_run slots top depth at front run back h k (d.0 l),
+      λ i. d.1 (run_is_run slots top depth at front run back h k i),
+    )
+
 -- the deeper keys after the top are taken out up to this one
 pub record CutSoFar (old cur : Slots) (top depth : ℕ) (at : Option ℕ) (count : ℕ) : Type 0 where
   pub front : List ℕ
@@ -172,86 +261,11 @@ pub record HasCut (old cur : Slots) (top depth : ℕ) (at : Option ℕ) (count :
   pub at_top : limbs old top ≡ Some limb
   pub depth_is : limb.depth ≡ depth
 
--- a key of the run is of the tops's run, in the order of the list
-run_is_run : (old cur : Slots) (top depth : ℕ) (at : Option ℕ) (count : ℕ) (h : HasCut old cur top depth at count) (k : ℕ)
-    → IsIn h.cut.run k → IsInRun (limbs old) (position (h.cut.front ++ top ∷ (h.cut.run ++ h.cut.back))) top k
-run_is_run old cur top depth at count h k i =
-    let c = h.cut in
-    let once = c.forest.order.once in
-    let n = in_list old (c.front ++ top ∷ (c.run ++ c.back)) c.forest.order k (in_right c.front (top ∷ (c.run ++ c.back)) k (inr (in_left c.run c.back k i))) in
-    let t = pos_top c.front top c.run c.back once in
-    let r = pos_run c.front top c.run c.back once k i in
-    let r0 = r.0 in
-    let r1 = r.1 in
-    let is_k : limbs old k ≡ Some (limb_of n.0) = ap (option_map limb_of) n.1 in
-    let d : depth < n.0.depth = c.deeper k (limb_of n.0) i is_k in
-    let di = h.depth_is in
-    record {
-      top = h.limb;
-      at_top = h.at_top;
-      limb = limb_of n.0;
-      at_limb = is_k;
-      after = omega (arith, t, r0);
-      deeper = omega (arith, d, di);
-      between = λ b y is lo hi. elim (stands c.front top c.run c.back b (limb_in old (c.front ++ top ∷ (c.run ++ c.back)) c.forest.order b y is)) [
-        | in_front j ↦ absurd (let q = pos_front c.front top c.run c.back once b j in omega (arith, q, lo, t))
-        | is_top e ↦ absurd (
-            let q : position (c.front ++ top ∷ (c.run ++ c.back)) top ≡ position (c.front ++ top ∷ (c.run ++ c.back)) b = ap (position (c.front ++ top ∷ (c.run ++ c.back))) e in
-            omega (arith, q, lo))
-        | in_run j ↦ (let q = c.deeper b y j is in omega (arith, q, di))
-        | in_back j ↦ absurd (let q = pos_back c.front top c.run c.back once b j in omega (arith, q, hi, r1))
-      ];
-    }
-
--- and the other way round
-run_from_run : (old cur : Slots) (top depth : ℕ) (at : Option ℕ) (count : ℕ) (h : HasCut old cur top depth at count) (k : ℕ)
-    → IsInRun (limbs old) (position (h.cut.front ++ top ∷ (h.cut.run ++ h.cut.back))) top k → IsIn h.cut.run k
-run_from_run old cur top depth at count h k r =
-    let c = h.cut in
-    let once = c.forest.order.once in
-    let t = pos_top c.front top c.run c.back once in
-    let after = r.after in
-    let di = h.depth_is in
-    let same_top : r.top ≡ h.limb = one_limb (limbs old) top r.at_top h.at_top in
-    let dt : r.top.depth ≡ h.limb.depth = ap (λ (z : Limb). z.depth) same_top in
-    let rd = r.deeper in
-    elim (stands c.front top c.run c.back k (limb_in old (c.front ++ top ∷ (c.run ++ c.back)) c.forest.order k r.limb r.at_limb)) [
-      | in_front j ↦ absurd (let q = pos_front c.front top c.run c.back once k j in omega (arith, q, after, t))
-      | is_top e ↦ absurd (
-          let q : position (c.front ++ top ∷ (c.run ++ c.back)) top ≡ position (c.front ++ top ∷ (c.run ++ c.back)) k = ap (position (c.front ++ top ∷ (c.run ++ c.back))) e in
-          omega (arith, q, after))
-      | in_run j ↦ j
-      | in_back j ↦ absurd (
-          elim c.back as (λ (bs : List ℕ). c.back ≡ bs → ⊥) [
-            | [] ↦ λ e. subst (λ (z : List ℕ). IsIn z k) e j
-            | b ∷ bs ↦ λ e.
-                let i_b : IsIn c.back b = subst (λ (z : List ℕ). IsIn z b) (sym e) (inl refl) in
-                let nb = in_list old (c.front ++ top ∷ (c.run ++ c.back)) c.forest.order b (in_right c.front (top ∷ (c.run ++ c.back)) b (inr (in_right c.run c.back b i_b))) in
-                let is_b : limbs old b ≡ Some (limb_of nb.0) = ap (option_map limb_of) nb.1 in
-                let s : nb.0.depth ≤ depth = h.stops b (limb_of nb.0) (c.at_is ∙ ap (λ (z : List ℕ). first_of z None) e) is_b in
-                let pb = pos_back c.front top c.run c.back once b i_b in
-                let pk = pos_back c.front top c.run c.back once k j in
-                let b_here : position c.back b ≡ 0 = ap (λ (z : List ℕ). position z b) e ∙ position_here b bs b refl in
-                elim (cases_eq b k) [
-                  | inl bk ↦
-                      let same : limb_of nb.0 ≡ r.limb = one_limb (limbs old) b is_b (ap (limbs old) bk ∙ r.at_limb) in
-                      let ds : nb.0.depth ≡ r.limb.depth = ap (λ (z : Limb). z.depth) same in
-                      omega (arith, s, ds, rd, dt, di)
-                  | inr ne ↦
-                      let k_there : position c.back k ≡ position bs k + 1 = ap (λ (z : List ℕ). position z k) e ∙ position_further b bs k ne in
-                      let q = r.between b (limb_of nb.0) is_b (omega (arith, t, pb)) (omega (arith, pb, pk, b_here, k_there)) in
-                      omega (arith, q, s, dt, di)
-                ]
-          ] refl)
-    ]
-
 -- what was taken out is what descends from the top
 pub cut_is : (old cur : Slots) (top depth : ℕ) (at : Option ℕ) (count : ℕ) (h : HasCut old cur top depth at count) (k : ℕ) → Leads (parent_at (limbs old)) k top ↔ IsIn h.cut.run k
 cut_is old cur top depth at count h k =
-    let d = descendants (limbs old) (position (h.cut.front ++ top ∷ (h.cut.run ++ h.cut.back))) h.cut.forest.tree top k in (
-      λ l. run_from_run old cur top depth at count h k (d.0 l),
-      λ i. d.1 (run_is_run old cur top depth at count h k i),
-    )
+    run_leads old top depth at h.cut.front h.cut.run h.cut.back
+    (record { forest = h.cut.forest; at_is = h.cut.at_is; deeper = h.cut.deeper; stops = h.stops; limb = h.limb; at_top = h.at_top; depth_is = h.depth_is }) k
 
 -- and the rest is a forest
 pub cut_forest : (old cur : Slots) (top depth : ℕ) (at : Option ℕ) (count : ℕ) (h : HasCut old cur top depth at count) → IsForest cur (h.cut.front ++ top ∷ h.cut.back)

@@ -16,6 +16,7 @@ pub mod Seen
 pub mod Kept
 pub mod Renewing
 pub mod Views
+pub mod Listing
 pub mod Stacking
 pub mod Burying
 pub mod Capping

@@ -1,3 +1,4 @@
 pub mod Leads
+pub mod ListOf
 pub mod Entries
 pub mod Inside

@@ -12,6 +12,7 @@ ghost use Rattle.l4_spaces.specs.Tables.{IsPage, space_pages};
 mod blocks;
 mod burial;
 mod copying;
+mod descending;
 mod lists;
 mod names;
 mod parents;
@@ -90,6 +91,7 @@ impl Model for Links {
 
 impl Links {
     ghost use Rattle.l4_spaces.specs.Listed.{NoSpaceFrom, IsNextSpace};
+    ghost use Rattle.l4_links.specs.ListOf.{IsListOf};
     ghost use Rattle.l4_links.specs.Entries.{entry_at, standing_at, parent_of, IsStanding, IsBlank, IsAt, IsSource, HaveRights, HavePlaces, AreTrees, NoKeyFrom, IsNextKey, NoKeyIn, IsNextKeyIn, IsKeyOf, NoParentIn, IsNextParentIn, Descends, AddsBlank, Stands, Sprouts, AddsChild, Clears, CutsBelow, Buries, CapsBelow, CapsTree, SetsSource, SetsPlain, SetsWanted, TakesOver, MovesPages, Hinders, LacksPlace};
     ghost use Rattle.l4_links.specs.declared.Standing.{Standing as AStanding};
 
@@ -512,6 +514,19 @@ impl Links {
         ensures no { result ≡ false → IsStanding self.now.entries key → (low : ℕ) × Descends self.now.entries low key }
     {
         walks::is_leaf(&self.nodes, key)
+    }
+
+    /// Returns the keys of everything that descends from the key, each once.
+    ///
+    /// Returns `NoMemory` if an allocation fails.
+    pub fn descendants(&self, alloc: Global, key: usize) -> Result<Vec<usize>, NoMemory>
+        ensures { IfOk result (λ keys. IsListOf (λ (low : ℕ). Descends self.now.entries low key) keys.items) }
+    {
+        let Some(_) = node_of(&self.nodes, key) else {
+            return Ok(Vec::new(alloc));
+        };
+        let keys = descending::keys_below(alloc, &self.nodes, key)?;
+        Ok(keys)
     }
 
     /// Marks the node under the key as a source, or removes that mark.
