@@ -412,14 +412,34 @@ typedef struct l4_page {
 /* Returns the lowest present page of a space that is not below `page`. Refusals: B1. */
 l4_page l4_next_page(l4_kernel *kernel, uint64_t space, uint32_t page);
 
-/* Compares the mappings of a space in two kernels, and returns the lowest page, not below `page`, whose mapping differs: the page is present
- * in only one of the kernels, or its frame, its rights or its parent differ. It works for any two kernels, and changes neither.
+/* A number of pages or of entries. */
+typedef struct l4_count {
+    uint32_t refusal;
+    uint64_t count;
+} l4_count;
+
+/* A page of a space. */
+typedef struct l4_place {
+    uint64_t space;
+    uint32_t page;
+    uint32_t reserved;
+} l4_place;
+
+/* Lists the pages that descend from a page of a space: those that were mapped from it, those that were mapped from these, and so on. Each
+ * page is listed once, in no fixed order. The first `room` of them are written to places, and the array elements after them stay as they
+ * are; the count is that of all. It is 0 if the page is not present. The cost of a call depends on the count, and not on how many pages are
+ * present.
  *
- * To find the pages that a step changes, copy the kernel before the step with l4_copy. After the step, list the pages of each space of both
- * kernels: start at 0, and continue at the page found plus 1. Before the next step, you can execute the same step in the copy instead of
- * making a new copy. A call reads the mappings of all pages that are present in either kernel, from `page` to the page found, or to the end
- * of the space. Refusals: B1 if a handle is empty. */
-l4_page l4_next_change(l4_kernel *before, l4_kernel *after, uint64_t space, uint32_t page);
+ * With this list you keep your own tables of pages equal to the kernel's. A page's mapping can change only in these steps:
+ *
+ * - A transfer whose message is delivered changes the pages that its items fill, the source pages of its grant items, and what descends
+ *   from these pages before the step.
+ * - An Unmap changes the pages that it names, and what descends from them.
+ * - A Delete that ends a space changes the pages of the space, and what descends from them.
+ *
+ * So before such a step, list what descends from the pages that it names. After the step, compare these pages with l4_mapping_of.
+ * Refusals: B1; NoMemory, and then nothing is written. */
+l4_count l4_descendants(l4_kernel *kernel, uint64_t space, uint32_t page, l4_place *places, size_t room);
 
 /* A region: `count` pages from the page `source` on, which go to the pages from `target` on with these rights. */
 typedef struct l4_region {
@@ -633,12 +653,6 @@ l4_seated l4_lock_enter(l4_lock *lock, uint32_t seat, const l4_call *call, const
 /* Takes the reply of a call of the seat that was left waiting and has since ended. Each reply can be taken once; the kind is L4_NONE if
  * there is none. This call allocates no memory. Refusals: B1. */
 l4_reply l4_lock_take(l4_lock *lock, uint32_t seat);
-
-/* A number of entries. */
-typedef struct l4_count {
-    uint32_t refusal;
-    uint64_t count;
-} l4_count;
 
 /* Returns the number of entries of the history: at most 1,000,000. Refusals: B1. */
 l4_count l4_lock_length(l4_lock *lock);

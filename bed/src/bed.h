@@ -39,16 +39,10 @@ struct space {
     uint32_t *leaves[L4_SPACE_PAGES / LEAF_PAGES];
 };
 
-/* The pages of all spaces in which a frame is mapped: what a revocation can reach from any one of them. */
-struct place {
-    struct space *space;
-    uint32_t page;
-};
-
-struct places {
-    struct place *list;
-    uint32_t count, room;
-    int is_stale; /* the kernel may have changed some of them */
+/* Pages that the next steps can change. */
+struct changes {
+    l4_place *list;
+    uint64_t count, room;
 };
 
 /* The words with which a thread entered its last call, and the window in which it receives. */
@@ -93,8 +87,7 @@ struct bed {
     unsigned char is_own_frame_used[L4_MAX_THREADS];
     struct space spaces[L4_MAX_THREADS];
     struct thread threads[L4_MAX_THREADS];
-    struct places places[L4_MAX_FRAMES];
-    uint32_t stale[L4_MAX_FRAMES], stale_count; /* the frames whose places are stale */
+    struct changes changes;
     int prints_lines, verifies;
     uint32_t traced; /* the number of the thread whose calls are printed, or 0 */
     FILE *script, *steps;
@@ -171,14 +164,14 @@ uint32_t *space_utcb(struct bed *bed, struct space *space, uint32_t address);
 /* Returns the byte at an address, or NULL if the space may not read it. */
 const unsigned char *space_byte(struct bed *bed, struct space *space, uint32_t address);
 
-/* changes.c: keeps the engine's pages equal to the kernel's. Call a change_ function for each step that may move or revoke pages, and then
- * change_apply. */
-void change_transfer(struct bed *bed, uint32_t sender, uint32_t receiver);
-void change_unmap(struct bed *bed, uint32_t thread, uint32_t control, const uint32_t *words);
-/* Forgets the pages of a space that no longer exists. */
-void change_lose_space(struct bed *bed, struct space *space);
+/* changes.c: keeps the engine's pages equal to the kernel's. Call a change_before_ function before each step that may move or revoke pages,
+ * change_after_transfer after a transfer that delivered its message, and then change_apply. */
+void change_before_transfer(struct bed *bed, uint32_t sender, uint32_t receiver);
+void change_after_transfer(struct bed *bed, uint32_t sender, uint32_t receiver);
+void change_before_unmap(struct bed *bed, uint32_t thread, uint32_t control, const uint32_t *words, size_t count);
+void change_before_delete(struct bed *bed, uint32_t id);
 void change_apply(struct bed *bed);
-/* Ends the bed unless every page of every space is as the kernel has it, and the places of each frame are the pages that have it. */
+/* Ends the bed unless every page of every space is as the kernel has it. */
 void change_verify(struct bed *bed);
 
 /* thread.c */
@@ -186,6 +179,8 @@ struct thread *thread_find(struct bed *bed, uint32_t id);
 struct thread *thread_numbered(struct bed *bed, uint32_t number);
 struct thread *thread_new(struct bed *bed, uint32_t id, struct space *space);
 void thread_free(struct bed *bed, struct thread *thread);
+/* Returns whether the space of the thread has no other thread. */
+int thread_is_alone(const struct bed *bed, const struct thread *thread);
 void thread_set_id(struct thread *thread, uint32_t id);
 void thread_set_utcb(struct bed *bed, struct thread *thread, uint32_t address);
 /* Lets the thread wait for the message of its pager that says where it begins. */

@@ -3,7 +3,6 @@
 #include <stdarg.h>
 #include <string.h>
 
-#define MAX_STEPS 64
 /* The longest line of the library has 656 bytes. */
 #define MAX_LINE 657
 
@@ -84,7 +83,7 @@ static void take_step(struct bed *bed, const l4_step *step) {
         print_step(step);
     take_ended(bed, step->ended, step->ended_count);
     if (step->kind == L4_TRANSFER && step->outcome == L4_DELIVERED)
-        change_transfer(bed, step->thread, step->receiver);
+        change_after_transfer(bed, step->thread, step->receiver);
 }
 
 struct entered *kernel_entered(struct bed *bed, uint32_t thread) {
@@ -100,22 +99,41 @@ static void keep_entered(struct bed *bed, uint32_t thread, const l4_call *call, 
     memcpy(entered->words, words, (count < L4_MAX_WORDS ? count : L4_MAX_WORDS) * sizeof *words);
 }
 
-static uint32_t enter(struct bed *bed, uint32_t thread, const l4_call *call, const uint32_t *words, size_t count) {
-    l4_step steps[MAX_STEPS];
-    l4_entered entered = l4_enter(&bed->kernel, thread, call, words, count, steps, MAX_STEPS);
-    uint32_t k;
-    if (entered.start.refusal != L4_OK)
-        return entered.start.refusal;
-    bed->costs.calls++;
-    keep_entered(bed, thread, call, words, count);
-    record_call(bed, thread, call, words, count);
-    take_ended(bed, entered.start.ended, entered.start.ended_count);
+/* Collects the pages that the start of a call can change. */
+static void before_start(struct bed *bed, uint32_t thread, const l4_call *call, const uint32_t *words, size_t count) {
     if (call->kind == L4_UNMAP)
-        change_unmap(bed, thread, call->control, words);
-    for (k = 0; k < entered.step_count; k++)
-        take_step(bed, &steps[k]);
+        change_before_unmap(bed, thread, call->control, words, count);
+    if (call->kind == L4_DELETE)
+        change_before_delete(bed, call->id);
+}
+
+/* Executes the next step. Returns 0 if no step is enabled. */
+static int take_next(struct bed *bed) {
+    l4_step step = l4_enabled(&bed->kernel);
+    check_library(step.refusal, "l4_enabled");
+    if (step.kind == L4_TRANSFER)
+        change_before_transfer(bed, step.thread, step.receiver);
+    step = l4_next(&bed->kernel);
+    if (step.kind == L4_NONE)
+        return 0;
+    take_step(bed, &step);
+    return 1;
+}
+
+static uint32_t enter(struct bed *bed, uint32_t thread, const l4_call *call, const uint32_t *words, size_t count) {
+    l4_answer start;
+    before_start(bed, thread, call, words, count);
+    start = l4_start(&bed->kernel, thread, call, words, count);
+    if (start.refusal == L4_OK) {
+        bed->costs.calls++;
+        keep_entered(bed, thread, call, words, count);
+        record_call(bed, thread, call, words, count);
+        take_ended(bed, start.ended, start.ended_count);
+        while (take_next(bed)) {
+        }
+    }
     change_apply(bed);
-    return L4_OK;
+    return start.refusal;
 }
 
 void kernel_begin_sigma0(struct bed *bed) {

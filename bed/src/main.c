@@ -61,8 +61,7 @@ static void free_bed(struct bed *bed) {
         if (bed->spaces[k].exists)
             space_free(bed, &bed->spaces[k]);
     }
-    for (k = 0; k < L4_MAX_FRAMES; k++)
-        free(bed->places[k].list);
+    free(bed->changes.list);
     bed->kind->close(bed->engine);
     munmap(bed->memory.bytes, (size_t)bed->memory.frames * PAGE_BYTES);
     close(bed->memory.file);

@@ -20,7 +20,6 @@ void space_free(struct bed *bed, struct space *space) {
         if (space->utcb_frames[k] != 0)
             bed_free_frame(bed, space->utcb_frames[k]);
     }
-    change_lose_space(bed, space);
     if (space->engine_space != NULL)
         bed->kind->free_space(bed->engine, space->engine_space);
     for (k = 0; k < sizeof space->leaves / sizeof *space->leaves; k++)

@@ -48,19 +48,24 @@ struct thread *thread_new(struct bed *bed, uint32_t id, struct space *space) {
     return &bed->threads[k];
 }
 
+int thread_is_alone(const struct bed *bed, const struct thread *thread) {
+    size_t k;
+    for (k = 0; k < L4_MAX_THREADS; k++) {
+        const struct thread *other = &bed->threads[k];
+        if (other != thread && other->state != ABSENT && other->space == thread->space)
+            return 0;
+    }
+    return 1;
+}
+
 /* A space ends with its last thread. */
 void thread_free(struct bed *bed, struct thread *thread) {
-    struct space *space = thread->space;
-    size_t k;
-    if (space->engine_space != NULL)
-        bed->kind->forget(bed->engine, space->engine_space, &thread->registers);
+    struct space *space = thread_is_alone(bed, thread) ? thread->space : NULL;
+    if (thread->space->engine_space != NULL)
+        bed->kind->forget(bed->engine, thread->space->engine_space, &thread->registers);
     memset(thread, 0, sizeof *thread);
-    for (k = 0; k < L4_MAX_THREADS; k++) {
-        if (bed->threads[k].state != ABSENT && bed->threads[k].space == space)
-            return;
-    }
-    space_free(bed, space);
-    change_apply(bed);
+    if (space != NULL)
+        space_free(bed, space);
 }
 
 void thread_set_id(struct thread *thread, uint32_t id) {

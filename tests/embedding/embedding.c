@@ -244,36 +244,47 @@ static void maps_page(l4_kernel *kernel, uint32_t from, uint32_t page, uint32_t 
     EXPECT(l4_enter(kernel, from, &call, words, 3, NULL, 0).step_count == 1 && l4_mapping_of(kernel, l4_space_of(kernel, to).space, target).there == 1);
 }
 
-/* The pages that differ between a kernel and a second one, which executes more steps. */
-static void changes(void) {
-    static const uint32_t page_16_w[1] = {0x100c2};
-    l4_kernel before = L4_EMPTY, after = L4_EMPTY;
+/* Whether these are the pages that descend from a page of a space: each of them once, in any order. */
+static int descend(l4_kernel *kernel, uint64_t space, uint32_t page, const l4_place *expected, size_t count) {
+    l4_place found[4];
+    l4_count told = l4_descendants(kernel, space, page, found, 4);
+    size_t i, j, hits;
+    for (i = 0; i < count && told.count == count; i++) {
+        for (j = hits = 0; j < count; j++)
+            hits += found[j].space == expected[i].space && found[j].page == expected[i].page && found[j].reserved == 0;
+        if (hits != 1)
+            return 0;
+    }
+    return told.refusal == L4_OK && told.count == count;
+}
+
+/* The pages that descend from a page. */
+static void descendants(void) {
+    static const uint32_t page_16[1] = {0x100c7};
+    static const l4_place both[2] = {{1, 40, 0}, {2, 32, 0}}, other = {9, 9, 9};
+    l4_kernel kernel = L4_EMPTY;
+    l4_place found[3] = {{9, 9, 9}, {9, 9, 9}, {9, 9, 9}};
     l4_call call = kind(L4_UNMAP);
-    l4_page change;
-    EXPECT(l4_next_change(&before, &after, 0, 0).refusal == L4_B1 && l4_boot(&before, 256) == L4_OK);
-    EXPECT(l4_next_change(&before, &after, 0, 0).refusal == L4_B1 && l4_next_change(&after, &before, 0, 0).refusal == L4_B1);
-    EXPECT(l4_enabled(&before).refusal == L4_OK && l4_boot(&after, 255) == L4_OK);
-    change = l4_next_change(&before, &after, 0, 3);
-    EXPECT(change.refusal == L4_OK && change.there == 1 && change.page == 255 && l4_next_change(&after, &before, 0, 255).page == 255);
-    change = l4_next_change(&before, &after, 0, 256);
-    EXPECT(change.refusal == L4_OK && change.there == 0 && change.page == 0);
-    l4_free(&after);
-    EXPECT(l4_copy(&before, &after) == L4_OK && l4_next_change(&before, &after, 0, 0).there == 0);
-    delivers(&after);
-    EXPECT(l4_next_change(&before, &after, 2, 0).page == 32 && l4_next_change(&before, &after, 2, 33).there == 0);
-    EXPECT(l4_next_change(&after, &before, 2, 0).page == 32 && l4_next_change(&before, &after, 0, 0).there == 0);
-    maps_page(&after, 1, 16, 2, 40);
-    l4_free(&before);
-    EXPECT(l4_copy(&after, &before) == L4_OK && l4_next_change(&before, &after, 1, 0).there == 0);
-    /* the frame and the rights of page 32 stay, but its parent is another page */
-    maps_page(&after, 2, 40, 3, 32);
-    EXPECT(l4_next_change(&before, &after, 2, 0).page == 32 && l4_next_change(&before, &after, 1, 0).there == 0);
-    /* sigma0's page 16 loses w, and so do the pages that were mapped from it */
-    call.control = 0x40;
-    EXPECT(l4_start(&after, 1, &call, page_16_w, 1).refusal == L4_OK && l4_next_change(&before, &after, 0, 0).page == 16);
-    EXPECT(l4_next_change(&before, &after, 0, 17).there == 0 && l4_next_change(&before, &after, 1, 0).page == 40);
-    l4_free(&before);
-    l4_free(&after);
+    EXPECT(l4_descendants(&kernel, 0, 16, found, 3).refusal == L4_B1 && memcmp(&found[0], &other, sizeof other) == 0);
+    EXPECT(l4_boot(&kernel, 256) == L4_OK && descend(&kernel, 0, 16, NULL, 0));
+    /* absent: a page of an empty space, one beyond the space, and one of a space that does not exist */
+    EXPECT(descend(&kernel, 1, 16, NULL, 0) && descend(&kernel, 0, UINT32_MAX, NULL, 0) && descend(&kernel, 7, 16, NULL, 0));
+    /* page 16 of sigma0 goes to page 32 of space 2, and then to page 40 of space 1 */
+    delivers(&kernel);
+    EXPECT(descend(&kernel, 0, 16, &both[1], 1) && descend(&kernel, 0, 17, NULL, 0) && descend(&kernel, 2, 32, NULL, 0));
+    maps_page(&kernel, 1, 16, 2, 40);
+    EXPECT(descend(&kernel, 0, 16, both, 2) && descend(&kernel, 1, 40, NULL, 0));
+    /* page 40 replaces page 32 by its own child */
+    maps_page(&kernel, 2, 40, 3, 32);
+    EXPECT(descend(&kernel, 0, 16, both, 2) && descend(&kernel, 1, 40, &both[1], 1) && descend(&kernel, 2, 32, NULL, 0));
+    /* pages for which there is no room are counted, and nothing is written behind the room */
+    EXPECT(l4_descendants(&kernel, 0, 16, NULL, 0).count == 2 && l4_descendants(&kernel, 0, 16, found, 1).count == 2);
+    EXPECT(found[0].space != 9 && memcmp(&found[1], &other, sizeof other) == 0);
+    EXPECT(l4_descendants(&kernel, 0, 16, found, 3).count == 2 && found[1].space != 9 && memcmp(&found[2], &other, sizeof other) == 0);
+    /* an Unmap of page 16 takes what descends from it */
+    EXPECT(l4_start(&kernel, 1, &call, page_16, 1).refusal == L4_OK && descend(&kernel, 0, 16, NULL, 0));
+    EXPECT(l4_mapping_of(&kernel, 0, 16).there == 1 && l4_mapping_of(&kernel, 1, 40).there == 0 && l4_mapping_of(&kernel, 2, 32).there == 0);
+    l4_free(&kernel);
 }
 
 /* Reading the words of messages to a pager and to sigma0. */
@@ -782,7 +793,7 @@ int main(int count, char **words) {
     enters(&kernel);
     l4_free(&kernel);
     copies();
-    changes();
+    descendants();
     readers();
     plans();
     small_kernels();

@@ -177,6 +177,14 @@ class l4_page(Structure):
     _fields_ = numbers("refusal there page")
 
 
+class l4_count(Structure):
+    _fields_ = numbers("refusal") + [("count", c_uint64)]
+
+
+class l4_place(Structure):
+    _fields_ = [("space", c_uint64)] + numbers("page reserved")
+
+
 class l4_fault(Structure):
     _fields_ = numbers("refusal detail there address ip access")
 
@@ -224,10 +232,6 @@ class l4_seated(Structure):
     _fields_ = numbers("refusal detail") + [("reply", l4_reply)]
 
 
-class l4_count(Structure):
-    _fields_ = numbers("refusal") + [("count", c_uint64)]
-
-
 class l4_entry(Structure):
     _fields_ = numbers("refusal seat kind thread receiver outcome ended_count word_count") + [
         ("ended", c_uint32 * L4_MAX_THREADS),
@@ -271,6 +275,8 @@ STRUCTS = [
     l4_page_size,
     l4_mapping,
     l4_page,
+    l4_count,
+    l4_place,
     l4_fault,
     l4_request,
     l4_region,
@@ -282,7 +288,6 @@ STRUCTS = [
     l4_verdict,
     l4_lock,
     l4_seated,
-    l4_count,
     l4_entry,
     l4_seat,
     l4_receipt,
@@ -291,6 +296,7 @@ STRUCTS = [
 ]
 
 KERNEL = POINTER(l4_kernel)
+PLACES = POINTER(l4_place)
 WORDS = POINTER(c_uint32)
 PAGER = POINTER(l4_pager)
 SIGMA0 = POINTER(l4_sigma0)
@@ -322,7 +328,7 @@ FUNCTIONS: Dict[str, Tuple[Any, List[Any]]] = {
     "l4_page_size_of": (l4_page_size, [KERNEL]),
     "l4_mapping_of": (l4_mapping, [KERNEL, c_uint64, c_uint32]),
     "l4_next_page": (l4_page, [KERNEL, c_uint64, c_uint32]),
-    "l4_next_change": (l4_page, [KERNEL, KERNEL, c_uint64, c_uint32]),
+    "l4_descendants": (l4_count, [KERNEL, c_uint64, c_uint32, PLACES, c_size_t]),
     "l4_read_fault": (l4_fault, [WORDS, c_size_t]),
     "l4_read_request": (l4_request, [WORDS, c_size_t]),
     "l4_pager_new": (c_uint32, [PAGER]),

@@ -121,6 +121,9 @@ class ReplyKind(enum.Enum):
     GONE = _library.L4_REPLY_GONE
 
 
+# Room for as many pages as descend from most pages.
+_PLACE_ROOM = 16
+
 _ENDS = {
     ReplyKind.HIT: "the page is there with the rights that the access needs",
     ReplyKind.ANSWERED: "the pager has answered the fault",
@@ -400,37 +403,28 @@ class Kernel(Handle):
                 yield mapping
             page = self.next_page(space, page + 1) if page + 1 < SMALL_SPACE_PAGES else None
 
-    def changed_pages(self, before: Kernel, space: int) -> Tuple[int, ...]:
-        """Compares this kernel with an earlier copy of it, or with any other kernel. Returns the pages of a space whose mappings differ, by
-        rising page number.
+    def descendants(self, space: int, page: int) -> Tuple[Place, ...]:
+        """Returns the pages that descend from a page of a space: those that were mapped from it, those that were mapped from these, and so
+        on. Each is returned once, in no fixed order; there are none if the page is not present. The cost depends only on their number.
 
-        A mapping differs if the page is present in only one of the kernels, or if its frame, its rights or its parent differ. The call
-        reads the mappings of all pages of the space that are present in either kernel.
+        A step changes at most the pages that it names and what descends from them before the step. A message names the pages that its items
+        fill, and the source pages of its grant items.
 
-        >>> from l4 import Call, Fpage, Rights
+        Refused with NoMemory.
+
         >>> kernel = Kernel(256)
-        >>> before = kernel.copy()
-        >>> _ = kernel.enter(1, Call.unmap([Fpage.page(16, Rights.WRITE)], own=True))
-        >>> kernel.changed_pages(before, 0)
-        (16,)
+        >>> kernel.descendants(0, 16)
+        ()
         """
-        of_type(before, Kernel, "what a kernel is compared with")
-        number(space, "a space", 64)
-        if before is self:
-            self._told(self._ask(library.l4_page_size_of))
-            return ()
-        # two threads that compare the same kernels take their locks in the same order
-        first, second = sorted((self, before), key=id)
-        with first._turn, second._turn:
-            return tuple(self._changes(before, space))
-
-    def _changes(self, before: Kernel, space: int) -> Iterator[int]:
-        """Yields the pages whose mappings differ."""
-        self._told(self._ask(library.l4_page_size_of))
-        told = before._told(before._ask(library.l4_next_change, byref(self._handle), space, 0))
-        while told.there:
-            yield told.page
-            told = before._ask(library.l4_next_change, byref(self._handle), space, told.page + 1)
+        place = number(space, "a space", 64), number(page, "a page")
+        with self._turn:
+            room = _PLACE_ROOM
+            while True:
+                places = (_library.l4_place * room)()
+                told = self._told(self._ask(library.l4_descendants, *place, places, room))
+                if told.count <= room:
+                    return tuple(Place(found.space, found.page) for found in places[: told.count])
+                room = told.count
 
     def threads(self) -> Tuple[int, ...]:
         """Returns the numbers of the threads, by rising number."""

@@ -108,6 +108,20 @@ class Kernels(unittest.TestCase):
         self.assertIsNone(kernel.mapping(0, 16).parent)
         self.assertEqual([kernel.mapping(*place) for place in ((2, 31), (9, 32), (1 << 63, 0), (2, 1 << 31))], [None] * 4)
 
+    def test_descendants_of_a_page_are_listed_once(self):
+        kernel = delivered()
+        first = Place(2, 32)
+        self.assertEqual(kernel.descendants(0, 16), (first,))
+        # thread 3 maps its page 32 to pages 0 to 19 of root
+        for page in range(20):
+            kernel.start(2, Call.receive(window=WINDOW))
+            kernel.enter(3, Call.send(ThreadId.ROOT, Message.of(items=[Item.map(Fpage.page(32, Rights.READ), page << 12)])))
+        below = [Place(1, page) for page in range(20)]
+        self.assertEqual(sorted(kernel.descendants(2, 32), key=lambda place: place.page), below)
+        everything = kernel.descendants(0, 16)
+        self.assertEqual((len(everything), set(everything)), (21, {first, *below}))
+        self.assertEqual([kernel.descendants(*place) for place in ((0, 17), (1, 0), (1, 20), (9, 0), (0, 1 << 31))], [()] * 5)
+
     def test_threads_and_spaces_are_listed(self):
         kernel = delivered()
         kernel.enter(2, Call.create(ThreadId.of(9), THREAD))
@@ -124,32 +138,6 @@ class Kernels(unittest.TestCase):
         self.assertEqual([kernel.threads_in(space) for space in range(4)], [(1,), (2,), (3, 9), ()])
         with self.assertRaises(ValueError):
             kernel.threads_in(-1)
-
-    def test_changed_pages_are_listed(self):
-        before, kernel = Kernel(256), delivered()
-        self.assertEqual([kernel.changed_pages(before, space) for space in range(3)], [(), (), (32,)])
-        self.assertEqual(before.changed_pages(kernel, 2), (32,))
-        before = kernel.copy()
-        self.assertEqual((kernel.changed_pages(before, 2), kernel.changed_pages(kernel, 2)), ((), ()))
-        kernel.start(1, Call.unmap([Fpage.pages(16, 1, Rights.WRITE)], own=True))
-        self.assertEqual([kernel.changed_pages(before, space) for space in range(3)], [(16, 17), (), (32,)])
-        for space, other in ((1 << 64, before), (0, None)):
-            with self.assertRaises((ValueError, TypeError)):
-                kernel.changed_pages(other, space)
-        before.close()
-        for one, other in ((kernel, before), (before, kernel), (before, before)):
-            with self.assertRaisesRegex(ValueError, "closed"):
-                one.changed_pages(other, 0)
-
-    def test_two_threads_compare_the_same_kernels(self):
-        kernels, found = (Kernel(64), Kernel(63)), []
-        compare = lambda one, other: found.extend(one.changed_pages(other, 0) for _ in range(50))
-        workers = [threading.Thread(target=compare, args=kernels), threading.Thread(target=compare, args=kernels[::-1])]
-        for worker in workers:
-            worker.start()
-        for worker in workers:
-            worker.join(60)
-        self.assertEqual(found, [(63,)] * 100)
 
     def test_steps_and_replies_have_the_lines_of_scripts(self):
         kernel = delivered()
@@ -324,7 +312,7 @@ class Kernels(unittest.TestCase):
             (kernel.next_page, 0, 0),
             (kernel.threads,),
             (kernel.threads_in, 0),
-            (kernel.changed_pages, kernel, 0),
+            (kernel.descendants, 0, 0),
             (next, mappings),
         ):
             with self.assertRaisesRegex(ValueError, "closed"):

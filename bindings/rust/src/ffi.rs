@@ -258,6 +258,17 @@ structs! {
         page: u32,
     }
 
+    struct l4_count {
+        refusal: u32,
+        count: u64,
+    }
+
+    struct l4_place {
+        space: u64,
+        page: u32,
+        reserved: u32,
+    }
+
     struct l4_fault {
         refusal: u32,
         detail: u32,
@@ -325,11 +336,6 @@ structs! {
         refusal: u32,
         detail: u32,
         reply: l4_reply,
-    }
-
-    struct l4_count {
-        refusal: u32,
-        count: u64,
     }
 
     struct l4_entry {
@@ -407,7 +413,7 @@ functions! {
     fn l4_page_size_of(kernel: *mut l4_kernel) -> l4_page_size;
     fn l4_mapping_of(kernel: *mut l4_kernel, space: u64, page: u32) -> l4_mapping;
     fn l4_next_page(kernel: *mut l4_kernel, space: u64, page: u32) -> l4_page;
-    fn l4_next_change(before: *mut l4_kernel, after: *mut l4_kernel, space: u64, page: u32) -> l4_page;
+    fn l4_descendants(kernel: *mut l4_kernel, space: u64, page: u32, places: *mut l4_place, room: usize) -> l4_count;
     fn l4_read_fault(words: *const u32, count: usize) -> l4_fault;
     fn l4_read_request(words: *const u32, count: usize) -> l4_request;
     fn l4_pager_new(pager: *mut l4_pager) -> u32;
@@ -481,6 +487,16 @@ const NO_LINK: l4_link = l4_link {
     item_rights: 0,
     reserved: 0,
 };
+
+/// No page.
+const NO_PLACE: l4_place = l4_place {
+    space: 0,
+    page: 0,
+    reserved: 0,
+};
+
+/// Room for as many pages as descend from most pages.
+const PLACE_ROOM: usize = 16;
 
 /// Room for as many links as most pages have.
 const LINK_ROOM: usize = 16;
@@ -676,18 +692,20 @@ impl Handle<l4_kernel> {
         unsafe { l4_next_page(self.cell.get(), space, page) }
     }
 
-    /// Compares this kernel with another one, or returns `None` if both are the same object.
-    pub(crate) fn next_change(
-        &self,
-        after: &Handle<l4_kernel>,
-        space: u64,
-        page: u32,
-    ) -> Option<l4_page> {
-        if ptr::eq(self, after) {
-            return None;
+    /// Returns the pages that descend from a page, as many as the result counts.
+    pub(crate) fn descendants(&self, space: u64, page: u32) -> (l4_count, Vec<l4_place>) {
+        let mut places = vec![NO_PLACE; PLACE_ROOM];
+        loop {
+            let room = places.len();
+            // SAFETY: as in `enabled`; the places belong to this function, and their room is their length.
+            let told =
+                unsafe { l4_descendants(self.cell.get(), space, page, places.as_mut_ptr(), room) };
+            let count = told.count as usize;
+            places.resize(count, NO_PLACE);
+            if count <= room {
+                return (told, places);
+            }
         }
-        // SAFETY: as in `enabled`, for both handles, which are two.
-        Some(unsafe { l4_next_change(self.cell.get(), after.cell.get(), space, page) })
     }
 }
 

@@ -427,27 +427,31 @@ impl Kernel {
         (told.there != 0).then_some(told.page)
     }
 
-    /// Compares this kernel with an earlier copy of it, or with any other kernel. Returns the pages of a space whose mappings differ, by
-    /// rising page number.
+    /// Returns the pages that descend from a page of a space: those that were mapped from it, those that were mapped from these, and so
+    /// on. Each is returned once, in no fixed order; there are none if the page is not present. The cost depends only on their number.
     ///
-    /// A mapping differs if the page is present in only one of the kernels, or if its frame, its rights or its parent differ. The call
-    /// reads the mappings of all pages of the space that are present in either kernel.
+    /// A step changes at most the pages that it names and what descends from them before the step. A message names the pages that its
+    /// items fill, and the source pages of its grant items.
+    ///
+    /// # Errors
+    ///
+    /// NoMemory.
     ///
     /// ```
-    /// use l4::{Call, Fpage, Kernel, Rights};
-    /// let mut kernel = Kernel::boot(256)?;
-    /// let before = kernel.try_clone()?;
-    /// let page = Fpage::page(16, Rights::WRITE)?;
-    /// kernel.enter(1, &Call::unmap(true, &[page])?)?;
-    /// assert_eq!((kernel.changed_pages(&before, 0), kernel.changed_pages(&before, 1)), (vec![16], vec![]));
-    /// # Ok::<(), Box<dyn std::error::Error>>(())
+    /// let kernel = l4::Kernel::boot(256)?;
+    /// assert_eq!(kernel.descendants(0, 16)?, []);
+    /// # Ok::<(), l4::Refusal>(())
     /// ```
-    pub fn changed_pages(&self, before: &Kernel, space: u64) -> Vec<u32> {
-        let next = |from| {
-            let told = before.handle.next_change(&self.handle, space, from)?;
-            (told.there != 0).then_some(told.page)
-        };
-        iter::successors(next(0), |page| next(page + 1)).collect()
+    pub fn descendants(&self, space: u64, page: u32) -> Result<Vec<Place>, Refusal> {
+        let (told, places) = self.handle.descendants(space, page);
+        if told.refusal != ffi::L4_OK {
+            return Err(Refusal::of(told.refusal, 0));
+        }
+        let found = places.iter().map(|place| Place {
+            space: place.space,
+            page: place.page,
+        });
+        Ok(found.collect())
     }
 
     /// Returns an iterator over the mappings of a space's present pages, by rising page number.

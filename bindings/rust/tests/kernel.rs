@@ -209,6 +209,36 @@ fn a_message_maps_a_page() {
 }
 
 #[test]
+fn descendants_of_a_page_are_listed_once() {
+    let mut kernel = delivered();
+    let listed = |kernel: &Kernel, space, page| {
+        let mut places = kernel.descendants(space, page).unwrap();
+        places.sort_by_key(|place| (place.space, place.page));
+        places
+    };
+    let first = Place { space: 2, page: 32 };
+    assert_eq!(listed(&kernel, 0, 16), [first]);
+    // thread 3 maps its page 32 to pages 0 to 19 of root
+    for page in 0..20 {
+        kernel
+            .start(2, &Call::receive(ThreadId::ANY, WINDOW, Timeout::Never))
+            .unwrap();
+        let item = Item::map(Fpage::page(32, Rights::READ).unwrap(), page * PAGE_BYTES);
+        let sent = Message::new(0, &[], &[item]).unwrap();
+        kernel
+            .enter(3, &Call::send(ThreadId::ROOT, &sent, Timeout::Never))
+            .unwrap();
+    }
+    let mut below: Vec<Place> = (0..20).map(|page| Place { space: 1, page }).collect();
+    assert_eq!(listed(&kernel, 2, 32), below);
+    below.push(first);
+    assert_eq!(listed(&kernel, 0, 16), below);
+    for (space, page) in [(0, 17), (1, 0), (1, 20), (9, 0), (0, u32::MAX)] {
+        assert_eq!(listed(&kernel, space, page), []);
+    }
+}
+
+#[test]
 fn threads_of_a_space_are_listed() {
     let mut kernel = delivered();
     kernel
@@ -216,26 +246,6 @@ fn threads_of_a_space_are_listed() {
         .unwrap();
     let threads: Vec<Vec<u32>> = (0..4).map(|space| kernel.threads_in(space)).collect();
     assert_eq!(threads, [vec![1], vec![2], vec![3, 9], vec![]]);
-}
-
-#[test]
-fn changed_pages_are_listed() {
-    let (before, mut kernel) = (Kernel::boot(256).unwrap(), delivered());
-    let changed = |kernel: &Kernel, before: &Kernel| -> Vec<Vec<u32>> {
-        (0..3)
-            .map(|space| kernel.changed_pages(before, space))
-            .collect()
-    };
-    assert_eq!(changed(&kernel, &before), [vec![], vec![], vec![32]]);
-    assert_eq!(changed(&before, &kernel), [vec![], vec![], vec![32]]);
-    assert_eq!(changed(&kernel, &kernel), [vec![], vec![], vec![]]);
-    let before = kernel.try_clone().unwrap();
-    assert_eq!(changed(&kernel, &before), [vec![], vec![], vec![]]);
-    let pages = Fpage::pages(16, 1, Rights::WRITE).unwrap();
-    kernel
-        .start(1, &Call::unmap(true, &[pages]).unwrap())
-        .unwrap();
-    assert_eq!(changed(&kernel, &before), [vec![16, 17], vec![], vec![32]]);
 }
 
 #[test]

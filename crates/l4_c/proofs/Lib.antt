@@ -1,6 +1,6 @@
 pub mod Bytes
-pub mod Changes
 pub mod Following
 pub mod Placing
 pub mod Starting
 pub mod Found
+pub mod Below

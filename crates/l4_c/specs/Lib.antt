@@ -3,7 +3,6 @@ pub mod Copied
 pub mod Listed
 pub mod Read
 pub mod Checked
-pub mod Compared
 pub mod Exports
 pub mod InBytes
 pub mod Locking
@@ -12,3 +11,4 @@ pub mod Served
 pub mod Traced
 pub mod Written
 pub mod Versions
+pub mod Descended

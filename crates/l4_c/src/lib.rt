@@ -3,8 +3,8 @@
 
 mod asking;
 mod checking;
-mod comparing;
 mod copying;
+mod descending;
 mod entering;
 mod giving;
 mod listing;
@@ -26,8 +26,8 @@ pub use asking::{l4_mapping_of, l4_next_page, l4_page_size_of, l4_space_of};
 pub use checking::{
     Verdict, l4_check_plan, l4_check_plan_sized, l4_check_too_long, l4_check_too_long_sized,
 };
-pub use comparing::l4_next_change;
 pub use copying::l4_copy;
+pub use descending::{PlaceResult, l4_descendants};
 pub use entering::l4_enter;
 pub use giving::{l4_sigma0_answer, l4_sigma0_free, l4_sigma0_new, l4_sigma0_new_sized};
 pub use listing::{ThreadResult, l4_next_space, l4_next_thread};

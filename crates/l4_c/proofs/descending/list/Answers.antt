@@ -1,0 +1,8 @@
+use Rattle.std.proofs.Common.{◌∙◌}
+use Rattle.l4_c.proofs.Below.{told_below}
+use Rattle.l4_c.proofs.descending.list.Goals as goal
+
+pub returns-in-Ok : goal.returns-in-Ok
+returns-in-Ok c =
+    told_below c.args.kernel.now c.args.space c.args.page c.in-Ok.places.items c.as_slice.result.now c.len.result c.args.out.now c.write_places.new.out
+    c.in-Ok.ensures c.as_slice.ensures.value (c.len.ensures ∙ c.in-Ok.places.ok.0) c.write_places.ensures
