@@ -22,6 +22,7 @@ use l4_plan::plan;
 use l4_plan_lines::{answer_lines, plan_lines};
 use l4_sinks::{Style, answer_script};
 use l4_step_lines::{Fault, JudgeFault, judge};
+use l4_symbols::write_words;
 use l4_text::{RunFault, ScriptReader};
 use l4_why::{Presence, ThreadPage, why};
 use reports::{report_no_plan, report_no_thread, report_unproved};
@@ -257,6 +258,16 @@ fn tell_words<R: Print + Eprint>(rt: &R, words: &[u32], reading: Reading, size: 
     }
 }
 
+/// Prints the words of a message.
+#[inline(never)]
+fn print_words<R: Print + Eprint>(rt: &R, words: &[u32]) -> u8 {
+    let mut writer = WatchedWriter::new(io::writer(rt));
+    match write_words(words, &mut writer) {
+        Ok(()) => 0,
+        Err(fault) => stopped(rt, fault, None, writer.error()),
+    }
+}
+
 /// Executes the command that these words request.
 fn obey<R: AllocGlobal + Files + Input + Print + Eprint>(rt: &R, words: &[String]) -> u8 {
     match options(rt.alloc(), words) {
@@ -285,6 +296,7 @@ fn obey<R: AllocGlobal + Files + Input + Print + Eprint>(rt: &R, words: &[String
                 size,
             },
         ) => tell_words(rt, words.as_slice(), reading, size),
+        Ok(Options::Encode(words)) => print_words(rt, words.as_slice()),
         Ok(Options::Show(text)) => show(rt, text.as_str()),
         Err(fault) => misread(rt, &fault),
     }

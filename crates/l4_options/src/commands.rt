@@ -3,6 +3,7 @@ ghost use Rattle.std.specs.Prelude.{◌≡◌, IfOk, IfSome, Some};
 ghost use Rattle.l4_options.specs.Ranges.{IsInRange};
 ghost use Rattle.l4_options.specs.Inside.Words.{spelled_anew};
 
+use crate::encoding::{encode_options, of_tokens};
 use crate::help::{ABOUT, CHECK, DECODE, HISTORY, JUDGE, PLAN, SCRIPT, WHY};
 use crate::requests::{OptionFault, Options};
 use crate::values::{
@@ -119,7 +120,8 @@ fn known<'a>(alloc: Global) -> Result<Command<'a>, AllocError> {
             "Checks that a plan is exact and that no list is shorter",
             CHECK,
         )?)?
-        .subcommand(decode)
+        .subcommand(decode)?
+        .subcommand(of_tokens(alloc)?)
 }
 
 /// The rights among the words of a plan or a check that were taken for an option, as the word and as it can be written.
@@ -233,7 +235,7 @@ fn decode_options(alloc: Global, matches: &ArgMatches<'_>) -> Result<Options, Op
 
 /// Reads the words of the command line, the program's name first:
 /// `l4 run [FILE] [--frames N] [--strict] [--explain]`, `l4 history [FILE] [--frames N] [--answers]`,
-/// `l4 judge [FILE] [--frames N] [--all]`, `l4 why THREAD PAGE [FILE] [--frames N]`, `l4 plan SOURCE TARGET COUNT RIGHTS`, `l4 check` with the same words, `l4 decode [--as READING] WORD..`, each with
+/// `l4 judge [FILE] [--frames N] [--all]`, `l4 why THREAD PAGE [FILE] [--frames N]`, `l4 plan SOURCE TARGET COUNT RIGHTS`, `l4 check` with the same words, `l4 decode [--as READING] WORD..`, `l4 encode TOKEN..`, each with
 /// `--page-size BYTES` where that is wanted, `--help`, `help` or `--version`. N is 256 and BYTES 4096 where they are left out; READING is
 /// message, fpage, window or id.
 ///
@@ -268,6 +270,7 @@ pub fn options<'a, S: AsStr>(alloc: Global, words: &'a [S]) -> Result<Options, O
         Some(("judge", judge)) => judge_options(alloc, judge),
         Some(("why", why)) => why_options(alloc, why),
         Some(("decode", decode)) => decode_options(alloc, decode),
+        Some(("encode", encode)) => encode_options(alloc, encode),
         Some((_, run)) => run_options(alloc, run),
         None => Err(OptionFault::Memory),
     }

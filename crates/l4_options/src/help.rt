@@ -139,6 +139,31 @@ as an fpage, a window or an id.
 
 Exit status: 0, or 2 if the command line is invalid, 3 if a write failed.";
 
+pub(crate) const ENCODE: &str = "\
+Prints the words of a message, the tag first. The tokens are the tag, then the
+untyped words, and then the items. Pages have the size of --page-size. Numbers
+are decimal, or hexadecimal with a 0x prefix. A shell takes > for a redirection,
+so put quotes around an item.
+
+  tag:LABEL                  the tag, with this label (0 to 65535). Its counts are
+                             those of the tokens behind it
+  NUMBER                     an untyped word
+  map:FIRST+COUNT>BASE:RIGHTS
+                             a map item: the COUNT pages from page FIRST on, with
+                             the send base at page BASE. COUNT is a power of two,
+                             and FIRST a multiple of it; for one page, +COUNT can
+                             be omitted. RIGHTS are r, w and x in this order, with
+                             - for each right that is left out
+  grant:FIRST+COUNT>BASE:RIGHTS
+                             a grant item
+
+  l4 encode tag:7 1 2 'map:16+4>32:rwx' 'grant:3>0:r--'
+
+The words are printed on one line, in hexadecimal with a 0x prefix, as 'l4
+decode' and scripts read them.
+
+Exit status: 0, or 2 if the command line is invalid, 3 if a write failed.";
+
 pub(crate) const SCRIPT: &str = "\
 Reads a script from FILE, or from standard input if FILE is omitted, and answers
 each line on standard output. Every line ends with a newline, including the last

@@ -3,6 +3,7 @@
 
 mod advice;
 mod commands;
+mod encoding;
 mod help;
 mod programs;
 mod requests;

@@ -3,6 +3,7 @@ use arrayvec::ArrayVec;
 use l4_decode::Reading;
 use l4_fpage::PageSize;
 use l4_msg::{MAX_WORDS, Region};
+use l4_symbols::Reason;
 use thiserror::Error;
 
 /// A script to execute on a machine with this many frames, 1 to 4,096, of this size. It is in the file of this name, or comes from standard
@@ -55,6 +56,8 @@ pub enum Options {
         reading: Reading,
         size: PageSize,
     },
+    /// Prints these words of a message.
+    Encode(ArrayVec<u32, MAX_WORDS>),
     /// Prints this text: the usage, or the version.
     Show(String),
 }
@@ -98,6 +101,9 @@ pub enum OptionFault {
     /// There are more words than a message can have.
     #[error("error: unexpected value '{0}' for '<WORD>...': a message has at most 64 words")]
     TooMany(String),
+    /// A token of a message is refused, for this reason.
+    #[error("error: invalid value '{token}' for '<TOKEN>...': {reason}")]
+    Token { token: String, reason: Reason },
     /// The reading is unknown.
     #[error("error: invalid value '{0}' for '--as <READING>': expected message, fpage, window or id")]
     Reading(String),

@@ -1,0 +1,4 @@
+pub mod Items
+pub mod Messages
+pub mod Spelling
+pub mod Texts

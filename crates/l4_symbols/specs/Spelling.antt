@@ -1,0 +1,73 @@
+-- How symbolic tokens are spelled (this profile's own).
+use Rattle.std.specs.Prelude.{ℕ, ◌+◌, ◌==◌, Bool, true, false, List, length, slice_index, take, drop, Option, Some, None, option_map, Result, Ok, Err, ok_or, if◌then◌else◌, codes}
+use Rattle.std.specs.List.{position}
+use Rattle.std.specs.Str.{bytes_eq}
+use Rattle.l4_fpage.specs.Rights.{RightsSet}
+use Rattle.l4_msg.specs.Sizes.{label_place}
+use Rattle.l4_text.specs.Numbers.{number_of, below}
+use Rattle.l4_symbols.specs.declared.reasons.Reason.{Reason}
+use Rattle.l4_symbols.specs.declared.reasons.Reason.TheVariants.{NoTag, Label, Unknown, NoBase, NoRights, Number, Rights}
+use Rattle.l4_symbols.specs.declared.spelling.Pages.{Pages}
+use Rattle.l4_symbols.specs.declared.spelling.ItemParts.{ItemParts}
+
+-- one part after another, up to the first that is refused
+infixl 10 ◌>>=◌
+abbrev pub ◌>>=◌ : {A B : Type 0} → Result A Reason → (A → Result B Reason) → Result B Reason
+Ok a >>= f = f a
+Err reason >>= f = Err reason
+
+-- the parts of a text before and behind the first of these bytes
+unfoldable pub cut_at : ℕ → List ℕ → Option (List ℕ × List ℕ)
+cut_at byte text = option_map (λ place. (take place text, drop (place + 1) text)) (position (λ b. b == byte) text)
+
+-- a number, decimal or hexadecimal after 0x
+unfoldable pub number_in : List ℕ → Result ℕ Reason
+number_in text = ok_or (number_of text) Number
+
+-- a right's letter, or a hyphen in its place
+abbrev pub right_in : ℕ → ℕ → Result Bool Reason
+right_in letter byte = if byte == letter then Ok true else (if byte == 45 then Ok false else Err Rights)
+
+-- r, w and x in turn, each of them or a hyphen in its place
+unfoldable pub rights_in : List ℕ → Result RightsSet Reason
+rights_in text = if length text == 3 then (do
+  r ← right_in 114 (slice_index text 0)
+  w ← right_in 119 (slice_index text 1)
+  x ← right_in 120 (slice_index text 2)
+  Ok (record { r = r; w = w; x = x })) else Err Rights
+
+-- FIRST alone, or FIRST and COUNT
+abbrev pub pages_of : List ℕ → Option (List ℕ × List ℕ) → Result Pages Reason
+pages_of text None = do
+  first ← number_in text
+  Ok (record { first = first; count = 1 })
+pages_of text (Some parts) = do
+  first ← number_in parts.0
+  count ← number_in parts.1
+  Ok (record { first = first; count = count })
+
+-- FIRST or FIRST+COUNT
+unfoldable pub pages_in : List ℕ → Result Pages Reason
+pages_in text = pages_of text (cut_at 43 text)
+
+-- the name of an item's kind: whether it is a grant item
+abbrev pub is_grant_in : List ℕ → Result Bool Reason
+is_grant_in name = if bytes_eq name (codes "map") then Ok false else (if bytes_eq name (codes "grant") then Ok true else Err Unknown)
+
+-- map:PAGES>BASE:RIGHTS or grant:PAGES>BASE:RIGHTS
+unfoldable pub item_in : List ℕ → Result ItemParts Reason
+item_in token = do
+  named ← ok_or (cut_at 58 token) Unknown
+  grant ← is_grant_in named.0
+  placed ← ok_or (cut_at 62 named.1) NoBase
+  granted ← ok_or (cut_at 58 placed.1) NoRights
+  pages ← pages_in placed.0
+  base ← number_in granted.0
+  rights ← rights_in granted.1
+  Ok (record { grant = grant; pages = pages; base = base; rights = rights })
+
+-- tag:LABEL
+unfoldable pub label_in : List ℕ → Result ℕ Reason
+label_in token = do
+  named ← ok_or (cut_at 58 token) NoTag
+  if bytes_eq named.0 (codes "tag") then ok_or (below label_place (number_of named.1)) Label else Err NoTag

@@ -1,0 +1,16 @@
+//! Symbolic tokens, such as `tag:7` and `map:16+4>32:rwx`, and the words that they stand for.
+#![tactic(auto)]
+
+mod items;
+mod laws;
+mod messages;
+mod pages;
+mod reasons;
+mod spelling;
+mod writing;
+
+pub use items::item;
+pub use laws::read_as_named;
+pub use messages::SymbolicMessage;
+pub use reasons::Reason;
+pub use writing::write_words;

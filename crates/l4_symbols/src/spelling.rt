@@ -1,0 +1,154 @@
+//! Reads the parts of symbolic tokens.
+ghost use Rattle.std.specs.Prelude.{◌≡◌, ◌==◌, option_map};
+ghost use Rattle.std.specs.List.{position};
+ghost use Rattle.l4_symbols.specs.Spelling.{cut_at, number_in, right_in, rights_in, pages_in, is_grant_in, item_in, label_in};
+
+use crate::reasons::Reason;
+use l4_fpage::Rights;
+use l4_text::number;
+
+const TAG: &[u8] = b"tag";
+
+const MAP: &[u8] = b"map";
+
+const GRANT: &[u8] = b"grant";
+
+/// The pages in a token: the first one, and their number.
+#[derive(Clone, Copy)]
+pub(crate) struct Pages {
+    pub(crate) first: u32,
+    pub(crate) count: u32,
+}
+
+/// What the parts of an item's token spell. The send base is a page.
+#[derive(Clone, Copy)]
+pub(crate) struct ItemParts {
+    pub(crate) grant: bool,
+    pub(crate) pages: Pages,
+    pub(crate) base: u32,
+    pub(crate) rights: Rights,
+}
+
+/// Returns the place of the first of these bytes in a text.
+fn first_of(text: &[u8], byte: u8) -> Option<usize>
+    ensures { result ≡ position (λ b. b == byte) text.now }
+{
+    text.iter().position(|b| *b == byte)
+}
+
+/// Returns what stands before the first of these bytes in a text, and what stands behind it.
+#[tactic(auto, unfolding(crate::specs::Spelling::cut_at))]
+fn cut_at(text: &[u8], byte: u8) -> Option<(&[u8], &[u8])>
+    ensures { option_map (λ p. (p.0.now, p.1.now)) result ≡ cut_at byte text.now }
+{
+    match first_of(text, byte) {
+        Some(place) => Some((&text[..place], &text[place + 1..])),
+        None => None,
+    }
+}
+
+/// Reads a number.
+#[tactic(auto, unfolding(crate::specs::Spelling::number_in))]
+fn number_in(text: &[u8]) -> Result<u32, Reason>
+    ensures { result ≡ number_in text.now }
+{
+    number(text).ok_or(Reason::Number)
+}
+
+/// Returns whether a byte gives a right or leaves it out.
+fn right(letter: u8, byte: u8) -> Result<bool, Reason>
+    ensures { result ≡ right_in letter byte }
+{
+    if byte == letter {
+        return Ok(true);
+    }
+    if byte == b'-' {
+        return Ok(false);
+    }
+    Err(Reason::Rights)
+}
+
+/// Returns the rights with these of read, write and execute.
+fn rights_with(read: bool, write: bool, execute: bool) -> Rights
+    ensures { result ≡ record { r = read; w = write; x = execute } }
+{
+    Rights::of_bits(4 * u8::from(read) + 2 * u8::from(write) + u8::from(execute))
+}
+
+/// Reads r, w and x in this order, each of them or a hyphen.
+#[tactic(auto, unfolding(crate::specs::Spelling::rights_in))]
+fn rights_in(text: &[u8]) -> Result<Rights, Reason>
+    ensures { result ≡ rights_in text.now }
+{
+    if text.len() != 3 {
+        return Err(Reason::Rights);
+    }
+    let read = right(b'r', text[0])?;
+    let write = right(b'w', text[1])?;
+    let execute = right(b'x', text[2])?;
+    Ok(rights_with(read, write, execute))
+}
+
+/// Reads `FIRST` or `FIRST+COUNT`.
+#[tactic(auto, unfolding(crate::specs::Spelling::pages_in))]
+fn pages_in(text: &[u8]) -> Result<Pages, Reason>
+    ensures { result ≡ pages_in text.now }
+{
+    let Some((first, count)) = cut_at(text, b'+') else {
+        let first = number_in(text)?;
+        return Ok(Pages { first, count: 1 });
+    };
+    let first = number_in(first)?;
+    let count = number_in(count)?;
+    Ok(Pages { first, count })
+}
+
+/// Returns whether the name of an item's kind is that of a grant item.
+fn is_grant_in(name: &[u8]) -> Result<bool, Reason>
+    ensures { result ≡ is_grant_in name.now }
+{
+    if name == MAP {
+        return Ok(false);
+    }
+    if name == GRANT {
+        return Ok(true);
+    }
+    Err(Reason::Unknown)
+}
+
+/// Reads `map:PAGES>BASE:RIGHTS` or `grant:PAGES>BASE:RIGHTS`.
+#[tactic(auto, unfolding(crate::specs::Spelling::item_in))]
+pub(crate) fn item_in(token: &[u8]) -> Result<ItemParts, Reason>
+    ensures { result ≡ item_in token.now }
+{
+    let (name, rest) = cut_at(token, b':').ok_or(Reason::Unknown)?;
+    let grant = is_grant_in(name)?;
+    let (pages, rest) = cut_at(rest, b'>').ok_or(Reason::NoBase)?;
+    let (base, rights) = cut_at(rest, b':').ok_or(Reason::NoRights)?;
+    let pages = pages_in(pages)?;
+    let base = number_in(base)?;
+    let rights = rights_in(rights)?;
+    Ok(ItemParts {
+        grant,
+        pages,
+        base,
+        rights,
+    })
+}
+
+/// Reads `tag:LABEL`.
+#[tactic(auto, unfolding(crate::specs::Spelling::label_in))]
+pub(crate) fn label_in(token: &[u8]) -> Result<u16, Reason>
+    ensures { result ≡ label_in token.now }
+{
+    let Some((name, label)) = cut_at(token, b':') else {
+        return Err(Reason::NoTag);
+    };
+    if name != TAG {
+        return Err(Reason::NoTag);
+    }
+    match number(label) {
+        Some(label) if label < 0x10000 => Ok(label as u16),
+        _ => Err(Reason::Label),
+    }
+}
