@@ -1,4 +1,4 @@
--- What a transfer would bring is what it brings, if it is delivered.
+-- A delivered transfer moves what was computed before it.
 use Rattle.std.proofs.Common.{◌≡◌, ℕ, List, Some, Ok, Result, Contains, slice_get, get_or, refl, sym, ap, ◌∙◌, subst}
 use Rattle.std.proofs.lemmas.Option.{slice_get_read, slice_get_within, get_or_from_slice_get}
 use Rattle.l4_fpage.specs.Fpages.{rights_of}
@@ -29,7 +29,7 @@ use Rattle.l4_chains.specs.Chains.{told}
 use Rattle.l4_chains.specs.Inside.Carrying.{AreParties, IsCarriedBy, AnyCarries, IsCarried}
 use Rattle.l4_chains.specs.Inside.Walking.{entry_event, Does, BringsTold}
 
--- the parties of a step are one
+-- a step has one sender and one receiver
 pub record SameParties (a b c d : ℕ) (xs ys : List Item) (v w : Fpage) : Type 0 where
   pub «from» : a ≡ b
   pub to : c ≡ d
@@ -54,14 +54,14 @@ same_parties m step a b c d xs ys v w x y =
       window = x.window_is ∙ ap (λ (r : Receiving). r.window) takes ∙ sym y.window_is;
     }
 
--- an element stands at a place, and the other way round
+-- an element of a list has a place in it, and the other way round
 get_of : (items : List Item) (item : Item) → Contains items item → (n : ℕ) × (slice_get items n ≡ Some item)
 get_of items item h = (h.0, slice_get_read items _ h.0 item refl h.1 (sym h.2))
 
 contains_of : (items : List Item) (n : ℕ) (item : Item) → slice_get items n ≡ Some item → Contains items item
 contains_of items n item at = (n, slice_get_within items n item at, get_or_from_slice_get items n item item at)
 
--- the threads of a step that is done are those of a delivery
+-- the threads of a step that delivers are those of the delivery
 meets_of : (before after : Machine) (step : Step) (answer : Answer) (from to : ℕ) (items : List Item) (window : Fpage) → Steps before step (Ok answer) after
     → (p : AreParties before step from to items window) → Meets before.threads p.sender p.receiver p.giver p.taker p.sends p.takes
 meets_of before after step answer from to items window steps p =
@@ -126,7 +126,7 @@ carried_brings before after entry link does done c =
       };
     }
 
--- what is brought was carried, by a transfer that is done
+-- what a delivered transfer moved was computed before it
 pub brings_done : (before after : Machine) (entry : Entry) (l : Link) → Brings (entry_event before entry after) l → entry.answer.outcome ≡ Done
 brings_done before after entry l b =
     let both : ◌≡◌ {A = Result Answer Refused} (Ok entry.answer) (Ok b.delivery.answer) = b.delivery.ok in

@@ -1,4 +1,4 @@
--- What is said of an option, where it is known which it is.
+-- The clause of an option whose variant is known.
 use Rattle.std.proofs.Common.{◌≡◌, Option, Some, None, MatchOption, subst}
 
 pub none_is : {X : Type 0} (o : Option X) (P : Type 0) (Q : X → Type 0) → o ≡ None → MatchOption o P Q → P

@@ -130,7 +130,7 @@ shown_in : (o : Option Mapping) → IsTrue (is_some o) → (m : Mapping) × (o �
 shown_in (Some m) h = (m, refl)
 shown_in None h = absurd (false≢true h)
 
--- links as they were brought, of which the list tells
+-- the links of the run, of which the list has the data
 record Forgotten (events : List Event) (first last : Place) : Type 0 where
   pub links : List Link
   pub leads : Leads events first links last
@@ -152,7 +152,7 @@ forests_of (event ∷ events) h =
     let first : KeepsForest event = All-head KeepsForest event events h in
     (first.0, first.1, forests_of events (All-tail KeepsForest event events h))
 
--- a chain over a whole history, whose mappings were a forest at all times, is a provenance
+-- a chain over a whole history is a provenance, if the mappings were a forest at all times
 pub is_provenance : (frames : ℕ) (boot : Machine) (history : List Entry) (place : Place) (links : List ChainLink) → IsBoot frames boot → (w : IsWalked boot history place links)
     → HasEvents boot history w.now → IsProvenance boot history place links
 is_provenance frames boot history place links boots w h =

@@ -1,4 +1,4 @@
--- What an item carries, and which place it writes.
+-- The links of an item, and the place to which it moves a page.
 use Rattle.std.proofs.Common.{◌≡◌, ◌≢◌, ℕ, ◌+◌, ◌-◌, ◌^◌, ◌<◌, ◌≤◌, Some, Option, None, List, Contains, IsTrue, Bool, true, false, refl, sym, ap, ◌∙◌, subst, arith, inl, inr}
 use Rattle.l4_fpage.specs.Rights.{common, no_rights}
 use Rattle.l4_fpage.specs.Fpages.{rights_of}
@@ -22,7 +22,7 @@ abbrev pub place_at : ℕ → ℕ → Place
 place_at space page = record { space = space; page = page }
 
 module _ (size : PageSize) (s : Mappings) (from to : ℕ) (window : Fpage) (item : Item) where
-  -- what the page shows that is carried
+  -- the mapping of the source page
   pub carried_shows : (link : ChainLink) (h : IsCarriedBy size s from to window item link) → shown s (place_at from link.source.page) ≡ Some h.shows
   carried_shows link h = ap (λ (space : ℕ). shown s (place_at space link.source.page)) (sym h.from_space) ∙ h.at
 

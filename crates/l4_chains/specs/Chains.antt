@@ -13,18 +13,18 @@ use Rattle.l4_record.specs.declared.entries.Entry.{Entry}
 use Rattle.l4_record.specs.History.{steps_of, answers_of}
 use Rattle.l4_chains.specs.declared.links.ChainLink.{ChainLink}
 
--- what is told of a link whose transfer is the entry of this number
+-- the link as data, if the entry with this number is its transfer
 abbrev pub told : ℕ → Link → ChainLink
 told number link =
     record { entry = number; source = link.move.source; target = link.move.target; grant = link.move.grant; source_rights = link.move.shows.rights; item_rights = rights_of (fpage_of link.item) }
 
--- the place at which a chain to the last place begins
+-- the place at which a chain that ends at the last place begins
 abbrev pub origin_of : List ChainLink → Place → Place
 origin_of [] last = last
 origin_of (link ∷ links) last = link.source
 
--- Over these events, whose first is the entry of this number, links lead from the first place to the last, and this is told of them: an event
--- leaves alone the place that was reached, or it is a delivered transfer and one of its used moves goes on from there.
+-- The links lead over these events from the first place to the last. The first event is the entry with this number. Each event leaves the
+-- place that was reached unchanged, or it is a delivered transfer, and the next link is one of its used moves, from that place.
 abbrev pub LeadsAsTold : ℕ → List Event → Place → List ChainLink → Place → Type 0
 LeadsAsTold number [] first links last = (links ≡ []) × (first ≡ last)
 LeadsAsTold number (event ∷ events) first links last =
@@ -32,8 +32,8 @@ LeadsAsTold number (event ∷ events) first links last =
     ⊎ ((link : Link) × (later : List ChainLink) × (links ≡ told number link ∷ later)
     × Brings event link × (link.move.source ≡ first) × LeadsAsTold (suc number) events link.move.target later last)
 
--- The history is a run of the machine from boot, at whose end the place is present. It has its provenance, and the list tells its links: they
--- lead to it from a page that sigma0 had at boot, and no others do.
+-- The history is a run of the machine from boot, and the place is present at its end. The list has the links of its provenance: they lead
+-- there from a page that sigma0 had at boot, and no other links do.
 pub record IsProvenance (boot : Machine) (history : List Entry) (place : Place) (links : List ChainLink) : Type 0 where
   pub events : List Event
   pub now : Machine
@@ -43,7 +43,7 @@ pub record IsProvenance (boot : Machine) (history : List Entry) (place : Place) 
   pub has : HasProvenance boot.mappings events now.mappings place shows
   pub leads : LeadsAsTold 0 events has.origin links place
 
--- The history is a run of the machine from boot, at whose end the place is not present.
+-- The history is a run of the machine from boot, and the place is not present at its end.
 pub record IsAbsent (boot : Machine) (history : List Entry) (place : Place) : Type 0 where
   pub now : Machine
   pub run : Run boot (steps_of history) (answers_of history) now

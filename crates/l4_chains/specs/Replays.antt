@@ -1,4 +1,4 @@
--- Why a history can't be replayed (this profile's own).
+-- Why a history cannot be replayed (this profile's own).
 use Rattle.std.specs.Prelude.{◌≡◌, ◌≢◌, ℕ, ◌<◌, ◌≤◌, ◌⊎◌, List, ◌∷◌, ◌++◌, length, Result, Ok}
 use Rattle.l4_fpage.specs.Pages.{max_frames}
 use Rattle.l4_fpage.specs.declared.sizes.PageSize.{PageSize}

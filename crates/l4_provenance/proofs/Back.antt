@@ -1,4 +1,4 @@
--- A chain that was followed back so far.
+-- The part of a chain that has been followed back.
 use Rattle.std.proofs.Common.{◌≡◌, ℕ, ◌<◌, ◌≤◌, ◌⊎◌, inl, inr, List, [], ◌∷◌, ◌++◌, length, take, reverse, None, sym, ap, ◌∙◌, subst, arith}
 use Rattle.std.proofs.lemmas.List.{append-nil, take_all, reverse-append}
 use mathlib.Core.List.{append_assoc}
@@ -42,8 +42,8 @@ one_end boot es a b h k = ((only_trace boot (steps_of es) (answers_of es) h.even
 
 -- BACK FROM THE END
 
--- The place is present at the history's end, and so is the one that was reached after the first entries, so many. A chain to the latter over
--- these goes on by the links that were found, of which the last comes first.
+-- The place is present at the end of the history, and the place that was reached is present after this number of entries. A chain to the
+-- latter continues with the links that were found, which are in reverse order.
 pub record Backed (frames : ℕ) (size : PageSize) (history : List Entry) (place : Place) (count : ℕ) (reached : Place) (found : List ChainLink) : Type 0 where
   pub within : count ≤ length history
   pub boot : Machine
@@ -57,7 +57,7 @@ pub record Backed (frames : ℕ) (size : PageSize) (history : List Entry) (place
   pub present : IsPresent now.mappings reached
   pub on : (origin : Place) (links : List ChainLink) → PassesAll 0 boot (take count history) now origin links reached → PassesAll 0 boot history end origin (links ++ reverse found) place
 
--- nothing was looked for yet
+-- no link has been found yet
 pub record Begins (history : List Entry) (place : Place) (count : ℕ) (reached : Place) (found : List ChainLink) : Type 0 where
   pub all : count ≡ length history
   pub same : reached ≡ place
@@ -67,7 +67,7 @@ pub record Back (frames : ℕ) (size : PageSize) (history : List Entry) (place :
   pub within : count ≤ length history
   pub is : Begins history place count reached found ⊎ Backed frames size history place count reached found
 
--- an arrival at a kernel of one's own
+-- an arrival on a kernel that booted like this
 pub record Came (frames : ℕ) (size : PageSize) (history : List Entry) (count : ℕ) (reached : Place) (arrival : Arrival) : Type 0 where
   pub boot : Machine
   pub boots : IsBoot frames boot
@@ -79,7 +79,7 @@ module _ (frames : ℕ) (size : PageSize) (history : List Entry) (place : Place)
   pub back_first : count ≡ length history → reached ≡ place → found ≡ [] → Back frames size history place count reached found
   back_first all same none = record { within = omega (arith, all); is = inl (record { all = all; same = same; none = none }) }
 
-  -- the same arrival at the kernel that was seen before
+  -- the same arrival on the kernel that was used before
   moved : (arrival : Arrival) (b : Backed frames size history place count reached found) (c : Came frames size history count reached arrival) → Arrived b.boot history count reached b.now arrival
   moved arrival b c =
       let boot : c.boot ≡ b.boot = one_boot frames c.boot b.boot c.boots b.boots (c.size_is ∙ sym b.size_is) in
@@ -177,7 +177,7 @@ module _ (frames : ℕ) (size : PageSize) (history : List Entry) (place : Place)
             )
       ]
 
--- the parts of what is said of an arrival
+-- the parts of an arrival's clause
 pub came_of : (frames : ℕ) (size : PageSize) (history : List Entry) (count : ℕ) (reached : Place) (arrival : Arrival)
     → (boot : Machine) × IsBoot frames boot × (boot.size ≡ size) × ((now : Machine) × Arrived boot history count reached now arrival) × (1 ≤ frames) × (frames ≤ max_frames) → Came frames size history count reached arrival
 came_of frames size history count reached arrival h = record { boot = h.0; boots = h.1; size_is = h.2; now = h.3.0; arrived = h.3.1 }

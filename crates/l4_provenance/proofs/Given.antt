@@ -1,4 +1,4 @@
--- A letter's links are its step's, and the faults of a replay.
+-- The links of a letter are those of its step; and the faults of a replay.
 use Rattle.std.proofs.Common.{◌≡◌, ℕ, ◌≤◌, Option, Some, None, List, Result, Ok, Err, IfOk, IfErr, MatchOption, MatchResult}
 use Rattle.l4_fpage.specs.Pages.{max_frames}
 use Rattle.l4_fpage.specs.declared.fpages.Fpage.{Fpage}

@@ -1,4 +1,4 @@
--- A chain goes on by one entry at its end.
+-- A chain continues with one entry at its end.
 use Rattle.std.proofs.Common.{◌≡◌, ◌≢◌, ℕ, suc, ◌+◌, inl, inr, List, [], ◌∷◌, ◌++◌, length, refl, sym, ap, subst, arith}
 use Rattle.l4_mapdb.specs.declared.Place.{Place}
 use Rattle.l4_ipc.specs.Machine.{Machine}
@@ -7,7 +7,7 @@ use Rattle.l4_record.specs.declared.entries.Entry.{Entry}
 use Rattle.l4_chains.specs.declared.links.ChainLink.{ChainLink}
 use Rattle.l4_chains.specs.Inside.Walking.{entry_event, Does, IsNotDue, BringsTold, Passes, PassesAll}
 
--- links with one more behind them are due when they were
+-- one more link at the end changes nothing about the first link
 still_not_due : (number : ℕ) (links : List ChainLink) (link : ChainLink) → link.entry ≢ number → IsNotDue number links → IsNotDue number (links ++ link ∷ [])
 still_not_due number [] link not h = not
 still_not_due number (x ∷ links) link not h = h
@@ -20,7 +20,7 @@ passes_more number before after entry place next links rest link not passes =
       | inr x ↦ inr (x.0, ap (λ (l : List ChainLink). l ++ link ∷ []) x.1, x.2, x.3, x.4, x.5)
     ]
 
--- by an entry that leaves the place alone
+-- with an entry that leaves the place unchanged
 pub snoc_alone : (es : List Entry) (number : ℕ) (old mid new : Machine) (entry : Entry) (first place : Place) (links : List ChainLink) → PassesAll number old es mid first links place
     → Does mid entry new → LeavesAlone (entry_event mid entry new) place → PassesAll number old (es ++ entry ∷ []) new first links place
 snoc_alone [] number old mid new entry first place links h does alone =
@@ -31,7 +31,7 @@ snoc_alone [] number old mid new entry first place links h does alone =
 snoc_alone (e ∷ es) number old mid new entry first place links h does alone =
     (h.0, h.1, h.2, h.3, h.4, snoc_alone es (suc number) h.0 mid new entry h.2 place h.3 h.5 does alone)
 
--- by an entry that brings a link
+-- with an entry that is the transfer of a link
 pub snoc_brings : (es : List Entry) (number : ℕ) (old mid new : Machine) (entry : Entry) (first : Place) (links : List ChainLink) (link : ChainLink)
     → PassesAll number old es mid first links link.source → Does mid entry new → BringsTold mid entry new link → link.entry ≡ number + length es
     → PassesAll number old (es ++ entry ∷ []) new first (links ++ link ∷ []) link.target

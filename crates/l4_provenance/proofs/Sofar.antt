@@ -1,4 +1,4 @@
--- What came to a place over the entries that are done.
+-- What was moved to a place by the entries that were executed.
 use Rattle.std.proofs.Common.{◌≡◌, ℕ, ◌+◌, ◌<◌, ◌≤◌, inl, inr, List, [], ◌∷◌, ◌++◌, length, take, drop, slice_get, Option, Some, None, IsTrue, is_some, refl, sym, ap, ◌∙◌, subst, arith}
 use Rattle.std.proofs.lemmas.List.{take_all, take_more, drop_more, take-append-drop, length-take-le}
 use Rattle.std.proofs.lemmas.Option.{slice_get_within, get_or_from_slice_get}
@@ -30,7 +30,7 @@ shown_in : (o : Option Mapping) → IsTrue (is_some o) → (m : Mapping) × (o �
 shown_in (Some m) h = (m, refl)
 shown_in None h = absurd (false≢true h)
 
--- so many entries are done, and if the place is present, this is the last link that came to it
+-- this number of entries has been executed; if the place is present, this is the last link to it
 pub record Sofar (boot : Machine) (history : List Entry) (number : ℕ) (now : Machine) (place : Place) (last : Option ChainLink) : Type 0 where
   pub within : number ≤ length history
   pub events : HasEvents boot (take number history) now
@@ -82,7 +82,7 @@ module _ (boot : Machine) (history : List Entry) (number : ℕ) (now after : Mac
     on = λ origin links chain. alone_more origin (links ++ link ∷ []) alone (h.on origin links chain);
   }
 
-  -- what is not brought is left alone
+  -- a place to which no link leads is left unchanged
   left_alone : Brought number now entry place None → IsPresent after.mappings place → LeavesAlone (entry_event now entry after) place
   left_alone none there =
       let shows = shown_in (shown after.mappings place) there in
@@ -122,7 +122,7 @@ module _ (boot : Machine) (history : List Entry) (number : ℕ) (now after : Mac
     came = λ there. came_next link last f brought there;
   }
 
--- at the end, where a link came last
+-- at the end, if there was a link
 pub sofar_by : (boot : Machine) (history : List Entry) (number count : ℕ) (now : Machine) (place : Place) (last : Option ChainLink) (link : ChainLink) → Sofar boot history number now place last
     → number ≡ count → last ≡ Some link → IsPresent now.mappings place → Arrived boot history count place now (By link)
 sofar_by boot history number count now place last link f end is there = record {

@@ -12,7 +12,7 @@ use l4_ipc::{Kernel, PageSize, Place, Refused};
 use l4_record::History;
 use std::alloc::Global;
 
-/// How the place came to what it shows after the first entries of a history, so many, which are done on a kernel of its own.
+/// Executes this number of entries from the start of a history on a new kernel. Returns how the place got the mapping that it then has.
 fn arrival(
     alloc: Global,
     frames: u32,

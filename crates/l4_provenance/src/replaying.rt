@@ -19,11 +19,11 @@ pub enum Arrival {
     Absent,
     /// Nothing was moved to it since boot.
     AtBoot,
-    /// By this link. Nothing was moved to it since.
+    /// This link moved it there. Nothing was moved there since.
     By(ChainLink),
 }
 
-/// Does the step of the entry of this number once more.
+/// Executes the step of the entry with this number again.
 fn again(kernel: &mut Kernel, number: usize, entry: &Entry) -> Result<(), ReplayFault>
     ensures ok { IfOk result (λ _. Does kernel.old entry.now kernel.new) }
     ensures err { IfErr result (FailsAt number kernel.old entry.now) }
@@ -43,7 +43,7 @@ fn again(kernel: &mut Kernel, number: usize, entry: &Entry) -> Result<(), Replay
     }
 }
 
-/// The link that the entry would bring to the place, if it delivers.
+/// Returns the link of the entry to the place, if the entry is a delivered transfer that moves a page there.
 fn delivered_link(kernel: &Kernel, number: usize, entry: &Entry, place: Place) -> Option<ChainLink>
     ensures { Brought number kernel.now entry.now place result }
 {
@@ -53,7 +53,7 @@ fn delivered_link(kernel: &Kernel, number: usize, entry: &Entry, place: Place) -
     link_to(kernel, number, &entry.step, place)
 }
 
-/// The newer of two links.
+/// Returns the newer of two links.
 fn newer_of(link: Option<ChainLink>, last: Option<ChainLink>) -> Option<ChainLink>
     ensures { result ≡ newer link last }
 {

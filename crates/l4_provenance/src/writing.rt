@@ -8,7 +8,7 @@ use l4_chains::ChainLink;
 use l4_ipc::{Fpage, Item, Kernel, Place, Step};
 use l4_msg::item_moves;
 
-/// What is sent, from which space to which, and where it is received.
+/// The items of a transfer, the spaces of its sender and receiver, and the receive window.
 #[derive(Clone, Copy)]
 struct Letter<'a> {
     from: u64,
@@ -17,7 +17,7 @@ struct Letter<'a> {
     window: Fpage,
 }
 
-/// The letter of a step that is a transfer from a thread that sends to one that receives.
+/// Returns the letter of the step, if it is a transfer from a thread that sends to one that receives.
 fn letter_of<'a>(kernel: &'a Kernel, step: &Step) -> Option<Letter<'a>>
     ensures { MatchOption result ((«from» to : ℕ) (items : List AnItem) (window : AnFpage) → ¬ (AreParties kernel.now step.now «from» to items window))
         (λ l. AreParties kernel.now step.now l.«from» l.to l.items.now l.window) }
@@ -39,7 +39,7 @@ fn letter_of<'a>(kernel: &'a Kernel, step: &Step) -> Option<Letter<'a>>
     }
 }
 
-/// The link of this item to the place, told as one of the entry of this number.
+/// Returns the link of this item to the place, for the entry with this number, if the item moves a page there.
 fn link_by(
     kernel: &Kernel,
     letter: &Letter<'_>,
@@ -80,7 +80,7 @@ fn link_by(
     })
 }
 
-/// The link of the first item that has one to the place.
+/// Returns the link of the first item that moves a page to the place.
 fn first_link(
     kernel: &Kernel,
     letter: &Letter<'_>,
@@ -98,8 +98,7 @@ fn first_link(
     None
 }
 
-/// Returns the link of the step to the place, if it is a delivered transfer that moves a page there.
-///
+/// Returns the link of the step to the place, if its message has an item that moves a page there.
 pub fn link_to(kernel: &Kernel, number: usize, step: &Step, place: Place) -> Option<ChainLink>
     ensures { MatchOption result (¬ (IsWritten kernel.now step.now place)) (λ l. IsCarried kernel.now step.now l × (l.target ≡ place) × (l.entry ≡ number)) }
 {

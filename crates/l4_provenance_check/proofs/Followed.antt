@@ -1,4 +1,4 @@
--- A chain that was followed so far.
+-- The part of a chain that has been followed.
 use Rattle.std.proofs.Common.{◌≡◌, ℕ, suc, ◌+◌, ◌^◌, ◌<◌, inl, inr, List, [], ◌∷◌, ◌++◌, length, Ok, refl, sym, ap, ◌∙◌, subst, arith}
 use Rattle.std.proofs.lemmas.List.{append-nil, length-append, length_push}
 use mathlib.Core.List.{append_assoc}
@@ -19,7 +19,7 @@ use Rattle.l4_chains.specs.Inside.Redoing.{FailsAt}
 use Rattle.l4_chains.specs.Replays.{FailsIn}
 use Rattle.l4_provenance_check.specs.Inside.Following.{NonePasses, Walked}
 
--- Of the entries some are done, which lead to the machine, and with the links that are left the chain leads on from the place just if all of it leads over all of them.
+-- The earlier entries lead to this machine. The links that are left lead on from the place over the rest exactly if all links lead over the whole history.
 pub record Followed (old : Machine) (history : List Entry) (last : Place) (links : List ChainLink) (number : ℕ) (now : Machine) (place : Place) (left : List ChainLink) (rest : List Entry) : Type 0 where
   pub earlier : List Entry
   pub history_is : history ≡ earlier ++ rest
@@ -44,7 +44,7 @@ module _ (old : Machine) (history : List Entry) (last : Place) (links : List Cha
 
   module _ (number : ℕ) (now after : Machine) (place next : Place) (left later : List ChainLink) (entry : Entry) (rest others : List Entry) (is : rest ≡ entry ∷ others)
       (f : Followed old history last links number now place left rest) where
-    -- the entry has one way over it
+    -- the chain passes the entry to one place, with one rest of links
     one_end : (p : Place) (l : List ChainLink) → Passes number now entry after place left p l → Passes number now entry after place left next later → (p ≡ next) × (l ≡ later)
     one_end p l a b =
         elim a [
@@ -87,7 +87,7 @@ module _ (old : Machine) (history : List Entry) (last : Place) (links : List Cha
               (subst (λ (m : Machine). PassesAll (suc number) m others new all.2 all.3 last) same all.5))));
         }
 
-  -- where no entry is left
+  -- if no entry is left
   module _ (number : ℕ) (now : Machine) (place : Place) (left : List ChainLink) (rest : List Entry) (none : rest ≡ []) (f : Followed old history last links number now place left rest) where
     pub walked_all : left ≡ [] → place ≡ last → IsPresent now.mappings last → Walked old history last links
     walked_all empty there present =
@@ -103,7 +103,7 @@ module _ (old : Machine) (history : List Entry) (last : Place) (links : List Cha
         let end : PassesAll number now [] w.now place left last = subst (λ (es : List Entry). PassesAll number now es w.now place left last) none (f.back w.now w.passes) in
         (end.1, end.2, subst (λ (m : Machine). IsPresent m.mappings last) end.0 w.present)
 
-  -- where the chain leads nowhere, or the entry is not done
+  -- if the chain does not pass the entry, or the entry is not replayed
   module _ (number : ℕ) (now : Machine) (place : Place) (left : List ChainLink) (entry : Entry) (rest others : List Entry) (is : rest ≡ entry ∷ others)
       (f : Followed old history last links number now place left rest) where
     pub stuck : NonePasses number now entry place left → ¬ (IsWalked old history last links)

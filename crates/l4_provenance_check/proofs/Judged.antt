@@ -1,4 +1,4 @@
--- What the walk over a history says of a provenance.
+-- The result of following the links is the clause of the check.
 use Rattle.std.proofs.Common.{◌≡◌, ℕ, ◌≤◌, ◌↔◌, Bool, List, Result, Ok, Err, IsTrue, IfOk, IfErr, MatchResult}
 use Rattle.l4_fpage.specs.Pages.{max_frames}
 use Rattle.l4_fpage.specs.declared.sizes.PageSize.{PageSize}

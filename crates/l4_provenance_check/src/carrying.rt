@@ -18,7 +18,7 @@ struct Sides<'a> {
     window: Fpage,
 }
 
-/// Whether the move takes this page to that one.
+/// Returns whether the move takes the source page to the target page.
 fn is_pair(pages: &Move, source: u32, target: u32) -> bool
     ensures { IsTrue result ↔ MovePairs (Some pages.now) source target }
 {
@@ -28,7 +28,7 @@ fn is_pair(pages: &Move, source: u32, target: u32) -> bool
     pages.target.first + (source - pages.source.first) == target
 }
 
-/// The two sides of the step, where it is a transfer from a thread that sends to one that receives.
+/// Returns the two sides of the step, if it is a transfer from a thread that sends to one that receives.
 fn parties<'a>(kernel: &'a Kernel, step: &Step) -> Option<Sides<'a>>
     ensures { MatchOption result ((«from» to : ℕ) (items : List AnItem) (window : AnFpage) → ¬ (AreParties kernel.now step.now «from» to items window))
         (λ p. AreParties kernel.now step.now p.«from» p.to p.items.now p.window) }
@@ -48,7 +48,8 @@ fn parties<'a>(kernel: &'a Kernel, step: &Step) -> Option<Sides<'a>>
     })
 }
 
-/// Whether the link names these rights of its source and those of this item, which share one, and whether the item grants.
+/// Returns whether the link has these rights of its source, and the rights and the kind (map or grant) of this item, and
+/// whether the rights have one in common.
 fn has_rights(item: &Item, shows: Rights, link: &ChainLink) -> bool
     ensures { IsTrue result ↔ AreRights item.now shows link.now }
 {
@@ -65,7 +66,7 @@ fn has_rights(item: &Item, shows: Rights, link: &ChainLink) -> bool
     link.item_rights.bits() == rights.bits()
 }
 
-/// Whether this item moves the link's page, with the rights that the link names.
+/// Returns whether this item moves the link's page, with the link's rights.
 fn is_carried_by(kernel: &Kernel, sides: &Sides<'_>, item: &Item, link: &ChainLink) -> bool
     ensures { IsTrue result ↔ IsCarriedBy kernel.now.size kernel.now.mappings sides.now.«from» sides.now.to sides.now.window item.now link.now }
 {
@@ -87,7 +88,7 @@ fn is_carried_by(kernel: &Kernel, sides: &Sides<'_>, item: &Item, link: &ChainLi
     has_rights(item, shows.rights, link)
 }
 
-/// Whether one of the items moves the link's page.
+/// Returns whether one of the items moves the link's page.
 fn any_carries(kernel: &Kernel, sides: &Sides<'_>, link: &ChainLink) -> bool
     ensures { IsTrue result ↔ AnyCarries kernel.now.size kernel.now.mappings sides.now.«from» sides.now.to sides.now.items.now sides.now.window link.now }
 {
@@ -109,7 +110,7 @@ pub fn is_carried(kernel: &Kernel, step: &Step, link: &ChainLink) -> bool
     }
 }
 
-/// Whether this item moves a page to the place.
+/// Returns whether this item moves a page to the place.
 fn is_written_by(kernel: &Kernel, sides: &Sides<'_>, item: &Item, place: Place) -> bool
     ensures { IsTrue result ↔ IsWrittenBy kernel.now.size kernel.now.mappings sides.now.«from» sides.now.to sides.now.window item.now place }
 {
@@ -129,7 +130,7 @@ fn is_written_by(kernel: &Kernel, sides: &Sides<'_>, item: &Item, place: Place) 
     !shows.rights.intersection(item.fpage().rights()).is_empty()
 }
 
-/// Whether one of the items moves a page to the place.
+/// Returns whether one of the items moves a page to the place.
 fn any_writes(kernel: &Kernel, sides: &Sides<'_>, place: Place) -> bool
     ensures { IsTrue result ↔ AnyWrites kernel.now.size kernel.now.mappings sides.now.«from» sides.now.to sides.now.items.now sides.now.window place }
 {

@@ -13,7 +13,7 @@ use l4_ipc::{Kernel, PageSize, Place, Refused};
 use l4_record::History;
 use std::alloc::Global;
 
-/// The place at which the chain begins.
+/// Returns the place at which the chain begins.
 fn origin(links: &[ChainLink], place: Place) -> Place
     ensures { result ≡ origin_of links.now place }
 {

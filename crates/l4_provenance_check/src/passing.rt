@@ -14,14 +14,14 @@ use l4_chains::{ChainLink, ReplayFault};
 use l4_ipc::{Kernel, Lower, Outcome, Place, Refused};
 use l4_record::Entry;
 
-/// Whether the entry delivered a message.
+/// Returns whether the entry delivered a message.
 fn is_done(entry: &Entry) -> bool
     ensures { IsTrue result ↔ (entry.now.answer.outcome ≡ Done) }
 {
     entry.answer.outcome == Outcome::Done
 }
 
-/// Does the step of an entry, which is to give the answer that the history says.
+/// Executes the step of an entry. It must get the answer that the history says.
 fn redo(kernel: &mut Kernel, number: usize, entry: &Entry) -> Result<(), ReplayFault>
     ensures ok { IfOk result (λ _. Does kernel.old entry.now kernel.new) }
     ensures err { IfErr result (FailsAt number kernel.old entry.now) }
@@ -41,7 +41,7 @@ fn redo(kernel: &mut Kernel, number: usize, entry: &Entry) -> Result<(), ReplayF
     }
 }
 
-/// Does the entry, and tells whether it leaves the place alone.
+/// Executes the entry. Returns whether it leaves the place unchanged.
 fn leaves_alone(
     kernel: &mut Kernel,
     number: usize,
@@ -70,7 +70,7 @@ fn leaves_alone(
     Ok(!written)
 }
 
-/// Does the entry, and tells whether it brings the link.
+/// Executes the entry. Returns whether it is the transfer of the link.
 fn brings(
     kernel: &mut Kernel,
     number: usize,
@@ -91,7 +91,7 @@ fn brings(
     Ok(carried)
 }
 
-/// The first link and those behind it, where it is of the entry of this number.
+/// Returns the first link and the others, if the first is the one of the entry with this number.
 fn due(left: &[ChainLink], number: usize) -> Option<(&ChainLink, &[ChainLink])>
     ensures { MatchOption result (IsNotDue number left.now) (λ d. (left.now ≡ d.0.now ∷ d.1.now) × (d.0.now.entry ≡ number)) }
 {
@@ -119,7 +119,6 @@ pub fn is_at(a: Place, b: Place) -> bool
 
 /// Replays the entry with this number, and follows the chain across it. Returns the next place and the links that are
 /// left, or `None` if the chain does not lead across it.
-///
 pub fn pass<'a>(
     kernel: &mut Kernel,
     number: usize,

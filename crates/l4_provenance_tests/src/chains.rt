@@ -203,3 +203,16 @@ fn not_replayed(rt: HostRuntime) {
         Ok(false)
     );
 }
+
+/// There is no kernel with 0 or 5,000 frames, so the check is refused, even for a history without entries.
+#[test]
+fn no_such_kernel(rt: HostRuntime) {
+    let alloc = rt.alloc();
+    let (recorder, _, _) = Recorder::new(alloc, FRAMES, SIZE, 0).expect(&rt, "a recorder");
+    let history = recorder.history();
+    for frames in [0, 5000] {
+        let told = check_provenance(alloc, frames, SIZE, history, page(0, 0), &[]);
+        assert_eq!(rt; told, Err(ReplayFault::BadFrames));
+    }
+    assert!(rt; judges(alloc, history, page(0, 0), &[], true));
+}

@@ -1,4 +1,4 @@
--- What a transfer would bring, read from the machine before it.
+-- What a transfer would move, read from the machine before it.
 use Rattle.std.specs.Prelude.{◌≡◌, ◌≢◌, ℕ, List, Some, Contains}
 use Rattle.l4_fpage.specs.Rights.{RightsSet, common, no_rights}
 use Rattle.l4_fpage.specs.Fpages.{rights_of}
@@ -19,7 +19,7 @@ use Rattle.l4_ipc.specs.declared.steps.Step.TheVariants.{Transfer}
 use Rattle.l4_ipc.specs.Machine.{Machine}
 use Rattle.l4_chains.specs.declared.links.ChainLink.{ChainLink}
 
--- the step is a transfer from a thread of the one space, which sends these items, to one of the other, which receives in this window
+-- the step is a transfer from a thread of one space, which sends these items, to a thread of the other space, which receives in this window
 pub record AreParties (m : Machine) (step : Step) («from» to : ℕ) (items : List Item) (window : Fpage) : Type 0 where
   pub sender : ℕ
   pub receiver : ℕ
@@ -37,7 +37,7 @@ pub record AreParties (m : Machine) (step : Step) («from» to : ℕ) (items : L
   pub items_is : items ≡ sends.items.items
   pub window_is : window ≡ takes.window
 
--- this item moves the link's page, with these rights on both sides
+-- this item moves the link's page, with the link's rights on both sides
 pub record IsCarriedBy (size : PageSize) (s : Mappings) («from» to : ℕ) (window : Fpage) (item : Item) (link : ChainLink) : Type 0 where
   pub from_space : link.source.space ≡ «from»
   pub to_space : link.target.space ≡ to
@@ -62,7 +62,7 @@ IsCarried m step link =
 abbrev pub IsWritten : Machine → Step → Place → Type 0
 IsWritten m step place = (link : ChainLink) × IsCarried m step link × (link.target ≡ place)
 
--- the link names these rights of its source, and those of the item, which share one, and whether the item grants
+-- the link has these rights of its source, and the rights and the kind (map or grant) of the item; the rights have one in common
 pub record AreRights (item : Item) (shows : RightsSet) (link : ChainLink) : Type 0 where
   pub grant : link.grant ≡ is_grant item
   pub source_rights : link.source_rights ≡ shows

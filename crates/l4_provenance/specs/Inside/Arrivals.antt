@@ -1,4 +1,4 @@
--- How a place came to what it shows, over the first entries of a history.
+-- How a place got its mapping, over the first entries of a history.
 use Rattle.std.specs.Prelude.{◌≡◌, ℕ, ◌<◌, List, [], ◌∷◌, ◌++◌, take, Option, Some, None}
 use Rattle.l4_mapdb.specs.declared.Place.{Place}
 use Rattle.l4_mapdb.specs.Mappings.{IsPresent}
@@ -12,7 +12,7 @@ use Rattle.l4_chains.specs.Inside.Walking.{PassesAll}
 use Rattle.l4_provenance.specs.declared.replaying.Arrival.{Arrival}
 use Rattle.l4_provenance.specs.declared.replaying.Arrival.TheVariants.{Absent, AtBoot, By}
 
--- the link that the entry of this number brings to the place, if it delivers one
+-- the link of the entry with this number to the place, if the entry is a delivered transfer that moves a page there
 abbrev pub Brought : ℕ → Machine → Entry → Place → Option ChainLink → Type 0
 Brought number m entry place None = entry.answer.outcome ≡ Done → ¬ (IsWritten m entry.step place)
 Brought number m entry place (Some link) = (entry.answer.outcome ≡ Done) × IsCarried m entry.step link × (link.target ≡ place) × (link.entry ≡ number)
@@ -22,8 +22,8 @@ abbrev pub newer : Option ChainLink → Option ChainLink → Option ChainLink
 newer None last = last
 newer (Some link) last = Some link
 
--- After the first entries, so many, the place is as the link brought it: a chain to the link's source just before the link goes on by it, and
--- leads to the place.
+-- After this number of entries, the place has the mapping that the link moved there: a chain to the link's source just before the link
+-- continues with the link, and leads to the place.
 pub record CameBy (boot : Machine) (history : List Entry) (count : ℕ) (now : Machine) (place : Place) (link : ChainLink) : Type 0 where
   pub below : link.entry < count
   pub before : Machine
@@ -32,18 +32,18 @@ pub record CameBy (boot : Machine) (history : List Entry) (count : ℕ) (now : M
   pub on : (origin : Place) (links : List ChainLink) → PassesAll 0 boot (take link.entry history) before origin links link.source
       → PassesAll 0 boot (take count history) now origin (links ++ link ∷ []) place
 
--- the place is as a link brought it, or else as it was at boot
+-- the place has the mapping that a link moved there, or the one that it had at boot
 abbrev pub Came : Machine → List Entry → ℕ → Machine → Place → Option ChainLink → Type 0
 Came boot history count now place None = PassesAll 0 boot (take count history) now place [] place
 Came boot history count now place (Some link) = CameBy boot history count now place link
 
--- what an arrival says
+-- what an arrival states
 abbrev pub How : Machine → List Entry → ℕ → Machine → Place → Arrival → Type 0
 How boot history count now place Absent = ¬ (IsPresent now.mappings place)
 How boot history count now place AtBoot = IsPresent now.mappings place × Came boot history count now place None
 How boot history count now place (By link) = IsPresent now.mappings place × Came boot history count now place (Some link)
 
--- the first entries lead to this machine, and what is said of the place holds there
+-- the first entries lead to this machine, and the arrival describes the place there
 pub record Arrived (boot : Machine) (history : List Entry) (count : ℕ) (place : Place) (now : Machine) (arrival : Arrival) : Type 0 where
   pub events : HasEvents boot (take count history) now
   pub how : How boot history count now place arrival

@@ -7,11 +7,11 @@ use Rattle.l4_record.specs.History.{HasEvents}
 use Rattle.l4_chains.specs.declared.links.ChainLink.{ChainLink}
 use Rattle.l4_chains.specs.Inside.Walking.{Does, Passes, IsWalked}
 
--- over the entry the chain leads nowhere
+-- the chain does not pass the entry
 abbrev pub NonePasses : ℕ → Machine → Entry → Place → List ChainLink → Type 0
 NonePasses number before entry place links = (after : Machine) (next : Place) (rest : List ChainLink) → Does before entry after → ¬ (Passes number before entry after place links next rest)
 
--- the links lead over the whole history to the place, which is present then, and the mappings were a forest at all times
+-- the links lead over the whole history to the place, which is then present, and the mappings were a forest at all times
 pub record Walked (boot : Machine) (history : List Entry) (place : Place) (links : List ChainLink) : Type 0 where
   pub walked : IsWalked boot history place links
   pub events : HasEvents boot history walked.now
