@@ -109,6 +109,10 @@ Refuses l n call (ByKernel e) =
     ¬ (IsTrue (reply_waits l.books n)) × (length l.history ≤ last_start)
     × (((book_at l.books n ≡ None) × (e ≡ UnknownThread)) ⊎ ((book_at l.books n ≢ None) × Steps l.kernel (Start n call) (Err e) l.kernel))
 
+-- why a number is given no seat: it was given one before; or it was not, and an allocation failed
+abbrev pub RefusesSeat : Lock → ℕ → LockRefusal → Type 0
+RefusesSeat l n e = ((e ≡ SeatTaken) × (book_at l.books n ≢ None)) ⊎ ((e ≡ NoMemory) × (book_at l.books n ≡ None))
+
 -- what `enter` answers of a call that was entered
 abbrev pub Tells : Lock → Lock → SeatState → SeatState → Call → Entered → Type 0
 Tells old new before after call (Done reply) = EndsAtOnce old new before after call reply

@@ -5,7 +5,7 @@ use Rattle.l4_ipc.specs.declared.calls.Call.{Call}
 use Rattle.l4_lock.specs.declared.entries.Receipt.{Receipt}
 use Rattle.l4_pager.specs.declared.serving.GateFault.{GateFault}
 use Rattle.l4_lock.specs.Books.{SeatState}
-use Rattle.l4_lock.specs.Locked.{Lock, IsKept, Refuses}
+use Rattle.l4_lock.specs.Locked.{Lock, IsKept, Refuses, RefusesSeat}
 use Rattle.l4_lock.specs.declared.refusals.LockRefusal.{LockRefusal}
 use Rattle.l4_lock.specs.declared.refusals.LockRefusal.TheVariants.{HistoryFull, NoMemory, ReplyWaiting, SeatTaken, Kernel as ByKernel}
 
@@ -21,6 +21,10 @@ pub record IsAnswered (before after : SeatState) (call : Call) (reply : Reply) :
 -- Why a call is not entered through the shared lock: what stood under it then, of which all holds that the type keeps, refuses it so.
 abbrev pub Declines : ℕ → Call → LockRefusal → Type 0
 Declines n call e = (l : Lock) × IsKept l × Refuses l n call e
+
+-- Why a number is given no seat through the shared lock: what stood under it then, of which all holds that the type keeps, refuses it so.
+abbrev pub DeclinesSeat : ℕ → LockRefusal → Type 0
+DeclinesSeat n e = (l : Lock) × IsKept l × RefusesSeat l n e
 
 -- what a contract sees of a gate: its seat, and how many receipts the seat had when the gate began
 pub record GateState : Type 0 where
