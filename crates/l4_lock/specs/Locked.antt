@@ -109,6 +109,10 @@ Refuses l n call (ByKernel e) =
     ¬ (IsTrue (reply_waits l.books n)) × (length l.history ≤ last_start)
     × (((book_at l.books n ≡ None) × (e ≡ UnknownThread)) ⊎ ((book_at l.books n ≢ None) × Steps l.kernel (Start n call) (Err e) l.kernel))
 
+-- The number is given no seat: it has an account already, or it has none and an allocation failed.
+abbrev pub RefusesSeat : Lock → ℕ → LockRefusal → Type 0
+RefusesSeat l n e = ((e ≡ SeatTaken) × (book_at l.books n ≢ None)) ⊎ ((e ≡ NoMemory) × (book_at l.books n ≡ None))
+
 -- what the result of `enter` says about a call that was entered
 abbrev pub Tells : Lock → Lock → SeatState → SeatState → Call → Entered → Type 0
 Tells old new before after call (Done reply) = EndsAtOnce old new before after call reply

@@ -5,7 +5,7 @@ use Rattle.l4_ipc.specs.declared.calls.Call.{Call}
 use Rattle.l4_lock.specs.declared.entries.Receipt.{Receipt}
 use Rattle.l4_pager.specs.declared.serving.GateFault.{GateFault}
 use Rattle.l4_lock.specs.Books.{SeatState}
-use Rattle.l4_lock.specs.Locked.{Lock, IsKept, Refuses}
+use Rattle.l4_lock.specs.Locked.{Lock, IsKept, Refuses, RefusesSeat}
 use Rattle.l4_lock.specs.declared.refusals.LockRefusal.{LockRefusal}
 use Rattle.l4_lock.specs.declared.refusals.LockRefusal.TheVariants.{HistoryFull, NoMemory, ReplyWaiting, SeatTaken, Kernel as ByKernel}
 
@@ -22,6 +22,10 @@ pub record IsAnswered (before after : SeatState) (call : Call) (reply : Reply) :
 -- invariant of its type held.
 abbrev pub Declines : ℕ → Call → LockRefusal → Type 0
 Declines n call e = (l : Lock) × IsKept l × Refuses l n call e
+
+-- The number is given no seat through the shared lock, for a reason that holds for some locked kernel that keeps the invariant of its type.
+abbrev pub DeclinesSeat : ℕ → LockRefusal → Type 0
+DeclinesSeat n e = (l : Lock) × IsKept l × RefusesSeat l n e
 
 -- what a contract sees of a gate: its seat, and the number of receipts that the seat had when the gate was created
 pub record GateState : Type 0 where

@@ -5,8 +5,7 @@ ghost use Rattle.l4_fpage.specs.Pages.{max_frames};
 ghost use Rattle.l4_board.specs.Board.{IsNewWatch};
 ghost use Rattle.l4_lock.specs.Books.{seat_state};
 ghost use Rattle.l4_lock.specs.Locked.{IsKept, RefusesBoot};
-ghost use Rattle.l4_lock.specs.declared.refusals.LockRefusal.TheVariants.{SeatTaken, NoMemory as WantOfMemory};
-ghost use Rattle.l4_lock.specs.Shared.{IsAnswered, Declines, gate_state, pairs_of};
+ghost use Rattle.l4_lock.specs.Shared.{IsAnswered, Declines, DeclinesSeat, gate_state, pairs_of};
 
 use crate::copies::copy_call;
 use crate::locked::Locked;
@@ -75,11 +74,17 @@ impl KernelLock {
 
     /// Gives the number its seat, once.
     ///
-    /// Returns these refusals, tested in this order: `SeatTaken` (L4), `NoMemory` (L2).
+    /// Returns these refusals, tested in this order: `SeatTaken` (L4), if the number has an account under the lock; `NoMemory` (L2).
     pub fn seat<R: Wait>(&self, rt: &R, number: u32) -> Result<Seat, LockRefusal>
-        ensures { MatchResult result (λ s. s ≡ seat_state number 0 []) (λ e. (e ≡ SeatTaken) ⊎ (e ≡ WantOfMemory)) }
+        ensures { MatchResult result (λ s. s ≡ seat_state number 0 []) (DeclinesSeat number) }
     {
-        self.locked.lock(rt).seat(number)
+        let mut guard = self.locked.lock(rt);
+        guard.law_kept();
+        let seat = match guard.seat(number) {
+            Ok(seat) => seat,
+            Err(refusal) => return Err(refusal),
+        };
+        Ok(seat)
     }
 
     /// Enters a call, and waits until it has ended; the lock is free meanwhile. The seat gains a receipt with this call and the reply.

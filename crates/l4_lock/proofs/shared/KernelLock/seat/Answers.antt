@@ -1,0 +1,6 @@
+use Rattle.std.proofs.Common.{sym, ◌∙◌, subst}
+use Rattle.l4_lock.specs.Locked.{IsKept}
+use Rattle.l4_lock.proofs.shared.KernelLock.seat.Goals as goal
+
+pub returns-in-Err : goal.returns-in-Err
+returns-in-Err g c = (c.deref_mut.result.now, subst IsKept (c.deref.ensures ∙ sym c.deref_mut.ensures.value) c.law_kept.ensures, c.in-Err.ensures.1)
