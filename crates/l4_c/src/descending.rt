@@ -18,7 +18,7 @@ pub struct PlaceResult {
     pub reserved: u32,
 }
 
-/// A page as it is told to C.
+/// Returns the result for a page.
 fn place_told(place: &Place) -> PlaceResult
     ensures { result ≡ place_result place.now }
 {
@@ -29,7 +29,7 @@ fn place_told(place: &Place) -> PlaceResult
     }
 }
 
-/// Writes pages, as many as there is room for.
+/// Writes the pages to the array, up to its length, and leaves the elements after them as they are.
 fn write_places(places: &[Place], out: &mut [PlaceResult])
     ensures { out.new ≡ placed (map place_result places.now) out.old }
 {
@@ -41,7 +41,9 @@ fn write_places(places: &[Place], out: &mut [PlaceResult])
     }
 }
 
-/// Writes the pages that descend from a page, and says how many there are.
+/// Writes the pages that descend from a page to the array, up to its length, and returns how many there are.
+///
+/// Returns `NoMemory` if an allocation fails, and then writes nothing.
 fn list(kernel: &Kernel, space: u64, page: u32, out: &mut [PlaceResult]) -> CountResult
     ensures { ListsDescendants kernel.now space page out.old result out.new }
 {
@@ -60,7 +62,9 @@ fn list(kernel: &Kernel, space: u64, page: u32, out: &mut [PlaceResult]) -> Coun
     }
 }
 
-/// The pages that descend from a page of a space.
+/// Lists the pages that descend from a page of a space, as `list` does for the kernel in the handle.
+///
+/// Returns these refusals, tested in this order: B1, if the handle is empty; NoMemory.
 #[unsafe(no_mangle)]
 pub extern "C" fn l4_descendants(
     alloc: Global,

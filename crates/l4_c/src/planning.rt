@@ -33,7 +33,7 @@ pub struct PartResult {
     pub pages: [u32; MAX_ITEMS],
 }
 
-/// Returns a result with this refusal and these numbers, which are 0 if there is no plan.
+/// Returns a result with this refusal and these numbers. They are 0 if the region has no plan.
 fn plan_result(refusal: u32, items: u32, messages: u32) -> PlanResult
     ensures { result ≡ plan_result refusal items messages }
 {
@@ -79,7 +79,7 @@ pub extern "C" fn l4_plan_region_sized(given: &RegionGiven, page_bytes: u32) -> 
     }
 }
 
-/// Returns a result with this refusal and no message. `messages` is the number of messages of the plan, or 0 if there is no plan.
+/// Returns a result with this refusal and no message. `messages` is the number of messages of the plan, or 0 if the region has no plan.
 fn no_part(refusal: u32, messages: u32) -> PartResult
     ensures { result ≡ part_result refusal messages [] [] }
 {

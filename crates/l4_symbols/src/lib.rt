@@ -1,4 +1,4 @@
-//! Symbolic tokens, such as `tag:7` and `map:16+4>32:rwx`, and the words that they stand for.
+//! Symbolic tokens, such as `tag:7` and `map:16+4>32:rwx`, and their words.
 #![tactic(auto)]
 
 mod items;

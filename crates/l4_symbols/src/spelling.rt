@@ -36,7 +36,7 @@ fn first_of(text: &[u8], byte: u8) -> Option<usize>
     text.iter().position(|b| *b == byte)
 }
 
-/// Returns what stands before the first of these bytes in a text, and what stands behind it.
+/// Returns the parts of a text before and after the first occurrence of a byte. Returns `None` if the text has no such byte.
 #[tactic(auto, unfolding(crate::specs::Spelling::cut_at))]
 fn cut_at(text: &[u8], byte: u8) -> Option<(&[u8], &[u8])>
     ensures { option_map (λ p. (p.0.now, p.1.now)) result ≡ cut_at byte text.now }
