@@ -30,7 +30,7 @@ Answers (Some old) step r new =
 abbrev pub Boots : Option Machine → PageSize → ℕ → ℕ → Option Machine → Type 0
 Boots (Some old) size frames number new = (number ≡ spelled (codes "B2")) × (new ≡ Some old)
 Boots None size frames number new =
-    ((m : Machine) × (1 ≤ frames) × (frames ≤ max_frames) × (m.size ≡ size) × IsBoot frames m × (number ≡ 0) × (new ≡ Some m))
+    ((m : Machine) × IsBoot frames m × (m.size ≡ size) × (number ≡ 0) × (new ≡ Some m))
     ⊎ (((frames ≡ 0) ⊎ (max_frames < frames)) × (number ≡ spelled (codes "K6")) × (new ≡ None))
     ⊎ ((1 ≤ frames) × (frames ≤ max_frames) × (number ≡ spelled (codes "NoMemory")) × (new ≡ None))
 

@@ -31,7 +31,7 @@ use Rattle.l4_c.specs.declared.checking.Verdict.{Verdict}
 abbrev pub MakesLock : Option Lock → PageSize → ℕ → ℕ → Option Lock → Type 0
 MakesLock (Some old) size frames number new = (number ≡ spelled (codes "B2")) × (new ≡ Some old)
 MakesLock None size frames number new =
-    ((l : Lock) × (1 ≤ frames) × (frames ≤ max_frames) × (l.frames ≡ frames) × (l.kernel.size ≡ size) × IsBoot frames l.kernel × (l.history ≡ []) × (l.books ≡ [])
+    ((l : Lock) × (l.frames ≡ frames) × (l.kernel.size ≡ size) × IsBoot frames l.kernel × (l.history ≡ []) × (l.books ≡ [])
     × (number ≡ 0) × (new ≡ Some l))
     ⊎ (((frames ≡ 0) ⊎ (max_frames < frames)) × (number ≡ spelled (codes "K6")) × (new ≡ None))
     ⊎ ((1 ≤ frames) × (frames ≤ max_frames) × (number ≡ spelled (codes "NoMemory")) × (new ≡ None))

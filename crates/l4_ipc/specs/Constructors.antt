@@ -6,7 +6,7 @@ use Rattle.l4_fpage.specs.declared.fpages.Fpage.{Fpage}
 use Rattle.l4_threads.specs.declared.ThreadId.{ThreadId}
 use Rattle.l4_unmap.specs.Unmap.{UnmapReads, with_own}
 use Rattle.l4_ipc.specs.declared.calls.Call.{Call}
-use Rattle.l4_ipc.specs.declared.calls.Call.TheVariants.{Ipc, Fault, Unmap, Control}
+use Rattle.l4_ipc.specs.declared.calls.Call.TheVariants.{Ipc, Unmap}
 use Rattle.l4_ipc.specs.declared.calls.IpcCall.{IpcCall}
 use Rattle.l4_ipc.specs.declared.constructors.Timeout.{Timeout}
 use Rattle.l4_ipc.specs.declared.constructors.Timeout.TheVariants.{Never, Zero}
@@ -26,9 +26,7 @@ ipc_call to «from» send receive window words =
 -- no timeout of the call is refused
 abbrev pub HasGoodTimeouts : Call → Type 0
 HasGoodTimeouts (Ipc call) = has_bad_timeout call ≡ false
-HasGoodTimeouts (Fault call) = ⊤
-HasGoodTimeouts (Unmap call) = ⊤
-HasGoodTimeouts (Control control) = ⊤
+HasGoodTimeouts other = ⊤
 
 -- the word is read as the fpage
 abbrev pub IsWordOf : Fpage → ℕ → Type 0
@@ -37,6 +35,4 @@ IsWordOf fpage word = ReadsAs word fpage
 -- the call is an Unmap that is read as exactly these fpages, and that includes the caller's own pages if `own` is true
 abbrev pub IsUnmapOf : Bool → List Fpage → Call → Type 0
 IsUnmapOf own fpages (Unmap call) = UnmapReads call.control call.words.items fpages × (with_own call.control ≡ own)
-IsUnmapOf own fpages (Ipc call) = ⊥
-IsUnmapOf own fpages (Fault call) = ⊥
-IsUnmapOf own fpages (Control control) = ⊥
+IsUnmapOf own fpages other = ⊥

@@ -10,7 +10,7 @@ use Rattle.l4_msg.specs.declared.items.Item.{Item}
 use Rattle.l4_mapdb.specs.Mappings.{Mappings, shown}
 use Rattle.l4_mapdb.specs.Transfer.{PageMove, IsEntangled, NeedsPlace, Transfers}
 use Rattle.l4_ipc.specs.declared.steps.Outcome.{Outcome}
-use Rattle.l4_ipc.specs.declared.steps.Outcome.TheVariants.{Started, Done, NoWindow, Entangled, NoMemory, Expired}
+use Rattle.l4_ipc.specs.declared.steps.Outcome.TheVariants.{Done, NoWindow, Entangled, NoMemory}
 use Rattle.l4_fpage.specs.declared.sizes.PageSize.{PageSize}
 
 -- The move is used: the item with its number moves its source to its target in the window, the source is present, and source and item have
@@ -40,5 +40,4 @@ module _ (size : PageSize) (old : Mappings) («from» to : ℕ) (items : List It
   Moves Entangled new = ¬ LacksWindow × IsEntangled Used old × (new ≡ old)
   Moves NoMemory new = ¬ LacksWindow × ¬ (IsEntangled Used old) × NeedsPlace Used old × (new ≡ old)
   Moves Done new = ¬ LacksWindow × ¬ (IsEntangled Used old) × Transfers Used old new
-  Moves Started new = ⊥
-  Moves Expired new = ⊥
+  Moves other new = ⊥

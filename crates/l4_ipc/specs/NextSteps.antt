@@ -1,27 +1,19 @@
 -- Next steps with their answers, without a list of threads (this profile's own).
-use Rattle.std.specs.Prelude.{ℕ, Bool, [], ◌∷◌, ◌++◌}
+use Rattle.std.specs.Prelude.{[], ◌∷◌, ◌++◌}
 use Rattle.l4_ipc.specs.declared.steps.Answer.{Answer}
 use Rattle.l4_ipc.specs.declared.steps.NextStep.{NextStep}
 use Rattle.l4_ipc.specs.declared.steps.NextStep.TheVariants.{Transfer as Transferred, Expire as Expires}
-use Rattle.l4_ipc.specs.declared.steps.Outcome.{Outcome}
 use Rattle.l4_ipc.specs.declared.steps.Outcome.TheVariants.{Expired}
 use Rattle.l4_ipc.specs.declared.steps.Step.{Step}
 use Rattle.l4_ipc.specs.declared.steps.Step.TheVariants.{Transfer, Expire}
 use Rattle.l4_ipc.specs.OwnCall.{ended_if}
-
--- the answer of a transfer: the receiver's call ended, and before it the sender's if `ends` is true
-abbrev pub transfer_answer : ℕ → ℕ → Outcome → Bool → Answer
-transfer_answer sender receiver outcome ends = record { outcome = outcome; ended = record { items = ended_if ends sender ++ receiver ∷ [] } }
-
-abbrev pub expire_answer : ℕ → Answer
-expire_answer n = record { outcome = Expired; ended = record { items = n ∷ [] } }
 
 -- the step
 abbrev pub step_of : NextStep → Step
 step_of (Transferred sender receiver outcome ends) = Transfer sender receiver
 step_of (Expires n) = Expire n
 
--- its answer
+-- its answer; in a transfer the receiver's call ended, and before it the sender's if `ends` is true
 abbrev pub answer_of : NextStep → Answer
-answer_of (Transferred sender receiver outcome ends) = transfer_answer sender receiver outcome ends
-answer_of (Expires n) = expire_answer n
+answer_of (Transferred sender receiver outcome ends) = record { outcome = outcome; ended = record { items = ended_if ends sender ++ receiver ∷ [] } }
+answer_of (Expires n) = record { outcome = Expired; ended = record { items = n ∷ [] } }

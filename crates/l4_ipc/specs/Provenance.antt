@@ -23,10 +23,6 @@ use Rattle.l4_ipc.specs.declared.steps.Answer.{Answer}
 use Rattle.l4_ipc.specs.Moving.{IsUsedBy}
 use Rattle.l4_ipc.specs.Events.{Event, IsDelivery}
 
--- sigma0's space, where each page begins
-abbrev pub IsOfSigma0 : Place → Type 0
-IsOfSigma0 place = place.space ≡ 0
-
 -- CHAINS OF MOVES
 
 -- One transfer of a chain: the move of a page, with the mapping of its source just before the transfer, and the item that named the page.
@@ -64,7 +60,7 @@ Leads (event ∷ events) first links last =
 -- link's source had just before the transfer, those that each link's item named, and those of each place from which it now descends.
 pub record HasProvenance (start : Mappings) (events : List Event) (now : Mappings) (place : Place) (shows : Mapping) : Type 0 where
   pub origin : Place
-  pub of_sigma0 : IsOfSigma0 origin
+  pub of_sigma0 : origin.space ≡ 0
   pub first : Mapping
   pub at_start : shown start origin ≡ Some first
   pub links : List Link
@@ -100,7 +96,7 @@ pub record Flushes (event : Event) (place : Place) : Type 0 where
 -- no event since then removed it or wrote it again, and further links lead on from it.
 pub record LeadsThrough (start : Mappings) (earlier since rest : List Event) (through last : Place) : Type 0 where
   pub origin : Place
-  pub of_sigma0 : IsOfSigma0 origin
+  pub of_sigma0 : origin.space ≡ 0
   pub at_start : IsPresent start origin
   pub links : List Link
   pub there : Leads earlier origin links through

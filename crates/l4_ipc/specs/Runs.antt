@@ -10,5 +10,4 @@ use Rattle.l4_ipc.specs.Steps.{Steps}
 abbrev pub Run : Machine → List Step → List (Result Answer Refused) → Machine → Type 0
 Run old [] [] new = new ≡ old
 Run old (step ∷ steps) (answer ∷ answers) new = (between : Machine) × Steps old step answer between × Run between steps answers new
-Run old [] (answer ∷ answers) new = ⊥
-Run old (step ∷ steps) [] new = ⊥
+Run old steps answers new = ⊥

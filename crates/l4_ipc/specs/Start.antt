@@ -175,5 +175,4 @@ enters t n (Receives r) = start_receive t n r
 -- the list with this thread if its call ends, and otherwise the empty list
 abbrev pub ended_by : ℕ → Next → List ℕ
 ended_by n (Ends reply) = n ∷ []
-ended_by n (Sends s) = []
-ended_by n (Receives r) = []
+ended_by n other = []

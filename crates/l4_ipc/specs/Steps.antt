@@ -23,7 +23,7 @@ use Rattle.l4_ipc.specs.declared.calls.Control.TheVariants.{Create, SetPager, De
 use Rattle.l4_ipc.specs.declared.steps.Step.{Step}
 use Rattle.l4_ipc.specs.declared.steps.Step.TheVariants.{Start, Transfer, Expire}
 use Rattle.l4_ipc.specs.declared.steps.Outcome.{Outcome}
-use Rattle.l4_ipc.specs.declared.steps.Outcome.TheVariants.{Started, Done, NoWindow, Entangled, NoMemory, Expired}
+use Rattle.l4_ipc.specs.declared.steps.Outcome.TheVariants.{Started, Done, Expired}
 use Rattle.l4_ipc.specs.declared.steps.Answer.{Answer}
 use Rattle.l4_ipc.specs.declared.steps.Lower.TheVariants.{NoMemory as LowerNoMemory}
 use Rattle.l4_ipc.specs.declared.steps.Refused.{Refused}
@@ -60,8 +60,7 @@ pub record DeletesThread (caller victim space : ℕ) (old new : Machine) : Type 
 
 -- the mappings with one more space, which is empty, if a new space was requested
 abbrev pub with_space : Mappings → Bool → ℕ → Mappings
-with_space s true space = record s { spaces = set.insert s.spaces space }
-with_space s false space = s
+with_space s new space = if new then record s { spaces = set.insert s.spaces space } else s
 
 -- the effect of a call that is not refused, and the calls that end in it
 abbrev pub Starts : Machine → ℕ → Thread → Call → List ℕ → Machine → Type 0
@@ -89,13 +88,9 @@ Starts old n caller (Controls (Delete id)) ended new =
 
 -- only a Create of a new space that no refusal prevents can run out of memory
 abbrev pub LacksMemory : Machine → ℕ → Call → Type 0
-LacksMemory m n (Ipc call) = ⊥
-LacksMemory m n (Fault call) = ⊥
-LacksMemory m n (Unmap call) = ⊥
 LacksMemory m n (Controls (Create c)) =
     IsTrue (runs m.threads n) × ((space : ℕ) × (create_test m.threads n c.id c.space ≡ Ok space)) × IsTrue (asks_new c.id c.space)
-LacksMemory m n (Controls (SetPager c)) = ⊥
-LacksMemory m n (Controls (Delete id)) = ⊥
+LacksMemory m n other = ⊥
 
 -- TRANSFER
 
@@ -114,23 +109,18 @@ received «from» sends takes =
     if takes.fault then Answered else
     IpcReply (record { tag = slice_index sends.words.items 0; error = 0; «from» = «from».id; words = record { items = drop 1 sends.words.items } })
 
+-- the message was delivered
 abbrev pub is_done : Outcome → Bool
-is_done Started = false
 is_done Done = true
-is_done NoWindow = false
-is_done Entangled = false
-is_done NoMemory = false
-is_done Expired = false
+is_done other = false
 
 -- the receiver's reply: the message, if it was delivered, and otherwise ErrorCode 9
 abbrev pub receiver_reply : Bool → Thread → Sending → Receiving → Reply
-receiver_reply true «from» sends takes = received «from» sends takes
-receiver_reply false «from» sends takes = failed takes.fault 9
+receiver_reply done «from» sends takes = if done then received «from» sends takes else failed takes.fault 9
 
 -- what the sender does next: if the message was delivered, it continues with its receive phase; otherwise its call ends with ErrorCode 8
 abbrev pub sender_next : Bool → Threads → Sending → Next
-sender_next true t sends = going_on t sends.«then» sends.fault
-sender_next false t sends = Ends (failed sends.fault 8)
+sender_next done t sends = if done then going_on t sends.«then» sends.fault else Ends (failed sends.fault 8)
 
 -- the threads after a transfer: the receiver's call has ended, and the sender does what it does next
 abbrev pub after_transfer : Bool → Threads → ℕ → ℕ → Thread → Sending → Receiving → Threads

@@ -16,9 +16,10 @@ ghost use Rattle.l4_ipc.specs.Start.{has_send, has_bad_timeout, IsSent};
 ghost use Rattle.l4_ipc.specs.Inside.Turns.{reply_of, sent_of};
 ghost use Rattle.l4_ipc.specs.Inside.Answering.{answered_if, written};
 ghost use Rattle.l4_ipc.specs.OwnCall.{ended_if, own_answer};
-ghost use Rattle.l4_ipc.specs.NextSteps.{transfer_answer, expire_answer};
+ghost use Rattle.l4_ipc.specs.NextSteps.{answer_of};
 ghost use Rattle.l4_ipc.specs.Steps.{expiry, with_space, Steps};
 ghost use Rattle.l4_ipc.specs.declared.steps.Step.TheVariants.{Start, Transfer as Transfers, Expire as Expires};
+ghost use Rattle.l4_ipc.specs.declared.steps.NextStep.TheVariants.{Transfer as Transferred, Expire as Expiry};
 ghost use Rattle.l4_ipc.specs.declared.steps.Outcome.TheVariants.{Started};
 ghost use Rattle.l4_ipc.specs.declared.calls.Call.{Call};
 ghost use Rattle.l4_ipc.specs.declared.calls.Call.TheVariants.{Ipc, Fault as Faults, Unmap as Unmaps, Control as Controls};
@@ -401,7 +402,7 @@ pub fn carry_over(
 ) -> (Outcome, bool)
     requires spaces { HaveSpaces forest.old.spaces threads.old }
     requires enabled { IsFirstSender threads.old receiver sender }
-    ensures step { Steps (machine size threads.old forest.old) (Transfers sender receiver) (Ok (transfer_answer sender receiver result.0 result.1)) (machine size threads.new forest.new) }
+    ensures step { Steps (machine size threads.old forest.old) (Transfers sender receiver) (Ok (answer_of (Transferred sender receiver result.0 result.1))) (machine size threads.new forest.new) }
     ensures fits { FitIn size forest.old → FitIn size forest.new }
 {
     let Some(meeting) = meet(threads, sender, receiver) else {
@@ -431,7 +432,7 @@ pub fn carry_over(
 
 /// Returns the answer of a transfer.
 pub fn transfer_answer(sender: u32, receiver: u32, outcome: Outcome, ends: bool) -> Answer
-    ensures { result ≡ transfer_answer sender receiver outcome ends }
+    ensures { result ≡ answer_of (Transferred sender receiver outcome ends) }
 {
     let mut ended = list_if(ends, sender);
     ended.push(receiver);
@@ -472,7 +473,7 @@ fn expiry(state: &Activity) -> Ending
 
 /// Expires a zero timeout, and returns no answer.
 pub fn expire_untold(threads: &mut Threads, number: u32) -> Result<(), Refused>
-    ensures ok { IfOk result (λ _. (size : APageSize) (s : Mappings) → Steps (machine size threads.old s) (Expires number) (Ok (expire_answer number)) (machine size threads.new s)) }
+    ensures ok { IfOk result (λ _. (size : APageSize) (s : Mappings) → Steps (machine size threads.old s) (Expires number) (Ok (answer_of (Expiry number))) (machine size threads.new s)) }
     ensures err { IfErr result (λ e. (size : APageSize) (s : Mappings) → Steps (machine size threads.old s) (Expires number) (Err e) (machine size threads.new s)) }
 {
     if !threads.can_expire(number) {
@@ -488,7 +489,7 @@ pub fn expire_untold(threads: &mut Threads, number: u32) -> Result<(), Refused>
 
 /// Returns the answer of an expiry.
 pub fn expire_answer(number: u32) -> Answer
-    ensures { result ≡ expire_answer number }
+    ensures { result ≡ answer_of (Expiry number) }
 {
     Answer {
         outcome: Outcome::Expired,

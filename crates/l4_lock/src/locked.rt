@@ -1,6 +1,5 @@
 //! The locked kernel.
-ghost use Rattle.std.specs.Prelude.{◌≡◌, ◌≢◌, ◌⊎◌, ◌+◌, ◌≤◌, ℕ, List, [], ◌∷◌, ◌++◌, None, IfOk, IfErr, IfSome, IfNone, true, false, MatchOption, MatchResult, length, vec_len, ◌<◌};
-ghost use Rattle.l4_fpage.specs.Pages.{max_frames};
+ghost use Rattle.std.specs.Prelude.{◌≡◌, ◌≢◌, ◌⊎◌, ◌+◌, ℕ, List, [], ◌∷◌, ◌++◌, None, IfOk, IfErr, IfSome, IfNone, true, false, MatchOption, MatchResult, length, vec_len, ◌<◌};
 ghost use Rattle.l4_ipc.specs.Machine.{IsBoot};
 ghost use Rattle.l4_lock.specs.Books.{seat_state, book, book_at, reply_waits};
 ghost use Rattle.l4_lock.specs.Closing.{Closes, Mismatches, by_history};
@@ -61,7 +60,7 @@ impl Locked {
     ) -> Result<(Locked, Board, Vec<Watch>), LockRefusal>
         ensures { MatchResult result
             (λ r. (r.0.frames ≡ frames) × (r.0.kernel.size ≡ size) × IsBoot frames r.0.kernel × (r.0.history ≡ []) × (r.0.books ≡ []) × (r.1 ≡ r.0.board)
-            × (vec_len r.2 ≡ watches) × All (IsNewWatch r.0.board) r.2.items × (1 ≤ frames) × (frames ≤ max_frames))
+            × (vec_len r.2 ≡ watches) × All (IsNewWatch r.0.board) r.2.items)
             (RefusesBoot frames) }
     {
         let (recorder, board, watches) = match Recorder::new(alloc, frames, size, watches) {

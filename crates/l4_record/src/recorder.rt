@@ -1,7 +1,6 @@
 //! The recorder.
-ghost use Rattle.std.specs.Prelude.{◌≡◌, ◌<◌, ◌≤◌, ◌↔◌, [], IsTrue, IfOk, IfErr, MatchResult, length, vec_len};
+ghost use Rattle.std.specs.Prelude.{◌≡◌, ◌<◌, ◌↔◌, [], IsTrue, IfOk, IfErr, MatchResult, length, vec_len};
 ghost use Rattle.std.specs.List.{All};
-ghost use Rattle.l4_fpage.specs.Pages.{max_frames};
 ghost use Rattle.l4_board.specs.Board.{IsNewWatch};
 ghost use Rattle.l4_ipc.specs.Machine.{IsBoot};
 ghost use Rattle.l4_record.specs.Laws.{IsWholeRun};
@@ -66,7 +65,7 @@ impl Recorder {
     ) -> Result<(Recorder, Board, Vec<Watch>), RecordRefusal>
         ensures { MatchResult result
             (λ r. (r.0.frames ≡ frames) × (r.0.kernel.size ≡ size) × IsBoot frames r.0.kernel × (r.0.history ≡ []) × (r.1 ≡ r.0.board)
-            × (vec_len r.2 ≡ watches) × All (IsNewWatch r.0.board) r.2.items × (1 ≤ frames) × (frames ≤ max_frames))
+            × (vec_len r.2 ≡ watches) × All (IsNewWatch r.0.board) r.2.items)
             (RefusesBoot frames) }
     {
         let kernel = match Kernel::boot(alloc, frames, size) {

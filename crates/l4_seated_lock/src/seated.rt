@@ -1,6 +1,5 @@
 //! A locked kernel together with its seats.
-ghost use Rattle.std.specs.Prelude.{◌≡◌, ◌≢◌, ◌⊎◌, ◌+◌, ◌≤◌, ◌↔◌, [], ◌∷◌, ◌++◌, None, Some, IsTrue, IfOk, IfErr, IfSome, IfNone, MatchResult, MatchOption, false};
-ghost use Rattle.l4_fpage.specs.Pages.{max_frames};
+ghost use Rattle.std.specs.Prelude.{◌≡◌, ◌≢◌, ◌⊎◌, ◌+◌, ◌↔◌, [], ◌∷◌, ◌++◌, None, Some, IsTrue, IfOk, IfErr, IfSome, IfNone, MatchResult, MatchOption, false};
 ghost use Rattle.l4_ipc.specs.Machine.{Machine, IsBoot};
 ghost use Rattle.l4_chains.specs.Chains.{IsProvenance, IsAbsent};
 ghost use Rattle.l4_chains.specs.Replays.{IsNotReplayed};
@@ -55,7 +54,7 @@ impl SeatedLock {
     /// fails.
     pub fn new(alloc: Global, frames: u32, size: PageSize) -> Result<SeatedLock, LockRefusal>
         ensures { MatchResult result
-            (λ l. (l.frames ≡ frames) × (l.kernel.size ≡ size) × IsBoot frames l.kernel × (l.history ≡ []) × (l.books ≡ []) × (1 ≤ frames) × (frames ≤ max_frames))
+            (λ l. (l.frames ≡ frames) × (l.kernel.size ≡ size) × IsBoot frames l.kernel × (l.history ≡ []) × (l.books ≡ []))
             (RefusesBoot frames) }
     {
         match Locked::new(alloc, frames, size, 0) {

@@ -9,17 +9,14 @@ use Rattle.l4_threads.specs.declared.State.TheVariants.{Running, Sending as Send
 -- the reply of the last ended call, if the thread is running
 abbrev pub last_reply : State → Option Reply
 last_reply (Running reply) = reply
-last_reply (Sends s) = None
-last_reply (Receives r) = None
+last_reply other = None
 
 -- the send phase, if the thread is sending
 abbrev pub sending_in : State → Option Sending
-sending_in (Running reply) = None
 sending_in (Sends s) = Some s
-sending_in (Receives r) = None
+sending_in other = None
 
 -- the receive phase, if the thread is receiving
 abbrev pub receiving_in : State → Option Receiving
-receiving_in (Running reply) = None
-receiving_in (Sends s) = None
 receiving_in (Receives r) = Some r
+receiving_in other = None

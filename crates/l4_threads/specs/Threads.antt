@@ -69,21 +69,18 @@ named t id = option_and_then (λ thread. if thread.id.0 == id.0 then Some (numbe
 
 -- the thread waits for its message to be received
 abbrev pub is_sending : State → Bool
-is_sending (Running reply) = false
 is_sending (Sends s) = true
-is_sending (Receives r) = false
+is_sending other = false
 
 -- the thread does not wait
 abbrev pub is_running : State → Bool
 is_running (Running reply) = true
-is_running (Sends s) = false
-is_running (Receives r) = false
+is_running other = false
 
 -- the thread waits for a message
 abbrev pub is_receiving : State → Bool
-is_receiving (Running reply) = false
-is_receiving (Sends s) = false
 is_receiving (Receives r) = true
+is_receiving other = false
 
 -- the thread exists, and is sending
 abbrev pub sends : Threads → ℕ → Bool

@@ -3,8 +3,8 @@ use Rattle.l4_step_lines.proofs.running.run.Goals as goal
 
 pub returns-in-Ok-finish : goal.returns-in-Ok-finish
 returns-in-Ok-finish g c =
-    runs_on _ _ _ _ _ _ _ _ _ _ _ _ c.in-Ok.ensures.3 c.in-Ok.ensures.2 c.new-out.ensures c.answer_all-answered.ensures c.in-Ok-finish.ensures.ok
+    runs_on _ _ _ _ _ _ _ _ _ _ _ _ c.in-Ok.ensures.0 c.in-Ok.ensures.1 c.new-out.ensures c.answer_all-answered.ensures c.in-Ok-finish.ensures.ok
 
 pub returns : goal.returns
 returns g c =
-    runs_not _ _ _ _ _ _ _ _ _ _ _ c.answer_all-answered.result c.in-Ok.ensures.3 c.in-Ok.ensures.2 c.new-out.ensures c.answer_all-answered.ensures c.in-Err.ensures.err.1
+    runs_not _ _ _ _ _ _ _ _ _ _ _ c.answer_all-answered.result c.in-Ok.ensures.0 c.in-Ok.ensures.1 c.new-out.ensures c.answer_all-answered.ensures c.in-Err.ensures.err.1

@@ -24,4 +24,4 @@ pub returns-in-Ok-new_space : goal.returns-in-Ok-new_space
 returns-in-Ok-new_space c =
     let some : 1 ≤ c.args.frames = search rules in
     let fit : c.args.frames ≤ max_frames = search rules in
-    (some, fit, refl, record { threads = c.in-Ok-boot.ensures; first = c.in-Ok.forest; first_is = c.in-Ok.ensures; mappings = c.in-Ok-new_space.ensures.ok })
+    (record { some = some; few = fit; threads = c.in-Ok-boot.ensures; first = c.in-Ok.forest; first_is = c.in-Ok.ensures; mappings = c.in-Ok-new_space.ensures.ok }, refl)

@@ -1,13 +1,14 @@
 use Rattle.std.proofs.Common.{Ok, refl}
 use Rattle.l4_ipc.specs.declared.steps.Step.TheVariants.{Transfer, Expire}
 use Rattle.l4_ipc.specs.Machine.{machine}
-use Rattle.l4_ipc.specs.NextSteps.{transfer_answer, expire_answer}
+use Rattle.l4_ipc.specs.declared.steps.NextStep.TheVariants.{Transfer as Transferred, Expire as Expiry}
+use Rattle.l4_ipc.specs.NextSteps.{answer_of}
 use Rattle.l4_ipc.proofs.SoundKept.{sound_step}
 use Rattle.l4_ipc.proofs.kernel.Kernel.next.Goals as goal
 
 pub invariant_of-self : goal.invariant_of-self
 invariant_of-self c = record {
-  sound = sound_step (machine c.self.inside.size c.self.inside.threads c.self.inside.forest) (Transfer c.in-Some.from c.in-Some.to) (Ok (transfer_answer c.in-Some.from c.in-Some.to c.carry_over-outcome.result.0 c.carry_over-outcome.result.1)) (machine c.self.inside.size c.carry_over-outcome.new.threads c.carry_over-outcome.new.forest) (c.carry_over-outcome.ensures.step) c.self.invariant.sound;
+  sound = sound_step (machine c.self.inside.size c.self.inside.threads c.self.inside.forest) (Transfer c.in-Some.from c.in-Some.to) (Ok (answer_of (Transferred c.in-Some.from c.in-Some.to c.carry_over-outcome.result.0 c.carry_over-outcome.result.1))) (machine c.self.inside.size c.carry_over-outcome.new.threads c.carry_over-outcome.new.forest) (c.carry_over-outcome.ensures.step) c.self.invariant.sound;
   fits = c.carry_over-outcome.ensures.fits c.self.invariant.fits;
 }
 
@@ -25,7 +26,7 @@ returns-in_default-expire_untold c = absurd ((c.in_default-expire_untold.ensures
 
 pub invariant_of-self-2 : goal.invariant_of-self-2
 invariant_of-self-2 c = record {
-  sound = sound_step (machine c.self.inside.size c.self.inside.threads c.self.inside.forest) (Expire c.in-Some-next_expiry.number) (Ok (expire_answer c.in-Some-next_expiry.number)) (machine c.self.inside.size c.expire_untold.new.threads c.self.inside.forest) ((c.in-Ok.ensures.ok c.self.inside.size c.self.inside.forest)) c.self.invariant.sound;
+  sound = sound_step (machine c.self.inside.size c.self.inside.threads c.self.inside.forest) (Expire c.in-Some-next_expiry.number) (Ok (answer_of (Expiry c.in-Some-next_expiry.number))) (machine c.self.inside.size c.expire_untold.new.threads c.self.inside.forest) ((c.in-Ok.ensures.ok c.self.inside.size c.self.inside.forest)) c.self.invariant.sound;
   fits = c.self.invariant.fits;
 }
 

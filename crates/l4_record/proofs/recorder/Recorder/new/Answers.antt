@@ -8,4 +8,4 @@ pub invariant_of-recorder : goal.invariant_of-recorder
 invariant_of-recorder c =
     let p = c.in-Ok-new.publisher in
     subst (λ (h : List Entry). IsKept (recording c.args.frames c.in-Ok.kernel h p.board p.shown)) (sym c.new-2.ensures)
-    (begins_kept c.args.frames c.in-Ok.kernel p.board p.shown c.in-Ok.ensures.3 c.law_forest.ensures c.in-Ok-new.ensures)
+    (begins_kept c.args.frames c.in-Ok.kernel p.board p.shown c.in-Ok.ensures.0 c.law_forest.ensures c.in-Ok-new.ensures)
