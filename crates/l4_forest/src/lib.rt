@@ -63,9 +63,8 @@ impl Forest {
         requires fit { frames ≤ max_frames }
         ensures { IfOk result (IsFirst frames) }
     {
-        let mut links = Links::new(alloc);
+        let mut links = Links::new(alloc, frames as usize)?;
         links.add_space(0)?;
-        links.reserve(frames as usize)?;
         let mut roots = Vec::with_capacity(alloc, frames as usize)?;
         booting::own_places(&mut links, &mut roots, frames)?;
         Ok(Forest { links, roots })

@@ -12,6 +12,7 @@ ghost use Rattle.l4_spaces.specs.Tables.{IsPage, space_pages};
 mod blocks;
 mod burial;
 mod copying;
+mod creating;
 mod descending;
 mod lists;
 mod names;
@@ -22,6 +23,7 @@ mod walks;
 
 use blocks::{can_move_all, move_all};
 use burial::cap_at;
+use creating::nodes_for;
 use l4_fpage::Rights;
 pub use l4_nodes::Place;
 use l4_nodes::{Link, Slots, node_of, set_plain, set_rights, set_source, set_wanted};
@@ -95,19 +97,23 @@ impl Links {
     ghost use Rattle.l4_links.specs.Entries.{entry_at, standing_at, parent_of, IsStanding, IsBlank, IsAt, IsSource, HaveRights, HavePlaces, AreTrees, NoKeyFrom, IsNextKey, NoKeyIn, IsNextKeyIn, IsKeyOf, NoParentIn, IsNextParentIn, Descends, AddsBlank, Stands, Sprouts, AddsChild, Clears, CutsBelow, Buries, CapsBelow, CapsTree, SetsSource, SetsPlain, SetsWanted, TakesOver, MovesPages, Hinders, LacksPlace};
     ghost use Rattle.l4_links.specs.declared.Standing.{Standing as AStanding};
 
-    /// Creates a value without pages and spaces.
-    pub fn new(alloc: Global) -> Links
-        ensures entries { result.entries ≡ [] }
-        ensures spaces { result.spaces ≡ set.empty }
+    /// Creates a value without pages and spaces. Memory for the nodes of this many pages is allocated at once, except for the tables that
+    /// name them.
+    ///
+    /// Returns `NoMemory` if an allocation fails.
+    pub fn new(alloc: Global, pages: usize) -> Result<Links, NoMemory>
+        ensures entries { IfOk result (λ links. links.entries ≡ []) }
+        ensures spaces { IfOk result (λ links. links.spaces ≡ set.empty) }
     {
-        Links {
-            nodes: Slots::new(alloc),
+        let nodes = nodes_for(alloc, pages)?;
+        Ok(Links {
+            nodes,
             pages: Spaces::new(alloc),
             first: Link::none(),
             stamp: 1,
             walk: SOURCES_WALK,
             doomed: Link::none(),
-        }
+        })
     }
 
     /// Adds an empty space. Changes nothing if the space exists.
@@ -120,16 +126,6 @@ impl Links {
         ensures there { IsTrue (set.contains self.old.spaces space) → self.new ≡ self.old }
     {
         self.pages.add(space)
-    }
-
-    /// Allocates the memory for this many more pages at once, except for the tables that name them.
-    ///
-    /// Returns `NoMemory` if an allocation fails; the value that contracts see is unchanged.
-    pub fn reserve(&mut self, pages: usize) -> Result<(), NoMemory>
-        ensures { self.new ≡ self.old }
-    {
-        self.nodes.reserve(pages)?;
-        Ok(())
     }
 
     /// Removes a space in which no page has a key. Changes nothing if there is no such space.

@@ -132,7 +132,7 @@ fn chain(links: &mut Links) -> Result<[usize; 3], NoMemory> {
 
 #[test]
 fn caps_a_chain(rt: HostRuntime) {
-    let mut links = Links::new(rt.alloc());
+    let mut links = Links::new(rt.alloc(), 3).expect(&rt, "memory");
     let [top, middle, low] = chain(&mut links).expect(&rt, "memory");
     links.cap_below(middle, Rights::of_bits(5));
     let rows = [
@@ -170,7 +170,7 @@ fn three_children(links: &mut Links) -> Result<[usize; 6], NoMemory> {
 
 #[test]
 fn clears_a_node_in_the_middle(rt: HostRuntime) {
-    let mut links = Links::new(rt.alloc());
+    let mut links = Links::new(rt.alloc(), 3).expect(&rt, "memory");
     let [top, last, gone, low, lowest, first] = three_children(&mut links).expect(&rt, "memory");
     links.set_wanted(lowest, true);
     clear(&mut links, gone);
@@ -190,7 +190,7 @@ fn clears_a_node_in_the_middle(rt: HostRuntime) {
 
 #[test]
 fn cuts_off_what_descends(rt: HostRuntime) {
-    let mut links = Links::new(rt.alloc());
+    let mut links = Links::new(rt.alloc(), 3).expect(&rt, "memory");
     let [top, last, middle, low, lowest, first] = three_children(&mut links).expect(&rt, "memory");
     links.set_wanted(lowest, true);
     cut_below(&mut links, middle);
@@ -229,7 +229,7 @@ fn root_with_child(links: &mut Links, frame: u32, page: u32) -> Result<[usize; 2
 
 #[test]
 fn clears_a_root_at_the_beginning(rt: HostRuntime) {
-    let mut links = Links::new(rt.alloc());
+    let mut links = Links::new(rt.alloc(), 3).expect(&rt, "memory");
     let [top, first] = root_with_child(&mut links, 5, 14).expect(&rt, "memory");
     clear(&mut links, top);
     assert!(rt; links.at(first).is_none());
@@ -254,7 +254,7 @@ fn clears_a_root_at_the_beginning(rt: HostRuntime) {
 
 #[test]
 fn grants_a_page(rt: HostRuntime) {
-    let mut links = Links::new(rt.alloc());
+    let mut links = Links::new(rt.alloc(), 3).expect(&rt, "memory");
     let [top, granted, low] = chain(&mut links).expect(&rt, "memory");
     links.set_source(granted, true);
     grant(&mut links, granted, 12, Rights::of_bits(5)).expect(&rt, "memory");
@@ -285,7 +285,7 @@ fn grants_a_page(rt: HostRuntime) {
 
 #[test]
 fn finds_pages(rt: HostRuntime) {
-    let mut links = Links::new(rt.alloc());
+    let mut links = Links::new(rt.alloc(), 3).expect(&rt, "memory");
     let key = blank(&mut links, 3).expect(&rt, "memory");
     let far = root(&mut links, 4_194_303).expect(&rt, "memory");
     links.law_places();
@@ -318,7 +318,7 @@ fn finds_pages(rt: HostRuntime) {
 
 #[test]
 fn finds_parents(rt: HostRuntime) {
-    let mut links = Links::new(rt.alloc());
+    let mut links = Links::new(rt.alloc(), 3).expect(&rt, "memory");
     let [top, middle, _] = chain(&mut links).expect(&rt, "memory");
     assert_eq!(rt;
         [
@@ -332,7 +332,7 @@ fn finds_parents(rt: HostRuntime) {
 
 #[test]
 fn adds_a_child_at_once(rt: HostRuntime) {
-    let mut links = Links::new(rt.alloc());
+    let mut links = Links::new(rt.alloc(), 3).expect(&rt, "memory");
     let [top, middle, low] = chain(&mut links).expect(&rt, "memory");
     let added = child_at_once(&mut links, middle, 12).expect(&rt, "memory");
     let taken = child_at_once(&mut links, top, 11).expect(&rt, "memory");
@@ -372,7 +372,7 @@ fn renew(links: &mut Links, parent: usize, key: usize, rights: Rights) -> bool {
 
 #[test]
 fn renews_a_child_in_place(rt: HostRuntime) {
-    let mut links = Links::new(rt.alloc());
+    let mut links = Links::new(rt.alloc(), 3).expect(&rt, "memory");
     let [top, left, right, low] = nephew(&mut links).expect(&rt, "memory");
     assert!(rt; renew(&mut links, top, right, Rights::of_bits(5)));
     assert!(rt; stand_so(&links, &[(left, 7, Some(top)), (right, 5, Some(top))]));
@@ -391,7 +391,7 @@ fn renews_a_child_in_place(rt: HostRuntime) {
 
 #[test]
 fn takes_a_blank_and_its_space(rt: HostRuntime) -> Result<(), Fail> {
-    let mut links = Links::new(rt.alloc());
+    let mut links = Links::new(rt.alloc(), 3).expect(&rt, "memory");
     let key = blank(&mut links, 3)?;
     links.take_blank(key);
     assert!(rt; links.at(key).is_none());
@@ -415,7 +415,7 @@ fn nephew(links: &mut Links) -> Result<[usize; 4], NoMemory> {
 
 #[test]
 fn finds_sources(rt: HostRuntime) {
-    let mut links = Links::new(rt.alloc());
+    let mut links = Links::new(rt.alloc(), 3).expect(&rt, "memory");
     let [top, left, right, low] = nephew(&mut links).expect(&rt, "memory");
     links.set_source(low, true);
     assert!(rt; !links.has_source_below(right));
@@ -455,7 +455,7 @@ fn move_away(
 
 #[test]
 fn moves_a_block_of_pages(rt: HostRuntime) {
-    let mut links = Links::new(rt.alloc());
+    let mut links = Links::new(rt.alloc(), 3).expect(&rt, "memory");
     let [top, middle, low] = chain(&mut links).expect(&rt, "memory");
     // page 12 is in the block and has no key, page 5 is in front of it
     assert_eq!(rt; move_away(&mut links, 10, 13, 20, Rights::all()), Ok(true));
@@ -482,7 +482,7 @@ fn moves_a_block_of_pages(rt: HostRuntime) {
 
 #[test]
 fn moves_no_page_where_one_cannot_go(rt: HostRuntime) {
-    let mut links = Links::new(rt.alloc());
+    let mut links = Links::new(rt.alloc(), 3).expect(&rt, "memory");
     let [top, left, right, low] = nephew(&mut links).expect(&rt, "memory");
     links.cap_tree(left, Rights::of_bits(5));
     // the top gets the place that the second page would go to
@@ -535,7 +535,7 @@ fn are_free(links: &Links, keys: &[usize]) -> bool {
 
 #[test]
 fn buries_what_has_no_rights(rt: HostRuntime) {
-    let mut links = Links::new(rt.alloc());
+    let mut links = Links::new(rt.alloc(), 3).expect(&rt, "memory");
     let [top, left, right, low, lowest] = family(&mut links).expect(&rt, "memory");
     // the parent stands on the stack before its children
     links.cap_tree(right, Rights::of_bits(0));
