@@ -1,5 +1,5 @@
 -- What is found of a page, and what is told of it.
-use Rattle.std.proofs.Common.{◌≡◌, ℕ, List, Option, Some, None, Result, Ok, Err, IsTrue, is_some, inl, inr, refl, sym, ◌∙◌, subst}
+use Rattle.std.proofs.Common.{◌≡◌, ℕ, List, Option, Some, None, Result, Ok, Err, IsTrue, is_some, refl, sym, ◌∙◌, subst}
 use Rattle.std.proofs.lemmas.Bool.{false≢true}
 use Rattle.std.specs.Global.{Vec}
 use Rattle.std.specs.Io.KnownBytes.{Appends}
@@ -104,7 +104,7 @@ module _ (frames : ℕ) (size : PageSize) (asked : ThreadPage) (old new written 
 
     -- a beginning of it
     pub some_told : WentOut written now (answer_text history answer) → TellsWhy frames size asked old new written now (Err Write)
-    some_told out = inl (record { count = count; found = presence answer; text = answer_text history answer; has_why = has_why; out = out })
+    some_told out = record { count = count; found = presence answer; text = answer_text history answer; has_why = has_why; out = out }
 
   -- it was not, and nothing was written
   stopped : (fault : RunFault) → read ≡ Err fault → Records frames size old new history (Err fault)
@@ -112,5 +112,5 @@ module _ (frames : ℕ) (size : PageSize) (asked : ThreadPage) (old new written 
 
   pub none_told : (fault : RunFault) → read ≡ Err fault → now ≡ written → TellsWhy frames size asked old new written now (Err fault)
   none_told Read is same = record { history = history; records = stopped Read is; unwritten = same }
-  none_told Write is same = inr (record { history = history; records = stopped Write is; unwritten = same })
+  none_told Write is same = absurd (stopped Write is).answered
   none_told Memory is same = same
