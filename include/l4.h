@@ -741,10 +741,10 @@ typedef struct l4_chain {
 l4_chain l4_lock_provenance(l4_lock *lock, uint64_t space, uint32_t page, l4_link *links, size_t room);
 
 /* Checks that exactly these links are the provenance of a page of a space. If the page is not present, the check refuses every list of
- * links. Any value of grant other than 0 means a grant. The check shares no code with l4_lock_provenance, replays the history once on a
- * second kernel, and changes nothing. Refusals in this order: B1; NoMemory, if there is no memory for the links or for a second kernel;
- * then the refusal at the first entry where the check fails: NoMemory if memory runs out, L6 with the entry if the replay gets another
- * answer, and L7 if the links do not agree with the entry. Later entries are not replayed. */
+ * links. Any value of grant other than 0 means a grant. The check shares no code with l4_lock_provenance, replays the whole history once
+ * on a second kernel, even if the links are wrong, and changes nothing. Refusals in this order: B1; NoMemory, if there is no memory for
+ * the links or for a second kernel; then the refusal at the first entry whose replay fails: NoMemory if memory runs out, and L6 with the
+ * entry if the replay gets any other answer; L7, if every entry was replayed and the links are not the provenance. */
 l4_verdict l4_lock_check_provenance(l4_lock *lock, uint64_t space, uint32_t page, const l4_link *links, size_t count);
 
 /* Takes back the seats of these numbers, and frees the locked kernel with its history if exactly the seats that were given come back, each

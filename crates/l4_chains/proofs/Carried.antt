@@ -1,5 +1,5 @@
 -- A delivered transfer moves what was computed before it.
-use Rattle.std.proofs.Common.{◌≡◌, ℕ, List, Some, Ok, Result, Contains, slice_get, get_or, refl, sym, ap, ◌∙◌, subst}
+use Rattle.std.proofs.Common.{◌≡◌, ℕ, List, Some, Ok, Result, Contains, slice_get, refl, sym, ap, ◌∙◌, subst}
 use Rattle.std.proofs.lemmas.Option.{slice_get_read, slice_get_within, get_or_from_slice_get}
 use Rattle.l4_fpage.specs.Fpages.{rights_of}
 use Rattle.l4_fpage.specs.declared.fpages.Fpage.{Fpage}
@@ -16,8 +16,7 @@ use Rattle.l4_ipc.specs.declared.steps.Answer.{Answer}
 use Rattle.l4_ipc.specs.declared.steps.Outcome.TheVariants.{Done}
 use Rattle.l4_ipc.specs.declared.steps.Refused.{Refused}
 use Rattle.l4_ipc.specs.declared.steps.Step.{Step}
-use Rattle.l4_ipc.specs.declared.steps.Step.TheVariants.{Start, Transfer, Expire}
-use Rattle.l4_ipc.specs.Events.{IsDelivery}
+use Rattle.l4_ipc.specs.declared.steps.Step.TheVariants.{Transfer}
 use Rattle.l4_ipc.specs.Machine.{Machine}
 use Rattle.l4_ipc.specs.Moving.{IsUsedBy}
 use Rattle.l4_ipc.specs.Provenance.{Link, Brings}
@@ -26,7 +25,7 @@ use Rattle.l4_ipc.proofs.OneState.{same_value}
 use Rattle.l4_record.specs.declared.entries.Entry.{Entry}
 use Rattle.l4_chains.specs.declared.links.ChainLink.{ChainLink}
 use Rattle.l4_chains.specs.Chains.{told}
-use Rattle.l4_chains.specs.Inside.Carrying.{AreParties, IsCarriedBy, AnyCarries, IsCarried}
+use Rattle.l4_chains.specs.Inside.Carrying.{AreParties, IsCarriedBy, IsCarried}
 use Rattle.l4_chains.specs.Inside.Walking.{entry_event, Does, BringsTold}
 
 -- a step has one sender and one receiver

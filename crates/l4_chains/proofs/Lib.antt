@@ -3,3 +3,5 @@ pub mod Walked
 pub mod Written
 pub mod Same
 pub mod Choice
+pub mod OneAnswer
+pub mod Replayed

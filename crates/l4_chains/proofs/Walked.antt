@@ -1,5 +1,5 @@
 -- Chains along the entries are chains along the events.
-use Rattle.std.proofs.Common.{◌≡◌, ◌≢◌, ℕ, suc, ◌<◌, ◌≤◌, ◌⊎◌, inl, inr, List, [], ◌∷◌, ◌++◌, length, map, Option, Some, None, Ok, Result, IsTrue, is_some, refl, sym, ap, ◌∙◌, subst, arith}
+use Rattle.std.proofs.Common.{◌≡◌, ℕ, suc, ◌<◌, inl, inr, List, [], ◌∷◌, map, Option, Some, None, Ok, Result, IsTrue, is_some, refl, sym, ap, ◌∙◌, subst, arith}
 use Rattle.std.specs.List.{All}
 use Rattle.std.proofs.lemmas.Bool.{false≢true}
 use Rattle.std.proofs.lemmas.List.Elements.{All-head, All-tail}
@@ -9,18 +9,17 @@ use Rattle.l4_mapdb.specs.Mappings.{Mappings, IsPresent, shown}
 use Rattle.l4_ipc.specs.declared.steps.Answer.{Answer}
 use Rattle.l4_ipc.specs.declared.steps.Refused.{Refused}
 use Rattle.l4_ipc.specs.declared.steps.Step.{Step}
-use Rattle.l4_ipc.specs.Events.{Event, Follow, IsTrace}
+use Rattle.l4_ipc.specs.Events.{Event, IsTrace}
 use Rattle.l4_ipc.specs.Machine.{Machine, IsBoot}
 use Rattle.l4_ipc.specs.Provenance.{Link, Brings, LeavesAlone, Leads, HasProvenance}
 use Rattle.l4_ipc.specs.Steps.{Steps}
-use Rattle.l4_ipc.proofs.OneState.{one_step}
 use Rattle.l4_ipc.proofs.Provenances.{have_provenance}
 use Rattle.l4_ipc.proofs.Tracing.{AreForests, one_trace}
 use Rattle.l4_record.specs.declared.entries.Entry.{Entry}
 use Rattle.l4_record.specs.History.{steps_of, answers_of, KeepsForest, HasEvents}
 use Rattle.l4_chains.specs.declared.links.ChainLink.{ChainLink}
 use Rattle.l4_chains.specs.Chains.{told, LeadsAsTold, IsProvenance, origin_of}
-use Rattle.l4_chains.specs.Inside.Walking.{entry_event, Does, IsNotDue, BringsTold, Passes, PassesAll, IsWalked}
+use Rattle.l4_chains.specs.Inside.Walking.{entry_event, Does, IsNotDue, Passes, PassesAll, IsWalked}
 
 -- FROM ENTRIES TO EVENTS
 

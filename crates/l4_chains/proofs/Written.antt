@@ -1,5 +1,5 @@
 -- The links of an item, and the place to which it moves a page.
-use Rattle.std.proofs.Common.{◌≡◌, ◌≢◌, ℕ, ◌+◌, ◌-◌, ◌^◌, ◌<◌, ◌≤◌, Some, Option, None, List, Contains, IsTrue, Bool, true, false, refl, sym, ap, ◌∙◌, subst, arith, inl, inr}
+use Rattle.std.proofs.Common.{◌≡◌, ◌≢◌, ℕ, ◌+◌, ◌-◌, Some, None, List, refl, sym, ap, ◌∙◌, subst, arith}
 use Rattle.l4_fpage.specs.Rights.{common, no_rights}
 use Rattle.l4_fpage.specs.Fpages.{rights_of}
 use Rattle.l4_fpage.specs.declared.fpages.Fpage.{Fpage}

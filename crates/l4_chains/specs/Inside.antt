@@ -1,3 +1,2 @@
 pub mod Carrying
 pub mod Walking
-pub mod Redoing

@@ -1,11 +1,9 @@
 -- The steps of a history that were told so far.
-use Rattle.std.proofs.Common.{◌≡◌, ℕ, Bool, List, [], ◌∷◌, ◌++◌, Option, Result, refl, sym, ap, ◌∙◌, subst}
+use Rattle.std.proofs.Common.{◌≡◌, ◌↔◌, ℕ, Bool, true, false, IsTrue, List, [], ◌∷◌, ◌++◌, Option, Ok, refl, sym, ap, ◌∙◌, subst}
+use Rattle.std.proofs.lemmas.Bool.{false≢true}
 use Rattle.std.proofs.lemmas.List.{append-nil}
 use mathlib.Core.List.{append_assoc}
 use Rattle.std.specs.List.{flat_map}
-use Rattle.l4_ipc.specs.declared.steps.Answer.{Answer}
-use Rattle.l4_ipc.specs.declared.steps.Refused.{Refused}
-use Rattle.l4_ipc.specs.declared.steps.Step.{Step}
 use Rattle.l4_ipc.specs.Machine.{Machine}
 use Rattle.l4_ipc.specs.Steps.{Steps}
 use Rattle.l4_record.specs.declared.entries.Entry.{Entry}
@@ -14,7 +12,8 @@ use Rattle.l4_step_lines.specs.Answers.{answer_lines}
 use Rattle.l4_step_lines.specs.Steps.{step_line}
 use Rattle.l4_text.specs.Streams.{Tells}
 use Rattle.l4_text.proofs.Telling.{tells_none, tells_more, tells_is}
-use Rattle.l4_history.specs.Histories.{mark, TellsSteps}
+use Rattle.l4_history.specs.Histories.{mark, TellsEntries}
+use Rattle.l4_history.specs.Inside.Telling.{TellsUpTo}
 
 -- the lines of the steps of these entries
 abbrev pub lines_of : List Entry → List ℕ
@@ -42,33 +41,47 @@ steps_all old new before after left whole none h =
 
 -- ---- with their answers
 
--- what was told, and that it is the text of all the steps once the text of those that are left stands behind it
-abbrev pub AnsweredSoFar : Option (List ℕ) → Option (List ℕ) → List ℕ × Bool → List ℕ × Bool → Machine → Machine → List Entry → List Step → Type 0
-AnsweredSoFar old new before after first now left steps =
-    (text : List ℕ) × Tells old new before after text × ((rest : List ℕ) → TellsSteps now (steps_of left) rest → TellsSteps first steps (text ++ rest))
+-- what was written so far, and that it becomes the text of the whole history when the text of the remaining entries is appended
+abbrev pub AnsweredSoFar : Option (List ℕ) → Option (List ℕ) → List ℕ × Bool → List ℕ × Bool → Machine → Machine → List Entry → List Entry → Type 0
+AnsweredSoFar old new before after first now left whole =
+    (told : List Entry) × (text : List ℕ) × (whole ≡ told ++ left) × Tells old new before after text
+    × ((later : List Entry) (rest : List ℕ) → TellsEntries now later rest → TellsEntries first (told ++ later) (text ++ rest))
 
-pub answered_first : (w : Option (List ℕ)) (s : List ℕ × Bool) (m : Machine) (entries left : List Entry) → left ≡ entries → AnsweredSoFar w w s s m m left (steps_of entries)
-answered_first w s m entries left is = ([], tells_none w s, λ rest tells. subst (λ (es : List Entry). TellsSteps m (steps_of es) rest) is tells)
+pub answered_first : (w : Option (List ℕ)) (s : List ℕ × Bool) (m : Machine) (entries left : List Entry) → left ≡ entries → AnsweredSoFar w w s s m m left entries
+answered_first w s m entries left is = ([], [], sym is, tells_none w s, λ later rest tells. tells)
 
--- a step more, with its answer
-abbrev pub DoesAndTells : Machine → Step → Machine → Option (List ℕ) → Option (List ℕ) → List ℕ × Bool → List ℕ × Bool → Type 0
-DoesAndTells m step after old new before s = (answer : Result Answer Refused) × Steps m step answer after × Tells old new before s (answer_lines mark answer after)
-
-pub answered_next : (old mid line new : Option (List ℕ)) (before s t after : List ℕ × Bool) (first now later : Machine) (entry : Entry) (left others : List Entry) (steps : List Step)
-    → left ≡ entry ∷ others → AnsweredSoFar old mid before s first now left steps → Tells mid line s t (step_line entry.step)
-    → DoesAndTells now entry.step later line new t after → AnsweredSoFar old new before after first later others steps
-answered_next old mid line new before s t after first now later entry left others steps is h told does =
-    let one : List ℕ = step_line entry.step ++ answer_lines mark does.0 later in (
-      h.0 ++ one,
-      tells_more old mid new before s after h.0 one h.1 (tells_more mid line new s t after (step_line entry.step) _ told does.2),
-      λ rest tells.
-          let whole : TellsSteps now (steps_of (entry ∷ others)) (one ++ rest) = (does.0, later, rest, does.1, tells, refl) in
-          subst (λ (text : List ℕ). TellsSteps first steps text) (sym (append_assoc h.0 one rest))
-          (h.2 (one ++ rest) (subst (λ (es : List Entry). TellsSteps now (steps_of es) (one ++ rest)) (sym is) whole)),
+-- one more entry, with its answer
+pub answered_next : (old mid line new : Option (List ℕ)) (before s t after : List ℕ × Bool) (first now later : Machine) (entry : Entry) (left others whole : List Entry)
+    → left ≡ entry ∷ others → AnsweredSoFar old mid before s first now left whole → Steps now entry.step (Ok entry.answer) later → Tells mid line s t (step_line entry.step)
+    → Tells line new t after (answer_lines mark (Ok entry.answer) later) → AnsweredSoFar old new before after first later others whole
+answered_next old mid line new before s t after first now later entry left others whole is h steps told answered =
+    let answer : List ℕ = answer_lines mark (Ok entry.answer) later in
+    let one : List ℕ = step_line entry.step ++ answer in (
+      h.0 ++ entry ∷ [],
+      h.1 ++ one,
+      h.2 ∙ ap (λ (es : List Entry). h.0 ++ es) is ∙ sym (append_assoc h.0 (entry ∷ []) others),
+      tells_more old mid new before s after h.1 one h.3 (tells_more mid line new s t after (step_line entry.step) answer told answered),
+      λ more rest tells.
+          (let all : TellsEntries now (entry ∷ more) (one ++ rest) = (later, rest, steps, tells, refl) in
+          subst (λ (text : List ℕ). TellsEntries first ((h.0 ++ entry ∷ []) ++ more) text) (sym (append_assoc h.1 one rest))
+          (subst (λ (es : List Entry). TellsEntries first es (h.1 ++ (one ++ rest))) (sym (append_assoc h.0 (entry ∷ []) more)) (h.4 (entry ∷ more) (one ++ rest) all))),
     )
 
-pub answered_all : (old new : Option (List ℕ)) (before after : List ℕ × Bool) (first now : Machine) (left : List Entry) (steps : List Step) → left ≡ []
-    → AnsweredSoFar old new before after first now left steps → (text : List ℕ) × TellsSteps first steps text × Tells old new before after text
-answered_all old new before after first now left steps none h =
-    let end : TellsSteps now (steps_of left) [] = subst (λ (es : List Entry). TellsSteps now (steps_of es) []) (sym none) refl in
-    (h.0, subst (λ (text : List ℕ). TellsSteps first steps text) (append-nil h.0) (h.2 [] end), h.1)
+module _ (old new : Option (List ℕ)) (before after : List ℕ × Bool) (first now : Machine) (left whole : List Entry) (h : AnsweredSoFar old new before after first now left whole) where
+  up_to : TellsUpTo first whole left h.1
+  up_to = (
+    h.0,
+    h.2,
+    subst (λ (es : List Entry). TellsEntries first es h.1) (append-nil h.0)
+        (subst (λ (text : List ℕ). TellsEntries first (h.0 ++ []) text) (append-nil h.1) (h.4 [] [] refl)),
+  )
+
+  -- if an entry is left
+  pub answered_before : (entry : Entry) (others : List Entry) → left ≡ entry ∷ others
+      → (l : List Entry) × (text : List ℕ) × (IsTrue false ↔ (l ≡ [])) × TellsUpTo first whole l text × Tells old new before after text
+  answered_before entry others is =
+      (left, h.1, ((λ f. absurd (false≢true f)), (λ none. absurd (let k : ◌≡◌ {A = List Entry} (entry ∷ others) [] = sym is ∙ none in cc))), up_to, h.3)
+
+  -- after the last entry
+  pub answered_all : left ≡ [] → (l : List Entry) × (text : List ℕ) × (IsTrue true ↔ (l ≡ [])) × TellsUpTo first whole l text × Tells old new before after text
+  answered_all none = (left, h.1, ((λ t. none), (λ n. refl)), up_to, h.3)

@@ -1,16 +1,19 @@
 //! Reads a script, and writes the step list of its history.
-ghost use Rattle.std.specs.Prelude.{◌≡◌, ◌≤◌, ℕ, List, true, false};
+ghost use Rattle.std.specs.Prelude.{◌≡◌, ◌≤◌, ◌↔◌, ℕ, List, [], IsTrue, Ok, true, false};
 ghost use Rattle.std.specs.List.{flat_map};
 ghost use Rattle.l4_fpage.specs.Pages.{max_frames};
-ghost use Rattle.l4_history.specs.Histories.{mark, TellsSteps, TellsHistory};
+ghost use Rattle.l4_history.specs.Histories.{mark, TellsHistory};
+ghost use Rattle.l4_history.specs.Inside.Telling.{TellsUpTo};
+ghost use Rattle.l4_ipc.specs.Steps.{Steps};
 ghost use Rattle.l4_record.specs.History.{steps_of};
+ghost use Rattle.l4_record.specs.declared.entries.Entry.{Entry as AnEntry};
 ghost use Rattle.l4_step_lines.specs.Steps.{step_line};
 ghost use Rattle.l4_text.specs.Streams.{Tells, HasTold};
 
 use l4_ipc::{Kernel, PageSize};
-use l4_record::History;
+use l4_record::{Entry, History};
 use l4_shell::record;
-use l4_step_lines::{do_step, put_step};
+use l4_step_lines::{put_answer, put_step};
 use l4_text::{Output, RunFault};
 use std::alloc::Global;
 use std::io::{Read, Write};
@@ -28,15 +31,35 @@ fn tell_steps<W: Write>(history: &History, out: &mut Output, writer: &mut W)
     }
 }
 
-/// Executes the steps of a history on a kernel, and writes each with its answer below it.
-fn tell_answered<W: Write>(kernel: &mut Kernel, history: &History, out: &mut Output, writer: &mut W)
-    ensures { (text : List ℕ) × TellsSteps kernel.old (steps_of history.now.entries) text
+/// Executes the step of an entry. Returns whether it gets the answer that the entry has.
+fn repeats(kernel: &mut Kernel, entry: &Entry) -> bool
+    ensures { IsTrue result → Steps kernel.old entry.now.step (Ok entry.now.answer) kernel.new }
+{
+    match kernel.step(&entry.step) {
+        Ok(answer) => answer == entry.answer,
+        Err(_) => false,
+    }
+}
+
+/// Executes the steps of a history on a kernel, and writes each with the history's answer below it, up to the first step that gets another
+/// answer. Returns whether there is no such step.
+fn tell_answered<W: Write>(
+    kernel: &mut Kernel,
+    history: &History,
+    out: &mut Output,
+    writer: &mut W,
+) -> bool
+    ensures { (left : List AnEntry) × (text : List ℕ) × (IsTrue result ↔ (left ≡ [])) × TellsUpTo kernel.old history.now.entries left text
         × Tells (W.contents writer.old) (W.contents writer.new) out.old out.new text }
 {
     for done in history.entries_from(0) {
+        if !repeats(kernel, &done) {
+            return false;
+        }
         put_step(&done.step, out, writer);
-        do_step(kernel, &done.step, MARK, out, writer);
+        put_answer(kernel, &done.answer, MARK, out, writer);
     }
+    true
 }
 
 /// Executes the script of the reader as `run` of `l4_shell` does. Instead of its answers, writes the steps of its history, each as a line
@@ -69,8 +92,11 @@ pub fn history<R: Read, W: Write>(
     }
 }
 
-/// Does what `history` does, and writes the answer of `run` of `l4_step_lines` below each step, after `# `. For the answers, it executes
-/// the steps again, on a separate kernel.
+/// Does what `history` does, and writes the history's answer below each step, after `# `, as `run` of `l4_step_lines` writes it. To find out
+/// how calls ended, it executes the steps again on a separate kernel.
+///
+/// Returns `Memory` also if a step gets another answer there, because memory ran out in one of the two executions. The history up to that step
+/// was then written.
 pub fn answered_history<R: Read, W: Write>(
     alloc: Global,
     frames: u32,
@@ -90,9 +116,12 @@ pub fn answered_history<R: Read, W: Write>(
         return Err(RunFault::Memory);
     };
     let mut out = Output::new();
-    tell_answered(&mut kernel, &history, &mut out, writer);
-    match out.finish(writer) {
-        Ok(()) => answered,
-        Err(_) => Err(RunFault::Write),
+    let whole = tell_answered(&mut kernel, &history, &mut out, writer);
+    if let Err(_) = out.finish(writer) {
+        return Err(RunFault::Write);
     }
+    if !whole {
+        return Err(RunFault::Memory);
+    }
+    answered
 }

@@ -3,7 +3,6 @@ use Rattle.std.proofs.Common.{◌≡◌, ℕ, ◌<◌, ◌≤◌, ◌⊎◌, inl
 use Rattle.std.proofs.lemmas.List.{append-nil, take_all, reverse-append}
 use mathlib.Core.List.{append_assoc}
 use Rattle.std.specs.FinSet as set
-use Rattle.l4_fpage.specs.Pages.{max_frames}
 use Rattle.l4_fpage.specs.Rights.{all_rights}
 use Rattle.l4_fpage.specs.declared.sizes.PageSize.{PageSize}
 use Rattle.l4_mapdb.specs.declared.Place.{Place}
@@ -17,6 +16,7 @@ use Rattle.l4_record.specs.declared.entries.Entry.{Entry}
 use Rattle.l4_record.specs.History.{steps_of, answers_of, HasEvents}
 use Rattle.l4_chains.specs.declared.links.ChainLink.{ChainLink}
 use Rattle.l4_chains.specs.Chains.{IsProvenance, IsAbsent, origin_of}
+use Rattle.l4_chains.specs.Replays.{IsBootWith}
 use Rattle.l4_chains.specs.Inside.Walking.{PassesAll, IsWalked}
 use Rattle.l4_chains.proofs.Walked.{passed_origin, is_provenance}
 use Rattle.l4_provenance.specs.Inside.Arrivals.{CameBy, Arrived}
@@ -47,8 +47,7 @@ one_end boot es a b h k = ((only_trace boot (steps_of es) (answers_of es) h.even
 pub record Backed (frames : ℕ) (size : PageSize) (history : List Entry) (place : Place) (count : ℕ) (reached : Place) (found : List ChainLink) : Type 0 where
   pub within : count ≤ length history
   pub boot : Machine
-  pub boots : IsBoot frames boot
-  pub size_is : boot.size ≡ size
+  pub boots : IsBootWith frames size boot
   pub end : Machine
   pub events : HasEvents boot history end
   pub there : IsPresent end.mappings place
@@ -70,8 +69,7 @@ pub record Back (frames : ℕ) (size : PageSize) (history : List Entry) (place :
 -- an arrival on a kernel that booted like this
 pub record Came (frames : ℕ) (size : PageSize) (history : List Entry) (count : ℕ) (reached : Place) (arrival : Arrival) : Type 0 where
   pub boot : Machine
-  pub boots : IsBoot frames boot
-  pub size_is : boot.size ≡ size
+  pub boots : IsBootWith frames size boot
   pub now : Machine
   pub arrived : Arrived boot history count reached now arrival
 
@@ -82,7 +80,7 @@ module _ (frames : ℕ) (size : PageSize) (history : List Entry) (place : Place)
   -- the same arrival on the kernel that was used before
   moved : (arrival : Arrival) (b : Backed frames size history place count reached found) (c : Came frames size history count reached arrival) → Arrived b.boot history count reached b.now arrival
   moved arrival b c =
-      let boot : c.boot ≡ b.boot = one_boot frames c.boot b.boot c.boots b.boots (c.size_is ∙ sym b.size_is) in
+      let boot : c.boot ≡ b.boot = one_boot frames c.boot b.boot c.boots.0 b.boots.0 (c.boots.1 ∙ sym b.boots.1) in
       let there : Arrived b.boot history count reached c.now arrival = subst (λ (m : Machine). Arrived m history count reached c.now arrival) boot c.arrived in
       let now : c.now ≡ b.now = one_end b.boot (take count history) b.now c.now b.done there.events in
       subst (λ (m : Machine). Arrived b.boot history count reached m arrival) now there
@@ -99,7 +97,6 @@ module _ (frames : ℕ) (size : PageSize) (history : List Entry) (place : Place)
           within = back.within;
           boot = c.boot;
           boots = c.boots;
-          size_is = c.size_is;
           end = c.now;
           events = subst (λ (es : List Entry). HasEvents c.boot es c.now) (all_of b) c.arrived.events;
           there = subst (λ (p : Place). IsPresent c.now.mappings p) b.same present;
@@ -123,7 +120,6 @@ module _ (frames : ℕ) (size : PageSize) (history : List Entry) (place : Place)
         within = omega (arith, below, within);
         boot = b.boot;
         boots = b.boots;
-        size_is = b.size_is;
         end = b.end;
         events = b.events;
         there = b.there;
@@ -146,7 +142,7 @@ module _ (frames : ℕ) (size : PageSize) (history : List Entry) (place : Place)
       (a.how.1.below, record { within = next.within; is = inr next })
 
   pub found_all : Back frames size history place count reached found → Came frames size history count reached AtBoot
-      → (boot : Machine) × IsBoot frames boot × (boot.size ≡ size) × IsProvenance boot history place (reverse found)
+      → (boot : Machine) × IsBootWith frames size boot × IsProvenance boot history place (reverse found)
   found_all back c =
       let b : Backed frames size history place count reached found = backed AtBoot back c c.arrived.how.0 in
       let a = moved AtBoot b c in
@@ -157,10 +153,10 @@ module _ (frames : ℕ) (size : PageSize) (history : List Entry) (place : Place)
         passes = subst (λ (p : Place). PassesAll 0 b.boot history b.end p (reverse found) place) origin chain;
         present = b.there;
       } in
-      (b.boot, b.boots, b.size_is, is_provenance frames b.boot history place (reverse found) b.boots walked b.events)
+      (b.boot, b.boots, is_provenance frames b.boot history place (reverse found) b.boots.0 walked b.events)
 
   pub found_none : Back frames size history place count reached found → Came frames size history count reached Absent
-      → (boot : Machine) × IsBoot frames boot × (boot.size ≡ size) × IsAbsent boot history place
+      → (boot : Machine) × IsBootWith frames size boot × IsAbsent boot history place
   found_none back c =
       elim back.is [
         | inr b ↦ absurd ((moved Absent b c).how b.present)
@@ -168,7 +164,6 @@ module _ (frames : ℕ) (size : PageSize) (history : List Entry) (place : Place)
             let events : HasEvents c.boot history c.now = subst (λ (es : List Entry). HasEvents c.boot es c.now) (all_of b) c.arrived.events in (
               c.boot,
               c.boots,
-              c.size_is,
               record {
                 now = c.now;
                 run = run_of c.boot (steps_of history) (answers_of history) events.events c.now events.trace;
@@ -179,5 +174,5 @@ module _ (frames : ℕ) (size : PageSize) (history : List Entry) (place : Place)
 
 -- the parts of an arrival's clause
 pub came_of : (frames : ℕ) (size : PageSize) (history : List Entry) (count : ℕ) (reached : Place) (arrival : Arrival)
-    → (boot : Machine) × IsBoot frames boot × (boot.size ≡ size) × ((now : Machine) × Arrived boot history count reached now arrival) × (1 ≤ frames) × (frames ≤ max_frames) → Came frames size history count reached arrival
-came_of frames size history count reached arrival h = record { boot = h.0; boots = h.1; size_is = h.2; now = h.3.0; arrived = h.3.1 }
+    → (boot : Machine) × IsBootWith frames size boot × ((now : Machine) × Arrived boot history count reached now arrival) → Came frames size history count reached arrival
+came_of frames size history count reached arrival h = record { boot = h.0; boots = h.1; now = h.2.0; arrived = h.2.1 }

@@ -1,6 +1,5 @@
 -- The links of a letter are those of its step; and the faults of a replay.
 use Rattle.std.proofs.Common.{◌≡◌, ℕ, ◌≤◌, Option, Some, None, List, Result, Ok, Err, IfOk, IfErr, MatchOption, MatchResult}
-use Rattle.l4_fpage.specs.Pages.{max_frames}
 use Rattle.l4_fpage.specs.declared.fpages.Fpage.{Fpage}
 use Rattle.l4_fpage.specs.declared.sizes.PageSize.{PageSize}
 use Rattle.l4_msg.specs.declared.items.Item.{Item}
@@ -11,7 +10,8 @@ use Rattle.l4_record.specs.declared.entries.Entry.{Entry}
 use Rattle.l4_chains.specs.declared.faults.ReplayFault.{ReplayFault}
 use Rattle.l4_chains.specs.declared.faults.ReplayFault.TheVariants.{BadFrames, NoMemory, OtherAnswer}
 use Rattle.l4_chains.specs.declared.links.ChainLink.{ChainLink}
-use Rattle.l4_chains.specs.Replays.{IsNotReplayed, FailsIn}
+use Rattle.l4_chains.specs.Replays.{IsBootWith, StopsIn, IsNotReplayed}
+use Rattle.l4_chains.proofs.Replayed.{stops_by_step}
 use Rattle.l4_chains.specs.Inside.Carrying.{AreParties, AnyCarries, AnyWrites, IsCarried, IsWritten}
 use Rattle.l4_chains.proofs.Written.{any_written, carried_any}
 use Rattle.l4_provenance.specs.Inside.Arrivals.{Arrived}
@@ -23,10 +23,10 @@ pub of_letter : (m : Machine) (step : Step) (from to : ℕ) (items : List Item) 
 of_letter m step from to items window number place p None h = λ w. h (any_written m step from to items window p place w)
 of_letter m step from to items window number place p (Some l) h = (carried_any m step from to items window p l h.0, h.1, h.2)
 
-module _ (frames : ℕ) (size : PageSize) (boot now : Machine) (history : List Entry) (count : ℕ) (place : Place) (some : 1 ≤ frames) (few : frames ≤ max_frames) (boots : IsBoot frames boot) (size_is : boot.size ≡ size) where
-  pub came : (r : Result Arrival ReplayFault) → IfOk r (Arrived boot history count place now) → IfErr r (FailsIn boot history)
-      → MatchResult r (λ a. (b : Machine) × IsBoot frames b × (b.size ≡ size) × ((n : Machine) × Arrived b history count place n a) × (1 ≤ frames) × (frames ≤ max_frames)) (IsNotReplayed frames size history)
-  came (Ok a) f e = (boot, boots, size_is, (now, f), some, few)
-  came (Err BadFrames) f e = absurd e
-  came (Err NoMemory) f e = (some, few)
-  came (Err (OtherAnswer n)) f e = (boot, boots, size_is, e)
+module _ (frames : ℕ) (size : PageSize) (boot now : Machine) (history : List Entry) (count : ℕ) (place : Place) (boots : IsBootWith frames size boot) where
+  pub came : (r : Result Arrival ReplayFault) → IfOk r (Arrived boot history count place now) → IfErr r (StopsIn boot history now)
+      → MatchResult r (λ a. (b : Machine) × IsBootWith frames size b × ((n : Machine) × Arrived b history count place n a)) (IsNotReplayed frames size history)
+  came (Ok a) f e = (boot, boots, (now, f))
+  came (Err BadFrames) f e = absurd (stops_by_step boot history now e)
+  came (Err NoMemory) f e = (boots.0.some, boots.0.few)
+  came (Err (OtherAnswer n)) f e = (boot, boots, (now, e))

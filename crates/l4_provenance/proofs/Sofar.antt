@@ -1,26 +1,23 @@
 -- What was moved to a place by the entries that were executed.
 use Rattle.std.proofs.Common.{◌≡◌, ℕ, ◌+◌, ◌<◌, ◌≤◌, inl, inr, List, [], ◌∷◌, ◌++◌, length, take, drop, slice_get, Option, Some, None, IsTrue, is_some, refl, sym, ap, ◌∙◌, subst, arith}
-use Rattle.std.proofs.lemmas.List.{take_all, take_more, drop_more, take-append-drop, length-take-le}
-use Rattle.std.proofs.lemmas.Option.{slice_get_within, get_or_from_slice_get}
+use Rattle.std.proofs.lemmas.List.{length-take-le}
+use Rattle.std.proofs.lemmas.Option.{slice_get_within}
 use Rattle.l4_mapdb.specs.declared.Place.{Place}
 use Rattle.l4_mapdb.specs.declared.Mapping.{Mapping}
 use Rattle.l4_mapdb.specs.Mappings.{IsForest, IsPresent, shown}
 use Rattle.l4_ipc.specs.Machine.{Machine}
 use Rattle.l4_ipc.specs.Provenance.{LeavesAlone}
-use Rattle.l4_ipc.specs.Runs.{Run}
 use Rattle.l4_ipc.proofs.Provenances.{left_or_brought}
-use Rattle.l4_ipc.proofs.Tracing.{run_of}
 use Rattle.l4_record.specs.declared.entries.Entry.{Entry}
-use Rattle.l4_record.specs.History.{steps_of, answers_of, HasEvents}
+use Rattle.l4_record.specs.History.{HasEvents}
 use Rattle.l4_record.proofs.Laws.{no_events, events_more}
 use Rattle.l4_chains.specs.declared.faults.ReplayFault.{ReplayFault}
-use Rattle.l4_chains.specs.declared.faults.ReplayFault.TheVariants.{BadFrames, NoMemory, OtherAnswer}
 use Rattle.l4_chains.specs.declared.links.ChainLink.{ChainLink}
 use Rattle.l4_chains.specs.Chains.{told}
-use Rattle.l4_chains.specs.Inside.Redoing.{FailsAt}
-use Rattle.l4_chains.specs.Replays.{FailsIn}
+use Rattle.l4_chains.specs.Replays.{FailsAt, StopsIn}
 use Rattle.l4_chains.specs.Inside.Walking.{entry_event, Does, BringsTold, PassesAll}
 use Rattle.l4_chains.proofs.Carried.{carried_brings, brings_carried, brings_done}
+use Rattle.l4_chains.proofs.Replayed.{take_zero, with_next, done_fails}
 use Rattle.std.proofs.lemmas.Bool.{false≢true}
 use Rattle.l4_provenance.specs.Inside.Arrivals.{Brought, newer, Came, Arrived}
 use Rattle.l4_provenance.specs.declared.replaying.Arrival.TheVariants.{By}
@@ -35,23 +32,6 @@ pub record Sofar (boot : Machine) (history : List Entry) (number : ℕ) (now : M
   pub within : number ≤ length history
   pub events : HasEvents boot (take number history) now
   pub came : IsPresent now.mappings place → Came boot history number now place last
-
-take_zero : (history : List Entry) → take 0 history ≡ []
-take_zero [] = refl
-take_zero (entry ∷ entries) = refl
-
--- the entry of a number stands between those before it and those behind it
-split_at : (history : List Entry) (number : ℕ) (entry : Entry) → slice_get history number ≡ Some entry → history ≡ take number history ++ entry ∷ drop (number + 1) history
-split_at history number entry at =
-    sym (take-append-drop number history)
-    ∙ ap (λ (es : List Entry). take number history ++ es)
-    (drop_more history number entry (slice_get_within history number entry at) ∙ ap (λ (e : Entry). e ∷ drop (number + 1) history) (get_or_from_slice_get history number entry entry at))
-
--- those up to the entry of a number, with it
-with_next : (history : List Entry) (number : ℕ) (entry : Entry) → slice_get history number ≡ Some entry → take (number + 1) history ≡ take number history ++ entry ∷ []
-with_next history number entry at =
-    take_more history number entry (slice_get_within history number entry at)
-    ∙ ap (λ (e : Entry). take number history ++ e ∷ []) (get_or_from_slice_get history number entry entry at)
 
 pub sofar_first : (boot : Machine) (history : List Entry) (place : Place) → IsForest boot.mappings → Sofar boot history 0 boot place None
 sofar_first boot history place forest = record {
@@ -133,48 +113,6 @@ sofar_by boot history number count now place last link f end is there = record {
   );
 }
 
--- so many entries are done
-pub record Done (boot : Machine) (history : List Entry) (number : ℕ) (now : Machine) : Type 0 where
-  pub within : number ≤ length history
-  pub events : HasEvents boot (take number history) now
-
-pub done_first : (boot : Machine) (history : List Entry) → IsForest boot.mappings → Done boot history 0 boot
-done_first boot history forest = record { within = omega arith; events = subst (λ (es : List Entry). HasEvents boot es boot) (sym (take_zero history)) (no_events boot forest) }
-
-pub done_next : (boot : Machine) (history : List Entry) (number : ℕ) (now after : Machine) (entry : Entry) → slice_get history number ≡ Some entry → Does now entry after
-    → Done boot history number now → IsForest after.mappings → Done boot history (number + 1) after
-done_next boot history number now after entry at does d forest = record {
-  within = let lt : number < length history = slice_get_within history number entry at in omega (arith, lt);
-  events = subst (λ (es : List Entry). HasEvents boot es after) (sym (with_next history number entry at))
-      (events_more boot (take number history) now entry after d.events does forest);
-}
-
-pub done_all : (boot : Machine) (history : List Entry) (number : ℕ) (now : Machine) → number ≡ length history → Done boot history number now → Run boot (steps_of history) (answers_of history) now
-done_all boot history number now all d =
-    let events : HasEvents boot history now = subst (λ (es : List Entry). HasEvents boot es now) (take_all number history (omega (arith, all))) d.events in
-    run_of boot (steps_of history) (answers_of history) events.events now events.trace
-
--- where an entry is not done
-pub done_fails : (boot : Machine) (history : List Entry) (number : ℕ) (now : Machine) (entry : Entry) → slice_get history number ≡ Some entry → Done boot history number now
-    → (fault : ReplayFault) → FailsAt number now entry fault → FailsIn boot history fault
-done_fails boot history number now entry at d BadFrames h = h
-done_fails boot history number now entry at d NoMemory h = h
-done_fails boot history number now entry at d (OtherAnswer n) h =
-    let inside : number < length history = slice_get_within history number entry at in
-    record {
-      earlier = take number history;
-      entry = entry;
-      later = drop (number + 1) history;
-      history_is = split_at history number entry at;
-      number_is = h.0 ∙ sym (length-take-le number history d.within);
-      now = now;
-      run = run_of boot (steps_of (take number history)) (answers_of (take number history)) d.events.events now d.events.trace;
-      answer = h.1.0;
-      next = h.1.1;
-      step = h.1.2;
-      other = h.1.3;
-    }
-
-pub fails_in : (boot : Machine) (history : List Entry) (number : ℕ) (now : Machine) (place : Place) (last : Option ChainLink) (entry : Entry) → slice_get history number ≡ Some entry
-    → Sofar boot history number now place last → (fault : ReplayFault) → FailsAt number now entry fault → FailsIn boot history fault
-fails_in boot history number now place last entry at f fault h = done_fails boot history number now entry at (record { within = f.within; events = f.events }) fault h
+pub fails_in : (boot : Machine) (history : List Entry) (number : ℕ) (now after : Machine) (place : Place) (last : Option ChainLink) (entry : Entry) → slice_get history number ≡ Some entry
+    → Sofar boot history number now place last → (fault : ReplayFault) → FailsAt number now entry after fault → StopsIn boot history after fault
+fails_in boot history number now after place last entry at f fault h = done_fails boot history number now after entry at (record { within = f.within; events = f.events }) fault h

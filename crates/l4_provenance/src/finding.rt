@@ -1,9 +1,8 @@
 //! The provenance of a page.
 ghost use Rattle.std.specs.Prelude.{◌≡◌, ◌≤◌, length, MatchOption, MatchResult};
-ghost use Rattle.l4_fpage.specs.Pages.{max_frames};
-ghost use Rattle.l4_ipc.specs.Machine.{Machine, IsBoot};
+ghost use Rattle.l4_ipc.specs.Machine.{Machine};
 ghost use Rattle.l4_chains.specs.Chains.{IsProvenance, IsAbsent};
-ghost use Rattle.l4_chains.specs.Replays.{IsNotReplayed};
+ghost use Rattle.l4_chains.specs.Replays.{IsBootWith, IsNotReplayed};
 ghost use Rattle.l4_provenance.specs.Inside.Arrivals.{Arrived};
 
 use crate::replaying::{Arrival, last_arrival};
@@ -23,8 +22,7 @@ fn arrival(
 ) -> Result<Arrival, ReplayFault>
     requires { count ≤ length history.now.entries }
     ensures { MatchResult result
-        (λ a. (boot : Machine) × IsBoot frames boot × (boot.size ≡ size) × ((now : Machine) × Arrived boot history.now.entries count place now a)
-        × (1 ≤ frames) × (frames ≤ max_frames))
+        (λ a. (boot : Machine) × IsBootWith frames size boot × ((now : Machine) × Arrived boot history.now.entries count place now a))
         (IsNotReplayed frames size history.now.entries) }
 {
     let mut kernel = match Kernel::boot(alloc, frames, size) {
@@ -40,8 +38,8 @@ fn arrival(
 /// present at the end.
 ///
 /// The history is replayed once on a second kernel, and once more up to each link. Errors: `BadFrames` if the number
-/// of frames is not from 1 to 4,096, `NoMemory` if an allocation failed, and `OtherAnswer` if a step gets another
-/// answer than the history says.
+/// of frames is not from 1 to 4,096; `NoMemory` if memory runs out, also in a step of the replay where it did not run
+/// out in the history; `OtherAnswer` if a step gets any other answer than the history says.
 pub fn provenance(
     alloc: Global,
     frames: u32,
@@ -50,7 +48,7 @@ pub fn provenance(
     place: Place,
 ) -> Result<Option<Vec<ChainLink>>, ReplayFault>
     ensures { MatchResult result
-        (λ found. (boot : Machine) × IsBoot frames boot × (boot.size ≡ size)
+        (λ found. (boot : Machine) × IsBootWith frames size boot
         × MatchOption found (IsAbsent boot history.now.entries place) (λ links. IsProvenance boot history.now.entries place links.items))
         (IsNotReplayed frames size history.now.entries) }
 {

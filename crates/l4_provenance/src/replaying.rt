@@ -1,7 +1,6 @@
 //! Replays a history on a second kernel, and finds what was moved to a place.
-ghost use Rattle.std.specs.Prelude.{◌≡◌, ◌≤◌, length, IfOk, IfErr};
-ghost use Rattle.l4_chains.specs.Inside.Redoing.{FailsAt};
-ghost use Rattle.l4_chains.specs.Replays.{FailsIn};
+ghost use Rattle.std.specs.Prelude.{◌≡◌, ◌≤◌, ◌↔◌, Err, IsTrue, length, IfOk, IfErr};
+ghost use Rattle.l4_chains.specs.Replays.{RanOut, FailsAt, StopsIn};
 ghost use Rattle.l4_chains.specs.Inside.Walking.{Does};
 ghost use Rattle.l4_ipc.specs.Runs.{Run};
 ghost use Rattle.l4_record.specs.History.{steps_of, answers_of};
@@ -23,10 +22,23 @@ pub enum Arrival {
     By(ChainLink),
 }
 
+/// Returns whether a step with this refusal ran out of memory.
+fn ran_out(refused: Refused) -> bool
+    ensures { IsTrue result ↔ RanOut (Err refused) }
+{
+    let Refused::Lower(lower) = refused else {
+        return false;
+    };
+    match lower {
+        Lower::NoMemory => true,
+        _ => false,
+    }
+}
+
 /// Executes the step of the entry with this number again.
 fn again(kernel: &mut Kernel, number: usize, entry: &Entry) -> Result<(), ReplayFault>
     ensures ok { IfOk result (λ _. Does kernel.old entry.now kernel.new) }
-    ensures err { IfErr result (FailsAt number kernel.old entry.now) }
+    ensures err { IfErr result (FailsAt number kernel.old entry.now kernel.new) }
 {
     match kernel.step(&entry.step) {
         Ok(answer) => {
@@ -38,8 +50,12 @@ fn again(kernel: &mut Kernel, number: usize, entry: &Entry) -> Result<(), Replay
                 _ => Err(ReplayFault::OtherAnswer(number)),
             }
         }
-        Err(Refused::Lower(Lower::NoMemory)) => Err(ReplayFault::NoMemory),
-        Err(_) => Err(ReplayFault::OtherAnswer(number)),
+        Err(refused) => {
+            if ran_out(refused) {
+                return Err(ReplayFault::NoMemory);
+            }
+            Err(ReplayFault::OtherAnswer(number))
+        }
     }
 }
 
@@ -73,7 +89,7 @@ pub fn last_arrival(
 ) -> Result<Arrival, ReplayFault>
     requires { count ≤ length history.now.entries }
     ensures ok { IfOk result (Arrived kernel.old history.now.entries count place kernel.new) }
-    ensures err { IfErr result (FailsIn kernel.old history.now.entries) }
+    ensures err { IfErr result (StopsIn kernel.old history.now.entries kernel.new) }
 {
     let mut last = None;
     kernel.law_forest();
@@ -97,11 +113,14 @@ pub fn last_arrival(
     }
 }
 
-/// Replays all steps of a history on a kernel. Errors: `NoMemory` if an allocation failed, and `OtherAnswer` if a
-/// step gets another answer than the history says. After an error, the state of the kernel is unspecified.
+/// Replays all steps of a history on a kernel.
+///
+/// Errors: `NoMemory` if memory runs out in a step, and not in the history's; `OtherAnswer` if a step gets any other
+/// answer than the history says. After either, the steps before that one have been executed with the history's
+/// answers, then that step with its own answer, and no later step.
 pub fn replay(kernel: &mut Kernel, history: &History) -> Result<(), ReplayFault>
     ensures ok { IfOk result (λ _. Run kernel.old (steps_of history.now.entries) (answers_of history.now.entries) kernel.new) }
-    ensures err { IfErr result (FailsIn kernel.old history.now.entries) }
+    ensures err { IfErr result (StopsIn kernel.old history.now.entries kernel.new) }
 {
     kernel.law_forest();
     for number in 0..history.len() {

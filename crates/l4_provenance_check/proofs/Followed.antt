@@ -1,22 +1,22 @@
 -- The part of a chain that has been followed.
-use Rattle.std.proofs.Common.{◌≡◌, ℕ, suc, ◌+◌, ◌^◌, ◌<◌, inl, inr, List, [], ◌∷◌, ◌++◌, length, Ok, refl, sym, ap, ◌∙◌, subst, arith}
+use Rattle.std.proofs.Common.{◌≡◌, ℕ, suc, ◌+◌, ◌^◌, ◌<◌, ◌≤◌, inl, inr, List, [], ◌∷◌, ◌++◌, length, take, Ok, refl, sym, ap, ◌∙◌, subst, arith}
 use Rattle.std.proofs.lemmas.List.{append-nil, length-append, length_push}
+use Rattle.std.proofs.Math.Seq.{take-append_seam}
 use mathlib.Core.List.{append_assoc}
 use Rattle.l4_mapdb.specs.declared.Place.{Place}
 use Rattle.l4_mapdb.specs.Mappings.{IsForest, IsPresent}
 use Rattle.l4_ipc.specs.Machine.{Machine}
+use Rattle.l4_ipc.specs.Runs.{Run}
 use Rattle.l4_ipc.proofs.OneState.{one_step}
 use Rattle.l4_ipc.proofs.Tracing.{run_of}
 use Rattle.l4_record.specs.declared.entries.Entry.{Entry}
 use Rattle.l4_record.specs.History.{steps_of, answers_of, HasEvents}
 use Rattle.l4_record.proofs.Laws.{no_events, events_more}
 use Rattle.l4_chains.specs.declared.faults.ReplayFault.{ReplayFault}
-use Rattle.l4_chains.specs.declared.faults.ReplayFault.TheVariants.{BadFrames, NoMemory, OtherAnswer}
 use Rattle.l4_chains.specs.declared.links.ChainLink.{ChainLink}
 use Rattle.l4_chains.specs.Inside.Walking.{Does, IsNotDue, Passes, PassesAll, IsWalked}
 use Rattle.l4_chains.specs.Chains.{origin_of}
-use Rattle.l4_chains.specs.Inside.Redoing.{FailsAt}
-use Rattle.l4_chains.specs.Replays.{FailsIn}
+use Rattle.l4_chains.specs.Replays.{FailsAt, StopsIn}
 use Rattle.l4_provenance_check.specs.Inside.Following.{NonePasses, Walked}
 
 -- The earlier entries lead to this machine. The links that are left lead on from the place over the rest exactly if all links lead over the whole history.
@@ -89,6 +89,12 @@ module _ (old : Machine) (history : List Entry) (last : Place) (links : List Cha
 
   -- if no entry is left
   module _ (number : ℕ) (now : Machine) (place : Place) (left : List ChainLink) (rest : List Entry) (none : rest ≡ []) (f : Followed old history last links number now place left rest) where
+    pub replayed_all : Run old (steps_of history) (answers_of history) now
+    replayed_all =
+        let whole : f.earlier ≡ history = sym (f.history_is ∙ ap (λ (es : List Entry). f.earlier ++ es) none ∙ append-nil f.earlier) in
+        let events : HasEvents old history now = subst (λ (es : List Entry). HasEvents old es now) whole f.events in
+        run_of old (steps_of history) (answers_of history) events.events now events.trace
+
     pub walked_all : left ≡ [] → place ≡ last → IsPresent now.mappings last → Walked old history last links
     walked_all empty there present =
         let whole : f.earlier ≡ history = sym (f.history_is ∙ ap (λ (es : List Entry). f.earlier ++ es) none ∙ append-nil f.earlier) in
@@ -111,22 +117,31 @@ module _ (old : Machine) (history : List Entry) (last : Place) (links : List Cha
         let all : PassesAll number now (entry ∷ others) w.now place left last = subst (λ (es : List Entry). PassesAll number now es w.now place left last) is (f.back w.now w.passes) in
         none all.0 all.2 all.3 all.1 all.4
 
-    pub fails_in : (fault : ReplayFault) → FailsAt number now entry fault → FailsIn old history fault
-    fails_in BadFrames h = h
-    fails_in NoMemory h = h
-    fails_in (OtherAnswer n) h = record {
+    pub fails_in : (after : Machine) (fault : ReplayFault) → FailsAt number now entry after fault → StopsIn old history after fault
+    fails_in after fault h = record {
       earlier = f.earlier;
       entry = entry;
       later = others;
       history_is = f.history_is ∙ ap (λ (es : List Entry). f.earlier ++ es) is;
-      number_is = h.0 ∙ f.number_is;
-      now = now;
+      before = now;
       run = run_of old (steps_of f.earlier) (answers_of f.earlier) f.events.events now f.events.trace;
-      answer = h.1.0;
-      next = h.1.1;
-      step = h.1.2;
-      other = h.1.3;
+      fails = subst (λ (n : ℕ). FailsAt n now entry after fault) f.number_is h;
     }
+
+    -- the history up to the entry, including it
+    pub done_with : (after : Machine) → Does now entry after → IsForest after.mappings → HasEvents old (take (number + 1) history) after
+    done_with after does forest =
+        let long : length (f.earlier ++ entry ∷ []) ≡ number + 1 = length_push f.earlier entry ∙ ap (λ (n : ℕ). n + 1) (sym f.number_is) in
+        let split : history ≡ (f.earlier ++ entry ∷ []) ++ others = f.history_is ∙ ap (λ (es : List Entry). f.earlier ++ es) is ∙ sym (append_assoc f.earlier (entry ∷ []) others) in
+        let first : take (number + 1) history ≡ f.earlier ++ entry ∷ [] =
+        ap (λ (es : List Entry). take (number + 1) es) split ∙ ap (λ (n : ℕ). take n ((f.earlier ++ entry ∷ []) ++ others)) (sym long) ∙ take-append_seam (f.earlier ++ entry ∷ []) others in
+        subst (λ (es : List Entry). HasEvents old es after) (sym first) (events_more old f.earlier now entry after f.events does forest)
+
+    pub one_more_within : number + 1 ≤ length history
+    one_more_within =
+        let long : length history ≡ length f.earlier + length (entry ∷ others) =
+        ap length (f.history_is ∙ ap (λ (es : List Entry). f.earlier ++ es) is) ∙ length-append f.earlier (entry ∷ others) in
+        omega (arith, long, f.number_is)
 
     -- the number of an entry fits
     pub few : length history < 2 ^ 64 → number + 1 < 2 ^ 64

@@ -1,13 +1,14 @@
 //! The check of a provenance.
 ghost use Rattle.std.specs.Prelude.{◌≡◌, ◌↔◌, ℕ, List, IsTrue, IfOk, IfErr, MatchResult};
-ghost use Rattle.l4_fpage.specs.Pages.{max_frames};
-ghost use Rattle.l4_ipc.specs.Machine.{Machine, IsBoot};
+ghost use Rattle.l4_ipc.specs.Machine.{Machine};
+ghost use Rattle.l4_ipc.specs.Runs.{Run};
+ghost use Rattle.l4_record.specs.History.{steps_of, answers_of};
 ghost use Rattle.l4_chains.specs.Chains.{IsProvenance, origin_of};
-ghost use Rattle.l4_chains.specs.Replays.{IsNotReplayed, FailsIn};
+ghost use Rattle.l4_chains.specs.Replays.{IsBootWith, IsReplayed, IsNotReplayed, StopsIn};
 ghost use Rattle.l4_chains.specs.Inside.Walking.{IsWalked};
 ghost use Rattle.l4_provenance_check.specs.Inside.Following.{Walked};
 
-use crate::passing::{is_at, pass};
+use crate::passing::{is_at, pass, replay_from};
 use l4_chains::{ChainLink, ReplayFault};
 use l4_ipc::{Kernel, PageSize, Place, Refused};
 use l4_record::History;
@@ -23,7 +24,8 @@ fn origin(links: &[ChainLink], place: Place) -> Place
     }
 }
 
-/// Whether the links lead over the whole history, which is done on the kernel, to the place, which is present then.
+/// Replays the whole history on the kernel. Returns whether the links lead over it to the place, and the place is
+/// present then.
 fn leads(
     kernel: &mut Kernel,
     history: &History,
@@ -32,7 +34,8 @@ fn leads(
 ) -> Result<bool, ReplayFault>
     ensures yes { IfOk result (λ yes. IsTrue yes → Walked kernel.old history.now.entries place links.now) }
     ensures only { IfOk result (λ yes. IsWalked kernel.old history.now.entries place links.now → IsTrue yes) }
-    ensures err { IfErr result (FailsIn kernel.old history.now.entries) }
+    ensures run { IfOk result (λ _. Run kernel.old (steps_of history.now.entries) (answers_of history.now.entries) kernel.new) }
+    ensures err { IfErr result (StopsIn kernel.old history.now.entries kernel.new) }
 {
     let mut number = 0usize;
     let mut reached = origin(links, place);
@@ -44,7 +47,13 @@ fn leads(
                 reached = next;
                 left = rest;
             }
-            Ok(None) => return Ok(false),
+            Ok(None) => {
+                kernel.law_forest();
+                if let Err(fault) = replay_from(kernel, history, number + 1) {
+                    return Err(fault);
+                }
+                return Ok(false);
+            }
             Err(fault) => return Err(fault),
         }
         kernel.law_forest();
@@ -64,8 +73,9 @@ fn leads(
 /// frames of this size: the transfers that brought it there, one after another, from a page that sigma0 had at boot.
 /// A page that is not present at the end has no provenance.
 ///
-/// The history is replayed on a second kernel. Errors: `BadFrames` if the number of frames is not from 1 to 4,096,
-/// `NoMemory` if an allocation failed, and `OtherAnswer` if a step gets another answer than the history says.
+/// The whole history is replayed on a second kernel, also if the links are wrong. Errors: `BadFrames` if the number
+/// of frames is not from 1 to 4,096; `NoMemory` if memory runs out, also in a step of the replay where it did not run
+/// out in the history; `OtherAnswer` if a step gets any other answer than the history says.
 pub fn check_provenance(
     alloc: Global,
     frames: u32,
@@ -75,7 +85,8 @@ pub fn check_provenance(
     links: &[ChainLink],
 ) -> Result<bool, ReplayFault>
     ensures { MatchResult result
-        (λ yes. (boot : Machine) × IsBoot frames boot × (boot.size ≡ size) × (IsTrue yes ↔ IsProvenance boot history.now.entries place links.now))
+        (λ yes. (boot : Machine) × IsBootWith frames size boot × IsReplayed boot history.now.entries
+        × (IsTrue yes ↔ IsProvenance boot history.now.entries place links.now))
         (IsNotReplayed frames size history.now.entries) }
 {
     let mut kernel = match Kernel::boot(alloc, frames, size) {

@@ -204,6 +204,23 @@ fn not_replayed(rt: HostRuntime) {
     );
 }
 
+/// With fewer frames root does not have the page, so its fault gets another answer. Links that are wrong before that entry do not hide this.
+#[test]
+fn another_answer_behind_wrong_links(rt: HostRuntime) {
+    let alloc = rt.alloc();
+    let mut recorder = recorder(&rt, alloc);
+    let told = &mut Appended::new();
+    let fault = Call::fault(7 * 4096, 0, Rights::R);
+    assert!(rt; recorder.enter(ROOT, &fault, told).is_ok());
+    let history = recorder.history();
+    let place = page(1, 7);
+    assert!(rt; judges(alloc, history, place, &links(), true));
+    assert_eq!(rt;
+        check_provenance(alloc, 8, SIZE, history, place, &links()),
+        Err(ReplayFault::OtherAnswer(7))
+    );
+}
+
 /// There is no kernel with 0 or 5,000 frames, so the check is refused, even for a history without entries.
 #[test]
 fn no_such_kernel(rt: HostRuntime) {

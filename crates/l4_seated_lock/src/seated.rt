@@ -2,7 +2,7 @@
 ghost use Rattle.std.specs.Prelude.{◌≡◌, ◌≢◌, ◌⊎◌, ◌+◌, ◌↔◌, [], ◌∷◌, ◌++◌, None, Some, IsTrue, IfOk, IfErr, IfSome, IfNone, MatchResult, MatchOption, false};
 ghost use Rattle.l4_ipc.specs.Machine.{Machine, IsBoot};
 ghost use Rattle.l4_chains.specs.Chains.{IsProvenance, IsAbsent};
-ghost use Rattle.l4_chains.specs.Replays.{IsNotReplayed};
+ghost use Rattle.l4_chains.specs.Replays.{IsBootWith, IsReplayed, IsNotRepeated};
 ghost use Rattle.l4_record.specs.Laws.{IsWholeRun};
 ghost use Rattle.l4_lock.specs.Books.{book, book_at, reply_waits};
 ghost use Rattle.l4_lock.specs.Closing.{IsShown, Closes, Mismatches, by_history};
@@ -175,25 +175,27 @@ impl SeatedLock {
     /// Returns the provenance of a page of a space, by the history: the transfers that brought the page there from a page that sigma0 had
     /// at boot, in their order. Returns `Ok(None)` if the page is not present.
     ///
-    /// The history is executed again on a separate kernel, and once up to each link. Returns `NoMemory` if an allocation fails. Returns
-    /// `OtherAnswer` if a transfer ran out of memory when it was entered, and does not run out now. A lock never has a number of frames for
-    /// which `BadFrames` is returned.
+    /// The history is executed again on a separate kernel, and once up to each link. Returns `NoMemory` if memory runs out. Returns
+    /// `OtherAnswer` only with the entry of a transfer that ran out of memory when it was entered, and does not run out now. A lock never has
+    /// a number of frames for which `BadFrames` is returned.
     pub fn provenance(
         &self,
         alloc: Global,
         place: Place,
     ) -> Result<Option<Vec<ChainLink>>, ReplayFault>
         ensures { MatchResult result
-            (λ found. (boot : Machine) × IsBoot self.now.frames boot × (boot.size ≡ self.now.kernel.size)
+            (λ found. (boot : Machine) × IsBootWith self.now.frames self.now.kernel.size boot
             × MatchOption found (IsAbsent boot self.now.history place) (λ links. IsProvenance boot self.now.history place links.items))
-            (IsNotReplayed self.now.frames self.now.kernel.size self.now.history) }
+            (IsNotRepeated self.now.frames self.now.kernel.size self.now.history) }
     {
+        self.locked.law_history();
         let size = self.kernel().page_size();
         provenance(alloc, self.locked.frames(), size, self.history(), place)
     }
 
     /// Returns whether the list of links is that provenance. The checker shares no code with the finder. If the page is not present, the
-    /// result is `false` for every list. The faults are those of `provenance`.
+    /// result is `false` for every list. The faults are those of `provenance`: the whole history is executed again, also if the links are
+    /// wrong.
     pub fn check_provenance(
         &self,
         alloc: Global,
@@ -201,10 +203,11 @@ impl SeatedLock {
         links: &[ChainLink],
     ) -> Result<bool, ReplayFault>
         ensures { MatchResult result
-            (λ yes. (boot : Machine) × IsBoot self.now.frames boot × (boot.size ≡ self.now.kernel.size)
+            (λ yes. (boot : Machine) × IsBootWith self.now.frames self.now.kernel.size boot × IsReplayed boot self.now.history
             × (IsTrue yes ↔ IsProvenance boot self.now.history place links.now))
-            (IsNotReplayed self.now.frames self.now.kernel.size self.now.history) }
+            (IsNotRepeated self.now.frames self.now.kernel.size self.now.history) }
     {
+        self.locked.law_history();
         let size = self.kernel().page_size();
         check_provenance(
             alloc,

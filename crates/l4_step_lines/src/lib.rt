@@ -15,7 +15,7 @@ pub use asked::put_step;
 pub use judging::{JudgeFault, judge};
 pub use laws::the_line_of_a_step_reads_back;
 pub use running::{Fault, run};
-pub use session::do_step;
+pub use session::put_answer;
 
 #[cfg(test)]
 mod tests;

@@ -1,7 +1,7 @@
 //! The lines of a list, executed on a kernel.
-ghost use Rattle.std.specs.Prelude.{◌≡◌, ◌≤◌, ◌||◌, length, ℕ, List, Result};
+ghost use Rattle.std.specs.Prelude.{◌≡◌, ◌≤◌, ◌||◌, length, ℕ, List, Result, Ok};
 ghost use Rattle.std.specs.Option.{option_copied};
-ghost use Rattle.l4_ipc.specs.declared.steps.Answer.{Answer};
+ghost use Rattle.l4_ipc.specs.declared.steps.Answer.{Answer as AnAnswer};
 ghost use Rattle.l4_ipc.specs.declared.steps.Refused.{Refused};
 ghost use Rattle.l4_ipc.specs.Steps.{Steps};
 ghost use Rattle.l4_step_lines.specs.Answers.{ended_lines, answer_lines, reply_line};
@@ -18,7 +18,7 @@ use crate::answers::{
 use crate::requests::{Request, read_request};
 use crate::running::Fault;
 use l4_answers::put_shown;
-use l4_ipc::{Kernel, Step};
+use l4_ipc::{Answer, Kernel, Step};
 use l4_text::{Ending, Output, next_token};
 use l4_threads::Reply;
 use std::io::Write;
@@ -40,9 +40,25 @@ fn tell_ended<W: Write>(
     }
 }
 
-/// Does a step, and tells what it did and how the calls ended that ended in it, or why it is refused: each line after a mark of at most
+/// Writes what a step did and how the calls ended that ended in it, each line after a mark of at most eight bytes.
+pub fn put_answer<W: Write>(
+    kernel: &Kernel,
+    answer: &Answer,
+    mark: &[u8],
+    out: &mut Output,
+    writer: &mut W,
+)
+    requires { length mark.now ≤ 8 }
+    ensures { Tells (W.contents writer.old) (W.contents writer.new) out.old out.new
+        (answer_lines mark.now (Ok answer.now) kernel.now) }
+{
+    out.put(writer, &outcome_text(mark, answer.outcome));
+    tell_ended(kernel, answer.ended.as_slice(), mark, out, writer);
+}
+
+/// Executes a step, and writes what it did and how the calls ended that ended in it, or why it is refused, each line after a mark of at most
 /// eight bytes.
-pub fn do_step<W: Write>(
+fn do_step<W: Write>(
     kernel: &mut Kernel,
     step: &Step,
     mark: &[u8],
@@ -50,15 +66,13 @@ pub fn do_step<W: Write>(
     writer: &mut W,
 )
     requires { length mark.now ≤ 8 }
-    ensures { (answer : Result Answer Refused) × Steps kernel.old step.now answer kernel.new
+    ensures { (answer : Result AnAnswer Refused) × Steps kernel.old step.now answer kernel.new
         × Tells (W.contents writer.old) (W.contents writer.new) out.old out.new (answer_lines mark.now answer kernel.new) }
 {
-    let answer = match kernel.step(step) {
-        Ok(answer) => answer,
-        Err(refused) => return out.put(writer, &refused_text(mark, refused)),
-    };
-    out.put(writer, &outcome_text(mark, answer.outcome));
-    tell_ended(kernel, answer.ended.as_slice(), mark, out, writer);
+    match kernel.step(step) {
+        Ok(answer) => put_answer(kernel, &answer, mark, out, writer),
+        Err(refused) => out.put(writer, &refused_text(mark, refused)),
+    }
 }
 
 /// Writes the line of a page, if it is present.

@@ -1,5 +1,5 @@
 -- What is found of a page, and what is told of it.
-use Rattle.std.proofs.Common.{◌≡◌, ℕ, List, Option, Some, None, Result, Ok, Err, IsTrue, is_some, inl, inr, refl, sym, ◌∙◌, subst}
+use Rattle.std.proofs.Common.{◌≡◌, ℕ, List, Option, Some, None, Result, Ok, Err, IsTrue, is_some, refl, sym, ◌∙◌, subst}
 use Rattle.std.proofs.lemmas.Bool.{false≢true}
 use Rattle.std.specs.Global.{Vec}
 use Rattle.std.specs.Io.KnownBytes.{Appends}
@@ -15,6 +15,7 @@ use Rattle.l4_record.specs.declared.entries.Entry.{Entry}
 use Rattle.l4_record.specs.History.{steps_of, answers_of}
 use Rattle.l4_chains.specs.declared.links.ChainLink.{ChainLink}
 use Rattle.l4_chains.specs.Chains.{IsProvenance, IsAbsent}
+use Rattle.l4_chains.specs.Replays.{IsBootWith}
 use Rattle.l4_provenance.proofs.Back.{one_boot}
 use Rattle.l4_shell.specs.Histories.{Records}
 use Rattle.l4_text.specs.Streams.{WentOut}
@@ -65,8 +66,8 @@ module _ (frames : ℕ) (size : PageSize) (history : List Entry) (now : Machine)
   is_unknown none = answered Unknown none
 
   -- of another kernel that booted alike
-  same_boot : (P : Machine → Type 0) → (b : Machine) × IsBoot frames b × (b.size ≡ size) × P b → P e.boot
-  same_boot P other = subst P (one_boot frames other.0 e.boot other.1 e.boots (other.2 ∙ sym e.size_is)) other.3
+  same_boot : (P : Machine → Type 0) → (b : Machine) × IsBootWith frames size b × P b → P e.boot
+  same_boot P other = subst P (one_boot frames other.0 e.boot other.1.0 e.boots (other.1.1 ∙ sym e.size_is)) other.2
 
   module _ (thread : Thread) (at : thread_at now.threads asked.thread ≡ Some thread) where
     abbrev pub place : Place
@@ -75,10 +76,10 @@ module _ (frames : ℕ) (size : PageSize) (history : List Entry) (now : Machine)
     pub is_absent : shown now.mappings place ≡ None → IsAnswer frames size history asked Absent
     is_absent none = answered Absent (place, (thread, at, refl), record { now = now; run = e.run; absent = subst (λ (o : Option Mapping). ¬ (IsTrue (is_some o))) (sym none) (λ h. false≢true h) })
 
-    pub is_found_absent : (b : Machine) × IsBoot frames b × (b.size ≡ size) × IsAbsent b history place → IsAnswer frames size history asked Absent
+    pub is_found_absent : (b : Machine) × IsBootWith frames size b × IsAbsent b history place → IsAnswer frames size history asked Absent
     is_found_absent other = answered Absent (place, (thread, at, refl), same_boot (λ b. IsAbsent b history place) other)
 
-    pub is_chain : (links : Vec ChainLink) (shows : Mapping) → (b : Machine) × IsBoot frames b × (b.size ≡ size) × IsProvenance b history place links.items → shown now.mappings place ≡ Some shows
+    pub is_chain : (links : Vec ChainLink) (shows : Mapping) → (b : Machine) × IsBootWith frames size b × IsProvenance b history place links.items → shown now.mappings place ≡ Some shows
         → IsAnswer frames size history asked (Chain place links shows)
     is_chain links shows other is = answered (Chain place links shows) ((thread, at, refl), same_boot (λ b. IsProvenance b history place links.items) other, is)
 
@@ -103,7 +104,7 @@ module _ (frames : ℕ) (size : PageSize) (asked : ThreadPage) (old new written 
 
     -- a beginning of it
     pub some_told : WentOut written now (answer_text history answer) → TellsWhy frames size asked old new written now (Err Write)
-    some_told out = inl (record { count = count; found = presence answer; text = answer_text history answer; has_why = has_why; out = out })
+    some_told out = record { count = count; found = presence answer; text = answer_text history answer; has_why = has_why; out = out }
 
   -- it was not, and nothing was written
   stopped : (fault : RunFault) → read ≡ Err fault → Records frames size old new history (Err fault)
@@ -111,5 +112,5 @@ module _ (frames : ℕ) (size : PageSize) (asked : ThreadPage) (old new written 
 
   pub none_told : (fault : RunFault) → read ≡ Err fault → now ≡ written → TellsWhy frames size asked old new written now (Err fault)
   none_told Read is same = record { history = history; records = stopped Read is; unwritten = same }
-  none_told Write is same = inr (record { history = history; records = stopped Write is; unwritten = same })
+  none_told Write is same = absurd (stopped Write is).answered
   none_told Memory is same = same

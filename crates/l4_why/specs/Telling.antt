@@ -1,5 +1,5 @@
 -- How a page of a thread's space got there, as it is written for a script (this profile's own).
-use Rattle.std.specs.Prelude.{ℕ, ◌≡◌, ◌⊎◌, List, ◌++◌, Option, Some, None, Result, Ok, Err, codes}
+use Rattle.std.specs.Prelude.{ℕ, ◌≡◌, List, ◌++◌, Option, Some, None, Result, Ok, Err, codes}
 use Rattle.std.specs.Io.KnownBytes.{Appends}
 use Rattle.l4_fpage.specs.declared.sizes.PageSize.{PageSize}
 use Rattle.l4_mapdb.specs.declared.Mapping.{Mapping}
@@ -59,16 +59,16 @@ pub record IsWhy (frames : ℕ) (size : PageSize) (history : List Entry) (asked 
   pub run : Run boot (steps_of history) (answers_of history) now
   pub is_text : IsThreadText boot now history (thread_at now.threads asked.thread) asked.page found text
 
--- a script of this number of lines was executed to its end, and this is the text about the page
+-- a script with this number of lines was executed to its end, and this is the text about the page
 pub record HasWhy (frames : ℕ) (size : PageSize) (asked : ThreadPage) (old new : Option (List ℕ)) (count : ℕ) (found : Presence) (text : List ℕ) : Type 0 where
   pub history : List Entry
   pub records : Records frames size old new history (Ok count)
   pub is_why : IsWhy frames size history asked found text
 
--- a script was executed in part, and nothing was written
-pub record HasStopped (frames : ℕ) (size : PageSize) (old new written now : Option (List ℕ)) (fault : RunFault) : Type 0 where
+-- the lines of a script before a read that failed were executed, and nothing was written
+pub record HasStopped (frames : ℕ) (size : PageSize) (old new written now : Option (List ℕ)) : Type 0 where
   pub history : List Entry
-  pub records : Records frames size old new history (Err fault)
+  pub records : Records frames size old new history (Err Read)
   pub unwritten : now ≡ written
 
 -- a prefix of the text was written
@@ -79,12 +79,11 @@ pub record HasBegun (frames : ℕ) (size : PageSize) (asked : ThreadPage) (old n
   pub has_why : HasWhy frames size asked old new count found text
   pub out : WentOut written now text
 
--- For a script that was read to its end, the text was written, or a prefix of it if a write failed. Nothing was written if a read failed or
+-- The text about a script that was read to its end was written, or a prefix of it if a write failed. Nothing was written if a read failed or
 -- memory ran out.
 abbrev pub TellsWhy : ℕ → PageSize → ThreadPage → Option (List ℕ) → Option (List ℕ) → Option (List ℕ) → Option (List ℕ) → Result Presence RunFault → Type 0
 TellsWhy frames size asked old new written now (Ok found) =
     (count : ℕ) × (text : List ℕ) × HasWhy frames size asked old new count found text × Appends written now text
-TellsWhy frames size asked old new written now (Err Read) = HasStopped frames size old new written now Read
-TellsWhy frames size asked old new written now (Err Write) =
-    HasBegun frames size asked old new written now ⊎ HasStopped frames size old new written now Write
+TellsWhy frames size asked old new written now (Err Read) = HasStopped frames size old new written now
+TellsWhy frames size asked old new written now (Err Write) = HasBegun frames size asked old new written now
 TellsWhy frames size asked old new written now (Err Memory) = now ≡ written

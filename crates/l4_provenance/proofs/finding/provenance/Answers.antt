@@ -1,6 +1,7 @@
 use Rattle.std.proofs.Common.{◌≡◌, List, sym, subst}
-use Rattle.l4_ipc.specs.Machine.{Machine, IsBoot}
+use Rattle.l4_ipc.specs.Machine.{Machine}
 use Rattle.l4_chains.specs.Chains.{IsProvenance}
+use Rattle.l4_chains.specs.Replays.{IsBootWith}
 use Rattle.l4_chains.specs.declared.links.ChainLink.{ChainLink}
 use Rattle.l4_provenance.specs.declared.replaying.Arrival.{Arrival}
 use Rattle.l4_provenance.proofs.Back.{Back, Came, came_of, back_next, found_all, found_none}
@@ -18,7 +19,7 @@ returns-in-AtBoot c =
     let h = c.args.history.now.entries in
     let a = subst (λ (x : Arrival). Came c.args.frames c.args.size h c.loop-came.count c.loop-came.reached x) c.in-AtBoot.is
     (came_of c.args.frames c.args.size h c.loop-came.count c.loop-came.reached c.in-Ok.came c.in-Ok.ensures) in
-    subst (λ (l : List ChainLink). (boot : Machine) × IsBoot c.args.frames boot × (boot.size ≡ c.args.size) × IsProvenance boot h c.args.place l) (sym c.reverse.ensures.items)
+    subst (λ (l : List ChainLink). (boot : Machine) × IsBootWith c.args.frames c.args.size boot × IsProvenance boot h c.args.place l) (sym c.reverse.ensures.items)
     (found_all c.args.frames c.args.size h c.args.place c.loop-came.count c.loop-came.reached c.loop-came.links.items c.loop-came.invariant a)
 
 pub loop-came-preserved : goal.loop-came-preserved

@@ -5,7 +5,7 @@ use Rattle.l4_provenance.proofs.replaying.last_arrival.Goals as goal
 
 pub returns-in-Err-clause-err : goal.returns-in-Err-clause-err
 returns-in-Err-clause-err c =
-    fails_in c.args.kernel.now c.args.history.now.entries c.loop-number.number c.loop-number.kernel c.args.place c.loop-number.last c.in-Some.entry (sym c.get.ensures ∙ c.in-Some.is) c.loop-number.invariant
+    fails_in c.args.kernel.now c.args.history.now.entries c.loop-number.number c.loop-number.kernel c.again.new.kernel c.args.place c.loop-number.last c.in-Some.entry (sym c.get.ensures ∙ c.in-Some.is) c.loop-number.invariant
     c.in-Err.fault c.in-Err.ensures.err
 
 pub loop-number-preserved : goal.loop-number-preserved

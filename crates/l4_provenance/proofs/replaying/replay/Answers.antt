@@ -1,5 +1,5 @@
 use Rattle.std.proofs.Common.{arith, sym, ◌∙◌, ◌≡◌, length}
-use Rattle.l4_provenance.proofs.Sofar.{done_first, done_next, done_all, done_fails}
+use Rattle.l4_chains.proofs.Replayed.{done_first, done_next, done_all, done_fails}
 use Rattle.l4_provenance.proofs.replaying.replay.Goals as goal
 
 pub loop-number-init : goal.loop-number-init
@@ -7,7 +7,7 @@ loop-number-init c = done_first c.args.kernel.now c.args.history.now.entries c.l
 
 pub returns-in-Err-clause-err : goal.returns-in-Err-clause-err
 returns-in-Err-clause-err c =
-    done_fails c.args.kernel.now c.args.history.now.entries c.loop-number.number c.loop-number.kernel c.in-Some.entry (sym c.get.ensures ∙ c.in-Some.is) c.loop-number.invariant c.in-Err.fault c.in-Err.ensures.err
+    done_fails c.args.kernel.now c.args.history.now.entries c.loop-number.number c.loop-number.kernel c.again.new.kernel c.in-Some.entry (sym c.get.ensures ∙ c.in-Some.is) c.loop-number.invariant c.in-Err.fault c.in-Err.ensures.err
 
 pub loop-number-preserved : goal.loop-number-preserved
 loop-number-preserved c =

@@ -19,11 +19,11 @@ returns-in-Ok-Some c =
     let found = c.in-Ok-Some.ensures in
     is_chain c.args.frames c.args.size c.args.history.now.entries c.replay.new.kernel c.args.asked
     (record { boot = c.in-Ok.kernel; boots = c.in-Ok.ensures.0; size_is = c.in-Ok.ensures.1; run = c.in_default-replay.ensures.ok }) c.in-Some.thread.now (sym c.in-Some.ensures)
-    c.in-Ok-Some.links c.in-Some-mapping.shows (found.0, found.1, found.2, some_is _ _ _ _ c.in-Ok-Some.field-0-is found.3) (sym c.mapping.ensures ∙ c.in-Some-mapping.is)
+    c.in-Ok-Some.links c.in-Some-mapping.shows (found.0, found.1, some_is _ _ _ _ c.in-Ok-Some.field-0-is found.2) (sym c.mapping.ensures ∙ c.in-Some-mapping.is)
 
 pub returns-in-Ok-None : goal.returns-in-Ok-None
 returns-in-Ok-None c =
     let found = c.in-Ok-None.ensures in
     is_found_absent c.args.frames c.args.size c.args.history.now.entries c.replay.new.kernel c.args.asked
     (record { boot = c.in-Ok.kernel; boots = c.in-Ok.ensures.0; size_is = c.in-Ok.ensures.1; run = c.in_default-replay.ensures.ok }) c.in-Some.thread.now (sym c.in-Some.ensures)
-    (found.0, found.1, found.2, none_is _ _ _ c.in-Ok-None.field-0-is found.3)
+    (found.0, found.1, none_is _ _ _ c.in-Ok-None.field-0-is found.2)
