@@ -32,6 +32,8 @@ ACCESS is the sum of r (4), w (2) and x (1).
   refused CODE               the step was refused and changed nothing (l4 --help
                              lists the codes)
 
+If a line is invalid, standard error names its wrong token and what was expected.
+
 Exit status: 0 at the end of the list, 2 if the command line or a line is
 invalid, 3 if a read or a write failed, 4 if there is not enough memory.
 

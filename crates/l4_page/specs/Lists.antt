@@ -12,7 +12,7 @@ abbrev pub IsEnd : Result (Unit {0}) Fault → Bool → ℕ → Type 0
 IsEnd (Ok u) whole line = (whole ≡ true) × (line ≡ 0)
 IsEnd (Err (Cut number)) whole line = (whole ≡ false) × (line ≡ number)
 IsEnd (Err (Long number)) whole line = (whole ≡ false) × (line ≡ number)
-IsEnd (Err (Unread number)) whole line = (whole ≡ false) × (line ≡ number)
+IsEnd (Err (Unread number reason)) whole line = (whole ≡ false) × (line ≡ number)
 IsEnd (Err (Stopped fault)) whole line = ⊥
 
 -- THE RESULT OF A STEP LIST: the text of the answers to its lines, up to the first line that cannot be read, and the number of that line;

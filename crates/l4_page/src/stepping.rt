@@ -19,7 +19,7 @@ fn stepped(alloc: Global, list: &[u8], frames: u32, size: PageSize, out: &mut [u
         Ok(()) => tell(text.as_slice(), true, 0, out),
         Err(Fault::Cut(line)) => tell(text.as_slice(), false, line, out),
         Err(Fault::Long(line)) => tell(text.as_slice(), false, line, out),
-        Err(Fault::Unread(line)) => tell(text.as_slice(), false, line, out),
+        Err(Fault::Unread(line, _)) => tell(text.as_slice(), false, line, out),
         Err(Fault::Stopped(_)) => refused(NO_MEMORY),
     }
 }

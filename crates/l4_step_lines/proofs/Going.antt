@@ -20,6 +20,7 @@ use Rattle.l4_step_lines.specs.declared.running.Fault.{Fault}
 use Rattle.l4_step_lines.specs.declared.running.Fault.TheVariants.{Stopped, Cut, Long, Unread}
 use Rattle.l4_step_lines.specs.Lines.{TextLine, in_front, lines_of}
 use Rattle.l4_step_lines.specs.Requests.{request_of}
+use Rattle.l4_step_lines.specs.Stops.{unread_says}
 use Rattle.l4_step_lines.specs.Lists.{is_comment, is_empty, asked_at, asked_of, AnswersAsked, AnswersLines, Reads, EndsWith, Runs}
 use Rattle.l4_step_lines.specs.Inside.Telling.{TellsLine, TellsFirst, TellsList}
 
@@ -239,9 +240,9 @@ names_at : (number : ℕ) (ending : Ending) (bytes : List ℕ) → Names (asked_
 names_at number IsCut bytes = tt
 names_at number TooLong bytes = tt
 names_at number Whole bytes =
-    elim (is_comment bytes || is_empty (tokens_of bytes)) as (λ b. Names (cond b (Ok None) (ok_or (option_map Some (request_of (tokens_of bytes))) (Unread number)))) [
+    elim (is_comment bytes || is_empty (tokens_of bytes)) as (λ b. Names (cond b (Ok None) (ok_or (option_map Some (request_of (tokens_of bytes))) (Unread number (unread_says number (tokens_of bytes)))))) [
       | true ↦ tt
-      | false ↦ elim (request_of (tokens_of bytes)) as (λ o. Names (ok_or (option_map Some o) (Unread number))) [ None ↦ tt | Some request ↦ tt ]
+      | false ↦ elim (request_of (tokens_of bytes)) as (λ o. Names (ok_or (option_map Some o) (Unread number (unread_says number (tokens_of bytes))))) [ None ↦ tt | Some request ↦ tt ]
     ]
 
 -- a line ends the list
@@ -250,7 +251,7 @@ ends_list : (fault : Fault) (m last : Machine) (old new written out : Option (Li
 ends_list (Stopped r) m last old new written out before after named t ends = absurd named
 ends_list (Cut n) m last old new written out before after named t ends = (t, ends)
 ends_list (Long n) m last old new written out before after named t ends = (t, ends)
-ends_list (Unread n) m last old new written out before after named t ends = (t, ends)
+ends_list (Unread n reason) m last old new written out before after named t ends = (t, ends)
 
 -- the line that ended it, with what came behind it
 pub line_of_more : (mid new : Option (List ℕ)) (now after : List ℕ × ℕ) (kept : List ℕ × Bool) (l : TakesLine mid new now after kept) → lines_of ((l.bytes ++ 10 ∷ []) ++ after.0) ≡ record { bytes = l.bytes; whole = true } ∷ lines_of after.0
@@ -323,7 +324,7 @@ runs_on frames size m last old new written out now before after (Err (Cut n)) bo
     (t.0.later, t.0.text, reads_of frames size m last old new written out before after boots sized t.0, t.1, sent written t.0.text (t.0.tells written [] (nothing_told written before is)))
 runs_on frames size m last old new written out now before after (Err (Long n)) boots sized is t sent =
     (t.0.later, t.0.text, reads_of frames size m last old new written out before after boots sized t.0, t.1, sent written t.0.text (t.0.tells written [] (nothing_told written before is)))
-runs_on frames size m last old new written out now before after (Err (Unread n)) boots sized is t sent =
+runs_on frames size m last old new written out now before after (Err (Unread n reason)) boots sized is t sent =
     (t.0.later, t.0.text, reads_of frames size m last old new written out before after boots sized t.0, t.1, sent written t.0.text (t.0.tells written [] (nothing_told written before is)))
 
 -- the lines that were answered, whatever then came
@@ -335,7 +336,7 @@ some_told m last old new written out before after (Err (Stopped Write)) t = t
 some_told m last old new written out before after (Err (Stopped Memory)) t = absurd t
 some_told m last old new written out before after (Err (Cut n)) t = t.0
 some_told m last old new written out before after (Err (Long n)) t = t.0
-some_told m last old new written out before after (Err (Unread n)) t = t.0
+some_told m last old new written out before after (Err (Unread n reason)) t = t.0
 
 -- a write failed
 pub runs_not : (frames : ℕ) (size : PageSize) (m last : Machine) (old new written out now : Option (List ℕ)) (before after : List ℕ × Bool) (result : Result (Unit {0}) Fault) → IsBoot frames m → m.size ≡ size → before ≡ ([], false)

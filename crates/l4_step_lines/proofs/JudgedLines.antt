@@ -345,7 +345,7 @@ line_ends (OfList (Cut n)) all m start old new last next judged then' number wri
     (j, ends told.0, tells_is written out' before t (j.text ++ []) j.text (append-nil j.text) (tells_more written out out' before s t j.text [] tells told.1))
 line_ends (OfList (Long n)) all m start old new last next judged then' number written out out' before s t bytes j tells ends told =
     (j, ends told.0, tells_is written out' before t (j.text ++ []) j.text (append-nil j.text) (tells_more written out out' before s t j.text [] tells told.1))
-line_ends (OfList (Unread n)) all m start old new last next judged then' number written out out' before s t bytes j tells ends told =
+line_ends (OfList (Unread n reason)) all m start old new last next judged then' number written out out' before s t bytes j tells ends told =
     (j, ends told.0, tells_is written out' before t (j.text ++ []) j.text (append-nil j.text) (tells_more written out out' before s t j.text [] tells told.1))
 line_ends (NoStep n) all m start old new last next judged then' number written out out' before s t bytes j tells ends told =
     (j, ends told.0, tells_is written out' before t (j.text ++ []) j.text (append-nil j.text) (tells_more written out out' before s t j.text [] tells told.1))
@@ -400,7 +400,7 @@ judges_on (Err (OfList (Cut n))) frames size all m start old new written out now
     (t.0.later, t.0.text, t.0.judged, first_of frames size all m start old new boots sized starts t.0, t.1, all_out written out now before after t.0.text is t.2 sent)
 judges_on (Err (OfList (Long n))) frames size all m start old new written out now before after boots sized starts is t sent =
     (t.0.later, t.0.text, t.0.judged, first_of frames size all m start old new boots sized starts t.0, t.1, all_out written out now before after t.0.text is t.2 sent)
-judges_on (Err (OfList (Unread n))) frames size all m start old new written out now before after boots sized starts is t sent =
+judges_on (Err (OfList (Unread n reason))) frames size all m start old new written out now before after boots sized starts is t sent =
     (t.0.later, t.0.text, t.0.judged, first_of frames size all m start old new boots sized starts t.0, t.1, all_out written out now before after t.0.text is t.2 sent)
 judges_on (Err (NoStep n)) frames size all m start old new written out now before after boots sized starts is t sent =
     (t.0.later, t.0.text, t.0.judged, first_of frames size all m start old new boots sized starts t.0, t.1, all_out written out now before after t.0.text is t.2 sent)
@@ -419,7 +419,7 @@ some_told (Err (OfList (Stopped Write))) all m start old new written out before 
 some_told (Err (OfList (Stopped Memory))) all m start old new written out before after t = (t.0, t.0.text, inl refl, t.1)
 some_told (Err (OfList (Cut n))) all m start old new written out before after t = (t.0, t.0.text, inl refl, t.2)
 some_told (Err (OfList (Long n))) all m start old new written out before after t = (t.0, t.0.text, inl refl, t.2)
-some_told (Err (OfList (Unread n))) all m start old new written out before after t = (t.0, t.0.text, inl refl, t.2)
+some_told (Err (OfList (Unread n reason))) all m start old new written out before after t = (t.0, t.0.text, inl refl, t.2)
 some_told (Err (NoStep n)) all m start old new written out before after t = (t.0, t.0.text, inl refl, t.2)
 some_told (Err (Empty n)) all m start old new written out before after t = (t.0, t.0.text, inl refl, t.5)
 

@@ -5,4 +5,5 @@ mod LineNumbers
 mod Listing
 mod Pieces
 mod ReadBack
+mod Stopping
 mod Taking

@@ -29,6 +29,7 @@ use Rattle.l4_step_lines.specs.Steps.{hex_text, hex_texts, call_words, step_line
 use Rattle.l4_step_lines.specs.Lines.{TextLine, lines_of}
 use Rattle.l4_step_lines.specs.Requests.{numbers_of, call_of, named_of, request_of}
 use Rattle.l4_step_lines.specs.Lists.{is_comment, is_empty, asked_at, asked_of}
+use Rattle.l4_step_lines.specs.Stops.{unread_says}
 use Rattle.l4_step_lines.specs.ReadBack.{AreWords, IsStep, ReadsBack}
 use Rattle.l4_step_lines.proofs.Going.{lines_more}
 
@@ -96,9 +97,9 @@ reads_line name ts text number step h hs few is plain asks =
       record { bytes = bytes; whole = true },
       ap lines_of is ∙ lines_more bytes [] (no_newline name (spaced ts) h.plain (none_spaced ts hs)),
       ap (λ v. asked_at number (cond v TooLong Whole) bytes) short
-          ∙ ap (λ v. cond v (Ok None) (ok_or (option_map (λ r. Some r) (request_of (tokens_of bytes))) (Unread number))) silent
-          ∙ ap (λ q. ok_or (option_map (λ r. Some r) (request_of q)) (Unread number)) (tokens_spaced name ts h hs)
-          ∙ ap (λ o. ok_or (option_map (λ r. Some r) o) (Unread number)) asks,
+          ∙ ap (λ v. cond v (Ok None) (ok_or (option_map (λ r. Some r) (request_of (tokens_of bytes))) (Unread number (unread_says number (tokens_of bytes))))) silent
+          ∙ ap (λ q. ok_or (option_map (λ r. Some r) (request_of q)) (Unread number (unread_says number q))) (tokens_spaced name ts h hs)
+          ∙ ap (λ o. ok_or (option_map (λ r. Some r) o) (Unread number (unread_says number (name ∷ ts)))) asks,
     )
 
 -- NUMBERS

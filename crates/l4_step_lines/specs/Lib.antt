@@ -6,3 +6,4 @@ pub mod Lists
 pub mod ReadBack
 pub mod Requests
 pub mod Steps
+pub mod Stops

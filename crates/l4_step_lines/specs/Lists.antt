@@ -27,6 +27,7 @@ use Rattle.l4_step_lines.specs.declared.running.Fault.TheVariants.{Stopped, Cut,
 use Rattle.l4_step_lines.specs.Answers.{answer_lines, enabled_line, reply_line, space_line, page_line}
 use Rattle.l4_step_lines.specs.Lines.{TextLine, lines_of}
 use Rattle.l4_step_lines.specs.Requests.{request_of}
+use Rattle.l4_step_lines.specs.Stops.{unread_says}
 
 -- WHAT A LINE ASKS FOR
 
@@ -44,7 +45,7 @@ abbrev pub asked_at : ℕ → Ending → List ℕ → Result (Option Request) Fa
 asked_at number IsCut bytes = Err (Cut number)
 asked_at number TooLong bytes = Err (Long number)
 asked_at number Whole bytes =
-    if is_comment bytes || is_empty (tokens_of bytes) then Ok None else ok_or (option_map Some (request_of (tokens_of bytes))) (Unread number)
+    if is_comment bytes || is_empty (tokens_of bytes) then Ok None else ok_or (option_map Some (request_of (tokens_of bytes))) (Unread number (unread_says number (tokens_of bytes)))
 
 abbrev pub ending_of : TextLine → Ending
 ending_of line = if line.whole then (if nat_lt line_bytes (length line.bytes) then TooLong else Whole) else IsCut

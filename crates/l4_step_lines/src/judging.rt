@@ -11,6 +11,7 @@ use crate::expected::{DueLines, Expected, is_unknown};
 use crate::requests::{Request, read_request};
 use crate::running::Fault;
 use crate::session::{answer, is_silent};
+use crate::stops::unread_reason;
 use l4_ipc::{Kernel, PageSize};
 use l4_text::{Ending, LineReader, Output, RunFault, Text};
 use std::alloc::Global;
@@ -302,7 +303,7 @@ fn judge_line<W: Write>(
         return Ok(());
     }
     let Some(request) = read_request(line) else {
-        return Err(JudgeFault::List(Fault::Unread(number)));
+        return Err(JudgeFault::List(Fault::Unread(number, unread_reason(number, line))));
     };
     judge_request(kernel, judged, request, line, out, writer)
 }

@@ -10,6 +10,7 @@ mod numbers;
 mod requests;
 mod running;
 mod session;
+mod stops;
 
 pub use asked::put_step;
 pub use judging::{JudgeFault, judge};

@@ -25,31 +25,31 @@ pub(crate) enum Request {
     Pages(u64),
 }
 
-const START: &[u8] = b"start";
+pub(crate) const START: &[u8] = b"start";
 
-const TRANSFER: &[u8] = b"transfer";
+pub(crate) const TRANSFER: &[u8] = b"transfer";
 
-const EXPIRE: &[u8] = b"expire";
+pub(crate) const EXPIRE: &[u8] = b"expire";
 
-const ENABLED: &[u8] = b"enabled";
+pub(crate) const ENABLED: &[u8] = b"enabled";
 
-const REPLY: &[u8] = b"reply";
+pub(crate) const REPLY: &[u8] = b"reply";
 
-const SPACE: &[u8] = b"space";
+pub(crate) const SPACE: &[u8] = b"space";
 
-const PAGES: &[u8] = b"pages";
+pub(crate) const PAGES: &[u8] = b"pages";
 
-const IPC: &[u8] = b"ipc";
+pub(crate) const IPC: &[u8] = b"ipc";
 
-const FAULT: &[u8] = b"fault";
+pub(crate) const FAULT: &[u8] = b"fault";
 
-const UNMAP: &[u8] = b"unmap";
+pub(crate) const UNMAP: &[u8] = b"unmap";
 
-const CREATE: &[u8] = b"create";
+pub(crate) const CREATE: &[u8] = b"create";
 
-const SETPAGER: &[u8] = b"setpager";
+pub(crate) const SETPAGER: &[u8] = b"setpager";
 
-const DELETE: &[u8] = b"delete";
+pub(crate) const DELETE: &[u8] = b"delete";
 
 /// A copy of the words. None if a message cannot have as many.
 fn registers(words: &[u32]) -> Option<ArrayVec<u32, MAX_WORDS>>
@@ -79,7 +79,7 @@ fn ipc(numbers: &[u32]) -> Option<Call>
 }
 
 /// Rights by the sum of r (4), w (2) and x (1).
-fn access(number: u32) -> Option<Rights>
+pub(crate) fn access(number: u32) -> Option<Rights>
     ensures { result ≡ access_of number }
 {
     if number < 8 {

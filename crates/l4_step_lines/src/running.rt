@@ -4,6 +4,7 @@ ghost use Rattle.l4_step_lines.specs.Inside.Telling.{TellsList};
 
 use crate::session::answer_line;
 use l4_ipc::{Kernel, PageSize};
+use l4_reasons::Reason;
 use l4_text::{Ending, LineReader, Output, RunFault};
 use std::alloc::Global;
 use std::io::{Read, Write};
@@ -22,9 +23,9 @@ pub enum Fault {
     /// The line of this number has more than 4,096 bytes.
     #[error("error: line {0} is longer than 4096 bytes")]
     Long(u64),
-    /// The line of this number cannot be read.
-    #[error("error: line {0} is not a valid step or query")]
-    Unread(u64),
+    /// The line of this number cannot be read, for this reason.
+    #[error("error: {1}")]
+    Unread(u64, Reason),
 }
 
 /// Answers line after line, to the end of the list.

@@ -17,6 +17,7 @@ use crate::answers::{
 };
 use crate::requests::{Request, read_request};
 use crate::running::Fault;
+use crate::stops::unread_reason;
 use l4_answers::put_shown;
 use l4_ipc::{Answer, Kernel, Step};
 use l4_text::{Ending, Output, next_token};
@@ -173,7 +174,7 @@ fn answer_whole<W: Write>(
         return Ok(());
     }
     let Some(request) = read_request(line) else {
-        return Err(Fault::Unread(number));
+        return Err(Fault::Unread(number, unread_reason(number, line)));
     };
     answer(kernel, request, out, writer);
     Ok(())

@@ -1,0 +1,4 @@
+pub mod Sizes
+pub mod Quoted
+pub mod Hints
+pub mod Reasons
