@@ -8,6 +8,7 @@
 mod reports;
 
 ghost use Rattle.std.specs.Prelude.{◌≡◌, IfErr};
+ghost use Rattle.l4.specs.Statuses.{script_status, history_status, judged_status, why_status, plan_status, check_status, text_status};
 ghost use Rattle.l4_options.specs.Ranges.{IsFrameCount};
 
 use l4_decode::{Reading, decode};
@@ -19,8 +20,8 @@ use l4_options::{
     misread, not_opened, options, show, status_of, stopped, warn_of_cut_line,
 };
 use l4_plan::plan;
-use l4_plan_lines::{answer_lines, plan_lines};
-use l4_sinks::{Style, answer_script};
+use l4_plan_lines::{Answer, answer_lines, plan_lines};
+use l4_sinks::{Ended, Style, answer_script};
 use l4_step_lines::{Fault, JudgeFault, judge};
 use l4_symbols::write_words;
 use l4_text::{RunFault, ScriptReader};
@@ -55,20 +56,149 @@ fn opened<R: Files + Input + Eprint>(
     }
 }
 
-/// Returns the exit status of a script that was read to its end, or of the fault that stopped it.
-fn ended<R: Read, W: Write>(
+/// Reports how a script's answers ended. Returns the exit status.
+fn script_ended<R: Read, W: Write>(
     rt: &impl Eprint,
-    outcome: Result<u64, RunFault>,
+    answered: Result<Ended, RunFault>,
     file: Option<&str>,
     reader: &WatchedReader<R>,
     writer: &WatchedWriter<W>,
-) -> u8 {
-    match outcome {
+) -> u8
+    ensures { result ≡ script_status answered }
+{
+    match answered {
+        Ok(end) => {
+            warn_of_cut_line(rt, reader, file);
+            if end.refused {
+                return REFUSED;
+            }
+            0
+        }
+        Err(fault) => stopped(rt, fault, file, cause(fault, reader, writer)),
+    }
+}
+
+/// Reports how the history of a script ended. Returns the exit status.
+fn history_ended<R: Read, W: Write>(
+    rt: &impl Eprint,
+    told: Result<u64, RunFault>,
+    file: Option<&str>,
+    reader: &WatchedReader<R>,
+    writer: &WatchedWriter<W>,
+) -> u8
+    ensures { result ≡ history_status told }
+{
+    match told {
         Ok(_) => {
             warn_of_cut_line(rt, reader, file);
             0
         }
         Err(fault) => stopped(rt, fault, file, cause(fault, reader, writer)),
+    }
+}
+
+/// Reports what is wrong with a judged list. Returns the exit status.
+fn judged<R: Read, W: Write>(
+    rt: &impl Eprint,
+    agrees: Result<bool, JudgeFault>,
+    file: Option<&str>,
+    reader: &WatchedReader<R>,
+    writer: &WatchedWriter<W>,
+) -> u8
+    ensures { result ≡ judged_status agrees }
+{
+    match agrees {
+        Ok(true) => 0,
+        Ok(false) => DIFFERS,
+        Err(JudgeFault::List(Fault::Stopped(fault))) => {
+            stopped(rt, fault, file, cause(fault, reader, writer))
+        }
+        Err(fault) => {
+            let _ = rt.eprintln(&fault);
+            NOT_UNDERSTOOD
+        }
+    }
+}
+
+/// Reports why a page is not present. Returns the exit status.
+fn why_ended<R: Read, W: Write>(
+    rt: &impl Eprint,
+    told: Result<Presence, RunFault>,
+    file: Option<&str>,
+    reader: &WatchedReader<R>,
+    writer: &WatchedWriter<W>,
+) -> u8
+    ensures { result ≡ why_status told }
+{
+    let found = match told {
+        Ok(found) => found,
+        Err(fault) => return stopped(rt, fault, file, cause(fault, reader, writer)),
+    };
+    warn_of_cut_line(rt, reader, file);
+    match found {
+        Presence::Present => 0,
+        Presence::Absent => NOT_FOUND,
+        Presence::NoThread => {
+            report_no_thread(rt);
+            NOT_FOUND
+        }
+    }
+}
+
+/// Reports why a region has no plan. Returns the exit status.
+fn planned<W: Write>(
+    rt: &impl Eprint,
+    told: Result<bool, RunFault>,
+    region: &Region,
+    size: PageSize,
+    writer: &WatchedWriter<W>,
+) -> u8
+    ensures { result ≡ plan_status told }
+{
+    match told {
+        Ok(true) => 0,
+        Ok(false) => {
+            if let Err(refusal) = plan(region, size) {
+                report_no_plan(rt, &refusal);
+            }
+            NOT_FOUND
+        }
+        Err(fault) => stopped(rt, fault, None, writer.error()),
+    }
+}
+
+/// Reports why a plan is not proved. Returns the exit status.
+fn checked<R: Read, W: Write>(
+    rt: &impl Eprint,
+    told: Result<Answer, RunFault>,
+    reader: &WatchedReader<R>,
+    writer: &WatchedWriter<W>,
+) -> u8
+    ensures { result ≡ check_status told }
+{
+    match told {
+        Ok(answer) => {
+            if answer.is_proved() {
+                return 0;
+            }
+            report_unproved(rt, &answer, reader.is_empty());
+            NOT_FOUND
+        }
+        Err(fault) => stopped(rt, fault, None, cause(fault, reader, writer)),
+    }
+}
+
+/// Reports why a text was not written. Returns the exit status.
+fn text_ended<W: Write>(
+    rt: &impl Eprint,
+    told: Result<(), RunFault>,
+    writer: &WatchedWriter<W>,
+) -> u8
+    ensures { result ≡ text_status told }
+{
+    match told {
+        Ok(()) => 0,
+        Err(fault) => stopped(rt, fault, None, writer.error()),
     }
 }
 
@@ -96,16 +226,7 @@ fn run<R: AllocGlobal + Files + Input + Print + Eprint>(
         &mut reader,
         &mut output,
     );
-    match answered {
-        Ok(end) => {
-            warn_of_cut_line(rt, &reader, file);
-            if end.refused {
-                return REFUSED;
-            }
-            0
-        }
-        Err(fault) => stopped(rt, fault, file, cause(fault, &reader, &output)),
-    }
+    script_ended(rt, answered, file, &reader, &output)
 }
 
 /// Writes the history of a script.
@@ -140,7 +261,7 @@ fn tell_history<R: AllocGlobal + Files + Input + Print + Eprint>(
             &mut writer,
         )
     };
-    ended(rt, told, file, &reader, &writer)
+    history_ended(rt, told, file, &reader, &writer)
 }
 
 /// Judges a step list with another kernel's answers.
@@ -156,7 +277,7 @@ fn judge_list<R: AllocGlobal + Files + Input + Print + Eprint>(
         Err(status) => return status,
     };
     let mut writer = WatchedWriter::new(io::writer(rt));
-    let judged = judge(
+    let agrees = judge(
         rt.alloc(),
         list.frames,
         list.size,
@@ -164,17 +285,7 @@ fn judge_list<R: AllocGlobal + Files + Input + Print + Eprint>(
         &mut reader,
         &mut writer,
     );
-    match judged {
-        Ok(true) => 0,
-        Ok(false) => DIFFERS,
-        Err(JudgeFault::List(Fault::Stopped(fault))) => {
-            stopped(rt, fault, file, cause(fault, &reader, &writer))
-        }
-        Err(fault) => {
-            let _ = rt.eprintln(&fault);
-            NOT_UNDERSTOOD
-        }
-    }
+    judged(rt, agrees, file, &reader, &writer)
 }
 
 /// Prints how a page got to its place in a script.
@@ -200,35 +311,15 @@ fn tell_why<R: AllocGlobal + Files + Input + Print + Eprint>(
         &mut reader,
         &mut writer,
     );
-    let found = match told {
-        Ok(found) => found,
-        Err(fault) => return stopped(rt, fault, file, cause(fault, &reader, &writer)),
-    };
-    warn_of_cut_line(rt, &reader, file);
-    match found {
-        Presence::Present => 0,
-        Presence::Absent => NOT_FOUND,
-        Presence::NoThread => {
-            report_no_thread(rt);
-            NOT_FOUND
-        }
-    }
+    why_ended(rt, told, file, &reader, &writer)
 }
 
 /// Plans a region.
 #[inline(never)]
 fn write_plan<R: Print + Eprint>(rt: &R, region: &Region, size: PageSize) -> u8 {
     let mut writer = WatchedWriter::new(io::writer(rt));
-    match plan_lines(region, size, &mut writer) {
-        Ok(true) => 0,
-        Ok(false) => {
-            if let Err(refusal) = plan(region, size) {
-                report_no_plan(rt, &refusal);
-            }
-            NOT_FOUND
-        }
-        Err(fault) => stopped(rt, fault, None, writer.error()),
-    }
+    let told = plan_lines(region, size, &mut writer);
+    planned(rt, told, region, size, &writer)
 }
 
 /// Checks the plan on standard input.
@@ -236,36 +327,24 @@ fn write_plan<R: Print + Eprint>(rt: &R, region: &Region, size: PageSize) -> u8 
 fn check<R: Files + Input + Print + Eprint>(rt: &R, region: &Region, size: PageSize) -> u8 {
     let mut reader = WatchedReader::new(ScriptReader::<R::Reader, R::File>::Standard(rt.reader()));
     let mut writer = WatchedWriter::new(io::writer(rt));
-    match answer_lines(region, size, &mut reader, &mut writer) {
-        Ok(answer) => {
-            if answer.is_proved() {
-                return 0;
-            }
-            report_unproved(rt, &answer, reader.is_empty());
-            NOT_FOUND
-        }
-        Err(fault) => stopped(rt, fault, None, cause(fault, &reader, &writer)),
-    }
+    let told = answer_lines(region, size, &mut reader, &mut writer);
+    checked(rt, told, &reader, &writer)
 }
 
 /// Says what words mean.
 #[inline(never)]
 fn tell_words<R: Print + Eprint>(rt: &R, words: &[u32], reading: Reading, size: PageSize) -> u8 {
     let mut writer = WatchedWriter::new(io::writer(rt));
-    match decode(words, reading, size, &mut writer) {
-        Ok(()) => 0,
-        Err(fault) => stopped(rt, fault, None, writer.error()),
-    }
+    let told = decode(words, reading, size, &mut writer);
+    text_ended(rt, told, &writer)
 }
 
 /// Prints the words of a message.
 #[inline(never)]
 fn print_words<R: Print + Eprint>(rt: &R, words: &[u32]) -> u8 {
     let mut writer = WatchedWriter::new(io::writer(rt));
-    match write_words(words, &mut writer) {
-        Ok(()) => 0,
-        Err(fault) => stopped(rt, fault, None, writer.error()),
-    }
+    let told = write_words(words, &mut writer);
+    text_ended(rt, told, &writer)
 }
 
 /// Executes the command that these words request.

@@ -4,6 +4,9 @@
 //! there was no memory at the start.
 #![tactic(auto)]
 
+ghost use Rattle.std.specs.Prelude.{◌≡◌};
+ghost use Rattle.l4_steps.specs.Statuses.{list_status};
+
 use l4_fpage::PageSize;
 use l4_options::{
     NOT_UNDERSTOOD, StepOptions, WatchedReader, WatchedWriter, cause, command_words, misread, show,
@@ -11,20 +14,34 @@ use l4_options::{
 };
 use l4_step_lines::{Fault, run};
 use std::io;
+use std::io::{Read, Write};
 use std::process::ExitCode;
 
-/// Answers the step list on standard input.
-fn answer_list<R: AllocGlobal + Input + Print + Eprint>(rt: &R, frames: u32, size: PageSize) -> u8 {
-    let mut reader = WatchedReader::new(rt.reader());
-    let mut writer = WatchedWriter::new(io::writer(rt));
-    match run(rt.alloc(), frames, size, &mut reader, &mut writer) {
+/// Reports why a step list ended. Returns the exit status.
+fn ended<R: Read, W: Write>(
+    rt: &impl Eprint,
+    answered: Result<(), Fault>,
+    reader: &WatchedReader<R>,
+    writer: &WatchedWriter<W>,
+) -> u8
+    ensures { result ≡ list_status answered }
+{
+    match answered {
         Ok(()) => 0,
-        Err(Fault::Stopped(fault)) => stopped(rt, fault, None, cause(fault, &reader, &writer)),
+        Err(Fault::Stopped(fault)) => stopped(rt, fault, None, cause(fault, reader, writer)),
         Err(fault) => {
             let _ = rt.eprintln(&fault);
             NOT_UNDERSTOOD
         }
     }
+}
+
+/// Answers the step list on standard input.
+fn answer_list<R: AllocGlobal + Input + Print + Eprint>(rt: &R, frames: u32, size: PageSize) -> u8 {
+    let mut reader = WatchedReader::new(rt.reader());
+    let mut writer = WatchedWriter::new(io::writer(rt));
+    let answered = run(rt.alloc(), frames, size, &mut reader, &mut writer);
+    ended(rt, answered, &reader, &writer)
 }
 
 /// Executes the command that these words request.

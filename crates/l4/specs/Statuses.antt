@@ -1,0 +1,49 @@
+-- The exit statuses of the commands of l4, by how their work ended (this profile's own).
+use Rattle.std.specs.Prelude.{ℕ, Bool, Result, Ok, Err, if◌then◌else◌}
+use Rattle.l4_options.specs.Statuses.{run_status}
+use Rattle.l4_plan_lines.specs.Answers.{is_proved}
+use Rattle.l4_plan_lines.specs.declared.answers.Answer.{Answer}
+use Rattle.l4_sinks.specs.declared.scripts.Ended.{Ended}
+use Rattle.l4_step_lines.specs.declared.judging.JudgeFault.{JudgeFault}
+use Rattle.l4_step_lines.specs.declared.judging.JudgeFault.TheVariants.{List as OfList}
+use Rattle.l4_step_lines.specs.declared.running.Fault.TheVariants.{Stopped}
+use Rattle.l4_text.specs.declared.faults.RunFault.{RunFault}
+use Rattle.l4_why.specs.declared.asking.Presence.{Presence}
+use Rattle.l4_why.specs.declared.asking.Presence.TheVariants.{Present}
+
+-- run: 1 where a refused line ended a strict run
+abbrev pub script_status : Result Ended RunFault → ℕ
+script_status (Ok ended) = if ended.refused then 1 else 0
+script_status (Err fault) = run_status fault
+
+-- history: 0 at the end of the script
+abbrev pub history_status : Result ℕ RunFault → ℕ
+history_status (Ok lines) = 0
+history_status (Err fault) = run_status fault
+
+-- judge: 1 where the answers differ, 2 where the list is invalid
+abbrev pub judged_status : Result Bool JudgeFault → ℕ
+judged_status (Ok agrees) = if agrees then 0 else 1
+judged_status (Err (OfList (Stopped fault))) = run_status fault
+judged_status (Err fault) = 2
+
+-- why: 1 where the page is not present, or there is no such thread
+abbrev pub why_status : Result Presence RunFault → ℕ
+why_status (Ok Present) = 0
+why_status (Ok _) = 1
+why_status (Err fault) = run_status fault
+
+-- plan: 1 where there is no plan
+abbrev pub plan_status : Result Bool RunFault → ℕ
+plan_status (Ok is_plan) = if is_plan then 0 else 1
+plan_status (Err fault) = run_status fault
+
+-- check: 1 where the plan is not proved
+abbrev pub check_status : Result Answer RunFault → ℕ
+check_status (Ok answer) = if is_proved answer then 0 else 1
+check_status (Err fault) = run_status fault
+
+-- decode and encode: 0 where the text is written
+abbrev pub text_status : Result (Unit {0}) RunFault → ℕ
+text_status (Ok done) = 0
+text_status (Err fault) = run_status fault
