@@ -1,15 +1,19 @@
 //! Reads the command line of `l4`.
-ghost use Rattle.std.specs.Prelude.{◌≡◌, IfOk, IfSome, Some};
-ghost use Rattle.l4_options.specs.Ranges.{IsInRange};
+ghost use Rattle.std.specs.Prelude.{◌≡◌, IfOk, IfSome, Some, codes, map};
+ghost use Rattle.clap.specs.Simple.{app_of};
+ghost use Rattle.clap.specs.Values.{kind_of};
+ghost use Rattle.l4_options.specs.Commands.{needed_word, run_command, history_command, judge_command, why_command, region_command, decode_command, l4_program, Asks, IsAsked, IsText};
+ghost use Rattle.l4_options.specs.Inside.Lines.{IsRule, IsCommand, IsTextKind, found_in};
 ghost use Rattle.l4_options.specs.Inside.Words.{spelled_anew};
+ghost use Rattle.l4_options.specs.Ranges.{IsInRange};
 
 use crate::encoding::{encode_options, of_tokens};
 use crate::help::{ABOUT, CHECK, DECODE, HISTORY, JUDGE, PLAN, SCRIPT, WHY};
 use crate::requests::{OptionFault, Options};
 use crate::values::{
-    all_option, answers_option, explain_option, file_argument, frames_option, help_text, number_of,
-    reading_of, reading_option, region_of, script_of, size_of, size_option, strict_option,
-    without_hyphens, words_argument, words_of,
+    all_option, answers_option, explain_option, file_argument, frames_option, help_text, is_on,
+    is_word, number_of, reading_of, reading_option, region_of, script_of, size_of, size_option,
+    strict_option, without_hyphens, words_argument, words_of,
 };
 use clap::error::ErrorKind;
 use clap::{Arg, ArgAction, ArgMatches, Command, Error};
@@ -20,7 +24,9 @@ use std::convert::AsStr;
 const SCRIPT_FILE: &str = "The script [default: standard input]";
 
 /// A word that has to be there.
-fn needed_word<'a>(alloc: Global, id: &'a str, name: &'a str, help: &'a str) -> Arg<'a> {
+fn needed_word<'a>(alloc: Global, id: &'a str, name: &'a str, help: &'a str) -> Arg<'a>
+    ensures { IsRule (needed_word id.now) result }
+{
     Arg::new(alloc, id)
         .value_name(name)
         .help(help)
@@ -34,7 +40,9 @@ fn of_region<'a>(
     name: &'a str,
     about: &'a str,
     more: &'a str,
-) -> Result<Command<'a>, AllocError> {
+) -> Result<Command<'a>, AllocError>
+    ensures { IfOk result (IsCommand (region_command name.now)) }
+{
     Command::new(alloc, name)
         .about(about)
         .after_help(more)
@@ -51,7 +59,9 @@ fn of_region<'a>(
 }
 
 /// The command `why`.
-fn of_page<'a>(alloc: Global) -> Result<Command<'a>, AllocError> {
+fn of_page<'a>(alloc: Global) -> Result<Command<'a>, AllocError>
+    ensures { IfOk result (IsCommand why_command) }
+{
     Command::new(alloc, "why")
         .about("Prints how a page got into the space of a thread")
         .after_help(WHY)
@@ -63,7 +73,9 @@ fn of_page<'a>(alloc: Global) -> Result<Command<'a>, AllocError> {
 }
 
 /// The command `judge`.
-fn of_list<'a>(alloc: Global) -> Result<Command<'a>, AllocError> {
+fn of_list<'a>(alloc: Global) -> Result<Command<'a>, AllocError>
+    ensures { IfOk result (IsCommand judge_command) }
+{
     Command::new(alloc, "judge")
         .about("Compares another kernel's answers to steps with those of this kernel")
         .after_help(JUDGE)
@@ -76,36 +88,61 @@ fn of_list<'a>(alloc: Global) -> Result<Command<'a>, AllocError> {
         .arg(all_option(alloc))
 }
 
-/// The commands and options that are known.
-fn known<'a>(alloc: Global) -> Result<Command<'a>, AllocError> {
-    let run = Command::new(alloc, "run")
+/// The command `run`.
+fn of_script<'a>(alloc: Global) -> Result<Command<'a>, AllocError>
+    ensures { IfOk result (IsCommand run_command) }
+{
+    Command::new(alloc, "run")
         .about("Runs a script of kernel calls and prints the answers")
         .after_help(SCRIPT)
         .arg(file_argument(alloc, SCRIPT_FILE))?
         .arg(frames_option(alloc))?
         .arg(size_option(alloc))?
         .arg(strict_option(alloc))?
-        .arg(explain_option(alloc))?;
-    let history = Command::new(alloc, "history")
+        .arg(explain_option(alloc))
+}
+
+/// The command `history`.
+fn of_history<'a>(alloc: Global) -> Result<Command<'a>, AllocError>
+    ensures { IfOk result (IsCommand history_command) }
+{
+    Command::new(alloc, "history")
         .about("Prints the steps of a script in the form that l4_steps reads")
         .after_help(HISTORY)
         .arg(file_argument(alloc, SCRIPT_FILE))?
         .arg(frames_option(alloc))?
         .arg(size_option(alloc))?
-        .arg(answers_option(alloc))?;
-    let decode = Command::new(alloc, "decode")
+        .arg(answers_option(alloc))
+}
+
+/// The command `decode`.
+fn of_words<'a>(alloc: Global) -> Result<Command<'a>, AllocError>
+    ensures { IfOk result (IsCommand decode_command) }
+{
+    Command::new(alloc, "decode")
         .about("Explains the words of a message")
         .after_help(DECODE)
-        .arg(words_argument(alloc))?
+        .arg(words_argument(
+            alloc,
+            "words",
+            "WORD",
+            "At most 64 words, decimal or hexadecimal with a 0x prefix",
+        ))?
         .arg(reading_option(alloc))?
-        .arg(size_option(alloc))?;
+        .arg(size_option(alloc))
+}
+
+/// The commands and options that are known.
+fn known<'a>(alloc: Global) -> Result<Command<'a>, AllocError>
+    ensures { IfOk result (λ c. app_of c ≡ l4_program) }
+{
     Command::new(alloc, "l4")
         .about(ABOUT)
         .version("0.1.0")
         .after_help(SCRIPT)
         .subcommand_required(true)
-        .subcommand(run)?
-        .subcommand(history)?
+        .subcommand(of_script(alloc)?)?
+        .subcommand(of_history(alloc)?)?
         .subcommand(of_list(alloc)?)?
         .subcommand(of_page(alloc)?)?
         .subcommand(of_region(
@@ -120,7 +157,7 @@ fn known<'a>(alloc: Global) -> Result<Command<'a>, AllocError> {
             "Checks that a plan is exact and that no list is shorter",
             CHECK,
         )?)?
-        .subcommand(decode)?
+        .subcommand(of_words(alloc)?)?
         .subcommand(of_tokens(alloc)?)
 }
 
@@ -149,7 +186,7 @@ fn without_matches<'a, S: AsStr>(
     error: &Error,
     words: &'a [S],
 ) -> Result<Options, OptionFault>
-    ensures { IfOk result IsInRange }
+    ensures { IfOk result (λ o. IsText o × IsTextKind (kind_of error.now)) }
 {
     if error.kind() == ErrorKind::UnknownArgument {
         if let Some((word, instead)) = taken_for_option(words) {
@@ -167,13 +204,13 @@ fn without_matches<'a, S: AsStr>(
 
 /// What the matches of `run` ask for.
 fn run_options(alloc: Global, matches: &ArgMatches<'_>) -> Result<Options, OptionFault>
-    ensures { IfOk result IsInRange }
+    ensures { IfOk result (Asks (codes "run") (found_in matches.now)) }
 {
     match script_of(alloc, matches) {
         Ok(script) => Ok(Options::Run {
             script,
-            strict: matches.get_flag("strict"),
-            explain: matches.get_flag("explain"),
+            strict: is_on(matches, "strict"),
+            explain: is_on(matches, "explain"),
         }),
         Err(fault) => Err(fault),
     }
@@ -181,12 +218,12 @@ fn run_options(alloc: Global, matches: &ArgMatches<'_>) -> Result<Options, Optio
 
 /// What the matches of `history` ask for.
 fn history_options(alloc: Global, matches: &ArgMatches<'_>) -> Result<Options, OptionFault>
-    ensures { IfOk result IsInRange }
+    ensures { IfOk result (Asks (codes "history") (found_in matches.now)) }
 {
     match script_of(alloc, matches) {
         Ok(script) => Ok(Options::History {
             script,
-            answers: matches.get_flag("answers"),
+            answers: is_on(matches, "answers"),
         }),
         Err(fault) => Err(fault),
     }
@@ -194,12 +231,12 @@ fn history_options(alloc: Global, matches: &ArgMatches<'_>) -> Result<Options, O
 
 /// What the matches of `judge` ask for.
 fn judge_options(alloc: Global, matches: &ArgMatches<'_>) -> Result<Options, OptionFault>
-    ensures { IfOk result IsInRange }
+    ensures { IfOk result (Asks (codes "judge") (found_in matches.now)) }
 {
     match script_of(alloc, matches) {
         Ok(list) => Ok(Options::Judge {
             list,
-            all: matches.get_flag("all"),
+            all: is_on(matches, "all"),
         }),
         Err(fault) => Err(fault),
     }
@@ -207,7 +244,7 @@ fn judge_options(alloc: Global, matches: &ArgMatches<'_>) -> Result<Options, Opt
 
 /// What the matches of `why` ask for.
 fn why_options(alloc: Global, matches: &ArgMatches<'_>) -> Result<Options, OptionFault>
-    ensures { IfOk result IsInRange }
+    ensures { IfOk result (Asks (codes "why") (found_in matches.now)) }
 {
     match script_of(alloc, matches) {
         Ok(script) => Ok(Options::Why {
@@ -221,7 +258,7 @@ fn why_options(alloc: Global, matches: &ArgMatches<'_>) -> Result<Options, Optio
 
 /// What the matches of `decode` ask for.
 fn decode_options(alloc: Global, matches: &ArgMatches<'_>) -> Result<Options, OptionFault>
-    ensures { IfOk result IsInRange }
+    ensures { IfOk result (Asks (codes "decode") (found_in matches.now)) }
 {
     match words_of(alloc, matches) {
         Ok(words) => Ok(Options::Decode {
@@ -230,6 +267,84 @@ fn decode_options(alloc: Global, matches: &ArgMatches<'_>) -> Result<Options, Op
             words,
         }),
         Err(fault) => Err(fault),
+    }
+}
+
+/// What the matches of `plan` ask for.
+fn plan_options(alloc: Global, matches: &ArgMatches<'_>) -> Result<Options, OptionFault>
+    ensures { IfOk result (Asks (codes "plan") (found_in matches.now)) }
+{
+    match region_of(alloc, matches) {
+        Ok(region) => Ok(Options::Plan {
+            region,
+            size: size_of(alloc, matches)?,
+        }),
+        Err(fault) => Err(fault),
+    }
+}
+
+/// What the matches of `check` ask for.
+fn check_options(alloc: Global, matches: &ArgMatches<'_>) -> Result<Options, OptionFault>
+    ensures { IfOk result (Asks (codes "check") (found_in matches.now)) }
+{
+    match region_of(alloc, matches) {
+        Ok(region) => Ok(Options::Check {
+            region,
+            size: size_of(alloc, matches)?,
+        }),
+        Err(fault) => Err(fault),
+    }
+}
+
+/// What the matches of the command of this name ask for.
+fn command_options(
+    alloc: Global,
+    name: &str,
+    matches: &ArgMatches<'_>,
+) -> Result<Options, OptionFault>
+    ensures { IfOk result (Asks name.now (found_in matches.now)) }
+{
+    if is_word(name, "run") {
+        return run_options(alloc, matches);
+    }
+    if is_word(name, "history") {
+        return history_options(alloc, matches);
+    }
+    if is_word(name, "judge") {
+        return judge_options(alloc, matches);
+    }
+    if is_word(name, "why") {
+        return why_options(alloc, matches);
+    }
+    if is_word(name, "plan") {
+        return plan_options(alloc, matches);
+    }
+    if is_word(name, "check") {
+        return check_options(alloc, matches);
+    }
+    if is_word(name, "decode") {
+        return decode_options(alloc, matches);
+    }
+    if is_word(name, "encode") {
+        return encode_options(alloc, matches);
+    }
+    Err(OptionFault::Memory)
+}
+
+/// What the words of the command line ask for.
+fn requested<'a, S: AsStr>(alloc: Global, words: &'a [S]) -> Result<Options, OptionFault>
+    ensures { IfOk result (IsAsked (map S.text words.entry.now)) }
+{
+    let Ok(command) = known(alloc) else {
+        return Err(OptionFault::Memory);
+    };
+    let matches = match command.try_get_matches_from(words) {
+        Ok(matches) => matches,
+        Err(error) => return without_matches(alloc, &error, words),
+    };
+    match matches.subcommand() {
+        Some((name, found)) => command_options(alloc, name, found),
+        None => Err(OptionFault::Memory),
     }
 }
 
@@ -242,36 +357,8 @@ fn decode_options(alloc: Global, matches: &ArgMatches<'_>) -> Result<Options, Op
 /// `Memory` comes only where an allocation was refused. Every other fault names the word that is not understood, and where it stands for
 /// a number or rights the argument too.
 pub fn options<'a, S: AsStr>(alloc: Global, words: &'a [S]) -> Result<Options, OptionFault>
-    ensures { IfOk result IsInRange }
+    ensures asked { IfOk result (IsAsked (map S.text words.entry.now)) }
+    ensures range { IfOk result IsInRange }
 {
-    let Ok(command) = known(alloc) else {
-        return Err(OptionFault::Memory);
-    };
-    let matches = match command.try_get_matches_from(words) {
-        Ok(matches) => matches,
-        Err(error) => return without_matches(alloc, &error, words),
-    };
-    match matches.subcommand() {
-        Some(("plan", plan)) => match region_of(alloc, plan) {
-            Ok(region) => Ok(Options::Plan {
-                region,
-                size: size_of(alloc, plan)?,
-            }),
-            Err(fault) => Err(fault),
-        },
-        Some(("check", check)) => match region_of(alloc, check) {
-            Ok(region) => Ok(Options::Check {
-                region,
-                size: size_of(alloc, check)?,
-            }),
-            Err(fault) => Err(fault),
-        },
-        Some(("history", history)) => history_options(alloc, history),
-        Some(("judge", judge)) => judge_options(alloc, judge),
-        Some(("why", why)) => why_options(alloc, why),
-        Some(("decode", decode)) => decode_options(alloc, decode),
-        Some(("encode", encode)) => encode_options(alloc, encode),
-        Some((_, run)) => run_options(alloc, run),
-        None => Err(OptionFault::Memory),
-    }
+    requested(alloc, words)
 }

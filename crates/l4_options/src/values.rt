@@ -1,8 +1,13 @@
 //! Values on a command line: numbers, rights, regions, words, and the options `--frames`, `--page-size` and `--as`.
-ghost use Rattle.std.specs.Prelude.{◌≡◌, IfOk, IfSome, codes, option_map};
-ghost use Rattle.clap.specs.Matches.{found_of};
-ghost use Rattle.l4_options.specs.Ranges.{IsFrameCount};
-ghost use Rattle.l4_options.specs.Inside.Words.{right_of, rights_of, underscored, spelled_anew, word_at, IsNumberAt, AreRightsAt, IsRegionIn};
+ghost use Rattle.std.specs.Prelude.{◌≡◌, ◌+◌, ◌*◌, ◌^◌, IfOk, codes, option_map, map, Some};
+ghost use Rattle.std.specs.Str.{bytes_eq};
+ghost use Rattle.clap.specs.Walk.{all_of, first_of};
+ghost use Rattle.clap.specs.Values.{kind_of};
+ghost use Rattle.l4_text.specs.Numbers.{below, digit_of, value_from};
+ghost use Rattle.l4_options.specs.Spelled.{word_at, is_on, right_of, rights_of, decimal_of, frame_count_of, page_size_of, reading_of, Spell, IsNumberAt, AreRightsIn, IsRegionIn, AreFramesIn, IsSizeIn, IsScriptIn, AreNumbersIn, IsReadingIn};
+ghost use Rattle.l4_options.specs.Commands.{word, needed_words, option, switch};
+ghost use Rattle.l4_options.specs.Inside.Lines.{IsRule, IsTextKind, found_in};
+ghost use Rattle.l4_options.specs.Inside.Words.{underscored, spelled_anew};
 
 use crate::advice::without_advice;
 use crate::requests::{OptionFault, ScriptOptions};
@@ -20,7 +25,9 @@ use std::alloc::Global;
 const DEFAULT_FRAMES: u32 = 256;
 
 /// The option `--frames`.
-pub(crate) fn frames_option<'a>(alloc: Global) -> Arg<'a> {
+pub(crate) fn frames_option<'a>(alloc: Global) -> Arg<'a>
+    ensures { IsRule (option (codes "frames")) result }
+{
     Arg::new(alloc, "frames")
         .long("frames")
         .value_name("N")
@@ -29,7 +36,9 @@ pub(crate) fn frames_option<'a>(alloc: Global) -> Arg<'a> {
 }
 
 /// The option `--page-size`.
-pub(crate) fn size_option<'a>(alloc: Global) -> Arg<'a> {
+pub(crate) fn size_option<'a>(alloc: Global) -> Arg<'a>
+    ensures { IsRule (option (codes "page-size")) result }
+{
     Arg::new(alloc, "page-size")
         .long("page-size")
         .value_name("BYTES")
@@ -38,7 +47,9 @@ pub(crate) fn size_option<'a>(alloc: Global) -> Arg<'a> {
 }
 
 /// The file of a script or list, with this help.
-pub(crate) fn file_argument<'a>(alloc: Global, help: &'a str) -> Arg<'a> {
+pub(crate) fn file_argument<'a>(alloc: Global, help: &'a str) -> Arg<'a>
+    ensures { IsRule (word (codes "file")) result }
+{
     Arg::new(alloc, "file")
         .value_name("FILE")
         .help(help)
@@ -46,7 +57,9 @@ pub(crate) fn file_argument<'a>(alloc: Global, help: &'a str) -> Arg<'a> {
 }
 
 /// The option `--strict`.
-pub(crate) fn strict_option<'a>(alloc: Global) -> Arg<'a> {
+pub(crate) fn strict_option<'a>(alloc: Global) -> Arg<'a>
+    ensures { IsRule (switch (codes "strict")) result }
+{
     Arg::new(alloc, "strict")
         .long("strict")
         .help("Stop at the first refused line, with exit status 1")
@@ -54,7 +67,9 @@ pub(crate) fn strict_option<'a>(alloc: Global) -> Arg<'a> {
 }
 
 /// The option `--explain`.
-pub(crate) fn explain_option<'a>(alloc: Global) -> Arg<'a> {
+pub(crate) fn explain_option<'a>(alloc: Global) -> Arg<'a>
+    ensures { IsRule (switch (codes "explain")) result }
+{
     Arg::new(alloc, "explain")
         .long("explain")
         .help("Explain each answer in lines that begin with #")
@@ -62,7 +77,9 @@ pub(crate) fn explain_option<'a>(alloc: Global) -> Arg<'a> {
 }
 
 /// The option `--answers`.
-pub(crate) fn answers_option<'a>(alloc: Global) -> Arg<'a> {
+pub(crate) fn answers_option<'a>(alloc: Global) -> Arg<'a>
+    ensures { IsRule (switch (codes "answers")) result }
+{
     Arg::new(alloc, "answers")
         .long("answers")
         .help("Print the answers to each step in lines that begin with #")
@@ -70,25 +87,36 @@ pub(crate) fn answers_option<'a>(alloc: Global) -> Arg<'a> {
 }
 
 /// The option `--all`.
-pub(crate) fn all_option<'a>(alloc: Global) -> Arg<'a> {
+pub(crate) fn all_option<'a>(alloc: Global) -> Arg<'a>
+    ensures { IsRule (switch (codes "all")) result }
+{
     Arg::new(alloc, "all")
         .long("all")
         .help("Report every difference, not only the first")
         .action(ArgAction::SetTrue)
 }
 
-/// The words of `decode`.
-pub(crate) fn words_argument<'a>(alloc: Global) -> Arg<'a> {
-    Arg::new(alloc, "words")
-        .value_name("WORD")
-        .help("At most 64 words, decimal or hexadecimal with a 0x prefix")
+/// One or more words.
+pub(crate) fn words_argument<'a>(
+    alloc: Global,
+    id: &'a str,
+    name: &'a str,
+    help: &'a str,
+) -> Arg<'a>
+    ensures { IsRule (needed_words id.now) result }
+{
+    Arg::new(alloc, id)
+        .value_name(name)
+        .help(help)
         .required(true)
         .num_args(1..)
         .action(ArgAction::Append)
 }
 
 /// The option `--as`.
-pub(crate) fn reading_option<'a>(alloc: Global) -> Arg<'a> {
+pub(crate) fn reading_option<'a>(alloc: Global) -> Arg<'a>
+    ensures { IsRule (option (codes "as")) result }
+{
     Arg::new(alloc, "as")
         .long("as")
         .value_name("READING")
@@ -96,26 +124,65 @@ pub(crate) fn reading_option<'a>(alloc: Global) -> Arg<'a> {
         .action(ArgAction::Set)
 }
 
-/// A number in decimal digits, up to 4,294,967,295.
-fn number_in(text: &[u8]) -> Option<u32> {
+/// The value of a decimal digit.
+fn digit(byte: u8) -> Option<u8>
+    ensures { result ≡ digit_of byte }
+{
+    match byte {
+        b'0'..=b'9' => Some(byte - b'0'),
+        _ => None,
+    }
+}
+
+/// The number, if it is below 2^32.
+fn small(number: u64) -> Option<u32>
+    ensures { result ≡ below (2 ^ 32) (Some number) }
+{
+    if number < 0x1_0000_0000 {
+        Some(number as u32)
+    } else {
+        None
+    }
+}
+
+/// The number with one more digit behind it, below 2^32.
+fn with_digit(number: u32, byte: u8) -> Option<u32>
+    ensures { result ≡ below (2 ^ 32) (option_map (λ d. number * 10 + d) (digit_of byte)) }
+{
+    match digit(byte) {
+        Some(next) => small(u64::from(number) * 10 + u64::from(next)),
+        None => None,
+    }
+}
+
+/// The number below 2^32 that decimal digits spell.
+fn digits_in(text: &[u8]) -> Option<u32>
+    ensures { result ≡ below (2 ^ 32) (value_from 10 digit_of 0 text.now) }
+{
+    let mut value = 0u32;
+    for byte in text {
+        let Some(next) = with_digit(value, *byte) else {
+            return None;
+        };
+        value = next;
+    }
+    Some(value)
+}
+
+/// A number below 2^32 in one or more decimal digits.
+#[tactic(auto, unfolding(crate::specs::Spelled::decimal_of))]
+fn number_in(text: &[u8]) -> Option<u32>
+    ensures { result ≡ decimal_of text.now }
+{
     if text.is_empty() {
         return None;
     }
-    let mut value = 0u64;
-    for byte in text {
-        if !byte.is_ascii_digit() {
-            return None;
-        }
-        value = value
-            .saturating_mul(10)
-            .saturating_add(u64::from(*byte - b'0'));
-    }
-    u32::try_from(value).ok()
+    digits_in(text)
 }
 
 /// A number of frames: decimal digits, from 1 to 4,096.
 fn frames_in(text: &[u8]) -> Option<u32>
-    ensures { IfSome result IsFrameCount }
+    ensures { result ≡ frame_count_of text.now }
 {
     let value = number_in(text)?;
     if value >= 1 && value <= MAX_FRAMES {
@@ -126,7 +193,9 @@ fn frames_in(text: &[u8]) -> Option<u32>
 }
 
 /// The bytes of a page: decimal digits, 4,096 or 1,024.
-fn size_in(text: &[u8]) -> Option<PageSize> {
+fn size_in(text: &[u8]) -> Option<PageSize>
+    ensures { result ≡ page_size_of text.now }
+{
     match number_in(text)? {
         4096 => Some(PageSize::Kib4),
         1024 => Some(PageSize::Kib1),
@@ -156,7 +225,7 @@ fn rights_with(read: bool, write: bool, execute: bool) -> Rights
 }
 
 /// Rights: r, w and x in turn, each of them or `-` or `_` in its place.
-#[tactic(auto, unfolding(crate::specs::Inside::Words::rights_of))]
+#[tactic(auto, unfolding(crate::specs::Spelled::rights_of))]
 fn rights_in(text: &[u8]) -> Option<Rights>
     ensures { result ≡ rights_of text.now }
 {
@@ -201,7 +270,9 @@ pub(crate) fn without_hyphens(word: &str) -> Option<&'static str>
 }
 
 /// The usage or the version, where a parse gave it in place of matches.
-pub(crate) fn help_text(alloc: Global, error: &Error) -> Result<String, OptionFault> {
+pub(crate) fn help_text(alloc: Global, error: &Error) -> Result<String, OptionFault>
+    ensures { IfOk result (λ _. IsTextKind (kind_of error.now)) }
+{
     let Ok(text) = error.to_string(alloc) else {
         return Err(OptionFault::Memory);
     };
@@ -215,14 +286,43 @@ pub(crate) fn help_text(alloc: Global, error: &Error) -> Result<String, OptionFa
     }
 }
 
+/// Whether a word is this one.
+pub(crate) fn is_word(word: &str, other: &str) -> bool
+    ensures { result ≡ bytes_eq word.now other.now }
+{
+    word == other
+}
+
+/// The word of an argument, if there is one.
+fn text_of<'a>(matches: &ArgMatches<'a>, id: &str) -> Option<&'a str>
+    ensures { option_map (λ s. s.now) result ≡ first_of id.now (found_in matches.now) }
+{
+    matches.get_str(id)
+}
+
 /// The word of an argument, an empty one where there is none.
 fn word_at<'a>(matches: &ArgMatches<'a>, id: &str) -> &'a str
-    ensures { result.now ≡ word_at (found_of matches.now) id.now }
+    ensures { result.now ≡ word_at (found_in matches.now) id.now }
 {
-    match matches.get_str(id) {
+    match text_of(matches, id) {
         Some(word) => word,
         None => "",
     }
+}
+
+/// The words of an argument, if there is one.
+pub(crate) fn texts_of<'m, 'a>(matches: &'m ArgMatches<'a>, id: &str) -> Option<&'m [&'a str]>
+    ensures { option_map (λ s. map (λ v. v.now) s.now) result
+        ≡ all_of id.now (found_in matches.now) }
+{
+    matches.get_strs(id)
+}
+
+/// Whether a switch is on.
+pub(crate) fn is_on(matches: &ArgMatches<'_>, id: &str) -> bool
+    ensures { result ≡ is_on (found_in matches.now) id.now }
+{
+    is_word(word_at(matches, id), "true")
 }
 
 /// The number of a thread, or of a part of a region, by the argument's name.
@@ -232,7 +332,7 @@ pub(crate) fn number_of(
     id: &str,
     name: &'static str,
 ) -> Result<u32, OptionFault>
-    ensures { IfOk result (IsNumberAt (found_of matches.now) id.now) }
+    ensures { IfOk result (IsNumberAt (found_in matches.now) id.now) }
 {
     let word = word_at(matches, id);
     match number(word.as_bytes()) {
@@ -246,7 +346,7 @@ pub(crate) fn number_of(
 
 /// The rights of a region.
 fn rights_of(alloc: Global, matches: &ArgMatches<'_>) -> Result<Rights, OptionFault>
-    ensures { IfOk result (AreRightsAt (found_of matches.now) (codes "rights")) }
+    ensures { IfOk result (AreRightsIn (found_in matches.now)) }
 {
     let word = word_at(matches, "rights");
     match rights_in(word.as_bytes()) {
@@ -260,7 +360,7 @@ fn rights_of(alloc: Global, matches: &ArgMatches<'_>) -> Result<Rights, OptionFa
 
 /// The region that the matches name.
 pub(crate) fn region_of(alloc: Global, matches: &ArgMatches<'_>) -> Result<Region, OptionFault>
-    ensures { IfOk result (IsRegionIn (found_of matches.now)) }
+    ensures { IfOk result (IsRegionIn (found_in matches.now)) }
 {
     Ok(Region {
         source: number_of(alloc, matches, "source", "SOURCE")?,
@@ -272,9 +372,9 @@ pub(crate) fn region_of(alloc: Global, matches: &ArgMatches<'_>) -> Result<Regio
 
 /// The number of frames that the matches name: 256 where the option is left out.
 pub(crate) fn frames_of(alloc: Global, matches: &ArgMatches<'_>) -> Result<u32, OptionFault>
-    ensures { IfOk result IsFrameCount }
+    ensures { IfOk result (AreFramesIn (found_in matches.now)) }
 {
-    let Some(word) = matches.get_str("frames") else {
+    let Some(word) = text_of(matches, "frames") else {
         return Ok(DEFAULT_FRAMES);
     };
     if let Some(frames) = frames_in(word.as_bytes()) {
@@ -287,8 +387,10 @@ pub(crate) fn frames_of(alloc: Global, matches: &ArgMatches<'_>) -> Result<u32, 
 }
 
 /// The size of pages that the matches name: 4 KiB where the option is left out.
-pub(crate) fn size_of(alloc: Global, matches: &ArgMatches<'_>) -> Result<PageSize, OptionFault> {
-    let Some(word) = matches.get_str("page-size") else {
+pub(crate) fn size_of(alloc: Global, matches: &ArgMatches<'_>) -> Result<PageSize, OptionFault>
+    ensures { IfOk result (IsSizeIn (found_in matches.now)) }
+{
+    let Some(word) = text_of(matches, "page-size") else {
         return Ok(PageSize::Kib4);
     };
     if let Some(size) = size_in(word.as_bytes()) {
@@ -305,11 +407,11 @@ pub(crate) fn script_of(
     alloc: Global,
     matches: &ArgMatches<'_>,
 ) -> Result<ScriptOptions, OptionFault>
-    ensures { IfOk result (λ script. IsFrameCount script.frames) }
+    ensures { IfOk result (IsScriptIn (found_in matches.now)) }
 {
     let frames = frames_of(alloc, matches)?;
     let size = size_of(alloc, matches)?;
-    let Some(name) = matches.get_str("file") else {
+    let Some(name) = text_of(matches, "file") else {
         return Ok(ScriptOptions {
             frames,
             size,
@@ -326,27 +428,68 @@ pub(crate) fn script_of(
     }
 }
 
+/// The fault of a word to explain that is not a number.
+fn not_a_word(alloc: Global, text: &str) -> OptionFault {
+    match String::from_str(alloc, text) {
+        Ok(text) => OptionFault::Word(text),
+        Err(_) => OptionFault::Memory,
+    }
+}
+
+/// The fault of a word to explain behind as many as a message can have.
+fn one_too_many(alloc: Global, text: &str) -> OptionFault {
+    match String::from_str(alloc, text) {
+        Ok(text) => OptionFault::TooMany(text),
+        Err(_) => OptionFault::Memory,
+    }
+}
+
+/// The numbers that these texts spell.
+fn numbers_in(alloc: Global, texts: &[&str]) -> Result<ArrayVec<u32, MAX_WORDS>, OptionFault>
+    ensures { IfOk result (λ words. Spell (map (λ s. s.now) texts.now) words.items) }
+{
+    let mut words = ArrayVec::new();
+    for text in texts {
+        let Some(word) = number(text.as_bytes()) else {
+            return Err(not_a_word(alloc, text));
+        };
+        if let Err(_) = words.try_push(word) {
+            return Err(one_too_many(alloc, text));
+        }
+    }
+    Ok(words)
+}
+
 /// The words that the matches name.
 pub(crate) fn words_of(
     alloc: Global,
     matches: &ArgMatches<'_>,
-) -> Result<ArrayVec<u32, MAX_WORDS>, OptionFault> {
-    let mut words = ArrayVec::new();
-    for text in matches.get_strs("words").unwrap_or(&[]) {
-        let Some(word) = number(text.as_bytes()) else {
-            return match String::from_str(alloc, text) {
-                Ok(text) => Err(OptionFault::Word(text)),
-                Err(_) => Err(OptionFault::Memory),
-            };
-        };
-        if words.try_push(word).is_err() {
-            return match String::from_str(alloc, text) {
-                Ok(text) => Err(OptionFault::TooMany(text)),
-                Err(_) => Err(OptionFault::Memory),
-            };
-        }
+) -> Result<ArrayVec<u32, MAX_WORDS>, OptionFault>
+    ensures { IfOk result (λ words. AreNumbersIn (found_in matches.now) words.items) }
+{
+    let Some(texts) = texts_of(matches, "words") else {
+        return Err(OptionFault::Memory);
+    };
+    numbers_in(alloc, texts)
+}
+
+/// The reading of this name.
+fn reading_in(name: &str) -> Option<Reading>
+    ensures { result ≡ reading_of name.now }
+{
+    if is_word(name, "message") {
+        return Some(Reading::Message);
     }
-    Ok(words)
+    if is_word(name, "fpage") {
+        return Some(Reading::Fpage);
+    }
+    if is_word(name, "window") {
+        return Some(Reading::Window);
+    }
+    if is_word(name, "id") {
+        return Some(Reading::Id);
+    }
+    None
 }
 
 /// The reading that the matches name; where the option is left out a word alone is read in each way, and several are a message.
@@ -354,22 +497,21 @@ pub(crate) fn reading_of(
     alloc: Global,
     matches: &ArgMatches<'_>,
     words: usize,
-) -> Result<Reading, OptionFault> {
-    let Some(name) = matches.get_str("as") else {
+) -> Result<Reading, OptionFault>
+    ensures { IfOk result (IsReadingIn (found_in matches.now) words) }
+{
+    let Some(name) = text_of(matches, "as") else {
         return Ok(if words == 1 {
             Reading::Each
         } else {
             Reading::Message
         });
     };
-    match name {
-        "message" => Ok(Reading::Message),
-        "fpage" => Ok(Reading::Fpage),
-        "window" => Ok(Reading::Window),
-        "id" => Ok(Reading::Id),
-        _ => match String::from_str(alloc, name) {
-            Ok(text) => Err(OptionFault::Reading(text)),
-            Err(_) => Err(OptionFault::Memory),
-        },
+    if let Some(reading) = reading_in(name) {
+        return Ok(reading);
+    }
+    match String::from_str(alloc, name) {
+        Ok(text) => Err(OptionFault::Reading(text)),
+        Err(_) => Err(OptionFault::Memory),
     }
 }

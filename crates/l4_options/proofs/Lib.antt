@@ -1,0 +1,4 @@
+mod Asking
+mod Decimals
+mod Lines
+mod Words

@@ -1,0 +1,137 @@
+-- The commands of the programs, as clap reads them, and what the words of a command line ask for (this profile's own).
+use Rattle.std.specs.Prelude.{◌≡◌, ◌⊎◌, List, [], ◌∷◌, length, codes, Some, true, false}
+use Rattle.clap.specs.Faults.{fault_of}
+use Rattle.clap.specs.Kinds.{IsAmong, Kinds}
+use Rattle.clap.specs.Lexer.{usize_max}
+use Rattle.clap.specs.Simple.{App, Shape, new_rule, new_shape, matches_of, subcommand_of}
+use Rattle.clap.specs.Walk.{Row, Rule, Text}
+use Rattle.clap.specs.declared.builder.action.ArgAction.TheVariants.{Set, Append, SetTrue}
+use Rattle.clap.specs.declared.error.kind.ErrorKind.TheVariants.{DisplayHelp, DisplayVersion}
+use Rattle.l4_options.specs.Spelled.{AreEncodedIn, AreFramesIn, AreNumbersIn, IsNumberAt, IsReadingIn, IsRegionIn, IsScriptIn, IsSizeIn, is_on}
+use Rattle.l4_options.specs.declared.requests.Options.{Options}
+use Rattle.l4_options.specs.declared.requests.Options.TheVariants.{Run, History, Judge, Why, Plan, Check, Decode, Encode, Show}
+use Rattle.l4_options.specs.declared.requests.StepOptions.{StepOptions}
+use Rattle.l4_options.specs.declared.requests.StepOptions.TheVariants.{Run as RunSteps, Show as ShowText}
+
+-- ---- arguments
+
+-- a word in its place, which may be left out or not
+abbrev pub word : Text → Rule
+word id = record (new_rule id) { action = Some Set; value_names = 1 }
+
+abbrev pub needed_word : Text → Rule
+needed_word id = record (word id) { required = true }
+
+-- one or more words
+abbrev pub needed_words : Text → Rule
+needed_words id = record (new_rule id) { action = Some Append; value_names = 1; required = true; range = Some (record { start_inclusive = 1; end_inclusive = usize_max }) }
+
+-- an option with a word, --ID WORD
+abbrev pub option : Text → Rule
+option id = record (word id) { long = Some id }
+
+-- a switch, --ID
+abbrev pub switch : Text → Rule
+switch id = record (new_rule id) { action = Some SetTrue; long = Some id }
+
+-- ---- commands
+
+-- a command that takes these
+abbrev pub command : Text → List Rule → Shape
+command name rules = record (new_shape name) { rules = rules }
+
+-- the file, and the frames and pages of the machine
+abbrev pub script_rules : List Rule → List Rule
+script_rules rules = word (codes "file") ∷ option (codes "frames") ∷ option (codes "page-size") ∷ rules
+
+abbrev pub run_command : Shape
+run_command = command (codes "run") (script_rules (switch (codes "strict") ∷ switch (codes "explain") ∷ []))
+
+abbrev pub history_command : Shape
+history_command = command (codes "history") (script_rules (switch (codes "answers") ∷ []))
+
+abbrev pub judge_command : Shape
+judge_command = command (codes "judge") (script_rules (switch (codes "all") ∷ []))
+
+abbrev pub why_command : Shape
+why_command = command (codes "why") (needed_word (codes "thread") ∷ needed_word (codes "page") ∷ script_rules [])
+
+-- plan and check
+abbrev pub region_command : Text → Shape
+region_command name = command name (
+    needed_word (codes "source") ∷ needed_word (codes "target") ∷ needed_word (codes "count") ∷ needed_word (codes "rights")
+    ∷ option (codes "page-size") ∷ [])
+
+abbrev pub decode_command : Shape
+decode_command = command (codes "decode") (needed_words (codes "words") ∷ option (codes "as") ∷ option (codes "page-size") ∷ [])
+
+abbrev pub encode_command : Shape
+encode_command = command (codes "encode") (needed_words (codes "tokens") ∷ option (codes "page-size") ∷ [])
+
+-- the commands of l4
+abbrev pub l4_commands : List Shape
+l4_commands =
+    run_command ∷ history_command ∷ judge_command ∷ why_command ∷ region_command (codes "plan") ∷ region_command (codes "check")
+    ∷ decode_command ∷ encode_command ∷ []
+
+-- the program l4, which takes one of its commands
+abbrev pub l4_program : App
+l4_program = record { top = record (new_shape (codes "l4")) { is_leaf = false; has_version = true; subcommand_required = true }; subs = l4_commands }
+
+-- the program l4_steps
+abbrev pub l4_steps_program : App
+l4_steps_program = record {
+  top = record (new_shape (codes "l4_steps")) { rules = option (codes "frames") ∷ option (codes "page-size") ∷ []; has_version = true };
+  subs = [];
+}
+
+-- ---- what a command line asks for
+
+-- the command of this name asks for this, with what was found behind it
+abbrev pub Asks : Text → List Row → Options → Type 0
+Asks name found (Run script strict explain) =
+    (name ≡ codes "run") × IsScriptIn found script × (strict ≡ is_on found (codes "strict")) × (explain ≡ is_on found (codes "explain"))
+Asks name found (History script answers) = (name ≡ codes "history") × IsScriptIn found script × (answers ≡ is_on found (codes "answers"))
+Asks name found (Judge list all) = (name ≡ codes "judge") × IsScriptIn found list × (all ≡ is_on found (codes "all"))
+Asks name found (Why script thread page) =
+    (name ≡ codes "why") × IsScriptIn found script × IsNumberAt found (codes "thread") thread × IsNumberAt found (codes "page") page
+Asks name found (Plan region size) = (name ≡ codes "plan") × IsRegionIn found region × IsSizeIn found size
+Asks name found (Check region size) = (name ≡ codes "check") × IsRegionIn found region × IsSizeIn found size
+Asks name found (Decode words reading size) =
+    (name ≡ codes "decode") × AreNumbersIn found words.items × IsReadingIn found (length words.items) reading × IsSizeIn found size
+Asks name found (Encode words) = (name ≡ codes "encode") × AreEncodedIn found words.items
+Asks name found (Show text) = ⊥
+
+-- the words ask for a text: the usage or the version
+abbrev pub WantsText : Kinds → Type 0
+WantsText faults = IsAmong DisplayHelp faults ⊎ IsAmong DisplayVersion faults
+
+-- a text is shown
+abbrev pub IsText : Options → Type 0
+IsText (Show text) = Unit {0}
+IsText asked = ⊥
+
+-- the command that the words name asks for this
+abbrev pub IsCommandAsked : List Text → Options → Type 0
+IsCommandAsked words asked = (name : Text) × (found : List Row) × (subcommand_of l4_program words ≡ Some (name, found)) × Asks name found asked
+
+-- WHAT A COMMAND LINE OF l4 ASKS FOR, with the program's name first: the usage or the version, or, where clap finds no fault in the words,
+-- what the command asks for that they name
+unfoldable pub IsAsked : List Text → Options → Type 0
+IsAsked words asked =
+    (IsText asked × WantsText (fault_of l4_program words)) ⊎ ((fault_of l4_program words ≡ []) × IsCommandAsked words asked)
+
+-- l4_steps: the frames and the pages of the machine
+abbrev pub AreStepsIn : List Row → StepOptions → Type 0
+AreStepsIn found (RunSteps frames size) = AreFramesIn found frames × IsSizeIn found size
+AreStepsIn found (ShowText text) = ⊥
+
+abbrev pub IsStepsText : StepOptions → Type 0
+IsStepsText (RunSteps frames size) = ⊥
+IsStepsText (ShowText text) = Unit {0}
+
+-- WHAT A COMMAND LINE OF l4_steps ASKS FOR
+unfoldable pub AreStepsAsked : List Text → StepOptions → Type 0
+AreStepsAsked words asked =
+    (IsStepsText asked × WantsText (fault_of l4_steps_program words))
+    ⊎ ((fault_of l4_steps_program words ≡ []) × AreStepsIn (matches_of l4_steps_program words) asked)
