@@ -43,11 +43,13 @@ steps if it has the same --frames and --page-size.
 
   l4 history < script | l4_steps
 
-With --answers, each step is followed by the lines that l4_steps answers to it.
-They begin with '# ', so l4_steps skips them. A refused line of the script takes
-no step and is not reported. Use 'l4 run --strict' to see refused lines.
+With --answers, each step is followed by the answer that it got in the script,
+in the words of l4_steps. These lines begin with '# ', so l4_steps skips them. A
+refused line of the script takes no step and is not reported. Use
+'l4 run --strict' to see refused lines.
 
-Exit status: the same as for 'l4 run'.";
+Exit status: as for 'l4 run', but never 1. With --answers, 4 also if a step gets
+another answer when it is executed again, because memory ran out.";
 
 pub(crate) const JUDGE: &str = "\
 Reads a step list from FILE, or from standard input if FILE is omitted, in the
