@@ -74,7 +74,9 @@ fn add_root(rt: &impl Print, links: &mut Links, page: u32) -> io::Result<()>
 
 /// Adds spaces and roots, with a table of pages that is there and with others.
 pub fn tell<R: AllocGlobal + Print>(rt: &R) -> io::Result<()> {
-    let mut links = Links::new(rt.alloc(), 0)?;
+    let Ok(mut links) = Links::new(rt.alloc(), 0) else {
+        return Err(stop());
+    };
     show(rt, "done start", &links)?;
     add_space(rt, &mut links, 1)?;
     add_space(rt, &mut links, 0)?;
