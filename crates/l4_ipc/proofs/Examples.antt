@@ -24,6 +24,7 @@ use Rattle.l4_mapdb.specs.declared.Mapping.{Mapping}
 use Rattle.l4_mapdb.specs.Mappings.{place_cmp, Mappings, shown, parent_of, Chain, child, further, Descends, IsPresent, rights_at}
 use Rattle.l4_mapdb.specs.Losing.{LosesRights}
 use Rattle.l4_mapdb.specs.Transfer.{PageMove, IsGranted, IsEntangled, ParentLater, Becomes, Moved, IsCut}
+use Rattle.l4_mapdb.proofs.Filled.{BecomesBy, by_kind}
 use Rattle.l4_mapdb.proofs.Unique.{same_rights}
 use Rattle.l4_mapdb.proofs.Places.{places_total, exact_places}
 use Rattle.l4_unmap.specs.Unmap.{with_own}
@@ -503,9 +504,10 @@ target_absent : (u : PageMove) → Used u → ¬ (IsPresent of_sigma0 u.target)
 target_absent u is present = false≢true (ap is_some (sym (none_before 6) ∙ ap (λ (m : PageMove). shown of_sigma0 m.target) (sym (one_move u is))) ∙ present)
 
 not_entangled : ¬ (IsEntangled Used of_sigma0)
-not_entangled (inl s) = s.differ (ap (λ (m : PageMove). m.item) (one_move s.one s.one_used ∙ sym (one_move s.other s.other_used)))
-not_entangled (inr (inl g)) = no_grant g.one g.one_used g.grant
-not_entangled (inr (inr r)) = target_absent r.one r.one_used r.present
+not_entangled e = elim e.clash [
+  | inl c ↦ c.0 (ap (λ (m : PageMove). m.item) (one_move e.one e.one_used ∙ sym (one_move e.other e.other_used)))
+  | inr c ↦ target_absent e.one e.one_used c.0
+]
 
 parent_same : (p : Option Place) → ParentLater Used p p
 parent_same None = refl
@@ -531,13 +533,12 @@ becomes place m (inl n) =
     inl (record {
       move = moves_5_to_6;
       used = used;
-      map = λ g. false≢true g;
       target = sym is.0;
       frame = ap (λ (x : Mapping). x.frame) is.1;
       rights = ap (λ (x : Mapping). x.rights) is.1;
-      parent = ap (λ (x : Mapping). x.parent) is.1;
+      parent = inl (λ g. false≢true g, ap (λ (x : Mapping). x.parent) is.1);
     })
-becomes place m (inr k) = inr (inr (record {
+becomes place m (inr k) = inr (record {
   before = m;
   at = k.0;
   not_gone = λ g. target_absent g.move g.used g.present;
@@ -545,10 +546,10 @@ becomes place m (inr k) = inr (inr (record {
   frame = refl;
   rights = refl;
   parent = parent_same m.parent;
-}))
+})
 
-shows : (place : Place) (m : Mapping) → Becomes Used of_sigma0 place m → ShowsAfter place m
-shows place m (inl a) =
+shows_by : (place : Place) (m : Mapping) → BecomesBy Used of_sigma0 place m → ShowsAfter place m
+shows_by place m (inl a) =
     let is : a.move ≡ moves_5_to_6 = one_move a.move a.used in
     let place_is : page_of 1 6 ≡ place = ap (λ (u : PageMove). u.target) (sym is) ∙ a.target in
     let frame : m.frame ≡ 5 = a.frame ∙ ap (λ (u : PageMove). u.shows.frame) is in
@@ -556,10 +557,13 @@ shows place m (inl a) =
     let parent : m.parent ≡ Some (page_of 0 5) = a.parent ∙ ap (λ (u : PageMove). Some u.source) is in
     let shows_is : handed region.rights ≡ m = same_mapping (handed region.rights) m (sym frame) (sym rights) (sym parent) in
     inl (subst (λ (x : Mapping). IsNewPlace of_sigma0 0 1 region place x) shows_is (subst (λ (q : Place). IsNewPlace of_sigma0 0 1 region q (handed region.rights)) place_is new_page))
-shows place m (inr (inl h)) = absurd (no_grant h.move h.used h.grant)
-shows place m (inr (inr s)) =
+shows_by place m (inr (inl h)) = absurd (no_grant h.move h.used h.grant)
+shows_by place m (inr (inr s)) =
     let same_one : s.before ≡ m = same_mapping s.before m (sym s.frame) (sym s.rights) (sym (parent_kept s.before.parent m.parent s.parent)) in
     inr (s.at ∙ ap (λ (x : Mapping). Some x) same_one, never_replaced place)
+
+shows : (place : Place) (m : Mapping) → Becomes Used of_sigma0 place m → ShowsAfter place m
+shows place m b = shows_by place m (by_kind b)
 
 moved : Moved Used of_sigma0 (delegated region.rights)
 moved = record {

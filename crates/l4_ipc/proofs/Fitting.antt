@@ -50,8 +50,7 @@ module _ (size : PageSize) (old new : Mappings) (from to : ℕ) (items : List It
 
   becomes_fits : (place : Place) (m : Mapping) → Becomes (IsUsed old from to moves) old place m → place.page < space_pages size
   becomes_fits place m (inl v) = subst (λ (p : Place). p.page < space_pages size) v.target (target_fits v.move v.used)
-  becomes_fits place m (inr (inl v)) = subst (λ (p : Place). p.page < space_pages size) v.target (target_fits v.move v.used)
-  becomes_fits place m (inr (inr v)) = fits place v.before v.at
+  becomes_fits place m (inr v) = fits place v.before v.at
 
   pub fits_delivered : Delivers from to moves old new → FitIn size new
   fits_delivered d place m at = let cut = (d.cut.places place m).0 at in becomes_fits place cut.0 ((d.moved.places place cut.0).0 cut.1)

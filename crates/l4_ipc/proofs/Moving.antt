@@ -182,19 +182,16 @@ module _ (size : PageSize) (s : Mappings) (from to : ℕ) (window : Fpage) where
   pub nothing_moves : IsForest s → Moves size s from to [] window Done s
   nothing_moves forest = (
     λ lacks. lacks.0 refl,
-    λ tangled. elim tangled [
-      | inl h ↦ none_used h.one h.one_used
-      | inr other ↦ elim other [ inl h ↦ none_used h.one h.one_used | inr h ↦ none_used h.one h.one_used ]
-    ],
+    λ tangled. none_used tangled.one tangled.one_used,
     record {
       middle = s;
       moved = record {
         spaces = refl;
         places = λ place m. (
-          λ at. inr (inr (stays place m at)),
+          λ at. inr (stays place m at),
           λ becomes. elim becomes [
             | inl h ↦ absurd (none_used h.move h.used)
-            | inr other ↦ elim other [ inl h ↦ absurd (none_used h.move h.used) | inr h ↦ stayed place m h ]
+            | inr h ↦ stayed place m h
           ],
         );
       };

@@ -15,9 +15,7 @@ module _ (Used Other : PageMove → Type 0) (to : (move : PageMove) → Used mov
   gone_along old place g = record { move = g.move; used = back g.move g.used; present = g.present; below = g.below }
 
   pub entangled_along : (old : Mappings) → IsEntangled Used old → IsEntangled Other old
-  entangled_along old (inl s) = inl (record { one = s.one; other = s.other; one_used = to s.one s.one_used; other_used = to s.other s.other_used; differ = s.differ; target = s.target })
-  entangled_along old (inr (inl g)) = inr (inl (record { one = g.one; other = g.other; one_used = to g.one g.one_used; other_used = to g.other g.other_used; differ = g.differ; grant = g.grant; source = g.source }))
-  entangled_along old (inr (inr r)) = inr (inr (record { one = r.one; other = r.other; one_used = to r.one r.one_used; other_used = to r.other r.other_used; present = r.present; above = r.above }))
+  entangled_along old e = record { one = e.one; other = e.other; one_used = to e.one e.one_used; other_used = to e.other e.other_used; clash = e.clash }
 
   stands_along : (place later : Place) → StandsAt Used place later → StandsAt Other place later
   stands_along place later (inl m) = inl (m.0, to m.0 m.1, m.2, m.3, m.4)
@@ -28,9 +26,15 @@ module _ (Used Other : PageMove → Type 0) (to : (move : PageMove) → Used mov
   parent_along (Some parent) later h = (h.0, stands_along parent h.0 h.1, h.2)
 
   becomes_along : (old : Mappings) (place : Place) (m : Mapping) → Becomes Used old place m → Becomes Other old place m
-  becomes_along old place m (inl x) = inl (record { move = x.move; used = to x.move x.used; map = x.map; target = x.target; frame = x.frame; rights = x.rights; parent = x.parent })
-  becomes_along old place m (inr (inl x)) = inr (inl (record { move = x.move; used = to x.move x.used; grant = x.grant; target = x.target; frame = x.frame; rights = x.rights; parent = parent_along x.move.shows.parent m.parent x.parent }))
-  becomes_along old place m (inr (inr x)) = inr (inr (record {
+  becomes_along old place m (inl x) = inl (record {
+    move = x.move;
+    used = to x.move x.used;
+    target = x.target;
+    frame = x.frame;
+    rights = x.rights;
+    parent = elim x.parent [ inl p ↦ inl p | inr p ↦ inr (p.0, parent_along x.move.shows.parent m.parent p.1) ];
+  })
+  becomes_along old place m (inr x) = inr (record {
     before = x.before;
     at = x.at;
     not_gone = λ g. x.not_gone (gone_along old place g);
@@ -38,7 +42,7 @@ module _ (Used Other : PageMove → Type 0) (to : (move : PageMove) → Used mov
     frame = x.frame;
     rights = x.rights;
     parent = parent_along x.before.parent m.parent x.parent;
-  }))
+  })
 
   cut_along : (middle : Mappings) (place : Place) (right : Right) → IsCut Used middle place right → IsCut Other middle place right
   cut_along middle place right c = record { move = c.move; used = to c.move c.used; grant = c.grant; had = c.had; lacks = c.lacks; below = c.below }

@@ -5,8 +5,9 @@ use Rattle.l4_fpage.specs.Rights.{RightsSet, Right, has, Within}
 use Rattle.l4_mapdb.specs.declared.Place.{Place}
 use Rattle.l4_mapdb.specs.declared.Mapping.{Mapping}
 use Rattle.l4_mapdb.specs.Mappings.{Mappings, shown, parent_of, Chain, child, further, Descends, IsOrDescends, IsRoot, IsForest}
-use Rattle.l4_mapdb.specs.Transfer.{PageMove, IsGranted, IsEntangled, IsGone, StandsAt, ParentLater, IsMapped, Becomes, Moved, IsCut, Transfers}
+use Rattle.l4_mapdb.specs.Transfer.{PageMove, IsGranted, IsEntangled, IsGone, StandsAt, ParentLater, Becomes, Moved, IsCut, Transfers}
 use Rattle.l4_mapdb.proofs.EntriesLemmas.{decided}
+use Rattle.l4_mapdb.proofs.Filled.{IsMapped, by_kind}
 use Rattle.l4_mapdb.proofs.Single.{KnownMoves, one_target, one_grant, one_place}
 use Rattle.l4_mapdb.proofs.ForestKept.{decide, IsLoose, LooseParent, forest_kept}
 use Rattle.l4_mapdb.proofs.Unique.{same_value}
@@ -28,7 +29,7 @@ module _ (Used : PageMove → Type 0) (old mid : Mappings) (known : KnownMoves U
 
   -- no source is gone
   source_stays : (u : PageMove) → Used u → ¬ (IsGone Used old u.source)
-  source_stays u a g = free (inr (inr (record { one = g.move; other = u; one_used = g.used; other_used = a; present = g.present; above = g.below })))
+  source_stays u a g = free (record { one = g.move; other = u; one_used = g.used; other_used = a; clash = inr (g.present, g.below) })
 
   -- a place that is there and is a target is gone
   target_gone : (u : PageMove) → Used u → (q : Place) (b : Mapping) → u.target ≡ q → shown old q ≡ Some b → IsGone Used old q
@@ -76,7 +77,7 @@ module _ (Used : PageMove → Type 0) (old mid : Mappings) (known : KnownMoves U
   -- a granted place stands at the target
   granted_stands : (u : PageMove) → Used u → IsTrue u.grant → (k : Mapping) → shown mid u.target ≡ Some k → Stands u.source u.target u.shows k
   granted_stands u a g k at =
-      elim ((moved.places u.target k).0 at) [
+      elim (by_kind ((moved.places u.target k).0 at)) [
         | inl b ↦ absurd (let e : b.move ≡ u = same_target b.move u b.used a b.target in b.map (subst (λ (v : PageMove). IsTrue v.grant) (sym e) g))
         | inr (inl b) ↦
             let e : b.move ≡ u = same_target b.move u b.used a b.target in
@@ -97,7 +98,7 @@ module _ (Used : PageMove → Type 0) (old mid : Mappings) (known : KnownMoves U
   -- a place that is neither gone nor granted stands where it stood
   kept_stands : (c : Place) (b : Mapping) → shown old c ≡ Some b → ¬ (IsGone Used old c) → ¬ (IsGranted Used c) → (k : Mapping) → shown mid c ≡ Some k → Stands c c b k
   kept_stands c b was here not k at =
-      elim ((moved.places c k).0 at) [
+      elim (by_kind ((moved.places c k).0 at)) [
         | inl x ↦ absurd (here (target_gone x.move x.used c b x.target was))
         | inr (inl x) ↦ absurd (here (target_gone x.move x.used c b x.target was))
         | inr (inr x) ↦
@@ -119,7 +120,7 @@ module _ (Used : PageMove → Type 0) (old mid : Mappings) (known : KnownMoves U
       let u = g.0 in
       let some = shown_if u.target (λ h. later_if u.shows.parent (λ later l.
       h (record { frame = u.shows.frame; rights = u.rights; parent = later })
-      (inr (inl (record { move = u; used = g.1; grant = g.2; target = refl; frame = refl; rights = refl; parent = l }))))) in
+      (inl (record { move = u; used = g.1; target = refl; frame = refl; rights = refl; parent = inr (g.2, l) })))) in
       let s : Stands u.source u.target u.shows some.0 = granted_stands u g.1 g.2 some.0 some.1 in
       let shows : u.shows ≡ b = same_value (sym (known.shows u g.1) ∙ ap (shown old) g.3 ∙ was) in
       let one : Stands c u.target u.shows some.0 = subst (λ (x : Place). Stands x u.target u.shows some.0) g.3 s in
@@ -128,7 +129,7 @@ module _ (Used : PageMove → Type 0) (old mid : Mappings) (known : KnownMoves U
   stands_at c q b was here (inr n) =
       let some = shown_if c (λ h. later_if b.parent (λ later l.
       h (record { frame = b.frame; rights = b.rights; parent = later })
-      (inr (inr (record { before = b; at = was; not_gone = here; not_granted = n.0; frame = refl; rights = refl; parent = l }))))) in
+      (inr (record { before = b; at = was; not_gone = here; not_granted = n.0; frame = refl; rights = refl; parent = l })))) in
       (some.0, subst (λ (x : Place). Stands c x b some.0) n.1 (kept_stands c b was here n.0 some.0 some.1))
 
   -- the place above, before and after
@@ -184,7 +185,7 @@ module _ (Used : PageMove → Type 0) (old mid : Mappings) (known : KnownMoves U
     stood : StandsAt Used c q
 
   origin : (q : Place) (m : Mapping) → shown mid q ≡ Some m → IsMapped Used q m ⊎ Origin q m
-  origin q m at = elim ((moved.places q m).0 at) [
+  origin q m at = elim (by_kind ((moved.places q m).0 at)) [
     | inl x ↦ inl x
     | inr (inl x) ↦ inr (record {
       c = x.move.source;
@@ -254,12 +255,12 @@ module _ (Used : PageMove → Type 0) (old mid : Mappings) (known : KnownMoves U
 
   pub moved_loose : IsLoose Cut mid
   moved_loose = record {
-    in_space = λ q m at. subst (λ (x : set.FinSet _). IsTrue (set.contains x q.space)) (sym moved.spaces) (elim ((moved.places q m).0 at) [
+    in_space = λ q m at. subst (λ (x : set.FinSet _). IsTrue (set.contains x q.space)) (sym moved.spaces) (elim (by_kind ((moved.places q m).0 at)) [
       | inl x ↦ subst (λ (y : Place). IsTrue (set.contains old.spaces y.space)) x.target (known.in_space x.move x.used)
       | inr (inl x) ↦ subst (λ (y : Place). IsTrue (set.contains old.spaces y.space)) x.target (known.in_space x.move x.used)
       | inr (inr x) ↦ forest.in_space q x.before x.at
     ]);
-    page_fits = λ q m at. elim ((moved.places q m).0 at) [
+    page_fits = λ q m at. elim (by_kind ((moved.places q m).0 at)) [
       | inl x ↦ subst (λ (y : Place). y.page < most_pages) x.target (known.page_fits x.move x.used)
       | inr (inl x) ↦ subst (λ (y : Place). y.page < most_pages) x.target (known.page_fits x.move x.used)
       | inr (inr x) ↦ forest.page_fits q x.before x.at

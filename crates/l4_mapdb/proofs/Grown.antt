@@ -13,13 +13,14 @@ use Rattle.l4_mapdb.specs.declared.ItemMove.{ItemMove}
 use Rattle.l4_mapdb.specs.declared.sources.UsedMove.{UsedMove}
 use Rattle.l4_mapdb.specs.Mappings.{Mappings, shown}
 use Rattle.l4_mapdb.specs.Losing.{LosesRights}
-use Rattle.l4_mapdb.specs.Transfer.{PageMove, IsUsed, IsEntangled, IsGranted, IsGone, IsMapped, Stays, ParentLater, Becomes, Moved, IsCut, Delivers}
+use Rattle.l4_mapdb.specs.Transfer.{PageMove, IsUsed, IsEntangled, IsGranted, IsGone, Stays, ParentLater, Becomes, Moved, IsCut, Delivers}
 use Rattle.l4_mapdb.specs.View.{map_place, place_at, mapping_of, mappings_of, link_place}
 use Rattle.l4_mapdb.specs.Inside.View.{IsShown}
 use Rattle.l4_mapdb.specs.Delivering.{IsClean, RootsKnown, IsDelivered}
 use Rattle.l4_mapdb.specs.Inside.Messages.{IsMoved}
 use Rattle.l4_mapdb.specs.Inside.Growing.{AreMaps, child_of, IsGround, IsTargetHere, Mapped}
 use Rattle.l4_mapdb.proofs.Unique.{same_value}
+use Rattle.l4_mapdb.proofs.Filled.{IsMapped, by_kind}
 use Rattle.l4_mapdb.proofs.Moves.{found_of, one_by, is_at}
 use Rattle.l4_mapdb.proofs.Nothing.{left_same}
 use Rattle.l4_mapdb.proofs.View.{shown_by_key, key_shows}
@@ -132,7 +133,7 @@ module _ (start : Linked) (from to : ℕ) (items : List ItemMove) (ground : IsGr
   to_becomes place m h =
       let u = (shown_by_key now have place m).0 h in
       elim (mapped.only u.key u.entry u.at) [
-        | inl was ↦ inr (inr (record {
+        | inl was ↦ inr (record {
           before = mapping_of start.entries u.standing;
           at = ap (λ (p : LinkPlace). shown (mappings_of start) (map_place p)) (sym u.place_is) ∙ key_shows start ground.places u.key u.entry u.standing was.0 u.stands;
           not_gone = λ g. was.1 (subst (λ (p : LinkPlace). IsTargetHere start from to items p) (sym u.place_is) (gone_target place u.key (is_at start.entries u.key u.entry (link_place place) was.0 u.place_is) g));
@@ -140,7 +141,7 @@ module _ (start : Linked) (from to : ℕ) (items : List ItemMove) (ground : IsGr
           frame = ap (λ (x : Mapping). x.frame) (sym u.mapping);
           rights = ap (λ (x : Mapping). x.rights) (sym u.mapping);
           parent = same_parent (option_and_then (place_at start.entries) u.standing.parent) m.parent (ap (λ (x : Mapping). x.parent) (sym u.mapping) ∙ parent_still u.key u.entry u.standing was.0 u.stands);
-        }))
+        })
         | inr n ↦
             let same : child_standing n.0 n.1 ≡ u.standing = same_value (ap (λ (e : Entry). e.stands) (sym n.2) ∙ u.stands) in
             let mapping : m ≡ mapping_of now.entries (child_standing n.0 n.1) = sym u.mapping ∙ ap (mapping_of now.entries) (sym same) in
@@ -148,11 +149,10 @@ module _ (start : Linked) (from to : ℕ) (items : List ItemMove) (ground : IsGr
             inl (record {
               move = page_move start ground.places ground.trees from to items n.0 n.1;
               used = used;
-              map = no_grant (page_move start ground.places ground.trees from to items n.0 n.1) used;
               target = ap map_place (ap (λ (e : Entry). e.place) (sym n.2) ∙ u.place_is);
               frame = ap (λ (x : Mapping). x.frame) mapping;
               rights = ap (λ (x : Mapping). x.rights) mapping;
-              parent = ap (λ (x : Mapping). x.parent) mapping ∙ source_place n.0 n.1;
+              parent = inl (no_grant (page_move start ground.places ground.trees from to items n.0 n.1) used, ap (λ (x : Mapping). x.parent) mapping ∙ source_place n.0 n.1);
             })
       ]
 
@@ -191,9 +191,10 @@ module _ (start : Linked) (from to : ℕ) (items : List ItemMove) (ground : IsGr
       ∙ ap (λ (x : Mapping). Some x) (mapping_still u.key u.entry u.standing u.at u.stands ∙ u.mapping ∙ mapping)
 
   from_becomes : (place : Place) (m : Mapping) → Becomes Used (mappings_of start) place m → shown (mappings_of now) place ≡ Some m
-  from_becomes place m (inl w) = of_mapped place m w
-  from_becomes place m (inr (inl h)) = absurd (no_grant h.move h.used h.grant)
-  from_becomes place m (inr (inr s)) = of_stays place m s
+  from_becomes place m b = elim (by_kind b) [
+    | inl w ↦ of_mapped place m w
+    | inr other ↦ elim other [ inl h ↦ absurd (no_grant h.move h.used h.grant) | inr s ↦ of_stays place m s ]
+  ]
 
   moved_now : Moved Used (mappings_of start) (mappings_of now)
   moved_now = record { spaces = mapped.spaces; places = λ place m. (to_becomes place m, from_becomes place m) }

@@ -20,6 +20,7 @@ use Rattle.l4_mapdb.specs.Inside.Tangles.{AreApart}
 use Rattle.l4_mapdb.specs.Inside.Growing.{IsGround}
 use Rattle.l4_mapdb.specs.Inside.Granting.{AreGrants, handed_to, IsGiven, Handed}
 use Rattle.l4_mapdb.proofs.Unique.{same_value}
+use Rattle.l4_mapdb.proofs.Filled.{BecomesBy, by_kind}
 use Rattle.l4_mapdb.proofs.Single.{KnownMoves, becomes_one}
 use Rattle.l4_mapdb.proofs.ForestKept.{decide}
 use Rattle.l4_mapdb.proofs.UsedMoves.{known_moves}
@@ -174,20 +175,22 @@ module _ (start : Linked) (from to : ℕ) (items : List ItemMove) (ground : IsGr
             let same : n.1.standing ≡ u.standing = same_value (ap (λ (e : Entry). e.stands) (sym n.4) ∙ u.stands) in
             let mapping : mapping_of now.entries n.1.standing ≡ m = ap (mapping_of now.entries) same ∙ u.mapping in
             let used = used_of start ground.places ground.trees from to items n.0 n.1 in
-            inr (inl (record {
+            inl (record {
               move = page_move start ground.places ground.trees from to items n.0 n.1;
               used = used;
-              grant = all_grant (page_move start ground.places ground.trees from to items n.0 n.1) used;
               target = ap map_place (ap (λ (e : Entry). e.place) (sym n.4) ∙ u.place_is);
               frame = ap (λ (x : Mapping). x.frame) (sym mapping);
               rights = ap (λ (x : Mapping). x.rights) (sym mapping) ∙ sym (common_all n.1.standing.rights n.1.by.rights (handed.within n.0 n.1));
-              parent = subst (λ (o : Option Place). ParentLater Used (option_and_then (place_at start.entries) n.1.standing.parent) o) (ap (λ (x : Mapping). x.parent) mapping)
-                  (parent_later n.0.source s.0 n.1.standing s.1 s.2 n.1.standing.parent refl);
-            }))
+              parent = inr (
+                all_grant (page_move start ground.places ground.trees from to items n.0 n.1) used,
+                subst (λ (o : Option Place). ParentLater Used (option_and_then (place_at start.entries) n.1.standing.parent) o) (ap (λ (x : Mapping). x.parent) mapping)
+                    (parent_later n.0.source s.0 n.1.standing s.1 s.2 n.1.standing.parent refl),
+              );
+            })
         | inr other ↦ elim other [
           | inl was ↦
               let place_is : map_place u.entry.place ≡ place = ap map_place u.place_is in
-              inr (inr (record {
+              inr (record {
                 before = mapping_of start.entries u.standing;
                 at = ap (shown (mappings_of start)) (sym place_is) ∙ key_shows start ground.places u.key u.entry u.standing was.0 u.stands;
                 not_gone = none_gone place;
@@ -196,27 +199,30 @@ module _ (start : Linked) (from to : ℕ) (items : List ItemMove) (ground : IsGr
                 rights = ap (λ (x : Mapping). x.rights) (sym u.mapping);
                 parent = subst (λ (o : Option Place). ParentLater Used (option_and_then (place_at start.entries) u.standing.parent) o) (ap (λ (x : Mapping). x.parent) u.mapping)
                     (parent_later u.key u.entry u.standing was.0 u.stands u.standing.parent refl);
-              }))
+              })
           | inr b ↦ absurd (b.2 b.1)
         ]
       ]
 
-  -- what a place becomes is shown there
-  some_shown : (place : Place) (m : Mapping) → Becomes Used (mappings_of start) place m → (k : Mapping) × (shown (mappings_of now) place ≡ Some k)
-  some_shown place m (inl w) = absurd (w.map (all_grant w.move w.used))
-  some_shown place m (inr (inl w)) =
+  shown_by_kind : (place : Place) (m : Mapping) → BecomesBy Used (mappings_of start) place m → (k : Mapping) × (shown (mappings_of now) place ≡ Some k)
+  shown_by_kind place m (inl w) = absurd (w.map (all_grant w.move w.used))
+  shown_by_kind place m (inr (inl w)) =
       let k = key_of start ground.places ground.trees from to items w.move w.used in
       let target : map_place k.move.target ≡ place = ap map_place k.target ∙ w.target in (
         mapping_of now.entries k.moves.standing,
         ap (shown (mappings_of now)) (sym target) ∙ key_shows now have k.move.source (handed_to start from to items k.move k.moves) k.moves.standing (handed.given k.move k.moves k.moves) refl,
       )
-  some_shown place m (inr (inr s)) =
+  shown_by_kind place m (inr (inr s)) =
       let u = (shown_by_key start ground.places place s.before).0 s.at in
       let place_is : map_place u.entry.place ≡ place = ap map_place u.place_is in
       let out = not_given u.key u.entry u.at (subst (λ (q : Place). ¬ (IsGranted Used q)) (sym place_is) s.not_granted) in (
         mapping_of now.entries u.standing,
         ap (shown (mappings_of now)) (sym place_is) ∙ key_shows now have u.key u.entry u.standing (handed.kept u.key u.entry u.at out) u.stands,
       )
+
+  -- what a place becomes is shown there
+  some_shown : (place : Place) (m : Mapping) → Becomes Used (mappings_of start) place m → (k : Mapping) × (shown (mappings_of now) place ≡ Some k)
+  some_shown place m b = shown_by_kind place m (by_kind b)
 
   moved_now : Moved Used (mappings_of start) (mappings_of now)
   moved_now = record {

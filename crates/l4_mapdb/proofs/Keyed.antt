@@ -1,5 +1,5 @@
 -- The used moves by keys are those of the mappings, and what they entangle and take with them is the same.
-use Rattle.std.proofs.Common.{◌≡◌, ℕ, true, false, List, Option, Some, None, is_some, option_map, refl, sym, ap, ◌∙◌, subst, inl, inr, ◌⊎◌}
+use Rattle.std.proofs.Common.{◌≡◌, ◌≢◌, ℕ, IsTrue, true, false, List, Option, Some, None, is_some, option_map, refl, sym, ap, ◌∙◌, subst, inl, inr, ◌⊎◌}
 use Rattle.l4_fpage.specs.Rights.{common}
 use Rattle.l4_nodes.specs.declared.Place.{Place as LinkPlace}
 use Rattle.l4_links.specs.declared.Standing.{Standing}
@@ -137,79 +137,90 @@ module _ (s : Linked) (have : HavePlaces s) (trees : AreTrees s.entries) (from t
   pub entangled_places : HasTangle Moves s.entries → IsEntangled Used (mappings_of s)
   entangled_places h = elim h.tangles [
     | inl clash ↦ elim clash [
-      | inl f ↦ inl (record {
+      | inl f ↦ record {
         one = page_move h.move h.used;
         other = page_move f.other f.used;
         one_used = used_of h.move h.used;
         other_used = used_of f.other f.used;
-        differ = f.differ;
-        target = ap map_place (sym f.target);
-      })
-      | inr g ↦ inr (inl (record {
+        clash = inl (f.differ, inl (ap map_place (sym f.target)));
+      }
+      | inr g ↦ record {
         one = page_move h.move h.used;
         other = page_move g.1.other g.1.used;
         one_used = used_of h.move h.used;
         other_used = used_of g.1.other g.1.used;
-        differ = g.1.differ;
-        grant = g.0;
-        source = λ i. record { space = from; page = (sym g.1.page_is) i };
-      }))
+        clash = inl (g.1.differ, inr (g.0, λ i. record { space = from; page = (sym g.1.page_is) i }));
+      }
     ]
-    | inr r ↦ inr (inr (record {
+    | inr r ↦ record {
       one = page_move h.move h.used;
       other = page_move r.other r.used;
       one_used = used_of h.move h.used;
       other_used = used_of r.other r.used;
-      present = key_present h.move.target r.key r.at r.stands;
-      above = above_place r.other.source r.key (record { space = from; page = r.other.page }) (map_place h.move.target) (move_at s.entries from to items r.other r.used) r.at r.above;
-    }))
+      clash = inr (
+        key_present h.move.target r.key r.at r.stands,
+        above_place r.other.source r.key (record { space = from; page = r.other.page }) (map_place h.move.target) (move_at s.entries from to items r.other r.used) r.at r.above,
+      );
+    }
   ]
 
   pub entangled_keys : IsEntangled Used (mappings_of s) → HasTangle Moves s.entries
-  entangled_keys (inl e) =
-      let a = key_of e.one e.one_used in
-      let b = key_of e.other e.other_used in
-      record {
-        move = a.move;
-        used = a.moves;
-        tangles = inl (inl (record {
-          other = b.move;
-          used = b.moves;
-          differ = λ same. e.differ (sym a.item ∙ same ∙ b.item);
-          target = b.target ∙ ap link_place (sym e.target) ∙ sym a.target;
-        }));
-      }
-  entangled_keys (inr (inl e)) =
-      let a = key_of e.one e.one_used in
-      let b = key_of e.other e.other_used in
-      record {
-        move = a.move;
-        used = a.moves;
-        tangles = inl (inr (
-          a.grant ∙ e.grant,
-          record {
+  entangled_keys e = elim e.clash [
+    | inl c ↦ elim c.1 [
+      | inl target ↦ same_target e c.0 target
+      | inr g ↦ same_source e c.0 g.0 g.1
+    ]
+    | inr c ↦ replaced e c.0 c.1
+  ] where
+    same_target : (e : IsEntangled Used (mappings_of s)) → e.one.item ≢ e.other.item → e.one.target ≡ e.other.target → HasTangle Moves s.entries
+    same_target e differ target =
+        let a = key_of e.one e.one_used in
+        let b = key_of e.other e.other_used in
+        record {
+          move = a.move;
+          used = a.moves;
+          tangles = inl (inl (record {
             other = b.move;
             used = b.moves;
-            differ = λ same. e.differ (sym a.item ∙ same ∙ b.item);
-            page_is = b.page ∙ ap (λ (p : Place). p.page) (sym e.source) ∙ sym a.page;
-          },
-        ));
-      }
-  entangled_keys (inr (inr e)) =
-      let a = key_of e.one e.one_used in
-      let b = key_of e.other e.other_used in
-      let k = present_key e.one.target e.present in
-      let low : IsAt s.entries (link_place e.other.source) b.move.source =
-      subst (λ (p : Place). IsAt s.entries (link_place p) b.move.source) (source_is e.other b) (move_at s.entries from to items b.move b.moves) in
-      record {
-        move = a.move;
-        used = a.moves;
-        tangles = inr (record {
-          key = k.key;
-          at = subst (λ (p : LinkPlace). IsAt s.entries p k.key) (sym a.target) k.at;
-          stands = k.stands;
-          other = b.move;
-          used = b.moves;
-          above = above_key b.move.source k.key e.other.source e.one.target low k.at e.above;
-        });
-      }
+            differ = λ same. differ (sym a.item ∙ same ∙ b.item);
+            target = b.target ∙ ap link_place (sym target) ∙ sym a.target;
+          }));
+        }
+
+    same_source : (e : IsEntangled Used (mappings_of s)) → e.one.item ≢ e.other.item → IsTrue e.one.grant → e.one.source ≡ e.other.source → HasTangle Moves s.entries
+    same_source e differ grant source =
+        let a = key_of e.one e.one_used in
+        let b = key_of e.other e.other_used in
+        record {
+          move = a.move;
+          used = a.moves;
+          tangles = inl (inr (
+            a.grant ∙ grant,
+            record {
+              other = b.move;
+              used = b.moves;
+              differ = λ same. differ (sym a.item ∙ same ∙ b.item);
+              page_is = b.page ∙ ap (λ (p : Place). p.page) (sym source) ∙ sym a.page;
+            },
+          ));
+        }
+
+    replaced : (e : IsEntangled Used (mappings_of s)) → IsPresent (mappings_of s) e.one.target → IsOrDescends (mappings_of s) e.other.source e.one.target → HasTangle Moves s.entries
+    replaced e present above =
+        let a = key_of e.one e.one_used in
+        let b = key_of e.other e.other_used in
+        let k = present_key e.one.target present in
+        let low : IsAt s.entries (link_place e.other.source) b.move.source =
+        subst (λ (p : Place). IsAt s.entries (link_place p) b.move.source) (source_is e.other b) (move_at s.entries from to items b.move b.moves) in
+        record {
+          move = a.move;
+          used = a.moves;
+          tangles = inr (record {
+            key = k.key;
+            at = subst (λ (p : LinkPlace). IsAt s.entries p k.key) (sym a.target) k.at;
+            stands = k.stands;
+            other = b.move;
+            used = b.moves;
+            above = above_key b.move.source k.key e.other.source e.one.target low k.at above;
+          });
+        }

@@ -20,6 +20,7 @@ pub mod CapLoops
 pub mod Caps
 pub mod CutLoss
 pub mod Deciding
+pub mod Filled
 pub mod Finished
 pub mod Gone
 pub mod Handed

@@ -13,6 +13,7 @@ use Rattle.l4_mapdb.specs.declared.Mapping.{Mapping}
 use Rattle.l4_mapdb.specs.declared.ItemMove.{ItemMove}
 use Rattle.l4_mapdb.specs.Mappings.{Mappings, shown, parent_of, child, further}
 use Rattle.l4_mapdb.specs.Transfer.{PageMove, IsGone, StandsAt, ParentLater, Becomes, Moved}
+use Rattle.l4_mapdb.proofs.Filled.{BecomesBy, by_kind}
 use Rattle.l4_mapdb.proofs.Single.{KnownMoves, one_grant, becomes_one}
 use Rattle.l4_mapdb.proofs.ForestKept.{decide}
 use Rattle.l4_mapdb.proofs.UsedMoves.{known_moves}
@@ -218,17 +219,19 @@ module _ (start now : Linked) (from to : ℕ) (items : List ItemMove) (ready : I
             let bys : Some p.by ≡ Some t.used.by = sym p.by_is ∙ t.used.item in
             let by_is : p.by ≡ t.used.by = cc in
             let there = λ (g : IsGone Moves before_all (map_place before.entry.place)). source_stays start now from to items ready Done placed have t.move t.used (subst (λ (q : LinkPlace). IsGone Moves before_all (map_place q)) before.place_is g) in
-            inr (inl (record {
+            inl (record {
               move = t.move;
               used = t.used;
-              grant = grant;
               target = same_link t.move.target place t.target;
               frame = ap (λ (x : Mapping). x.frame) (sym is) ∙ ap (λ (x : Standing). x.frame) stands_is ∙ ap (λ (x : Mapping). x.frame) (sym shows);
               rights = ap (λ (x : Mapping). x.rights) (sym is) ∙ ap (λ (x : Standing). x.rights) stands_is ∙ (λ i. common (sym shows i).rights (by_is i).rights) ∙ sym t.used.rights;
-              parent = subst (λ (o : Option Place). ParentLater Moves t.move.shows.parent o) (ap (λ (x : Standing). option_and_then (place_at (settled now).entries) x.parent) standing_is ∙ ap (λ (x : Standing). option_and_then (place_at (settled now).entries) x.parent) (sym stands_is) ∙ ap (λ (x : Mapping). x.parent) is)
-                  (subst (λ (o : Option Place). ParentLater Moves o (option_and_then (place_at (settled now).entries) before.standing.parent)) (ap (λ (x : Mapping). x.parent) before.mapping)
-                  (parent_later before.key before.entry before.standing before.at before.stands there before.standing.parent refl));
-            }))
+              parent = inr (
+                grant,
+                subst (λ (o : Option Place). ParentLater Moves t.move.shows.parent o) (ap (λ (x : Standing). option_and_then (place_at (settled now).entries) x.parent) standing_is ∙ ap (λ (x : Standing). option_and_then (place_at (settled now).entries) x.parent) (sym stands_is) ∙ ap (λ (x : Mapping). x.parent) is)
+                    (subst (λ (o : Option Place). ParentLater Moves o (option_and_then (place_at (settled now).entries) before.standing.parent)) (ap (λ (x : Mapping). x.parent) before.mapping)
+                    (parent_later before.key before.entry before.standing before.at before.stands there before.standing.parent refl)),
+              );
+            })
         | false ↦ λ map.
             let not_grant : ¬ (IsTrue t.move.grant) = λ g. let z : false ≡ true = sym map ∙ g in cc in
             let c = placed.mapped t.move t.used (all t.move t.used) not_grant in
@@ -239,11 +242,10 @@ module _ (start now : Linked) (from to : ℕ) (items : List ItemMove) (ready : I
             inl (record {
               move = t.move;
               used = t.used;
-              map = not_grant;
               target = same_link t.move.target place t.target;
               frame = ap (λ (x : Mapping). x.frame) (sym is) ∙ ap (λ (x : Standing). x.frame) stands_is;
               rights = ap (λ (x : Mapping). x.rights) (sym is) ∙ ap (λ (x : Standing). x.rights) stands_is;
-              parent = ap (λ (x : Mapping). x.parent) (sym is) ∙ ap (λ (x : Standing). option_and_then (place_at (settled now).entries) x.parent) stands_is ∙ place_at_settled now c.parent ∙ source_there t.move t.used not_grant c.parent c.parent_at;
+              parent = inl (not_grant, ap (λ (x : Mapping). x.parent) (sym is) ∙ ap (λ (x : Standing). option_and_then (place_at (settled now).entries) x.parent) stands_is ∙ place_at_settled now c.parent ∙ source_there t.move t.used not_grant c.parent c.parent_at);
             })
       ] refl
 
@@ -259,7 +261,7 @@ module _ (start now : Linked) (from to : ℕ) (items : List ItemMove) (ready : I
           let s_both : Some s ≡ Some (settled_standing (record plain.standing { source = l.marked })) = sym stands ∙ ap (λ (x : Entry). option_map settled_standing x.stands) entry_is in
           let s_is : s ≡ settled_standing (record plain.standing { source = l.marked }) = cc in
           let place_is : map_place before.place ≡ place = ap map_place (same ∙ here) in
-          inr (inr (record {
+          inr (record {
             before = mapping_of start.entries plain.standing;
             at = ap (shown before_all) (sym place_is) ∙ key_shows start ready.places key before plain.standing at_start plain.stands;
             not_gone = λ g. there (subst (λ (q : LinkPlace). IsGone Moves before_all (map_place q)) (sym here) g);
@@ -268,7 +270,7 @@ module _ (start now : Linked) (from to : ℕ) (items : List ItemMove) (ready : I
             rights = ap (λ (x : Mapping). x.rights) (sym is) ∙ ap (λ (x : Standing). x.rights) s_is ∙ ap (λ (o : Option RightsSet). left_by o plain.standing.rights) plain.not_granted;
             parent = subst (λ (o : Option Place). ParentLater Moves (option_and_then (place_at start.entries) plain.standing.parent) o) (ap (λ (x : Standing). option_and_then (place_at (settled now).entries) x.parent) (sym s_is) ∙ ap (λ (x : Mapping). x.parent) is)
                 (parent_later key before plain.standing at_start plain.stands there' plain.standing.parent refl);
-          }))
+          })
 
   -- what is shown of what stands under a key
   shows_key : (key : ℕ) (e : Entry) (t : Standing) (place : Place) → entry_at now.entries key ≡ Some e → e.place ≡ link_place place → e.stands ≡ Some t → (k : Mapping) × (shown (mappings_of (settled now)) place ≡ Some k)
@@ -285,20 +287,23 @@ module _ (start now : Linked) (from to : ℕ) (items : List ItemMove) (ready : I
     }),
   )
 
-  -- what a place becomes stands there
-  some_shown : (place : Place) (m : Mapping) → Becomes Moves before_all place m → (k : Mapping) × (shown (mappings_of (settled now)) place ≡ Some k)
-  some_shown place m (inl x) =
+  shown_by_kind : (place : Place) (m : Mapping) → BecomesBy Moves before_all place m → (k : Mapping) × (shown (mappings_of (settled now)) place ≡ Some k)
+  shown_by_kind place m (inl x) =
       let c = placed.mapped x.move x.used (all x.move x.used) x.map in
       shows_key c.key (record { place = link_place x.move.target; wanted = true; stands = Some (record { frame = x.move.shows.frame; rights = x.move.rights; source = false; granted = None; parent = Some c.parent }) })
       (record { frame = x.move.shows.frame; rights = x.move.rights; source = false; granted = None; parent = Some c.parent }) place c.at (ap link_place x.target) refl
-  some_shown place m (inr (inl x)) =
+  shown_by_kind place m (inr (inl x)) =
       let p = granted_to x.move x.used x.grant in
       shows_key p.key (record { place = link_place x.move.target; wanted = false; stands = Some (record p.standing { source = true; granted = Some p.by.rights }) }) (record p.standing { source = true; granted = Some p.by.rights }) place p.at (ap link_place x.target) refl
-  some_shown place m (inr (inr x)) =
+  shown_by_kind place m (inr (inr x)) =
       let u = (shown_by_key start ready.places place x.before).0 x.at in
       let l = placed.kept u.key u.entry u.standing u.at u.stands (λ g. x.not_gone (subst (λ (q : LinkPlace). IsGone Moves before_all (map_place q)) u.place_is g))
       (λ g. x.not_granted (record { move = g.move; used = g.used; grant = g.grant; source = same_link g.move.source place (g.source ∙ u.place_is) })) in
       shows_key u.key (record u.entry { stands = Some (record u.standing { source = l.marked }) }) (record u.standing { source = l.marked }) place l.at u.place_is refl
+
+  -- what a place becomes stands there
+  some_shown : (place : Place) (m : Mapping) → Becomes Moves before_all place m → (k : Mapping) × (shown (mappings_of (settled now)) place ≡ Some k)
+  some_shown place m b = shown_by_kind place m (by_kind b)
 
   pub moved : Moved Moves before_all (mappings_of (settled now))
   moved = record {

@@ -8,6 +8,7 @@ use Rattle.l4_mapdb.specs.declared.Mapping.{Mapping}
 use Rattle.l4_mapdb.specs.Mappings.{Mappings, shown}
 use Rattle.l4_mapdb.specs.Transfer.{PageMove, IsEntangled, IsGone, StandsAt, ParentLater, Becomes}
 use Rattle.l4_mapdb.proofs.EntriesLemmas.{decided}
+use Rattle.l4_mapdb.proofs.Filled.{BecomesBy, by_kind}
 use Rattle.l4_fpage.specs.Pages.{most_pages}
 
 -- what is known of each used move
@@ -25,13 +26,13 @@ module _ (Used : PageMove → Type 0) (old : Mappings) (known : KnownMoves Used 
   pub one_target : (u v : PageMove) → Used u → Used v → u.target ≡ v.target → u ≡ v
   one_target u v a b e = decided (u.item == v.item)
       (λ t. let i : u.item ≡ v.item = grind (arith, nat_tests) in known.same_target u v a b i e)
-      (λ f. absurd (free (inl (record { one = u; other = v; one_used = a; other_used = b; differ = λ i. f (let t : (u.item == v.item) ≡ true = grind (arith, nat_tests) in t); target = e }))))
+      (λ f. absurd (free (record { one = u; other = v; one_used = a; other_used = b; clash = inl (λ i. f (let t : (u.item == v.item) ≡ true = grind (arith, nat_tests) in t), inl e) })))
 
   -- a granted source is the source of one used move
   pub one_grant : (u v : PageMove) → Used u → Used v → IsTrue u.grant → u.source ≡ v.source → u ≡ v
   one_grant u v a b g e = decided (u.item == v.item)
       (λ t. let i : u.item ≡ v.item = grind (arith, nat_tests) in known.same_source u v a b i e)
-      (λ f. absurd (free (inr (inl (record { one = u; other = v; one_used = a; other_used = b; differ = λ i. f (let t : (u.item == v.item) ≡ true = grind (arith, nat_tests) in t); grant = g; source = e })))))
+      (λ f. absurd (free (record { one = u; other = v; one_used = a; other_used = b; clash = inl (λ i. f (let t : (u.item == v.item) ≡ true = grind (arith, nat_tests) in t), inr (g, e)) })))
 
   -- a place stands at one place later
   pub one_place : (c q r : Place) → StandsAt Used c q → StandsAt Used c r → q ≡ r
@@ -54,35 +55,38 @@ module _ (Used : PageMove → Type 0) (old : Mappings) (known : KnownMoves Used 
   target_gone : (u : PageMove) → Used u → (q : Place) (b : Mapping) → u.target ≡ q → shown old q ≡ Some b → IsGone Used old q
   target_gone u a q b e at = record { move = u; used = a; present = ap is_some (ap (shown old) e ∙ at); below = inl (sym e) }
 
-  -- what a place becomes is one mapping
-  pub becomes_one : (q : Place) (a b : Mapping) → Becomes Used old q a → Becomes Used old q b → a ≡ b
-  becomes_one q a b (inl x) (inl y) =
+  one_by_kind : (q : Place) (a b : Mapping) → BecomesBy Used old q a → BecomesBy Used old q b → a ≡ b
+  one_by_kind q a b (inl x) (inl y) =
       let e : x.move ≡ y.move = one_target x.move y.move x.used y.used (x.target ∙ sym y.target) in
       same_mapping a b
       (x.frame ∙ ap (λ (v : PageMove). v.shows.frame) e ∙ sym y.frame)
       (x.rights ∙ ap (λ (v : PageMove). v.rights) e ∙ sym y.rights)
       (x.parent ∙ ap (λ (v : PageMove). Some v.source) e ∙ sym y.parent)
-  becomes_one q a b (inl x) (inr (inl y)) =
+  one_by_kind q a b (inl x) (inr (inl y)) =
       let e : x.move ≡ y.move = one_target x.move y.move x.used y.used (x.target ∙ sym y.target) in
       absurd (x.map (ap (λ (v : PageMove). v.grant) e ∙ y.grant))
-  becomes_one q a b (inl x) (inr (inr y)) = absurd (y.not_gone (target_gone x.move x.used q y.before x.target y.at))
-  becomes_one q a b (inr (inl x)) (inl y) =
+  one_by_kind q a b (inl x) (inr (inr y)) = absurd (y.not_gone (target_gone x.move x.used q y.before x.target y.at))
+  one_by_kind q a b (inr (inl x)) (inl y) =
       let e : y.move ≡ x.move = one_target y.move x.move y.used x.used (y.target ∙ sym x.target) in
       absurd (y.map (ap (λ (v : PageMove). v.grant) e ∙ x.grant))
-  becomes_one q a b (inr (inl x)) (inr (inl y)) =
+  one_by_kind q a b (inr (inl x)) (inr (inl y)) =
       let e : x.move ≡ y.move = one_target x.move y.move x.used y.used (x.target ∙ sym y.target) in
       let shows : x.move.shows.parent ≡ y.move.shows.parent = ap (λ (v : PageMove). v.shows.parent) e in
       same_mapping a b
       (x.frame ∙ ap (λ (v : PageMove). v.shows.frame) e ∙ sym y.frame)
       (x.rights ∙ ap (λ (v : PageMove). v.rights) e ∙ sym y.rights)
       (one_parent y.move.shows.parent a.parent b.parent (subst (λ (p : Option Place). ParentLater Used p a.parent) shows x.parent) y.parent)
-  becomes_one q a b (inr (inl x)) (inr (inr y)) = absurd (y.not_gone (target_gone x.move x.used q y.before x.target y.at))
-  becomes_one q a b (inr (inr x)) (inl y) = absurd (x.not_gone (target_gone y.move y.used q x.before y.target x.at))
-  becomes_one q a b (inr (inr x)) (inr (inl y)) = absurd (x.not_gone (target_gone y.move y.used q x.before y.target x.at))
-  becomes_one q a b (inr (inr x)) (inr (inr y)) =
+  one_by_kind q a b (inr (inl x)) (inr (inr y)) = absurd (y.not_gone (target_gone x.move x.used q y.before x.target y.at))
+  one_by_kind q a b (inr (inr x)) (inl y) = absurd (x.not_gone (target_gone y.move y.used q x.before y.target x.at))
+  one_by_kind q a b (inr (inr x)) (inr (inl y)) = absurd (x.not_gone (target_gone y.move y.used q x.before y.target x.at))
+  one_by_kind q a b (inr (inr x)) (inr (inr y)) =
       let both : Some x.before ≡ Some y.before = sym x.at ∙ y.at in
       let e : x.before ≡ y.before = cc in
       same_mapping a b
       (x.frame ∙ ap (λ (v : Mapping). v.frame) e ∙ sym y.frame)
       (x.rights ∙ ap (λ (v : Mapping). v.rights) e ∙ sym y.rights)
       (one_parent y.before.parent a.parent b.parent (subst (λ (p : Option Place). ParentLater Used p a.parent) (ap (λ (v : Mapping). v.parent) e) x.parent) y.parent)
+
+  -- what a place becomes is one mapping
+  pub becomes_one : (q : Place) (a b : Mapping) → Becomes Used old q a → Becomes Used old q b → a ≡ b
+  becomes_one q a b x y = one_by_kind q a b (by_kind x) (by_kind y)

@@ -19,7 +19,7 @@ module _ (start now : Linked) (from to : ℕ) (items : List ItemMove) (ready : I
 
   -- no source is gone
   pub source_stays : (u : PageMove) → Moves u → ¬ (IsGone Moves (mappings_of start) u.source)
-  source_stays u a g = ready.free (inr (inr (record { one = g.move; other = u; one_used = g.used; other_used = a; present = g.present; above = g.below })))
+  source_stays u a g = ready.free (record { one = g.move; other = u; one_used = g.used; other_used = a; clash = inr (g.present, g.below) })
 
   -- what stood at a used move's source before the message
   pub stood : (u : PageMove) → Moves u → IsShown start.entries u.source u.shows

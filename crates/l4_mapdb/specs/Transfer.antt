@@ -39,36 +39,17 @@ module _ (Used : PageMove → Type 0) where
     pub grant : IsTrue move.grant
     pub source : move.source ≡ place
 
-  -- two used moves have the same target; they are of different items, because an item fills no target twice
-  pub record SharesTarget : Type 0 where
+  -- Two used moves exclude each other: they have the same target (and are of different items, because an item fills no target twice); or
+  -- the first is of a grant item, and another item has the same source; or the first has a present target that is the source of the second
+  -- or an ancestor of it.
+  pub record IsEntangled (old : Mappings) : Type 0 where
     pub one : PageMove
     pub other : PageMove
     pub one_used : Used one
     pub other_used : Used other
-    pub differ : one.item ≢ other.item
-    pub target : one.target ≡ other.target
-
-  -- the source of a used move of a grant item is the source of another used move
-  pub record GrantsTwice : Type 0 where
-    pub one : PageMove
-    pub other : PageMove
-    pub one_used : Used one
-    pub other_used : Used other
-    pub differ : one.item ≢ other.item
-    pub grant : IsTrue one.grant
-    pub source : one.source ≡ other.source
-
-  -- a present target of a used move is the source of a used move, or an ancestor of one
-  pub record ReplacesSource (old : Mappings) : Type 0 where
-    pub one : PageMove
-    pub other : PageMove
-    pub one_used : Used one
-    pub other_used : Used other
-    pub present : IsPresent old one.target
-    pub above : IsOrDescends old other.source one.target
-
-  abbrev pub IsEntangled : Mappings → Type 0
-  IsEntangled old = SharesTarget ⊎ (GrantsTwice ⊎ ReplacesSource old)
+    pub clash :
+        ((one.item ≢ other.item) × ((one.target ≡ other.target) ⊎ (IsTrue one.grant × (one.source ≡ other.source))))
+        ⊎ (IsPresent old one.target × IsOrDescends old other.source one.target)
 
   -- the place is a present target of a used move, or descends from one
   pub record IsGone (old : Mappings) (place : Place) : Type 0 where
@@ -88,25 +69,16 @@ module _ (Used : PageMove → Type 0) where
   ParentLater None later = later ≡ None
   ParentLater (Some parent) later = (place : Place) × StandsAt parent place × (later ≡ Some place)
 
-  -- the place is the target of a used move of a map item
-  pub record IsMapped (place : Place) (m : Mapping) : Type 0 where
+  -- The place is the target of a used move. A map item makes its source the parent, and a granted page keeps its own.
+  pub record IsFilled (place : Place) (m : Mapping) : Type 0 where
     pub move : PageMove
     pub used : Used move
-    pub map : ¬ (IsTrue move.grant)
     pub target : move.target ≡ place
     pub frame : m.frame ≡ move.shows.frame
     pub rights : m.rights ≡ move.rights
-    pub parent : m.parent ≡ Some move.source
-
-  -- the place is the target of a used move of a grant item
-  pub record IsHandedOver (place : Place) (m : Mapping) : Type 0 where
-    pub move : PageMove
-    pub used : Used move
-    pub grant : IsTrue move.grant
-    pub target : move.target ≡ place
-    pub frame : m.frame ≡ move.shows.frame
-    pub rights : m.rights ≡ move.rights
-    pub parent : ParentLater move.shows.parent m.parent
+    pub parent :
+        (¬ (IsTrue move.grant) × (m.parent ≡ Some move.source))
+        ⊎ (IsTrue move.grant × ParentLater move.shows.parent m.parent)
 
   -- the place was present, and is neither removed nor granted
   pub record Stays (old : Mappings) (place : Place) (m : Mapping) : Type 0 where
@@ -119,7 +91,7 @@ module _ (Used : PageMove → Type 0) where
     pub parent : ParentLater before.parent m.parent
 
   abbrev pub Becomes : Mappings → Place → Mapping → Type 0
-  Becomes old place m = IsMapped place m ⊎ (IsHandedOver place m ⊎ Stays old place m)
+  Becomes old place m = IsFilled place m ⊎ Stays old place m
 
   -- the places before the cuts: their mappings are exactly those of the used moves and of the places that stay
   pub record Moved (old new : Mappings) : Type 0 where
