@@ -152,7 +152,7 @@ pub sent_by : (words seen counted : List ℕ) (items taken : List Item) → HasG
     → IsSent true words (sent_of counted taken)
 sent_by words seen counted items taken good same all is read = (
   record { label = label_of (tag_of words); untyped = record { items = slice_range words 1 (1 + untyped_of (tag_of words)) }; items = record { items = items } },
-  record { whole = good.whole; flags = good.flags; even = good.even; label = refl; untyped = refl; items = subst (λ (l : List ℕ). ItemsRead (typed_words l) items) same read },
+  record { tag = good; label = refl; untyped = refl; items = subst (λ (l : List ℕ). ItemsRead (typed_words l) items) same read },
   all,
   λ i. record { items = is i },
 )

@@ -1,6 +1,6 @@
 -- The calls that threads usually make (L4 X.2 manual, IPC: Call, Send, Receive, ReplyWait and Wait; Unmap). That every timeout is never or
 -- zero is this profile's own.
-use Rattle.std.specs.Prelude.{⊤, ◌≡◌, ℕ, ◌+◌, ◌*◌, Bool, false, List}
+use Rattle.std.specs.Prelude.{⊤, ◌≡◌, ℕ, ◌+◌, ◌*◌, ◌^◌, Bool, false, List}
 use Rattle.l4_fpage.specs.Fpages.{fpage_word, ReadsAs}
 use Rattle.l4_fpage.specs.declared.fpages.Fpage.{Fpage}
 use Rattle.l4_threads.specs.declared.ThreadId.{ThreadId}
@@ -10,7 +10,7 @@ use Rattle.l4_ipc.specs.declared.calls.Call.TheVariants.{Ipc, Unmap}
 use Rattle.l4_ipc.specs.declared.calls.IpcCall.{IpcCall}
 use Rattle.l4_ipc.specs.declared.constructors.Timeout.{Timeout}
 use Rattle.l4_ipc.specs.declared.constructors.Timeout.TheVariants.{Never, Zero}
-use Rattle.l4_ipc.specs.Start.{has_bad_timeout, timeout_values}
+use Rattle.l4_ipc.specs.Start.{has_bad_timeout}
 
 -- the timeout as a half of the timeouts word
 abbrev pub timeout_bits : Timeout → ℕ
@@ -21,7 +21,7 @@ timeout_bits Zero = 0x400
 -- there is no such phase
 abbrev pub ipc_call : ThreadId → ThreadId → Timeout → Timeout → Fpage → List ℕ → IpcCall
 ipc_call to «from» send receive window words =
-    record { to = to; «from» = «from»; timeouts = timeout_bits send * timeout_values + timeout_bits receive; acceptor = fpage_word window; words = record { items = words } }
+    record { to = to; «from» = «from»; timeouts = timeout_bits send * 2 ^ 16 + timeout_bits receive; acceptor = fpage_word window; words = record { items = words } }
 
 -- no timeout of the call is refused
 abbrev pub HasGoodTimeouts : Call → Type 0

@@ -40,21 +40,18 @@ use Rattle.l4_fpage.specs.declared.sizes.PageSize.{PageSize}
 
 -- WHAT THE PHASES OF AN IPC PASS ON
 
--- the number of values of a timeout, which is one half of the timeouts word
-abbrev pub timeout_values : ℕ
-timeout_values = 2 ^ 16
-
 abbrev pub has_send : IpcCall → Bool
 has_send call = not (call.to.0 == 0)
 
 abbrev pub has_receive : IpcCall → Bool
 has_receive call = not (call.«from».0 == 0)
 
+-- the send timeout is the upper half of the timeouts word, and the receive timeout is the lower half
 abbrev pub send_timeout : IpcCall → ℕ
-send_timeout call = call.timeouts / timeout_values
+send_timeout call = call.timeouts / 2 ^ 16
 
 abbrev pub receive_timeout : IpcCall → ℕ
-receive_timeout call = call.timeouts % timeout_values
+receive_timeout call = call.timeouts % 2 ^ 16
 
 -- a timeout is never, or zero
 abbrev pub is_timeout : ℕ → Bool

@@ -88,10 +88,10 @@ no_item = Map 0 Nil
 
 -- words that are a message do not fail
 pub reading_excludes_failing : (words : List ℕ) (m : Message) (fault : MsgFault) → MessageReads words m → MessageFails words fault → ⊥
-reading_excludes_failing words m Short h k = elim k [ inl e ↦ omega (arith, e, h.whole.some) | inr e ↦ omega (arith, e.1, h.whole.there) ]
-reading_excludes_failing words m TooManyWords h k = omega (arith, k.1, h.whole.fits)
-reading_excludes_failing words m Flags h k = omega (arith, k.1, h.flags)
-reading_excludes_failing words m OddTyped h k = omega (arith, k.2, h.even)
+reading_excludes_failing words m Short h k = elim k [ inl e ↦ omega (arith, e, h.tag.whole.some) | inr e ↦ omega (arith, e.1, h.tag.whole.there) ]
+reading_excludes_failing words m TooManyWords h k = omega (arith, k.1, h.tag.whole.fits)
+reading_excludes_failing words m Flags h k = omega (arith, k.1, h.tag.flags)
+reading_excludes_failing words m OddTyped h k = omega (arith, k.2, h.tag.even)
 reading_excludes_failing words m (Unsupported i) h k = items_exclude_failing (typed_words words) m.items.items i LeftOut no_item h.items k.1
 reading_excludes_failing words m (BadItem i) h k = items_exclude_failing (typed_words words) m.items.items i Bad no_item h.items k.1
 reading_excludes_failing words m BadWindow h k = k
@@ -173,9 +173,9 @@ slice_length xs i j le h = length-take-le (j - i) (drop i xs) (omega (arith, len
 pub reading_can_be_written : (words : List ℕ) (m : Message) → MessageReads words m → CanBeWritten m
 reading_can_be_written words m h =
     let tag : ℕ = tag_of words in
-    let us : length m.untyped.items ≡ untyped_of tag = ap length h.untyped ∙ slice_length words 1 (1 + untyped_of tag) (omega arith) (omega (arith, h.whole.there)) ∙ omega arith in
-    let ts : length (typed_words words) ≡ typed_of tag = slice_length words (1 + untyped_of tag) (1 + untyped_of tag + typed_of tag) (omega arith) h.whole.there ∙ omega arith in
+    let us : length m.untyped.items ≡ untyped_of tag = ap length h.untyped ∙ slice_length words 1 (1 + untyped_of tag) (omega arith) (omega (arith, h.tag.whole.there)) ∙ omega arith in
+    let ts : length (typed_words words) ≡ typed_of tag = slice_length words (1 + untyped_of tag) (1 + untyped_of tag + typed_of tag) (omega arith) h.tag.whole.there ∙ omega arith in
     record {
-      fits = omega (arith, us, ts, h.items.count, h.whole.fits);
+      fits = omega (arith, us, ts, h.items.count, h.tag.whole.fits);
       whole = λ k d lt. base_whole (get_or (typed_words words) (2 * k) 0) (get_or (typed_words words) (2 * k + 1) 0) (get_or m.items.items k d) (h.items.each k lt d);
     }

@@ -81,9 +81,11 @@ written tag us ts m e plain items fits =
     let t : typed_of tag ≡ length ts = omega arith in
     let n : length (us ++ ts) ≡ length us + length ts = length-append us ts in
     record {
-      whole = record { some = omega arith; fits = omega (arith, u, t); there = omega (arith, u, t, n) };
-      flags = omega arith;
-      even = omega (arith, t, items.count);
+      tag = record {
+        whole = record { some = omega arith; fits = omega (arith, u, t); there = omega (arith, u, t, n) };
+        flags = omega arith;
+        even = omega (arith, t, items.count);
+      };
       label = omega arith;
       untyped = plain ∙ front tag (untyped_of tag) us ts u;
       items = rw (back tag (untyped_of tag) (typed_of tag) us ts u t) items;

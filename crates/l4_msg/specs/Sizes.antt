@@ -20,20 +20,3 @@ max_typed = 62
 -- a send base is a multiple of this many bytes
 abbrev pub base_unit : ℕ
 base_unit = 1024
-
--- a field of six bits counts words, and one of four bits holds the flags: the values of each
-abbrev pub counts : ℕ
-counts = 64
-
-abbrev pub flag_sets : ℕ
-flag_sets = 16
-
--- what the lowest bit of the typed words' field, of the flags and of the label adds to the tag
-abbrev pub typed_place : ℕ
-typed_place = 64
-
-abbrev pub flags_place : ℕ
-flags_place = 4096
-
-abbrev pub label_place : ℕ
-label_place = 65536

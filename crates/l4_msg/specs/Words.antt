@@ -2,10 +2,9 @@
 -- this profile's own).
 use Rattle.std.specs.Prelude.{◌≡◌, ℕ, ◌+◌, ◌*◌, ◌/◌, ◌%◌, ◌<◌, ◌≤◌, ◌⊎◌, Bool, true, false, if◌then◌else◌, List, [], ◌∷◌, length, slice_index}
 use Rattle.std.specs.List.{HoldsAt}
-use Rattle.l4_fpage.specs.Fpages.{ReadsAs, IsMalformed, fpage_word}
+use Rattle.l4_fpage.specs.Fpages.{base_field, ReadsAs, IsMalformed, fpage_word}
 use Rattle.l4_fpage.specs.declared.fpages.Fpage.{Fpage}
 use Rattle.l4_msg.specs.Moves.{base_of, fpage_of}
-use Rattle.l4_msg.specs.Sizes.{base_unit}
 use Rattle.l4_msg.specs.declared.items.Item.{Item}
 use Rattle.l4_msg.specs.declared.items.Item.TheVariants.{Map, Grant}
 use Rattle.l4_msg.specs.declared.items.ItemFault.{ItemFault}
@@ -17,8 +16,8 @@ kind_of first = first / 2 % 8
 
 -- what two words are read as: the send base stands in bits 31 to 10 of the first, and the second is the fpage
 abbrev pub ItemReads : ℕ → ℕ → Item → Type 0
-ItemReads first second (Map base fpage) = (kind_of first ≡ 4) × (base ≡ first / base_unit * base_unit) × ReadsAs second fpage
-ItemReads first second (Grant base fpage) = (kind_of first ≡ 5) × (base ≡ first / base_unit * base_unit) × ReadsAs second fpage
+ItemReads first second (Map base fpage) = (kind_of first ≡ 4) × (base ≡ base_field first) × ReadsAs second fpage
+ItemReads first second (Grant base fpage) = (kind_of first ≡ 5) × (base ≡ base_field first) × ReadsAs second fpage
 
 -- why two words are no item
 abbrev pub ItemFails : ℕ → ℕ → ItemFault → Type 0

@@ -1,5 +1,4 @@
 ghost use Rattle.std.specs.Prelude.{◌≡◌, ℕ, ◌<◌};
-ghost use Rattle.l4_msg.specs.Sizes.{counts, flag_sets};
 
 /// The first word of a message (L4 X.2 manual, IPC: message tag): the label, four flags, and the numbers of untyped
 /// and typed words that follow.
@@ -13,9 +12,9 @@ pub struct Tag {
     pub typed: u8,
     /// Bits 5 to 0, below 64, in words.
     pub untyped: u8,
-    pub ghost flags_small: { flags < flag_sets },
-    pub ghost typed_small: { typed < counts },
-    pub ghost untyped_small: { untyped < counts },
+    pub ghost flags_small: { flags < 16 },
+    pub ghost typed_small: { typed < 64 },
+    pub ghost untyped_small: { untyped < 64 },
 }
 
 impl Tag {

@@ -2,7 +2,6 @@
 use Rattle.std.specs.Prelude.{◌≡◌, ℕ, zero, suc, ◌*◌, ◌<◌, ◌⊎◌, Bool, true, false, List, [], ◌∷◌, ◌++◌, length, codes}
 use Rattle.std.specs.List.{flat_map}
 use Rattle.l4_msg.specs.Regions.{IsEmpty, InSpace, IsOutOfSpace, HasNoRights, messages_of, part_of_list}
-use Rattle.l4_msg.specs.Sizes.{typed_place}
 use Rattle.l4_msg.specs.Words.{items_words}
 use Rattle.l4_msg.specs.declared.items.Item.{Item}
 use Rattle.l4_msg.specs.declared.regions.Region.{Region}
@@ -24,7 +23,7 @@ message_text (tag ∷ words) pages = ended (tag_line tag) ++ item_texts words pa
 -- the words of the message that sends some items: label 0, no untyped words, and the typed words counted in the tag
 -- (L4 X.2 manual, IPC: message tag)
 abbrev pub sending_words : List Item → List ℕ
-sending_words items = (length (items_words items) * typed_place) ∷ items_words items
+sending_words items = (length (items_words items) * 64) ∷ items_words items
 
 -- the lines of the message with this number, from 0: its words, with the first pages of its items
 abbrev pub part_text : Listing → ℕ → List ℕ

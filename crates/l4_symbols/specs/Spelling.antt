@@ -3,7 +3,6 @@ use Rattle.std.specs.Prelude.{ℕ, ◌+◌, ◌==◌, Bool, true, false, List, l
 use Rattle.std.specs.List.{position}
 use Rattle.std.specs.Str.{bytes_eq}
 use Rattle.l4_fpage.specs.Rights.{RightsSet}
-use Rattle.l4_msg.specs.Sizes.{label_place}
 use Rattle.l4_text.specs.Numbers.{number_of, below}
 use Rattle.l4_symbols.specs.declared.reasons.Reason.{Reason}
 use Rattle.l4_symbols.specs.declared.reasons.Reason.TheVariants.{NoTag, Label, Unknown, NoBase, NoRights, Number, Rights}
@@ -70,4 +69,4 @@ item_in token = do
 unfoldable pub label_in : List ℕ → Result ℕ Reason
 label_in token = do
   named ← ok_or (cut_at 58 token) NoTag
-  if bytes_eq named.0 (codes "tag") then ok_or (below label_place (number_of named.1)) Label else Err NoTag
+  if bytes_eq named.0 (codes "tag") then ok_or (below 65536 (number_of named.1)) Label else Err NoTag
