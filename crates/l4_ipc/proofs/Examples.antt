@@ -173,14 +173,9 @@ without_f old new h =
     false≢true (ap (λ (x : UnmapCall). with_own x.control) one ∙ h.own)
 
 -- if the page is left after the Unmap, then something has a provenance through it
-pub spared : ¬ (NoneThroughFlushed of_sigma0 (unmaps 0x40 0x50c7 of_sigma0 of_sigma0 ∷ []) of_sigma0)
+pub spared : ¬ (NoneThroughFlushed (unmaps 0x40 0x50c7 of_sigma0 of_sigma0 ∷ []) of_sigma0)
 spared h =
     h [] [] [] (unmaps 0x40 0x50c7 of_sigma0 of_sigma0) refl (page_of 0 5) (with_f of_sigma0 of_sigma0) (page_of 0 5) (ap is_some there) (record {
-      origin = page_of 0 5;
-      of_sigma0 = refl;
-      at_start = ap is_some there;
-      links = [];
-      there = (refl, refl);
       stands = All-nil (λ event. LeavesAlone event (page_of 0 5));
       further = [];
       on = inl (
@@ -194,7 +189,7 @@ spared h =
     })
 
 -- if it is gone, nothing has
-pub taken : NoneThroughFlushed of_sigma0 (unmaps 0x40 0x50c7 of_sigma0 nothing ∷ []) nothing
+pub taken : NoneThroughFlushed (unmaps 0x40 0x50c7 of_sigma0 nothing ∷ []) nothing
 taken earlier since later event are named flushes place present through = false≢true (ap is_some (sym (shows_nothing place)) ∙ present)
 
 -- A DELEGATION
@@ -466,7 +461,7 @@ IsInside page = (5 ≤ page) × (page < 6)
 -- the one item is a plan of its page
 pub one_page : (new : Mappings) → IsDelegation (delivers new) region (item ∷ []) (5 ∷ []) 0 sender receiver sends_page takes_all
 one_page new = record {
-  sound = record { some = lit< tt; space = record { source = lit≤ tt; target = lit≤ tt }; rights = λ none. false≢true none };
+  space = record { source = lit≤ tt; target = lit≤ tt };
   plan = record {
     rival = record {
       maps = All-cons IsMap item [] tt (All-nil IsMap);

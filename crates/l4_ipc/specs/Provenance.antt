@@ -92,20 +92,15 @@ pub record Flushes (event : Event) (place : Place) : Type 0 where
   pub space : place.space ≡ caller.space
   pub named : (right : Right) → (fpage : Fpage) × Contains fpages fpage × IsTrue (has (rights_of fpage) right) × HoldsPage event.before.size fpage place.page
 
--- The provenance of the last place leads through this one, as it was before `rest`: the links reached this place after the earlier events,
--- no event since then removed it or wrote it again, and further links lead on from it.
-pub record LeadsThrough (start : Mappings) (earlier since rest : List Event) (through last : Place) : Type 0 where
-  pub origin : Place
-  pub of_sigma0 : origin.space ≡ 0
-  pub at_start : IsPresent start origin
-  pub links : List Link
-  pub there : Leads earlier origin links through
+-- Links lead to the last place through this one, as it was before `rest`: no event of `since` removed this place or wrote it again, and
+-- further links lead on from it. How this place got its page does not matter.
+pub record LeadsThrough (since rest : List Event) (through last : Place) : Type 0 where
   pub stands : All (λ event. LeavesAlone event through) since
   pub further : List Link
   pub on : Leads (since ++ rest) through further last
 
 -- after a flush, no present place has a provenance through a place that the flush named, as that place was just before
-abbrev pub NoneThroughFlushed : Mappings → List Event → Mappings → Type 0
-NoneThroughFlushed start events now =
+abbrev pub NoneThroughFlushed : List Event → Mappings → Type 0
+NoneThroughFlushed events now =
     (earlier since later : List Event) (event : Event) → events ≡ earlier ++ (since ++ event ∷ later)
-    → (named : Place) → Flushes event named → (place : Place) → IsPresent now place → ¬ (LeadsThrough start earlier since (event ∷ later) named place)
+    → (named : Place) → Flushes event named → (place : Place) → IsPresent now place → ¬ (LeadsThrough since (event ∷ later) named place)

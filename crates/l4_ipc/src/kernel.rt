@@ -185,8 +185,8 @@ impl Kernel {
         ensures traced { IfOk result (λ answers. (events : List Event) × IsOnlyTrace self.old steps.now answers.items events self.new) }
         ensures provenance { IfOk result (λ answers. (frames : ℕ) (events : List Event) → IsBoot frames self.old → IsTrace self.old steps.now answers.items events self.new
             → HaveProvenance self.old.mappings events self.new.mappings) }
-        ensures flushed { IfOk result (λ answers. (frames : ℕ) (events : List Event) → IsBoot frames self.old → IsTrace self.old steps.now answers.items events self.new
-            → NoneThroughFlushed self.old.mappings events self.new.mappings) }
+        ensures flushed { IfOk result (λ answers. (events : List Event) → IsTrace self.old steps.now answers.items events self.new
+            → NoneThroughFlushed events self.new.mappings) }
         ensures delegations { IfOk result (λ answers. (events : List Event) → IsTrace self.old steps.now answers.items events self.new → All DeliversDelegations events) }
     {
         let mut answers = Vec::with_capacity(self.alloc, steps.len())?;
